@@ -1,0 +1,114 @@
+-- How instructions are spelled in fields (RFC 9669, sections 3 to 5; which fields are zero is own).
+use Rattle.std.specs.Prelude.{ℕ, ◌+◌, ◌*◌, ◌/◌, ◌%◌, ◌^◌, List, [], ◌∷◌}
+use Rattle.std.specs.Int.{w16, w32, cast_unsigned}
+use Rattle.word.specs.declared.Width.{Width}
+use Rattle.word.specs.declared.Width.TheVariants.{W32, W64}
+use Rattle.word.specs.declared.Operation.{Operation}
+use Rattle.word.specs.declared.Operation.TheVariants as op
+use Rattle.word.specs.declared.Condition.{Condition}
+use Rattle.word.specs.declared.Condition.TheVariants as c
+use Rattle.word.specs.declared.Narrow.{Narrow}
+use Rattle.word.specs.declared.Narrow.TheVariants as narrow
+use Rattle.word.specs.declared.ByteOrder.{ByteOrder}
+use Rattle.word.specs.declared.ByteOrder.TheVariants.{Little, Big, Reversed}
+use Rattle.word.specs.Arithmetic.{swapped_bytes}
+use Rattle.insn.specs.declared.insn.Insn.{Insn}
+use Rattle.insn.specs.declared.insn.Insn.TheVariants.{Arithmetic, Negate, SignExtend, Swap, LoadNumber, Jump, LongJump, Branch, Load, LoadSigned, Store, Call, Exit}
+use Rattle.insn.specs.declared.insn.Operand.TheVariants.{Register, Immediate}
+use Rattle.insn.specs.declared.insn.Size.{Size}
+use Rattle.insn.specs.declared.insn.Size.TheVariants as size
+use Rattle.insn.specs.Insn.{part_bytes}
+
+-- the fields of one unit, unsigned (section 3.1)
+pub record Fields : Type 0 where
+  pub opcode : ℕ
+  pub dst : ℕ
+  pub src : ℕ
+  pub offset : ℕ
+  pub imm : ℕ
+
+abbrev pub fields : ℕ → ℕ → ℕ → ℕ → ℕ → Fields
+fields opcode dst src offset imm = record { opcode = opcode; dst = dst; src = src; offset = offset; imm = imm }
+
+-- classes (section 3.3): ALU 4, JMP 5, JMP32 6, ALU64 7; 8 is the source bit
+abbrev pub alu_class : Width → ℕ
+alu_class W32 = 4
+alu_class W64 = 7
+
+abbrev pub jump_class : Width → ℕ
+jump_class W32 = 6
+jump_class W64 = 5
+
+-- codes of arithmetic, in the high four bits (section 4.1)
+abbrev pub operation_code : Operation → ℕ
+operation_code op.Add = 0x00
+operation_code op.Sub = 0x10
+operation_code op.Mul = 0x20
+operation_code op.Div = 0x30
+operation_code op.SignedDiv = 0x30
+operation_code op.Or = 0x40
+operation_code op.And = 0x50
+operation_code op.ShiftLeft = 0x60
+operation_code op.ShiftRight = 0x70
+operation_code op.Mod = 0x90
+operation_code op.SignedMod = 0x90
+operation_code op.Xor = 0xa0
+operation_code op.Move = 0xb0
+operation_code op.ShiftSigned = 0xc0
+
+-- signed division and modulo have the offset 1 (section 4.1)
+abbrev pub operation_offset : Operation → ℕ
+operation_offset op.SignedDiv = 1
+operation_offset op.SignedMod = 1
+operation_offset _ = 0
+
+-- codes of jumps (section 4.3)
+abbrev pub condition_code : Condition → ℕ
+condition_code c.Equal = 0x10
+condition_code c.Above = 0x20
+condition_code c.AtLeast = 0x30
+condition_code c.AnyBit = 0x40
+condition_code c.Different = 0x50
+condition_code c.SignedAbove = 0x60
+condition_code c.SignedAtLeast = 0x70
+condition_code c.Below = 0xa0
+condition_code c.AtMost = 0xb0
+condition_code c.SignedBelow = 0xc0
+condition_code c.SignedAtMost = 0xd0
+
+-- sizes (section 5)
+abbrev pub size_code : Size → ℕ
+size_code size.Word = 0x00
+size_code size.Half = 0x08
+size_code size.Byte = 0x10
+size_code size.Double = 0x18
+
+abbrev pub part_code : Narrow → ℕ
+part_code narrow.Word = 0x00
+part_code narrow.Half = 0x08
+part_code narrow.Byte = 0x10
+
+-- swaps (section 4.2): END is 0xd0; in ALU the source bit tells the order
+abbrev pub swap_code : ByteOrder → ℕ
+swap_code Little = 0xd4
+swap_code Big = 0xdc
+swap_code Reversed = 0xd7
+
+-- the units of an instruction: one, or two of a wide one
+abbrev pub spelling : Insn → List Fields
+spelling (Arithmetic w o dst (Immediate n)) = fields (operation_code o + alu_class w) dst 0 (operation_offset o) (cast_unsigned w32 n) ∷ []
+spelling (Arithmetic w o dst (Register src)) = fields (operation_code o + 8 + alu_class w) dst src (operation_offset o) 0 ∷ []
+spelling (Negate w dst) = fields (0x80 + alu_class w) dst 0 0 0 ∷ []
+spelling (SignExtend w part dst src) = fields (0xb8 + alu_class w) dst src (8 * part_bytes part) 0 ∷ []
+spelling (Swap order bytes dst) = fields (swap_code order) dst 0 0 (8 * swapped_bytes bytes) ∷ []
+spelling (LoadNumber dst number) = fields 0x18 dst 0 0 (number % 2 ^ 32) ∷ fields 0 0 0 0 (number / 2 ^ 32) ∷ []
+spelling (Jump distance) = fields 0x05 0 0 (cast_unsigned w16 distance) 0 ∷ []
+spelling (LongJump distance) = fields 0x06 0 0 0 (cast_unsigned w32 distance) ∷ []
+spelling (Branch w o dst (Immediate n) distance) = fields (condition_code o + jump_class w) dst 0 (cast_unsigned w16 distance) (cast_unsigned w32 n) ∷ []
+spelling (Branch w o dst (Register src) distance) = fields (condition_code o + 8 + jump_class w) dst src (cast_unsigned w16 distance) 0 ∷ []
+spelling (Load bytes dst base offset) = fields (0x61 + size_code bytes) dst base (cast_unsigned w16 offset) 0 ∷ []
+spelling (LoadSigned part dst base offset) = fields (0x81 + part_code part) dst base (cast_unsigned w16 offset) 0 ∷ []
+spelling (Store bytes base offset (Immediate n)) = fields (0x62 + size_code bytes) base 0 (cast_unsigned w16 offset) (cast_unsigned w32 n) ∷ []
+spelling (Store bytes base offset (Register src)) = fields (0x63 + size_code bytes) base src (cast_unsigned w16 offset) 0 ∷ []
+spelling (Call helper) = fields 0x85 0 0 0 (cast_unsigned w32 helper) ∷ []
+spelling Exit = fields 0x95 0 0 0 0 ∷ []

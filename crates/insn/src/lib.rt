@@ -1,0 +1,10 @@
+//! Instructions and programs (RFC 9669, section 3).
+#![tactic(auto)]
+
+mod insn;
+mod program;
+mod reg;
+
+pub use insn::{Insn, Operand, Size};
+pub use program::Program;
+pub use reg::Reg;

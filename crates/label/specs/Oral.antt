@@ -1,0 +1,60 @@
+-- Oral messages, over functions of labels and receivers (TOPLAS 1982, section 3; Lynch, Distributed Algorithms, chapter 6).
+use Rattle.std.specs.Prelude.{ℕ, zero, suc, ◌*◌, ◌<◌, ◌≤◌, ◌≡◌, ◌≢◌, ◌==◌, Bool, true, false, cond, List, [], ◌∷◌, ◌++◌, map, length, count_by, Option, None, Some}
+use Rattle.label.specs.Labels.{on, is_distinct, generals, others}
+
+-- each is a general
+abbrev pub AllBelow : ℕ → List ℕ → Type 0
+AllBelow n [] = Unit {0}
+AllBelow n (x ∷ xs) = (x < n) × AllBelow n xs
+
+-- the list begins with the commander
+abbrev pub BeginsWith : ℕ → List ℕ → Type 0
+BeginsWith c [] = ⊥
+BeginsWith c (x ∷ xs) = x ≡ c
+
+-- a label: different generals, the commander first
+pub record IsLabel (n c : ℕ) (w : List ℕ) : Type 0 where
+  pub first : BeginsWith c w
+  pub below : AllBelow n w
+  pub distinct : is_distinct w ≡ true
+
+-- what a message says: nothing counts as RETREAT
+abbrev pub order_of : Option ℕ → ℕ
+order_of None = 0
+order_of (Some v) = v
+
+-- for a label and a receiver, what the last of the label told the receiver of the rest
+abbrev pub Messages : Type 0
+Messages = List ℕ → ℕ → Option ℕ
+
+abbrev pub taken : Messages → List ℕ → ℕ → ℕ
+taken M w p = order_of (M w p)
+
+-- what a general relays of a label: of the empty one the commander has his order
+abbrev pub heard : Messages → ℕ → List ℕ → ℕ → ℕ
+heard M order [] g = order
+heard M order (x ∷ xs) g = taken M (x ∷ xs) g
+
+-- the decision of p about the label w, with k relays left
+unfoldable pub om : (List ℕ → ℕ) → ℕ → Messages → ℕ → List ℕ → ℕ → ℕ
+om f n M zero w p = taken M w p
+om f n M (suc k) w p = f (map (λ j. cond (j == p) (taken M w p) (om f n M k (w ++ j ∷ []) p)) (others n w))
+
+-- a general tells each receiver what it took
+abbrev pub IsFaithful : ℕ → ℕ → ℕ → ℕ → Messages → ℕ → Type 0
+IsFaithful n c m order M g = (u : List ℕ) (p : ℕ) → IsLabel n c (u ++ g ∷ []) → length u ≤ m → p < n → on (u ++ g ∷ []) p ≡ false → M (u ++ g ∷ []) p ≡ Some (heard M order u g)
+
+pub record IsLoyalLieutenant (n c : ℕ) (traitor : ℕ → Bool) (p : ℕ) : Type 0 where
+  pub general : p < n
+  pub lieutenant : p ≢ c
+  pub loyal : traitor p ≡ false
+
+-- all loyal lieutenants decide alike, and on the order of a loyal commander
+pub record Agree (n c order : ℕ) (traitor : ℕ → Bool) (decision : ℕ → ℕ) : Type 0 where
+  pub alike : (p q : ℕ) → IsLoyalLieutenant n c traitor p → IsLoyalLieutenant n c traitor q → decision p ≡ decision q
+  pub obeyed : traitor c ≡ false → (p : ℕ) → IsLoyalLieutenant n c traitor p → decision p ≡ order
+
+-- more than three times as many generals as traitors
+pub record IsBound (n m : ℕ) (traitor : ℕ → Bool) : Type 0 where
+  pub enough : 3 * m < n
+  pub few : count_by traitor (generals n) ≤ m

@@ -1,0 +1,20 @@
+-- What a general relays in a round, and to whom (TOPLAS 1982, algorithm OM).
+use Rattle.std.specs.Prelude.{ℕ, ◌-◌, ◌<◌, ◌≤◌, ◌==◌, if◌then◌else◌, List, [], ◌∷◌, ◌++◌}
+use Rattle.label.specs.declared.shape.Shape.{Shape}
+use Rattle.label.specs.Labels.{labels, others}
+
+-- the limits of a campaign
+pub record IsShape (s : Shape) : Type 0 where
+  pub few : s.generals ≤ 13
+  pub commander : s.commander < s.generals
+  pub general : s.general < s.generals
+  pub first : 1 ≤ s.round
+  pub last : s.round ≤ 5
+
+-- the labels that the general relays: the commander the empty one in round 1, another those of the round before that lack him
+abbrev pub relay : Shape → List (List ℕ)
+relay s = if s.general == s.commander then (if s.round == 1 then [] ∷ [] else []) else labels s.generals s.commander s.general (s.round - 1)
+
+-- those whom a relay of w goes to
+abbrev pub receivers : Shape → List ℕ → List ℕ
+receivers s w = others s.generals (w ++ s.general ∷ [])

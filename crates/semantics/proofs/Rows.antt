@@ -1,0 +1,383 @@
+-- Rows, computed: each right side is what the reference program's machine reaches. Written by a generator.
+use Rattle.std.specs.Prelude.{pos, negsuc, ◌≡◌, [], ◌∷◌, ◌++◌, Some, None, replicate, refl}
+use Rattle.word.specs.declared.Width.TheVariants.{W32, W64}
+use Rattle.word.specs.declared.Operation.TheVariants as op
+use Rattle.word.specs.declared.Condition.TheVariants as c
+use Rattle.word.specs.declared.Narrow.TheVariants as narrow
+use Rattle.word.specs.declared.SwapSize.TheVariants as swap
+use Rattle.word.specs.declared.ByteOrder.TheVariants as order
+use Rattle.insn.specs.declared.insn.Insn.TheVariants as i
+use Rattle.insn.specs.declared.insn.Operand.TheVariants.{Register, Immediate}
+use Rattle.insn.specs.declared.insn.Size.TheVariants as size
+use Rattle.label.specs.Labels.{labels}
+use Rattle.semantics.specs.declared.value.Region.TheVariants.{Stack, Context}
+use Rattle.semantics.specs.declared.value.Value.TheVariants.{Unset, Number, Pointer}
+use Rattle.semantics.specs.declared.value.Cell.TheVariants.{Empty, Byte, Piece}
+use Rattle.semantics.specs.State.{UnsetRegister, PointerUse, FrameWrite, OutOfBounds, NoBytes, ContextWrite, NoHelper, Argument, NoInstruction}
+use Rattle.semantics.specs.Execution.{step}
+use Rattle.semantics.specs.Run.{Running, Exited, Trapped, onwards, after}
+
+-- row_1; the verifier: accepted
+row_1 : after (i.Arithmetic W64 op.Move 0 (Immediate (pos 42)) ∷ i.Exit ∷ []) ((4 ∷ 0 ∷ 0 ∷ 0 ∷ 1 ∷ 0 ∷ 0 ∷ 0 ∷ 3 ∷ 0 ∷ 0 ∷ 0 ∷ 0 ∷ 0 ∷ 0 ∷ 0 ∷ 1 ∷ 0 ∷ 0 ∷ 0 ∷ 0 ∷ 0 ∷ 0 ∷ 0 ∷ 3 ∷ []) ++ replicate 4071 0) (record { generals = 4; commander = 0; general = 3; round = 1 }) ([]) 2 ≡ Exited 42 (record { unit = 1; registers = ((Number 42) ∷ (Pointer Context (pos 0)) ∷ (Unset) ∷ (Unset) ∷ (Unset) ∷ (Unset) ∷ (Unset) ∷ (Unset) ∷ (Unset) ∷ (Unset) ∷ (Pointer Stack (pos 0)) ∷ []); cells = (replicate 512 (Empty)); outbox = ([]); steps = 2 })
+unfolding labels step onwards
+row_1 = refl
+
+-- row_2; the verifier: refused V5 unit 0
+row_2 : after (i.Exit ∷ []) ((4 ∷ 0 ∷ 0 ∷ 0 ∷ 1 ∷ 0 ∷ 0 ∷ 0 ∷ 3 ∷ 0 ∷ 0 ∷ 0 ∷ 0 ∷ 0 ∷ 0 ∷ 0 ∷ 1 ∷ 0 ∷ 0 ∷ 0 ∷ 0 ∷ 0 ∷ 0 ∷ 0 ∷ 3 ∷ []) ++ replicate 4071 0) (record { generals = 4; commander = 0; general = 3; round = 1 }) ([]) 2 ≡ Trapped UnsetRegister
+unfolding labels step onwards
+row_2 = refl
+
+-- row_3_back; the verifier: refused V1 unit 0
+row_3_back : after (i.Jump (negsuc 0) ∷ i.Exit ∷ []) ((4 ∷ 0 ∷ 0 ∷ 0 ∷ 1 ∷ 0 ∷ 0 ∷ 0 ∷ 3 ∷ 0 ∷ 0 ∷ 0 ∷ 0 ∷ 0 ∷ 0 ∷ 0 ∷ 1 ∷ 0 ∷ 0 ∷ 0 ∷ 0 ∷ 0 ∷ 0 ∷ 0 ∷ 3 ∷ []) ++ replicate 4071 0) (record { generals = 4; commander = 0; general = 3; round = 1 }) ([]) 60 ≡ Running (record { unit = 0; registers = ((Unset) ∷ (Pointer Context (pos 0)) ∷ (Unset) ∷ (Unset) ∷ (Unset) ∷ (Unset) ∷ (Unset) ∷ (Unset) ∷ (Unset) ∷ (Unset) ∷ (Pointer Stack (pos 0)) ∷ []); cells = (replicate 512 (Empty)); outbox = ([]); steps = 60 })
+unfolding labels step onwards
+row_3_back = refl
+
+-- row_3_next; the verifier: accepted
+row_3_next : after (i.Arithmetic W64 op.Move 0 (Immediate (pos 0)) ∷ i.Jump (pos 0) ∷ i.Exit ∷ []) ((4 ∷ 0 ∷ 0 ∷ 0 ∷ 1 ∷ 0 ∷ 0 ∷ 0 ∷ 3 ∷ 0 ∷ 0 ∷ 0 ∷ 0 ∷ 0 ∷ 0 ∷ 0 ∷ 1 ∷ 0 ∷ 0 ∷ 0 ∷ 0 ∷ 0 ∷ 0 ∷ 0 ∷ 3 ∷ []) ++ replicate 4071 0) (record { generals = 4; commander = 0; general = 3; round = 1 }) ([]) 3 ≡ Exited 0 (record { unit = 2; registers = ((Number 0) ∷ (Pointer Context (pos 0)) ∷ (Unset) ∷ (Unset) ∷ (Unset) ∷ (Unset) ∷ (Unset) ∷ (Unset) ∷ (Unset) ∷ (Unset) ∷ (Pointer Stack (pos 0)) ∷ []); cells = (replicate 512 (Empty)); outbox = ([]); steps = 3 })
+unfolding labels step onwards
+row_3_next = refl
+
+-- row_3_in_wide; the verifier: refused V3 unit 0
+row_3_in_wide : after (i.Jump (pos 1) ∷ i.LoadNumber 0 1 ∷ i.Exit ∷ []) ((4 ∷ 0 ∷ 0 ∷ 0 ∷ 1 ∷ 0 ∷ 0 ∷ 0 ∷ 3 ∷ 0 ∷ 0 ∷ 0 ∷ 0 ∷ 0 ∷ 0 ∷ 0 ∷ 1 ∷ 0 ∷ 0 ∷ 0 ∷ 0 ∷ 0 ∷ 0 ∷ 0 ∷ 3 ∷ []) ++ replicate 4071 0) (record { generals = 4; commander = 0; general = 3; round = 1 }) ([]) 2 ≡ Trapped NoInstruction
+unfolding labels step onwards
+row_3_in_wide = refl
+
+-- row_3_end; the verifier: refused V4 unit 0
+row_3_end : after (i.Arithmetic W64 op.Move 0 (Immediate (pos 0)) ∷ []) ((4 ∷ 0 ∷ 0 ∷ 0 ∷ 1 ∷ 0 ∷ 0 ∷ 0 ∷ 3 ∷ 0 ∷ 0 ∷ 0 ∷ 0 ∷ 0 ∷ 0 ∷ 0 ∷ 1 ∷ 0 ∷ 0 ∷ 0 ∷ 0 ∷ 0 ∷ 0 ∷ 0 ∷ 3 ∷ []) ++ replicate 4071 0) (record { generals = 4; commander = 0; general = 3; round = 1 }) ([]) 2 ≡ Trapped NoInstruction
+unfolding labels step onwards
+row_3_end = refl
+
+-- row_5; the verifier: refused V7 unit 0
+row_5 : after (i.Arithmetic W64 op.Add 1 (Immediate (pos 287454020)) ∷ i.Exit ∷ []) ((4 ∷ 0 ∷ 0 ∷ 0 ∷ 1 ∷ 0 ∷ 0 ∷ 0 ∷ 3 ∷ 0 ∷ 0 ∷ 0 ∷ 0 ∷ 0 ∷ 0 ∷ 0 ∷ 1 ∷ 0 ∷ 0 ∷ 0 ∷ 0 ∷ 0 ∷ 0 ∷ 0 ∷ 3 ∷ []) ++ replicate 4071 0) (record { generals = 4; commander = 0; general = 3; round = 1 }) ([]) 2 ≡ Trapped PointerUse
+unfolding labels step onwards
+row_5 = refl
+
+-- row_6_div64; the verifier: accepted
+row_6_div64 : after (i.Arithmetic W64 op.Move 0 (Immediate (pos 5)) ∷ i.Arithmetic W64 op.Div 0 (Immediate (pos 0)) ∷ i.Exit ∷ []) ((4 ∷ 0 ∷ 0 ∷ 0 ∷ 1 ∷ 0 ∷ 0 ∷ 0 ∷ 3 ∷ 0 ∷ 0 ∷ 0 ∷ 0 ∷ 0 ∷ 0 ∷ 0 ∷ 1 ∷ 0 ∷ 0 ∷ 0 ∷ 0 ∷ 0 ∷ 0 ∷ 0 ∷ 3 ∷ []) ++ replicate 4071 0) (record { generals = 4; commander = 0; general = 3; round = 1 }) ([]) 3 ≡ Exited 0 (record { unit = 2; registers = ((Number 0) ∷ (Pointer Context (pos 0)) ∷ (Unset) ∷ (Unset) ∷ (Unset) ∷ (Unset) ∷ (Unset) ∷ (Unset) ∷ (Unset) ∷ (Unset) ∷ (Pointer Stack (pos 0)) ∷ []); cells = (replicate 512 (Empty)); outbox = ([]); steps = 3 })
+unfolding labels step onwards
+row_6_div64 = refl
+
+-- row_6_mod64; the verifier: accepted
+row_6_mod64 : after (i.LoadNumber 0 4294967301 ∷ i.Arithmetic W64 op.Mod 0 (Immediate (pos 0)) ∷ i.Exit ∷ []) ((4 ∷ 0 ∷ 0 ∷ 0 ∷ 1 ∷ 0 ∷ 0 ∷ 0 ∷ 3 ∷ 0 ∷ 0 ∷ 0 ∷ 0 ∷ 0 ∷ 0 ∷ 0 ∷ 1 ∷ 0 ∷ 0 ∷ 0 ∷ 0 ∷ 0 ∷ 0 ∷ 0 ∷ 3 ∷ []) ++ replicate 4071 0) (record { generals = 4; commander = 0; general = 3; round = 1 }) ([]) 3 ≡ Exited 4294967301 (record { unit = 3; registers = ((Number 4294967301) ∷ (Pointer Context (pos 0)) ∷ (Unset) ∷ (Unset) ∷ (Unset) ∷ (Unset) ∷ (Unset) ∷ (Unset) ∷ (Unset) ∷ (Unset) ∷ (Pointer Stack (pos 0)) ∷ []); cells = (replicate 512 (Empty)); outbox = ([]); steps = 3 })
+unfolding labels step onwards
+row_6_mod64 = refl
+
+-- row_6_div32; the verifier: accepted
+row_6_div32 : after (i.Arithmetic W64 op.Move 0 (Immediate (pos 5)) ∷ i.Arithmetic W32 op.Div 0 (Immediate (pos 0)) ∷ i.Exit ∷ []) ((4 ∷ 0 ∷ 0 ∷ 0 ∷ 1 ∷ 0 ∷ 0 ∷ 0 ∷ 3 ∷ 0 ∷ 0 ∷ 0 ∷ 0 ∷ 0 ∷ 0 ∷ 0 ∷ 1 ∷ 0 ∷ 0 ∷ 0 ∷ 0 ∷ 0 ∷ 0 ∷ 0 ∷ 3 ∷ []) ++ replicate 4071 0) (record { generals = 4; commander = 0; general = 3; round = 1 }) ([]) 3 ≡ Exited 0 (record { unit = 2; registers = ((Number 0) ∷ (Pointer Context (pos 0)) ∷ (Unset) ∷ (Unset) ∷ (Unset) ∷ (Unset) ∷ (Unset) ∷ (Unset) ∷ (Unset) ∷ (Unset) ∷ (Pointer Stack (pos 0)) ∷ []); cells = (replicate 512 (Empty)); outbox = ([]); steps = 3 })
+unfolding labels step onwards
+row_6_div32 = refl
+
+-- row_6_sdiv64; the verifier: accepted
+row_6_sdiv64 : after (i.LoadNumber 0 9223372036854775808 ∷ i.Arithmetic W64 op.SignedDiv 0 (Immediate (negsuc 0)) ∷ i.Exit ∷ []) ((4 ∷ 0 ∷ 0 ∷ 0 ∷ 1 ∷ 0 ∷ 0 ∷ 0 ∷ 3 ∷ 0 ∷ 0 ∷ 0 ∷ 0 ∷ 0 ∷ 0 ∷ 0 ∷ 1 ∷ 0 ∷ 0 ∷ 0 ∷ 0 ∷ 0 ∷ 0 ∷ 0 ∷ 3 ∷ []) ++ replicate 4071 0) (record { generals = 4; commander = 0; general = 3; round = 1 }) ([]) 3 ≡ Exited 9223372036854775808 (record { unit = 3; registers = ((Number 9223372036854775808) ∷ (Pointer Context (pos 0)) ∷ (Unset) ∷ (Unset) ∷ (Unset) ∷ (Unset) ∷ (Unset) ∷ (Unset) ∷ (Unset) ∷ (Unset) ∷ (Pointer Stack (pos 0)) ∷ []); cells = (replicate 512 (Empty)); outbox = ([]); steps = 3 })
+unfolding labels step onwards
+row_6_sdiv64 = refl
+
+-- row_6_smod64; the verifier: accepted
+row_6_smod64 : after (i.LoadNumber 0 9223372036854775808 ∷ i.Arithmetic W64 op.SignedMod 0 (Immediate (negsuc 0)) ∷ i.Exit ∷ []) ((4 ∷ 0 ∷ 0 ∷ 0 ∷ 1 ∷ 0 ∷ 0 ∷ 0 ∷ 3 ∷ 0 ∷ 0 ∷ 0 ∷ 0 ∷ 0 ∷ 0 ∷ 0 ∷ 1 ∷ 0 ∷ 0 ∷ 0 ∷ 0 ∷ 0 ∷ 0 ∷ 0 ∷ 3 ∷ []) ++ replicate 4071 0) (record { generals = 4; commander = 0; general = 3; round = 1 }) ([]) 3 ≡ Exited 0 (record { unit = 3; registers = ((Number 0) ∷ (Pointer Context (pos 0)) ∷ (Unset) ∷ (Unset) ∷ (Unset) ∷ (Unset) ∷ (Unset) ∷ (Unset) ∷ (Unset) ∷ (Unset) ∷ (Pointer Stack (pos 0)) ∷ []); cells = (replicate 512 (Empty)); outbox = ([]); steps = 3 })
+unfolding labels step onwards
+row_6_smod64 = refl
+
+-- row_6_sdiv32; the verifier: accepted
+row_6_sdiv32 : after (i.LoadNumber 0 2147483648 ∷ i.Arithmetic W32 op.SignedDiv 0 (Immediate (negsuc 0)) ∷ i.Exit ∷ []) ((4 ∷ 0 ∷ 0 ∷ 0 ∷ 1 ∷ 0 ∷ 0 ∷ 0 ∷ 3 ∷ 0 ∷ 0 ∷ 0 ∷ 0 ∷ 0 ∷ 0 ∷ 0 ∷ 1 ∷ 0 ∷ 0 ∷ 0 ∷ 0 ∷ 0 ∷ 0 ∷ 0 ∷ 3 ∷ []) ++ replicate 4071 0) (record { generals = 4; commander = 0; general = 3; round = 1 }) ([]) 3 ≡ Exited 2147483648 (record { unit = 3; registers = ((Number 2147483648) ∷ (Pointer Context (pos 0)) ∷ (Unset) ∷ (Unset) ∷ (Unset) ∷ (Unset) ∷ (Unset) ∷ (Unset) ∷ (Unset) ∷ (Unset) ∷ (Pointer Stack (pos 0)) ∷ []); cells = (replicate 512 (Empty)); outbox = ([]); steps = 3 })
+unfolding labels step onwards
+row_6_sdiv32 = refl
+
+-- row_6_smod32; the verifier: accepted
+row_6_smod32 : after (i.LoadNumber 0 2147483648 ∷ i.Arithmetic W32 op.SignedMod 0 (Immediate (negsuc 0)) ∷ i.Exit ∷ []) ((4 ∷ 0 ∷ 0 ∷ 0 ∷ 1 ∷ 0 ∷ 0 ∷ 0 ∷ 3 ∷ 0 ∷ 0 ∷ 0 ∷ 0 ∷ 0 ∷ 0 ∷ 0 ∷ 1 ∷ 0 ∷ 0 ∷ 0 ∷ 0 ∷ 0 ∷ 0 ∷ 0 ∷ 3 ∷ []) ++ replicate 4071 0) (record { generals = 4; commander = 0; general = 3; round = 1 }) ([]) 3 ≡ Exited 0 (record { unit = 3; registers = ((Number 0) ∷ (Pointer Context (pos 0)) ∷ (Unset) ∷ (Unset) ∷ (Unset) ∷ (Unset) ∷ (Unset) ∷ (Unset) ∷ (Unset) ∷ (Unset) ∷ (Pointer Stack (pos 0)) ∷ []); cells = (replicate 512 (Empty)); outbox = ([]); steps = 3 })
+unfolding labels step onwards
+row_6_smod32 = refl
+
+-- row_7_empty; the verifier: refused V9 unit 0
+row_7_empty : after (i.Load size.Double 0 10 (negsuc 7) ∷ i.Exit ∷ []) ((4 ∷ 0 ∷ 0 ∷ 0 ∷ 1 ∷ 0 ∷ 0 ∷ 0 ∷ 3 ∷ 0 ∷ 0 ∷ 0 ∷ 0 ∷ 0 ∷ 0 ∷ 0 ∷ 1 ∷ 0 ∷ 0 ∷ 0 ∷ 0 ∷ 0 ∷ 0 ∷ 0 ∷ 3 ∷ []) ++ replicate 4071 0) (record { generals = 4; commander = 0; general = 3; round = 1 }) ([]) 2 ≡ Trapped NoBytes
+unfolding labels step onwards
+row_7_empty = refl
+
+-- row_7_one_byte; the verifier: refused V9 unit 1
+row_7_one_byte : after (i.Store size.Byte 10 (negsuc 7) (Immediate (pos 1)) ∷ i.Load size.Double 0 10 (negsuc 7) ∷ i.Exit ∷ []) ((4 ∷ 0 ∷ 0 ∷ 0 ∷ 1 ∷ 0 ∷ 0 ∷ 0 ∷ 3 ∷ 0 ∷ 0 ∷ 0 ∷ 0 ∷ 0 ∷ 0 ∷ 0 ∷ 1 ∷ 0 ∷ 0 ∷ 0 ∷ 0 ∷ 0 ∷ 0 ∷ 0 ∷ 3 ∷ []) ++ replicate 4071 0) (record { generals = 4; commander = 0; general = 3; round = 1 }) ([]) 3 ≡ Trapped NoBytes
+unfolding labels step onwards
+row_7_one_byte = refl
+
+-- row_7_piece; the verifier: refused V9 unit 1
+row_7_piece : after (i.Store size.Double 10 (negsuc 7) (Register 1) ∷ i.Load size.Word 0 10 (negsuc 7) ∷ i.Exit ∷ []) ((4 ∷ 0 ∷ 0 ∷ 0 ∷ 1 ∷ 0 ∷ 0 ∷ 0 ∷ 3 ∷ 0 ∷ 0 ∷ 0 ∷ 0 ∷ 0 ∷ 0 ∷ 0 ∷ 1 ∷ 0 ∷ 0 ∷ 0 ∷ 0 ∷ 0 ∷ 0 ∷ 0 ∷ 3 ∷ []) ++ replicate 4071 0) (record { generals = 4; commander = 0; general = 3; round = 1 }) ([]) 3 ≡ Trapped NoBytes
+unfolding labels step onwards
+row_7_piece = refl
+
+-- row_7_pointer; the verifier: accepted
+row_7_pointer : after (i.Store size.Double 10 (negsuc 7) (Register 1) ∷ i.Load size.Double 2 10 (negsuc 7) ∷ i.Load size.Word 0 2 (pos 0) ∷ i.Exit ∷ []) ((4 ∷ 0 ∷ 0 ∷ 0 ∷ 1 ∷ 0 ∷ 0 ∷ 0 ∷ 3 ∷ 0 ∷ 0 ∷ 0 ∷ 0 ∷ 0 ∷ 0 ∷ 0 ∷ 1 ∷ 0 ∷ 0 ∷ 0 ∷ 0 ∷ 0 ∷ 0 ∷ 0 ∷ 3 ∷ []) ++ replicate 4071 0) (record { generals = 4; commander = 0; general = 3; round = 1 }) ([]) 4 ≡ Exited 4 (record { unit = 3; registers = ((Number 4) ∷ (Pointer Context (pos 0)) ∷ (Pointer Context (pos 0)) ∷ (Unset) ∷ (Unset) ∷ (Unset) ∷ (Unset) ∷ (Unset) ∷ (Unset) ∷ (Unset) ∷ (Pointer Stack (pos 0)) ∷ []); cells = (replicate 504 (Empty) ++ replicate 1 (Piece 0 Context (pos 0)) ++ replicate 1 (Piece 1 Context (pos 0)) ++ replicate 1 (Piece 2 Context (pos 0)) ++ replicate 1 (Piece 3 Context (pos 0)) ++ replicate 1 (Piece 4 Context (pos 0)) ++ replicate 1 (Piece 5 Context (pos 0)) ++ replicate 1 (Piece 6 Context (pos 0)) ++ replicate 1 (Piece 7 Context (pos 0))); outbox = ([]); steps = 4 })
+unfolding labels step onwards
+row_7_pointer = refl
+
+-- row_7_bounds; the verifier: refused V8 unit 0
+row_7_bounds : after (i.Load size.Double 0 10 (negsuc 3) ∷ i.Exit ∷ []) ((4 ∷ 0 ∷ 0 ∷ 0 ∷ 1 ∷ 0 ∷ 0 ∷ 0 ∷ 3 ∷ 0 ∷ 0 ∷ 0 ∷ 0 ∷ 0 ∷ 0 ∷ 0 ∷ 1 ∷ 0 ∷ 0 ∷ 0 ∷ 0 ∷ 0 ∷ 0 ∷ 0 ∷ 3 ∷ []) ++ replicate 4071 0) (record { generals = 4; commander = 0; general = 3; round = 1 }) ([]) 2 ≡ Trapped OutOfBounds
+unfolding labels step onwards
+row_7_bounds = refl
+
+-- row_8; the verifier: accepted
+row_8 : after (i.Arithmetic W64 op.Move 1 (Immediate (pos 0)) ∷ i.Call (pos 1) ∷ i.Arithmetic W64 op.Move 2 (Register 0) ∷ i.Arithmetic W64 op.And 2 (Immediate (pos 7)) ∷ i.Arithmetic W64 op.Move 3 (Register 10) ∷ i.Arithmetic W64 op.Add 3 (Immediate (negsuc 7)) ∷ i.Arithmetic W64 op.Add 3 (Register 2) ∷ i.Store size.Byte 3 (pos 0) (Immediate (pos 1)) ∷ i.Arithmetic W64 op.Move 0 (Immediate (pos 0)) ∷ i.Exit ∷ []) ((4 ∷ 0 ∷ 0 ∷ 0 ∷ 1 ∷ 0 ∷ 0 ∷ 0 ∷ 3 ∷ 0 ∷ 0 ∷ 0 ∷ 0 ∷ 0 ∷ 0 ∷ 0 ∷ 1 ∷ 0 ∷ 0 ∷ 0 ∷ 0 ∷ 0 ∷ 0 ∷ 0 ∷ 3 ∷ []) ++ replicate 4071 0) (record { generals = 4; commander = 0; general = 3; round = 1 }) ((0 ∷ []) ∷ []) 10 ≡ Exited 0 (record { unit = 9; registers = ((Number 0) ∷ (Unset) ∷ (Number 0) ∷ (Pointer Stack (negsuc 7)) ∷ (Unset) ∷ (Unset) ∷ (Unset) ∷ (Unset) ∷ (Unset) ∷ (Unset) ∷ (Pointer Stack (pos 0)) ∷ []); cells = (replicate 504 (Empty) ++ replicate 1 (Byte 1) ++ replicate 7 (Empty)); outbox = ([]); steps = 10 })
+unfolding labels step onwards
+row_8 = refl
+
+-- row_8_wide; the verifier: refused V8 unit 7
+row_8_wide : after (i.Arithmetic W64 op.Move 1 (Immediate (pos 0)) ∷ i.Call (pos 1) ∷ i.Arithmetic W64 op.Move 2 (Register 0) ∷ i.Arithmetic W64 op.And 2 (Immediate (pos 15)) ∷ i.Arithmetic W64 op.Move 3 (Register 10) ∷ i.Arithmetic W64 op.Add 3 (Immediate (negsuc 7)) ∷ i.Arithmetic W64 op.Add 3 (Register 2) ∷ i.Store size.Byte 3 (pos 0) (Immediate (pos 1)) ∷ i.Arithmetic W64 op.Move 0 (Immediate (pos 0)) ∷ i.Exit ∷ []) ((4 ∷ 0 ∷ 0 ∷ 0 ∷ 1 ∷ 0 ∷ 0 ∷ 0 ∷ 3 ∷ 0 ∷ 0 ∷ 0 ∷ 0 ∷ 0 ∷ 0 ∷ 0 ∷ 1 ∷ 0 ∷ 0 ∷ 0 ∷ 0 ∷ 0 ∷ 0 ∷ 0 ∷ 3 ∷ []) ++ replicate 4071 0) (record { generals = 4; commander = 0; general = 3; round = 1 }) ((9 ∷ []) ∷ []) 9 ≡ Trapped OutOfBounds
+unfolding labels step onwards
+row_8_wide = refl
+
+-- row_9; the verifier: accepted
+row_9 : after (i.Load size.Double 2 1 (pos 32) ∷ i.Arithmetic W64 op.Move 0 (Immediate (pos 0)) ∷ i.Branch W64 c.Above 2 (Immediate (pos 63)) (pos 2) ∷ i.Arithmetic W64 op.Move 1 (Register 2) ∷ i.Call (pos 1) ∷ i.Exit ∷ []) ((4 ∷ 0 ∷ 0 ∷ 0 ∷ 1 ∷ 0 ∷ 0 ∷ 0 ∷ 3 ∷ 0 ∷ 0 ∷ 0 ∷ 0 ∷ 0 ∷ 0 ∷ 0 ∷ 1 ∷ 0 ∷ 0 ∷ 0 ∷ 0 ∷ 0 ∷ 0 ∷ 0 ∷ 3 ∷ []) ++ replicate 4071 0) (record { generals = 4; commander = 0; general = 3; round = 1 }) ((0 ∷ []) ∷ []) 6 ≡ Exited 0 (record { unit = 5; registers = ((Number 0) ∷ (Unset) ∷ (Unset) ∷ (Unset) ∷ (Unset) ∷ (Unset) ∷ (Unset) ∷ (Unset) ∷ (Unset) ∷ (Unset) ∷ (Pointer Stack (pos 0)) ∷ []); cells = (replicate 512 (Empty)); outbox = ([]); steps = 6 })
+unfolding labels step onwards
+row_9 = refl
+
+-- row_9_narrow; the verifier: refused V12 unit 4
+row_9_narrow : after (i.Load size.Double 2 1 (pos 32) ∷ i.Arithmetic W64 op.Move 0 (Immediate (pos 0)) ∷ i.Branch W32 c.Above 2 (Immediate (pos 63)) (pos 2) ∷ i.Arithmetic W64 op.Move 1 (Register 2) ∷ i.Call (pos 1) ∷ i.Exit ∷ []) ((4 ∷ 0 ∷ 0 ∷ 0 ∷ 1 ∷ 0 ∷ 0 ∷ 0 ∷ 3 ∷ 0 ∷ 0 ∷ 0 ∷ 0 ∷ 0 ∷ 0 ∷ 0 ∷ 2 ∷ 0 ∷ 0 ∷ 0 ∷ 1 ∷ 0 ∷ 0 ∷ 0 ∷ 2 ∷ 0 ∷ 0 ∷ 0 ∷ 0 ∷ 0 ∷ 0 ∷ 0 ∷ 0 ∷ 0 ∷ 0 ∷ 0 ∷ 1 ∷ []) ++ replicate 4059 0) (record { generals = 4; commander = 0; general = 3; round = 2 }) ([]) 6 ≡ Trapped Argument
+unfolding labels step onwards
+row_9_narrow = refl
+
+-- row_10_round_1; the verifier: accepted
+row_10_round_1 : after (i.Arithmetic W64 op.Move 1 (Immediate (pos 1)) ∷ i.Arithmetic W64 op.Move 2 (Immediate (pos 0)) ∷ i.Call (pos 8) ∷ i.Arithmetic W64 op.Move 1 (Immediate (pos 2)) ∷ i.Arithmetic W64 op.Move 2 (Immediate (pos 0)) ∷ i.Call (pos 8) ∷ i.Exit ∷ []) ((4 ∷ 0 ∷ 0 ∷ 0 ∷ 1 ∷ 0 ∷ 0 ∷ 0 ∷ 3 ∷ 0 ∷ 0 ∷ 0 ∷ 0 ∷ 0 ∷ 0 ∷ 0 ∷ 1 ∷ 0 ∷ 0 ∷ 0 ∷ 0 ∷ 0 ∷ 0 ∷ 0 ∷ 3 ∷ []) ++ replicate 4071 0) (record { generals = 4; commander = 0; general = 3; round = 1 }) ([]) 7 ≡ Exited 0 (record { unit = 6; registers = ((Number 0) ∷ (Unset) ∷ (Unset) ∷ (Unset) ∷ (Unset) ∷ (Unset) ∷ (Unset) ∷ (Unset) ∷ (Unset) ∷ (Unset) ∷ (Pointer Stack (pos 0)) ∷ []); cells = (replicate 512 (Empty)); outbox = ([]); steps = 7 })
+unfolding labels step onwards
+row_10_round_1 = refl
+
+-- row_10_round_2; the verifier: accepted
+row_10_round_2 : after (i.Arithmetic W64 op.Move 1 (Immediate (pos 1)) ∷ i.Arithmetic W64 op.Move 2 (Immediate (pos 0)) ∷ i.Call (pos 8) ∷ i.Arithmetic W64 op.Move 1 (Immediate (pos 2)) ∷ i.Arithmetic W64 op.Move 2 (Immediate (pos 0)) ∷ i.Call (pos 8) ∷ i.Exit ∷ []) ((4 ∷ 0 ∷ 0 ∷ 0 ∷ 1 ∷ 0 ∷ 0 ∷ 0 ∷ 3 ∷ 0 ∷ 0 ∷ 0 ∷ 0 ∷ 0 ∷ 0 ∷ 0 ∷ 2 ∷ 0 ∷ 0 ∷ 0 ∷ 1 ∷ 0 ∷ 0 ∷ 0 ∷ 2 ∷ 0 ∷ 0 ∷ 0 ∷ 0 ∷ 0 ∷ 0 ∷ 0 ∷ 1 ∷ []) ++ replicate 4063 0) (record { generals = 4; commander = 0; general = 3; round = 2 }) ([]) 7 ≡ Exited 1 (record { unit = 6; registers = ((Number 1) ∷ (Unset) ∷ (Unset) ∷ (Unset) ∷ (Unset) ∷ (Unset) ∷ (Unset) ∷ (Unset) ∷ (Unset) ∷ (Unset) ∷ (Pointer Stack (pos 0)) ∷ []); cells = (replicate 512 (Empty)); outbox = ((Some 0 ∷ Some 0 ∷ []) ∷ []); steps = 7 })
+unfolding labels step onwards
+row_10_round_2 = refl
+
+-- row_14_commander; the verifier: accepted
+row_14_commander : after (i.Arithmetic W64 op.Move 1 (Immediate (pos 0)) ∷ i.Arithmetic W64 op.Move 2 (Immediate (pos 1)) ∷ i.Call (pos 3) ∷ i.Arithmetic W64 op.Move 6 (Register 0) ∷ i.Arithmetic W64 op.And 6 (Immediate (pos 1)) ∷ i.Arithmetic W64 op.Move 1 (Immediate (pos 1)) ∷ i.Arithmetic W64 op.Move 2 (Register 6) ∷ i.Call (pos 8) ∷ i.Arithmetic W64 op.Move 1 (Immediate (pos 2)) ∷ i.Arithmetic W64 op.Move 2 (Register 6) ∷ i.Call (pos 8) ∷ i.Arithmetic W64 op.Move 1 (Immediate (pos 3)) ∷ i.Arithmetic W64 op.Move 2 (Register 6) ∷ i.Call (pos 8) ∷ i.Exit ∷ []) ((7 ∷ 0 ∷ 0 ∷ 0 ∷ 2 ∷ 0 ∷ 0 ∷ 0 ∷ 0 ∷ 0 ∷ 0 ∷ 0 ∷ 0 ∷ 0 ∷ 0 ∷ 0 ∷ 1 ∷ 0 ∷ 0 ∷ 0 ∷ 1 ∷ 0 ∷ 0 ∷ 0 ∷ 6 ∷ []) ++ replicate 4071 0) (record { generals = 7; commander = 0; general = 0; round = 1 }) ((3 ∷ []) ∷ []) 15 ≡ Exited 1 (record { unit = 14; registers = ((Number 1) ∷ (Unset) ∷ (Unset) ∷ (Unset) ∷ (Unset) ∷ (Unset) ∷ (Number 1) ∷ (Unset) ∷ (Unset) ∷ (Unset) ∷ (Pointer Stack (pos 0)) ∷ []); cells = (replicate 512 (Empty)); outbox = ((Some 1 ∷ Some 1 ∷ Some 1 ∷ None ∷ None ∷ None ∷ []) ∷ []); steps = 15 })
+unfolding labels step onwards
+row_14_commander = refl
+
+-- row_14_general_4; the verifier: accepted
+row_14_general_4 : after (i.Arithmetic W64 op.Move 1 (Immediate (pos 0)) ∷ i.Arithmetic W64 op.Move 2 (Immediate (pos 1)) ∷ i.Call (pos 3) ∷ i.Arithmetic W64 op.Move 6 (Register 0) ∷ i.Arithmetic W64 op.And 6 (Immediate (pos 1)) ∷ i.Arithmetic W64 op.Move 1 (Immediate (pos 1)) ∷ i.Arithmetic W64 op.Move 2 (Register 6) ∷ i.Call (pos 8) ∷ i.Arithmetic W64 op.Move 1 (Immediate (pos 2)) ∷ i.Arithmetic W64 op.Move 2 (Register 6) ∷ i.Call (pos 8) ∷ i.Arithmetic W64 op.Move 1 (Immediate (pos 3)) ∷ i.Arithmetic W64 op.Move 2 (Register 6) ∷ i.Call (pos 8) ∷ i.Exit ∷ []) ((7 ∷ 0 ∷ 0 ∷ 0 ∷ 2 ∷ 0 ∷ 0 ∷ 0 ∷ 4 ∷ 0 ∷ 0 ∷ 0 ∷ 0 ∷ 0 ∷ 0 ∷ 0 ∷ 3 ∷ 0 ∷ 0 ∷ 0 ∷ 5 ∷ 0 ∷ 0 ∷ 0 ∷ 4 ∷ 0 ∷ 0 ∷ 0 ∷ 0 ∷ 0 ∷ 0 ∷ 0 ∷ 1 ∷ 0 ∷ 0 ∷ 0 ∷ 1 ∷ 0 ∷ 0 ∷ 0 ∷ 0 ∷ 0 ∷ 0 ∷ 0 ∷ 0 ∷ 0 ∷ 0 ∷ 0 ∷ 1 ∷ []) ++ replicate 4047 0) (record { generals = 7; commander = 0; general = 4; round = 3 }) ((3 ∷ []) ∷ []) 15 ≡ Exited 4 (record { unit = 14; registers = ((Number 4) ∷ (Unset) ∷ (Unset) ∷ (Unset) ∷ (Unset) ∷ (Unset) ∷ (Number 1) ∷ (Unset) ∷ (Unset) ∷ (Unset) ∷ (Pointer Stack (pos 0)) ∷ []); cells = (replicate 512 (Empty)); outbox = ((Some 1 ∷ Some 1 ∷ None ∷ None ∷ []) ∷ (Some 1 ∷ Some 1 ∷ None ∷ None ∷ []) ∷ (Some 1 ∷ Some 1 ∷ None ∷ None ∷ []) ∷ (Some 1 ∷ Some 1 ∷ Some 1 ∷ None ∷ []) ∷ (Some 1 ∷ Some 1 ∷ Some 1 ∷ None ∷ []) ∷ []); steps = 15 })
+unfolding labels step onwards
+row_14_general_4 = refl
+
+-- row_15; the verifier: accepted
+row_15 : after (i.Arithmetic W64 op.Move 1 (Immediate (pos 5)) ∷ i.Arithmetic W64 op.Move 2 (Immediate (pos 1)) ∷ i.Call (pos 2) ∷ i.Arithmetic W64 op.Move 1 (Immediate (pos 6)) ∷ i.Call (pos 1) ∷ i.Exit ∷ []) ((7 ∷ 0 ∷ 0 ∷ 0 ∷ 2 ∷ 0 ∷ 0 ∷ 0 ∷ 5 ∷ 0 ∷ 0 ∷ 0 ∷ 0 ∷ 0 ∷ 0 ∷ 0 ∷ 1 ∷ 0 ∷ 0 ∷ 0 ∷ 0 ∷ 0 ∷ 0 ∷ 0 ∷ 6 ∷ []) ++ replicate 4071 0) (record { generals = 7; commander = 0; general = 5; round = 1 }) ((0 ∷ []) ∷ (1 ∷ []) ∷ []) 6 ≡ Exited 1 (record { unit = 5; registers = ((Number 1) ∷ (Unset) ∷ (Unset) ∷ (Unset) ∷ (Unset) ∷ (Unset) ∷ (Unset) ∷ (Unset) ∷ (Unset) ∷ (Unset) ∷ (Pointer Stack (pos 0)) ∷ []); cells = (replicate 512 (Empty)); outbox = ([]); steps = 6 })
+unfolding labels step onwards
+row_15 = refl
+
+-- row_R1_1; the verifier: accepted
+row_R1_1 : after (i.Arithmetic W64 op.Move 0 (Immediate (negsuc 0)) ∷ i.Arithmetic W64 op.Add 0 (Immediate (pos 2)) ∷ i.Exit ∷ []) ((4 ∷ 0 ∷ 0 ∷ 0 ∷ 1 ∷ 0 ∷ 0 ∷ 0 ∷ 3 ∷ 0 ∷ 0 ∷ 0 ∷ 0 ∷ 0 ∷ 0 ∷ 0 ∷ 1 ∷ 0 ∷ 0 ∷ 0 ∷ 0 ∷ 0 ∷ 0 ∷ 0 ∷ 3 ∷ []) ++ replicate 4071 0) (record { generals = 4; commander = 0; general = 3; round = 1 }) ([]) 3 ≡ Exited 1 (record { unit = 2; registers = ((Number 1) ∷ (Pointer Context (pos 0)) ∷ (Unset) ∷ (Unset) ∷ (Unset) ∷ (Unset) ∷ (Unset) ∷ (Unset) ∷ (Unset) ∷ (Unset) ∷ (Pointer Stack (pos 0)) ∷ []); cells = (replicate 512 (Empty)); outbox = ([]); steps = 3 })
+unfolding labels step onwards
+row_R1_1 = refl
+
+-- row_R1_2; the verifier: refused V6 unit 0
+row_R1_2 : after (i.Arithmetic W64 op.Move 10 (Immediate (pos 0)) ∷ i.Exit ∷ []) ((4 ∷ 0 ∷ 0 ∷ 0 ∷ 1 ∷ 0 ∷ 0 ∷ 0 ∷ 3 ∷ 0 ∷ 0 ∷ 0 ∷ 0 ∷ 0 ∷ 0 ∷ 0 ∷ 1 ∷ 0 ∷ 0 ∷ 0 ∷ 0 ∷ 0 ∷ 0 ∷ 0 ∷ 3 ∷ []) ++ replicate 4071 0) (record { generals = 4; commander = 0; general = 3; round = 1 }) ([]) 2 ≡ Trapped FrameWrite
+unfolding labels step onwards
+row_R1_2 = refl
+
+-- row_R1_3; the verifier: refused V13 unit 1
+row_R1_3 : after (i.Arithmetic W64 op.Move 0 (Register 1) ∷ i.Exit ∷ []) ((4 ∷ 0 ∷ 0 ∷ 0 ∷ 1 ∷ 0 ∷ 0 ∷ 0 ∷ 3 ∷ 0 ∷ 0 ∷ 0 ∷ 0 ∷ 0 ∷ 0 ∷ 0 ∷ 1 ∷ 0 ∷ 0 ∷ 0 ∷ 0 ∷ 0 ∷ 0 ∷ 0 ∷ 3 ∷ []) ++ replicate 4071 0) (record { generals = 4; commander = 0; general = 3; round = 1 }) ([]) 3 ≡ Trapped PointerUse
+unfolding labels step onwards
+row_R1_3 = refl
+
+-- row_R3_1; the verifier: accepted
+row_R3_1 : after (i.Arithmetic W64 op.Move 0 (Immediate (negsuc 12)) ∷ i.Arithmetic W64 op.SignedMod 0 (Immediate (pos 3)) ∷ i.Exit ∷ []) ((4 ∷ 0 ∷ 0 ∷ 0 ∷ 1 ∷ 0 ∷ 0 ∷ 0 ∷ 3 ∷ 0 ∷ 0 ∷ 0 ∷ 0 ∷ 0 ∷ 0 ∷ 0 ∷ 1 ∷ 0 ∷ 0 ∷ 0 ∷ 0 ∷ 0 ∷ 0 ∷ 0 ∷ 3 ∷ []) ++ replicate 4071 0) (record { generals = 4; commander = 0; general = 3; round = 1 }) ([]) 3 ≡ Exited 18446744073709551615 (record { unit = 2; registers = ((Number 18446744073709551615) ∷ (Pointer Context (pos 0)) ∷ (Unset) ∷ (Unset) ∷ (Unset) ∷ (Unset) ∷ (Unset) ∷ (Unset) ∷ (Unset) ∷ (Unset) ∷ (Pointer Stack (pos 0)) ∷ []); cells = (replicate 512 (Empty)); outbox = ([]); steps = 3 })
+unfolding labels step onwards
+row_R3_1 = refl
+
+-- row_R3_2; the verifier: accepted
+row_R3_2 : after (i.LoadNumber 0 4294967301 ∷ i.Arithmetic W32 op.Mod 0 (Immediate (pos 0)) ∷ i.Exit ∷ []) ((4 ∷ 0 ∷ 0 ∷ 0 ∷ 1 ∷ 0 ∷ 0 ∷ 0 ∷ 3 ∷ 0 ∷ 0 ∷ 0 ∷ 0 ∷ 0 ∷ 0 ∷ 0 ∷ 1 ∷ 0 ∷ 0 ∷ 0 ∷ 0 ∷ 0 ∷ 0 ∷ 0 ∷ 3 ∷ []) ++ replicate 4071 0) (record { generals = 4; commander = 0; general = 3; round = 1 }) ([]) 3 ≡ Exited 5 (record { unit = 3; registers = ((Number 5) ∷ (Pointer Context (pos 0)) ∷ (Unset) ∷ (Unset) ∷ (Unset) ∷ (Unset) ∷ (Unset) ∷ (Unset) ∷ (Unset) ∷ (Unset) ∷ (Pointer Stack (pos 0)) ∷ []); cells = (replicate 512 (Empty)); outbox = ([]); steps = 3 })
+unfolding labels step onwards
+row_R3_2 = refl
+
+-- row_R3_3; the verifier: accepted
+row_R3_3 : after (i.Arithmetic W64 op.Move 0 (Immediate (pos 1)) ∷ i.Arithmetic W64 op.ShiftLeft 0 (Immediate (pos 65)) ∷ i.Exit ∷ []) ((4 ∷ 0 ∷ 0 ∷ 0 ∷ 1 ∷ 0 ∷ 0 ∷ 0 ∷ 3 ∷ 0 ∷ 0 ∷ 0 ∷ 0 ∷ 0 ∷ 0 ∷ 0 ∷ 1 ∷ 0 ∷ 0 ∷ 0 ∷ 0 ∷ 0 ∷ 0 ∷ 0 ∷ 3 ∷ []) ++ replicate 4071 0) (record { generals = 4; commander = 0; general = 3; round = 1 }) ([]) 3 ≡ Exited 2 (record { unit = 2; registers = ((Number 2) ∷ (Pointer Context (pos 0)) ∷ (Unset) ∷ (Unset) ∷ (Unset) ∷ (Unset) ∷ (Unset) ∷ (Unset) ∷ (Unset) ∷ (Unset) ∷ (Pointer Stack (pos 0)) ∷ []); cells = (replicate 512 (Empty)); outbox = ([]); steps = 3 })
+unfolding labels step onwards
+row_R3_3 = refl
+
+-- row_R3_4; the verifier: accepted
+row_R3_4 : after (i.LoadNumber 0 1234605616436508552 ∷ i.Swap order.Big swap.Half 0 ∷ i.Exit ∷ []) ((4 ∷ 0 ∷ 0 ∷ 0 ∷ 1 ∷ 0 ∷ 0 ∷ 0 ∷ 3 ∷ 0 ∷ 0 ∷ 0 ∷ 0 ∷ 0 ∷ 0 ∷ 0 ∷ 1 ∷ 0 ∷ 0 ∷ 0 ∷ 0 ∷ 0 ∷ 0 ∷ 0 ∷ 3 ∷ []) ++ replicate 4071 0) (record { generals = 4; commander = 0; general = 3; round = 1 }) ([]) 3 ≡ Exited 34935 (record { unit = 3; registers = ((Number 34935) ∷ (Pointer Context (pos 0)) ∷ (Unset) ∷ (Unset) ∷ (Unset) ∷ (Unset) ∷ (Unset) ∷ (Unset) ∷ (Unset) ∷ (Unset) ∷ (Pointer Stack (pos 0)) ∷ []); cells = (replicate 512 (Empty)); outbox = ([]); steps = 3 })
+unfolding labels step onwards
+row_R3_4 = refl
+
+-- row_R3_5; the verifier: accepted
+row_R3_5 : after (i.Arithmetic W64 op.Move 0 (Immediate (pos 1)) ∷ i.Arithmetic W64 op.Move 1 (Immediate (negsuc 0)) ∷ i.Branch W64 c.SignedAbove 0 (Register 1) (pos 1) ∷ i.Arithmetic W64 op.Move 0 (Immediate (pos 7)) ∷ i.Exit ∷ []) ((4 ∷ 0 ∷ 0 ∷ 0 ∷ 1 ∷ 0 ∷ 0 ∷ 0 ∷ 3 ∷ 0 ∷ 0 ∷ 0 ∷ 0 ∷ 0 ∷ 0 ∷ 0 ∷ 1 ∷ 0 ∷ 0 ∷ 0 ∷ 0 ∷ 0 ∷ 0 ∷ 0 ∷ 3 ∷ []) ++ replicate 4071 0) (record { generals = 4; commander = 0; general = 3; round = 1 }) ([]) 5 ≡ Exited 1 (record { unit = 4; registers = ((Number 1) ∷ (Number 18446744073709551615) ∷ (Unset) ∷ (Unset) ∷ (Unset) ∷ (Unset) ∷ (Unset) ∷ (Unset) ∷ (Unset) ∷ (Unset) ∷ (Pointer Stack (pos 0)) ∷ []); cells = (replicate 512 (Empty)); outbox = ([]); steps = 4 })
+unfolding labels step onwards
+row_R3_5 = refl
+
+-- row_R3_6; the verifier: accepted
+row_R3_6 : after (i.Arithmetic W64 op.Move 1 (Immediate (pos 128)) ∷ i.SignExtend W64 narrow.Byte 0 1 ∷ i.Exit ∷ []) ((4 ∷ 0 ∷ 0 ∷ 0 ∷ 1 ∷ 0 ∷ 0 ∷ 0 ∷ 3 ∷ 0 ∷ 0 ∷ 0 ∷ 0 ∷ 0 ∷ 0 ∷ 0 ∷ 1 ∷ 0 ∷ 0 ∷ 0 ∷ 0 ∷ 0 ∷ 0 ∷ 0 ∷ 3 ∷ []) ++ replicate 4071 0) (record { generals = 4; commander = 0; general = 3; round = 1 }) ([]) 3 ≡ Exited 18446744073709551488 (record { unit = 2; registers = ((Number 18446744073709551488) ∷ (Number 128) ∷ (Unset) ∷ (Unset) ∷ (Unset) ∷ (Unset) ∷ (Unset) ∷ (Unset) ∷ (Unset) ∷ (Unset) ∷ (Pointer Stack (pos 0)) ∷ []); cells = (replicate 512 (Empty)); outbox = ([]); steps = 3 })
+unfolding labels step onwards
+row_R3_6 = refl
+
+-- row_R4_1; the verifier: accepted
+row_R4_1 : after (i.Load size.Double 2 1 (pos 32) ∷ i.Arithmetic W64 op.Move 0 (Immediate (pos 0)) ∷ i.Branch W64 c.Above 2 (Immediate (pos 7)) (pos 4) ∷ i.Arithmetic W64 op.Move 3 (Register 10) ∷ i.Arithmetic W64 op.Add 3 (Immediate (negsuc 7)) ∷ i.Arithmetic W64 op.Add 3 (Register 2) ∷ i.Store size.Byte 3 (pos 0) (Immediate (pos 1)) ∷ i.Exit ∷ []) ((4 ∷ 0 ∷ 0 ∷ 0 ∷ 1 ∷ 0 ∷ 0 ∷ 0 ∷ 3 ∷ 0 ∷ 0 ∷ 0 ∷ 0 ∷ 0 ∷ 0 ∷ 0 ∷ 1 ∷ 0 ∷ 0 ∷ 0 ∷ 0 ∷ 0 ∷ 0 ∷ 0 ∷ 3 ∷ []) ++ replicate 4071 0) (record { generals = 4; commander = 0; general = 3; round = 1 }) ([]) 8 ≡ Exited 0 (record { unit = 7; registers = ((Number 0) ∷ (Pointer Context (pos 0)) ∷ (Number 0) ∷ (Pointer Stack (negsuc 7)) ∷ (Unset) ∷ (Unset) ∷ (Unset) ∷ (Unset) ∷ (Unset) ∷ (Unset) ∷ (Pointer Stack (pos 0)) ∷ []); cells = (replicate 504 (Empty) ++ replicate 1 (Byte 1) ++ replicate 7 (Empty)); outbox = ([]); steps = 8 })
+unfolding labels step onwards
+row_R4_1 = refl
+
+-- row_R4_1_narrow; the verifier: refused V7 unit 5
+row_R4_1_narrow : after (i.Load size.Double 2 1 (pos 32) ∷ i.Arithmetic W64 op.Move 0 (Immediate (pos 0)) ∷ i.Branch W32 c.Above 2 (Immediate (pos 7)) (pos 4) ∷ i.Arithmetic W64 op.Move 3 (Register 10) ∷ i.Arithmetic W64 op.Add 3 (Immediate (negsuc 7)) ∷ i.Arithmetic W64 op.Add 3 (Register 2) ∷ i.Store size.Byte 3 (pos 0) (Immediate (pos 1)) ∷ i.Exit ∷ []) ((4 ∷ 0 ∷ 0 ∷ 0 ∷ 1 ∷ 0 ∷ 0 ∷ 0 ∷ 3 ∷ 0 ∷ 0 ∷ 0 ∷ 0 ∷ 0 ∷ 0 ∷ 0 ∷ 2 ∷ 0 ∷ 0 ∷ 0 ∷ 1 ∷ 0 ∷ 0 ∷ 0 ∷ 2 ∷ 0 ∷ 0 ∷ 0 ∷ 0 ∷ 0 ∷ 0 ∷ 0 ∷ 0 ∷ 0 ∷ 0 ∷ 0 ∷ 1 ∷ []) ++ replicate 4059 0) (record { generals = 4; commander = 0; general = 3; round = 2 }) ([]) 7 ≡ Trapped PointerUse
+unfolding labels step onwards
+row_R4_1_narrow = refl
+
+-- row_R4_2; the verifier: refused V10 unit 0
+row_R4_2 : after (i.Store size.Byte 1 (pos 0) (Immediate (pos 1)) ∷ i.Exit ∷ []) ((4 ∷ 0 ∷ 0 ∷ 0 ∷ 1 ∷ 0 ∷ 0 ∷ 0 ∷ 3 ∷ 0 ∷ 0 ∷ 0 ∷ 0 ∷ 0 ∷ 0 ∷ 0 ∷ 1 ∷ 0 ∷ 0 ∷ 0 ∷ 0 ∷ 0 ∷ 0 ∷ 0 ∷ 3 ∷ []) ++ replicate 4071 0) (record { generals = 4; commander = 0; general = 3; round = 1 }) ([]) 2 ≡ Trapped ContextWrite
+unfolding labels step onwards
+row_R4_2 = refl
+
+-- row_R4_3; the verifier: refused V13 unit 1
+row_R4_3 : after (i.Arithmetic W64 op.Move 0 (Register 1) ∷ i.Exit ∷ []) ((4 ∷ 0 ∷ 0 ∷ 0 ∷ 1 ∷ 0 ∷ 0 ∷ 0 ∷ 3 ∷ 0 ∷ 0 ∷ 0 ∷ 0 ∷ 0 ∷ 0 ∷ 0 ∷ 1 ∷ 0 ∷ 0 ∷ 0 ∷ 0 ∷ 0 ∷ 0 ∷ 0 ∷ 3 ∷ []) ++ replicate 4071 0) (record { generals = 4; commander = 0; general = 3; round = 1 }) ([]) 3 ≡ Trapped PointerUse
+unfolding labels step onwards
+row_R4_3 = refl
+
+-- row_R5_1; the verifier: refused V12 unit 1
+row_R5_1 : after (i.Arithmetic W64 op.Move 1 (Immediate (pos 64)) ∷ i.Call (pos 1) ∷ i.Exit ∷ []) ((4 ∷ 0 ∷ 0 ∷ 0 ∷ 1 ∷ 0 ∷ 0 ∷ 0 ∷ 3 ∷ 0 ∷ 0 ∷ 0 ∷ 0 ∷ 0 ∷ 0 ∷ 0 ∷ 1 ∷ 0 ∷ 0 ∷ 0 ∷ 0 ∷ 0 ∷ 0 ∷ 0 ∷ 3 ∷ []) ++ replicate 4071 0) (record { generals = 4; commander = 0; general = 3; round = 1 }) ([]) 3 ≡ Trapped Argument
+unfolding labels step onwards
+row_R5_1 = refl
+
+-- row_R5_2; the verifier: refused V11 unit 1
+row_R5_2 : after (i.Arithmetic W64 op.Move 1 (Immediate (pos 0)) ∷ i.Call (pos 12) ∷ i.Exit ∷ []) ((4 ∷ 0 ∷ 0 ∷ 0 ∷ 1 ∷ 0 ∷ 0 ∷ 0 ∷ 3 ∷ 0 ∷ 0 ∷ 0 ∷ 0 ∷ 0 ∷ 0 ∷ 0 ∷ 1 ∷ 0 ∷ 0 ∷ 0 ∷ 0 ∷ 0 ∷ 0 ∷ 0 ∷ 3 ∷ []) ++ replicate 4071 0) (record { generals = 4; commander = 0; general = 3; round = 1 }) ([]) 3 ≡ Trapped NoHelper
+unfolding labels step onwards
+row_R5_2 = refl
+
+-- row_R5_3; the verifier: accepted
+row_R5_3 : after (i.Arithmetic W64 op.Move 1 (Immediate (pos 60)) ∷ i.Arithmetic W64 op.Move 2 (Register 10) ∷ i.Arithmetic W64 op.Add 2 (Immediate (negsuc 31)) ∷ i.Arithmetic W64 op.Move 3 (Immediate (pos 4)) ∷ i.Call (pos 5) ∷ i.Load size.Double 0 10 (negsuc 31) ∷ i.Exit ∷ []) ((4 ∷ 0 ∷ 0 ∷ 0 ∷ 1 ∷ 0 ∷ 0 ∷ 0 ∷ 3 ∷ 0 ∷ 0 ∷ 0 ∷ 0 ∷ 0 ∷ 0 ∷ 0 ∷ 1 ∷ 0 ∷ 0 ∷ 0 ∷ 0 ∷ 0 ∷ 0 ∷ 0 ∷ 3 ∷ []) ++ replicate 4071 0) (record { generals = 4; commander = 0; general = 3; round = 1 }) ((7 ∷ 9223372036854775809 ∷ 3 ∷ 18446744073709551615 ∷ []) ∷ []) 7 ≡ Exited 7 (record { unit = 6; registers = ((Number 7) ∷ (Unset) ∷ (Unset) ∷ (Unset) ∷ (Unset) ∷ (Unset) ∷ (Unset) ∷ (Unset) ∷ (Unset) ∷ (Unset) ∷ (Pointer Stack (pos 0)) ∷ []); cells = (replicate 480 (Empty) ++ replicate 1 (Byte 7) ++ replicate 7 (Byte 0) ++ replicate 1 (Byte 1) ++ replicate 6 (Byte 0) ++ replicate 1 (Byte 128) ++ replicate 1 (Byte 3) ++ replicate 7 (Byte 0) ++ replicate 8 (Byte 255)); outbox = ([]); steps = 7 })
+unfolding labels step onwards
+row_R5_3 = refl
+
+-- row_R5_3_sum; the verifier: refused V12 unit 4
+row_R5_3_sum : after (i.Arithmetic W64 op.Move 1 (Immediate (pos 60)) ∷ i.Arithmetic W64 op.Move 2 (Register 10) ∷ i.Arithmetic W64 op.Add 2 (Immediate (negsuc 31)) ∷ i.Arithmetic W64 op.Move 3 (Immediate (pos 5)) ∷ i.Call (pos 5) ∷ i.Load size.Double 0 10 (negsuc 31) ∷ i.Exit ∷ []) ((4 ∷ 0 ∷ 0 ∷ 0 ∷ 1 ∷ 0 ∷ 0 ∷ 0 ∷ 3 ∷ 0 ∷ 0 ∷ 0 ∷ 0 ∷ 0 ∷ 0 ∷ 0 ∷ 1 ∷ 0 ∷ 0 ∷ 0 ∷ 0 ∷ 0 ∷ 0 ∷ 0 ∷ 3 ∷ []) ++ replicate 4071 0) (record { generals = 4; commander = 0; general = 3; round = 1 }) ([]) 6 ≡ Trapped Argument
+unfolding labels step onwards
+row_R5_3_sum = refl
+
+-- row_R5_3_bounds; the verifier: refused V8 unit 4
+row_R5_3_bounds : after (i.Arithmetic W64 op.Move 1 (Immediate (pos 60)) ∷ i.Arithmetic W64 op.Move 2 (Register 10) ∷ i.Arithmetic W64 op.Add 2 (Immediate (negsuc 23)) ∷ i.Arithmetic W64 op.Move 3 (Immediate (pos 4)) ∷ i.Call (pos 5) ∷ i.Load size.Double 0 10 (negsuc 31) ∷ i.Exit ∷ []) ((4 ∷ 0 ∷ 0 ∷ 0 ∷ 1 ∷ 0 ∷ 0 ∷ 0 ∷ 3 ∷ 0 ∷ 0 ∷ 0 ∷ 0 ∷ 0 ∷ 0 ∷ 0 ∷ 1 ∷ 0 ∷ 0 ∷ 0 ∷ 0 ∷ 0 ∷ 0 ∷ 0 ∷ 3 ∷ []) ++ replicate 4071 0) (record { generals = 4; commander = 0; general = 3; round = 1 }) ([]) 6 ≡ Trapped OutOfBounds
+unfolding labels step onwards
+row_R5_3_bounds = refl
+
+-- row_R5_4; the verifier: accepted
+row_R5_4 : after (i.Arithmetic W64 op.Move 1 (Immediate (pos 0)) ∷ i.Arithmetic W64 op.Move 2 (Immediate (pos 5)) ∷ i.Call (pos 2) ∷ i.Arithmetic W64 op.Move 1 (Immediate (pos 0)) ∷ i.Arithmetic W64 op.Move 2 (Immediate (pos 5)) ∷ i.Arithmetic W64 op.Move 3 (Immediate (pos 9)) ∷ i.Call (pos 4) ∷ i.Arithmetic W64 op.Move 1 (Immediate (pos 0)) ∷ i.Call (pos 1) ∷ i.Exit ∷ []) ((4 ∷ 0 ∷ 0 ∷ 0 ∷ 1 ∷ 0 ∷ 0 ∷ 0 ∷ 3 ∷ 0 ∷ 0 ∷ 0 ∷ 0 ∷ 0 ∷ 0 ∷ 0 ∷ 1 ∷ 0 ∷ 0 ∷ 0 ∷ 0 ∷ 0 ∷ 0 ∷ 0 ∷ 3 ∷ []) ++ replicate 4071 0) (record { generals = 4; commander = 0; general = 3; round = 1 }) ((0 ∷ []) ∷ (5 ∷ []) ∷ (9 ∷ []) ∷ []) 10 ≡ Exited 9 (record { unit = 9; registers = ((Number 9) ∷ (Unset) ∷ (Unset) ∷ (Unset) ∷ (Unset) ∷ (Unset) ∷ (Unset) ∷ (Unset) ∷ (Unset) ∷ (Unset) ∷ (Pointer Stack (pos 0)) ∷ []); cells = (replicate 512 (Empty)); outbox = ([]); steps = 10 })
+unfolding labels step onwards
+row_R5_4 = refl
+
+-- row_R5_5; the verifier: accepted
+row_R5_5 : after (i.Arithmetic W64 op.Move 1 (Immediate (pos 0)) ∷ i.Arithmetic W64 op.Move 2 (Immediate (pos 1)) ∷ i.Arithmetic W64 op.Move 3 (Immediate (pos 1)) ∷ i.Call (pos 6) ∷ i.Exit ∷ []) ((4 ∷ 0 ∷ 0 ∷ 0 ∷ 1 ∷ 0 ∷ 0 ∷ 0 ∷ 3 ∷ 0 ∷ 0 ∷ 0 ∷ 0 ∷ 0 ∷ 0 ∷ 0 ∷ 1 ∷ 0 ∷ 0 ∷ 0 ∷ 0 ∷ 0 ∷ 0 ∷ 0 ∷ 3 ∷ []) ++ replicate 4071 0) (record { generals = 4; commander = 0; general = 3; round = 1 }) ([]) 5 ≡ Exited 1 (record { unit = 4; registers = ((Number 1) ∷ (Unset) ∷ (Unset) ∷ (Unset) ∷ (Unset) ∷ (Unset) ∷ (Unset) ∷ (Unset) ∷ (Unset) ∷ (Unset) ∷ (Pointer Stack (pos 0)) ∷ []); cells = (replicate 512 (Empty)); outbox = ([]); steps = 5 })
+unfolding labels step onwards
+row_R5_5 = refl
+
+-- row_R11_1; the verifier: accepted
+row_R11_1 : after (i.Load size.Double 2 1 (pos 32) ∷ i.Arithmetic W64 op.And 2 (Immediate (pos 8)) ∷ i.Arithmetic W64 op.Xor 2 (Immediate (pos 8)) ∷ i.Arithmetic W64 op.Move 3 (Register 10) ∷ i.Arithmetic W64 op.Add 3 (Immediate (negsuc 8)) ∷ i.Arithmetic W64 op.Add 3 (Register 2) ∷ i.Store size.Byte 3 (pos 0) (Immediate (pos 1)) ∷ i.Arithmetic W64 op.Move 0 (Immediate (pos 0)) ∷ i.Exit ∷ []) ((4 ∷ 0 ∷ 0 ∷ 0 ∷ 1 ∷ 0 ∷ 0 ∷ 0 ∷ 3 ∷ 0 ∷ 0 ∷ 0 ∷ 0 ∷ 0 ∷ 0 ∷ 0 ∷ 1 ∷ 0 ∷ 0 ∷ 0 ∷ 0 ∷ 0 ∷ 0 ∷ 0 ∷ 3 ∷ []) ++ replicate 4071 0) (record { generals = 4; commander = 0; general = 3; round = 1 }) ([]) 9 ≡ Exited 0 (record { unit = 8; registers = ((Number 0) ∷ (Pointer Context (pos 0)) ∷ (Number 8) ∷ (Pointer Stack (negsuc 0)) ∷ (Unset) ∷ (Unset) ∷ (Unset) ∷ (Unset) ∷ (Unset) ∷ (Unset) ∷ (Pointer Stack (pos 0)) ∷ []); cells = (replicate 511 (Empty) ++ replicate 1 (Byte 1)); outbox = ([]); steps = 9 })
+unfolding labels step onwards
+row_R11_1 = refl
+
+-- row_R11_2; the verifier: accepted
+row_R11_2 : after (i.Load size.Double 2 1 (pos 32) ∷ i.Arithmetic W64 op.And 2 (Immediate (pos 8)) ∷ i.Arithmetic W64 op.Xor 2 (Immediate (pos 8)) ∷ i.Arithmetic W64 op.Move 0 (Immediate (pos 0)) ∷ i.Branch W64 c.Above 2 (Immediate (pos 8)) (pos 1) ∷ i.Exit ∷ i.Load size.Double 0 10 (negsuc 7) ∷ i.Exit ∷ []) ((4 ∷ 0 ∷ 0 ∷ 0 ∷ 1 ∷ 0 ∷ 0 ∷ 0 ∷ 3 ∷ 0 ∷ 0 ∷ 0 ∷ 0 ∷ 0 ∷ 0 ∷ 0 ∷ 1 ∷ 0 ∷ 0 ∷ 0 ∷ 0 ∷ 0 ∷ 0 ∷ 0 ∷ 3 ∷ []) ++ replicate 4071 0) (record { generals = 4; commander = 0; general = 3; round = 1 }) ([]) 8 ≡ Exited 0 (record { unit = 5; registers = ((Number 0) ∷ (Pointer Context (pos 0)) ∷ (Number 8) ∷ (Unset) ∷ (Unset) ∷ (Unset) ∷ (Unset) ∷ (Unset) ∷ (Unset) ∷ (Unset) ∷ (Pointer Stack (pos 0)) ∷ []); cells = (replicate 512 (Empty)); outbox = ([]); steps = 6 })
+unfolding labels step onwards
+row_R11_2 = refl
+
+-- own_send; the verifier: accepted
+own_send : after (i.Arithmetic W64 op.Move 1 (Immediate (pos 1)) ∷ i.Arithmetic W64 op.Move 2 (Immediate (pos 0)) ∷ i.LoadNumber 3 21474836487 ∷ i.Call (pos 6) ∷ i.Arithmetic W64 op.Move 6 (Register 0) ∷ i.Arithmetic W64 op.Move 1 (Immediate (pos 1)) ∷ i.Arithmetic W64 op.Move 2 (Immediate (pos 3)) ∷ i.Arithmetic W64 op.Move 3 (Immediate (pos 8)) ∷ i.Call (pos 6) ∷ i.Arithmetic W64 op.ShiftLeft 0 (Immediate (pos 1)) ∷ i.Arithmetic W64 op.Or 0 (Register 6) ∷ i.Exit ∷ []) ((5 ∷ 0 ∷ 0 ∷ 0 ∷ 2 ∷ 0 ∷ 0 ∷ 0 ∷ 1 ∷ 0 ∷ 0 ∷ 0 ∷ 2 ∷ 0 ∷ 0 ∷ 0 ∷ 3 ∷ 0 ∷ 0 ∷ 0 ∷ 3 ∷ 0 ∷ 0 ∷ 0 ∷ 2 ∷ 0 ∷ 0 ∷ 0 ∷ 0 ∷ 0 ∷ 0 ∷ 0 ∷ 4 ∷ 0 ∷ 0 ∷ 0 ∷ 5 ∷ 0 ∷ 0 ∷ 0 ∷ 6 ∷ []) ++ replicate 4055 0) (record { generals = 5; commander = 2; general = 1; round = 3 }) ([]) 12 ≡ Exited 2 (record { unit = 12; registers = ((Number 2) ∷ (Unset) ∷ (Unset) ∷ (Unset) ∷ (Unset) ∷ (Unset) ∷ (Number 0) ∷ (Unset) ∷ (Unset) ∷ (Unset) ∷ (Pointer Stack (pos 0)) ∷ []); cells = (replicate 512 (Empty)); outbox = ((None ∷ None ∷ []) ∷ (Some 7 ∷ None ∷ []) ∷ (None ∷ None ∷ []) ∷ []); steps = 12 })
+unfolding labels step onwards
+own_send = refl
+
+-- own_send_row; the verifier: accepted
+own_send_row : after (i.Store size.Half 10 (negsuc 11) (Immediate (pos 9)) ∷ i.Store size.Half 10 (negsuc 9) (Immediate (pos 1)) ∷ i.Store size.Word 10 (negsuc 7) (Immediate (negsuc 0)) ∷ i.Store size.Word 10 (negsuc 3) (Immediate (pos 5)) ∷ i.Arithmetic W64 op.Move 1 (Immediate (pos 2)) ∷ i.Arithmetic W64 op.Move 2 (Register 10) ∷ i.Arithmetic W64 op.Add 2 (Immediate (negsuc 11)) ∷ i.Arithmetic W64 op.Move 3 (Immediate (pos 3)) ∷ i.Call (pos 7) ∷ i.Exit ∷ []) ((5 ∷ 0 ∷ 0 ∷ 0 ∷ 2 ∷ 0 ∷ 0 ∷ 0 ∷ 1 ∷ 0 ∷ 0 ∷ 0 ∷ 2 ∷ 0 ∷ 0 ∷ 0 ∷ 3 ∷ 0 ∷ 0 ∷ 0 ∷ 3 ∷ 0 ∷ 0 ∷ 0 ∷ 2 ∷ 0 ∷ 0 ∷ 0 ∷ 0 ∷ 0 ∷ 0 ∷ 0 ∷ 4 ∷ 0 ∷ 0 ∷ 0 ∷ 5 ∷ 0 ∷ 0 ∷ 0 ∷ 6 ∷ []) ++ replicate 4055 0) (record { generals = 5; commander = 2; general = 1; round = 3 }) ([]) 10 ≡ Exited 2 (record { unit = 9; registers = ((Number 2) ∷ (Unset) ∷ (Unset) ∷ (Unset) ∷ (Unset) ∷ (Unset) ∷ (Unset) ∷ (Unset) ∷ (Unset) ∷ (Unset) ∷ (Pointer Stack (pos 0)) ∷ []); cells = (replicate 500 (Empty) ++ replicate 1 (Byte 9) ++ replicate 1 (Byte 0) ++ replicate 1 (Byte 1) ++ replicate 1 (Byte 0) ++ replicate 4 (Byte 255) ++ replicate 1 (Byte 5) ++ replicate 3 (Byte 0)); outbox = ((None ∷ None ∷ []) ∷ (None ∷ None ∷ []) ∷ (Some 65545 ∷ Some 4294967295 ∷ []) ∷ []); steps = 10 })
+unfolding labels step onwards
+own_send_row = refl
+
+-- own_send_row_short; the verifier: accepted
+own_send_row_short : after (i.Arithmetic W64 op.Move 2 (Register 1) ∷ i.Arithmetic W64 op.Add 2 (Immediate (pos 32)) ∷ i.Arithmetic W64 op.Move 1 (Immediate (pos 1)) ∷ i.Arithmetic W64 op.Move 3 (Immediate (pos 1)) ∷ i.Call (pos 7) ∷ i.Exit ∷ []) ((5 ∷ 0 ∷ 0 ∷ 0 ∷ 2 ∷ 0 ∷ 0 ∷ 0 ∷ 1 ∷ 0 ∷ 0 ∷ 0 ∷ 2 ∷ 0 ∷ 0 ∷ 0 ∷ 3 ∷ 0 ∷ 0 ∷ 0 ∷ 3 ∷ 0 ∷ 0 ∷ 0 ∷ 2 ∷ 0 ∷ 0 ∷ 0 ∷ 0 ∷ 0 ∷ 0 ∷ 0 ∷ 4 ∷ 0 ∷ 0 ∷ 0 ∷ 5 ∷ 0 ∷ 0 ∷ 0 ∷ 6 ∷ []) ++ replicate 4055 0) (record { generals = 5; commander = 2; general = 1; round = 3 }) ([]) 6 ≡ Exited 1 (record { unit = 5; registers = ((Number 1) ∷ (Unset) ∷ (Unset) ∷ (Unset) ∷ (Unset) ∷ (Unset) ∷ (Unset) ∷ (Unset) ∷ (Unset) ∷ (Unset) ∷ (Pointer Stack (pos 0)) ∷ []); cells = (replicate 512 (Empty)); outbox = ((None ∷ None ∷ []) ∷ (Some 4 ∷ None ∷ []) ∷ (None ∷ None ∷ []) ∷ []); steps = 6 })
+unfolding labels step onwards
+own_send_row_short = refl
+
+-- own_send_row_none; the verifier: accepted
+own_send_row_none : after (i.Arithmetic W64 op.Move 2 (Register 1) ∷ i.Arithmetic W64 op.Add 2 (Immediate (pos 32)) ∷ i.Arithmetic W64 op.Move 1 (Immediate (pos 3)) ∷ i.Arithmetic W64 op.Move 3 (Immediate (pos 13)) ∷ i.Call (pos 7) ∷ i.Exit ∷ []) ((5 ∷ 0 ∷ 0 ∷ 0 ∷ 2 ∷ 0 ∷ 0 ∷ 0 ∷ 1 ∷ 0 ∷ 0 ∷ 0 ∷ 2 ∷ 0 ∷ 0 ∷ 0 ∷ 3 ∷ 0 ∷ 0 ∷ 0 ∷ 3 ∷ 0 ∷ 0 ∷ 0 ∷ 2 ∷ 0 ∷ 0 ∷ 0 ∷ 0 ∷ 0 ∷ 0 ∷ 0 ∷ 4 ∷ 0 ∷ 0 ∷ 0 ∷ 5 ∷ 0 ∷ 0 ∷ 0 ∷ 6 ∷ []) ++ replicate 4055 0) (record { generals = 5; commander = 2; general = 1; round = 3 }) ([]) 6 ≡ Exited 0 (record { unit = 5; registers = ((Number 0) ∷ (Unset) ∷ (Unset) ∷ (Unset) ∷ (Unset) ∷ (Unset) ∷ (Unset) ∷ (Unset) ∷ (Unset) ∷ (Unset) ∷ (Pointer Stack (pos 0)) ∷ []); cells = (replicate 512 (Empty)); outbox = ((None ∷ None ∷ []) ∷ (None ∷ None ∷ []) ∷ (None ∷ None ∷ []) ∷ []); steps = 6 })
+unfolding labels step onwards
+own_send_row_none = refl
+
+-- own_send_row_unset; the verifier: refused V9 unit 4
+own_send_row_unset : after (i.Arithmetic W64 op.Move 1 (Immediate (pos 3)) ∷ i.Arithmetic W64 op.Move 2 (Register 10) ∷ i.Arithmetic W64 op.Add 2 (Immediate (negsuc 3)) ∷ i.Arithmetic W64 op.Move 3 (Immediate (pos 1)) ∷ i.Call (pos 7) ∷ i.Exit ∷ []) ((5 ∷ 0 ∷ 0 ∷ 0 ∷ 2 ∷ 0 ∷ 0 ∷ 0 ∷ 1 ∷ 0 ∷ 0 ∷ 0 ∷ 2 ∷ 0 ∷ 0 ∷ 0 ∷ 3 ∷ 0 ∷ 0 ∷ 0 ∷ 3 ∷ 0 ∷ 0 ∷ 0 ∷ 2 ∷ 0 ∷ 0 ∷ 0 ∷ 0 ∷ 0 ∷ 0 ∷ 0 ∷ 4 ∷ 0 ∷ 0 ∷ 0 ∷ 5 ∷ 0 ∷ 0 ∷ 0 ∷ 6 ∷ []) ++ replicate 4055 0) (record { generals = 5; commander = 2; general = 1; round = 3 }) ([]) 6 ≡ Trapped NoBytes
+unfolding labels step onwards
+own_send_row_unset = refl
+
+-- own_send_row_empty_far; the verifier: refused V8 unit 4
+own_send_row_empty_far : after (i.Arithmetic W64 op.Move 1 (Immediate (pos 3)) ∷ i.Arithmetic W64 op.Move 2 (Register 10) ∷ i.Arithmetic W64 op.Add 2 (Immediate (pos 4)) ∷ i.Arithmetic W64 op.Move 3 (Immediate (pos 0)) ∷ i.Call (pos 7) ∷ i.Exit ∷ []) ((5 ∷ 0 ∷ 0 ∷ 0 ∷ 2 ∷ 0 ∷ 0 ∷ 0 ∷ 1 ∷ 0 ∷ 0 ∷ 0 ∷ 2 ∷ 0 ∷ 0 ∷ 0 ∷ 3 ∷ 0 ∷ 0 ∷ 0 ∷ 3 ∷ 0 ∷ 0 ∷ 0 ∷ 2 ∷ 0 ∷ 0 ∷ 0 ∷ 0 ∷ 0 ∷ 0 ∷ 0 ∷ 4 ∷ 0 ∷ 0 ∷ 0 ∷ 5 ∷ 0 ∷ 0 ∷ 0 ∷ 6 ∷ []) ++ replicate 4055 0) (record { generals = 5; commander = 2; general = 1; round = 3 }) ([]) 6 ≡ Trapped OutOfBounds
+unfolding labels step onwards
+own_send_row_empty_far = refl
+
+-- own_honest; the verifier: accepted
+own_honest : after (i.Arithmetic W64 op.Move 1 (Immediate (pos 0)) ∷ i.Call (pos 9) ∷ i.Arithmetic W64 op.Move 6 (Register 0) ∷ i.Arithmetic W64 op.Move 1 (Immediate (pos 4)) ∷ i.Arithmetic W64 op.Move 2 (Immediate (pos 3)) ∷ i.Call (pos 8) ∷ i.Arithmetic W64 op.ShiftLeft 0 (Immediate (pos 4)) ∷ i.Arithmetic W64 op.Or 0 (Register 6) ∷ i.Arithmetic W64 op.Move 7 (Register 0) ∷ i.Arithmetic W64 op.Move 1 (Immediate (pos 0)) ∷ i.Arithmetic W64 op.Move 2 (Immediate (pos 0)) ∷ i.Arithmetic W64 op.Move 3 (Immediate (pos 1)) ∷ i.Call (pos 6) ∷ i.Arithmetic W64 op.Move 0 (Register 7) ∷ i.Exit ∷ []) ((5 ∷ 0 ∷ 0 ∷ 0 ∷ 2 ∷ 0 ∷ 0 ∷ 0 ∷ 1 ∷ 0 ∷ 0 ∷ 0 ∷ 2 ∷ 0 ∷ 0 ∷ 0 ∷ 3 ∷ 0 ∷ 0 ∷ 0 ∷ 3 ∷ 0 ∷ 0 ∷ 0 ∷ 2 ∷ 0 ∷ 0 ∷ 0 ∷ 0 ∷ 0 ∷ 0 ∷ 0 ∷ 4 ∷ 0 ∷ 0 ∷ 0 ∷ 255 ∷ 255 ∷ 255 ∷ 255 ∷ 6 ∷ []) ++ replicate 4055 0) (record { generals = 5; commander = 2; general = 1; round = 3 }) ([]) 15 ≡ Exited 34 (record { unit = 14; registers = ((Number 34) ∷ (Unset) ∷ (Unset) ∷ (Unset) ∷ (Unset) ∷ (Unset) ∷ (Number 2) ∷ (Number 34) ∷ (Unset) ∷ (Unset) ∷ (Pointer Stack (pos 0)) ∷ []); cells = (replicate 512 (Empty)); outbox = ((None ∷ Some 3 ∷ []) ∷ (Some 4294967295 ∷ Some 3 ∷ []) ∷ (Some 6 ∷ None ∷ []) ∷ []); steps = 15 })
+unfolding labels step onwards
+own_honest = refl
+
+-- own_honest_self; the verifier: accepted
+own_honest_self : after (i.Arithmetic W64 op.Move 1 (Immediate (pos 1)) ∷ i.Call (pos 9) ∷ i.Exit ∷ []) ((5 ∷ 0 ∷ 0 ∷ 0 ∷ 2 ∷ 0 ∷ 0 ∷ 0 ∷ 1 ∷ 0 ∷ 0 ∷ 0 ∷ 2 ∷ 0 ∷ 0 ∷ 0 ∷ 3 ∷ 0 ∷ 0 ∷ 0 ∷ 3 ∷ 0 ∷ 0 ∷ 0 ∷ 2 ∷ 0 ∷ 0 ∷ 0 ∷ 0 ∷ 0 ∷ 0 ∷ 0 ∷ 4 ∷ 0 ∷ 0 ∷ 0 ∷ 5 ∷ 0 ∷ 0 ∷ 0 ∷ 6 ∷ []) ++ replicate 4055 0) (record { generals = 5; commander = 2; general = 1; round = 3 }) ([]) 3 ≡ Exited 0 (record { unit = 2; registers = ((Number 0) ∷ (Unset) ∷ (Unset) ∷ (Unset) ∷ (Unset) ∷ (Unset) ∷ (Unset) ∷ (Unset) ∷ (Unset) ∷ (Unset) ∷ (Pointer Stack (pos 0)) ∷ []); cells = (replicate 512 (Empty)); outbox = ((None ∷ None ∷ []) ∷ (None ∷ None ∷ []) ∷ (None ∷ None ∷ []) ∷ []); steps = 3 })
+unfolding labels step onwards
+own_honest_self = refl
+
+-- own_copy_empty_far; the verifier: refused V12 unit 3
+own_copy_empty_far : after (i.Arithmetic W64 op.Move 1 (Immediate (pos 64)) ∷ i.Arithmetic W64 op.Move 2 (Register 10) ∷ i.Arithmetic W64 op.Move 3 (Immediate (pos 0)) ∷ i.Call (pos 5) ∷ i.Exit ∷ []) ((4 ∷ 0 ∷ 0 ∷ 0 ∷ 1 ∷ 0 ∷ 0 ∷ 0 ∷ 3 ∷ 0 ∷ 0 ∷ 0 ∷ 0 ∷ 0 ∷ 0 ∷ 0 ∷ 1 ∷ 0 ∷ 0 ∷ 0 ∷ 0 ∷ 0 ∷ 0 ∷ 0 ∷ 3 ∷ []) ++ replicate 4071 0) (record { generals = 4; commander = 0; general = 3; round = 1 }) ([]) 5 ≡ Trapped Argument
+unfolding labels step onwards
+own_copy_empty_far = refl
+
+-- own_copy_context; the verifier: refused V10 unit 3
+own_copy_context : after (i.Arithmetic W64 op.Move 2 (Register 1) ∷ i.Arithmetic W64 op.Move 1 (Immediate (pos 0)) ∷ i.Arithmetic W64 op.Move 3 (Immediate (pos 0)) ∷ i.Call (pos 5) ∷ i.Exit ∷ []) ((4 ∷ 0 ∷ 0 ∷ 0 ∷ 1 ∷ 0 ∷ 0 ∷ 0 ∷ 3 ∷ 0 ∷ 0 ∷ 0 ∷ 0 ∷ 0 ∷ 0 ∷ 0 ∷ 1 ∷ 0 ∷ 0 ∷ 0 ∷ 0 ∷ 0 ∷ 0 ∷ 0 ∷ 3 ∷ []) ++ replicate 4071 0) (record { generals = 4; commander = 0; general = 3; round = 1 }) ([]) 5 ≡ Trapped ContextWrite
+unfolding labels step onwards
+own_copy_context = refl
+
+-- own_copy_over_pieces; the verifier: accepted
+own_copy_over_pieces : after (i.Store size.Double 10 (negsuc 15) (Register 1) ∷ i.Store size.Double 10 (negsuc 7) (Register 10) ∷ i.Arithmetic W64 op.Move 1 (Immediate (pos 3)) ∷ i.Arithmetic W64 op.Move 2 (Register 10) ∷ i.Arithmetic W64 op.Add 2 (Immediate (negsuc 11)) ∷ i.Arithmetic W64 op.Move 3 (Immediate (pos 1)) ∷ i.Call (pos 5) ∷ i.Load size.Double 0 10 (negsuc 11) ∷ i.Exit ∷ []) ((4 ∷ 0 ∷ 0 ∷ 0 ∷ 1 ∷ 0 ∷ 0 ∷ 0 ∷ 3 ∷ 0 ∷ 0 ∷ 0 ∷ 0 ∷ 0 ∷ 0 ∷ 0 ∷ 1 ∷ 0 ∷ 0 ∷ 0 ∷ 0 ∷ 0 ∷ 0 ∷ 0 ∷ 3 ∷ []) ++ replicate 4071 0) (record { generals = 4; commander = 0; general = 3; round = 1 }) ((1234605616436508552 ∷ []) ∷ []) 9 ≡ Exited 1234605616436508552 (record { unit = 8; registers = ((Number 1234605616436508552) ∷ (Unset) ∷ (Unset) ∷ (Unset) ∷ (Unset) ∷ (Unset) ∷ (Unset) ∷ (Unset) ∷ (Unset) ∷ (Unset) ∷ (Pointer Stack (pos 0)) ∷ []); cells = (replicate 496 (Empty) ++ replicate 1 (Piece 0 Context (pos 0)) ++ replicate 1 (Piece 1 Context (pos 0)) ++ replicate 1 (Piece 2 Context (pos 0)) ++ replicate 1 (Piece 3 Context (pos 0)) ++ replicate 1 (Byte 136) ++ replicate 1 (Byte 119) ++ replicate 1 (Byte 102) ++ replicate 1 (Byte 85) ++ replicate 1 (Byte 68) ++ replicate 1 (Byte 51) ++ replicate 1 (Byte 34) ++ replicate 1 (Byte 17) ++ replicate 1 (Piece 4 Stack (pos 0)) ++ replicate 1 (Piece 5 Stack (pos 0)) ++ replicate 1 (Piece 6 Stack (pos 0)) ++ replicate 1 (Piece 7 Stack (pos 0))); outbox = ([]); steps = 9 })
+unfolding labels step onwards
+own_copy_over_pieces = refl
+
+-- own_store_over_piece; the verifier: refused V9 unit 2
+own_store_over_piece : after (i.Store size.Double 10 (negsuc 7) (Register 10) ∷ i.Store size.Byte 10 (negsuc 0) (Immediate (pos 0)) ∷ i.Load size.Double 0 10 (negsuc 7) ∷ i.Exit ∷ []) ((4 ∷ 0 ∷ 0 ∷ 0 ∷ 1 ∷ 0 ∷ 0 ∷ 0 ∷ 3 ∷ 0 ∷ 0 ∷ 0 ∷ 0 ∷ 0 ∷ 0 ∷ 0 ∷ 1 ∷ 0 ∷ 0 ∷ 0 ∷ 0 ∷ 0 ∷ 0 ∷ 0 ∷ 3 ∷ []) ++ replicate 4071 0) (record { generals = 4; commander = 0; general = 3; round = 1 }) ([]) 4 ≡ Trapped NoBytes
+unfolding labels step onwards
+own_store_over_piece = refl
+
+-- own_two_pointers; the verifier: refused V9 unit 4
+own_two_pointers : after (i.Store size.Double 10 (negsuc 7) (Register 10) ∷ i.Store size.Double 10 (negsuc 15) (Register 1) ∷ i.Load size.Double 3 10 (negsuc 7) ∷ i.Load size.Double 4 10 (negsuc 15) ∷ i.Load size.Double 5 10 (negsuc 11) ∷ i.Exit ∷ []) ((4 ∷ 0 ∷ 0 ∷ 0 ∷ 1 ∷ 0 ∷ 0 ∷ 0 ∷ 3 ∷ 0 ∷ 0 ∷ 0 ∷ 0 ∷ 0 ∷ 0 ∷ 0 ∷ 1 ∷ 0 ∷ 0 ∷ 0 ∷ 0 ∷ 0 ∷ 0 ∷ 0 ∷ 3 ∷ []) ++ replicate 4071 0) (record { generals = 4; commander = 0; general = 3; round = 1 }) ([]) 6 ≡ Trapped NoBytes
+unfolding labels step onwards
+own_two_pointers = refl
+
+-- own_word_pointer; the verifier: refused V7 unit 0
+own_word_pointer : after (i.Store size.Word 10 (negsuc 3) (Register 10) ∷ i.Arithmetic W64 op.Move 0 (Immediate (pos 0)) ∷ i.Exit ∷ []) ((4 ∷ 0 ∷ 0 ∷ 0 ∷ 1 ∷ 0 ∷ 0 ∷ 0 ∷ 3 ∷ 0 ∷ 0 ∷ 0 ∷ 0 ∷ 0 ∷ 0 ∷ 0 ∷ 1 ∷ 0 ∷ 0 ∷ 0 ∷ 0 ∷ 0 ∷ 0 ∷ 0 ∷ 3 ∷ []) ++ replicate 4071 0) (record { generals = 4; commander = 0; general = 3; round = 1 }) ([]) 2 ≡ Trapped PointerUse
+unfolding labels step onwards
+own_word_pointer = refl
+
+-- own_call_unsets_r5; the verifier: refused V5 unit 3
+own_call_unsets_r5 : after (i.Arithmetic W64 op.Move 5 (Immediate (pos 1)) ∷ i.Arithmetic W64 op.Move 1 (Immediate (pos 0)) ∷ i.Call (pos 1) ∷ i.Arithmetic W64 op.Move 0 (Register 5) ∷ i.Exit ∷ []) ((4 ∷ 0 ∷ 0 ∷ 0 ∷ 1 ∷ 0 ∷ 0 ∷ 0 ∷ 3 ∷ 0 ∷ 0 ∷ 0 ∷ 0 ∷ 0 ∷ 0 ∷ 0 ∷ 1 ∷ 0 ∷ 0 ∷ 0 ∷ 0 ∷ 0 ∷ 0 ∷ 0 ∷ 3 ∷ []) ++ replicate 4071 0) (record { generals = 4; commander = 0; general = 3; round = 1 }) ((0 ∷ []) ∷ []) 5 ≡ Trapped UnsetRegister
+unfolding labels step onwards
+own_call_unsets_r5 = refl
+
+-- own_pieces_shifted; the verifier: refused V9 unit 2
+own_pieces_shifted : after (i.Store size.Double 10 (negsuc 15) (Register 1) ∷ i.Store size.Double 10 (negsuc 7) (Register 1) ∷ i.Load size.Double 0 10 (negsuc 11) ∷ i.Exit ∷ []) ((4 ∷ 0 ∷ 0 ∷ 0 ∷ 1 ∷ 0 ∷ 0 ∷ 0 ∷ 3 ∷ 0 ∷ 0 ∷ 0 ∷ 0 ∷ 0 ∷ 0 ∷ 0 ∷ 1 ∷ 0 ∷ 0 ∷ 0 ∷ 0 ∷ 0 ∷ 0 ∷ 0 ∷ 3 ∷ []) ++ replicate 4071 0) (record { generals = 4; commander = 0; general = 3; round = 1 }) ([]) 4 ≡ Trapped NoBytes
+unfolding labels step onwards
+own_pieces_shifted = refl
+
+-- own_send_twice; the verifier: accepted
+own_send_twice : after (i.Arithmetic W64 op.Move 1 (Immediate (pos 0)) ∷ i.Arithmetic W64 op.Move 2 (Immediate (pos 0)) ∷ i.Arithmetic W64 op.Move 3 (Immediate (pos 5)) ∷ i.Call (pos 6) ∷ i.Arithmetic W64 op.Move 1 (Immediate (pos 0)) ∷ i.Arithmetic W64 op.Move 2 (Immediate (pos 0)) ∷ i.Arithmetic W64 op.Move 3 (Immediate (pos 6)) ∷ i.Call (pos 6) ∷ i.Exit ∷ []) ((5 ∷ 0 ∷ 0 ∷ 0 ∷ 2 ∷ 0 ∷ 0 ∷ 0 ∷ 1 ∷ 0 ∷ 0 ∷ 0 ∷ 2 ∷ 0 ∷ 0 ∷ 0 ∷ 3 ∷ 0 ∷ 0 ∷ 0 ∷ 3 ∷ 0 ∷ 0 ∷ 0 ∷ 2 ∷ 0 ∷ 0 ∷ 0 ∷ 0 ∷ 0 ∷ 0 ∷ 0 ∷ 4 ∷ 0 ∷ 0 ∷ 0 ∷ 5 ∷ 0 ∷ 0 ∷ 0 ∷ 6 ∷ []) ++ replicate 4055 0) (record { generals = 5; commander = 2; general = 1; round = 3 }) ([]) 9 ≡ Exited 1 (record { unit = 8; registers = ((Number 1) ∷ (Unset) ∷ (Unset) ∷ (Unset) ∷ (Unset) ∷ (Unset) ∷ (Unset) ∷ (Unset) ∷ (Unset) ∷ (Unset) ∷ (Pointer Stack (pos 0)) ∷ []); cells = (replicate 512 (Empty)); outbox = ((None ∷ None ∷ []) ∷ (None ∷ None ∷ []) ∷ (None ∷ None ∷ []) ∷ []); steps = 9 })
+unfolding labels step onwards
+own_send_twice = refl
+
+-- own_pointer_least; the verifier: accepted
+own_pointer_least : after (i.Arithmetic W64 op.Move 2 (Register 1) ∷ i.Arithmetic W64 op.Sub 2 (Immediate (pos 65536)) ∷ i.Arithmetic W64 op.Move 0 (Immediate (pos 0)) ∷ i.Exit ∷ []) ((4 ∷ 0 ∷ 0 ∷ 0 ∷ 1 ∷ 0 ∷ 0 ∷ 0 ∷ 3 ∷ 0 ∷ 0 ∷ 0 ∷ 0 ∷ 0 ∷ 0 ∷ 0 ∷ 1 ∷ 0 ∷ 0 ∷ 0 ∷ 0 ∷ 0 ∷ 0 ∷ 0 ∷ 3 ∷ []) ++ replicate 4071 0) (record { generals = 4; commander = 0; general = 3; round = 1 }) ([]) 4 ≡ Exited 0 (record { unit = 3; registers = ((Number 0) ∷ (Pointer Context (pos 0)) ∷ (Pointer Context (negsuc 65535)) ∷ (Unset) ∷ (Unset) ∷ (Unset) ∷ (Unset) ∷ (Unset) ∷ (Unset) ∷ (Unset) ∷ (Pointer Stack (pos 0)) ∷ []); cells = (replicate 512 (Empty)); outbox = ([]); steps = 4 })
+unfolding labels step onwards
+own_pointer_least = refl
+
+-- own_unset_source; the verifier: refused V5 unit 0
+own_unset_source : after (i.SignExtend W64 narrow.Word 0 3 ∷ i.Exit ∷ []) ((4 ∷ 0 ∷ 0 ∷ 0 ∷ 1 ∷ 0 ∷ 0 ∷ 0 ∷ 3 ∷ 0 ∷ 0 ∷ 0 ∷ 0 ∷ 0 ∷ 0 ∷ 0 ∷ 1 ∷ 0 ∷ 0 ∷ 0 ∷ 0 ∷ 0 ∷ 0 ∷ 0 ∷ 3 ∷ []) ++ replicate 4071 0) (record { generals = 4; commander = 0; general = 3; round = 1 }) ([]) 2 ≡ Trapped UnsetRegister
+unfolding labels step onwards
+own_unset_source = refl
+
+-- own_sub_pointer; the verifier: refused V7 unit 5
+own_sub_pointer : after (i.Arithmetic W64 op.Move 2 (Register 10) ∷ i.Arithmetic W64 op.Sub 2 (Immediate (pos 65536)) ∷ i.Arithmetic W64 op.Sub 2 (Immediate (negsuc 131071)) ∷ i.Arithmetic W64 op.Sub 2 (Immediate (pos 1)) ∷ i.Arithmetic W64 op.Add 2 (Immediate (pos 1)) ∷ i.Arithmetic W64 op.Add 2 (Immediate (pos 1)) ∷ i.Exit ∷ []) ((4 ∷ 0 ∷ 0 ∷ 0 ∷ 1 ∷ 0 ∷ 0 ∷ 0 ∷ 3 ∷ 0 ∷ 0 ∷ 0 ∷ 0 ∷ 0 ∷ 0 ∷ 0 ∷ 1 ∷ 0 ∷ 0 ∷ 0 ∷ 0 ∷ 0 ∷ 0 ∷ 0 ∷ 3 ∷ []) ++ replicate 4071 0) (record { generals = 4; commander = 0; general = 3; round = 1 }) ([]) 7 ≡ Trapped PointerUse
+unfolding labels step onwards
+own_sub_pointer = refl
+
+-- own_memsx; the verifier: accepted
+own_memsx : after (i.Store size.Word 10 (negsuc 3) (Immediate (negsuc 1)) ∷ i.LoadSigned narrow.Byte 1 10 (negsuc 3) ∷ i.LoadSigned narrow.Half 2 10 (negsuc 3) ∷ i.LoadSigned narrow.Word 3 10 (negsuc 3) ∷ i.Load size.Byte 4 10 (negsuc 3) ∷ i.Load size.Half 5 10 (negsuc 3) ∷ i.Load size.Word 0 10 (negsuc 3) ∷ i.Exit ∷ []) ((4 ∷ 0 ∷ 0 ∷ 0 ∷ 1 ∷ 0 ∷ 0 ∷ 0 ∷ 3 ∷ 0 ∷ 0 ∷ 0 ∷ 0 ∷ 0 ∷ 0 ∷ 0 ∷ 1 ∷ 0 ∷ 0 ∷ 0 ∷ 0 ∷ 0 ∷ 0 ∷ 0 ∷ 3 ∷ []) ++ replicate 4071 0) (record { generals = 4; commander = 0; general = 3; round = 1 }) ([]) 8 ≡ Exited 4294967294 (record { unit = 7; registers = ((Number 4294967294) ∷ (Number 18446744073709551614) ∷ (Number 18446744073709551614) ∷ (Number 18446744073709551614) ∷ (Number 254) ∷ (Number 65534) ∷ (Unset) ∷ (Unset) ∷ (Unset) ∷ (Unset) ∷ (Pointer Stack (pos 0)) ∷ []); cells = (replicate 508 (Empty) ++ replicate 1 (Byte 254) ++ replicate 3 (Byte 255)); outbox = ([]); steps = 8 })
+unfolding labels step onwards
+own_memsx = refl
+
+-- own_std; the verifier: accepted
+own_std : after (i.Store size.Double 10 (negsuc 7) (Immediate (negsuc 1)) ∷ i.Load size.Double 0 10 (negsuc 7) ∷ i.Exit ∷ []) ((4 ∷ 0 ∷ 0 ∷ 0 ∷ 1 ∷ 0 ∷ 0 ∷ 0 ∷ 3 ∷ 0 ∷ 0 ∷ 0 ∷ 0 ∷ 0 ∷ 0 ∷ 0 ∷ 1 ∷ 0 ∷ 0 ∷ 0 ∷ 0 ∷ 0 ∷ 0 ∷ 0 ∷ 3 ∷ []) ++ replicate 4071 0) (record { generals = 4; commander = 0; general = 3; round = 1 }) ([]) 3 ≡ Exited 18446744073709551614 (record { unit = 2; registers = ((Number 18446744073709551614) ∷ (Pointer Context (pos 0)) ∷ (Unset) ∷ (Unset) ∷ (Unset) ∷ (Unset) ∷ (Unset) ∷ (Unset) ∷ (Unset) ∷ (Unset) ∷ (Pointer Stack (pos 0)) ∷ []); cells = (replicate 504 (Empty) ++ replicate 1 (Byte 254) ++ replicate 7 (Byte 255)); outbox = ([]); steps = 3 })
+unfolding labels step onwards
+own_std = refl
+
+-- own_long_jump; the verifier: accepted
+own_long_jump : after (i.Arithmetic W64 op.Move 0 (Immediate (pos 3)) ∷ i.LongJump (pos 1) ∷ i.Arithmetic W64 op.Move 0 (Immediate (pos 4)) ∷ i.Exit ∷ []) ((4 ∷ 0 ∷ 0 ∷ 0 ∷ 1 ∷ 0 ∷ 0 ∷ 0 ∷ 3 ∷ 0 ∷ 0 ∷ 0 ∷ 0 ∷ 0 ∷ 0 ∷ 0 ∷ 1 ∷ 0 ∷ 0 ∷ 0 ∷ 0 ∷ 0 ∷ 0 ∷ 0 ∷ 3 ∷ []) ++ replicate 4071 0) (record { generals = 4; commander = 0; general = 3; round = 1 }) ([]) 4 ≡ Exited 3 (record { unit = 3; registers = ((Number 3) ∷ (Pointer Context (pos 0)) ∷ (Unset) ∷ (Unset) ∷ (Unset) ∷ (Unset) ∷ (Unset) ∷ (Unset) ∷ (Unset) ∷ (Unset) ∷ (Pointer Stack (pos 0)) ∷ []); cells = (replicate 512 (Empty)); outbox = ([]); steps = 3 })
+unfolding labels step onwards
+own_long_jump = refl

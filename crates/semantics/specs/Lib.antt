@@ -1,0 +1,12 @@
+pub mod State
+pub mod Memory
+pub mod Outbox
+pub mod Step
+pub mod Call
+pub mod Execution
+pub mod Run
+pub mod Safety
+pub mod Reached
+pub mod Whole
+pub mod Plain
+pub mod Laws

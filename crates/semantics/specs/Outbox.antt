@@ -1,0 +1,60 @@
+-- The outbox of a relay (own).
+use Rattle.std.specs.Prelude.{ℕ, ◌+◌, ◌*◌, ◌==◌, ◌&&◌, if◌then◌else◌, List, map, zip, sum_by, count_by, Option, Some, None, is_some, slice_get, slice_range}
+use Rattle.std.specs.List.{enumerate_from}
+use Rattle.word.specs.Bytes.{little_number}
+use Rattle.label.specs.declared.shape.Shape.{Shape}
+use Rattle.label.specs.Relay.{relay, receivers}
+use Rattle.semantics.specs.State.{Outbox}
+
+-- a place of an outbox: its label's rank, its number in that label's row, and the receiver
+pub record Place : Type 0 where
+  pub rank : ℕ
+  pub number : ℕ
+  pub receiver : ℕ
+
+-- the places, in rows: a row for each label relayed, in it the receivers in ascending order
+abbrev pub places : Shape → List (List Place)
+places s =
+    map (λ label. map (λ p. record { rank = label.0; number = p.0; receiver = p.1 }) (enumerate_from 0 (receivers s label.1)))
+    (enumerate_from 0 (relay s))
+
+-- the outbox in which nothing has been put
+abbrev pub empty_outbox : Shape → Outbox
+empty_outbox s = map (λ row. map (λ place. None) row) (places s)
+
+-- a helper puts an order at some places, and nothing at the others
+abbrev pub Choice : Type 0
+Choice = Place → Option ℕ
+
+abbrev pub newer : Option ℕ → Option ℕ → Option ℕ
+newer (Some order) old = Some order
+newer None old = old
+
+-- the outbox after it: a later order replaces the earlier one
+abbrev pub written : Shape → Choice → Outbox → Outbox
+written s choice outbox =
+    map (λ row. map (λ p. newer (choice p.0) p.1) (zip row.0 row.1)) (zip (places s) outbox)
+
+-- how many places it sets
+abbrev pub places_set : Shape → Choice → ℕ
+places_set s choice = sum_by (λ row. count_by (λ place. is_some (choice place)) row) (places s)
+
+-- send: the place of one label and receiver
+abbrev pub at_place : ℕ → ℕ → ℕ → Choice
+at_place label receiver order place = if (place.rank == label) && (place.receiver == receiver) then Some order else None
+
+-- send_row: the label's receivers in ascending order, as many as there are orders
+abbrev pub along_row : ℕ → List ℕ → Choice
+along_row label orders place = if place.rank == label then slice_get orders place.number else None
+
+-- sway: the receiver's place in every label
+abbrev pub at_receiver : ℕ → ℕ → Choice
+at_receiver receiver order place = if place.receiver == receiver then Some order else None
+
+-- the value that the general took for the label of a rank, as the context has it
+abbrev pub taken_value : List ℕ → ℕ → ℕ
+taken_value context rank = little_number (slice_range context (32 + 4 * rank) (36 + 4 * rank))
+
+-- honest: the same places, each with its label's taken value
+abbrev pub as_taken : List ℕ → ℕ → Choice
+as_taken context receiver place = if place.receiver == receiver then Some (taken_value context place.rank) else None

@@ -1,0 +1,80 @@
+-- Plain programs: numbers alone, forward jumps, each register set before it is read (own).
+use Rattle.std.specs.Prelude.{ℕ, ℤ, pos, ◌+◌, ◌+ℤ◌, ◌<ℤ◌, ◌≡◌, List, [], ◌∷◌, ◌++◌, Some, ◌⊎◌, IsSome}
+use Rattle.word.specs.declared.Operation.{Operation}
+use Rattle.word.specs.declared.Operation.TheVariants.{Move}
+use Rattle.insn.specs.declared.insn.Insn.{Insn}
+use Rattle.insn.specs.declared.insn.Insn.TheVariants.{Arithmetic, Negate, SignExtend, Swap, LoadNumber, Jump, LongJump, Branch, Load, LoadSigned, Store, Call, Exit}
+use Rattle.insn.specs.declared.insn.Operand.{Operand}
+use Rattle.insn.specs.declared.insn.Operand.TheVariants.{Register, Immediate}
+use Rattle.insn.specs.Insn.{units_of}
+use Rattle.insn.specs.Program.{instruction_at}
+
+-- the list has the element
+abbrev pub IsIn : {A : Type 0} → A → List A → Type 0
+IsIn x [] = ⊥
+IsIn x (y ∷ ys) = (x ≡ y) ⊎ IsIn x ys
+
+abbrev pub operand_reads : Operand → List ℕ
+operand_reads (Register r) = r ∷ []
+operand_reads (Immediate n) = []
+
+abbrev pub first_reads : Operation → ℕ → List ℕ
+first_reads Move dst = []
+first_reads _ dst = dst ∷ []
+
+-- neither memory nor helpers are used
+abbrev pub IsOfNumbers : Insn → Type 0
+IsOfNumbers (Load size dst base offset) = ⊥
+IsOfNumbers (LoadSigned part dst base offset) = ⊥
+IsOfNumbers (Store size base offset source) = ⊥
+IsOfNumbers (Call helper) = ⊥
+IsOfNumbers _ = Unit {0}
+
+-- the registers that it reads, where it is of numbers
+abbrev pub reads : Insn → List ℕ
+reads (Arithmetic width operation dst operand) = first_reads operation dst ++ operand_reads operand
+reads (Negate width dst) = dst ∷ []
+reads (SignExtend width part dst src) = src ∷ []
+reads (Swap order size dst) = dst ∷ []
+reads (Branch width condition dst operand distance) = dst ∷ operand_reads operand
+reads Exit = 0 ∷ []
+reads _ = []
+
+-- the registers that it writes, where it is of numbers
+abbrev pub writes : Insn → List ℕ
+writes (Arithmetic width operation dst operand) = dst ∷ []
+writes (Negate width dst) = dst ∷ []
+writes (SignExtend width part dst src) = dst ∷ []
+writes (Swap order size dst) = dst ∷ []
+writes (LoadNumber dst number) = dst ∷ []
+writes _ = []
+
+-- the units that it may lead to
+abbrev pub leads_to : Insn → ℕ → List ℤ
+leads_to (Jump distance) unit = (pos (unit + 1) +ℤ distance) ∷ []
+leads_to (LongJump distance) unit = (pos (unit + 1) +ℤ distance) ∷ []
+leads_to (Branch width condition dst operand distance) unit = pos (unit + 1) ∷ (pos (unit + 1) +ℤ distance) ∷ []
+leads_to Exit unit = []
+leads_to i unit = pos (unit + units_of i) ∷ []
+
+-- some path from the entry to the unit writes the register nowhere
+pub data Unwritten (program : List Insn) (r : ℕ) : ℕ → Type 0 where
+  at_entry : Unwritten program r 0
+  along : {unit : ℕ} (i : Insn) (next : ℕ) → Unwritten program r unit → instruction_at program unit ≡ Some i → (IsIn r (writes i) → ⊥) →
+      IsIn (pos next) (leads_to i unit) → Unwritten program r next
+
+-- an instruction starts there
+abbrev pub IsStart : List Insn → ℤ → Type 0
+IsStart program z = (unit : ℕ) × (z ≡ pos unit) × IsSome (instruction_at program unit)
+
+abbrev pub EndsWithExit : List Insn → Type 0
+EndsWithExit [] = ⊥
+EndsWithExit (i ∷ []) = i ≡ Exit
+EndsWithExit (i ∷ j ∷ is) = EndsWithExit (j ∷ is)
+
+pub record IsPlain (program : List Insn) : Type 0 where
+  pub exit_last : EndsWithExit program
+  pub numbers : (unit : ℕ) (i : Insn) → instruction_at program unit ≡ Some i → IsOfNumbers i
+  pub forward : (unit : ℕ) (i : Insn) (z : ℤ) → instruction_at program unit ≡ Some i → IsIn z (leads_to i unit) → (pos unit <ℤ z) × IsStart program z
+  pub written_before : (unit r : ℕ) (i : Insn) → instruction_at program unit ≡ Some i → IsIn r (reads i) → Unwritten program r unit → ⊥
+  pub frame_kept : (unit : ℕ) (i : Insn) → instruction_at program unit ≡ Some i → IsIn 10 (writes i) → ⊥

@@ -1,0 +1,32 @@
+//! Laws of steps and runs: each function does nothing, and its contract is the law.
+ghost use Rattle.semantics.specs.Laws.{StepsAreCounted, StatesStayWhole, RunsStayOver, ReachedIsRun, SoundIsSafeAtEntry, ReachedIsSafe};
+
+/// Each step is counted once.
+pub fn steps_are_counted()
+    ensures { StepsAreCounted }
+{}
+
+/// Every state of a run has eleven registers, 512 cells, and r10 at the end of the stack.
+pub fn states_stay_whole()
+    ensures { StatesStayWhole }
+{}
+
+/// What has exited, trapped or waits stays so.
+pub fn runs_stay_over()
+    ensures { RunsStayOver }
+{}
+
+/// A state that is reached is where the run of its answers stands after its steps.
+pub fn reached_is_run()
+    ensures { ReachedIsRun }
+{}
+
+/// A program is sound exactly where its entry is safe.
+pub fn sound_is_safe_at_entry()
+    ensures { SoundIsSafeAtEntry }
+{}
+
+/// Every state that a sound program reaches is safe, within as many steps as it has instructions.
+pub fn reached_is_safe()
+    ensures { ReachedIsSafe }
+{}

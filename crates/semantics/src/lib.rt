@@ -1,0 +1,13 @@
+//! What programs mean: values, cells and requests in types; steps, runs, sound and plain programs in specs/.
+#![tactic(auto)]
+
+mod laws;
+mod request;
+mod value;
+
+pub use laws::{
+    reached_is_run, reached_is_safe, runs_stay_over, sound_is_safe_at_entry, states_stay_whole,
+    steps_are_counted,
+};
+pub use request::{Helper, Request, Slot, Span};
+pub use value::{Cell, Region, Value};
