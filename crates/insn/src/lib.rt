@@ -4,6 +4,8 @@
 mod insn;
 mod program;
 mod reg;
+#[cfg(test)]
+mod tests;
 
 pub use insn::{Insn, Operand, Size};
 pub use program::Program;

@@ -1,7 +1,7 @@
 mod Rows
 pub mod RunLaws
 pub mod StepLaws
-mod SoundExample
+pub mod SoundExample
 pub mod WholeLaws
 pub mod SafetyLaws
 pub mod ReachedLaws

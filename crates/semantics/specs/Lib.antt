@@ -10,3 +10,4 @@ pub mod Reached
 pub mod Whole
 pub mod Plain
 pub mod Laws
+pub mod Examples

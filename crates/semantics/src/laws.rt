@@ -1,4 +1,5 @@
 //! Laws of steps and runs: each function does nothing, and its contract is the law.
+ghost use Rattle.semantics.specs.Examples.{SomeArePlainAndSound};
 ghost use Rattle.semantics.specs.Laws.{StepsAreCounted, StatesStayWhole, RunsStayOver, ReachedIsRun, SoundIsSafeAtEntry, ReachedIsSafe};
 
 /// Each step is counted once.
@@ -29,4 +30,9 @@ pub fn sound_is_safe_at_entry()
 /// Every state that a sound program reaches is safe, within as many steps as it has instructions.
 pub fn reached_is_safe()
     ensures { ReachedIsSafe }
+{}
+
+/// A program that is plain and sound, and one that is neither: the definitions are neither empty nor full.
+pub fn some_are_plain_and_sound()
+    ensures { SomeArePlainAndSound }
 {}

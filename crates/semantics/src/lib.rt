@@ -6,8 +6,8 @@ mod request;
 mod value;
 
 pub use laws::{
-    reached_is_run, reached_is_safe, runs_stay_over, sound_is_safe_at_entry, states_stay_whole,
-    steps_are_counted,
+    reached_is_run, reached_is_safe, runs_stay_over, some_are_plain_and_sound,
+    sound_is_safe_at_entry, states_stay_whole, steps_are_counted,
 };
 pub use request::{Helper, Request, Slot, Span};
 pub use value::{Cell, Region, Value};

@@ -1,0 +1,24 @@
+-- That the definitions are met and not always met: two small programs (own).
+use Rattle.std.specs.Prelude.{pos, List, [], ◌∷◌}
+use Rattle.word.specs.declared.Width.TheVariants.{W64}
+use Rattle.word.specs.declared.Operation.TheVariants.{Move}
+use Rattle.insn.specs.declared.insn.Insn.{Insn}
+use Rattle.insn.specs.declared.insn.Insn.TheVariants.{Arithmetic, Exit}
+use Rattle.insn.specs.declared.insn.Operand.TheVariants.{Immediate}
+use Rattle.semantics.specs.Run.{IsSound}
+use Rattle.semantics.specs.Plain.{IsPlain}
+
+-- mov r0, 42; exit
+abbrev pub answer : List Insn
+answer = Arithmetic W64 Move 0 (Immediate (pos 42)) ∷ Exit ∷ []
+
+-- exit, with r0 unset
+abbrev pub bare_exit : List Insn
+bare_exit = Exit ∷ []
+
+-- the first is plain and sound, the second is neither
+pub record SomeArePlainAndSound : Type 0 where
+  pub plain : IsPlain answer
+  pub sound : IsSound answer
+  pub not_plain : IsPlain bare_exit → ⊥
+  pub not_sound : IsSound bare_exit → ⊥
