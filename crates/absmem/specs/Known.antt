@@ -1,7 +1,8 @@
 -- What is known of a stack of 512 cells.
-use Rattle.std.specs.Prelude.{ℕ, ◌+◌, ◌*◌, ◌<◌, ◌≤◌, ◌≡◌, Bool, ◌&&◌, ◌==◌, false, nat_lt, if◌then◌else◌, List, length, slice_index_or}
+use Rattle.std.specs.Prelude.{Option, Some, None, ℤ, ℕ, ◌+◌, ◌*◌, ◌<◌, ◌≤◌, ◌≡◌, Bool, ◌&&◌, ◌==◌, false, nat_lt, if◌then◌else◌, List, length, slice_index_or}
 use Rattle.std.specs.Ordering.{int_eq}
 use Rattle.semantics.specs.Memory.{is_same_region}
+use Rattle.semantics.specs.declared.value.Region.{Region}
 use Rattle.absmem.specs.declared.spill.Spill.{Spill}
 use Rattle.absmem.specs.declared.spill.Spill.TheVariants.{Free, Whole}
 
@@ -44,3 +45,8 @@ joined_spill Free b = Free
 joined_spill (Whole shift region offset) Free = Free
 joined_spill (Whole shift region offset) (Whole other_shift other_region other_offset) =
     if (shift == other_shift) && is_same_region region other_region && int_eq offset other_offset then Whole shift region offset else Free
+
+-- the pointer of a block that stands so many cells behind its beginning
+abbrev pub pointer_of : ℕ → Spill → Option (Region × ℤ)
+pointer_of at Free = None
+pointer_of at (Whole shift region offset) = if shift == at then Some (region, offset) else None

@@ -11,9 +11,8 @@ invariant_of-self c = record {
   filed = λ b lt. rw (c.clear.ensures.each b lt) (filed_left _ _ b _ (c.self.invariant.filed b lt));
 }
 
-pub returns : goal.returns
-returns c = record {
-  holds = λ cells new described long are size.
+pub returns-clause-holds : goal.returns-clause-holds
+returns-clause-holds c =
+    λ cells new described long are size.
       described_put (record { bytes = c.self.inside.bytes; spills = c.self.inside.spills }) _ cells new c.args.place c.args.size c.set.ensures c.clear.ensures.each c.requires.within long are size
-      (subst (λ (known : Known). Describes known cells) (sym c.self.view_is) described);
-}
+      (subst (λ (known : Known). Describes known cells) (sym c.self.view_is) described)

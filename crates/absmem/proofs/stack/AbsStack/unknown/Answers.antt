@@ -9,7 +9,6 @@ invariant_of-result c = record {
   filed = nothing_filed;
 }
 
-pub returns : goal.returns
-returns c = record {
-  holds = nothing_described;
-}
+pub returns-clause-holds : goal.returns-clause-holds
+returns-clause-holds c =
+    nothing_described
