@@ -1,0 +1,118 @@
+-- What a conditional jump tells of two intervals p and q on one of its edges: nothing is left where no pair of numbers takes it.
+use Rattle.std.specs.Prelude.{ℕ, ◌+◌, ◌-◌, ◌^◌, min, max, Bool, true, false, not, ◌&&◌, ◌==◌, nat_lt, nat_le, if◌then◌else◌, Option, Some, None}
+use Rattle.word.specs.Arithmetic.{bits_of}
+use Rattle.word.specs.declared.Width.{Width}
+use Rattle.word.specs.declared.Condition.{Condition}
+use Rattle.word.specs.declared.Condition.TheVariants.{Equal, Above, AtLeast, AnyBit, Different, SignedAbove, SignedAtLeast, Below, AtMost, SignedBelow, SignedAtMost}
+use Rattle.range.specs.declared.range.Range.{Range}
+use Rattle.range.specs.Interval.{IsIn}
+use Rattle.range.specs.Table.{sign_limit}
+
+abbrev pub Pair : Type 0
+Pair = (ℕ × ℕ) × (ℕ × ℕ)
+
+-- both intervals, if neither is empty
+abbrev pub both : ℕ × ℕ → ℕ × ℕ → Option Pair
+both p q = if nat_lt p.1 p.0 then None else (if nat_lt q.1 q.0 then None else Some (p, q))
+
+-- the same two the other way round
+abbrev pub exchanged : Option Pair → Option Pair
+exchanged None = None
+exchanged (Some e) = Some (e.1, e.0)
+
+-- p less the one number of q, where that is an end of p
+abbrev pub without : ℕ × ℕ → ℕ × ℕ → ℕ × ℕ
+without p q =
+    if q.0 == q.1
+    then (if p.0 == q.0 then (p.0 + 1, p.1) else (if p.1 == q.0 then (p.0, p.1 - 1) else p))
+    else p
+
+-- the edges on which the first number is equal to the second, differs from it, is above it, is at least it
+abbrev pub equal : ℕ × ℕ → ℕ × ℕ → Option Pair
+equal p q = both (max p.0 q.0, min p.1 q.1) (max p.0 q.0, min p.1 q.1)
+
+abbrev pub different : ℕ × ℕ → ℕ × ℕ → Option Pair
+different p q = both (without p q) (without q p)
+
+abbrev pub above : ℕ × ℕ → ℕ × ℕ → Option Pair
+above p q = both (max p.0 (q.0 + 1), p.1) (q.0, min q.1 (p.1 - 1))
+
+abbrev pub at_least : ℕ × ℕ → ℕ × ℕ → Option Pair
+at_least p q = both (max p.0 q.0, p.1) (q.0, min q.1 p.1)
+
+-- the edge on which a condition holds of two intervals whose numbers read the same as signed
+abbrev pub edge : Condition → ℕ × ℕ → ℕ × ℕ → Option Pair
+edge Equal p q = equal p q
+edge Different p q = different p q
+edge Above p q = above p q
+edge SignedAbove p q = above p q
+edge AtLeast p q = at_least p q
+edge SignedAtLeast p q = at_least p q
+edge Below p q = exchanged (above q p)
+edge SignedBelow p q = exchanged (above q p)
+edge AtMost p q = exchanged (at_least q p)
+edge SignedAtMost p q = exchanged (at_least q p)
+edge AnyBit p q = Some (p, q)
+
+-- the same of two numbers; any two may share a bit, and may not
+abbrev pub meets : Condition → ℕ → ℕ → Bool
+meets Equal x y = x == y
+meets Different x y = not (x == y)
+meets Above x y = nat_lt y x
+meets SignedAbove x y = nat_lt y x
+meets AtLeast x y = nat_le y x
+meets SignedAtLeast x y = nat_le y x
+meets Below x y = nat_lt x y
+meets SignedBelow x y = nat_lt x y
+meets AtMost x y = nat_le x y
+meets SignedAtMost x y = nat_le x y
+meets AnyBit x y = true
+
+-- the condition of the other edge
+abbrev pub opposite : Condition → Condition
+opposite Equal = Different
+opposite Different = Equal
+opposite Above = AtMost
+opposite AtMost = Above
+opposite AtLeast = Below
+opposite Below = AtLeast
+opposite SignedAbove = SignedAtMost
+opposite SignedAtMost = SignedAbove
+opposite SignedAtLeast = SignedBelow
+opposite SignedBelow = SignedAtLeast
+opposite AnyBit = AnyBit
+
+-- only numbers below it are refined: those of the width, for signed conditions those that are not negative
+abbrev pub edge_limit : Width → Condition → ℕ
+edge_limit w SignedAbove = sign_limit w
+edge_limit w SignedAtLeast = sign_limit w
+edge_limit w SignedBelow = sign_limit w
+edge_limit w SignedAtMost = sign_limit w
+edge_limit w Equal = 2 ^ bits_of w
+edge_limit w Different = 2 ^ bits_of w
+edge_limit w Above = 2 ^ bits_of w
+edge_limit w AtLeast = 2 ^ bits_of w
+edge_limit w Below = 2 ^ bits_of w
+edge_limit w AtMost = 2 ^ bits_of w
+edge_limit w AnyBit = 2 ^ bits_of w
+
+abbrev pub edge_taken : Condition → Bool → ℕ × ℕ → ℕ × ℕ → Option Pair
+edge_taken condition true p q = edge condition p q
+edge_taken condition false p q = edge (opposite condition) p q
+
+-- what is left of two intervals where a jump on a condition is taken, or is not
+unfoldable pub refined : Width → Condition → Bool → ℕ × ℕ → ℕ × ℕ → Option Pair
+refined w condition taken p q =
+    if nat_lt p.1 (edge_limit w condition) && nat_lt q.1 (edge_limit w condition)
+    then edge_taken condition taken p q
+    else Some (p, q)
+
+-- the ends of two ranges
+abbrev pub ends_of : Option (Range × Range) → Option Pair
+ends_of None = None
+ends_of (Some e) = Some ((e.0.lo, e.0.hi), (e.1.lo, e.1.hi))
+
+-- there are two ranges, and they hold the two numbers
+abbrev pub HoldBoth : Option (Range × Range) → ℕ → ℕ → Type 0
+HoldBoth None x y = ⊥
+HoldBoth (Some e) x y = IsIn e.0.lo e.0.hi x × IsIn e.1.lo e.1.hi y

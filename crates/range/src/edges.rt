@@ -1,0 +1,209 @@
+//! What a conditional jump tells of the ranges that it compared.
+
+ghost use Rattle.std.specs.Prelude.{◌≡◌, ◌≢◌, ◌<◌, ◌≤◌, ◌+◌, ℕ, IsTrue, true};
+ghost use Rattle.word.specs.Arithmetic.{compared};
+ghost use Rattle.range.specs.Interval.{IsIn};
+ghost use Rattle.range.specs.Edges.{equal, different, above, at_least, exchanged, edge, opposite, edge_limit, refined, ends_of, HoldBoth, without, meets};
+
+use crate::range::Range;
+use crate::used::{greatest, least_negative};
+use word::{Condition, Width};
+
+/// What is left of two ranges where a jump on a condition is taken, or is not taken; None where no pair of
+/// their numbers goes that way.
+pub fn refine(
+    width: Width,
+    condition: Condition,
+    taken: bool,
+    a: Range,
+    b: Range,
+) -> Option<(Range, Range)>
+    ensures exact { ends_of result ≡ refined width condition taken (a.lo, a.hi) (b.lo, b.hi) }
+    ensures holds { (x y : ℕ) → IsIn a.lo a.hi x → IsIn b.lo b.hi y → compared width condition x y ≡ taken
+        → HoldBoth result x y }
+{
+    let top = greatest_refined(width, condition);
+    if a.hi > top || b.hi > top {
+        return Some((a, b));
+    }
+    if taken {
+        return edge_where(condition, a, b);
+    }
+    edge_where(other_edge(condition), a, b)
+}
+
+/// The greatest number that is refined: of a signed condition the greatest that is not negative.
+fn greatest_refined(width: Width, condition: Condition) -> u64
+    ensures { result + 1 ≡ edge_limit width condition }
+{
+    match condition {
+        Condition::SignedAbove => least_negative(width) - 1,
+        Condition::SignedAtLeast => least_negative(width) - 1,
+        Condition::SignedBelow => least_negative(width) - 1,
+        Condition::SignedAtMost => least_negative(width) - 1,
+        Condition::Equal => greatest(width),
+        Condition::Above => greatest(width),
+        Condition::AtLeast => greatest(width),
+        Condition::AnyBit => greatest(width),
+        Condition::Different => greatest(width),
+        Condition::Below => greatest(width),
+        Condition::AtMost => greatest(width),
+    }
+}
+
+/// The condition that holds where this one does not.
+fn other_edge(condition: Condition) -> Condition
+    ensures { result ≡ opposite condition }
+{
+    match condition {
+        Condition::Equal => Condition::Different,
+        Condition::Above => Condition::AtMost,
+        Condition::AtLeast => Condition::Below,
+        Condition::AnyBit => Condition::AnyBit,
+        Condition::Different => Condition::Equal,
+        Condition::SignedAbove => Condition::SignedAtMost,
+        Condition::SignedAtLeast => Condition::SignedBelow,
+        Condition::Below => Condition::AtLeast,
+        Condition::AtMost => Condition::Above,
+        Condition::SignedBelow => Condition::SignedAtLeast,
+        Condition::SignedAtMost => Condition::SignedAbove,
+    }
+}
+
+/// What is left where a condition holds of numbers that are the same as signed.
+fn edge_where(condition: Condition, a: Range, b: Range) -> Option<(Range, Range)>
+    ensures exact { ends_of result ≡ edge condition (a.lo, a.hi) (b.lo, b.hi) }
+    ensures holds { (x y : ℕ) → IsIn a.lo a.hi x → IsIn b.lo b.hi y → meets condition x y ≡ true
+        → HoldBoth result x y }
+{
+    match condition {
+        Condition::Equal => where_equal(a, b),
+        Condition::Above => where_above(a, b),
+        Condition::AtLeast => where_at_least(a, b),
+        Condition::AnyBit => Some((a, b)),
+        Condition::Different => where_different(a, b),
+        Condition::SignedAbove => where_above(a, b),
+        Condition::SignedAtLeast => where_at_least(a, b),
+        Condition::Below => turned(where_above(b, a)),
+        Condition::AtMost => turned(where_at_least(b, a)),
+        Condition::SignedBelow => turned(where_above(b, a)),
+        Condition::SignedAtMost => turned(where_at_least(b, a)),
+    }
+}
+
+/// The two ranges the other way round.
+fn turned(pair: Option<(Range, Range)>) -> Option<(Range, Range)>
+    ensures exact { ends_of result ≡ exchanged (ends_of pair) }
+    ensures holds { (x y : ℕ) → HoldBoth pair y x → HoldBoth result x y }
+{
+    match pair {
+        Some((a, b)) => Some((b, a)),
+        None => None,
+    }
+}
+
+/// What is left where both numbers are the same.
+fn where_equal(a: Range, b: Range) -> Option<(Range, Range)>
+    ensures exact { ends_of result ≡ equal (a.lo, a.hi) (b.lo, b.hi) }
+    ensures holds { (x y : ℕ) → IsIn a.lo a.hi x → IsIn b.lo b.hi y → x ≡ y → HoldBoth result x y }
+{
+    let lo = a.lo.max(b.lo);
+    let hi = a.hi.min(b.hi);
+    if hi < lo {
+        return None;
+    }
+    let common = Range { lo, hi };
+    Some((common, common))
+}
+
+/// What is left where the numbers differ.
+fn where_different(a: Range, b: Range) -> Option<(Range, Range)>
+    ensures exact { ends_of result ≡ different (a.lo, a.hi) (b.lo, b.hi) }
+    ensures holds { (x y : ℕ) → IsIn a.lo a.hi x → IsIn b.lo b.hi y → x ≢ y → HoldBoth result x y }
+{
+    if a.lo == b.hi && b.lo == a.hi {
+        return None;
+    }
+    Some((less_number(a, b), less_number(b, a)))
+}
+
+/// A range less the other's only number, where that is one of its ends.
+fn less_number(a: Range, b: Range) -> Range
+    requires { a.lo ≡ b.hi → b.lo ≢ a.hi }
+    ensures exact { (result.lo, result.hi) ≡ without (a.lo, a.hi) (b.lo, b.hi) }
+    ensures holds { (x y : ℕ) → IsIn a.lo a.hi x → IsIn b.lo b.hi y → x ≢ y → IsIn result.lo result.hi x }
+{
+    if b.lo != b.hi {
+        return a;
+    }
+    if a.lo == b.lo {
+        return Range {
+            lo: a.lo + 1,
+            hi: a.hi,
+        };
+    }
+    if a.hi == b.lo {
+        return Range {
+            lo: a.lo,
+            hi: a.hi - 1,
+        };
+    }
+    a
+}
+
+/// What is left where the first number is above the second.
+fn where_above(a: Range, b: Range) -> Option<(Range, Range)>
+    ensures exact { ends_of result ≡ above (a.lo, a.hi) (b.lo, b.hi) }
+    ensures holds { (x y : ℕ) → IsIn a.lo a.hi x → IsIn b.lo b.hi y → y < x → HoldBoth result x y }
+{
+    if a.hi <= b.lo {
+        return None;
+    }
+    let first = Range {
+        lo: a.lo.max(b.lo + 1),
+        hi: a.hi,
+    };
+    let second = Range {
+        lo: b.lo,
+        hi: b.hi.min(a.hi - 1),
+    };
+    Some((first, second))
+}
+
+/// What is left where the first number is at least the second.
+fn where_at_least(a: Range, b: Range) -> Option<(Range, Range)>
+    ensures exact { ends_of result ≡ at_least (a.lo, a.hi) (b.lo, b.hi) }
+    ensures holds { (x y : ℕ) → IsIn a.lo a.hi x → IsIn b.lo b.hi y → y ≤ x → HoldBoth result x y }
+{
+    if a.hi < b.lo {
+        return None;
+    }
+    let first = Range {
+        lo: a.lo.max(b.lo),
+        hi: a.hi,
+    };
+    let second = Range {
+        lo: b.lo,
+        hi: b.hi.min(a.hi),
+    };
+    Some((first, second))
+}
+
+#[cfg(test)]
+mod tests {
+    use super::*;
+
+    #[test]
+    fn refines(rt: HostRuntime) {
+        let all = Range::full();
+        let limit = Range::exactly(63);
+        let low = Range { lo: 0, hi: 63 };
+        assert!(rt; refine(Width::W64, Condition::Above, false, all, limit) == Some((low, limit)));
+        assert!(rt; refine(Width::W32, Condition::Above, false, all, limit) == Some((all, limit)));
+        assert!(rt; refine(Width::W64, Condition::Above, true, low, limit).is_none());
+        assert!(rt;
+            refine(Width::W64, Condition::Different, true, low, limit)
+                == Some((Range { lo: 0, hi: 62 }, limit))
+        );
+    }
+}

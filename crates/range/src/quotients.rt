@@ -1,0 +1,81 @@
+//! Quotients and remainders of ranges of one width.
+
+ghost use Rattle.std.specs.Prelude.{◌≡◌, ◌<◌, ◌^◌, ℕ};
+ghost use Rattle.word.specs.Arithmetic.{bits_of, operated};
+ghost use Rattle.range.specs.Interval.{IsIn};
+ghost use Rattle.range.specs.Table.{quotients, remainders, signed_quotients, signed_remainders};
+
+use crate::range::Range;
+use crate::used::{least_negative, of_width};
+use word::{Operation, Width};
+
+/// The range of the quotients, 0 where the divisor is.
+pub(crate) fn divide(width: Width, a: Range, b: Range) -> Range
+    ensures exact { (result.lo, result.hi) ≡ quotients a.lo a.hi b.lo b.hi }
+    ensures holds { (x y : ℕ) → IsIn a.lo a.hi x → IsIn b.lo b.hi y
+        → IsIn result.lo result.hi (operated width Operation.Div x y) }
+{
+    let _ = width;
+    if b.lo >= 1 {
+        return Range {
+            lo: a.lo / b.hi,
+            hi: a.hi / b.lo,
+        };
+    }
+    if b.hi == 0 {
+        return Range { lo: 0, hi: 0 };
+    }
+    Range { lo: 0, hi: a.hi }
+}
+
+/// The range of what is left, the first number where the divisor is 0.
+pub(crate) fn remain(width: Width, a: Range, b: Range) -> Range
+    ensures exact { (result.lo, result.hi) ≡ remainders a.lo a.hi b.lo b.hi }
+    ensures holds { (x y : ℕ) → IsIn a.lo a.hi x → IsIn b.lo b.hi y
+        → IsIn result.lo result.hi (operated width Operation.Mod x y) }
+{
+    let _ = width;
+    if b.lo >= 1 {
+        if a.hi < b.lo {
+            return a;
+        }
+        return Range {
+            lo: 0,
+            hi: a.hi.min(b.hi - 1),
+        };
+    }
+    if b.hi == 0 {
+        return a;
+    }
+    Range { lo: 0, hi: a.hi }
+}
+
+/// The range of the signed quotients.
+pub(crate) fn divide_signed(width: Width, a: Range, b: Range) -> Range
+    requires left { a.hi < 2 ^ bits_of width }
+    requires right { b.hi < 2 ^ bits_of width }
+    ensures exact { (result.lo, result.hi) ≡ signed_quotients width a.lo a.hi b.lo b.hi }
+    ensures holds { (x y : ℕ) → IsIn a.lo a.hi x → IsIn b.lo b.hi y
+        → IsIn result.lo result.hi (operated width Operation.SignedDiv x y) }
+{
+    let limit = least_negative(width);
+    if a.hi < limit && b.hi < limit {
+        return divide(width, a, b);
+    }
+    of_width(width)
+}
+
+/// The range of what signed division leaves.
+pub(crate) fn remain_signed(width: Width, a: Range, b: Range) -> Range
+    requires left { a.hi < 2 ^ bits_of width }
+    requires right { b.hi < 2 ^ bits_of width }
+    ensures exact { (result.lo, result.hi) ≡ signed_remainders width a.lo a.hi b.lo b.hi }
+    ensures holds { (x y : ℕ) → IsIn a.lo a.hi x → IsIn b.lo b.hi y
+        → IsIn result.lo result.hi (operated width Operation.SignedMod x y) }
+{
+    let limit = least_negative(width);
+    if a.hi < limit && b.hi < limit {
+        return remain(width, a, b);
+    }
+    of_width(width)
+}

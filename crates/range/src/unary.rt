@@ -1,0 +1,74 @@
+//! Operations on one range.
+
+ghost use Rattle.std.specs.Prelude.{◌≡◌, ◌+◌, ◌<◌, ◌^◌, ◌-◌, ℕ};
+ghost use Rattle.word.specs.Arithmetic.{negated, sign_extended, swapped, swapped_bytes};
+ghost use Rattle.range.specs.Interval.{IsIn};
+ghost use Rattle.range.specs.Table.{negations, extensions, swaps, part_bits};
+
+use crate::range::Range;
+use crate::used::{of_width, used};
+use word::{ByteOrder, Narrow, SwapSize, Width, arithmetic, swap};
+
+/// The range of the negated numbers.
+pub fn negate(width: Width, a: Range) -> Range
+    ensures exact { (result.lo, result.hi) ≡ negations width a.lo a.hi }
+    ensures holds { (x : ℕ) → IsIn a.lo a.hi x → IsIn result.lo result.hi (negated width x) }
+{
+    let a = used(width, a);
+    if a.is_single() {
+        return Range::exactly(arithmetic::negate(width, a.lo));
+    }
+    of_width(width)
+}
+
+/// The range of the numbers whose low bits are extended by their sign.
+pub fn sign_extend(width: Width, part: Narrow, a: Range) -> Range
+    ensures exact { (result.lo, result.hi) ≡ extensions width part a.lo a.hi }
+    ensures holds { (x : ℕ) → IsIn a.lo a.hi x → IsIn result.lo result.hi (sign_extended width part x) }
+{
+    let a = used(width, a);
+    if a.is_single() {
+        return Range::exactly(arithmetic::sign_extend(width, part, a.lo));
+    }
+    if a.hi < least_negative_part(part) {
+        return a;
+    }
+    of_width(width)
+}
+
+/// The least number of so many bits that is negative as signed.
+fn least_negative_part(part: Narrow) -> u64
+    ensures { result ≡ 2 ^ (part_bits part - 1) }
+{
+    match part {
+        Narrow::Byte => 0x80,
+        Narrow::Half => 0x8000,
+        Narrow::Word => 0x8000_0000,
+    }
+}
+
+/// The range of the numbers whose low bytes are put in an order.
+pub fn swap(order: ByteOrder, size: SwapSize, a: Range) -> Range
+    ensures exact { (result.lo, result.hi) ≡ swaps order size a.lo a.hi }
+    ensures holds { (x : ℕ) → IsIn a.lo a.hi x → IsIn result.lo result.hi (swapped order size x) }
+{
+    if a.is_single() {
+        return Range::exactly(swap::swap(order, size, a.lo));
+    }
+    let top = greatest_of(size);
+    match order {
+        ByteOrder::Little if a.hi <= top => a,
+        _ => Range { lo: 0, hi: top },
+    }
+}
+
+/// The greatest number of so many bytes.
+fn greatest_of(size: SwapSize) -> u64
+    ensures { result + 1 ≡ 256 ^ swapped_bytes size }
+{
+    match size {
+        SwapSize::Half => 0xffff,
+        SwapSize::Word => 0xffff_ffff,
+        SwapSize::Double => u64::MAX,
+    }
+}

@@ -1,0 +1,83 @@
+//! The bits of a width that operations use.
+
+ghost use Rattle.std.specs.Prelude.{◌≡◌, ◌+◌, ◌<◌, ◌^◌, ℕ};
+ghost use Rattle.word.specs.Arithmetic.{bits_of, taken};
+ghost use Rattle.range.specs.Interval.{IsIn};
+ghost use Rattle.range.specs.Table.{whole, low, sign_limit};
+
+use crate::range::Range;
+use word::Width;
+
+/// The greatest number of a width.
+pub(crate) fn greatest(width: Width) -> u64
+    ensures { result + 1 ≡ 2 ^ bits_of width }
+{
+    match width {
+        Width::W32 => 0xffff_ffff,
+        Width::W64 => u64::MAX,
+    }
+}
+
+/// The least number of a width that is negative as signed.
+pub(crate) fn least_negative(width: Width) -> u64
+    ensures { result ≡ sign_limit width }
+{
+    match width {
+        Width::W32 => 0x8000_0000,
+        Width::W64 => 0x8000_0000_0000_0000,
+    }
+}
+
+/// How many bits a width has.
+pub(crate) fn bit_count(width: Width) -> u64
+    ensures { result ≡ bits_of width }
+{
+    match width {
+        Width::W32 => 32,
+        Width::W64 => 64,
+    }
+}
+
+/// All numbers of a width.
+pub fn of_width(width: Width) -> Range
+    ensures exact { (result.lo, result.hi) ≡ whole width }
+    ensures holds { (x : ℕ) → x < 2 ^ bits_of width → IsIn result.lo result.hi x }
+{
+    Range {
+        lo: 0,
+        hi: greatest(width),
+    }
+}
+
+/// The range of what operations of a width use of the numbers: their low bits.
+pub fn used(width: Width, a: Range) -> Range
+    ensures exact { (result.lo, result.hi) ≡ low width a.lo a.hi }
+    ensures holds { (x : ℕ) → IsIn a.lo a.hi x → IsIn result.lo result.hi (taken width x) }
+    ensures below { result.hi < 2 ^ bits_of width }
+{
+    match width {
+        Width::W64 => a,
+        Width::W32 => low_word(a),
+    }
+}
+
+/// The range of the numbers' low 32 bits.
+fn low_word(a: Range) -> Range
+    ensures exact { (result.lo, result.hi) ≡ low Width.W32 a.lo a.hi }
+    ensures holds { (x : ℕ) → IsIn a.lo a.hi x → IsIn result.lo result.hi (taken Width.W32 x) }
+    ensures below { result.hi < 2 ^ 32 }
+{
+    if a.hi < 0x1_0000_0000 {
+        return a;
+    }
+    if a.lo / 0x1_0000_0000 == a.hi / 0x1_0000_0000 {
+        return Range {
+            lo: a.lo % 0x1_0000_0000,
+            hi: a.hi % 0x1_0000_0000,
+        };
+    }
+    Range {
+        lo: 0,
+        hi: 0xffff_ffff,
+    }
+}
