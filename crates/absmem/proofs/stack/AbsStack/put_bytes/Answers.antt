@@ -1,0 +1,18 @@
+use Rattle.std.proofs.Common.{sym, subst}
+use Rattle.absmem.specs.Known.{Known}
+use Rattle.absmem.specs.Describes.{Describes}
+use Rattle.absmem.proofs.Keeping.{filed_left, described_put}
+use Rattle.absmem.proofs.stack.AbsStack.put_bytes.Goals as goal
+
+pub invariant_of-self : goal.invariant_of-self
+invariant_of-self c = record {
+  cells = c.set.array_long;
+  blocks = c.clear.ensures.size;
+  filed = λ b lt. rw (c.clear.ensures.each b lt) (filed_left _ _ b _ (c.self.invariant.filed b lt));
+}
+
+pub returns-clause-holds : goal.returns-clause-holds
+returns-clause-holds c =
+    λ cells new described long are size.
+      described_put (record { bytes = c.self.inside.bytes; spills = c.self.inside.spills }) _ cells new c.args.place c.args.size c.set.ensures c.clear.ensures.each c.requires.within long are size
+      (subst (λ (known : Known). Describes known cells) (sym c.self.view_is) described)

@@ -1,0 +1,52 @@
+-- What is known of a stack of 512 cells.
+use Rattle.std.specs.Prelude.{Option, Some, None, ℤ, ℕ, ◌+◌, ◌*◌, ◌<◌, ◌≤◌, ◌≡◌, Bool, ◌&&◌, ◌==◌, false, nat_lt, if◌then◌else◌, List, length, slice_index_or}
+use Rattle.std.specs.Ordering.{int_eq}
+use Rattle.semantics.specs.Memory.{is_same_region}
+use Rattle.semantics.specs.declared.value.Region.{Region}
+use Rattle.absmem.specs.declared.spill.Spill.{Spill}
+use Rattle.absmem.specs.declared.spill.Spill.TheVariants.{Free, Whole}
+
+-- for each cell whether it is known to be a byte, for each block of eight the pointer known to begin there
+pub record Known : Type 0 where
+  pub bytes : List Bool
+  pub spills : List Spill
+
+abbrev pub byte_at : List Bool → ℕ → Bool
+byte_at bytes k = slice_index_or bytes k false
+
+abbrev pub spill_at : List Spill → ℕ → Spill
+spill_at spills b = slice_index_or spills b Free
+
+-- the cells from one place up to another, and no others, have become so
+pub record IsSetTo (value : Bool) (old new : List Bool) (place end : ℕ) : Type 0 where
+  pub inside : (k : ℕ) → place ≤ k → k < end → byte_at new k ≡ value
+  pub before : (k : ℕ) → k < place → byte_at new k ≡ byte_at old k
+  pub behind : (k : ℕ) → end ≤ k → byte_at new k ≡ byte_at old k
+
+-- a pointer lies in the stack and begins in its block
+abbrev pub IsFiled : ℕ → Spill → Type 0
+IsFiled b Free = Unit {0}
+IsFiled b (Whole shift region offset) = (shift < 8) × (8 * b + shift + 8 ≤ 512)
+
+pub record IsKept (bytes : List Bool) (spills : List Spill) : Type 0 where
+  pub cells : length bytes ≡ 512
+  pub blocks : length spills ≡ 64
+  pub filed : (b : ℕ) → b < 64 → IsFiled b (spill_at spills b)
+
+-- what is left of a spill once the cells from one place up to another are written
+abbrev pub left_of : ℕ → ℕ → ℕ → Spill → Spill
+left_of place end b Free = Free
+left_of place end b (Whole shift region offset) =
+    if nat_lt (8 * b + shift) end && nat_lt place (8 * b + shift + 8) then Free else Whole shift region offset
+
+-- what both know of a block
+abbrev pub joined_spill : Spill → Spill → Spill
+joined_spill Free b = Free
+joined_spill (Whole shift region offset) Free = Free
+joined_spill (Whole shift region offset) (Whole other_shift other_region other_offset) =
+    if (shift == other_shift) && is_same_region region other_region && int_eq offset other_offset then Whole shift region offset else Free
+
+-- the pointer of a block that stands so many cells behind its beginning
+abbrev pub pointer_of : ℕ → Spill → Option (Region × ℤ)
+pointer_of at Free = None
+pointer_of at (Whole shift region offset) = if shift == at then Some (region, offset) else None

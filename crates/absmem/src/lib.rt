@@ -1,0 +1,10 @@
+//! What the verifier knows of a stack: which cells are bytes, and where whole pointers stand.
+#![tactic(auto)]
+
+mod bytes;
+mod pointers;
+mod spill;
+mod stack;
+
+pub use spill::Spill;
+pub use stack::AbsStack;

@@ -1,0 +1,103 @@
+//! Where whole pointers stand.
+ghost use Rattle.std.specs.Prelude.{◌≡◌, ◌+◌, ◌/◌, ◌%◌, ◌<◌, ◌≤◌, ℕ, length, slice_set};
+ghost use Rattle.semantics.specs.Memory.{is_same_region};
+ghost use Rattle.absmem.specs.Known.{IsFiled, spill_at, left_of, joined_spill};
+
+use crate::spill::Spill;
+use semantics::Region;
+
+/// Forgets each pointer of which a cell lies in the window.
+pub(crate) fn clear(spills: &mut [Spill; 64], place: usize, end: usize)
+    requires ordered { place ≤ end }
+    requires within { end ≤ 512 }
+    requires filed { (b : ℕ) → b < 64 → IsFiled b (spill_at spills.old b) }
+    ensures size { length spills.new ≡ 64 }
+    ensures each { (b : ℕ) → b < 64 → spill_at spills.new b ≡ left_of place end b (spill_at spills.old b) }
+{
+    let first = place.saturating_sub(7) / 8;
+    let last = (end + 7) / 8;
+    for b in first..last {
+        spills[b] = left(spills[b], b, place, end);
+    }
+}
+
+/// Notes the pointer that is stored at the place.
+pub(crate) fn put(spills: &mut [Spill; 64], place: usize, region: Region, offset: i32)
+    requires { place + 8 ≤ 512 }
+    ensures { spills.new ≡ slice_set spills.old (place / 8) (Spill.Whole (place % 8) region offset) }
+{
+    spills[place / 8] = whole(place, region, offset);
+}
+
+/// A pointer that stands at the place.
+fn whole(place: usize, region: Region, offset: i32) -> Spill
+    ensures { result ≡ Spill.Whole (place % 8) region offset }
+{
+    let shift = (place % 8) as u8;
+    Spill::Whole {
+        shift,
+        region,
+        offset,
+    }
+}
+
+/// What is left of the pointer of a block.
+fn left(spill: Spill, b: usize, place: usize, end: usize) -> Spill
+    requires { b < 64 }
+    ensures { result ≡ left_of place end b spill }
+{
+    let Spill::Whole { shift, .. } = spill else {
+        return Spill::Free;
+    };
+    let start = 8 * b + shift as usize;
+    if start < end && place < start + 8 {
+        return Spill::Free;
+    }
+    spill
+}
+
+/// Keeps what both know.
+pub(crate) fn join(spills: &mut [Spill; 64], other: &[Spill; 64])
+    ensures size { length spills.new ≡ 64 }
+    ensures each { (b : ℕ) → b < 64 → spill_at spills.new b ≡ joined_spill (spill_at spills.old b) (spill_at other.now b) }
+{
+    for b in 0..64 {
+        spills[b] = joined(spills[b], other[b]);
+    }
+}
+
+/// What both know of a block.
+fn joined(a: Spill, b: Spill) -> Spill
+    ensures { result ≡ joined_spill a b }
+{
+    let Spill::Whole {
+        shift,
+        region,
+        offset,
+    } = a
+    else {
+        return Spill::Free;
+    };
+    let Spill::Whole {
+        shift: other_shift,
+        region: other_region,
+        offset: other_offset,
+    } = b
+    else {
+        return Spill::Free;
+    };
+    if shift == other_shift && same_region(region, other_region) && offset == other_offset {
+        return a;
+    }
+    Spill::Free
+}
+
+/// Whether two regions are the same.
+fn same_region(a: Region, b: Region) -> bool
+    ensures { result ≡ is_same_region a b }
+{
+    match (a, b) {
+        (Region::Stack, Region::Stack) | (Region::Context, Region::Context) => true,
+        (Region::Stack, Region::Context) | (Region::Context, Region::Stack) => false,
+    }
+}

@@ -1,0 +1,122 @@
+ghost use Rattle.std.specs.Prelude.{◌≡◌, ◌≢◌, ◌+◌, ◌/◌, ◌%◌, ◌<◌, ◌≤◌, ◌↔◌, ◌&&◌, ℕ, true, false, List, IsTrue, IfSome, length, replicate, slice_range};
+ghost use Rattle.semantics.specs.declared.value.Cell.{Cell};
+ghost use Rattle.semantics.specs.Memory.{overwritten, pieces_of};
+ghost use Rattle.absmem.specs.Known.{byte_at, spill_at, IsSetTo, left_of, joined_spill, pointer_of};
+ghost use Rattle.absmem.specs.Describes.{Describes, AreBytes};
+
+use crate::spill::Spill;
+use crate::{bytes, pointers};
+use semantics::Region;
+use std::marker::Model;
+
+/// What is known of a stack of 512 cells.
+#[derive(Clone, Copy, Debug)]
+pub struct AbsStack {
+    bytes: [bool; 512],
+    spills: [Spill; 64],
+}
+
+impl Model for AbsStack {
+    ghost use Rattle.absmem.specs.Known.{Known, IsKept};
+
+    ghost Value = { Known };
+
+    ghost view = { λ s. record { bytes = s.bytes; spills = s.spills } };
+
+    ghost invariant = { λ s. IsKept s.bytes s.spills };
+
+    ghost inverse = { λ k. record { bytes = k.bytes; spills = k.spills } };
+}
+
+impl AbsStack {
+    /// Nothing is known.
+    pub fn unknown() -> AbsStack
+        ensures bytes { result.bytes ≡ replicate 512 false }
+        ensures spills { result.spills ≡ replicate 64 Spill.Free }
+        ensures holds { (cells : List Cell) → Describes result cells }
+    {
+        AbsStack {
+            bytes: [false; 512],
+            spills: [Spill::Free; 64],
+        }
+    }
+
+    /// Bytes are stored at the place.
+    pub fn put_bytes(&mut self, place: usize, size: usize)
+        requires within { place + size ≤ 512 }
+        ensures bytes { IsSetTo true self.old.bytes self.new.bytes place (place + size) }
+        ensures spills { (b : ℕ) → b < 64 → spill_at self.new.spills b ≡ left_of place (place + size) b (spill_at self.old.spills b) }
+        ensures holds { (cells new : List Cell) → Describes self.old cells → length cells ≡ 512 → AreBytes new → length new ≡ size →
+            Describes self.new (overwritten cells place new) }
+    {
+        let end = place + size;
+        pointers::clear(&mut self.spills, place, end);
+        bytes::set(&mut self.bytes, place, end, true);
+    }
+
+    /// Bytes are stored somewhere in the window.
+    pub fn spread_bytes(&mut self, place: usize, size: usize)
+        requires within { place + size ≤ 512 }
+        ensures bytes { self.new.bytes ≡ self.old.bytes }
+        ensures spills { (b : ℕ) → b < 64 → spill_at self.new.spills b ≡ left_of place (place + size) b (spill_at self.old.spills b) }
+        ensures holds { (cells new : List Cell) (at : ℕ) → Describes self.old cells → length cells ≡ 512 → AreBytes new → place ≤ at → at + length new ≤ place + size →
+            Describes self.new (overwritten cells at new) }
+    {
+        pointers::clear(&mut self.spills, place, place + size);
+    }
+
+    /// A pointer is stored at the place.
+    pub fn put_pointer(&mut self, place: usize, region: Region, offset: i32)
+        requires within { place + 8 ≤ 512 }
+        ensures bytes { IsSetTo false self.old.bytes self.new.bytes place (place + 8) }
+        ensures here { spill_at self.new.spills (place / 8) ≡ Spill.Whole (place % 8) region offset }
+        ensures others { (b : ℕ) → b < 64 → b ≢ place / 8 → spill_at self.new.spills b ≡ left_of place (place + 8) b (spill_at self.old.spills b) }
+        ensures holds { (cells : List Cell) → Describes self.old cells → length cells ≡ 512 → Describes self.new (overwritten cells place (pieces_of region offset)) }
+    {
+        pointers::clear(&mut self.spills, place, place + 8);
+        bytes::set(&mut self.bytes, place, place + 8, false);
+        pointers::put(&mut self.spills, place, region, offset);
+    }
+
+    /// Whether each cell of the window is known to be a byte.
+    pub fn has_bytes(&self, place: usize, size: usize) -> bool
+        requires within { place + size ≤ 512 }
+        ensures known { IsTrue result ↔ ((k : ℕ) → place ≤ k → k < place + size → byte_at self.now.bytes k ≡ true) }
+        ensures holds { IsTrue result → (cells : List Cell) (at n : ℕ) → Describes self.now cells → length cells ≡ 512 → place ≤ at → at + n ≤ place + size →
+            AreBytes (slice_range cells at (at + n)) }
+    {
+        bytes::are_all(&self.bytes, place, place + size)
+    }
+
+    /// The pointer that is known to stand whole at the place.
+    pub fn pointer_at(&self, place: usize) -> Option<(Region, i32)>
+        requires within { place + 8 ≤ 512 }
+        ensures known { result ≡ pointer_of (place % 8) (spill_at self.now.spills (place / 8)) }
+        ensures holds { IfSome result
+            (λ p. (cells : List Cell) → Describes self.now cells → slice_range cells place (place + 8) ≡ pieces_of p.0 p.1) }
+    {
+        let Spill::Whole {
+            shift,
+            region,
+            offset,
+        } = self.spills[place / 8]
+        else {
+            return None;
+        };
+        if shift as usize == place % 8 {
+            return Some((region, offset));
+        }
+        None
+    }
+
+    /// Keeps what both know.
+    pub fn join(&mut self, other: &AbsStack)
+        ensures bytes { (k : ℕ) → byte_at self.new.bytes k ≡ (byte_at self.old.bytes k && byte_at other.now.bytes k) }
+        ensures spills { (b : ℕ) → b < 64 → spill_at self.new.spills b ≡ joined_spill (spill_at self.old.spills b) (spill_at other.now.spills b) }
+        ensures left { (cells : List Cell) → Describes self.old cells → Describes self.new cells }
+        ensures right { (cells : List Cell) → Describes other.now cells → Describes self.new cells }
+    {
+        bytes::join(&mut self.bytes, &other.bytes);
+        pointers::join(&mut self.spills, &other.spills);
+    }
+}

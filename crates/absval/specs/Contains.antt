@@ -1,0 +1,35 @@
+-- Which values an abstract value stands for.
+use Rattle.std.specs.Prelude.{ℕ, ℤ, ◌≡◌, ◌≤◌, ◌≤ℤ◌, Bool, true, false, Result, Ok, Err}
+use Rattle.semantics.specs.declared.value.Region.{Region}
+use Rattle.semantics.specs.declared.value.Value.{Value}
+use Rattle.semantics.specs.declared.value.Value.TheVariants as value
+use Rattle.semantics.specs.State.{Cause}
+use Rattle.absval.specs.declared.value.AbsVal.{AbsVal}
+use Rattle.absval.specs.declared.value.AbsVal.TheVariants.{Unset, Number, Pointer}
+
+abbrev pub IsNumberIn : ℕ → ℕ → Value → Type 0
+IsNumberIn lo hi value.Unset = ⊥
+IsNumberIn lo hi (value.Number n) = (lo ≤ n) × (n ≤ hi)
+IsNumberIn lo hi (value.Pointer region offset) = ⊥
+
+abbrev pub IsPointerIn : Region → ℤ → ℤ → Value → Type 0
+IsPointerIn region low high value.Unset = ⊥
+IsPointerIn region low high (value.Number n) = ⊥
+IsPointerIn region low high (value.Pointer other offset) = (other ≡ region) × (low ≤ℤ offset) × (offset ≤ℤ high)
+
+-- the value is one of those
+abbrev pub Contains : AbsVal → Value → Type 0
+Contains Unset v = Unit {0}
+Contains (Number r) v = IsNumberIn r.lo r.hi v
+Contains (Pointer region offsets) v = IsPointerIn region offsets.low offsets.high v
+
+-- there is a result, and it is one of those
+abbrev pub Gives : AbsVal → Result Value Cause → Type 0
+Gives a (Ok v) = Contains a v
+Gives a (Err cause) = ⊥
+
+-- it is known to be a number
+abbrev pub is_number : AbsVal → Bool
+is_number Unset = false
+is_number (Number r) = true
+is_number (Pointer region offsets) = false

@@ -1,0 +1,13 @@
+//! What the verifier knows of a value: nothing, a number in a range, or a pointer with its offsets in a range.
+#![tactic(auto)]
+
+mod operations;
+mod pointer;
+mod value;
+mod values;
+mod windows;
+
+pub use operations::{arithmetic, negate, sign_extend, swap};
+pub use value::{AbsVal, Offsets};
+pub use values::{immediate, join, loaded};
+pub use windows::{Window, window_of};

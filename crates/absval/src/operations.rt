@@ -1,0 +1,122 @@
+ghost use Rattle.std.specs.Prelude.{◌≡◌, ◌≢◌, ◌≤ℤ◌, ◌↔◌, ℕ, ℤ, true, IfSome, IsSome, IsSomeAnd};
+ghost use Rattle.word.specs.Arithmetic.{arithmetic as computed, negated, sign_extended, swapped};
+ghost use Rattle.range.specs.Interval.{IsIn};
+ghost use Rattle.semantics.specs.declared.value.Value.{Value};
+ghost use Rattle.semantics.specs.Step.{result_of, mapped};
+ghost use Rattle.absval.specs.Contains.{Contains, Gives, is_number};
+
+use crate::pointer::{as_signed, lowered, raised};
+use crate::value::{AbsVal, Offsets};
+use range::{Range, operate, unary};
+use semantics::Region;
+use word::{ByteOrder, Narrow, Operation, SwapSize, Width};
+
+/// What an operation on two values gives: nothing where it is none that pointers admit.
+pub fn arithmetic(width: Width, operation: Operation, a: AbsVal, b: AbsVal) -> Option<AbsVal>
+    ensures holds { IfSome result (λ r. (x y : Value) → Contains a x → Contains b y → Gives r (result_of width operation x y)) }
+    ensures moves { operation ≡ Operation.Move → is_number b ≡ true → IsSomeAnd result (λ r. is_number r ≡ true) }
+    ensures numbers { is_number a ≡ true → is_number b ≡ true → IsSomeAnd result (λ r. is_number r ≡ true) }
+{
+    if let Operation::Move = operation {
+        return moved(width, b);
+    }
+    combined(width, operation, a, b)
+}
+
+/// What a move gives: it reads the second value alone.
+fn moved(width: Width, b: AbsVal) -> Option<AbsVal>
+    ensures holds { IfSome result (λ r. (x y : Value) → Contains b y → Gives r (result_of width Operation.Move x y)) }
+    ensures numbers { is_number b ≡ true → IsSomeAnd result (λ r. is_number r ≡ true) }
+{
+    match b {
+        AbsVal::Unset => None,
+        AbsVal::Number(n) => Some(AbsVal::Number(copied(width, n))),
+        AbsVal::Pointer(..) => match width {
+            Width::W64 => Some(b),
+            Width::W32 => None,
+        },
+    }
+}
+
+/// The numbers that moves of these give.
+fn copied(width: Width, n: Range) -> Range
+    ensures { (y : ℕ) → IsIn n.lo n.hi y → IsIn result.lo result.hi (computed width Operation.Move 0 y) }
+{
+    operate::operate(width, Operation::Move, Range::exactly(0), n)
+}
+
+/// What an operation that reads both values gives.
+fn combined(width: Width, operation: Operation, a: AbsVal, b: AbsVal) -> Option<AbsVal>
+    requires { operation ≢ Operation.Move }
+    ensures holds { IfSome result (λ r. (x y : Value) → Contains a x → Contains b y → Gives r (result_of width operation x y)) }
+    ensures numbers { is_number a ≡ true → is_number b ≡ true → IsSomeAnd result (λ r. is_number r ≡ true) }
+{
+    match (a, b) {
+        (AbsVal::Number(m), AbsVal::Number(n)) => Some(AbsVal::Number(operate::operate(
+            width, operation, m, n,
+        ))),
+        (AbsVal::Pointer(region, offsets), AbsVal::Number(n)) => shifted(
+            width, operation, region, offsets, n,
+        ),
+        _ => None,
+    }
+}
+
+/// What adding a number to a pointer gives, or taking it away; no other operation admits a pointer.
+fn shifted(
+    width: Width,
+    operation: Operation,
+    region: Region,
+    offsets: Offsets,
+    n: Range,
+) -> Option<AbsVal>
+    requires { operation ≢ Operation.Move }
+    ensures holds { IfSome result (λ r. (o : ℤ) (y : ℕ) → offsets.low ≤ℤ o → o ≤ℤ offsets.high → IsIn n.lo n.hi y →
+        Gives r (result_of width operation (Value.Pointer region o) (Value.Number y))) }
+{
+    let Width::W64 = width else {
+        return None;
+    };
+    let by = as_signed(n)?;
+    match operation {
+        Operation::Add => Some(AbsVal::Pointer(region, raised(offsets, by)?)),
+        Operation::Sub => Some(AbsVal::Pointer(region, lowered(offsets, by)?)),
+        _ => None,
+    }
+}
+
+/// What negating a value gives: nothing of a pointer.
+pub fn negate(width: Width, a: AbsVal) -> Option<AbsVal>
+    ensures holds { IfSome result (λ r. (x : Value) → Contains a x → Gives r (mapped (negated width) x)) }
+    ensures number { IsSome result ↔ (is_number a ≡ true) }
+    ensures again { IfSome result (λ r. is_number r ≡ true) }
+{
+    match a {
+        AbsVal::Number(n) => Some(AbsVal::Number(unary::negate(width, n))),
+        AbsVal::Unset | AbsVal::Pointer(..) => None,
+    }
+}
+
+/// What extending the low bits of a value by their sign gives: nothing of a pointer.
+pub fn sign_extend(width: Width, part: Narrow, a: AbsVal) -> Option<AbsVal>
+    ensures holds { IfSome result (λ r. (x : Value) → Contains a x → Gives r (mapped (sign_extended width part) x)) }
+    ensures number { IsSome result ↔ (is_number a ≡ true) }
+    ensures again { IfSome result (λ r. is_number r ≡ true) }
+{
+    match a {
+        AbsVal::Number(n) => Some(AbsVal::Number(unary::sign_extend(width, part, n))),
+        AbsVal::Unset | AbsVal::Pointer(..) => None,
+    }
+}
+
+/// What putting the low bytes of a value in order gives: nothing of a pointer.
+pub fn swap(order: ByteOrder, size: SwapSize, a: AbsVal) -> Option<AbsVal>
+    ensures holds { IfSome result (λ r. (x : Value) → Contains a x → Gives r (mapped (swapped order size) x)) }
+    ensures number { IsSome result ↔ (is_number a ≡ true) }
+    ensures again { IfSome result (λ r. is_number r ≡ true) }
+{
+    match a {
+        AbsVal::Number(n) => Some(AbsVal::Number(unary::swap(order, size, n))),
+        AbsVal::Unset | AbsVal::Pointer(..) => None,
+    }
+}

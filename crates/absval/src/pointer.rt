@@ -1,0 +1,77 @@
+//! Numbers added to pointers and taken from them.
+ghost use Rattle.std.specs.Prelude.{pos, negsuc, ◌≡◌, ◌≤◌, ◌+ℤ◌, ◌-ℤ◌, ◌≤ℤ◌, ℕ, ℤ, IfSome};
+ghost use Rattle.std.specs.Int.{w64, cast_signed};
+
+use crate::value::Offsets;
+use range::Range;
+
+/// The greatest distance of an offset from 0.
+const LIMIT: i64 = 65_536;
+
+/// A range of numbers read as signed.
+#[derive(Clone, Copy, Debug, PartialEq, Eq)]
+pub(crate) struct SignedRange {
+    pub(crate) low: i64,
+    pub(crate) high: i64,
+}
+
+/// The numbers of the range as signed, where they are in a row.
+pub(crate) fn as_signed(range: Range) -> Option<SignedRange>
+    ensures holds { IfSome result (λ s. (n : ℕ) → range.lo ≤ n → n ≤ range.hi → (s.low ≤ℤ cast_signed w64 n) × (cast_signed w64 n ≤ℤ s.high)) }
+{
+    let low = range.lo.cast_signed();
+    let high = range.hi.cast_signed();
+    if low > high {
+        return None;
+    }
+    Some(SignedRange { low, high })
+}
+
+/// The offsets once the numbers are added, where none leaves the limit.
+pub(crate) fn raised(offsets: Offsets, by: SignedRange) -> Option<Offsets>
+    ensures holds { IfSome result (λ r. (o z : ℤ) → offsets.low ≤ℤ o → o ≤ℤ offsets.high → by.low ≤ℤ z → z ≤ℤ by.high →
+        (r.low ≤ℤ (o +ℤ z)) × ((o +ℤ z) ≤ℤ r.high)) }
+    ensures limits { IfSome result (λ r. (negsuc 65535 ≤ℤ r.low) × (r.high ≤ℤ pos 65536)) }
+{
+    let low = sum(offsets.low, by.low)?;
+    let high = sum(offsets.high, by.high)?;
+    Some(Offsets { low, high })
+}
+
+/// The offsets once the numbers are taken away, where none leaves the limit.
+pub(crate) fn lowered(offsets: Offsets, by: SignedRange) -> Option<Offsets>
+    ensures holds { IfSome result (λ r. (o z : ℤ) → offsets.low ≤ℤ o → o ≤ℤ offsets.high → by.low ≤ℤ z → z ≤ℤ by.high →
+        (r.low ≤ℤ (o -ℤ z)) × ((o -ℤ z) ≤ℤ r.high)) }
+    ensures limits { IfSome result (λ r. (negsuc 65535 ≤ℤ r.low) × (r.high ≤ℤ pos 65536)) }
+{
+    let low = difference(offsets.low, by.high)?;
+    let high = difference(offsets.high, by.low)?;
+    Some(Offsets { low, high })
+}
+
+/// An offset and a number, where the sum is within the limit.
+fn sum(offset: i32, by: i64) -> Option<i32>
+    ensures same { IfSome result (λ r. r ≡ offset +ℤ by) }
+    ensures limits { IfSome result (λ r. (negsuc 65535 ≤ℤ r) × (r ≤ℤ pos 65536)) }
+{
+    within(i64::from(offset).checked_add(by)?)
+}
+
+/// An offset less a number, where the difference is within the limit.
+fn difference(offset: i32, by: i64) -> Option<i32>
+    ensures same { IfSome result (λ r. r ≡ offset -ℤ by) }
+    ensures limits { IfSome result (λ r. (negsuc 65535 ≤ℤ r) × (r ≤ℤ pos 65536)) }
+{
+    within(i64::from(offset).checked_sub(by)?)
+}
+
+/// The offset, where it is within the limit.
+fn within(offset: i64) -> Option<i32>
+    ensures same { IfSome result (λ r. r ≡ offset) }
+    ensures limits { IfSome result (λ r. (negsuc 65535 ≤ℤ r) × (r ≤ℤ pos 65536)) }
+{
+    if offset < -LIMIT || offset > LIMIT {
+        return None;
+    }
+    Some(offset as i32)
+}

@@ -1,0 +1,71 @@
+ghost use Rattle.std.specs.Prelude.{◌≡◌, ◌≤◌, ◌<◌, ◌^◌, ◌*◌, ◌&&◌, ◌≤ℤ◌, ℕ, true};
+ghost use Rattle.std.specs.Int.{w64, cast_unsigned};
+ghost use Rattle.insn.specs.Insn.{bytes_of};
+ghost use Rattle.semantics.specs.declared.value.Value.{Value};
+ghost use Rattle.absval.specs.Contains.{Contains, is_number};
+
+use crate::value::{AbsVal, Offsets};
+use insn::Size;
+use range::Range;
+use semantics::Region;
+
+/// An immediate number, extended by its sign.
+pub fn immediate(n: i32) -> AbsVal
+    ensures number { is_number result ≡ true }
+    ensures holds { Contains result (Value.Number (cast_unsigned w64 n)) }
+{
+    AbsVal::Number(Range::exactly(i64::from(n).cast_unsigned()))
+}
+
+/// What a load of so many bytes may give.
+pub fn loaded(size: Size) -> AbsVal
+    ensures number { is_number result ≡ true }
+    ensures holds { (n : ℕ) → n < 256 ^ bytes_of size → Contains result (Value.Number n) }
+{
+    AbsVal::Number(numbers_of(size))
+}
+
+/// The numbers of so many bytes.
+fn numbers_of(size: Size) -> Range
+    ensures high { (n : ℕ) → n < 256 ^ bytes_of size → n ≤ result.hi }
+    ensures low { result.lo ≡ 0 }
+{
+    let hi = match size {
+        Size::Byte => 0xff,
+        Size::Half => 0xffff,
+        Size::Word => 0xffff_ffff,
+        Size::Double => u64::MAX,
+    };
+    Range { lo: 0, hi }
+}
+
+/// What holds each value of either.
+pub fn join(a: AbsVal, b: AbsVal) -> AbsVal
+    ensures left { (v : Value) → Contains a v → Contains result v }
+    ensures right { (v : Value) → Contains b v → Contains result v }
+    ensures number { is_number result ≡ (is_number a && is_number b) }
+{
+    match (a, b) {
+        (AbsVal::Number(m), AbsVal::Number(n)) => AbsVal::Number(m.join(n)),
+        (AbsVal::Pointer(Region::Stack, m), AbsVal::Pointer(Region::Stack, n)) => AbsVal::Pointer(
+            Region::Stack,
+            joined(m, n),
+        ),
+        (AbsVal::Pointer(Region::Context, m), AbsVal::Pointer(Region::Context, n)) =>
+            AbsVal::Pointer(Region::Context, joined(m, n)),
+        _ => AbsVal::Unset,
+    }
+}
+
+/// From the least offset of both to the greatest.
+fn joined(m: Offsets, n: Offsets) -> Offsets
+    ensures low_left { result.low ≤ℤ m.low }
+    ensures low_right { result.low ≤ℤ n.low }
+    ensures high_left { m.high ≤ℤ result.high }
+    ensures high_right { n.high ≤ℤ result.high }
+{
+    Offsets {
+        low: m.low.min(n.low),
+        high: m.high.max(n.high),
+    }
+}

@@ -1,0 +1,100 @@
+ghost use Rattle.std.specs.Prelude.{pos, ◌≡◌, ◌+◌, ◌≤◌, ◌≤ℤ◌, ◌+ℤ◌, ℕ, ℤ, IfSome};
+ghost use Rattle.semantics.specs.declared.value.Region.{Region};
+ghost use Rattle.semantics.specs.Memory.{window as window_at};
+ghost use Rattle.absval.specs.Windows.{room_of, base_of, LiesIn};
+
+use crate::value::Offsets;
+use semantics::Region;
+
+/// The cells that an access may touch.
+#[derive(Clone, Copy, Debug, PartialEq, Eq)]
+pub struct Window {
+    /// The place of the first.
+    pub place: usize,
+    /// How many they are.
+    pub size: usize,
+}
+
+/// How many cells a region has.
+fn room(region: Region) -> usize
+    ensures room { result ≡ room_of region }
+    ensures few { result ≤ 4096 }
+{
+    match region {
+        Region::Stack => 512,
+        Region::Context => 4096,
+    }
+}
+
+/// An offset, a distance on.
+fn sum(offset: i32, distance: i16) -> i64
+    ensures { result ≡ offset +ℤ distance }
+{
+    i64::from(offset) + i64::from(distance)
+}
+
+/// The cell at an offset, or the place behind the last one.
+fn place_of(region: Region, at: i64) -> Option<usize>
+    ensures place { IfSome result (λ n. pos n ≡ at +ℤ pos (base_of region)) }
+    ensures few { IfSome result (λ n. n ≤ 4096) }
+{
+    match region {
+        Region::Stack => stack_place(at),
+        Region::Context => context_place(at),
+    }
+}
+
+fn stack_place(at: i64) -> Option<usize>
+    ensures place { IfSome result (λ n. pos n ≡ at +ℤ pos 512) }
+    ensures few { IfSome result (λ n. n ≤ 4096) }
+{
+    if at < -512 || at > 0 {
+        return None;
+    }
+    Some((at + 512) as usize)
+}
+
+fn context_place(at: i64) -> Option<usize>
+    ensures place { IfSome result (λ n. pos n ≡ at +ℤ pos 0) }
+    ensures few { IfSome result (λ n. n ≤ 4096) }
+{
+    if at < 0 || at > 4096 {
+        return None;
+    }
+    Some(at as usize)
+}
+
+/// The cell a distance from an offset, or the place behind the last one.
+fn place_at(region: Region, offset: i32, distance: i16) -> Option<usize>
+    ensures place { IfSome result (λ n. pos n ≡ (offset +ℤ distance) +ℤ pos (base_of region)) }
+    ensures few { IfSome result (λ n. n ≤ 4096) }
+{
+    place_of(region, sum(offset, distance))
+}
+
+/// The cells that an access of so many bytes may touch, a distance from a pointer, where all of them lie in its region.
+pub fn window_of(region: Region, offsets: Offsets, distance: i16, size: usize) -> Option<Window>
+    requires { size ≤ 4096 }
+    ensures fits { IfSome result (λ w. w.place + w.size ≤ room_of region) }
+    ensures holds { IfSome result (λ w. (o : ℤ) → offsets.low ≤ℤ o → o ≤ℤ offsets.high →
+        LiesIn w.place w.size size (window_at region (o +ℤ distance) size)) }
+{
+    window_between(region, offsets.low, offsets.high, distance, size)
+}
+
+/// The same, from the least offset to the greatest.
+fn window_between(region: Region, low: i32, high: i32, distance: i16, size: usize) -> Option<Window>
+    requires { size ≤ 4096 }
+    ensures fits { IfSome result (λ w. w.place + w.size ≤ room_of region) }
+    ensures holds { IfSome result (λ w. (o : ℤ) → low ≤ℤ o → o ≤ℤ high → LiesIn w.place w.size size (window_at region (o +ℤ distance) size)) }
+{
+    let first = place_at(region, low, distance)?;
+    let last = place_at(region, high, distance)?;
+    if last < first || last + size > room(region) {
+        return None;
+    }
+    Some(Window {
+        place: first,
+        size: last - first + size,
+    })
+}
