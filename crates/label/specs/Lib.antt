@@ -1,3 +1,4 @@
 pub mod Labels
 pub mod Relay
 pub mod Oral
+pub mod Laws
