@@ -7,3 +7,4 @@ pub mod Order
 pub mod Same
 pub mod Own
 pub mod Listing
+pub mod Counts

@@ -2,3 +2,5 @@ pub mod Labels
 pub mod Relay
 pub mod Oral
 pub mod Laws
+pub mod Generals
+pub mod Space
