@@ -1,0 +1,18 @@
+//! Oral messages by the book: the recursion over a table of messages, and the agreement theorem.
+#![tactic(auto)]
+
+mod fault;
+mod message;
+mod parts;
+mod placing;
+mod reader;
+mod recursion;
+mod table;
+mod theorem;
+
+pub use fault::TableError;
+pub use message::Message;
+pub use reader::read_table;
+pub use recursion::{decision, decisions};
+pub use table::Table;
+pub use theorem::agreement;
