@@ -1,0 +1,2 @@
+//! The board that the generals share. What is said of it stands in specs/.
+#![tactic(auto)]
