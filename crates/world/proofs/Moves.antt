@@ -1,0 +1,120 @@
+-- What ticks and posts keep.
+use Rattle.std.proofs.Common.{◌≡◌, ◌≢◌, ℕ, zero, suc, ◌+◌, ◌-◌, ◌<◌, ◌≤◌, List, [], ◌∷◌, ◌++◌, length, Bool, true, false, cond, refl, sym, ap, subst, ◌∙◌, ◌⊎◌, inl, inr, ⊎_elim, Option, Some, None, arith}
+use Rattle.std.specs.Prelude.{slice_get, slice_set}
+use Rattle.board.specs.declared.request.Access.{Access}
+use Rattle.board.specs.declared.request.Request.{Request}
+use Rattle.world.specs.Machine.{Out, go, ask, Ended, Machine}
+use Rattle.world.specs.Letters.{Scenario, Letter, program_of}
+use Rattle.world.specs.World.{Part, Acting, Silent, Posted, World, Event, Tick, Post, Close, ticked, served, posting, set_part, happen, run}
+
+pub set-cases : {A : Type 0} (xs : List A) (i j : ℕ) (v x : A) → slice_get (slice_set xs i v) j ≡ Some x → ((j ≡ i) × (x ≡ v)) ⊎ ((j ≢ i) × (slice_get xs j ≡ Some x))
+set-cases [] i j v x e = absurd (let f : None ≡ Some x = e in cc)
+set-cases (y ∷ ys) zero zero v x e = inl (refl, (let f : Some v ≡ Some x = e in cc))
+set-cases (y ∷ ys) zero (suc j) v x e = inr ((λ h. omega arith), e)
+set-cases (y ∷ ys) (suc i) zero v x e = inr ((λ h. omega arith), e)
+set-cases (y ∷ ys) (suc i) (suc j) v x e = ⊎_elim (λ (h : (j ≡ i) × (x ≡ v)). inl (ap suc h.0, h.1)) (λ (h : (j ≢ i) × (slice_get ys j ≡ Some x)). inr ((λ s. h.0 (let r = s in omega arith)), h.1)) (set-cases ys i j v x e)
+
+abbrev pub IsMove : Event → Type 0
+IsMove (Tick g) = Unit {0}
+IsMove (Post g) = Unit {0}
+IsMove Close = ⊥
+
+abbrev pub AreMoves : List Event → Type 0
+AreMoves [] = Unit {0}
+AreMoves (e ∷ es) = IsMove e × AreMoves es
+
+pub moves-append : (es fs : List Event) → AreMoves es → AreMoves fs → AreMoves (es ++ fs)
+moves-append [] fs a b = b
+moves-append (e ∷ es) fs a b = (a.0, moves-append es fs a.1 b)
+
+-- what a round keeps as it is
+pub record SameRound (w v : World) : Type 0 where
+  pub scenario : v.scenario ≡ w.scenario
+  pub closed : v.closed ≡ w.closed
+  pub opened : v.opened ≡ w.opened
+  pub full : v.full ≡ w.full
+  pub count : length v.parts ≡ length w.parts
+
+pub same_round : (w : World) → SameRound w w
+same_round w = record { scenario = refl; closed = refl; opened = refl; full = refl; count = refl }
+
+pub then_same : (u v w : World) → SameRound u v → SameRound v w → SameRound u w
+then_same u v w a b = record { scenario = b.scenario ∙ a.scenario; closed = b.closed ∙ a.closed; opened = b.opened ∙ a.opened; full = b.full ∙ a.full; count = b.generals ∙ a.generals }
+
+set-length : {A : Type 0} (xs : List A) (i : ℕ) (v : A) → length (slice_set xs i v) ≡ length xs
+set-length [] i v = refl
+set-length (y ∷ ys) zero v = refl
+set-length (y ∷ ys) (suc i) v = ap suc (set-length ys i v)
+
+served_same : (w : World) (g : ℕ) (o : Turn) → SameRound w (served w g o)
+served_same w g (Goes a) = record { scenario = refl; closed = refl; opened = refl; full = refl; count = set-length w.parts g (Acting a) }
+served_same w g (Asks q f) = record { scenario = refl; closed = refl; opened = refl; full = refl; count = set-length w.parts g _ }
+served_same w g Ended = same_round w
+
+ticked_same : (w : World) (g : ℕ) (o : Option (Part)) → SameRound w (ticked w g o)
+ticked_same w g None = same_round w
+ticked_same w g (Some (Acting a)) = served_same w g (turn a)
+ticked_same w g (Some Silent) = same_round w
+ticked_same w g (Some Posted) = same_round w
+
+posting_same : (w : World) (g : ℕ) (o : Option (Part)) → SameRound w (posting w g o)
+posting_same w g None = same_round w
+posting_same w g (Some (Acting a)) = same_round w
+posting_same w g (Some Silent) = record { scenario = refl; closed = refl; opened = refl; full = refl; count = set-length w.parts g Posted }
+posting_same w g (Some Posted) = same_round w
+
+pub move_same : (w : World) (e : Event) → IsMove e → SameRound w (happen w e)
+move_same w (Tick g) i = ticked_same w g (slice_get w.parts g)
+move_same w (Post g) i = posting_same w g (slice_get w.parts g)
+move_same w Close i = absurd i
+
+pub moves_same : (es : List Event) (w : World) → AreMoves es → SameRound w (run w es)
+moves_same [] w i = same_round w
+moves_same (e ∷ es) w i = then_same w (happen w e) (run (happen w e) es) (move_same w e i.0) (moves_same es (happen w e) i.1)
+
+pub run-append : (es fs : List Event) (w : World) → run w (es ++ fs) ≡ run (run w es) fs
+run-append [] fs w = refl
+run-append (e ∷ es) fs w = run-append es fs (happen w e)
+
+-- each general's part has the property
+abbrev pub AllParts : (ℕ → Part → Type 0) → List (Part) → Type 0
+AllParts Q parts = (g : ℕ) (part : Part) → slice_get parts g ≡ Some part → Q g part
+
+-- a property that steps and posts keep
+pub record IsLasting (Q : ℕ → Part → Type 0) : Type 0 where
+  pub goes : (g : ℕ) (a b : Activation) → Q g (Acting a) → turn a ≡ Goes b → Q g (Acting b)
+  pub asks : (g : ℕ) (a : Activation) (q : Request) (f : ℕ → S) (r : List ℕ) → Q g (Acting a) → turn a ≡ Asks q f → Q g (Acting (f r))
+  pub posts : (g : ℕ) → Q g Silent → Q g Posted
+
+module _ (Q : ℕ → Part → Type 0) (kept : IsLasting Q) where
+  parts-set : (parts : List (Part)) (g : ℕ) (v : Part) → AllParts Q parts → Q g v → AllParts Q (slice_set parts g v)
+  parts-set parts g v all new j part e =
+      ⊎_elim (λ (h : (j ≡ g) × (part ≡ v)). (let A : ℕ → Type 0 = λ i. Q i part in let B : Part → Type 0 = λ p. Q g p in subst A (sym h.0) (subst B (sym h.1) new)))
+      (λ (h : (j ≢ g) × (slice_get parts j ≡ Some part)). all j part h.1)
+      (set-cases parts g j v part e)
+
+  served_keeps : (w : World) (g : ℕ) (a : Activation) → slice_get w.parts g ≡ Some (Acting a) → AllParts Q w.parts → (o : Turn) → turn a ≡ o → AllParts Q (served w g o).parts
+  served_keeps w g a at all (Goes b) e = parts-set w.parts g (Acting b) all (kept.goes g a b (all g (Acting a) at) e)
+  served_keeps w g a at all (Asks q f) e = parts-set w.parts g (Acting (f _)) all (kept.asks g a q f _ (all g (Acting a) at) e)
+  served_keeps w g a at all Ended e = all
+
+  ticked_keeps : (w : World) (g : ℕ) → AllParts Q w.parts → (o : Option (Part)) → slice_get w.parts g ≡ o → AllParts Q (ticked w g o).parts
+  ticked_keeps w g all None e = all
+  ticked_keeps w g all (Some (Acting a)) e = served_keeps w g a e all (turn a) refl
+  ticked_keeps w g all (Some Silent) e = all
+  ticked_keeps w g all (Some Posted) e = all
+
+  posting_keeps : (w : World) (g : ℕ) → AllParts Q w.parts → (o : Option (Part)) → slice_get w.parts g ≡ o → AllParts Q (posting w g o).parts
+  posting_keeps w g all None e = all
+  posting_keeps w g all (Some (Acting a)) e = all
+  posting_keeps w g all (Some Silent) e = parts-set w.parts g Posted all (kept.posts g (all g Silent e))
+  posting_keeps w g all (Some Posted) e = all
+
+  pub move_keeps : (w : World) (e : Event) → IsMove e → AllParts Q w.parts → AllParts Q (happen w e).parts
+  move_keeps w (Tick g) i all = ticked_keeps w g all (slice_get w.parts g) refl
+  move_keeps w (Post g) i all = posting_keeps w g all (slice_get w.parts g) refl
+  move_keeps w Close i all = absurd i
+
+  pub moves_keep : (es : List Event) (w : World) → AreMoves es → AllParts Q w.parts → AllParts Q (run w es).parts
+  moves_keep [] w i all = all
+  moves_keep (e ∷ es) w i all = moves_keep es (happen w e) i.1 (move_keeps w e i.0 all)
