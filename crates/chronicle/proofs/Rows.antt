@@ -11,7 +11,7 @@ use Rattle.label.specs.Labels.{labels}
 use Rattle.label.specs.Oral.{om}
 use Rattle.semantics.specs.Execution.{step}
 use Rattle.world.specs.Scenario.{Scenario}
-use Rattle.world.specs.Letters.{messages}
+use Rattle.world.specs.Letters.{context_bytes, messages}
 use Rattle.world.specs.World.{opening, run}
 use Rattle.world.specs.Lists.{listed}
 use Rattle.world.specs.Chronicle.{decisions, chronicle_of}
@@ -40,7 +40,7 @@ two_generals : printed two ([]) ≡ lines (
     ∷ codes "decision 1 7"
     ∷ codes "verdict alike yes obeyed yes bound yes"
     ∷ [])
-unfolding two labels om majority messages decisions lines_of text_of step digits
+unfolding two labels om majority context_bytes messages decisions lines_of text_of step digits
 two_generals = refl
 
 -- he tells generals 1 and 2 the order 0
@@ -82,7 +82,7 @@ traitor_lieutenant : printed four ([]) ≡ lines (
     ∷ codes "decision 3 traitor 1"
     ∷ codes "verdict alike yes obeyed yes bound yes"
     ∷ [])
-unfolding four turncoat labels om majority messages decisions lines_of text_of step digits
+unfolding four turncoat labels om majority context_bytes messages decisions lines_of text_of step digits
 traitor_lieutenant = refl
 
 -- entries of a schedule past his end and of no general are skipped
@@ -108,7 +108,7 @@ skipped_entries : printed four ((replicate 9 3 ++ 3 ∷ 12 ∷ []) ∷ []) ≡ l
     ∷ codes "decision 3 traitor 1"
     ∷ codes "verdict alike yes obeyed yes bound yes"
     ∷ [])
-unfolding four turncoat labels om majority messages decisions lines_of text_of step digits
+unfolding four turncoat labels om majority context_bytes messages decisions lines_of text_of step digits
 skipped_entries = refl
 
 -- a commander who tells the orders 1, 0 and 1
@@ -153,7 +153,7 @@ commander_split : printed under_split ([]) ≡ lines (
     ∷ codes "decision 3 1"
     ∷ codes "verdict alike yes obeyed - bound yes"
     ∷ [])
-unfolding under_split split labels om majority messages decisions lines_of text_of step digits
+unfolding under_split split labels om majority context_bytes messages decisions lines_of text_of step digits
 commander_split = refl
 
 -- a commander who tells nothing to general 3
@@ -195,7 +195,7 @@ commander_silent : printed under_silent ([]) ≡ lines (
     ∷ codes "decision 3 0"
     ∷ codes "verdict alike yes obeyed - bound yes"
     ∷ [])
-unfolding under_silent silent labels om majority messages decisions lines_of text_of step digits
+unfolding under_silent silent labels om majority context_bytes messages decisions lines_of text_of step digits
 commander_silent = refl
 
 -- a commander who tells three orders
@@ -240,7 +240,7 @@ commander_three_ways : printed under_three_ways ([]) ≡ lines (
     ∷ codes "decision 3 0"
     ∷ codes "verdict alike yes obeyed - bound yes"
     ∷ [])
-unfolding under_three_ways three_ways labels om majority messages decisions lines_of text_of step digits
+unfolding under_three_ways three_ways labels om majority context_bytes messages decisions lines_of text_of step digits
 commander_three_ways = refl
 
 -- he tells general 1 the order 0
@@ -275,5 +275,5 @@ three_generals : printed three ([]) ≡ lines (
     ∷ codes "decision 2 traitor 1"
     ∷ codes "verdict alike yes obeyed no bound no"
     ∷ [])
-unfolding three liar labels om majority messages decisions lines_of text_of step digits
+unfolding three liar labels om majority context_bytes messages decisions lines_of text_of step digits
 three_generals = refl

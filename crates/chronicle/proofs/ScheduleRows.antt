@@ -11,7 +11,7 @@ use Rattle.label.specs.Labels.{labels}
 use Rattle.label.specs.Oral.{om}
 use Rattle.semantics.specs.Execution.{step}
 use Rattle.world.specs.Scenario.{Scenario}
-use Rattle.world.specs.Letters.{messages}
+use Rattle.world.specs.Letters.{context_bytes, messages}
 use Rattle.world.specs.World.{opening, run}
 use Rattle.world.specs.Lists.{listed}
 use Rattle.world.specs.Chronicle.{decisions, chronicle_of}
@@ -128,7 +128,7 @@ seven_generals : printed seven ([]) ≡ lines (
     ∷ codes "decision 6 0"
     ∷ codes "verdict alike yes obeyed - bound yes"
     ∷ [])
-unfolding seven counter labels om majority messages decisions lines_of text_of step digits
+unfolding seven counter labels om majority context_bytes messages decisions lines_of text_of step digits
 seven_generals = refl
 
 -- a line for the first round puts general 4 in front there
@@ -210,7 +210,7 @@ first_round : printed seven (replicate 15 4 ∷ []) ≡ lines (
     ∷ codes "decision 6 1"
     ∷ codes "verdict alike yes obeyed - bound yes"
     ∷ [])
-unfolding seven counter labels om majority messages decisions lines_of text_of step digits
+unfolding seven counter labels om majority context_bytes messages decisions lines_of text_of step digits
 first_round = refl
 
 -- and one for the second there too
@@ -292,5 +292,5 @@ two_rounds : printed seven (replicate 15 4 ∷ replicate 15 4 ∷ []) ≡ lines 
     ∷ codes "decision 6 0"
     ∷ codes "verdict alike yes obeyed - bound yes"
     ∷ [])
-unfolding seven counter labels om majority messages decisions lines_of text_of step digits
+unfolding seven counter labels om majority context_bytes messages decisions lines_of text_of step digits
 two_rounds = refl

@@ -1,6 +1,7 @@
 -- What every run of a world keeps (own).
 use Rattle.std.specs.Prelude.{ℕ, suc, ◌≡◌, ◌<◌, ◌≤◌, true, List, [], length, take, slice_index_or, slice_get, Option, None, Some}
 use Rattle.insn.specs.declared.insn.Insn.{Insn}
+use Rattle.board.specs.Board.{IsBoard}
 use Rattle.world.specs.Scenario.{Scenario, program_of}
 use Rattle.world.specs.Letters.{Letter, letter_of, loyal_letter}
 use Rattle.world.specs.World.{Part, Acting, Silent, Posted, World}
@@ -22,5 +23,6 @@ Tells s closed g = (k : ℕ) → k < length closed → letter_of (slice_index_or
 pub record IsKept (w : World) : Type 0 where
   pub parts : (g : ℕ) (part : Part) → slice_get w.parts g ≡ Some part → (g < w.scenario.generals) × Fits (program_of w.scenario g) part
   pub open_parts : length w.closed < suc w.scenario.bound → length w.parts ≡ w.scenario.generals
+  pub board : IsBoard w.words
   pub closed : length w.closed ≤ suc w.scenario.bound
   pub told : w.full ≡ true → (g : ℕ) → g < w.scenario.generals → program_of w.scenario g ≡ None → Tells w.scenario w.closed g

@@ -50,7 +50,7 @@ abbrev pub value_of : Scenario → List (List Letter) → ℕ → List ℕ → �
 value_of s before g u = heard (messages s before) s.order u g
 
 -- a context: 4,096 bytes, in them 32-bit numbers from the front, then zeros
-abbrev pub context_bytes : List ℕ → List ℕ
+unfoldable pub context_bytes : List ℕ → List ℕ
 context_bytes numbers = take 4096 (flat_map (little_bytes 4) numbers ++ replicate 4096 0)
 
 -- what a general is told when the round behind these begins

@@ -4,3 +4,4 @@ pub mod World
 pub mod Runs
 pub mod Lists
 pub mod Chronicle
+pub mod Laws

@@ -2,5 +2,7 @@
 #![tactic(auto)]
 
 mod event;
+mod laws;
 
 pub use event::Event;
+pub use laws::worlds_agree;
