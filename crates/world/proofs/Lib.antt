@@ -5,3 +5,6 @@ pub mod Faithful
 pub mod Rounds
 pub mod Punctual
 pub mod Agreeing
+pub mod Contexts
+pub mod Due
+pub mod Complete
