@@ -89,6 +89,10 @@ pub record IsDue (s : Scenario) (g : ℕ) (a : Activation) : Type 0 where
   pub within : left + a.state.steps ≤ length a.program
   pub going : IsGoing left a
 
+-- so it has taken no more steps than its program has instructions
+pub due_few : (s : Scenario) (g : ℕ) (a : Activation) → IsDue s g a → a.state.steps ≤ length a.program
+due_few s g a d = (let l = d.within in omega arith)
+
 abbrev pub Due : Scenario → ℕ → Part → Type 0
 Due s g (Acting a) = IsDue s g a
 Due s g Silent = Unit {0}

@@ -8,3 +8,5 @@ pub mod Agreeing
 pub mod Contexts
 pub mod Due
 pub mod Complete
+pub mod Lasting
+pub mod Untrapped

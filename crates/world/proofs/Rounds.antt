@@ -122,7 +122,7 @@ opening_kept s board = record {
   told = λ f g lt loyal k l. absurd (omega arith);
 }
 
-closing_kept : (w : World) → IsKept w → length w.closed < suc w.scenario.bound → IsKept (closing w)
+pub closing_kept : (w : World) → IsKept w → length w.closed < suc w.scenario.bound → IsKept (closing w)
 unfolding Suits
 closing_kept w k more =
     let s = w.scenario in
