@@ -16,7 +16,8 @@ use Rattle.world.specs.World.{Activation, Turn, Goes, Asks, Ended, turn, Part, A
 use Rattle.world.specs.Lists.{Throughout, AtClose, HasPosted, HasEnded, post_of, ticks_of}
 use Rattle.world.proofs.Kept.{Fits, IsKept}
 use Rattle.world.proofs.Listing.{set-here}
-use Rattle.world.proofs.Moves.{IsMove, AreMoves, moves-append, SameRound, moves_same, moves_board, run-append, turn_within, AllParts, IsLasting, moves_keep}
+use Rattle.world.specs.Laws.{IsMove, AreMoves, IsRipe}
+use Rattle.world.proofs.Moves.{moves-append, SameRound, moves_same, moves_board, run-append, turn_within, AllParts, IsLasting, moves_keep}
 use Rattle.world.proofs.Rounds.{run_kept}
 use Rattle.world.proofs.Due.{IsGoing, IsAfter, TurnsTo, turn_safe, going_zero, over_ended, ended_over, IsDue, Due, due_lasts}
 
@@ -199,10 +200,6 @@ unfolding ends
 ends_moves s = each_moves s.generals (λ g. ticks_of g (program_of s g)) (λ g. ticks_of_moves g (program_of s g))
 
 -- behind all posts and ticks the world is ripe
-pub record IsRipe (w : World) : Type 0 where
-  pub posted_all : (g : ℕ) (part : Part) → slice_get w.parts g ≡ Some part → HasPosted part
-  pub ended_all : (g : ℕ) (part : Part) → slice_get w.parts g ≡ Some part → HasEnded part
-
 pub ripens : (s : Scenario) (w : World) → w.scenario ≡ s → IsKept w → AllParts (Due s) w.parts → IsRipe (run (run w (posts s)) (ends s))
 unfolding posts ends FitsIn
 ripens s w is k due =

@@ -9,10 +9,11 @@ use Rattle.world.specs.Scenario.{Scenario, IsScenario, program_of}
 use Rattle.world.specs.World.{Part, Acting, Silent, Posted, World, begun, opening, round_open, round_letters, closing, happen, run}
 use Rattle.world.specs.Lists.{first_line, later_lines, Throughout, AtClose, HasPosted, HasEnded, IsPunctual, IsComplete, wound_up, event_of, listed_rounds, listed, ticks_named, names_events, replayed_rounds, replayed}
 use Rattle.world.proofs.Kept.{IsKept}
-use Rattle.world.proofs.Moves.{IsMove, AreMoves, moves-append, SameRound, moves_same, run-append, AllParts, moves_keep}
+use Rattle.world.specs.Laws.{IsMove, AreMoves}
+use Rattle.world.proofs.Moves.{moves-append, SameRound, moves_same, run-append, AllParts, moves_keep}
 use Rattle.world.proofs.Rounds.{run_kept, opening_kept, happen_kept}
 use Rattle.world.proofs.Due.{Due, due_lasts, due_parts}
-use Rattle.world.proofs.Complete.{throughout-append, moves_throughout, posts, ends, posts_moves, ends_moves, IsRipe, ripens, ticks_are_moves}
+use Rattle.world.proofs.Complete.{throughout-append, moves_throughout, posts, ends, posts_moves, ends_moves, ripens, ticks_are_moves}
 
 -- a world of the scenario whose activations end in time
 pub record IsOnTime (s : Scenario) (w : World) : Type 0 where

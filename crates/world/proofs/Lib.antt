@@ -10,3 +10,6 @@ pub mod Due
 pub mod Complete
 pub mod Lasting
 pub mod Untrapped
+pub mod Runnings
+pub mod Ways
+pub mod Deciding

@@ -1,6 +1,7 @@
 -- What ticks and posts keep.
 use Rattle.std.proofs.Common.{◌≡◌, ◌≢◌, ℕ, zero, suc, ◌+◌, ◌-◌, ◌<◌, ◌≤◌, List, [], ◌∷◌, ◌++◌, length, Bool, true, false, cond, refl, sym, ap, subst, ◌∙◌, ◌⊎◌, inl, inr, ⊎_elim, Option, Some, None, arith}
 use Rattle.std.specs.Prelude.{slice_get, slice_set}
+use Rattle.world.specs.Laws.{IsMove, AreMoves}
 use Rattle.world.proofs.Listing.{set-length}
 use Rattle.semantics.specs.declared.request.Request.{Request}
 use Rattle.semantics.specs.State.{State, Outcome, Next, Ask, Exit, Trap}
@@ -19,15 +20,6 @@ set-cases (y ∷ ys) zero zero v x e = inl (refl, (let f : Some v ≡ Some x = e
 set-cases (y ∷ ys) zero (suc j) v x e = inr ((λ h. omega arith), e)
 set-cases (y ∷ ys) (suc i) zero v x e = inr ((λ h. omega arith), e)
 set-cases (y ∷ ys) (suc i) (suc j) v x e = ⊎_elim (λ (h : (j ≡ i) × (x ≡ v)). inl (ap suc h.0, h.1)) (λ (h : (j ≢ i) × (slice_get ys j ≡ Some x)). inr ((λ s. h.0 (let r = s in omega arith)), h.1)) (set-cases ys i j v x e)
-
-abbrev pub IsMove : Event → Type 0
-IsMove (Tick g) = Unit {0}
-IsMove (Post g) = Unit {0}
-IsMove Close = ⊥
-
-abbrev pub AreMoves : List Event → Type 0
-AreMoves [] = Unit {0}
-AreMoves (e ∷ es) = IsMove e × AreMoves es
 
 pub moves-append : (es fs : List Event) → AreMoves es → AreMoves fs → AreMoves (es ++ fs)
 moves-append [] fs a b = b

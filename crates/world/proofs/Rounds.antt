@@ -20,7 +20,8 @@ use Rattle.world.specs.Chronicle.{decision}
 use Rattle.world.proofs.Kept.{Fits, Tells, IsKept}
 use Rattle.world.proofs.Listing.{each-find, each-get_only, each-length, all-at, take-front, take-whole, get_or-left, get_or-seam, either_way}
 use Rattle.world.proofs.Faithful.{faithful}
-use Rattle.world.proofs.Moves.{IsMove, SameRound, move_same, AllParts, IsLasting, move_keeps, move_board}
+use Rattle.world.specs.Laws.{IsMove}
+use Rattle.world.proofs.Moves.{SameRound, move_same, AllParts, IsLasting, move_keeps, move_board}
 
 Suits : Scenario → ℕ → Part → Type 0
 Suits s g part = (g < s.generals) × Fits (program_of s g) part

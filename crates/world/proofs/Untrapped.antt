@@ -12,9 +12,9 @@ use Rattle.world.specs.declared.event.Event.TheVariants.{Tick, Post, Close}
 use Rattle.world.specs.Scenario.{Scenario, IsScenario, program_of}
 use Rattle.world.specs.Letters.{Letter, loyal_letter}
 use Rattle.world.specs.World.{Activation, Part, Acting, Silent, Posted, World, each, begun, opening, round_open, letters_at, round_letters, closing, happen, run}
-use Rattle.world.specs.Laws.{IsShort}
+use Rattle.world.specs.Laws.{IsMove, IsShort}
 use Rattle.world.proofs.Kept.{IsKept}
-use Rattle.world.proofs.Moves.{AllParts, IsMove, move_same}
+use Rattle.world.proofs.Moves.{AllParts, move_same}
 use Rattle.world.proofs.Rounds.{closing_kept, happen_kept}
 use Rattle.world.proofs.Due.{IsDue, Due, due_parts}
 use Rattle.world.proofs.Lasting.{IsOnTime, moves_due, opening_due, few}

@@ -5,4 +5,4 @@ mod event;
 mod laws;
 
 pub use event::Event;
-pub use laws::{activations_are_safe, lists_are_complete, worlds_agree};
+pub use laws::{activations_are_safe, ledgers_decide, lists_are_complete, worlds_agree};
