@@ -19,14 +19,7 @@ use Rattle.semantics.specs.Outbox.{Choice}
 use Rattle.semantics.specs.Step.{assigned, changed, arrived, branched, exited}
 use Rattle.semantics.specs.Call.{below, pointer, copy_of, called, asked, sent}
 use Rattle.semantics.specs.Execution.{executed, fetched, step}
-
--- the words it names are on a board, and what it writes are words
-abbrev pub IsRequest : Request → Type 0
-IsRequest (Get slot) = slot < 64
-IsRequest (Swap slot value) = (slot < 64) × (value < 2 ^ 64)
-IsRequest (Add slot value) = slot < 64
-IsRequest (Cas slot expected new) = (slot < 64) × (new < 2 ^ 64)
-IsRequest (Copy span) = span.0 + span.1 ≤ 64
+use Rattle.board.specs.Requests.{IsRequest}
 
 abbrev AsksWithin : Outcome → Type 0
 AsksWithin (Ask request s) = IsRequest request

@@ -1,3 +1,4 @@
 pub mod Histories
 pub mod Asking
 pub mod Serving
+pub mod Keeping

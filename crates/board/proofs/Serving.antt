@@ -9,7 +9,7 @@ use Rattle.semantics.specs.declared.request.Request.{Request}
 use Rattle.semantics.specs.declared.request.Request.TheVariants.{Get, Swap, Add, Cas, Copy}
 use Rattle.semantics.specs.Call.{fits}
 use Rattle.board.specs.Board.{IsBoard, reply, next}
-use Rattle.board.proofs.Asking.{IsRequest}
+use Rattle.board.specs.Requests.{IsRequest}
 
 -- each is a word
 abbrev AreWords : List ℕ → Type 0

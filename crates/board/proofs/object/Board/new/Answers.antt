@@ -1,0 +1,8 @@
+use Rattle.std.proofs.Common.{◌≡◌, [], List, refl, sym, subst}
+use Rattle.board.specs.Board.{Access, IsLegal, words_after}
+use Rattle.board.specs.Ledger.{IsKept}
+use Rattle.board.proofs.Keeping.{kept_begun}
+use Rattle.board.proofs.object.Board.new.Goals as goal
+
+pub invariant_of-result : goal.invariant_of-result
+invariant_of-result c = kept_begun c.args.words c.new.result.items c.new.ensures.items c.tell_board.ensures
