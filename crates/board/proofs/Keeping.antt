@@ -1,6 +1,5 @@
 -- A board with one access more.
-use Rattle.std.proofs.Common.{◌≡◌, ℕ, List, [], ◌∷◌, ◌++◌, refl, sym, ap, subst, ◌∙◌}
-use Rattle.semantics.specs.declared.request.Request.{Request}
+use Rattle.std.proofs.Common.{◌≡◌, ℕ, List, [], ◌∷◌, ◌++◌, sym, ap, subst, ◌∙◌}
 use Rattle.board.specs.Board.{Access, IsBoard, reply, next, words_after, IsLegal}
 use Rattle.board.specs.Requests.{IsRequest}
 use Rattle.board.specs.Ledger.{IsKept}
@@ -14,7 +13,7 @@ kept_next opening words ledger more after entry pushed answered changed within k
   begun = k.begun;
   whole = subst (λ (ws : List ℕ). IsBoard ws) (sym changed) (next_board words entry.request k.whole within);
   legal = subst (λ (l : List Access). IsLegal opening l) (sym pushed)
-    (IsLegal-snoc opening ledger entry k.legal (answered ∙ ap (λ (ws : List ℕ). reply ws entry.request) k.left));
+      (IsLegal-snoc opening ledger entry k.legal (answered ∙ ap (λ (ws : List ℕ). reply ws entry.request) k.left));
   left = changed ∙ (ap (λ (ws : List ℕ). next ws entry.request) k.left ∙ (sym (words_after-snoc opening ledger entry) ∙ ap (words_after opening) (sym pushed)));
 }
 

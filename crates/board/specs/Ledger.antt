@@ -1,5 +1,5 @@
 -- A board with its ledger.
-use Rattle.std.specs.Prelude.{ℕ, ◌≡◌, List, length}
+use Rattle.std.specs.Prelude.{ℕ, ◌≡◌, List}
 use Rattle.board.specs.Board.{IsBoard, Access, IsLegal, words_after}
 
 pub record Kept : Type 0 where

@@ -36,7 +36,12 @@ impl Board {
         ensures ledger { result.ledger ≡ [] }
     {
         words::tell_board(&words);
-        Board { opening: words, words, ledger: Vec::new(alloc), alloc }
+        Board {
+            opening: words,
+            words,
+            ledger: Vec::new(alloc),
+            alloc,
+        }
     }
 
     /// Serves a general's request of a round, and enters it.
@@ -51,8 +56,13 @@ impl Board {
     {
         words::tell(&request);
         let alloc = self.alloc;
-        let reply = words::answer(alloc, self.words(), request)?;
-        let entry = Access { general, round, request, reply: words::answer(alloc, self.words(), request)? };
+        let reply = words::answer(alloc, &self.words, request)?;
+        let entry = Access {
+            general,
+            round,
+            request,
+            reply: words::answer(alloc, &self.words, request)?,
+        };
         self.ledger.push(entry)?;
         words::change(&mut self.words, request);
         Ok(reply)
@@ -78,7 +88,8 @@ impl Board {
         ensures same { result.now ≡ self.now.words }
         ensures left { self.now.words ≡ words_after self.now.opening self.now.ledger }
     {
-        &self.words
+        let Board { words, .. } = self;
+        words
     }
 
     /// The accesses, in their order.

@@ -37,11 +37,14 @@ fn tell_slot(slot: Slot)
 pub(crate) fn tell_board(words: &[u64])
     requires { length words.now ≡ 64 }
     ensures { IsBoard words.now }
-{
-}
+{}
 
 /// What the board answers.
-pub(crate) fn answer(alloc: Global, words: &[u64; 64], request: Request) -> Result<Reply, AllocError>
+pub(crate) fn answer(
+    alloc: Global,
+    words: &[u64; 64],
+    request: Request,
+) -> Result<Reply, AllocError>
     ensures { IfOk result (λ r. words_in r ≡ reply words.now request) }
 {
     match &request {
@@ -73,7 +76,11 @@ pub(crate) fn change(words: &mut [u64; 64], request: Request)
             let number = slot.number();
             words[number] = words[number].wrapping_add(*value);
         }
-        Request::Cas { slot, expected, new } => {
+        Request::Cas {
+            slot,
+            expected,
+            new,
+        } => {
             let number = slot.number();
             if words[number] == *expected {
                 words[number] = *new;

@@ -1,8 +1,6 @@
-use Rattle.std.proofs.Common.{◌≡◌, ◌++◌, ◌∷◌, [], true, List, ℕ, sym, ap, subst, ◌∙◌}
+use Rattle.std.proofs.Common.{◌≡◌, true, List, ℕ, sym, subst}
 use Rattle.semantics.specs.Call.{fits}
-use Rattle.board.specs.Board.{Access, IsBoard, reply, next, words_after, IsLegal}
-use Rattle.board.specs.Ledger.{IsKept}
-use Rattle.board.proofs.Serving.{reply_fits, next_board}
+use Rattle.board.proofs.Serving.{reply_fits}
 use Rattle.board.proofs.Keeping.{kept_next}
 use Rattle.board.proofs.object.Board.apply.Goals as goal
 

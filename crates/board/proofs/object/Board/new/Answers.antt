@@ -1,6 +1,3 @@
-use Rattle.std.proofs.Common.{◌≡◌, [], List, refl, sym, subst}
-use Rattle.board.specs.Board.{Access, IsLegal, words_after}
-use Rattle.board.specs.Ledger.{IsKept}
 use Rattle.board.proofs.Keeping.{kept_begun}
 use Rattle.board.proofs.object.Board.new.Goals as goal
 
