@@ -3,6 +3,7 @@ pub mod Memory
 pub mod Outbox
 pub mod Step
 pub mod Call
+pub mod Replies
 pub mod Execution
 pub mod Run
 pub mod Safety

@@ -2,6 +2,7 @@
 #![tactic(auto)]
 
 mod laws;
+mod reply;
 mod request;
 mod value;
 
@@ -9,5 +10,6 @@ pub use laws::{
     reached_is_run, reached_is_safe, runs_stay_over, some_are_plain_and_sound,
     sound_is_safe_at_entry, states_stay_whole, steps_are_counted,
 };
+pub use reply::Reply;
 pub use request::{Helper, Request, Slot, Span};
 pub use value::{Cell, Region, Value};

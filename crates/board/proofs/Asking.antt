@@ -1,0 +1,151 @@
+-- What a step asks lies within the board.
+use Rattle.std.proofs.Common.{◌≡◌, ℕ, ℤ, pos, ◌+◌, ◌-◌, ◌*◌, ◌^◌, ◌<◌, ◌≤◌, List, Bool, true, false, refl, subst}
+use Rattle.std.specs.Prelude.{Option, Some, None, Result, Ok, Err, if◌then◌else◌, nat_lt, nat_le, ◌==◌}
+use Rattle.std.proofs.lemmas.Bool.{ltb-true, leb-true}
+use Rattle.insn.specs.declared.insn.Insn.{Insn}
+use Rattle.insn.specs.declared.insn.Insn.TheVariants as i
+use Rattle.insn.specs.Program.{instruction_at}
+use Rattle.label.specs.declared.shape.Shape.{Shape}
+use Rattle.semantics.specs.declared.value.Value.{Value}
+use Rattle.semantics.specs.declared.value.Value.TheVariants.{Unset, Number, Pointer}
+use Rattle.semantics.specs.declared.value.Cell.{Cell}
+use Rattle.semantics.specs.declared.request.Helper.{Helper}
+use Rattle.semantics.specs.declared.request.Helper.TheVariants.{BoardGet, BoardSwap, BoardAdd, BoardCas, BoardCopy, Send, SendRow, Sway, Honest}
+use Rattle.semantics.specs.declared.request.Request.{Request}
+use Rattle.semantics.specs.declared.request.Request.TheVariants.{Get, Swap, Add, Cas, Copy}
+use Rattle.semantics.specs.State.{Cause, State, Outcome, Next, Ask, Exit, Trap, value_at, given}
+use Rattle.semantics.specs.Memory.{stack_place}
+use Rattle.semantics.specs.Outbox.{Choice}
+use Rattle.semantics.specs.Step.{assigned, changed, arrived, branched, exited}
+use Rattle.semantics.specs.Call.{below, pointer, copy_of, called, asked, sent}
+use Rattle.semantics.specs.Execution.{executed, fetched, step}
+use Rattle.board.specs.Requests.{IsRequest}
+
+abbrev AsksWithin : Outcome → Type 0
+AsksWithin (Ask request s) = IsRequest request
+AsksWithin (Next s) = Unit {0}
+AsksWithin (Exit r0 s) = Unit {0}
+AsksWithin (Trap cause) = Unit {0}
+
+abbrev Within : Result Request Cause → Type 0
+Within (Ok request) = IsRequest request
+Within (Err cause) = Unit {0}
+
+asked_within : (s : State) (r : Result Request Cause) → Within r → AsksWithin (asked s r)
+asked_within s (Ok request) h = h
+asked_within s (Err cause) h = tt
+
+below_within : (bound : ℕ) (v : Value) (k : ℕ → Result Request Cause) → ((n : ℕ) → n < bound → Within (k n)) → Within (given (below bound v) k)
+below_within bound Unset k h = tt
+below_within bound (Number n) k h = by (nat_lt n bound) (λ lt. h n (ltb-true n bound lt))
+  where
+    by : (b : Bool) → (b ≡ true → Within (k n)) → Within (given (if b then Ok n else Err Cause.Argument) k)
+    by true h = h refl
+    by false h = tt
+below_within bound (Pointer region offset) k h = tt
+
+pointer_within : (v : Value) (k : Value → Result Request Cause) → ((p : Value) → Within (k p)) → Within (given (pointer v) k)
+pointer_within Unset k h = tt
+pointer_within (Number n) k h = tt
+pointer_within (Pointer region offset) k h = h (Pointer region offset)
+
+copy_within : (slot : ℕ) (to : Value) (count : ℕ) → Within (copy_of slot to count)
+copy_within slot to count = by (nat_le (slot + count) 64) (λ le. leb-true (slot + count) 64 le) (stack_place to (pos 0) (8 * count))
+  where
+    by : (b : Bool) → (b ≡ true → slot + count ≤ 64) → (r : Result ℕ Cause) → Within (if b then given r (λ place. Ok (Copy (slot, count))) else Err Cause.Argument)
+    by true h (Ok place) = h refl
+    by true h (Err cause) = tt
+    by false h r = tt
+
+either_within : (s t : State) (cause : Cause) (b : Bool) → AsksWithin (if b then Trap cause else Next t)
+either_within s t cause true = tt
+either_within s t cause false = tt
+
+assigned_within : (s : State) (dst units : ℕ) (r : Result Value Cause) → AsksWithin (assigned s dst units r)
+assigned_within s dst units (Err cause) = tt
+assigned_within s dst units (Ok value) = either_within s _ _ (dst == 10)
+
+changed_within : (s : State) (r : Result (List Cell) Cause) → AsksWithin (changed s r)
+changed_within s (Err cause) = tt
+changed_within s (Ok cells) = tt
+
+arrived_within : (s : State) (z : ℤ) → AsksWithin (arrived s z)
+arrived_within s (pos unit) = tt
+arrived_within s (ℤ.negsuc unit) = tt
+
+branched_within : (s : State) (distance : ℤ) (r : Result Bool Cause) → AsksWithin (branched s distance r)
+branched_within s distance (Err cause) = tt
+branched_within s distance (Ok true) = arrived_within s _
+branched_within s distance (Ok false) = tt
+
+exited_within : (s : State) (r : Result ℕ Cause) → AsksWithin (exited s r)
+exited_within s (Err cause) = tt
+exited_within s (Ok n) = tt
+
+sent_within : (shape : Shape) (s : State) (r0 : ℕ → ℕ) (r : Result Choice Cause) → AsksWithin (sent shape s r0 r)
+sent_within shape s r0 (Err cause) = tt
+sent_within shape s r0 (Ok choice) = tt
+
+get_within : (a : Value) → Within (given (below 64 a) (λ slot. Ok (Get slot)))
+get_within a = below_within 64 a (λ slot. Ok (Get slot)) (λ slot lt. lt)
+
+swap_within : (a b : Value) → Within (given (below 64 a) (λ slot. given (below (2 ^ 64) b) (λ value. Ok (Swap slot value))))
+swap_within a b =
+    below_within 64 a (λ slot. given (below (2 ^ 64) b) (λ value. Ok (Swap slot value))) (λ slot lt.
+    below_within (2 ^ 64) b (λ value. Ok (Swap slot value)) (λ value small. (lt, small)))
+
+add_within : (a b : Value) → Within (given (below 64 a) (λ slot. given (below (2 ^ 64) b) (λ value. Ok (Add slot value))))
+add_within a b =
+    below_within 64 a (λ slot. given (below (2 ^ 64) b) (λ value. Ok (Add slot value))) (λ slot lt.
+    below_within (2 ^ 64) b (λ value. Ok (Add slot value)) (λ value small. lt))
+
+cas_within : (a b c : Value) → Within (given (below 64 a) (λ slot. given (below (2 ^ 64) b) (λ expected. given (below (2 ^ 64) c) (λ new. Ok (Cas slot expected new)))))
+cas_within a b c =
+    below_within 64 a (λ slot. given (below (2 ^ 64) b) (λ expected. given (below (2 ^ 64) c) (λ new. Ok (Cas slot expected new)))) (λ slot lt.
+    below_within (2 ^ 64) b (λ expected. given (below (2 ^ 64) c) (λ new. Ok (Cas slot expected new))) (λ expected e.
+    below_within (2 ^ 64) c (λ new. Ok (Cas slot expected new)) (λ new small. (lt, small))))
+
+copies_within : (a b c : Value) → Within (given (below 64 a) (λ slot. given (pointer b) (λ to. given (below 65 c) (λ count. copy_of slot to count))))
+copies_within a b c =
+    below_within 64 a (λ slot. given (pointer b) (λ to. given (below 65 c) (λ count. copy_of slot to count))) (λ slot lt.
+    pointer_within b (λ to. given (below 65 c) (λ count. copy_of slot to count)) (λ to.
+    below_within 65 c (λ count. copy_of slot to count) (λ count few. copy_within slot to count)))
+
+called_within : (context : List ℕ) (shape : Shape) (s : State) (h : Option Helper) → AsksWithin (called context shape s h)
+called_within context shape s None = tt
+called_within context shape s (Some BoardGet) = asked_within s _ (get_within (value_at s.registers 1))
+called_within context shape s (Some BoardSwap) = asked_within s _ (swap_within (value_at s.registers 1) (value_at s.registers 2))
+called_within context shape s (Some BoardAdd) = asked_within s _ (add_within (value_at s.registers 1) (value_at s.registers 2))
+called_within context shape s (Some BoardCas) = asked_within s _ (cas_within (value_at s.registers 1) (value_at s.registers 2) (value_at s.registers 3))
+called_within context shape s (Some BoardCopy) = asked_within s _ (copies_within (value_at s.registers 1) (value_at s.registers 2) (value_at s.registers 3))
+called_within context shape s (Some Send) = sent_within shape s (λ set. 1 - set) _
+called_within context shape s (Some SendRow) = sent_within shape s (λ set. set) _
+called_within context shape s (Some Sway) = sent_within shape s (λ set. set) _
+called_within context shape s (Some Honest) = sent_within shape s (λ set. set) _
+
+executed_within : (context : List ℕ) (shape : Shape) (insn : Insn) (s : State) → AsksWithin (executed context shape insn s)
+executed_within context shape (i.Arithmetic width operation dst operand) s = assigned_within s dst 1 _
+executed_within context shape (i.Negate width dst) s = assigned_within s dst 1 _
+executed_within context shape (i.SignExtend width part dst src) s = assigned_within s dst 1 _
+executed_within context shape (i.Swap order size dst) s = assigned_within s dst 1 _
+executed_within context shape (i.LoadNumber dst number) s = assigned_within s dst 2 (Ok (Number number))
+executed_within context shape (i.Jump distance) s = arrived_within s _
+executed_within context shape (i.LongJump distance) s = arrived_within s _
+executed_within context shape (i.Branch width condition dst operand distance) s = branched_within s distance _
+executed_within context shape (i.Load size dst base offset) s = assigned_within s dst 1 _
+executed_within context shape (i.LoadSigned part dst base offset) s = assigned_within s dst 1 _
+executed_within context shape (i.Store size base offset source) s = changed_within s _
+executed_within context shape (i.Call helper) s = called_within context shape s _
+executed_within context shape i.Exit s = exited_within s _
+
+fetched_within : (context : List ℕ) (shape : Shape) (o : Option Insn) (s : State) → AsksWithin (fetched context shape o s)
+fetched_within context shape None s = tt
+fetched_within context shape (Some insn) s = executed_within context shape insn s
+
+step_within : (program : List Insn) (context : List ℕ) (shape : Shape) (s : State) → AsksWithin (step program context shape s)
+unfolding step
+step_within program context shape s = fetched_within context shape (instruction_at program s.unit) s
+
+-- what a step asks lies within the board
+pub asks_within : (program : List Insn) (context : List ℕ) (shape : Shape) (s t : State) (request : Request) → step program context shape s ≡ Ask request t → IsRequest request
+asks_within program context shape s t request e = subst (λ (o : Outcome). AsksWithin o) e (step_within program context shape s)

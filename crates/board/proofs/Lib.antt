@@ -1,0 +1,4 @@
+pub mod Histories
+pub mod Asking
+pub mod Serving
+pub mod Keeping

@@ -1,0 +1,103 @@
+ghost use Rattle.std.specs.Prelude.{◌≡◌, ◌++◌, ◌∷◌, [], true, List, IfOk, OnOk, OnErr};
+ghost use Rattle.semantics.specs.Call.{fits};
+ghost use Rattle.semantics.specs.Replies.{words_in};
+ghost use Rattle.board.specs.Board.{reply, next, IsLegal, words_after};
+
+use crate::access::Access;
+use crate::words;
+use semantics::{Reply, Request};
+use std::alloc::{AllocError, Global};
+use std::marker::Model;
+
+/// A board of 64 words of 64 bits, with the ledger of all its accesses.
+#[derive(Debug, Drop)]
+pub struct Board {
+    opening: [u64; 64],
+    words: [u64; 64],
+    ledger: Vec<Access>,
+    alloc: Global,
+}
+
+impl Model for Board {
+    ghost use Rattle.board.specs.Ledger.{Kept, IsKept};
+
+    ghost Value = { Kept };
+
+    ghost view = { λ b. record { opening = b.opening; words = b.words; ledger = b.ledger.items } };
+
+    ghost invariant = { λ b. IsKept b.opening b.words b.ledger.items };
+}
+
+impl Board {
+    /// A board that opens with these words, and no access yet.
+    pub fn new(alloc: Global, words: [u64; 64]) -> Board
+        ensures opening { result.opening ≡ words }
+        ensures words { result.words ≡ words }
+        ensures ledger { result.ledger ≡ [] }
+    {
+        words::tell_board(&words);
+        Board {
+            opening: words,
+            words,
+            ledger: Vec::new(alloc),
+            alloc,
+        }
+    }
+
+    /// Serves a general's request of a round, and enters it.
+    pub fn apply(&mut self, general: u32, round: u32, request: Request) -> Result<Reply, AllocError>
+        ensures answer { IfOk result (λ r. words_in r ≡ reply self.old.words request) }
+        ensures fits { IfOk result (λ r. fits request (words_in r) ≡ true) }
+        ensures words { OnOk result (self.new.words ≡ next self.old.words request) }
+        ensures entered { OnOk result
+            (self.new.ledger ≡ self.old.ledger ++ record { general = general; round = round; request = request; reply = reply self.old.words request } ∷ []) }
+        ensures opening { self.new.opening ≡ self.old.opening }
+        ensures unserved { OnErr result (self.new ≡ self.old) }
+    {
+        words::tell(&request);
+        let alloc = self.alloc;
+        let reply = words::answer(alloc, &self.words, request)?;
+        let entry = Access {
+            general,
+            round,
+            request,
+            reply: words::answer(alloc, &self.words, request)?,
+        };
+        self.ledger.push(entry)?;
+        words::change(&mut self.words, request);
+        Ok(reply)
+    }
+
+    /// The accesses so far, in their order.
+    pub fn ledger(&self) -> &[Access]
+        ensures same { result.now ≡ self.now.ledger }
+        ensures legal { IsLegal self.now.opening self.now.ledger }
+    {
+        self.ledger.as_slice()
+    }
+
+    /// The words that it opened with.
+    pub fn opening(&self) -> &[u64; 64]
+        ensures { result.now ≡ self.now.opening }
+    {
+        &self.opening
+    }
+
+    /// Its words.
+    pub fn words(&self) -> &[u64; 64]
+        ensures same { result.now ≡ self.now.words }
+        ensures left { self.now.words ≡ words_after self.now.opening self.now.ledger }
+    {
+        let Board { words, .. } = self;
+        words
+    }
+
+    /// The accesses, in their order.
+    pub fn into_ledger(self) -> Vec<Access>
+        ensures same { result.items ≡ self.ledger }
+        ensures legal { IsLegal self.opening self.ledger }
+    {
+        let Board { ledger, .. } = self;
+        ledger
+    }
+}

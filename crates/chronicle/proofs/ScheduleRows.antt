@@ -1,0 +1,296 @@
+-- Campaigns of seven generals under schedules, from the scenario to the chronicle's text. The right sides come from a model of its own.
+use Rattle.std.specs.Prelude.{ℕ, pos, negsuc, ◌≡◌, List, [], ◌∷◌, ◌++◌, flat_map, replicate, codes, Option, None, Some, refl}
+use Rattle.std.specs.Fmt.{digits}
+use Rattle.word.specs.declared.Width.TheVariants.{W64}
+use Rattle.word.specs.declared.Operation.TheVariants as op
+use Rattle.insn.specs.declared.insn.Insn.{Insn}
+use Rattle.insn.specs.declared.insn.Insn.TheVariants as i
+use Rattle.insn.specs.declared.insn.Operand.TheVariants.{Register, Immediate}
+use Rattle.combine.specs.Rule.{majority}
+use Rattle.label.specs.Labels.{labels}
+use Rattle.label.specs.Oral.{om}
+use Rattle.semantics.specs.Execution.{step}
+use Rattle.world.specs.Scenario.{Scenario}
+use Rattle.world.specs.Letters.{context_bytes, messages}
+use Rattle.world.specs.World.{opening, run}
+use Rattle.world.specs.Lists.{listed}
+use Rattle.world.specs.Chronicle.{decisions, chronicle_of}
+use Rattle.chronicle.specs.Text.{lines_of, text_of}
+
+-- the text that a campaign prints under a schedule
+abbrev printed : Scenario → List (List ℕ) → List ℕ
+printed s schedule = text_of (chronicle_of (run (opening s) (listed s schedule)))
+
+-- lines, each with its LF
+abbrev lines : List (List ℕ) → List ℕ
+lines ls = flat_map (λ l. l ++ 10 ∷ []) ls
+
+-- he adds 1 to a word of the board, and tells generals 1, 2 and 3 the lowest bit of what it was
+counter : List Insn
+counter =
+    i.Arithmetic W64 op.Move 1 (Immediate (pos 0))
+    ∷ i.Arithmetic W64 op.Move 2 (Immediate (pos 1))
+    ∷ i.Call (pos 3)
+    ∷ i.Arithmetic W64 op.Move 6 (Register 0)
+    ∷ i.Arithmetic W64 op.And 6 (Immediate (pos 1))
+    ∷ i.Arithmetic W64 op.Move 1 (Immediate (pos 1))
+    ∷ i.Arithmetic W64 op.Move 2 (Register 6)
+    ∷ i.Call (pos 8)
+    ∷ i.Arithmetic W64 op.Move 1 (Immediate (pos 2))
+    ∷ i.Arithmetic W64 op.Move 2 (Register 6)
+    ∷ i.Call (pos 8)
+    ∷ i.Arithmetic W64 op.Move 1 (Immediate (pos 3))
+    ∷ i.Arithmetic W64 op.Move 2 (Register 6)
+    ∷ i.Call (pos 8)
+    ∷ i.Exit
+    ∷ []
+
+-- seven generals under a traitor, another among the lieutenants
+seven : Scenario
+seven = record { generals = 7; bound = 2; commander = 0; order = 0; board = replicate 64 0; programs = Some counter ∷ None ∷ None ∷ None ∷ Some counter ∷ None ∷ None ∷ [] }
+
+-- without a schedule general 0 comes first
+seven_generals : printed seven ([]) ≡ lines (
+    codes "chronicle 1"
+    ∷ codes "generals 7 bound 2 commander 0 order 0"
+    ∷ codes "round 1"
+    ∷ codes "access 0 add 0 1 = 0"
+    ∷ codes "access 4 add 0 1 = 1"
+    ∷ codes "letter 0 steps 15"
+    ∷ codes "row 0 0 0 0 - - -"
+    ∷ codes "letter 1 loyal"
+    ∷ codes "letter 2 loyal"
+    ∷ codes "letter 3 loyal"
+    ∷ codes "letter 4 steps 15"
+    ∷ codes "letter 5 loyal"
+    ∷ codes "letter 6 loyal"
+    ∷ codes "round 2"
+    ∷ codes "access 0 add 0 1 = 2"
+    ∷ codes "access 4 add 0 1 = 3"
+    ∷ codes "letter 0 steps 15"
+    ∷ codes "letter 1 loyal"
+    ∷ codes "row 0 0 0 0 0 0"
+    ∷ codes "letter 2 loyal"
+    ∷ codes "row 0 0 0 0 0 0"
+    ∷ codes "letter 3 loyal"
+    ∷ codes "row 0 0 0 0 0 0"
+    ∷ codes "letter 4 steps 15"
+    ∷ codes "row 0 1 1 1 - -"
+    ∷ codes "letter 5 loyal"
+    ∷ codes "row 0 0 0 0 0 0"
+    ∷ codes "letter 6 loyal"
+    ∷ codes "row 0 0 0 0 0 0"
+    ∷ codes "round 3"
+    ∷ codes "access 0 add 0 1 = 4"
+    ∷ codes "access 4 add 0 1 = 5"
+    ∷ codes "letter 0 steps 15"
+    ∷ codes "letter 1 loyal"
+    ∷ codes "row 0 0 0 0 0"
+    ∷ codes "row 1 0 0 0 0"
+    ∷ codes "row 2 1 1 1 1"
+    ∷ codes "row 3 0 0 0 0"
+    ∷ codes "row 4 0 0 0 0"
+    ∷ codes "letter 2 loyal"
+    ∷ codes "row 0 0 0 0 0"
+    ∷ codes "row 1 0 0 0 0"
+    ∷ codes "row 2 1 1 1 1"
+    ∷ codes "row 3 0 0 0 0"
+    ∷ codes "row 4 0 0 0 0"
+    ∷ codes "letter 3 loyal"
+    ∷ codes "row 0 0 0 0 0"
+    ∷ codes "row 1 0 0 0 0"
+    ∷ codes "row 2 1 1 1 1"
+    ∷ codes "row 3 0 0 0 0"
+    ∷ codes "row 4 0 0 0 0"
+    ∷ codes "letter 4 steps 15"
+    ∷ codes "row 0 1 1 - -"
+    ∷ codes "row 1 1 1 - -"
+    ∷ codes "row 2 1 1 - -"
+    ∷ codes "row 3 1 1 1 -"
+    ∷ codes "row 4 1 1 1 -"
+    ∷ codes "letter 5 loyal"
+    ∷ codes "row 0 0 0 0 0"
+    ∷ codes "row 1 0 0 0 0"
+    ∷ codes "row 2 0 0 0 0"
+    ∷ codes "row 3 0 0 0 0"
+    ∷ codes "row 4 0 0 0 0"
+    ∷ codes "letter 6 loyal"
+    ∷ codes "row 0 0 0 0 0"
+    ∷ codes "row 1 0 0 0 0"
+    ∷ codes "row 2 0 0 0 0"
+    ∷ codes "row 3 0 0 0 0"
+    ∷ codes "row 4 0 0 0 0"
+    ∷ codes "decision 1 0"
+    ∷ codes "decision 2 0"
+    ∷ codes "decision 3 0"
+    ∷ codes "decision 4 traitor 0"
+    ∷ codes "decision 5 0"
+    ∷ codes "decision 6 0"
+    ∷ codes "verdict alike yes obeyed - bound yes"
+    ∷ [])
+unfolding seven counter labels om majority context_bytes messages decisions lines_of text_of step digits
+seven_generals = refl
+
+-- a line for the first round puts general 4 in front there
+first_round : printed seven (replicate 15 4 ∷ []) ≡ lines (
+    codes "chronicle 1"
+    ∷ codes "generals 7 bound 2 commander 0 order 0"
+    ∷ codes "round 1"
+    ∷ codes "access 4 add 0 1 = 0"
+    ∷ codes "access 0 add 0 1 = 1"
+    ∷ codes "letter 0 steps 15"
+    ∷ codes "row 0 1 1 1 - - -"
+    ∷ codes "letter 1 loyal"
+    ∷ codes "letter 2 loyal"
+    ∷ codes "letter 3 loyal"
+    ∷ codes "letter 4 steps 15"
+    ∷ codes "letter 5 loyal"
+    ∷ codes "letter 6 loyal"
+    ∷ codes "round 2"
+    ∷ codes "access 0 add 0 1 = 2"
+    ∷ codes "access 4 add 0 1 = 3"
+    ∷ codes "letter 0 steps 15"
+    ∷ codes "letter 1 loyal"
+    ∷ codes "row 0 1 1 1 1 1"
+    ∷ codes "letter 2 loyal"
+    ∷ codes "row 0 1 1 1 1 1"
+    ∷ codes "letter 3 loyal"
+    ∷ codes "row 0 1 1 1 1 1"
+    ∷ codes "letter 4 steps 15"
+    ∷ codes "row 0 1 1 1 - -"
+    ∷ codes "letter 5 loyal"
+    ∷ codes "row 0 0 0 0 0 0"
+    ∷ codes "letter 6 loyal"
+    ∷ codes "row 0 0 0 0 0 0"
+    ∷ codes "round 3"
+    ∷ codes "access 0 add 0 1 = 4"
+    ∷ codes "access 4 add 0 1 = 5"
+    ∷ codes "letter 0 steps 15"
+    ∷ codes "letter 1 loyal"
+    ∷ codes "row 0 1 1 1 1"
+    ∷ codes "row 1 1 1 1 1"
+    ∷ codes "row 2 1 1 1 1"
+    ∷ codes "row 3 0 0 0 0"
+    ∷ codes "row 4 0 0 0 0"
+    ∷ codes "letter 2 loyal"
+    ∷ codes "row 0 1 1 1 1"
+    ∷ codes "row 1 1 1 1 1"
+    ∷ codes "row 2 1 1 1 1"
+    ∷ codes "row 3 0 0 0 0"
+    ∷ codes "row 4 0 0 0 0"
+    ∷ codes "letter 3 loyal"
+    ∷ codes "row 0 1 1 1 1"
+    ∷ codes "row 1 1 1 1 1"
+    ∷ codes "row 2 1 1 1 1"
+    ∷ codes "row 3 0 0 0 0"
+    ∷ codes "row 4 0 0 0 0"
+    ∷ codes "letter 4 steps 15"
+    ∷ codes "row 0 1 1 - -"
+    ∷ codes "row 1 1 1 - -"
+    ∷ codes "row 2 1 1 - -"
+    ∷ codes "row 3 1 1 1 -"
+    ∷ codes "row 4 1 1 1 -"
+    ∷ codes "letter 5 loyal"
+    ∷ codes "row 0 1 1 1 1"
+    ∷ codes "row 1 1 1 1 1"
+    ∷ codes "row 2 1 1 1 1"
+    ∷ codes "row 3 0 0 0 0"
+    ∷ codes "row 4 0 0 0 0"
+    ∷ codes "letter 6 loyal"
+    ∷ codes "row 0 1 1 1 1"
+    ∷ codes "row 1 1 1 1 1"
+    ∷ codes "row 2 1 1 1 1"
+    ∷ codes "row 3 0 0 0 0"
+    ∷ codes "row 4 0 0 0 0"
+    ∷ codes "decision 1 1"
+    ∷ codes "decision 2 1"
+    ∷ codes "decision 3 1"
+    ∷ codes "decision 4 traitor 0"
+    ∷ codes "decision 5 1"
+    ∷ codes "decision 6 1"
+    ∷ codes "verdict alike yes obeyed - bound yes"
+    ∷ [])
+unfolding seven counter labels om majority context_bytes messages decisions lines_of text_of step digits
+first_round = refl
+
+-- and one for the second there too
+two_rounds : printed seven (replicate 15 4 ∷ replicate 15 4 ∷ []) ≡ lines (
+    codes "chronicle 1"
+    ∷ codes "generals 7 bound 2 commander 0 order 0"
+    ∷ codes "round 1"
+    ∷ codes "access 4 add 0 1 = 0"
+    ∷ codes "access 0 add 0 1 = 1"
+    ∷ codes "letter 0 steps 15"
+    ∷ codes "row 0 1 1 1 - - -"
+    ∷ codes "letter 1 loyal"
+    ∷ codes "letter 2 loyal"
+    ∷ codes "letter 3 loyal"
+    ∷ codes "letter 4 steps 15"
+    ∷ codes "letter 5 loyal"
+    ∷ codes "letter 6 loyal"
+    ∷ codes "round 2"
+    ∷ codes "access 4 add 0 1 = 2"
+    ∷ codes "access 0 add 0 1 = 3"
+    ∷ codes "letter 0 steps 15"
+    ∷ codes "letter 1 loyal"
+    ∷ codes "row 0 1 1 1 1 1"
+    ∷ codes "letter 2 loyal"
+    ∷ codes "row 0 1 1 1 1 1"
+    ∷ codes "letter 3 loyal"
+    ∷ codes "row 0 1 1 1 1 1"
+    ∷ codes "letter 4 steps 15"
+    ∷ codes "row 0 0 0 0 - -"
+    ∷ codes "letter 5 loyal"
+    ∷ codes "row 0 0 0 0 0 0"
+    ∷ codes "letter 6 loyal"
+    ∷ codes "row 0 0 0 0 0 0"
+    ∷ codes "round 3"
+    ∷ codes "access 0 add 0 1 = 4"
+    ∷ codes "access 4 add 0 1 = 5"
+    ∷ codes "letter 0 steps 15"
+    ∷ codes "letter 1 loyal"
+    ∷ codes "row 0 1 1 1 1"
+    ∷ codes "row 1 1 1 1 1"
+    ∷ codes "row 2 0 0 0 0"
+    ∷ codes "row 3 0 0 0 0"
+    ∷ codes "row 4 0 0 0 0"
+    ∷ codes "letter 2 loyal"
+    ∷ codes "row 0 1 1 1 1"
+    ∷ codes "row 1 1 1 1 1"
+    ∷ codes "row 2 0 0 0 0"
+    ∷ codes "row 3 0 0 0 0"
+    ∷ codes "row 4 0 0 0 0"
+    ∷ codes "letter 3 loyal"
+    ∷ codes "row 0 1 1 1 1"
+    ∷ codes "row 1 1 1 1 1"
+    ∷ codes "row 2 0 0 0 0"
+    ∷ codes "row 3 0 0 0 0"
+    ∷ codes "row 4 0 0 0 0"
+    ∷ codes "letter 4 steps 15"
+    ∷ codes "row 0 1 1 - -"
+    ∷ codes "row 1 1 1 - -"
+    ∷ codes "row 2 1 1 - -"
+    ∷ codes "row 3 1 1 1 -"
+    ∷ codes "row 4 1 1 1 -"
+    ∷ codes "letter 5 loyal"
+    ∷ codes "row 0 1 1 1 1"
+    ∷ codes "row 1 1 1 1 1"
+    ∷ codes "row 2 1 1 1 1"
+    ∷ codes "row 3 0 0 0 0"
+    ∷ codes "row 4 0 0 0 0"
+    ∷ codes "letter 6 loyal"
+    ∷ codes "row 0 1 1 1 1"
+    ∷ codes "row 1 1 1 1 1"
+    ∷ codes "row 2 1 1 1 1"
+    ∷ codes "row 3 0 0 0 0"
+    ∷ codes "row 4 0 0 0 0"
+    ∷ codes "decision 1 0"
+    ∷ codes "decision 2 0"
+    ∷ codes "decision 3 0"
+    ∷ codes "decision 4 traitor 0"
+    ∷ codes "decision 5 0"
+    ∷ codes "decision 6 0"
+    ∷ codes "verdict alike yes obeyed - bound yes"
+    ∷ [])
+unfolding seven counter labels om majority context_bytes messages decisions lines_of text_of step digits
+two_rounds = refl

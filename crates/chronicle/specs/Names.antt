@@ -1,0 +1,35 @@
+-- Who makes the accesses of each round, as a text tells it (own).
+use Rattle.std.specs.Prelude.{ℕ, ◌==◌, cond, List, [], ◌∷◌, ◌++◌, map, filter, decimal, codes, bytes_eq}
+use Rattle.label.specs.Labels.{generals}
+use Rattle.chronicle.specs.Text.{Word, Line}
+
+-- the pieces between separators
+abbrev pub before_first : ℕ → List (List ℕ) → List (List ℕ)
+before_first c [] = (c ∷ []) ∷ []
+before_first c (w ∷ ws) = (c ∷ w) ∷ ws
+
+abbrev pub split : ℕ → List ℕ → List (List ℕ)
+split separator [] = [] ∷ []
+split separator (c ∷ cs) = cond (c == separator) ([] ∷ split separator cs) (before_first c (split separator cs))
+
+-- the general of this number, if he is one
+abbrev pub general_of : Word → List ℕ
+general_of w = filter (λ g. bytes_eq (decimal g) w) (generals 13)
+
+-- the names before the first line of a round, and those of each round
+abbrev pub Named : Type 0
+Named = List ℕ × List (List ℕ)
+
+abbrev pub with_line : Line → Named → Named
+with_line (w ∷ v ∷ vs) rest =
+    cond (bytes_eq w (codes "round")) ([], rest.0 ∷ rest.1)
+    (cond (bytes_eq w (codes "access")) (general_of v ++ rest.0, rest.1) rest)
+with_line _ rest = rest
+
+abbrev pub named : List Line → Named
+named [] = ([], [])
+named (l ∷ ls) = with_line l (named ls)
+
+-- for each round line of a text, the names of the access lines behind it
+unfoldable pub names_of : List ℕ → List (List ℕ)
+names_of t = (named (map (split 32) (split 10 t))).1

@@ -1,0 +1,8 @@
+-- The words of a reply.
+use Rattle.std.specs.Prelude.{ℕ, List, [], ◌∷◌}
+use Rattle.semantics.specs.declared.reply.Reply.{Reply}
+use Rattle.semantics.specs.declared.reply.Reply.TheVariants.{Word, Words}
+
+abbrev pub words_in : Reply → List ℕ
+words_in (Word word) = word ∷ []
+words_in (Words words) = words.items

@@ -1,0 +1,15 @@
+pub mod Listing
+pub mod Kept
+pub mod Moves
+pub mod Faithful
+pub mod Rounds
+pub mod Punctual
+pub mod Agreeing
+pub mod Contexts
+pub mod Due
+pub mod Complete
+pub mod Lasting
+pub mod Untrapped
+pub mod Runnings
+pub mod Ways
+pub mod Deciding

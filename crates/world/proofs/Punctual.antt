@@ -1,0 +1,44 @@
+-- Punctual lists leave a full world, and no event changes the scenario.
+use Rattle.std.proofs.Common.{◌≡◌, ℕ, zero, suc, ◌+◌, ◌-◌, List, [], ◌∷◌, Bool, true, false, cond, refl, sym, ap, subst, ◌∙◌, Option, Some, None, ⊎_elim}
+use Rattle.std.specs.Prelude.{slice_get, ◌&&◌}
+use Rattle.std.specs.List.{list_all}
+use Rattle.world.specs.declared.event.Event.{Event}
+use Rattle.world.specs.declared.event.Event.TheVariants.{Tick, Post, Close}
+use Rattle.world.specs.Scenario.{Scenario}
+use Rattle.world.specs.World.{Part, has_posted, World, opening, round_open, closing, happen, run}
+use Rattle.world.specs.Lists.{Throughout, AtClose, HasPosted, IsPunctual}
+use Rattle.world.proofs.Listing.{either_way}
+use Rattle.world.proofs.Moves.{move_same}
+
+all_posted : (parts : List Part) → ((g : ℕ) (part : Part) → slice_get parts g ≡ Some part → HasPosted part) → list_all has_posted parts ≡ true
+all_posted [] h = refl
+all_posted (p ∷ ps) h = rw (h 0 p refl) (all_posted ps (λ g part e. h (suc g) part e))
+
+event_full : (w : World) (e : Event) → w.full ≡ true → AtClose HasPosted w e → (happen w e).full ≡ true
+event_full w (Tick g) full at = (move_same w (Tick g) tt).full ∙ full
+event_full w (Post g) full at = (move_same w (Post g) tt).full ∙ full
+event_full w Close full at = by (round_open w.scenario w.closed)
+  where
+    by : (b : Bool) → (cond b (closing w) w).full ≡ true
+    by true = ap (λ b. b && list_all has_posted w.parts) full ∙ all_posted w.parts at
+    by false = full
+
+events_full : (es : List Event) (w : World) → w.full ≡ true → Throughout (AtClose HasPosted) w es → (run w es).full ≡ true
+events_full [] w full q = full
+events_full (e ∷ es) w full q = events_full es (happen w e) (event_full w e full q.0) q.1
+
+pub punctual_full : (s : Scenario) (es : List Event) → IsPunctual s es → (run (opening s) es).full ≡ true
+punctual_full s es q = events_full es (opening s) refl q
+
+event_scenario : (w : World) (e : Event) → (happen w e).scenario ≡ w.scenario
+event_scenario w (Tick g) = (move_same w (Tick g) tt).scenario
+event_scenario w (Post g) = (move_same w (Post g) tt).scenario
+event_scenario w Close = by (round_open w.scenario w.closed)
+  where
+    by : (b : Bool) → (cond b (closing w) w).scenario ≡ w.scenario
+    by true = refl
+    by false = refl
+
+pub run_scenario : (es : List Event) (w : World) → (run w es).scenario ≡ w.scenario
+run_scenario [] w = refl
+run_scenario (e ∷ es) w = run_scenario es (happen w e) ∙ event_scenario w e

@@ -1,0 +1,7 @@
+pub mod Scenario
+pub mod Letters
+pub mod World
+pub mod Runs
+pub mod Lists
+pub mod Chronicle
+pub mod Laws
