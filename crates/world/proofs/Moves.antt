@@ -8,7 +8,8 @@ use Rattle.semantics.specs.State.{State, Outcome, Next, Ask, Exit, Trap}
 use Rattle.semantics.specs.Call.{fits}
 use Rattle.semantics.specs.Execution.{step}
 use Rattle.board.specs.Board.{IsBoard, reply, next}
-use Rattle.board.proofs.Asking.{IsRequest, asks_within}
+use Rattle.board.specs.Requests.{IsRequest}
+use Rattle.board.proofs.Asking.{asks_within}
 use Rattle.board.proofs.Serving.{reply_fits, next_board}
 use Rattle.world.specs.declared.event.Event.{Event}
 use Rattle.world.specs.declared.event.Event.TheVariants.{Tick, Post, Close}
