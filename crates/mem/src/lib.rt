@@ -9,7 +9,7 @@ mod pieces;
 mod stack;
 mod window;
 
-pub use access::{load, store};
+pub use access::{load, load_signed, store};
 pub use context::Context;
 pub use fault::MemoryFault;
 pub use stack::Stack;

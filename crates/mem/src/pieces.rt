@@ -1,6 +1,7 @@
 //! Pointers that stand in cells.
-ghost use Rattle.std.specs.Prelude.{◌≡◌, ◌+◌, ◌≤◌, take, drop, IsTrue, ◌↔◌, true};
+ghost use Rattle.std.specs.Prelude.{◌≡◌, ◌+◌, ◌≤◌, take, drop};
 ghost use Rattle.semantics.specs.Memory.{overwritten, pieces_of, are_pieces, is_same_region};
+ghost use Rattle.mem.specs.Reading.{is_piece};
 
 use semantics::{Cell, Region};
 
@@ -16,7 +17,7 @@ fn same_region(a: Region, b: Region) -> bool
 
 /// Whether the cell is the pointer's piece of that number.
 fn is_piece(cell: Cell, number: u8, region: Region, offset: i32) -> bool
-    ensures { IsTrue result ↔ cell ≡ Cell.Piece number region offset }
+    ensures { result ≡ is_piece number region offset cell }
 {
     match cell {
         Cell::Piece(i, other, at) => i == number && same_region(other, region) && at == offset,
