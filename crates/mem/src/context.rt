@@ -47,13 +47,6 @@ impl<'a> Context<'a> {
         self.bytes
     }
 
-    /// It is a context: 4,096 bytes. It does nothing.
-    pub fn is_context(&self)
-        ensures { IsContext self.now }
-    {
-        let _ = self.bytes;
-    }
-
     /// The number that so many bytes spell, the lowest first.
     pub(crate) fn number(&self, place: usize, size: Size) -> u64
         requires { place + bytes_of size ≤ 4096 }
