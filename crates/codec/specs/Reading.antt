@@ -1,5 +1,5 @@
 -- The first fault of an instruction's bytes.
-use Rattle.std.specs.Prelude.{ℕ, ◌<◌, ◌/◌, ◌%◌, List, [], ◌∷◌, Bool, true, false, not, nat_lt, ◌==◌, ◌||◌, if◌then◌else◌, Option, Some, None, slice_index, drop, length}
+use Rattle.std.specs.Prelude.{ℕ, ◌≡◌, ◌≤◌, ◌<◌, ◌/◌, ◌%◌, List, [], ◌∷◌, Bool, true, false, not, nat_lt, ◌==◌, ◌||◌, if◌then◌else◌, Option, Some, None, slice_index, drop, length}
 use Rattle.std.specs.Int.{w16, w32, from_le_bytes}
 use Rattle.word.specs.declared.Width.{Width}
 use Rattle.word.specs.declared.Width.TheVariants.{W32, W64}
@@ -94,3 +94,10 @@ fault_in f behind = first_fault (checks_of (form_of f.opcode) f behind)
 -- the first fault of the instruction that the bytes begin with
 abbrev pub fault_at : List ℕ → Option Fault
 fault_at bytes = fault_in (fields_of bytes) (drop 8 bytes)
+
+-- the units are these fields and, of a wide instruction, those behind them
+abbrev pub AreUnits : List Fields → Fields → List ℕ → Type 0
+AreUnits [] f behind = ⊥
+AreUnits (first ∷ []) f behind = first ≡ f
+AreUnits (first ∷ second ∷ []) f behind = (first ≡ f) × (8 ≤ length behind) × (second ≡ fields_of behind)
+AreUnits (first ∷ second ∷ third ∷ more) f behind = ⊥

@@ -2,6 +2,8 @@
 #![tactic(auto)]
 
 mod arithmetic;
+mod decoder;
+mod encoder;
 mod fault;
 mod fields;
 mod form;
@@ -9,4 +11,5 @@ mod jump;
 mod memory;
 mod register;
 
+pub use decoder::decode;
 pub use fault::{CodecError, Fault};
