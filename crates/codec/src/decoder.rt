@@ -12,7 +12,7 @@ use crate::fields::{Fields, read_fields};
 use crate::form::{Form, form_at};
 use crate::jump;
 use crate::memory;
-use insn::{Insn, Operand, Program};
+use insn::{Insn, Program};
 use std::alloc::Global;
 
 /// The instruction that the fields and what stands behind them begin with.
@@ -73,6 +73,10 @@ fn instructions(alloc: Global, bytes: &[u8], units: usize) -> Result<Vec<Insn>, 
     let mut unit = 0;
     while unit < units {
         match instruction(&bytes[8 * unit..]) {
+            Ok(wide @ Insn::LoadNumber { .. }) => {
+                instructions.push(wide)?;
+                unit += 2;
+            }
             Ok(insn) => {
                 instructions.push(insn)?;
                 unit += insn.units() as usize;
