@@ -1,6 +1,6 @@
 -- Bytes spell one program at most, and have one first fault at most, which is none where they spell a program.
-use Rattle.std.proofs.Common.{◌≡◌, ◌≢◌, ◌≤◌, ◌<◌, ◌+◌, ◌-◌, ◌*◌, ◌/◌, ◌%◌, ℕ, List, [], ◌∷◌, ◌++◌, Option, Some, None, Result, Ok, Err, length, take, drop, refl, sym, ap, subst, ◌∙◌, arith, append_assoc, length-append}
-use Rattle.std.specs.Prelude.{MatchResult}
+use Rattle.std.proofs.Common.{◌≡◌, ◌≢◌, ◌≤◌, ◌<◌, ◌+◌, ◌-◌, ◌*◌, ◌/◌, ◌%◌, ℕ, List, [], ◌∷◌, ◌++◌, Option, Some, None, Result, Ok, Err, length, take, drop, refl, sym, ap, subst, ◌∙◌, arith, inl, inr, append_assoc, length-append}
+use Rattle.std.specs.Prelude.{MatchResult, IsErrAnd}
 use Rattle.std.proofs.lemmas.List.{take-append-drop, length-drop, length-take-le, append-nil}
 use Rattle.std.proofs.lemmas.Bool.{cases_lt}
 use Rattle.std.specs.List.{AllByRecursion}
@@ -91,13 +91,45 @@ same_place bytes f g u v before after a b =
     let right : length (take (8 * v) bytes) ≡ 8 * v = length-take-le (8 * v) bytes (omega (arith, b.inside)) in
     (same.faults, omega (arith, ap length fronts, left, right))
 
+one_fault_in : (bytes : List ℕ) (f g : Fault) (u v : ℕ) → IsFirstFault bytes f u → IsFirstFault bytes g v → length bytes % 8 ≡ 0 → (f ≡ g) × (u ≡ v)
+one_fault_in bytes f g u v a b even = elim (cases_lt 0 (length bytes)) [
+  | inl some ↦ elim (cases_lt (8 * 4096) (length bytes)) [
+    | inl much ↦
+        let left = a.by_count even (inr much) in
+        let right = b.by_count even (inr much) in
+        (left.0 ∙ sym right.0, left.1 ∙ sym right.1)
+    | inr few ↦
+        let left = a.by_instruction even some few in
+        let right = b.by_instruction even some few in
+        same_place bytes f g u v left.0 right.0 left.1 right.1
+  ]
+  | inr none ↦
+      let left = a.by_count even (inl (omega arith)) in
+      let right = b.by_count even (inl (omega arith)) in
+      (left.0 ∙ sym right.0, left.1 ∙ sym right.1)
+]
+
 -- bytes have one first fault at most
 pub one_first_fault : (bytes : List ℕ) (f g : Fault) (u v : ℕ) → IsFirstFault bytes f u → IsFirstFault bytes g v → (f ≡ g) × (u ≡ v)
-one_first_fault bytes f g u v a b = ?
+one_first_fault bytes f g u v a b = elim (cases_lt 0 (length bytes % 8)) [
+  | inl odd ↦
+      let left = a.by_length (λ even. omega (arith, even, odd)) in
+      let right = b.by_length (λ even. omega (arith, even, odd)) in
+      (left.0 ∙ sym right.0, left.1 ∙ sym right.1)
+  | inr even ↦ one_fault_in bytes f g u v a b (omega arith)
+]
 
--- what is spelled is read as that
-pub answered_only : (bytes : List ℕ) (p : List Insn) (r : Result (List Insn) CodecError) → SpellsProgram bytes p → MatchResult r (λ q. SpellsProgram bytes q) (λ e. IsAnswered bytes e) →
-    MatchResult r (λ q. q ≡ p) (λ e. e ≡ errors.Memory)
-answered_only bytes p (Ok q) s told = same_program q p told.well_formed s.well_formed (sym told.spelled ∙ s.spelled)
-answered_only bytes p (Err (errors.At f unit)) s told = absurd (no_first_fault bytes p f unit s told)
-answered_only bytes p (Err errors.Memory) s told = refl
+-- a program's bytes are whole units
+pub whole_units : (bytes : List ℕ) (p : List Insn) → SpellsProgram bytes p → length bytes % 8 ≡ 0
+whole_units bytes p s = omega (arith, ap length s.spelled, length-program_bytes p)
+
+-- bytes spell one program at most
+pub one_program : (bytes : List ℕ) (p q : List Insn) → SpellsProgram bytes p → SpellsProgram bytes q → p ≡ q
+one_program bytes p q s t = same_program p q s.well_formed t.well_formed (sym s.spelled ∙ t.spelled)
+
+-- an answer where the bytes spell a program is want of memory
+pub none_answered : (bytes : List ℕ) (p : List Insn) (r : Result (List Insn) CodecError) (e : CodecError) → SpellsProgram bytes p → IsAnswered bytes e → IsErrAnd r (λ f. f ≡ e) →
+    MatchResult r (λ q. q ≡ p) (λ f. f ≡ errors.Memory)
+none_answered bytes p (Ok q) e s told err = absurd err
+none_answered bytes p (Err f) (errors.At fault unit) s told err = absurd (no_first_fault bytes p fault unit s told)
+none_answered bytes p (Err f) errors.Memory s told err = err

@@ -80,3 +80,12 @@ first_fault_here bytes is unit units tail fault whole some few more r tail-is e 
   by_count = λ h over. elim over [ inl none ↦ absurd (omega arith) | inr much ↦ absurd (omega arith) ];
   by_instruction = λ h k l. (is, record { spelled = r.spelled; well_formed = r.well_formed; inside = omega arith; found = ap fault_at (sym (tail-is ∙ tail_is bytes (8 * unit))) ∙ e });
 }
+
+-- the bytes of a program spell it
+pub spells_program : (bytes : List ℕ) (program : List Insn) (units : ℕ) → bytes ≡ program_bytes program → units ≡ length (slots_of program) → 0 < units → units ≤ 4096 → AllByRecursion IsInsn program → SpellsProgram bytes program
+spells_program bytes program units spelled counted some few well_formed = record {
+  spelled = spelled;
+  well_formed = well_formed;
+  some = omega (arith, ap length spelled, length-program_bytes program);
+  bound = omega (arith, ap length spelled, length-program_bytes program);
+}

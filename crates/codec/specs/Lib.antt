@@ -2,3 +2,4 @@ pub mod Spelling
 pub mod Form
 pub mod Reading
 pub mod Program
+pub mod Laws

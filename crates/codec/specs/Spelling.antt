@@ -1,5 +1,5 @@
 -- How instructions and programs are spelled (RFC 9669, sections 3 to 5; which fields are zero is own).
-use Rattle.std.specs.Prelude.{ℕ, ◌+◌, ◌*◌, ◌/◌, ◌%◌, ◌^◌, List, [], ◌∷◌, ◌++◌}
+use Rattle.std.specs.Prelude.{ℕ, ◌+◌, ◌*◌, ◌/◌, ◌%◌, ◌^◌, List, [], ◌∷◌, ◌++◌, Option, Some, None}
 use Rattle.std.specs.List.{flat_map}
 use Rattle.std.specs.Int.{w16, w32, cast_unsigned, to_le_bytes}
 use Rattle.word.specs.declared.Width.{Width}
@@ -107,6 +107,11 @@ spelling (Store bytes base offset (Immediate n)) = fields (0x62 + size_code byte
 spelling (Store bytes base offset (Register src)) = fields (0x63 + size_code bytes) base src (cast_unsigned w16 offset) 0 ∷ []
 spelling (Call helper) = fields 0x85 0 0 0 (cast_unsigned w32 helper) ∷ []
 spelling Exit = fields 0x95 0 0 0 0 ∷ []
+
+-- one unit, or two, as a list
+abbrev pub units_list : Fields × Option Fields → List Fields
+units_list (first, None) = first ∷ []
+units_list (first, Some second) = first ∷ second ∷ []
 
 -- the eight bytes of a unit (section 3.1: the registers in one byte, numbers with the lowest byte first)
 abbrev pub unit_bytes : Fields → List ℕ

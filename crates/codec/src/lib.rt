@@ -8,8 +8,12 @@ mod fault;
 mod fields;
 mod form;
 mod jump;
+mod laws;
 mod memory;
 mod register;
+mod spelling;
 
 pub use decoder::decode;
+pub use encoder::encode;
+pub use laws::{no_fault_in_programs, one_first_fault, one_instruction, one_program, one_spelling};
 pub use fault::{CodecError, Fault};

@@ -1,6 +1,5 @@
-use Rattle.std.proofs.Common.{◌+◌, ◌-◌, ◌*◌, length, take, drop, refl, sym, ap, arith}
-use Rattle.insn.specs.declared.insn.Insn.{Insn}
-use Rattle.insn.specs.Insn.{units_of}
+use Rattle.std.proofs.Common.{◌+◌, ◌-◌, ◌*◌, refl, arith}
+use Rattle.std.proofs.lemmas.Grind.{common_steps}
 use Rattle.codec.proofs.ProgramLemmas.{read_more, first_fault_here}
 use Rattle.codec.proofs.decoder.instructions.Goals as goal
 
@@ -8,7 +7,7 @@ pub loop-unit-preserved-in-Ok-LoadNumber : goal.loop-unit-preserved-in-Ok-LoadNu
 loop-unit-preserved-in-Ok-LoadNumber c =
     read_more c.args.bytes.now c.loop-unit.instructions.items c.push.new.self.items c.loop-unit.unit (c.loop-unit.unit + 2) c.args.units c.in-Ok-LoadNumber.wide _
       c.requires.whole c.loop-unit.invariant refl c.in-Ok-LoadNumber.ensures.well_formed c.in-Ok-LoadNumber.ensures.inside c.in-Ok-LoadNumber.ensures.found
-      c.in_ok-push-in-Ok-LoadNumber.ensures.items (let h = c.in-Ok-LoadNumber.is in let k = c.in-Ok-LoadNumber.wide-is in ?)
+      c.in_ok-push-in-Ok-LoadNumber.ensures.items (grind (arith, common_steps))
 
 pub loop-unit-preserved : goal.loop-unit-preserved
 loop-unit-preserved c =
