@@ -61,7 +61,7 @@ no_first_fault bytes program fault unit s f =
     let even : length bytes % 8 ≡ 0 = omega (arith, ap length s.spelled, length-program_bytes program) in
     let found = f.by_instruction even s.some s.bound in
     none_between program found.0 (drop (8 * unit) bytes) fault s.well_formed found.1.well_formed (sym s.spelled ∙ split bytes (8 * unit) found.0 found.1.spelled)
-      (omega (arith, found.1.inside, length-drop (8 * unit) bytes)) found.1.found
+    (omega (arith, found.1.inside, length-drop (8 * unit) bytes)) found.1.found
 
 -- the fault and what stands before it
 record AreSame (before after : List Insn) (f g : Fault) : Type 0 where
@@ -77,7 +77,7 @@ same_fault [] (j ∷ js) xs ys f g p q e a b = absurd (not_here j (program_bytes
 same_fault (i ∷ is) [] xs ys f g p q e a b = absurd (not_here i (program_bytes is ++ xs) ys g p.0 (sym e ∙ append_assoc (instruction_bytes i) (program_bytes is) xs) b)
 same_fault (i ∷ is) (j ∷ js) xs ys f g p q e a b =
     let whole : instruction_bytes i ++ (program_bytes is ++ xs) ≡ instruction_bytes j ++ (program_bytes js ++ ys) =
-        sym (append_assoc (instruction_bytes i) (program_bytes is) xs) ∙ (e ∙ append_assoc (instruction_bytes j) (program_bytes js) ys) in
+    sym (append_assoc (instruction_bytes i) (program_bytes is) xs) ∙ (e ∙ append_assoc (instruction_bytes j) (program_bytes js) ys) in
     let head = same_front i j (program_bytes is ++ xs) (program_bytes js ++ ys) p.0 q.0 whole in
     let tail = same_fault is js xs ys f g p.1 q.1 (same_behind i j (program_bytes is ++ xs) (program_bytes js ++ ys) head whole) a b in
     record { faults = tail.faults; places = ap (λ (i : Insn). instruction_bytes i ++ program_bytes is) head ∙ ap (λ (b : List ℕ). instruction_bytes j ++ b) tail.places }
@@ -85,7 +85,7 @@ same_fault (i ∷ is) (j ∷ js) xs ys f g p q e a b =
 same_place : (bytes : List ℕ) (f g : Fault) (u v : ℕ) (before after : List Insn) → IsFaultAt bytes f u before → IsFaultAt bytes g v after → (f ≡ g) × (u ≡ v)
 same_place bytes f g u v before after a b =
     let same = same_fault before after (drop (8 * u) bytes) (drop (8 * v) bytes) f g a.well_formed b.well_formed
-        (sym (split bytes (8 * u) before a.spelled) ∙ split bytes (8 * v) after b.spelled) a.found b.found in
+    (sym (split bytes (8 * u) before a.spelled) ∙ split bytes (8 * v) after b.spelled) a.found b.found in
     let fronts : take (8 * u) bytes ≡ take (8 * v) bytes = a.spelled ∙ (same.places ∙ sym b.spelled) in
     let left : length (take (8 * u) bytes) ≡ 8 * u = length-take-le (8 * u) bytes (omega (arith, a.inside)) in
     let right : length (take (8 * v) bytes) ≡ 8 * v = length-take-le (8 * v) bytes (omega (arith, b.inside)) in

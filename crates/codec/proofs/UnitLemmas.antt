@@ -61,8 +61,8 @@ same_bytes o r s offset offset' imm imm' p q t = rw (p, q, t) refl
 pub bytes_back : (bytes : List ℕ) → 8 ≤ length bytes → ((i : ℕ) → get_or bytes i 0 < 256) → unit_bytes (fields_of bytes) ≡ take 8 bytes
 bytes_back bytes long small =
     same_bytes _ _ _ _ _ _ _ registers
-      (le_bytes_2 (slice_index bytes 2 ∷ slice_index bytes 3 ∷ []) _ refl (two_bytes _ _ (small 2) (small 3)) refl)
-      (le_bytes_4 (slice_index bytes 4 ∷ slice_index bytes 5 ∷ slice_index bytes 6 ∷ slice_index bytes 7 ∷ []) _ refl (four_bytes _ _ _ _ (small 4) (small 5) (small 6) (small 7)) refl)
+    (le_bytes_2 (slice_index bytes 2 ∷ slice_index bytes 3 ∷ []) _ refl (two_bytes _ _ (small 2) (small 3)) refl)
+    (le_bytes_4 (slice_index bytes 4 ∷ slice_index bytes 5 ∷ slice_index bytes 6 ∷ slice_index bytes 7 ∷ []) _ refl (four_bytes _ _ _ _ (small 4) (small 5) (small 6) (small 7)) refl)
     ∙ sym (first_eight bytes long)
   where
     registers : slice_index bytes 1 % 16 + 16 * (slice_index bytes 1 / 16) ≡ slice_index bytes 1

@@ -6,12 +6,10 @@ ghost use Rattle.codec.specs.Spelling.{spelling, instruction_bytes};
 ghost use Rattle.codec.specs.Reading.{fault_at, fault_in, AreUnits};
 ghost use Rattle.codec.specs.Program.{SpellsProgram, IsAnswered};
 
-use crate::arithmetic;
 use crate::fault::{CodecError, Fault};
 use crate::fields::{Fields, read_fields};
 use crate::form::{Form, form_at};
-use crate::jump;
-use crate::memory;
+use crate::{arithmetic, jump, memory};
 use insn::{Insn, Program};
 use std::alloc::Global;
 

@@ -12,8 +12,10 @@ mod laws;
 mod memory;
 mod register;
 mod spelling;
+#[cfg(test)]
+mod tests;
 
 pub use decoder::decode;
 pub use encoder::encode;
-pub use laws::{no_fault_in_programs, one_first_fault, one_instruction, one_program, one_spelling};
 pub use fault::{CodecError, Fault};
+pub use laws::{no_fault_in_programs, one_first_fault, one_instruction, one_program, one_spelling};

@@ -8,4 +8,4 @@ use Rattle.codec.proofs.decoder.instruction.Goals as goal
 pub returns-clause-found : goal.returns-clause-found
 returns-clause-found c =
     all_written c.meaning.result c.args.bytes.now _ c.read_fields.result c.requires (λ k. Fits-lt-pow {w = w8} (c.type_inv.bytes k))
-      c.read_fields.ensures (tail_is c.args.bytes.now 8) c.meaning.ensures.found
+    c.read_fields.ensures (tail_is c.args.bytes.now 8) c.meaning.ensures.found
