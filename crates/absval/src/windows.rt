@@ -1,4 +1,4 @@
-ghost use Rattle.std.specs.Prelude.{pos, ◌≡◌, ◌+◌, ◌≤◌, ◌≤ℤ◌, ◌+ℤ◌, ℕ, ℤ, IfSome};
+ghost use Rattle.std.specs.Prelude.{pos, ◌≡◌, ◌≢◌, ◌+◌, ◌≤◌, ◌≤ℤ◌, ◌+ℤ◌, ℕ, ℤ, IfSome, IfNone, IsSome, IsOk};
 ghost use Rattle.semantics.specs.declared.value.Region.{Region};
 ghost use Rattle.semantics.specs.Memory.{window as window_at};
 ghost use Rattle.absval.specs.Windows.{room_of, base_of, LiesIn};
@@ -36,6 +36,7 @@ fn sum(offset: i32, distance: i16) -> i64
 /// The cell at an offset, or the place behind the last one.
 fn place_of(region: Region, at: i64) -> Option<usize>
     ensures place { IfSome result (λ n. pos n ≡ at +ℤ pos (base_of region)) }
+    ensures none { IfNone result ((n : ℕ) → n ≤ room_of region → pos n ≢ at +ℤ pos (base_of region)) }
     ensures few { IfSome result (λ n. n ≤ 4096) }
 {
     match region {
@@ -46,6 +47,7 @@ fn place_of(region: Region, at: i64) -> Option<usize>
 
 fn stack_place(at: i64) -> Option<usize>
     ensures place { IfSome result (λ n. pos n ≡ at +ℤ pos 512) }
+    ensures none { IfNone result ((n : ℕ) → n ≤ 512 → pos n ≢ at +ℤ pos 512) }
     ensures few { IfSome result (λ n. n ≤ 4096) }
 {
     if at < -512 || at > 0 {
@@ -56,6 +58,7 @@ fn stack_place(at: i64) -> Option<usize>
 
 fn context_place(at: i64) -> Option<usize>
     ensures place { IfSome result (λ n. pos n ≡ at +ℤ pos 0) }
+    ensures none { IfNone result ((n : ℕ) → n ≤ 4096 → pos n ≢ at +ℤ pos 0) }
     ensures few { IfSome result (λ n. n ≤ 4096) }
 {
     if at < 0 || at > 4096 {
@@ -67,6 +70,7 @@ fn context_place(at: i64) -> Option<usize>
 /// The cell a distance from an offset, or the place behind the last one.
 fn place_at(region: Region, offset: i32, distance: i16) -> Option<usize>
     ensures place { IfSome result (λ n. pos n ≡ (offset +ℤ distance) +ℤ pos (base_of region)) }
+    ensures none { IfNone result ((n : ℕ) → n ≤ room_of region → pos n ≢ (offset +ℤ distance) +ℤ pos (base_of region)) }
     ensures few { IfSome result (λ n. n ≤ 4096) }
 {
     place_of(region, sum(offset, distance))
@@ -78,6 +82,10 @@ pub fn window_of(region: Region, offsets: Offsets, distance: i16, size: usize) -
     ensures fits { IfSome result (λ w. w.place + w.size ≤ room_of region) }
     ensures holds { IfSome result (λ w. (o : ℤ) → offsets.low ≤ℤ o → o ≤ℤ offsets.high →
         LiesIn w.place w.size size (window_at region (o +ℤ distance) size)) }
+    ensures there { offsets.low ≤ℤ offsets.high → IsOk (window_at region (offsets.low +ℤ distance) size) →
+        IsOk (window_at region (offsets.high +ℤ distance) size) → IsSome result }
+    ensures least { IfSome result (λ w. pos w.place ≡ (offsets.low +ℤ distance) +ℤ pos (base_of region)) }
+    ensures greatest { IfSome result (λ w. pos (w.place + w.size) ≡ ((offsets.high +ℤ distance) +ℤ pos (base_of region)) +ℤ pos size) }
 {
     window_between(region, offsets.low, offsets.high, distance, size)
 }
@@ -87,6 +95,9 @@ fn window_between(region: Region, low: i32, high: i32, distance: i16, size: usiz
     requires { size ≤ 4096 }
     ensures fits { IfSome result (λ w. w.place + w.size ≤ room_of region) }
     ensures holds { IfSome result (λ w. (o : ℤ) → low ≤ℤ o → o ≤ℤ high → LiesIn w.place w.size size (window_at region (o +ℤ distance) size)) }
+    ensures there { low ≤ℤ high → IsOk (window_at region (low +ℤ distance) size) → IsOk (window_at region (high +ℤ distance) size) → IsSome result }
+    ensures least { IfSome result (λ w. pos w.place ≡ (low +ℤ distance) +ℤ pos (base_of region)) }
+    ensures greatest { IfSome result (λ w. pos (w.place + w.size) ≡ ((high +ℤ distance) +ℤ pos (base_of region)) +ℤ pos size) }
 {
     let first = place_at(region, low, distance)?;
     let last = place_at(region, high, distance)?;
