@@ -1,2 +1,3 @@
 pub mod CallFree
 pub mod Accepted
+pub mod Structure
