@@ -1,1 +1,9 @@
 pub mod StructureLemmas
+pub mod Starts
+pub mod Edges
+pub mod Walk
+pub mod PlainWalk
+pub mod QuietLaws
+pub mod Zips
+pub mod Numbers
+pub mod StraightEdges

@@ -5,7 +5,7 @@ use Rattle.insn.specs.declared.insn.Insn.TheVariants.{Jump, LongJump, Branch, Ex
 use Rattle.insn.specs.Insn.{units_of}
 use Rattle.insn.specs.Program.{slots_of, instruction_at}
 use Rattle.verify.specs.declared.fault.Fault.{Fault}
-use Rattle.verify.specs.declared.fault.Fault.TheVariants.{BackJump, JumpOut, JumpInWide, LastNotExit, Unset, FrameWrite, PointerUse, Helper, Memory}
+use Rattle.verify.specs.declared.fault.Fault.TheVariants.{BackJump, JumpOut, JumpInWide, LastNotExit, Unset, FrameWrite, PointerUse, Helper, ExitPointer, Memory}
 
 -- a test, and the fault that stands where it holds
 abbrev pub Check : Type 0
@@ -61,4 +61,5 @@ IsStructural (Unset unit) = ⊥
 IsStructural (FrameWrite unit) = ⊥
 IsStructural (PointerUse unit) = ⊥
 IsStructural (Helper unit) = ⊥
+IsStructural (ExitPointer unit) = ⊥
 IsStructural Memory = ⊥

@@ -29,6 +29,9 @@ pub enum Fault {
     /// A helper is called that is not there.
     #[error("V11 unit {0}")]
     Helper(usize),
+    /// The program ends with a pointer in r0.
+    #[error("V13 unit {0}")]
+    ExitPointer(usize),
     /// Memory was refused.
     #[error("out of memory")]
     Memory,

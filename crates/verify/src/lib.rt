@@ -2,7 +2,14 @@
 #![tactic(auto)]
 
 mod fault;
+mod pass;
+mod pending;
+mod reason;
+mod registers;
+mod state;
+mod steps;
 mod structure;
+mod values;
 mod verified;
 
 pub use fault::{Fault, Refusal};

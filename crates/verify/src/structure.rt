@@ -1,5 +1,5 @@
 //! Where the jumps of a program lead, and how it ends.
-ghost use Rattle.std.specs.Prelude.{◌≡◌, ◌<◌, ◌≤◌, ◌+◌, ◌+ℤ◌, pos, length};
+ghost use Rattle.std.specs.Prelude.{◌≡◌, ◌<◌, ◌≤◌, ◌+◌, ◌+ℤ◌, ◌<ℤ◌, pos, length};
 ghost use Rattle.insn.specs.Program.{slots_of};
 ghost use Rattle.verify.specs.Structure.{first_fault, target_checks, jump_checks, checks_from, last_checks, structural_fault, is_exit};
 
@@ -12,6 +12,15 @@ pub(crate) fn target(unit: usize, distance: i32) -> i64
     ensures { result ≡ pos (unit + 1) +ℤ distance }
 {
     unit as i64 + 1 + i64::from(distance)
+}
+
+/// Where a jump leads that leads forward.
+pub(crate) fn forward_target(unit: usize, distance: i32) -> usize
+    requires bound { unit < 4096 }
+    requires forward { pos unit <ℤ (pos (unit + 1) +ℤ distance) }
+    ensures { pos result ≡ pos (unit + 1) +ℤ distance }
+{
+    target(unit, distance) as usize
 }
 
 /// The fault of a jump from a unit, by so many units, in a program of `end` units.
