@@ -1,19 +1,15 @@
 -- A program without a structural fault leads forward, and a plain one has none.
-use Rattle.std.proofs.Common.{◌≡◌, ℕ, zero, suc, ◌+◌, ◌<◌, ◌≤◌, ◌⊎◌, inl, inr, ⊎_elim, List, [], ◌∷◌, ◌++◌, Option, Some, None, Bool, true, false, refl, sym, ap, subst, ◌∙◌, length, slice_get, if◌then◌else◌, arith}
-use Rattle.std.specs.Prelude.{ℤ, pos, negsuc, ◌+ℤ◌, ◌<ℤ◌, nat_le, is_none, IsSome}
-use Rattle.std.proofs.lemmas.Bool.{le-leb, lt-leb, leb-false}
+use Rattle.std.proofs.Common.{◌≡◌, ℕ, ◌<◌, List, [], ◌∷◌, ◌++◌, Option, Some, None, Bool, true, false, refl, sym, subst, length, slice_get, if◌then◌else◌, arith}
+use Rattle.std.specs.Prelude.{ℤ, pos, negsuc, ◌<ℤ◌, nat_le, is_none, IsSome}
+use Rattle.std.proofs.lemmas.Bool.{lt-leb, leb-false}
 use Rattle.std.proofs.lemmas.Int.{ints}
 use Rattle.std.proofs.lemmas.Option.{slice_get_within}
 use Rattle.insn.specs.declared.insn.Insn.{Insn}
-use Rattle.insn.specs.declared.insn.Insn.TheVariants.{Arithmetic, Negate, SignExtend, Swap, LoadNumber, Jump, LongJump, Branch, Load, LoadSigned, Store, Call, Exit}
-use Rattle.insn.specs.Insn.{units_of}
 use Rattle.insn.specs.Program.{slots_of, joined, instruction_at}
-use Rattle.semantics.specs.Plain.{IsIn, leads_to, IsStart, EndsWithExit, IsPlain}
+use Rattle.semantics.specs.Plain.{IsStart}
 use Rattle.verify.specs.declared.fault.Fault.{Fault}
-use Rattle.verify.specs.declared.fault.Fault.TheVariants.{BackJump, JumpOut, JumpInWide, LastNotExit}
-use Rattle.verify.specs.Structure.{Check, first_fault, target_checks, jump_checks, checks_from, is_exit, last_checks, structural_fault}
-use Rattle.verify.specs.Forward.{LeadsForward, IsForward}
-use Rattle.verify.proofs.Starts.{at_later, at_cases}
+use Rattle.verify.specs.declared.fault.Fault.TheVariants.{BackJump, JumpOut, JumpInWide}
+use Rattle.verify.specs.Structure.{Check, first_fault, target_checks}
 
 -- where the checks are without fault, each part is
 pub first_fault-parts : (checks more : List Check) → first_fault (checks ++ more) ≡ None → (first_fault checks ≡ None) × (first_fault more ≡ None)
@@ -61,7 +57,7 @@ target_fine program unit (pos target) e =
     (omega (arith, ints), (target, refl, some_there (instruction_at program target) wide.0))
 
 -- the last unit of a program lies before its end
-start_inside : (program : List Insn) (unit : ℕ) → IsSome (instruction_at program unit) → unit < length (slots_of program)
+pub start_inside : (program : List Insn) (unit : ℕ) → IsSome (instruction_at program unit) → unit < length (slots_of program)
 start_inside program unit some = by_slot (slice_get (slots_of program) unit) refl some
   where
     by_slot : (slot : Option (Option Insn)) → slot ≡ slice_get (slots_of program) unit → IsSome (joined slot) → unit < length (slots_of program)

@@ -6,4 +6,7 @@ pub mod PlainWalk
 pub mod QuietLaws
 pub mod Zips
 pub mod Numbers
-pub mod StraightEdges
+pub mod EdgeEnds
+pub mod Jumps
+pub mod Blanks
+pub mod Rests

@@ -1,12 +1,12 @@
 -- A plain program has no structural fault.
-use Rattle.std.proofs.Common.{◌≡◌, ℕ, ◌+◌, ◌⊎◌, inl, inr, List, [], ◌∷◌, ◌++◌, Option, Some, None, true, false, refl, ap, arith}
-use Rattle.std.specs.Prelude.{ℤ, pos, ◌+ℤ◌}
+use Rattle.std.proofs.Common.{◌≡◌, ℕ, ◌+◌, inl, inr, List, [], ◌∷◌, None, refl, ap, arith}
+use Rattle.std.specs.Prelude.{pos, ◌+ℤ◌}
 use Rattle.insn.specs.declared.insn.Insn.{Insn}
 use Rattle.insn.specs.declared.insn.Insn.TheVariants.{Arithmetic, Negate, SignExtend, Swap, LoadNumber, Jump, LongJump, Branch, Load, LoadSigned, Store, Call, Exit}
 use Rattle.insn.specs.Insn.{units_of}
 use Rattle.insn.specs.Program.{instruction_at}
 use Rattle.semantics.specs.Plain.{EndsWithExit, IsPlain}
-use Rattle.verify.specs.Structure.{first_fault, jump_checks, checks_from, is_exit, last_checks, structural_fault}
+use Rattle.verify.specs.Structure.{first_fault, jump_checks, checks_from, last_checks, structural_fault}
 use Rattle.verify.specs.Forward.{LeadsForward, IsForward}
 use Rattle.verify.proofs.Edges.{first_fault-none, target_clear}
 use Rattle.verify.proofs.Walk.{IsRest, rest_next, rest_first}

@@ -1,16 +1,12 @@
 -- Quiet states: safe, and never at a call.
-use Rattle.std.proofs.Common.{◌≡◌, ◌≢◌, ℕ, zero, suc, ◌≤◌, List, [], ◌∷◌, Some, true, subst, length, arith}
-use Rattle.std.specs.Prelude.{ℤ}
+use Rattle.std.proofs.Common.{◌≡◌, ℕ, zero, suc, ◌≤◌, List, true, subst, length, arith}
 use Rattle.insn.specs.declared.insn.Insn.{Insn}
-use Rattle.insn.specs.declared.insn.Insn.TheVariants.{Call}
-use Rattle.insn.specs.Program.{instruction_at}
 use Rattle.label.specs.declared.shape.Shape.{Shape}
-use Rattle.label.specs.Relay.{IsShape}
 use Rattle.semantics.specs.State.{State, Outcome, Next, Ask, Exit, Trap, entry}
 use Rattle.semantics.specs.Outbox.{empty_outbox}
 use Rattle.semantics.specs.Call.{fits, resumed}
 use Rattle.semantics.specs.Execution.{step}
-use Rattle.semantics.specs.Run.{IsContext, IsSound}
+use Rattle.semantics.specs.Run.{IsSound}
 use Rattle.semantics.specs.Safety.{LeadsTo, IsSafe}
 use Rattle.semantics.specs.Reached.{Reached, at_entry, stepped, answered}
 use Rattle.semantics.proofs.SafetyLaws.{sound_of_safe}

@@ -1,5 +1,5 @@
 -- Where instructions start, and how many start from a unit on.
-use Rattle.std.proofs.Common.{◌≡◌, ℕ, zero, suc, ◌+◌, ◌-◌, ◌<◌, ◌≤◌, ◌⊎◌, inl, inr, ⊎_elim, List, [], ◌∷◌, ◌++◌, Option, Some, None, refl, sym, ap, subst, ◌∙◌, length, replicate, slice_get, arith}
+use Rattle.std.proofs.Common.{◌≡◌, ℕ, zero, suc, ◌+◌, ◌-◌, ◌<◌, ◌≤◌, ◌⊎◌, inl, inr, ⊎_elim, List, [], ◌∷◌, ◌++◌, Some, None, refl, sym, ap, ◌∙◌, length, replicate, slice_get, arith}
 use Rattle.insn.specs.declared.insn.Insn.{Insn}
 use Rattle.insn.specs.declared.insn.Insn.TheVariants.{Arithmetic, Negate, SignExtend, Swap, LoadNumber, Jump, LongJump, Branch, Load, LoadSigned, Store, Call, Exit}
 use Rattle.insn.specs.Insn.{units_of}
@@ -40,7 +40,7 @@ pub at_cases : (j : Insn) (is : List Insn) (v : ℕ) (i : Insn) → instruction_
 at_cases j is zero i at = inl (refl, cc)
 at_cases j is (suc v) i at = ⊎_elim
     (λ e. let one : suc v ≡ v + units_of j = omega arith in
-        inr (v, one, sym (at_later j is v) ∙ (ap (λ (u : ℕ). instruction_at (j ∷ is) u) (sym one) ∙ at)))
+    inr (v, one, sym (at_later j is v) ∙ (ap (λ (u : ℕ). instruction_at (j ∷ is) u) (sym one) ∙ at)))
     (λ e. at_wide j is v i e at)
     (units_cases j)
   where
@@ -92,6 +92,7 @@ left-falls (j ∷ is) u v i at lt = ⊎_elim
         let one : counted_at u ≡ 1 = ap counted_at e in
         let rest : left is (v - units_of j) ≤ left is (u - units_of j) = left-le is (u - units_of j) (v - units_of j) (omega arith) in
         omega arith
+
     left_behind : (j : Insn) (is : List Insn) (u v w : ℕ) → u ≡ w + units_of j → u < v → ((x : ℕ) → w < x → left is x + 1 ≤ left is w) → left (j ∷ is) v + 1 ≤ left (j ∷ is) u
     left_behind j is u v w e lt falls =
         let none : counted_at v ≡ 0 = counted-later u v lt in

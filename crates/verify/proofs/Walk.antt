@@ -1,5 +1,5 @@
 -- A program without a structural fault leads forward, and a plain one has none: instruction by instruction.
-use Rattle.std.proofs.Common.{◌≡◌, ℕ, zero, suc, ◌+◌, ◌<◌, ◌≤◌, ◌⊎◌, inl, inr, ⊎_elim, List, [], ◌∷◌, ◌++◌, Option, Some, None, Bool, true, false, refl, sym, ap, subst, ◌∙◌, length, if◌then◌else◌, add_assoc, arith}
+use Rattle.std.proofs.Common.{◌≡◌, ℕ, ◌+◌, ◌≤◌, ◌⊎◌, inl, inr, ⊎_elim, List, [], ◌∷◌, Option, Some, None, Bool, true, false, refl, sym, ap, subst, ◌∙◌, if◌then◌else◌, arith}
 use Rattle.std.specs.Prelude.{ℤ, pos, ◌+ℤ◌, ◌<ℤ◌, IsSome}
 use Rattle.std.proofs.lemmas.Int.{ints}
 use Rattle.insn.specs.declared.insn.Insn.{Insn}
@@ -7,13 +7,12 @@ use Rattle.insn.specs.declared.insn.Insn.TheVariants.{Arithmetic, Negate, SignEx
 use Rattle.insn.specs.Insn.{units_of}
 use Rattle.insn.specs.Program.{instruction_at}
 use Rattle.insn.proofs.SlotLemmas.{units_some}
-use Rattle.semantics.specs.Plain.{IsIn, leads_to, IsStart, EndsWithExit, IsPlain}
-use Rattle.verify.specs.declared.fault.Fault.{Fault}
+use Rattle.semantics.specs.Plain.{IsIn, leads_to}
 use Rattle.verify.specs.declared.fault.Fault.TheVariants.{LastNotExit}
 use Rattle.verify.specs.Structure.{Check, first_fault, target_checks, jump_checks, checks_from, is_exit, last_checks, structural_fault}
 use Rattle.verify.specs.Forward.{LeadsForward, IsForward}
 use Rattle.verify.proofs.Starts.{at_later, at_cases}
-use Rattle.verify.proofs.Edges.{first_fault-parts, first_fault-none, target_fine, target_clear}
+use Rattle.verify.proofs.Edges.{first_fault-parts, target_fine}
 
 -- an edge goes on to the next instruction, or to the target of a jump
 abbrev pub IsEdgeOf : Insn → ℕ → ℤ → Type 0
@@ -66,8 +65,8 @@ first_forward : (program : List Insn) (unit : ℕ) (j : Insn) (is : List Insn) �
     first_fault (last_checks unit (j ∷ is)) ≡ None → LeadsForward program unit j
 first_forward program unit j is rest jumps last z e = ⊎_elim
     (λ h. let some = next_starts program unit j is rest last h.1 in
-        let units : 1 ≤ units_of j = units_some j in
-        (subst (λ (y : ℤ). pos unit <ℤ y) (sym h.0) (omega (arith, ints)), (unit + units_of j, h.0, some)))
+    let units : 1 ≤ units_of j = units_some j in
+    (subst (λ (y : ℤ). pos unit <ℤ y) (sym h.0) (omega (arith, ints)), (unit + units_of j, h.0, some)))
     (λ h. target_fine program unit z (subst (λ (checks : List Check). first_fault checks ≡ None) (h program) jumps))
     (edge_of j unit z e)
 
@@ -79,18 +78,18 @@ forward_from : (program is : List Insn) (unit : ℕ) → IsRest program unit is 
 forward_from program [] unit rest jumps last v i at = absurd (cc)
 forward_from program (j ∷ []) unit rest jumps last v i at = ⊎_elim
     (λ e. let here : unit ≡ unit + v = omega (arith, e.0) in
-        subst (λ (u : ℕ). LeadsForward program u i) here (subst (λ (k : Insn). LeadsForward program unit k) e.1
-        (first_forward program unit j [] rest (first_fault-parts (jump_checks program unit j) [] jumps).0 last)))
+    subst (λ (u : ℕ). LeadsForward program u i) here (subst (λ (k : Insn). LeadsForward program unit k) e.1
+    (first_forward program unit j [] rest (first_fault-parts (jump_checks program unit j) [] jumps).0 last)))
     (λ e. absurd (let none = e.2 in cc))
     (at_cases j [] v i at)
 forward_from program (j ∷ k ∷ is) unit rest jumps last v i at = ⊎_elim
     (λ e. let here : unit ≡ unit + v = omega (arith, e.0) in
-        subst (λ (u : ℕ). LeadsForward program u i) here (subst (λ (l : Insn). LeadsForward program unit l) e.1
-        (first_forward program unit j (k ∷ is) rest (first_fault-parts (jump_checks program unit j) (checks_from program (unit + units_of j) (k ∷ is)) jumps).0 last)))
+    subst (λ (u : ℕ). LeadsForward program u i) here (subst (λ (l : Insn). LeadsForward program unit l) e.1
+    (first_forward program unit j (k ∷ is) rest (first_fault-parts (jump_checks program unit j) (checks_from program (unit + units_of j) (k ∷ is)) jumps).0 last)))
     (λ e. let there : unit + units_of j + e.0 ≡ unit + v = omega (arith, e.1) in
-        subst (λ (u : ℕ). LeadsForward program u i) there
-        (forward_from program (k ∷ is) (unit + units_of j) (rest_next program unit j (k ∷ is) rest)
-        (first_fault-parts (jump_checks program unit j) (checks_from program (unit + units_of j) (k ∷ is)) jumps).1 (last_next unit j k is last) e.0 i e.2))
+    subst (λ (u : ℕ). LeadsForward program u i) there
+    (forward_from program (k ∷ is) (unit + units_of j) (rest_next program unit j (k ∷ is) rest)
+    (first_fault-parts (jump_checks program unit j) (checks_from program (unit + units_of j) (k ∷ is)) jumps).1 (last_next unit j k is last) e.0 i e.2))
     (at_cases j (k ∷ is) v i at)
 
 -- a program without a structural fault leads forward

@@ -1,5 +1,5 @@
 -- Which states an abstract state stands for (own).
-use Rattle.std.specs.Prelude.{ℕ, ◌≡◌, Bool, true, false, List, slice_index_or, Result, Ok, Err}
+use Rattle.std.specs.Prelude.{ℕ, Bool, true, false, List, [], ◌∷◌, slice_index_or, Result, Ok, Err}
 use Rattle.std.specs.List.{AllZip}
 use Rattle.semantics.specs.declared.value.Value.{Value}
 use Rattle.semantics.specs.declared.value.Value.TheVariants as value
@@ -29,6 +29,10 @@ RegistersDescribe known registers = AllZip Contains known registers
 -- the state is one that is meant
 pub record Describes (a : AbsState) (s : State) : Type 0 where
   pub registers : RegistersDescribe a.registers s.registers
+
+-- what is known at the entry
+abbrev pub entry_known : List AbsVal
+entry_known = Unset ∷ Pointer ∷ Unset ∷ Unset ∷ Unset ∷ Unset ∷ Unset ∷ Unset ∷ Unset ∷ Unset ∷ Pointer ∷ []
 
 abbrev pub is_number : AbsVal → Bool
 is_number Unset = false

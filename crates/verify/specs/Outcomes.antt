@@ -1,7 +1,7 @@
 -- Where an instruction leads, in terms of abstract states (own).
-use Rattle.std.specs.Prelude.{ℕ, pos, ◌≡◌, ◌+◌, Bool, List, Result, Ok, Err}
+use Rattle.std.specs.Prelude.{ℕ, ◌≡◌, ◌+◌, Bool, List, Result, Ok, Err}
 use Rattle.insn.specs.declared.insn.Insn.{Insn}
-use Rattle.insn.specs.declared.insn.Insn.TheVariants.{Arithmetic, Negate, SignExtend, Swap, LoadNumber, Jump, LongJump, Branch, Load, LoadSigned, Store, Call, Exit}
+use Rattle.insn.specs.declared.insn.Insn.TheVariants.{Jump, LongJump, Branch, Call, Exit}
 use Rattle.insn.specs.Insn.{units_of}
 use Rattle.label.specs.declared.shape.Shape.{Shape}
 use Rattle.semantics.specs.State.{Cause, State, Outcome, Next, Ask, Trap}

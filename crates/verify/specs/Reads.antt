@@ -1,5 +1,5 @@
 -- Which registers are numbers, before an instruction and after it: what the acceptance of plain programs rests on (own).
-use Rattle.std.specs.Prelude.{ℕ, ◌≡◌, ◌<◌, true, false, List, [], ◌∷◌, ◌⊎◌}
+use Rattle.std.specs.Prelude.{ℕ, ◌≡◌, ◌<◌, true, false, List, ◌⊎◌}
 use Rattle.insn.specs.declared.insn.Insn.{Insn}
 use Rattle.semantics.specs.Plain.{IsIn, reads, writes}
 use Rattle.verify.specs.declared.state.AbsVal.{AbsVal}

@@ -1,5 +1,5 @@
 -- The states that are kept for units to come (own).
-use Rattle.std.specs.Prelude.{ℕ, pos, ◌≡◌, ◌+◌, ◌<◌, ◌≤◌, ◌⊎◌, false, List, [], ◌∷◌, Option, Some, None, slice_index_or, Box}
+use Rattle.std.specs.Prelude.{ℕ, ℤ, pos, ◌<ℤ◌, ◌≡◌, ◌<◌, ◌≤◌, ◌⊎◌, false, List, Option, Some, None, slice_index_or, Box}
 use Rattle.std.specs.declared.alloc.Global.{Global}
 use Rattle.insn.specs.declared.insn.Insn.{Insn}
 use Rattle.insn.specs.Program.{instruction_at}
@@ -46,6 +46,10 @@ pub record IsPassed (program : List Insn) (unit : ℕ) (old new : List Slot) : T
 -- each edge ends within so many units
 abbrev pub EdgesInside : Insn → ℕ → ℕ → Type 0
 EdgesInside i unit end = (v : ℕ) → IsIn (pos v) (leads_to i unit) → v < end
+
+-- and lies further on
+abbrev pub EdgesForward : Insn → ℕ → Type 0
+EdgesForward i unit = (z : ℤ) → IsIn z (leads_to i unit) → pos unit <ℤ z
 
 -- ---- registers that may be no numbers
 

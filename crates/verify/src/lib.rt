@@ -11,6 +11,8 @@ mod steps;
 mod structure;
 mod values;
 mod verified;
+mod verifier;
 
 pub use fault::{Fault, Refusal};
 pub use verified::Verified;
+pub use verifier::verify;

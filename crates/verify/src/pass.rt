@@ -9,19 +9,23 @@ ghost use Rattle.verify.specs.Forward.{IsForward};
 ghost use Rattle.verify.specs.Quiet.{StartsQuiet};
 ghost use Rattle.verify.specs.Reads.{AllNumbers, AllRead};
 ghost use Rattle.verify.specs.Outcomes.{IsStraight, IsNotCall};
-ghost use Rattle.verify.specs.Slots.{Slot, Keeps, LeadsOn, IsPassed, EdgesInside, BlanksFrom, BlanksAreUnwritten};
+ghost use Rattle.verify.specs.Slots.{Slot, Keeps, LeadsOn, IsPassed, EdgesInside, EdgesForward, BlanksFrom, BlanksAreUnwritten};
 
 use crate::fault::Fault;
-use crate::pending::{Pending, boxed, flow};
-
+use crate::pending::{Pending, boxed, empty, flow, take};
 use crate::state::AbsState;
-use crate::steps;
 use crate::structure::forward_target;
-use insn::{Insn, Operand, Reg};
+use crate::{registers, steps};
+use insn::{Insn, Operand, Program, Reg};
 use std::alloc::Global;
 
 /// An instruction that goes on behind itself.
-fn pass_straight(unit: usize, insn: &Insn, mut state: Box<AbsState>, pending: &mut Pending) -> Result<(), Fault>
+fn pass_straight(
+    unit: usize,
+    insn: &Insn,
+    mut state: Box<AbsState>,
+    pending: &mut Pending,
+) -> Result<(), Fault>
     requires straight { IsStraight insn.now }
     requires bound { unit < 4096 }
     requires edges { EdgesInside insn.now unit (length pending.old.items) }
@@ -54,7 +58,14 @@ fn pass_jump(unit: usize, distance: i32, state: Box<AbsState>, pending: &mut Pen
 }
 
 /// A conditional jump by so many units: both of its edges are followed.
-fn pass_branch(alloc: Global, unit: usize, compared: (Reg, Operand), distance: i16, state: Box<AbsState>, pending: &mut Pending) -> Result<(), Fault>
+fn pass_branch(
+    alloc: Global,
+    unit: usize,
+    compared: (Reg, Operand),
+    distance: i16,
+    state: Box<AbsState>,
+    pending: &mut Pending,
+) -> Result<(), Fault>
     requires bound { unit < 4096 }
     requires forward { pos unit <ℤ (pos (unit + 1) +ℤ distance) }
     requires edges { (width : Width) (condition : Condition) → EdgesInside (Insn.Branch width condition compared.0 compared.1 distance) unit (length pending.old.items) }
@@ -86,6 +97,85 @@ fn pass_exit(unit: usize, state: Box<AbsState>) -> Result<(), Fault>
 {
     if let Err(reason) = steps::exit(&state) {
         return Err(reason.at(unit));
+    }
+    Ok(())
+}
+
+/// An instruction at its unit, with what is known there.
+fn pass_state(
+    alloc: Global,
+    unit: usize,
+    insn: &Insn,
+    state: Box<AbsState>,
+    pending: &mut Pending,
+) -> Result<(), Fault>
+    requires bound { unit < 4096 }
+    requires forward { EdgesForward insn.now unit }
+    requires inside { EdgesInside insn.now unit (length pending.old.items) }
+    ensures length { length pending.new.items ≡ length pending.old.items }
+    ensures leads { OnOk result (LeadsOn state.value insn.now unit pending.new.items) }
+    ensures no_call { OnOk result (IsNotCall insn.now) }
+    ensures keeps { OnOk result (Keeps pending.old.items pending.new.items) }
+    ensures own { IfErr result (λ fault. IsStructural fault → ⊥) }
+    ensures plain { IsOfNumbers insn.now → (IsIn 10 (writes insn.now) → ⊥) → AllRead insn.now state.value.registers → IfErr result (λ fault. fault ≡ Fault.Memory) }
+    ensures blanks { OnOk result (AllRead insn.now state.value.registers → BlanksFrom insn.now unit state.value.registers pending.old.items pending.new.items) }
+{
+    match insn {
+        Insn::Jump { distance } => {
+            pass_jump(unit, i32::from(*distance), state, pending);
+            Ok(())
+        }
+        Insn::LongJump { distance } => {
+            pass_jump(unit, *distance, state, pending);
+            Ok(())
+        }
+        Insn::Branch {
+            dst,
+            operand,
+            distance,
+            ..
+        } => pass_branch(alloc, unit, (*dst, *operand), *distance, state, pending),
+        Insn::Exit => pass_exit(unit, state),
+        _ => pass_straight(unit, insn, state, pending),
+    }
+}
+
+/// The next unit: what is kept for it flows on.
+fn pass_unit(
+    alloc: Global,
+    program: &Program,
+    unit: usize,
+    pending: &mut Pending,
+) -> Result<(), Fault>
+    requires forward { IsForward program.now }
+    requires unit { unit < length (slots_of program.now) }
+    requires room { length pending.old.items ≡ length (slots_of program.now) }
+    ensures length { length pending.new.items ≡ length pending.old.items }
+    ensures passed { OnOk result (IsPassed program.now unit pending.old.items pending.new.items) }
+    ensures own { IfErr result (λ fault. IsStructural fault → ⊥) }
+    ensures plain { IsPlain program.now → BlanksAreUnwritten program.now pending.old.items unit → IfErr result (λ fault. fault ≡ Fault.Memory) }
+    ensures blanks { OnOk result (IsPlain program.now → BlanksAreUnwritten program.now pending.old.items unit → BlanksAreUnwritten program.now pending.new.items (unit + 1)) }
+{
+    let Some(insn) = program.at(unit) else {
+        return Ok(());
+    };
+    let Some(state) = take(pending, unit) else {
+        return Ok(());
+    };
+    pass_state(alloc, unit, &insn, state, pending)
+}
+
+/// The forward pass over a program whose every edge leads forward.
+pub fn pass(alloc: Global, program: &Program) -> Result<(), Fault>
+    requires { IsForward program.now }
+    ensures quiet { OnOk result (StartsQuiet program.now) }
+    ensures own { IfErr result (λ fault. IsStructural fault → ⊥) }
+    ensures plain { IsPlain program.now → IfErr result (λ fault. fault ≡ Fault.Memory) }
+{
+    let mut pending = empty(alloc, program.units())?;
+    flow(&mut pending, 0, boxed(alloc, registers::at_entry())?);
+    for unit in 0..program.units() {
+        pass_unit(alloc, program, unit, &mut pending)?;
     }
     Ok(())
 }

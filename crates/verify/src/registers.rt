@@ -1,10 +1,10 @@
 //! What is known of the registers.
 ghost use Rattle.std.specs.Prelude.{◌≡◌, ◌≤◌, ◌<◌, true, List, [], ◌∷◌, slice_index_or, slice_set};
 ghost use Rattle.semantics.specs.declared.value.Value.{Value};
-ghost use Rattle.semantics.specs.State.{value_at, operand_value};
+ghost use Rattle.semantics.specs.State.{Outbox, entry, value_at, operand_value};
 ghost use Rattle.semantics.specs.Step.{first_operand};
 ghost use Rattle.semantics.specs.Plain.{operand_reads, first_reads};
-ghost use Rattle.verify.specs.Gamma.{Contains, RegistersDescribe, is_number};
+ghost use Rattle.verify.specs.Gamma.{Contains, RegistersDescribe, Describes, entry_known, is_number};
 ghost use Rattle.verify.specs.Reads.{AllNumbers, LeavesBut, JoinsNumbers};
 
 use crate::state::{AbsState, AbsVal};
@@ -13,7 +13,10 @@ use insn::{Operand, Reg};
 use word::Operation;
 
 /// What is known at the entry: r1 and r10 hold pointers.
-pub fn entry() -> AbsState {
+pub fn at_entry() -> AbsState
+    ensures known { result.registers ≡ entry_known }
+    ensures holds { (outbox : Outbox) → Describes result (entry outbox) }
+{
     let mut registers = [AbsVal::Unset; 11];
     registers[1] = AbsVal::Pointer;
     registers[10] = AbsVal::Pointer;

@@ -13,9 +13,8 @@ ghost use Rattle.verify.specs.Reads.{AllNumbers, AllRead, Leaves, LeavesBut};
 ghost use Rattle.verify.specs.Outcomes.{IsTest, GoesOn, Follows, IsEnd, IsStraight, IsNotCall};
 
 use crate::reason::Reason;
-use crate::registers;
 use crate::state::{AbsState, AbsVal};
-use crate::values;
+use crate::{registers, values};
 use insn::{Insn, Operand, Reg};
 use word::{Operation, Width};
 
@@ -50,7 +49,13 @@ fn put(state: &mut AbsState, dst: Reg, value: AbsVal)
     registers::write(&mut state.registers, dst, value);
 }
 
-fn arithmetic(state: &mut AbsState, width: Width, operation: Operation, dst: Reg, operand: Operand) -> Result<(), Reason>
+fn arithmetic(
+    state: &mut AbsState,
+    width: Width,
+    operation: Operation,
+    dst: Reg,
+    operand: Operand,
+) -> Result<(), Reason>
     ensures holds { OnOk result (Follows state.old (Insn.Arithmetic width operation dst operand) state.new) }
     ensures plain { dst ≢ 10 → AllNumbers (first_reads operation dst ++ operand_reads operand) state.old.registers → IsOk result }
     ensures leaves { OnOk result (AllNumbers (first_reads operation dst ++ operand_reads operand) state.old.registers →

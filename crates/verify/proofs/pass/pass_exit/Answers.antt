@@ -3,7 +3,7 @@ use Rattle.insn.specs.declared.insn.Insn.TheVariants.{Exit}
 use Rattle.semantics.specs.Execution.{executed}
 use Rattle.verify.specs.declared.state.AbsState.{AbsState}
 use Rattle.verify.specs.Gamma.{Describes}
-use Rattle.verify.proofs.StraightEdges.{end_arrives}
+use Rattle.verify.proofs.EdgeEnds.{end_arrives}
 use Rattle.verify.proofs.pass.pass_exit.Goals as goal
 
 pub returns-clause-leads : goal.returns-clause-leads

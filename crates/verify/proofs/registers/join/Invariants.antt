@@ -11,5 +11,5 @@ invariant-loop-i l = record {
   left : (k : ℕ) (v : Value) → Contains (get_or l.fn.registers k Unset) v → Contains (get_or l.registers k Unset) v;
   right : (k : ℕ) (v : Value) → k < l.i → Contains (get_or l.other k Unset) v → Contains (get_or l.registers k Unset) v;
   rest : (k : ℕ) → l.i ≤ k → get_or l.registers k Unset ≡ get_or l.fn.registers k Unset;
-  number : JoinsNumbers l.fn.registers l.other l.registers l.i
+  number : JoinsNumbers l.fn.registers l.other l.registers l.i;
 }

@@ -1,14 +1,17 @@
 -- Edges of instructions.
-use Rattle.std.proofs.Common.{◌≡◌, ℕ, ◌+◌, List, inl, refl}
+use Rattle.std.proofs.Common.{◌≡◌, ℕ, ◌+◌, ◌<◌, List, Some, length, inl, refl, arith}
 use Rattle.std.specs.Prelude.{pos}
 use Rattle.insn.specs.declared.insn.Insn.{Insn}
 use Rattle.insn.specs.declared.insn.Insn.TheVariants.{Arithmetic, Negate, SignExtend, Swap, LoadNumber, Jump, LongJump, Branch, Load, LoadSigned, Store, Call, Exit}
 use Rattle.insn.specs.Insn.{units_of}
+use Rattle.insn.specs.Program.{slots_of, instruction_at}
 use Rattle.semantics.specs.Plain.{IsIn, leads_to}
 use Rattle.semantics.specs.State.{Outcome, Next, Ask, Trap}
 use Rattle.semantics.specs.State.{Exit as Exited}
 use Rattle.verify.specs.Outcomes.{IsStraight, IsEnd}
-use Rattle.verify.specs.Slots.{Slot, Arrives}
+use Rattle.verify.specs.Forward.{IsForward}
+use Rattle.verify.specs.Slots.{Slot, Arrives, EdgesInside}
+use Rattle.verify.proofs.Edges.{start_inside}
 
 -- what goes on behind itself has its edge there
 pub straight_edge : (i : Insn) (unit : ℕ) → IsStraight i → IsIn (pos (unit + units_of i)) (leads_to i unit)
@@ -32,3 +35,11 @@ end_arrives pending i unit (Next t) h = absurd h
 end_arrives pending i unit (Ask request t) h = absurd h
 end_arrives pending i unit (Exited r0 t) h = tt
 end_arrives pending i unit (Trap cause) h = absurd h
+
+-- in a program that leads forward each edge ends inside
+pub inside_of_forward : (program : List Insn) (unit : ℕ) (i : Insn) (end : ℕ) → IsForward program → instruction_at program unit ≡ Some i → end ≡ length (slots_of program) → EdgesInside i unit end
+inside_of_forward program unit i end forward at e v edge =
+    let start = (forward.edges unit i at (pos v) edge).1 in
+    let same : v ≡ start.0 = let h = start.1 in cc in
+    let inside : start.0 < length (slots_of program) = start_inside program start.0 start.2 in
+    omega arith
