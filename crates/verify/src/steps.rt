@@ -22,10 +22,10 @@ use word::{Operation, Width};
 fn check_set(value: AbsVal) -> Result<(), Reason>
     ensures { is_number value ≡ true → IsOk result }
 {
-    match value {
-        AbsVal::Unset => Err(Reason::Unset),
-        _ => Ok(()),
+    if value == AbsVal::Unset {
+        return Err(Reason::Unset);
     }
+    Ok(())
 }
 
 /// The register that is written is not the frame pointer.
