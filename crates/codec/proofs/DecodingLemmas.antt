@@ -1,5 +1,5 @@
 -- What a form's reading says of the fields.
-use Rattle.std.proofs.Common.{◌≡◌, ◌≤◌, ◌<◌, ◌*◌, ℕ, drop, take, get_or, List, [], ◌∷◌, Option, Some, None, Result, Ok, Err, length, refl, sym, subst, ap, ◌∙◌}
+use Rattle.std.proofs.Common.{◌≡◌, ◌≤◌, ◌<◌, ◌*◌, ℕ, drop, take, get_or, List, [], ◌∷◌, Some, Result, Ok, Err, length, refl, sym, subst, ◌∙◌}
 use Rattle.std.specs.Prelude.{IfOk, IfErr}
 use Rattle.insn.specs.declared.insn.Insn.{Insn}
 use Rattle.insn.specs.Insn.{IsInsn, units_of}

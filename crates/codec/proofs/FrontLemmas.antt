@@ -1,5 +1,5 @@
 -- What the bytes of a well-formed instruction begin with: its units, and so no other instruction.
-use Rattle.std.proofs.Common.{◌≡◌, ◌≤◌, ◌<◌, ◌+◌, ◌*◌, ◌/◌, ◌%◌, ◌^◌, ℕ, ℤ, zero, suc, List, [], ◌∷◌, ◌++◌, length, take, drop, get_or, refl, sym, ap, subst, ◌∙◌, arith, append_assoc, length-append}
+use Rattle.std.proofs.Common.{◌≡◌, ◌≤◌, ◌<◌, ◌+◌, ◌*◌, ◌/◌, ◌%◌, ◌^◌, ℕ, ℤ, List, [], ◌∷◌, ◌++◌, length, take, drop, get_or, refl, sym, ap, subst, ◌∙◌, arith}
 use Rattle.std.proofs.lemmas.List.{append_cancel_left, get_or-drop}
 use Rattle.std.proofs.Math.Facts.{Fits-of_z, Fits-lt-pow}
 use Rattle.std.proofs.Math.Seq.{take-add}
@@ -21,7 +21,7 @@ use Rattle.codec.specs.declared.fields.Fields.{Fields}
 use Rattle.codec.specs.Spelling.{spelling, operation_offset, unit_bytes, instruction_bytes}
 use Rattle.codec.specs.Reading.{fields_of, AreUnits}
 use Rattle.codec.proofs.Reading.{same_insn}
-use Rattle.codec.proofs.UnitLemmas.{IsUnit, fields_back, behind_unit, bytes_back}
+use Rattle.codec.proofs.UnitLemmas.{IsUnit, fields_back, bytes_back}
 
 -- as many units as the instruction takes
 pub length-spelling : (insn : Insn) → length (spelling insn) ≡ units_of insn

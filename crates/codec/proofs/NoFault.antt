@@ -1,5 +1,5 @@
 -- What is spelled has no fault. Written by a generator: a case for each opcode, and more where an operand chooses.
-use Rattle.std.proofs.Common.{◌≡◌, ◌≤◌, ◌+◌, ◌*◌, ℕ, List, [], ◌∷◌, Bool, true, false, Option, Some, None, length, refl, sym, subst, ◌∙◌, arith}
+use Rattle.std.proofs.Common.{◌≡◌, ◌≤◌, ℕ, List, [], ◌∷◌, false, Option, None, length, refl, subst}
 use Rattle.std.specs.Prelude.{nat_lt}
 use Rattle.std.proofs.lemmas.Bool.{le-ltb}
 use Rattle.word.specs.declared.Width.TheVariants.{W32, W64}
@@ -17,7 +17,7 @@ use Rattle.codec.specs.declared.fault.Fault.{Fault}
 use Rattle.codec.specs.declared.fault.Fault.TheVariants as faults
 use Rattle.codec.specs.declared.fields.Fields.{Fields}
 use Rattle.codec.specs.Spelling.{spelling}
-use Rattle.codec.specs.Reading.{fields_of, is_past, first_fault, is_reserved_set, fault_in, AreUnits}
+use Rattle.codec.specs.Reading.{is_past, first_fault, is_reserved_set, fault_in, AreUnits}
 
 none_past : (r : ℕ) → r ≤ 10 → is_past r ≡ false
 none_past r le = le-ltb 10 r le

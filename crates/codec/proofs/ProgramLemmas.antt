@@ -1,7 +1,6 @@
 -- The bytes of programs, unit by unit.
-use Rattle.std.proofs.Common.{◌≡◌, ◌≢◌, ◌≤◌, ◌<◌, ◌+◌, ◌-◌, ◌*◌, ◌/◌, ◌%◌, ℕ, zero, suc, List, [], ◌∷◌, ◌++◌, Option, Some, None, Result, Ok, Err, length, take, drop, get_or, refl, sym, ap, subst, ◌∙◌, arith, inl, inr, ◌⊎◌, append_assoc, length-append}
-use Rattle.std.specs.Prelude.{IfOk, IfErr, MatchResult}
-use Rattle.std.proofs.lemmas.List.{take-append-drop, drop-drop, length-drop, take_all, length-take-le, append-nil}
+use Rattle.std.proofs.Common.{◌≡◌, ◌≤◌, ◌<◌, ◌+◌, ◌-◌, ◌*◌, ℕ, List, [], ◌∷◌, ◌++◌, Some, length, take, drop, refl, sym, ap, subst, ◌∙◌, arith, inl, inr, append_assoc, length-append}
+use Rattle.std.proofs.lemmas.List.{length-drop, take_all, append-nil}
 use Rattle.std.proofs.Math.Seq.{take-add}
 use Rattle.std.specs.List.{AllByRecursion}
 use Rattle.insn.specs.declared.insn.Insn.{Insn}
@@ -9,11 +8,9 @@ use Rattle.insn.specs.Insn.{IsInsn, units_of}
 use Rattle.insn.specs.Program.{slots_of}
 use Rattle.insn.proofs.SlotLemmas.{length-slots_of-push, length-slots_of-cons}
 use Rattle.codec.specs.declared.fault.Fault.{Fault}
-use Rattle.codec.specs.declared.fault.CodecError.{CodecError}
-use Rattle.codec.specs.declared.fault.CodecError.TheVariants as errors
 use Rattle.codec.specs.Spelling.{instruction_bytes, program_bytes}
-use Rattle.codec.specs.Reading.{fields_of, fault_at}
-use Rattle.codec.specs.Program.{SpellsProgram, IsFaultAt, IsFirstFault, IsAnswered}
+use Rattle.codec.specs.Reading.{fault_at}
+use Rattle.codec.specs.Program.{SpellsProgram, IsFirstFault}
 use Rattle.codec.proofs.FrontLemmas.{length-instruction_bytes}
 
 pub program_bytes-append : (xs ys : List Insn) → program_bytes (xs ++ ys) ≡ program_bytes xs ++ program_bytes ys

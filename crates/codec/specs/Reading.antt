@@ -1,5 +1,5 @@
 -- The first fault of an instruction's bytes.
-use Rattle.std.specs.Prelude.{ℕ, ◌≡◌, ◌≤◌, ◌<◌, ◌/◌, ◌%◌, List, [], ◌∷◌, Bool, true, false, not, nat_lt, ◌==◌, ◌||◌, if◌then◌else◌, Option, Some, None, slice_index, drop, length}
+use Rattle.std.specs.Prelude.{ℕ, ◌≡◌, ◌≤◌, ◌/◌, ◌%◌, List, [], ◌∷◌, Bool, true, not, nat_lt, ◌==◌, ◌||◌, if◌then◌else◌, Option, Some, None, slice_index, drop, length}
 use Rattle.std.specs.Int.{w16, w32, from_le_bytes}
 use Rattle.word.specs.declared.Width.{Width}
 use Rattle.word.specs.declared.Width.TheVariants.{W32, W64}

@@ -71,6 +71,7 @@ fn instructions(alloc: Global, bytes: &[u8], units: usize) -> Result<Vec<Insn>, 
     let mut unit = 0;
     while unit < units {
         match instruction(&bytes[8 * unit..]) {
+            // The same as the next arm; without it the checker does not find the types within `Insn`.
             Ok(wide @ Insn::LoadNumber { .. }) => {
                 instructions.push(wide)?;
                 unit += 2;

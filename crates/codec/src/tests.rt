@@ -182,20 +182,20 @@ fn first_faults(rt: HostRuntime) -> Result<(), Fail> {
 #[test]
 fn opcodes_taken(rt: HostRuntime) -> Result<(), Fail> {
     let alloc = rt.alloc();
-    let mut taken = 0;
-    let mut left_out = 0;
-    let mut unknown = 0;
-    let mut other = 0;
+    let mut taken = 0u32;
+    let mut left_out = 0u32;
+    let mut unknown = 0u32;
+    let mut other = 0u32;
     for opcode in 0..=255u8 {
         let bytes = [opcode, 0, 0, 0, 0, 0, 0, 0];
         match decode(alloc, &bytes) {
             Ok(program) => {
                 assert_eq!(rt; encode(alloc, &program)?.as_slice(), bytes.as_slice());
-                taken += 1;
+                taken = taken.wrapping_add(1);
             }
-            Err(CodecError::At(crate::Fault::LeftOut, _)) => left_out += 1,
-            Err(CodecError::At(crate::Fault::Opcode, _)) => unknown += 1,
-            Err(_) => other += 1,
+            Err(CodecError::At(crate::Fault::LeftOut, _)) => left_out = left_out.wrapping_add(1),
+            Err(CodecError::At(crate::Fault::Opcode, _)) => unknown = unknown.wrapping_add(1),
+            Err(_) => other = other.wrapping_add(1),
         }
     }
     assert_eq!(rt; [taken, left_out, unknown, other], [113, 8, 131, 4]);

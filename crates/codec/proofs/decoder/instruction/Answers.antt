@@ -1,4 +1,3 @@
-use Rattle.std.proofs.Common.{drop}
 use Rattle.std.proofs.Math.Facts.{Fits-lt-pow}
 use Rattle.std.specs.Int.{w8}
 use Rattle.codec.proofs.DecodingLemmas.{all_written}

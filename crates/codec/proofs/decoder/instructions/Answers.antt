@@ -1,4 +1,4 @@
-use Rattle.std.proofs.Common.{◌+◌, ◌-◌, ◌*◌, refl, arith}
+use Rattle.std.proofs.Common.{◌+◌, refl, arith}
 use Rattle.std.proofs.lemmas.Grind.{common_steps}
 use Rattle.codec.proofs.ProgramLemmas.{read_more, first_fault_here}
 use Rattle.codec.proofs.decoder.instructions.Goals as goal
