@@ -1,6 +1,9 @@
-ghost use Rattle.std.specs.Prelude.{◌≡◌, ◌≤◌, ◌<◌, length};
+ghost use Rattle.std.specs.Prelude.{◌≡◌, ◌≤◌, ◌<◌, [], ◌∷◌, length, slice_index};
+ghost use Rattle.std.specs.Int.{w16, w32, from_le_bytes, to_le_bytes};
 ghost use Rattle.codec.specs.Reading.{fields_of};
 ghost use Rattle.codec.specs.Spelling.{unit_bytes};
+
+use byteorder::{ByteOrder, LittleEndian};
 
 /// The fields of a unit, unsigned (RFC 9669, section 3.1):
 ///
@@ -26,9 +29,25 @@ pub fn read_fields(bytes: &[u8]) -> Fields
         opcode: bytes[0],
         dst: bytes[1] % 16,
         src: bytes[1] / 16,
-        offset: u16::from_le_bytes([bytes[2], bytes[3]]),
-        imm: u32::from_le_bytes([bytes[4], bytes[5], bytes[6], bytes[7]]),
+        offset: read_half(&bytes[2..]),
+        imm: read_word(&bytes[4..]),
     }
+}
+
+/// The number in the first two bytes.
+fn read_half(bytes: &[u8]) -> u16
+    requires { 2 ≤ length bytes.now }
+    ensures { result ≡ from_le_bytes w16 (slice_index bytes.now 0 ∷ slice_index bytes.now 1 ∷ []) }
+{
+    LittleEndian::read_u16(bytes)
+}
+
+/// The number in the first four bytes.
+fn read_word(bytes: &[u8]) -> u32
+    requires { 4 ≤ length bytes.now }
+    ensures { result ≡ from_le_bytes w32 (slice_index bytes.now 0 ∷ slice_index bytes.now 1 ∷ slice_index bytes.now 2 ∷ slice_index bytes.now 3 ∷ []) }
+{
+    LittleEndian::read_u32(bytes)
 }
 
 /// The eight bytes of the fields.
@@ -37,8 +56,8 @@ pub fn to_bytes(fields: Fields) -> [u8; 8]
     requires src { fields.src < 16 }
     ensures { result ≡ unit_bytes fields }
 {
-    let offset = fields.offset.to_le_bytes();
-    let imm = fields.imm.to_le_bytes();
+    let offset = half_bytes(fields.offset);
+    let imm = word_bytes(fields.imm);
     [
         fields.opcode,
         fields.dst + 16 * fields.src,
@@ -49,4 +68,22 @@ pub fn to_bytes(fields: Fields) -> [u8; 8]
         imm[2],
         imm[3],
     ]
+}
+
+/// The two bytes of a number.
+fn half_bytes(n: u16) -> [u8; 2]
+    ensures { result ≡ to_le_bytes w16 n }
+{
+    let mut bytes = [0; 2];
+    LittleEndian::write_u16(&mut bytes, n);
+    bytes
+}
+
+/// The four bytes of a number.
+fn word_bytes(n: u32) -> [u8; 4]
+    ensures { result ≡ to_le_bytes w32 n }
+{
+    let mut bytes = [0; 4];
+    LittleEndian::write_u32(&mut bytes, n);
+    bytes
 }
