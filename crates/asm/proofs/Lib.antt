@@ -9,3 +9,4 @@ pub mod WordLemmas
 pub mod WordsLemmas
 pub mod OutlineLemmas
 pub mod RoundLemmas
+pub mod TableLaws

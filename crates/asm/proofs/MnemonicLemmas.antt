@@ -3,20 +3,13 @@ use Rattle.std.proofs.Common.{◌≡◌, Some, refl}
 use Rattle.word.specs.declared.Width.TheVariants.{W32, W64}
 use Rattle.word.specs.declared.Operation.TheVariants as op
 use Rattle.word.specs.declared.Condition.TheVariants as c
-use Rattle.word.specs.declared.Narrow.{Narrow}
 use Rattle.word.specs.declared.Narrow.TheVariants as narrow
 use Rattle.word.specs.declared.SwapSize.TheVariants as swap
 use Rattle.word.specs.declared.ByteOrder.TheVariants.{Little, Big, Reversed}
-use Rattle.insn.specs.Insn.{IsExtension}
 use Rattle.insn.specs.declared.insn.Size.TheVariants as size
 use Rattle.asm.specs.declared.mnemonic.Mnemonic.{Mnemonic}
 use Rattle.asm.specs.declared.mnemonic.Mnemonic.TheVariants as words
-use Rattle.asm.specs.Table.{name_of, mnemonic_of, mnemonics}
-
--- the mnemonics of the table: 32 bits are extended at 64 alone
-abbrev pub IsMnemonic : Mnemonic → Type 0
-IsMnemonic (words.SignExtend width part) = IsExtension width part
-IsMnemonic _ = Unit {0}
+use Rattle.asm.specs.Table.{IsMnemonic, name_of, mnemonic_of, mnemonics}
 
 pub mnemonic_of-name : (m : Mnemonic) → IsMnemonic m → mnemonic_of (name_of m) ≡ Some m
 unfolding mnemonic_of mnemonics

@@ -1,16 +1,14 @@
 -- Numbers that are printed are read again.
-use Rattle.std.proofs.Common.{◌≡◌, ℕ, zero, suc, ◌+◌, ◌-◌, ◌^◌, ◌<◌, ◌≤◌, Bool, true, false, cond, List, [], ◌∷◌, ◌++◌, Option, Some, None, length, get_or, refl, ap, sym, ◌∙◌, arith}
-use Rattle.std.specs.Prelude.{ℤ, pos, negsuc, decimal, FitsSigned, ◌==◌, ◌&&◌, nat_lt, nat_le}
+use Rattle.std.proofs.Common.{◌≡◌, ℕ, suc, ◌^◌, ◌<◌, ◌≤◌, true, false, List, [], ◌∷◌, Some, get_or, refl, arith}
+use Rattle.std.specs.Prelude.{ℤ, pos, negsuc, decimal, FitsSigned, ◌==◌, nat_lt, nat_le}
 use Rattle.std.specs.Int.{w16, w32}
 use Rattle.std.specs.Fmt.{signed_decimal}
-use Rattle.std.specs.List.{list_all}
 use Rattle.std.proofs.lemmas.Bool.Decides.{nat_tests}
 use Rattle.std.proofs.lemmas.Int.{ints}
-use Rattle.std.proofs.lemmas.Fmt.{decimal_nonempty}
 use Rattle.text.specs.Stop.{is_within}
 use Rattle.text.specs.Number.{magnitude_of}
 use Rattle.text.proofs.BytesLemmas.{and_first}
-use Rattle.text.proofs.DecimalLemmas.{AreDigits, digits-decimal, magnitude_of-decimal, digit_is_not}
+use Rattle.text.proofs.DecimalLemmas.{AreDigits, digits-decimal, magnitude_of-decimal}
 use Rattle.asm.specs.declared.number.Number.{Number}
 use Rattle.asm.specs.Number.{number_of, signed_within, bits_within}
 use Rattle.asm.specs.Operand.{signed_of}

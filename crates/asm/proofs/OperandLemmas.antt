@@ -1,35 +1,30 @@
 -- Operands that are printed are read again.
-use Rattle.std.proofs.Common.{◌≡◌, ℕ, zero, suc, ◌+◌, ◌-◌, ◌^◌, ◌<◌, ◌≤◌, Bool, true, false, cond, List, [], ◌∷◌, ◌++◌, Option, Some, None, length, take, drop, get_or, refl, ap, sym, ◌∙◌, arith, inl, inr, add-one}
-use Rattle.std.specs.Prelude.{ℤ, pos, negsuc, decimal, FitsSigned, not, ◌==◌, ◌&&◌, nat_lt}
-use Rattle.std.specs.Int.{w16, w32}
+use Rattle.std.proofs.Common.{◌≡◌, ℕ, suc, ◌+◌, ◌-◌, ◌<◌, ◌≤◌, true, false, List, [], ◌∷◌, ◌++◌, Some, length, take, drop, get_or, refl, ◌∙◌, arith, inl, inr, add-one}
+use Rattle.std.specs.Prelude.{ℤ, pos, negsuc, decimal, not, ◌==◌, nat_lt}
 use Rattle.std.specs.Fmt.{signed_decimal}
-use Rattle.std.specs.List.{list_all}
 use Rattle.std.proofs.lemmas.Fmt.{decimal_digit, decimal_step}
 use Rattle.std.proofs.lemmas.Bool.{cases_lt}
 use Rattle.std.proofs.lemmas.Bool.Decides.{nat_tests}
 use Rattle.text.specs.declared.stop.Stop.TheVariants.{Sign}
-use Rattle.text.specs.Options.{◌>>=◌}
 use Rattle.text.specs.Stop.{is_within, is_stop}
 use Rattle.text.specs.Parts.{before, from}
-use Rattle.text.proofs.BytesLemmas.{all-append, all-weaker, and_first}
+use Rattle.text.proofs.BytesLemmas.{all-weaker, and_first}
 use Rattle.text.proofs.CutLemmas.{Lacks, take_front, before-append, from-append}
 use Rattle.text.proofs.DecimalLemmas.{AreDigits, digits-decimal, digit_is_not}
 use Rattle.insn.specs.Insn.{IsOperand}
 use Rattle.insn.specs.declared.insn.Operand.{Operand}
 use Rattle.insn.specs.declared.insn.Operand.TheVariants.{Register, Immediate}
-use Rattle.asm.specs.declared.number.Number.{Number}
 use Rattle.asm.specs.declared.operand.Raw.{Raw}
 use Rattle.asm.specs.declared.operand.Raw.TheVariants as raws
-use Rattle.asm.specs.Number.{number_of, signed_within}
-use Rattle.asm.specs.Operand.{register_of, raw_of, fitted, signed_of, offset_of, inside, place_of, Goal, Away, goal_of, is_letter}
+use Rattle.asm.specs.Operand.{register_of, raw_of, fitted, offset_of, inside, place_of, Away, goal_of, is_letter}
 use Rattle.asm.specs.Printing.{register_text, operand_text, signed_text, place_text}
-use Rattle.asm.proofs.NumberLemmas.{number_for, IsSmall, number_of-signed, signed_of-text, within_32, small_32, small_16}
+use Rattle.asm.proofs.NumberLemmas.{number_for, IsSmall, number_of-signed, signed_of-text, within_32, small_32}
 
 register_digit : (r : ℕ) → r < 10 → register_of (114 ∷ (48 + r) ∷ []) ≡ Some r
 unfolding register_of
 register_digit r lt = grind arith
 
-ten_text : decimal 10 ≡ 49 ∷ 48 ∷ []
+pub ten_text : decimal 10 ≡ 49 ∷ 48 ∷ []
 ten_text = decimal_step 10 (omega arith) (omega arith) ∙ rw (decimal_digit 1 (omega arith)) refl
 
 register_ten : register_of (114 ∷ 49 ∷ 48 ∷ []) ≡ Some 10

@@ -1,23 +1,22 @@
 -- A printed line has its outline, and says its instruction.
-use Rattle.std.proofs.Common.{◌≡◌, ℕ, zero, suc, ◌+◌, ◌-◌, ◌<◌, Bool, true, false, List, [], ◌∷◌, ◌++◌, Option, Some, None, length, take, drop, get_or, refl, sym, ap, ◌∙◌, arith}
+use Rattle.std.proofs.Common.{◌≡◌, ℕ, zero, suc, ◌-◌, Bool, true, false, List, [], ◌∷◌, ◌++◌, Option, Some, None, length, get_or, refl, ap, ◌∙◌, arith}
 use Rattle.std.specs.Prelude.{not, ◌==◌, ◌&&◌, nat_lt, nat_le}
 use Rattle.std.specs.List.{list_all}
 use Rattle.std.proofs.lemmas.Bool.Decides.{nat_tests}
 use Rattle.text.specs.declared.stop.Stop.TheVariants.{Blank, Solid}
-use Rattle.text.specs.Options.{◌>>=◌}
 use Rattle.text.specs.Stop.{is_stop, colon, semicolon, feed}
-use Rattle.text.specs.Parts.{until, before, from}
+use Rattle.text.specs.Parts.{until, before}
 use Rattle.text.proofs.BytesLemmas.{all-append, all-weaker, and_first, and_second}
 use Rattle.text.proofs.CutLemmas.{Lacks, until-all, before-all, before-append}
 use Rattle.insn.specs.declared.insn.Insn.{Insn}
 use Rattle.insn.specs.declared.insn.Insn.TheVariants as insns
 use Rattle.insn.specs.declared.insn.Operand.TheVariants.{Register, Immediate}
 use Rattle.insn.specs.Insn.{IsInsn}
-use Rattle.asm.specs.Table.{name_of}
+use Rattle.asm.specs.Table.{IsMnemonic, name_of}
 use Rattle.asm.specs.Line.{Outline, is_word, words_of, outlined, outline_of}
 use Rattle.asm.specs.Program.{Read, without_return, with_words, with_line, line_read}
 use Rattle.asm.specs.Printing.{more_text, operands_text, word_of, operands_of, insn_text}
-use Rattle.asm.proofs.MnemonicLemmas.{IsMnemonic, mnemonic_of-name}
+use Rattle.asm.proofs.MnemonicLemmas.{mnemonic_of-name}
 use Rattle.asm.proofs.SourceLemmas.{source_for, source_of-text}
 use Rattle.asm.proofs.TokenLemmas.{is_plain, IsPlain, ArePlain, plain_operands}
 use Rattle.asm.proofs.WordLemmas.{is_fine, is_fine-name}
@@ -82,8 +81,8 @@ outline_of-text : (w : List ℕ) (ts : List (List ℕ)) → is_word w ≡ true �
 outline_of-text w ts word p ps =
     let line : List ℕ = w ++ operands_text ts in
     outline_of-line line _ (before-all semicolon line (all-weaker in_line (λ c. not (is_stop semicolon c)) line_semicolon line (line_bytes w ts p ps)))
-      (until_solid w (operands_text ts) p.some p.bytes)
-      (outlined-line line w ts (before_blank w ts p) (until-all colon w (all-weaker is_plain (λ c. not (is_stop colon c)) plain_colon w p.bytes)) (words_of-text w ts word p ps))
+    (until_solid w (operands_text ts) p.some p.bytes)
+    (outlined-line line w ts (before_blank w ts p) (until-all colon w (all-weaker is_plain (λ c. not (is_stop colon c)) plain_colon w p.bytes)) (words_of-text w ts word p ps))
 
 -- the word of an instruction
 fine_word : (w : List ℕ) → is_fine w ≡ true → is_word w ≡ true

@@ -1,16 +1,16 @@
 -- The text of a program says that program.
-use Rattle.std.proofs.Common.{◌≡◌, ℕ, ◌+◌, ◌<◌, ◌≤◌, Bool, true, false, List, [], ◌∷◌, ◌++◌, Option, Some, None, map, length, refl, sym, ap, ◌∙◌, arith, append_assoc}
-use Rattle.std.specs.Prelude.{nat_lt, nat_le, codes}
+use Rattle.std.proofs.Common.{◌≡◌, ℕ, ◌+◌, ◌<◌, ◌≤◌, true, List, [], ◌∷◌, ◌++◌, Some, map, length, refl, sym, ap, ◌∙◌, arith, append_assoc}
+use Rattle.std.specs.Prelude.{nat_lt, nat_le}
 use Rattle.std.specs.List.{AllByRecursion, sum_by}
 use Rattle.std.proofs.lemmas.Bool.Decides.{nat_tests}
 use Rattle.std.proofs.lemmas.List.Sums.{sum_by-cons}
 use Rattle.text.specs.Stop.{feed}
 use Rattle.text.proofs.CutLemmas.{pieces-append}
 use Rattle.insn.specs.declared.insn.Insn.{Insn}
-use Rattle.insn.specs.Insn.{IsInsn, units_of}
+use Rattle.insn.specs.Insn.{IsInsn}
 use Rattle.insn.specs.Program.{slots_of}
 use Rattle.insn.proofs.SlotLemmas.{length-slots_of-cons}
-use Rattle.asm.specs.Program.{Read, lines_of, read_on, source_units, units_in, insns_on, nothing, program_in, program_of}
+use Rattle.asm.specs.Program.{Read, lines_of, read_on, source_units, insns_on, nothing, program_in, program_of}
 use Rattle.asm.specs.Printing.{insn_text, text_of}
 use Rattle.asm.proofs.KeepingLemmas.{lines_first}
 use Rattle.asm.proofs.SourceLemmas.{source_for, insn_of-source, source_units-source}

@@ -1,13 +1,10 @@
 -- Statements that are printed are read again.
-use Rattle.std.proofs.Common.{◌≡◌, ℕ, ◌^◌, ◌≤◌, List, [], ◌∷◌, Option, Some, None, refl}
-use Rattle.text.specs.Options.{◌>>=◌}
+use Rattle.std.proofs.Common.{◌≡◌, ℕ, [], Some, refl}
 use Rattle.insn.specs.declared.insn.Insn.{Insn}
 use Rattle.insn.specs.declared.insn.Insn.TheVariants as insns
-use Rattle.insn.specs.declared.insn.Operand.{Operand}
 use Rattle.insn.specs.declared.insn.Operand.TheVariants.{Register, Immediate}
-use Rattle.insn.specs.Insn.{IsInsn, IsOperand, units_of}
-use Rattle.asm.specs.Number.{signed_within}
-use Rattle.asm.specs.Operand.{Goal, Away}
+use Rattle.insn.specs.Insn.{IsInsn, units_of}
+use Rattle.asm.specs.Operand.{Away}
 use Rattle.asm.specs.Statement.{Source, Plain, Jump, LongJump, Branch, source_of, none_of, one_of, two_of, three_of}
 use Rattle.asm.specs.Program.{source_units, insn_of, distance_of}
 use Rattle.asm.specs.Printing.{word_of, operands_of}

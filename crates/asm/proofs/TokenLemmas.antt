@@ -1,13 +1,13 @@
 -- The bytes of what is printed.
-use Rattle.std.proofs.Common.{◌≡◌, ℕ, suc, ◌+◌, ◌^◌, ◌<◌, ◌≤◌, Bool, true, false, List, [], ◌∷◌, ◌++◌, length, get_or, refl, ◌∙◌, arith}
-use Rattle.std.specs.Prelude.{ℤ, pos, negsuc, decimal, not, ◌==◌, ◌&&◌, nat_lt, nat_le}
+use Rattle.std.proofs.Common.{◌≡◌, ℕ, suc, ◌^◌, ◌<◌, ◌≤◌, Bool, true, List, [], ◌∷◌, ◌++◌, length, refl, arith}
+use Rattle.std.specs.Prelude.{ℤ, pos, negsuc, decimal, not, ◌==◌, ◌&&◌, nat_lt}
 use Rattle.std.specs.Fmt.{signed_decimal}
 use Rattle.std.specs.List.{list_all}
 use Rattle.std.proofs.lemmas.Bool.Decides.{nat_tests}
 use Rattle.std.proofs.lemmas.Fmt.{decimal_nonempty}
 use Rattle.text.specs.Stop.{is_within}
-use Rattle.text.proofs.BytesLemmas.{all-append, all-weaker, and_first, and_second}
-use Rattle.text.proofs.DecimalLemmas.{AreDigits, digits-decimal}
+use Rattle.text.proofs.BytesLemmas.{all-append, all-weaker}
+use Rattle.text.proofs.DecimalLemmas.{digits-decimal}
 use Rattle.insn.specs.declared.insn.Insn.{Insn}
 use Rattle.insn.specs.declared.insn.Insn.TheVariants as insns
 use Rattle.insn.specs.declared.insn.Operand.{Operand}

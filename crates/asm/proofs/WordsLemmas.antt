@@ -1,5 +1,5 @@
 -- A printed word with its operands is read again.
-use Rattle.std.proofs.Common.{◌≡◌, ℕ, suc, ◌+◌, ◌<◌, Bool, true, false, List, [], ◌∷◌, ◌++◌, Option, Some, None, length, take, drop, refl, sym, ap, ◌∙◌, arith, append_assoc}
+use Rattle.std.proofs.Common.{◌≡◌, ℕ, ◌<◌, true, false, List, [], ◌∷◌, ◌++◌, Some, length, drop, refl, sym, ap, ◌∙◌, arith, append_assoc}
 use Rattle.std.specs.Prelude.{not, ◌==◌, ◌&&◌, nat_lt}
 use Rattle.std.specs.List.{list_all}
 use Rattle.std.proofs.lemmas.Bool.Decides.{nat_tests}
@@ -96,6 +96,6 @@ words_of-text w [] word p ps = ap words_of (append-nil w) ∙ words_of-alone w w
 words_of-text w (a ∷ rest) word p ps =
     let back : List ℕ = a ++ more_text rest in
     words_of-parts (w ++ 32 ∷ back) w (32 ∷ back) (a ∷ rest) (some_append w (32 ∷ back) p.some)
-      (before-append Blank w 32 back (lacks_blank w p.bytes) refl) (from-append Blank w 32 back (lacks_blank w p.bytes) refl) word
-      (not_blank back (until_solid a (more_text rest) ps.0.some ps.0.bytes) (some_append a (more_text rest) ps.0.some))
-      (ap (tokens_on (w ∷ [])) (pieces-tokens a rest ps.0 ps.1) ∙ tokens_on-spaced (w ∷ []) (a ∷ rest) ps)
+    (before-append Blank w 32 back (lacks_blank w p.bytes) refl) (from-append Blank w 32 back (lacks_blank w p.bytes) refl) word
+    (not_blank back (until_solid a (more_text rest) ps.0.some ps.0.bytes) (some_append a (more_text rest) ps.0.some))
+    (ap (tokens_on (w ∷ [])) (pieces-tokens a rest ps.0 ps.1) ∙ tokens_on-spaced (w ∷ []) (a ∷ rest) ps)

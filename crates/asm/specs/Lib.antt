@@ -7,3 +7,4 @@ pub mod Program
 pub mod Views
 pub mod Keeping
 pub mod Printing
+pub mod Laws

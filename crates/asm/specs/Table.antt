@@ -15,6 +15,7 @@ use Rattle.word.specs.declared.ByteOrder.{ByteOrder}
 use Rattle.word.specs.declared.ByteOrder.TheVariants.{Little, Big, Reversed}
 use Rattle.insn.specs.declared.insn.Size.{Size}
 use Rattle.insn.specs.declared.insn.Size.TheVariants as size
+use Rattle.insn.specs.Insn.{IsExtension}
 use Rattle.asm.specs.declared.mnemonic.Mnemonic.{Mnemonic}
 use Rattle.asm.specs.declared.mnemonic.Mnemonic.TheVariants as words
 
@@ -94,6 +95,11 @@ name_of (words.StoreRegister bytes) = codes "stx" ++ size_name bytes
 name_of (words.StoreNumber bytes) = codes "st" ++ size_name bytes
 name_of words.Call = codes "call"
 name_of words.Exit = codes "exit"
+
+-- the mnemonics of the table: 32 bits are extended at 64 alone
+abbrev pub IsMnemonic : Mnemonic → Type 0
+IsMnemonic (words.SignExtend width part) = IsExtension width part
+IsMnemonic _ = Unit {0}
 
 -- all mnemonics, by their first letters
 unfoldable pub mnemonics : List Mnemonic

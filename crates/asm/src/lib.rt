@@ -6,6 +6,7 @@ mod disassembler;
 mod fault;
 mod helper;
 mod kept;
+mod laws;
 mod line;
 mod mnemonic;
 mod number;
@@ -19,6 +20,7 @@ mod statement;
 pub use assembler::assemble;
 pub use disassembler::disassemble;
 pub use fault::{AsmError, Fault};
+pub use laws::{mnemonics_are_named, registers_are_numbered};
 
 #[cfg(test)]
 mod tests;

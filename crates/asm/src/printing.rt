@@ -1,6 +1,6 @@
 //! Instructions as text.
 
-ghost use Rattle.std.specs.Prelude.{◌≡◌, ◌++◌, decimal, string_bytes, OnOk};
+ghost use Rattle.std.specs.Prelude.{◌≡◌, ◌++◌, codes, decimal, string_bytes, OnOk};
 ghost use Rattle.std.specs.Fmt.{signed_decimal};
 ghost use Rattle.asm.specs.Printing.{register_text, operand_text, signed_text, place_text, word_of, operands_of, operands_text, line_text};
 
@@ -24,6 +24,14 @@ fn put_unsigned(out: &mut String, number: u64) -> Result<(), AllocError>
 {
     let mut buffer = Buffer::new();
     out.push_str(buffer.format(number))?;
+    Ok(())
+}
+
+/// A comma and a space.
+fn put_comma(out: &mut String) -> Result<(), AllocError>
+    ensures { OnOk result (string_bytes out.new ≡ string_bytes out.old ++ codes ", ") }
+{
+    out.push_str(", ")?;
     Ok(())
 }
 
@@ -112,7 +120,7 @@ fn put_operands(out: &mut String, insn: &Insn) -> Result<(), AllocError>
         Insn::Arithmetic { dst, operand, .. } => {
             out.push_str(" ")?;
             put_register(out, *dst)?;
-            out.push_str(", ")?;
+            put_comma(out)?;
             put_operand(out, *operand)
         }
         Insn::Negate { dst, .. } => {
@@ -122,7 +130,7 @@ fn put_operands(out: &mut String, insn: &Insn) -> Result<(), AllocError>
         Insn::SignExtend { dst, src, .. } => {
             out.push_str(" ")?;
             put_register(out, *dst)?;
-            out.push_str(", ")?;
+            put_comma(out)?;
             put_register(out, *src)
         }
         Insn::Swap { dst, .. } => {
@@ -132,7 +140,7 @@ fn put_operands(out: &mut String, insn: &Insn) -> Result<(), AllocError>
         Insn::LoadNumber { dst, number } => {
             out.push_str(" ")?;
             put_register(out, *dst)?;
-            out.push_str(", ")?;
+            put_comma(out)?;
             put_unsigned(out, *number)
         }
         Insn::Jump { distance } => {
@@ -151,9 +159,9 @@ fn put_operands(out: &mut String, insn: &Insn) -> Result<(), AllocError>
         } => {
             out.push_str(" ")?;
             put_register(out, *dst)?;
-            out.push_str(", ")?;
+            put_comma(out)?;
             put_operand(out, *operand)?;
-            out.push_str(", ")?;
+            put_comma(out)?;
             put_signed(out, *distance as i64)
         }
         Insn::Load {
@@ -170,7 +178,7 @@ fn put_operands(out: &mut String, insn: &Insn) -> Result<(), AllocError>
         } => {
             out.push_str(" ")?;
             put_register(out, *dst)?;
-            out.push_str(", ")?;
+            put_comma(out)?;
             put_place(out, *base, *offset)
         }
         Insn::Store {
@@ -181,7 +189,7 @@ fn put_operands(out: &mut String, insn: &Insn) -> Result<(), AllocError>
         } => {
             out.push_str(" ")?;
             put_place(out, *base, *offset)?;
-            out.push_str(", ")?;
+            put_comma(out)?;
             put_operand(out, *source)
         }
         Insn::Call { helper } => {

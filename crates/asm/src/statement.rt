@@ -109,9 +109,9 @@ fn sign_extend<'a>(
 ) -> Result<Statement<'a>, Fault>
     ensures { GivesResult source_view result (source_of (words.SignExtend width part) (map (λ r. r.now) operands.now)) }
 {
-    let (a, b) = two_operands(operands).ok_or(Fault::Operand)?;
-    let dst = register(a).ok_or(Fault::Operand)?;
-    let src = register(b).ok_or(Fault::Operand)?;
+    let (first, second) = two_operands(operands).ok_or(Fault::Operand)?;
+    let dst = register(first).ok_or(Fault::Operand)?;
+    let src = register(second).ok_or(Fault::Operand)?;
     Ok(plain(Insn::SignExtend {
         width,
         part,

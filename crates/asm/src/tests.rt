@@ -69,7 +69,10 @@ fn instructions_are_those_of_the_table(rt: HostRuntime) -> Result<(), Fail> {
     };
     assert_eq!(rt; first(a, "sub.w r3, -1") == Some(sub), true);
     let number = 0x1122334455667788;
-    assert_eq!(rt; first(a, "lddw r1, 0x1122334455667788") == Some(Insn::LoadNumber { dst: r1, number }), true);
+    assert_eq!(rt;
+        first(a, "lddw r1, 0x1122334455667788") == Some(Insn::LoadNumber { dst: r1, number }),
+        true
+    );
     let jump = Insn::Branch {
         width: w,
         condition: Condition::SignedAbove,
@@ -98,18 +101,31 @@ fn instructions_are_those_of_the_table(rt: HostRuntime) -> Result<(), Fail> {
         dst: r3,
     };
     assert_eq!(rt; first(a, "be16 r3") == Some(swap), true);
-    assert_eq!(rt; first(a, "ja.w +2") == Some(Insn::LongJump { distance: 2 }), true);
-    assert_eq!(rt; first(a, "call board_get") == Some(Insn::Call { helper: 1 }), true);
-    assert_eq!(rt; first(a, "call honest") == Some(Insn::Call { helper: 9 }), true);
+    assert_eq!(rt;
+        first(a, "ja.w +2") == Some(Insn::LongJump { distance: 2 }),
+        true
+    );
+    assert_eq!(rt;
+        first(a, "call board_get") == Some(Insn::Call { helper: 1 }),
+        true
+    );
+    assert_eq!(rt;
+        first(a, "call honest") == Some(Insn::Call { helper: 9 }),
+        true
+    );
     Ok(())
 }
 
 #[test]
 fn programs_are_printed_in_one_form(rt: HostRuntime) -> Result<(), Fail> {
     let a = rt.alloc();
-    let text = "start: lddw r1, -1 ; wide\n\n mov.w r2 ,-1\nback:add r1, r2\nstxd [r10-8], r1\nstd [r10-0x10], 5\nldd r3,[r10]\njsgt.w r1, -3, end\nja back\ncall send\nend:exit\n";
+    let text =
+        "start: lddw r1, -1 ; wide\n\n mov.w r2 ,-1\nback:add r1, r2\nstxd [r10-8], r1\nstd [r10-0x10], 5\nldd r3,[r10]\njsgt.w r1, -3, end\nja back\ncall send\nend:exit\n";
     let program = assemble(a, text).ok().ok_or("a program")?;
     let printed = disassemble(a, &program)?;
-    assert_eq!(rt; printed.as_str(), "lddw r1, 18446744073709551615\nmov.w r2, -1\nadd r1, r2\nstxd [r10-8], r1\nstd [r10-16], 5\nldd r3, [r10+0]\njsgt.w r1, -3, +2\nja -6\ncall 6\nexit\n");
+    assert_eq!(rt;
+        printed.as_str(),
+        "lddw r1, 18446744073709551615\nmov.w r2, -1\nadd r1, r2\nstxd [r10-8], r1\nstd [r10-16], 5\nldd r3, [r10+0]\njsgt.w r1, -3, +2\nja -6\ncall 6\nexit\n"
+    );
     Ok(())
 }
