@@ -1,4 +1,4 @@
-ghost use Rattle.std.specs.Prelude.{◌≡◌, ◌≢◌, ◌<◌, ◌≤◌, ◌+◌, ◌∷◌, [], length, find, option_map};
+ghost use Rattle.std.specs.Prelude.{◌≡◌, ◌≢◌, ◌<◌, ◌≤◌, ◌+◌, ◌∷◌, ◌++◌, [], length, find, option_map};
 ghost use Rattle.combine.specs.Rule.{majority};
 ghost use Rattle.label.specs.Oral.{om, taken};
 ghost use Rattle.book.specs.Decisions.{decision_of, decisions_of, AgreesIfBound};
@@ -73,13 +73,21 @@ fn decide<C: Combine>(
                 let longer = label.with(j);
                 decide(rule, generals, messages, relays - 1, &longer, general)
             };
-            orders.push(order);
+            put(&mut orders, order);
         }
     }
     rule.combine(orders.as_slice())
 }
 
-/// The order that a line tells, RETREAT where there is none.
+/// One more order behind the others, RETREAT too.
+fn put(orders: &mut ArrayVec<u32, 13>, order: u32)
+    requires { length orders.old.items < 13 }
+    ensures { orders.new.items ≡ orders.old.items ++ order ∷ [] }
+{
+    orders.push(order);
+}
+
+/// The order that a message tells, RETREAT where there is none.
 #[tactic(auto, unfolding(crate::specs::Table::told))]
 fn order_told(messages: &[Message], label: &Label, receiver: u8) -> u32
     ensures { result ≡ taken (told messages.now) label.now receiver }
@@ -90,7 +98,7 @@ fn order_told(messages: &[Message], label: &Label, receiver: u8) -> u32
     }
 }
 
-/// The first line about a label and receiver.
+/// The first message about a label and receiver.
 fn message_about<'a>(messages: &'a [Message], label: &Label, receiver: u8) -> Option<&'a Message>
     ensures { option_map (λ message. message.now) result ≡ find (is_about label.now receiver) messages.now }
 {
