@@ -1,7 +1,7 @@
 ghost use Rattle.std.specs.Prelude.{◌≡◌, ◌≢◌, ◌<◌, ◌≤◌, ◌+◌, ◌∷◌, ◌++◌, [], length, find, option_map};
 ghost use Rattle.combine.specs.Rule.{majority};
 ghost use Rattle.label.specs.Oral.{om, taken};
-ghost use Rattle.book.specs.Decisions.{decision_of, decisions_of, AgreesIfBound};
+ghost use Rattle.book.specs.Decisions.{decision_of, decisions_of, TableAgrees};
 ghost use Rattle.book.specs.Table.{told, is_about};
 
 use crate::message::Message;
@@ -33,7 +33,7 @@ pub fn decision(table: &Table, general: u8) -> u32
 /// What the lieutenants decide, ascending by number: the loyal ones alike, where few enough are traitors.
 pub fn decisions(table: &Table) -> ArrayVec<u32, 12>
     ensures values { result.items ≡ decisions_of table.now }
-    ensures agree { AgreesIfBound table.now.generals table.now.commander table.now.bound (told table.now.messages) result.items }
+    ensures agree { TableAgrees table.now result.items }
 {
     agreement();
     let generals = table.generals();
