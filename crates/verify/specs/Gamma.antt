@@ -30,6 +30,16 @@ RegistersDescribe known registers = AllZip Contains known registers
 pub record Describes (a : AbsState) (s : State) : Type 0 where
   pub registers : RegistersDescribe a.registers s.registers
 
+-- what is known where two paths meet
+abbrev pub joined : AbsVal → AbsVal → AbsVal
+joined Unset b = Unset
+joined Number Unset = Unset
+joined Number Number = Number
+joined Number Pointer = Unset
+joined Pointer Unset = Unset
+joined Pointer Number = Unset
+joined Pointer Pointer = Pointer
+
 -- what is known at the entry
 abbrev pub entry_known : List AbsVal
 entry_known = Unset ∷ Pointer ∷ Unset ∷ Unset ∷ Unset ∷ Unset ∷ Unset ∷ Unset ∷ Unset ∷ Unset ∷ Pointer ∷ []

@@ -59,6 +59,7 @@ pub fn first(registers: &[AbsVal; 11], operation: Operation, dst: Reg) -> AbsVal
 
 /// A register holds another value.
 pub fn write(registers: &mut [AbsVal; 11], r: Reg, value: AbsVal)
+    ensures exact { registers.new ≡ slice_set registers.old r value }
     ensures holds { (vs : List Value) (v : Value) → RegistersDescribe registers.old vs → Contains value v → RegistersDescribe registers.new (slice_set vs r v) }
     ensures numbers { is_number value ≡ true → LeavesBut (r ∷ []) registers.old registers.new }
 {

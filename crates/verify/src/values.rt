@@ -4,7 +4,7 @@ ghost use Rattle.word.specs.declared.Width.{Width};
 ghost use Rattle.word.specs.declared.Condition.{Condition};
 ghost use Rattle.semantics.specs.declared.value.Value.{Value};
 ghost use Rattle.semantics.specs.Step.{combined, mapped, condition_of};
-ghost use Rattle.verify.specs.Gamma.{Contains, Gives, is_number};
+ghost use Rattle.verify.specs.Gamma.{joined, Contains, Gives, is_number};
 ghost use Rattle.verify.specs.Outcomes.{IsTest};
 
 use crate::state::AbsVal;
@@ -58,6 +58,7 @@ pub fn is_comparable(a: AbsVal, b: AbsVal) -> bool
 
 /// What is known where two paths meet.
 pub fn join(a: AbsVal, b: AbsVal) -> AbsVal
+    ensures exact { result ≡ joined a b }
     ensures left { (x : Value) → Contains a x → Contains result x }
     ensures right { (x : Value) → Contains b x → Contains result x }
     ensures numbers { is_number a ≡ true → is_number b ≡ true → is_number result ≡ true }
