@@ -11,7 +11,7 @@ use Rattle.clap.proofs.OnLiterals.{clap_on_literals}
 use Rattle.command_line.specs.Asked.{file_in, is_end_of_flags, is_flag, nothing_more, only}
 use Rattle.command_line.specs.Lab.{file_app, lab_app}
 use Rattle.command_line.proofs.WordLemmas.{Fails, HasHelpAlone, held, true_or_false, walk_at}
-use Rattle.command_line.proofs.TurnLemmas.{flag_turn, later_fails, plain_turn, plain_walked, turn_fails, walk_fails}
+use Rattle.command_line.proofs.TurnLemmas.{flag_turn, plain_turn, plain_walked, turn_fails, walk_fails}
 
 -- a subcommand of one file, as it is built
 abbrev pub file_shape : Text → Shape

@@ -1,5 +1,5 @@
 -- What was met, by its parts.
-use Rattle.std.proofs.Common.{◌≡◌, ◌∙◌, List, ℕ, Option, Some, None, Box, Global, ap, codes, refl, sym, option_map, IsSome}
+use Rattle.std.proofs.Common.{◌≡◌, List, Option, Some, None, Box, Global, codes, refl, option_map, IsSome}
 use Rattle.std.specs.Box.{box_value}
 use Rattle.clap.specs.Words.{Row, Text, first_of, subcommand_rows}
 use Rattle.clap.specs.declared.parser.matches.ArgMatches.TheViews.{out-SubCommand}

@@ -1,8 +1,8 @@
 -- One turn of `clap`'s walk, and the levels that fail.
-use Rattle.std.proofs.Common.{◌≡◌, ◌∙◌, Bool, true, false, List, ℕ, [], ◌∷◌, ◌++◌, Option, Some, None, ap, refl, sym, is_some, append_assoc, append-nil}
+use Rattle.std.proofs.Common.{◌≡◌, ◌∙◌, Bool, true, false, List, ℕ, [], ◌∷◌, ◌++◌, Option, Some, None, ap, refl, sym, append_assoc, append-nil}
 use Rattle.std.specs.List.{fold}
-use Rattle.clap.specs.Kinds.{Kinds, or_else}
-use Rattle.clap.specs.Walk.{Held, Names, Row, Rule, Text, Walk, Step, idle, value, arg_by_index, subcommand_met, to_positional, walk, walk_from, walked}
+use Rattle.clap.specs.Kinds.{Kinds}
+use Rattle.clap.specs.Walk.{Held, Names, Row, Rule, Text, Walk, idle, value, arg_by_index, subcommand_met, to_positional, walk_from, walked}
 use Rattle.clap.specs.Simple.{Shape}
 use Rattle.clap.specs.Faults.{level_fault, step_fault, turn_fault, walk_fault}
 use Rattle.command_line.specs.Asked.{is_end_of_flags, is_flag}

@@ -1,12 +1,12 @@
 -- What `clap` makes of one word where the one flag is `--help`, by the rule's tests.
-use Rattle.std.proofs.Common.{◌≡◌, ◌∙◌, ◌==◌, ◌⊎◌, inl, inr, Bool, true, false, List, ℕ, zero, suc, [], ◌∷◌, Option, Some, None, ap, refl, sym, is_some, length, drop, eqb-true, subst}
+use Rattle.std.proofs.Common.{◌≡◌, ◌∙◌, ◌==◌, ◌⊎◌, inl, inr, Bool, true, false, List, ℕ, suc, [], ◌∷◌, Option, Some, None, refl, sym, is_some, length, drop, eqb-true, subst}
 use Rattle.std.specs.Prelude.{slice_get, encode_utf8}
-use Rattle.std.specs.Str.{bytes_eq, chars}
-use Rattle.clap.specs.Lexer.{long_of, short_of}
+use Rattle.std.specs.Str.{chars}
+use Rattle.clap.specs.Lexer.{long_of}
 use Rattle.clap.specs.Kinds.{Kinds, or_else}
-use Rattle.clap.specs.Walk.{Held, Names, Row, Rule, Text, Walk, Step, idle, plain, value, after_flag, bundle_met, arg_by_index, arg_by_long, arg_by_short, long_or_other, subcommand_met, to_positional, walked}
-use Rattle.clap.specs.Simple.{Shape, filled, help_rule}
-use Rattle.clap.specs.Faults.{flag_word_fault, flags_fault, long_fault, react_fault, settle_fault, short_fault, step_fault, turn_fault, word_fault}
+use Rattle.clap.specs.Walk.{Held, Row, Rule, Text, Walk, idle, plain, value, after_flag, bundle_met, arg_by_long, arg_by_short, long_or_other}
+use Rattle.clap.specs.Simple.{filled, help_rule}
+use Rattle.clap.specs.Faults.{flag_word_fault, flags_fault, long_fault, react_fault, settle_fault, short_fault}
 use Rattle.command_line.specs.Asked.{is_end_of_flags, is_flag}
 
 -- some error comes
