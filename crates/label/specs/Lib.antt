@@ -1,3 +1,6 @@
 pub mod Labels
 pub mod Relay
 pub mod Oral
+pub mod Laws
+pub mod Generals
+pub mod Space

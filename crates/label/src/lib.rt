@@ -1,6 +1,16 @@
 //! Labels of relayed orders, and oral messages over them. What is said of them stands in specs/.
 #![tactic(auto)]
 
+mod label;
+mod laws;
+mod ranking;
 mod shape;
+mod space;
 
+pub use label::Label;
+pub use laws::{
+    children_stand, labels_are_counted, labels_are_exact, labels_ascend, labels_differ,
+};
+pub use ranking::{count, rank, unrank};
 pub use shape::Shape;
+pub use space::{LabelError, Space};

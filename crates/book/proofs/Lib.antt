@@ -1,0 +1,3 @@
+pub mod Induction
+pub mod Steps
+pub mod Listed

@@ -1,0 +1,60 @@
+-- The agreement theorem, place by place of a list of decisions.
+use Rattle.std.proofs.Common.{ℕ, zero, suc, ◌+◌, ◌<◌, ◌≤◌, ◌≡◌, ◌≢◌, Bool, true, false, List, [], ◌∷◌, map, length, get_or, refl, sym, ap, ◌∙◌, arith, inl, inr}
+use Rattle.std.specs.Prelude.{◌==◌, slice_index}
+use Rattle.std.proofs.lemmas.Bool.{or_left, or_right, or_parts, eq-eqb, eqb-false, cases_lt}
+use Rattle.std.proofs.lemmas.List.{length-map}
+use Rattle.combine.specs.Rule.{IsMajorityRule, majority}
+use Rattle.label.specs.Labels.{on, others}
+use Rattle.label.specs.Oral.{om, Messages, Agree, IsLoyalLieutenant}
+use Rattle.label.proofs.Counting.{others-on}
+use Rattle.label.proofs.Ranks.{others-count}
+use Rattle.book.specs.Theorem.{AgreementHolds}
+use Rattle.book.specs.Table.{MessageTable, told}
+use Rattle.book.specs.Decisions.{lieutenants, decision_of, decisions_of, IsLoyalAt, AgreesIfBound}
+use Rattle.book.proofs.Steps.{entries_few}
+
+on-get_or : (xs : List ℕ) (i : ℕ) → i < length xs → on xs (get_or xs i 0) ≡ true
+on-get_or [] i l = absurd (omega arith)
+on-get_or (x ∷ xs) zero l = or_left (x == x) (on xs x) (eq-eqb x x refl)
+on-get_or (x ∷ xs) (suc i) l = or_right (x == get_or xs i 0) (on xs (get_or xs i 0)) (on-get_or xs i (omega arith))
+
+read_map : (d : ℕ → ℕ) (xs : List ℕ) (i : ℕ) → i < length xs → get_or (map d xs) i 0 ≡ d (get_or xs i 0)
+read_map d [] i l = absurd (omega arith)
+read_map d (x ∷ xs) zero l = refl
+read_map d (x ∷ xs) (suc i) l = read_map d xs i (omega arith)
+
+loyal_at : (n c : ℕ) (traitor : ℕ → Bool) (i : ℕ) → IsLoyalAt n c traitor i → IsLoyalLieutenant n c traitor (slice_index (lieutenants n c) i)
+loyal_at n c traitor i a =
+    let there = others-on n (c ∷ []) (get_or (lieutenants n c) i 0) (on-get_or (lieutenants n c) i a.within) in
+    record { general = there.0; lieutenant = λ e. eqb-false c (get_or (lieutenants n c) i 0) (or_parts (c == get_or (lieutenants n c) i 0) false there.1).0 (sym e); loyal = a.loyal }
+
+-- the decisions of the recursion, in the order of the lieutenants, agree
+pub listed : (f : List ℕ → ℕ) → IsMajorityRule f → AgreementHolds → (n c m : ℕ) (M : Messages) → c < n → AgreesIfBound n c m M (map (om f n M m (c ∷ [])) (lieutenants n c))
+listed f law holds n c m M inside order traitor bound faithful =
+    let all : Agree n c order traitor (om f n M m (c ∷ [])) = holds f law n c m order traitor M inside bound faithful in
+    record {
+      alike = λ i j a b. read_map (om f n M m (c ∷ [])) (lieutenants n c) i a.within ∙ (all.alike _ _ (loyal_at n c traitor i a) (loyal_at n c traitor j b) ∙ sym (read_map (om f n M m (c ∷ [])) (lieutenants n c) j b.within));
+      obeyed = λ good i a. read_map (om f n M m (c ∷ [])) (lieutenants n c) i a.within ∙ all.obeyed good _ (loyal_at n c traitor i a);
+    }
+
+-- those of a table too
+pub table_agrees : IsMajorityRule majority → AgreementHolds → (t : MessageTable) → t.commander < t.generals → AgreesIfBound t.generals t.commander t.bound (told t.lines) (decisions_of t)
+unfolding decisions_of decision_of
+table_agrees law holds t inside = listed majority law holds t.generals t.commander t.bound (told t.lines) inside
+
+pub listed_all : (t : MessageTable) (decisions : List ℕ) (k : ℕ) → t.generals ≤ k → k ≤ t.generals → decisions ≡ map (decision_of t) (others k (t.commander ∷ [])) → decisions ≡ decisions_of t
+unfolding decisions_of
+listed_all t decisions k a b e =
+    let same : k ≡ t.generals = omega arith in
+    e ∙ ap (λ (i : ℕ). map (decision_of t) (others i (t.commander ∷ []))) same
+
+-- fewer than twelve lieutenants come before one
+pub few_before : (F : ℕ → ℕ) (n c g : ℕ) → n ≤ 13 → c < n → g < n → g ≢ c → length (map F (others g (c ∷ []))) < 12
+few_before F n c g small inside within ne =
+    elim (cases_lt c g) [
+      | inl l ↦
+          let count : length (others g (c ∷ [])) + 1 ≡ g = others-count g (c ∷ []) refl (l, tt) in
+          let same : length (map F (others g (c ∷ []))) ≡ length (others g (c ∷ [])) = length-map (others g (c ∷ [])) F in
+          omega arith
+      | inr l ↦ let few : length (map F (others g (c ∷ []))) ≤ g = entries_few F (c ∷ []) g in omega arith
+    ]

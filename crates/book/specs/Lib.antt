@@ -1,0 +1,4 @@
+pub mod Theorem
+pub mod Table
+pub mod Decisions
+pub mod Entry

@@ -1,0 +1,100 @@
+ghost use Rattle.std.specs.Prelude.{◌≡◌, ◌≢◌, ◌<◌, ◌≤◌, ◌+◌, ◌∷◌, [], length, find, option_map};
+ghost use Rattle.combine.specs.Rule.{majority};
+ghost use Rattle.label.specs.Oral.{om, taken};
+ghost use Rattle.book.specs.Decisions.{decision_of, decisions_of, AgreesIfBound};
+ghost use Rattle.book.specs.Table.{told, is_about};
+
+use crate::line::Line;
+use crate::table::Table;
+use crate::theorem::agreement;
+use arrayvec::ArrayVec;
+use combine::{Combine, Majority};
+use label::Label;
+
+/// What a lieutenant decides, by the recursion of OM(m) over the table's lines (TOPLAS 1982). Slow and plain.
+#[tactic(auto, unfolding(crate::specs::Decisions::decision_of))]
+pub fn decision(table: &Table, general: u8) -> u32
+    requires general { general < table.now.generals }
+    requires lieutenant { general ≢ table.now.commander }
+    ensures { result ≡ decision_of table.now general }
+{
+    let generals = table.generals();
+    let label = Label::of(table.commander());
+    decide(
+        &Majority,
+        generals,
+        table.lines(),
+        table.bound(),
+        &label,
+        general,
+    )
+}
+
+/// What the lieutenants decide, ascending by number: the loyal ones alike, where few enough are traitors.
+pub fn decisions(table: &Table) -> ArrayVec<u32, 12>
+    ensures values { result.items ≡ decisions_of table.now }
+    ensures agree { AgreesIfBound table.now.generals table.now.commander table.now.bound (told table.now.lines) result.items }
+{
+    agreement();
+    let generals = table.generals();
+    let commander = table.commander();
+    let mut decisions = ArrayVec::new();
+    for general in 0..generals {
+        if general != commander {
+            decisions.push(decision(table, general));
+        }
+    }
+    decisions
+}
+
+/// The decision about a label, with so many relays left.
+fn decide<C: Combine>(
+    rule: &C,
+    generals: u8,
+    lines: &[Line],
+    relays: u8,
+    label: &Label,
+    general: u8,
+) -> u32
+    requires within { generals ≤ 13 }
+    requires room { length label.now + relays ≤ 13 }
+    ensures { result ≡ om (C.combined rule.now) generals (told lines.now) relays label.now general }
+{
+    let own = order_told(lines, label, general);
+    if relays == 0 {
+        return own;
+    }
+    let mut orders: ArrayVec<u32, 13> = ArrayVec::new();
+    for j in 0..generals {
+        if !label.has(j) {
+            let order = if j == general {
+                own
+            } else {
+                let longer = label.with(j);
+                decide(rule, generals, lines, relays - 1, &longer, general)
+            };
+            orders.push(order);
+        }
+    }
+    rule.combine(orders.as_slice())
+}
+
+/// The order that a line tells, RETREAT where there is none.
+#[tactic(auto, unfolding(crate::specs::Table::told))]
+fn order_told(lines: &[Line], label: &Label, receiver: u8) -> u32
+    ensures { result ≡ taken (told lines.now) label.now receiver }
+{
+    match line_about(lines, label, receiver) {
+        Some(line) => line.order,
+        None => 0,
+    }
+}
+
+/// The first line about a label and receiver.
+pub(crate) fn line_about<'a>(lines: &'a [Line], label: &Label, receiver: u8) -> Option<&'a Line>
+    ensures { option_map (λ line. line.now) result ≡ find (is_about label.now receiver) lines.now }
+{
+    lines
+        .iter()
+        .find(|line| line.receiver == receiver && line.label.same(label))
+}

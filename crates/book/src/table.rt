@@ -1,0 +1,77 @@
+ghost use Rattle.std.specs.Prelude.{◌≡◌, ◌<◌, ◌≤◌, [], ◌∷◌, ◌++◌, OnOk, OnErr};
+ghost use Rattle.book.specs.Table.{MessageTable, IsWithin};
+
+use crate::line::Line;
+use std::alloc::{AllocError, Global};
+use std::marker::Model;
+
+/// A message table: a campaign's numbers, and its messages.
+#[derive(Drop)]
+pub struct Table {
+    generals: u8,
+    bound: u8,
+    commander: u8,
+    lines: Vec<Line>,
+}
+
+impl Model for Table {
+    ghost use Rattle.book.specs.Table.{MessageTable, IsWithin};
+
+    ghost Value = { MessageTable };
+
+    ghost view = { λ t. record { generals = t.generals; bound = t.bound; commander = t.commander; lines = t.lines.items } };
+
+    ghost invariant = { λ t. IsWithin t.generals t.bound t.commander };
+}
+
+impl Table {
+    /// The table of a campaign, without messages.
+    pub(crate) fn open(alloc: Global, generals: u8, bound: u8, commander: u8) -> Table
+        requires { IsWithin generals bound commander }
+        ensures { result ≡ record { generals = generals; bound = bound; commander = commander; lines = [] } }
+    {
+        Table {
+            generals,
+            bound,
+            commander,
+            lines: Vec::new(alloc),
+        }
+    }
+
+    /// One message more.
+    pub(crate) fn push(&mut self, line: Line) -> Result<(), AllocError>
+        ensures ok { OnOk result (self.new ≡ record self.old { lines = self.old.lines ++ line ∷ [] }) }
+    {
+        self.lines.push(line)?;
+        Ok(())
+    }
+
+    /// How many generals there are, 2 to 13.
+    pub fn generals(&self) -> u8
+        ensures value { result ≡ self.now.generals }
+        ensures within { IsWithin self.now.generals self.now.bound self.now.commander }
+    {
+        self.generals
+    }
+
+    /// The greatest number of traitors that the campaign is made for, 0 to 4.
+    pub fn bound(&self) -> u8
+        ensures { result ≡ self.now.bound }
+    {
+        self.bound
+    }
+
+    /// The commander's number.
+    pub fn commander(&self) -> u8
+        ensures { result ≡ self.now.commander }
+    {
+        self.commander
+    }
+
+    /// The messages, in the order of the text.
+    pub fn lines(&self) -> &[Line]
+        ensures { result.now ≡ self.now.lines }
+    {
+        self.lines.as_slice()
+    }
+}

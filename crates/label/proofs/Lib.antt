@@ -1,0 +1,10 @@
+pub mod Counting
+pub mod Pushes
+pub mod Ranks
+pub mod Places
+pub mod Bounds
+pub mod Order
+pub mod Same
+pub mod Own
+pub mod Listing
+pub mod Counts

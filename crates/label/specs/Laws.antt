@@ -1,0 +1,33 @@
+-- What holds of the list of labels. Each statement is the contract of a function of this crate.
+use Rattle.std.specs.Prelude.{ℕ, suc, ◌+◌, ◌-◌, ◌*◌, ◌<◌, ◌≡◌, ◌≢◌, false, List, [], ◌∷◌, ◌++◌, length, Some, slice_get, ◌⊎◌}
+use Rattle.label.specs.Labels.{on, others, labels}
+use Rattle.label.specs.Oral.{IsLabel}
+
+-- the list of a length has exactly the labels of that length that lack p
+pub record LabelsAreExact : Type 0 where
+  pub only : (n c p k r : ℕ) (w : List ℕ) → c < n → p < n → p ≢ c → slice_get (labels n c p k) r ≡ Some w → IsLabel n c w × (on w p ≡ false) × (length w ≡ k)
+  pub all : (n c p : ℕ) (w : List ℕ) → c < n → p < n → p ≢ c → IsLabel n c w → on w p ≡ false → (r : ℕ) × (slice_get (labels n c p (length w)) r ≡ Some w)
+
+-- no label stands twice
+abbrev pub LabelsDiffer : Type 0
+LabelsDiffer = (n c p k i j : ℕ) (w : List ℕ) → c < n → p < n → p ≢ c → slice_get (labels n c p k) i ≡ Some w → slice_get (labels n c p k) j ≡ Some w → i ≡ j
+
+-- of two lists of one length, the first comes before the second in lexicographic order
+abbrev pub LexBelow : List ℕ → List ℕ → Type 0
+LexBelow [] ys = ⊥
+LexBelow (x ∷ xs) [] = ⊥
+LexBelow (x ∷ xs) (y ∷ ys) = (x < y) ⊎ ((x ≡ y) × LexBelow xs ys)
+
+-- the list ascends
+abbrev pub LabelsAscend : Type 0
+LabelsAscend = (n c p k i j : ℕ) (v w : List ℕ) → c < n → p < n → p ≢ c → i < j → slice_get (labels n c p k) i ≡ Some v → slice_get (labels n c p k) j ≡ Some w → LexBelow v w
+
+-- one label of the commander alone, and as many as the product says of each further length
+pub record LabelsAreCounted : Type 0 where
+  pub first : (n c p : ℕ) → p ≢ c → length (labels n c p 1) ≡ 1
+  pub further : (n c p k : ℕ) → c < n → p < n → p ≢ c → length (labels n c p (suc (suc k))) ≡ length (labels n c p (suc k)) * (n - 2 - k)
+
+-- the children of the label at rank r, those with one general more, stand together and in the order of that general
+abbrev pub ChildrenStand : Type 0
+ChildrenStand = (n c p k r t j : ℕ) (w : List ℕ) → c < n → p < n → p ≢ c → slice_get (labels n c p (suc k)) r ≡ Some w → slice_get (others n (p ∷ w)) t ≡ Some j
+    → slice_get (labels n c p (suc (suc k))) (r * (n - 2 - k) + t) ≡ Some (w ++ j ∷ [])

@@ -1,0 +1,23 @@
+-- The labels of a campaign that lack one lieutenant.
+use Rattle.std.specs.Prelude.{ℕ, ◌<◌, ◌≤◌, ◌≢◌, List, Bool, false, not, ◌&&◌, ◌==◌, nat_lt, [], ◌∷◌}
+use Rattle.std.specs.List.{list_all}
+use Rattle.label.specs.Labels.{on, labels}
+use Rattle.label.specs.declared.space.Space.{Space}
+
+-- a campaign's numbers, seen by one lieutenant
+pub record IsSpace (s : Space) : Type 0 where
+  pub generals : s.generals ≤ 13
+  pub commander : s.commander < s.generals
+  pub general : s.general < s.generals
+  pub lieutenant : s.general ≢ s.commander
+
+abbrev pub labels_of : Space → ℕ → List (List ℕ)
+labels_of s k = labels s.generals s.commander s.general k
+
+abbrev pub begins_with : ℕ → List ℕ → Bool
+begins_with c [] = false
+begins_with c (x ∷ xs) = x == c
+
+-- whether the list, of different generals, is a label of the space
+abbrev pub is_label_of : Space → List ℕ → Bool
+is_label_of s w = begins_with s.commander w && list_all (λ x. nat_lt x s.generals) w && not (on w s.general)

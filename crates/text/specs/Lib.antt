@@ -1,0 +1,4 @@
+pub mod Options
+pub mod Stop
+pub mod Parts
+pub mod Number
