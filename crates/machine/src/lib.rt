@@ -1,0 +1,11 @@
+//! The machine: it runs a verified program, step by step as it is written.
+#![tactic(auto)]
+
+mod activation;
+mod arithmetic;
+mod execution;
+mod pause;
+mod registers;
+
+pub use activation::Activation;
+pub use pause::{Ended, Pause};

@@ -1,0 +1,5 @@
+pub mod Parts
+pub mod Numbers
+pub mod Writing
+pub mod StoredPointers
+pub mod Loading

@@ -1,0 +1,89 @@
+ghost use Rattle.std.specs.Prelude.{◌≡◌, ◌+◌, ◌≤◌, Ok, Err, OnOk, IfErr};
+ghost use Rattle.insn.specs.Insn.{bytes_of, part_bytes};
+ghost use Rattle.semantics.specs.Memory.{loaded, loaded_signed, stored, value_in};
+ghost use Rattle.mem.specs.Answers.{IsAnswer, cause_of};
+ghost use Rattle.mem.specs.Places.{part_at, room_of};
+ghost use Rattle.mem.specs.Reading.{number_in};
+
+use crate::context::Context;
+use crate::fault::MemoryFault;
+use crate::stack::Stack;
+use crate::window::{place_at, stack_place};
+use insn::Size;
+use semantics::{Region, Value};
+use word::arithmetic::sign_extend;
+use word::{Narrow, Width};
+
+/// What stands at a pointer and a distance, zero-extended; of 8 pieces of one pointer, that pointer (RFC 9669, section 5.1).
+pub fn load(stack: &Stack, context: &Context, size: Size, base: Value, distance: i16) -> Result<Value, MemoryFault>
+    ensures { IsAnswer (loaded context.now stack.now (bytes_of size) base distance) result }
+{
+    let (region, place) = place_at(base, distance, size)?;
+    value_in(stack, context, region, place, size)
+}
+
+/// The number in 1, 2 or 4 bytes at a pointer and a distance, extended by its sign (RFC 9669, section 5.2).
+pub fn load_signed(stack: &Stack, context: &Context, part: Narrow, base: Value, distance: i16) -> Result<Value, MemoryFault>
+    ensures { IsAnswer (loaded_signed context.now stack.now part base distance) result }
+{
+    let size = size_of(part);
+    let (region, place) = place_at(base, distance, size)?;
+    let number = number_in(stack, context, region, place, size)?;
+    Ok(Value::Number(sign_extend(Width::W64, part, number)))
+}
+
+/// What a window of a region holds.
+fn value_in(stack: &Stack, context: &Context, region: Region, place: usize, size: Size) -> Result<Value, MemoryFault>
+    requires { place + bytes_of size ≤ room_of region }
+    ensures { IsAnswer (value_in (part_at context.now stack.now (bytes_of size) (region, place))) result }
+{
+    match region {
+        Region::Stack => stack.value(place, size),
+        Region::Context => Ok(Value::Number(context.number(place, size))),
+    }
+}
+
+/// The number in a window of a region.
+fn number_in(stack: &Stack, context: &Context, region: Region, place: usize, size: Size) -> Result<u64, MemoryFault>
+    requires { place + bytes_of size ≤ room_of region }
+    ensures { IsAnswer (number_in (part_at context.now stack.now (bytes_of size) (region, place))) result }
+{
+    match region {
+        Region::Stack => stack.number(place, size),
+        Region::Context => Ok(context.number(place, size)),
+    }
+}
+
+/// How much is loaded for a part.
+fn size_of(part: Narrow) -> Size
+    ensures { bytes_of result ≡ part_bytes part }
+{
+    match part {
+        Narrow::Byte => Size::Byte,
+        Narrow::Half => Size::Half,
+        Narrow::Word => Size::Word,
+    }
+}
+
+/// Writes the low bytes of a number, or a whole pointer, at a pointer and a distance (RFC 9669, section 5.1).
+pub fn store(stack: &mut Stack, size: Size, base: Value, distance: i16, value: Value) -> Result<(), MemoryFault>
+    ensures stored { OnOk result (stored stack.old (bytes_of size) base distance value ≡ Ok stack.new) }
+    ensures refused { IfErr result (λ f. stored stack.old (bytes_of size) base distance value ≡ Err (cause_of f)) }
+    ensures kept { IfErr result (λ _. stack.new ≡ stack.old) }
+{
+    let place = stack_place(base, distance, size)?;
+    match value {
+        Value::Unset => Err(MemoryFault::UnsetRegister),
+        Value::Number(number) => {
+            stack.put_number(place, size, number);
+            Ok(())
+        }
+        Value::Pointer(region, offset) => match size {
+            Size::Double => {
+                stack.put_pointer(place, region, offset);
+                Ok(())
+            }
+            _ => Err(MemoryFault::PointerUse),
+        },
+    }
+}

@@ -1,0 +1,86 @@
+ghost use Rattle.std.specs.Prelude.{◌≡◌, ◌≢◌, ◌+◌, ◌≤◌, length, take, drop, IfSome, IfNone};
+ghost use Rattle.word.specs.Bytes.{little_number};
+ghost use Rattle.insn.specs.Insn.{bytes_of};
+ghost use Rattle.semantics.specs.Run.{IsContext};
+
+use insn::Size;
+use std::marker::Model;
+
+/// The 4,096 bytes that a program is given to read, borrowed, seen as their list.
+#[derive(Debug, Drop)]
+pub struct Context<'a> {
+    bytes: &'a [u8],
+}
+
+impl<'a> Model for Context<'a> {
+    ghost use Rattle.std.specs.Prelude.{ℕ, List};
+    ghost use Rattle.semantics.specs.Run.{IsContext};
+
+    ghost Value = { List ℕ };
+
+    ghost view = { λ c. c.bytes.now };
+
+    ghost invariant = { λ c. IsContext c.bytes.now };
+}
+
+impl<'a> Context<'a> {
+    /// How many bytes it has.
+    pub const BYTES: usize = 4096;
+
+    /// The context of these bytes, where they are 4,096.
+    pub fn new(bytes: &'a [u8]) -> Option<Context<'a>>
+        ensures some { IfSome result (λ c. (c ≡ bytes.now) × IsContext bytes.now) }
+        ensures none { IfNone result (length bytes.now ≢ 4096) }
+    {
+        if bytes.len() == Self::BYTES {
+            Some(Context { bytes })
+        } else {
+            None
+        }
+    }
+
+    /// Its bytes.
+    pub fn bytes(&self) -> &[u8]
+        ensures same { result.now ≡ self.now }
+        ensures context { IsContext self.now }
+    {
+        self.bytes
+    }
+
+    /// The number that so many bytes spell, the lowest first.
+    pub(crate) fn number(&self, place: usize, size: Size) -> u64
+        requires { place + bytes_of size ≤ 4096 }
+        ensures { result ≡ little_number (take (bytes_of size) (drop place self.now)) }
+    {
+        match size {
+            Size::Byte => u64::from(self.bytes[place]),
+            Size::Half => u64::from(half_at(self.bytes, place)),
+            Size::Word => u64::from(word_at(self.bytes, place)),
+            Size::Double => double_at(self.bytes, place),
+        }
+    }
+}
+
+/// The number in 2 bytes.
+fn half_at(bytes: &[u8], place: usize) -> u16
+    requires { place + 2 ≤ length bytes.now }
+    ensures { result ≡ little_number (take 2 (drop place bytes.now)) }
+{
+    u16::from(bytes[place]) + 256 * u16::from(bytes[place + 1])
+}
+
+/// The number in 4 bytes.
+fn word_at(bytes: &[u8], place: usize) -> u32
+    requires { place + 4 ≤ length bytes.now }
+    ensures { result ≡ little_number (take 4 (drop place bytes.now)) }
+{
+    u32::from(half_at(bytes, place)) + 0x1_0000 * u32::from(half_at(bytes, place + 2))
+}
+
+/// The number in 8 bytes.
+fn double_at(bytes: &[u8], place: usize) -> u64
+    requires { place + 8 ≤ length bytes.now }
+    ensures { result ≡ little_number (take 8 (drop place bytes.now)) }
+{
+    u64::from(word_at(bytes, place)) + 0x1_0000_0000 * u64::from(word_at(bytes, place + 4))
+}

@@ -1,0 +1,15 @@
+//! What a program reads and writes: the stack and the context, by cells.
+#![tactic(auto)]
+
+mod access;
+mod cells;
+mod context;
+mod fault;
+mod pieces;
+mod stack;
+mod window;
+
+pub use access::{load, load_signed, store};
+pub use context::Context;
+pub use fault::MemoryFault;
+pub use stack::Stack;

@@ -1,0 +1,80 @@
+//! Where windows lie.
+ghost use Rattle.std.specs.Prelude.{◌≡◌, ◌+◌, ◌+ℤ◌, ◌≤◌, IfOk};
+ghost use Rattle.insn.specs.Insn.{bytes_of};
+ghost use Rattle.semantics.specs.Memory.{inside, window, stack_place};
+ghost use Rattle.mem.specs.Answers.{IsAnswer};
+ghost use Rattle.mem.specs.Places.{place_at, room_of};
+
+use crate::fault::MemoryFault;
+use insn::Size;
+use semantics::{Region, Value};
+
+/// How many bytes are read or written.
+fn bytes_of(size: Size) -> usize
+    ensures same { result ≡ bytes_of size }
+    ensures few { result ≤ 8 }
+{
+    match size {
+        Size::Byte => 1,
+        Size::Half => 2,
+        Size::Word => 4,
+        Size::Double => 8,
+    }
+}
+
+/// The place of a window in a room of so many bytes.
+fn inside(room: usize, size: usize, place: i64) -> Result<usize, MemoryFault>
+    requires { size ≤ 8 }
+    ensures answer { IsAnswer (inside room size place) result }
+    ensures fits { IfOk result (λ p. p + size ≤ room) }
+{
+    if place < 0 {
+        return Err(MemoryFault::OutOfBounds);
+    }
+    let place = place as usize;
+    if place + size <= room {
+        Ok(place)
+    } else {
+        Err(MemoryFault::OutOfBounds)
+    }
+}
+
+/// The place of a window in its region.
+fn window(region: Region, offset: i32, distance: i16, size: Size) -> Result<usize, MemoryFault>
+    ensures answer { IsAnswer (window region (offset +ℤ distance) (bytes_of size)) result }
+    ensures fits { IfOk result (λ p. p + bytes_of size ≤ room_of region) }
+{
+    let offset = i64::from(offset) + i64::from(distance);
+    match region {
+        Region::Stack => inside(512, bytes_of(size), offset + 512),
+        Region::Context => inside(4096, bytes_of(size), offset),
+    }
+}
+
+/// The region that a window lies in, and its place there.
+pub fn place_at(base: Value, distance: i16, size: Size) -> Result<(Region, usize), MemoryFault>
+    ensures answer { IsAnswer (place_at base distance (bytes_of size)) result }
+    ensures fits { IfOk result (λ p. p.1 + bytes_of size ≤ room_of p.0) }
+{
+    match base {
+        Value::Unset => Err(MemoryFault::UnsetRegister),
+        Value::Number(_) => Err(MemoryFault::PointerUse),
+        Value::Pointer(region, offset) => {
+            let place = window(region, offset, distance, size)?;
+            Ok((region, place))
+        }
+    }
+}
+
+/// The place of a window that is written.
+pub fn stack_place(base: Value, distance: i16, size: Size) -> Result<usize, MemoryFault>
+    ensures answer { IsAnswer (stack_place base distance (bytes_of size)) result }
+    ensures fits { IfOk result (λ p. p + bytes_of size ≤ 512) }
+{
+    match base {
+        Value::Unset => Err(MemoryFault::UnsetRegister),
+        Value::Number(_) => Err(MemoryFault::PointerUse),
+        Value::Pointer(Region::Stack, offset) => window(Region::Stack, offset, distance, size),
+        Value::Pointer(Region::Context, _) => Err(MemoryFault::ContextWrite),
+    }
+}

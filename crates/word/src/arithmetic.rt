@@ -1,0 +1,214 @@
+//! Arithmetic instructions: two words in, one out.
+
+ghost use Rattle.std.specs.Prelude.{◌≡◌, ◌<◌, ◌^◌, ◌%◌, ℤ};
+ghost use Rattle.std.specs.Int.{cast_signed, cast_unsigned, w32, w64, int_shr};
+ghost use Rattle.word.specs.Arithmetic.{arithmetic, operated, negated, sign_extended, signed_part};
+
+use crate::low::{low_byte, low_half, low_word};
+use crate::{Narrow, Operation, Width};
+
+/// What an operation makes of two words; shift counts are taken modulo 64.
+pub fn alu64(operation: Operation, a: u64, b: u64) -> u64
+    ensures { result ≡ arithmetic Width.W64 operation a b }
+{
+    match operation {
+        Operation::Add => a.wrapping_add(b),
+        Operation::Sub => a.wrapping_sub(b),
+        Operation::Mul => a.wrapping_mul(b),
+        Operation::Div => a.checked_div(b).unwrap_or(0),
+        Operation::SignedDiv => signed_quotient64(a, b),
+        Operation::Or => a | b,
+        Operation::And => a & b,
+        Operation::ShiftLeft => a << (b % 64),
+        Operation::ShiftRight => a >> (b % 64),
+        Operation::Mod => a.checked_rem(b).unwrap_or(a),
+        Operation::SignedMod => signed_remainder64(a, b),
+        Operation::Xor => a ^ b,
+        Operation::Move => b,
+        Operation::ShiftSigned => shifted_signed64(a, b),
+    }
+}
+
+/// The signed quotient, truncated towards zero; 0 where the divisor is.
+fn signed_quotient64(a: u64, b: u64) -> u64
+    ensures { result ≡ operated Width.W64 Operation.SignedDiv a b }
+{
+    if b == 0 {
+        return 0;
+    }
+    a.cast_signed()
+        .wrapping_div(b.cast_signed())
+        .cast_unsigned()
+}
+
+/// What the signed division leaves, with the sign of `a`; `a` where the divisor is 0.
+fn signed_remainder64(a: u64, b: u64) -> u64
+    ensures { result ≡ operated Width.W64 Operation.SignedMod a b }
+{
+    if b == 0 {
+        return a;
+    }
+    a.cast_signed()
+        .wrapping_rem(b.cast_signed())
+        .cast_unsigned()
+}
+
+/// The word shifted right, its sign coming in from above.
+fn shifted_signed64(a: u64, b: u64) -> u64
+    ensures { result ≡ operated Width.W64 Operation.ShiftSigned a b }
+{
+    (a.cast_signed() >> (b % 64)).cast_unsigned()
+}
+
+/// What an operation makes of the low 32 bits of two words; the result is below 2^32,
+/// and shift counts are taken modulo 32.
+pub fn alu32(operation: Operation, a: u64, b: u64) -> u64
+    ensures exact { result ≡ arithmetic Width.W32 operation a b }
+    ensures below { result < 2 ^ 32 }
+{
+    u64::from(operated32(operation, low_word(a), low_word(b)))
+}
+
+/// What an operation makes of two numbers of 32 bits.
+fn operated32(operation: Operation, a: u32, b: u32) -> u32
+    ensures { result ≡ operated Width.W32 operation a b }
+{
+    match operation {
+        Operation::Add => a.wrapping_add(b),
+        Operation::Sub => a.wrapping_sub(b),
+        Operation::Mul => a.wrapping_mul(b),
+        Operation::Div => a.checked_div(b).unwrap_or(0),
+        Operation::SignedDiv => signed_quotient32(a, b),
+        Operation::Or => a | b,
+        Operation::And => a & b,
+        Operation::ShiftLeft => a << (b % 32),
+        Operation::ShiftRight => a >> (b % 32),
+        Operation::Mod => a.checked_rem(b).unwrap_or(a),
+        Operation::SignedMod => signed_remainder32(a, b),
+        Operation::Xor => a ^ b,
+        Operation::Move => b,
+        Operation::ShiftSigned => shifted_signed32(a, b),
+    }
+}
+
+/// The signed quotient, truncated towards zero; 0 where the divisor is.
+fn signed_quotient32(a: u32, b: u32) -> u32
+    ensures { result ≡ operated Width.W32 Operation.SignedDiv a b }
+{
+    if b == 0 {
+        return 0;
+    }
+    a.cast_signed()
+        .wrapping_div(b.cast_signed())
+        .cast_unsigned()
+}
+
+/// What the signed division leaves, with the sign of `a`; `a` where the divisor is 0.
+fn signed_remainder32(a: u32, b: u32) -> u32
+    ensures { result ≡ operated Width.W32 Operation.SignedMod a b }
+{
+    if b == 0 {
+        return a;
+    }
+    a.cast_signed()
+        .wrapping_rem(b.cast_signed())
+        .cast_unsigned()
+}
+
+/// The 32 bits shifted right, its sign coming in from above.
+fn shifted_signed32(a: u32, b: u32) -> u32
+    ensures { result ≡ operated Width.W32 Operation.ShiftSigned a b }
+{
+    (a.cast_signed() >> (b % 32)).cast_unsigned()
+}
+
+/// The word negated, at 32 bits its low 32 bits.
+pub fn negate(width: Width, a: u64) -> u64
+    ensures { result ≡ negated width a }
+{
+    match width {
+        Width::W64 => 0u64.wrapping_sub(a),
+        Width::W32 => u64::from(0u32.wrapping_sub(low_word(a))),
+    }
+}
+
+/// The low bits of a word extended by their sign, at 32 bits to 32 bits.
+pub fn sign_extend(width: Width, part: Narrow, a: u64) -> u64
+    ensures { result ≡ sign_extended width part a }
+{
+    match width {
+        Width::W64 => i64::from(signed_low(part, a)).cast_unsigned(),
+        Width::W32 => u64::from(signed_low(part, a).cast_unsigned()),
+    }
+}
+
+/// The low bits of a word, read as signed.
+fn signed_low(part: Narrow, a: u64) -> i32
+    ensures { result ≡ signed_part part a }
+{
+    match part {
+        Narrow::Byte => i32::from(low_byte(a).cast_signed()),
+        Narrow::Half => i32::from(low_half(a).cast_signed()),
+        Narrow::Word => low_word(a).cast_signed(),
+    }
+}
+
+#[cfg(test)]
+mod tests {
+    use super::*;
+
+    const MINUS_ONE: u64 = u64::MAX;
+
+    const LEAST: u64 = 0x8000_0000_0000_0000;
+
+    #[test]
+    fn divides(rt: HostRuntime) {
+        assert_eq!(rt; alu64(Operation::Div, 5, 0), 0);
+        assert_eq!(rt; alu64(Operation::Mod, 0x1_0000_0005, 0), 0x1_0000_0005);
+        assert_eq!(rt; alu32(Operation::Div, 5, 0), 0);
+        assert_eq!(rt; alu32(Operation::Mod, 0x1_0000_0005, 0), 5);
+        assert_eq!(rt; alu64(Operation::SignedDiv, LEAST, MINUS_ONE), LEAST);
+        assert_eq!(rt; alu64(Operation::SignedMod, LEAST, MINUS_ONE), 0);
+        assert_eq!(rt;
+            alu32(Operation::SignedDiv, 0x8000_0000, MINUS_ONE),
+            0x8000_0000
+        );
+        assert_eq!(rt; alu32(Operation::SignedMod, 0x8000_0000, MINUS_ONE), 0);
+        // -13 by 3: -4, and -1 is left
+        assert_eq!(rt;
+            alu64(Operation::SignedDiv, MINUS_ONE - 12, 3),
+            MINUS_ONE - 3
+        );
+        assert_eq!(rt; alu64(Operation::SignedMod, MINUS_ONE - 12, 3), MINUS_ONE);
+    }
+
+    #[test]
+    fn shifts(rt: HostRuntime) {
+        assert_eq!(rt; alu64(Operation::ShiftLeft, 1, 65), 2);
+        assert_eq!(rt; alu64(Operation::ShiftRight, 8, 65), 4);
+        assert_eq!(rt;
+            alu64(Operation::ShiftSigned, MINUS_ONE - 7, 65),
+            MINUS_ONE - 3
+        );
+        assert_eq!(rt; alu32(Operation::ShiftLeft, 0x8000_0001, 33), 2);
+        assert_eq!(rt; alu32(Operation::ShiftSigned, 0x8000_0000, 31), 0xffff_ffff);
+    }
+
+    #[test]
+    fn extends_signs(rt: HostRuntime) {
+        assert_eq!(rt;
+            sign_extend(Width::W64, Narrow::Byte, 0x80),
+            18_446_744_073_709_551_488
+        );
+        assert_eq!(rt;
+            sign_extend(Width::W32, Narrow::Half, 0x1_8000),
+            0xffff_8000
+        );
+        assert_eq!(rt;
+            sign_extend(Width::W64, Narrow::Word, 0x1_7fff_ffff),
+            0x7fff_ffff
+        );
+        assert_eq!(rt; negate(Width::W64, 1), MINUS_ONE);
+        assert_eq!(rt; negate(Width::W32, 0x1_0000_0000), 0);
+    }
+}

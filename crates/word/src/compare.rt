@@ -1,0 +1,67 @@
+//! Conditions of two words.
+
+ghost use Rattle.std.specs.Prelude.{◌≡◌, ◌↔◌, IsTrue};
+ghost use Rattle.word.specs.Arithmetic.{compared, related};
+
+use crate::low::low_word;
+use crate::{Condition, Width};
+
+/// Whether two words meet a condition.
+pub fn compare64(condition: Condition, a: u64, b: u64) -> bool
+    ensures { result ≡ compared Width.W64 condition a b }
+{
+    match condition {
+        Condition::Equal => a == b,
+        Condition::Above => a > b,
+        Condition::AtLeast => a >= b,
+        Condition::AnyBit => a & b != 0,
+        Condition::Different => a != b,
+        Condition::SignedAbove => a.cast_signed() > b.cast_signed(),
+        Condition::SignedAtLeast => a.cast_signed() >= b.cast_signed(),
+        Condition::Below => a < b,
+        Condition::AtMost => a <= b,
+        Condition::SignedBelow => a.cast_signed() < b.cast_signed(),
+        Condition::SignedAtMost => a.cast_signed() <= b.cast_signed(),
+    }
+}
+
+/// Whether the low 32 bits of two words meet a condition.
+pub fn compare32(condition: Condition, a: u64, b: u64) -> bool
+    ensures { result ≡ compared Width.W32 condition a b }
+{
+    related32(condition, low_word(a), low_word(b))
+}
+
+/// Whether two numbers of 32 bits meet a condition.
+fn related32(condition: Condition, x: u32, y: u32) -> bool
+    ensures { result ≡ related Width.W32 condition x y }
+{
+    match condition {
+        Condition::Equal => x == y,
+        Condition::Above => x > y,
+        Condition::AtLeast => x >= y,
+        Condition::AnyBit => x & y != 0,
+        Condition::Different => x != y,
+        Condition::SignedAbove => x.cast_signed() > y.cast_signed(),
+        Condition::SignedAtLeast => x.cast_signed() >= y.cast_signed(),
+        Condition::Below => x < y,
+        Condition::AtMost => x <= y,
+        Condition::SignedBelow => x.cast_signed() < y.cast_signed(),
+        Condition::SignedAtMost => x.cast_signed() <= y.cast_signed(),
+    }
+}
+
+#[cfg(test)]
+mod tests {
+    use super::*;
+
+    #[test]
+    fn compares(rt: HostRuntime) {
+        assert!(rt; compare64(Condition::SignedAbove, 1, u64::MAX));
+        assert!(rt; !compare64(Condition::Above, 1, u64::MAX));
+        assert!(rt; compare32(Condition::Equal, 0x1_0000_0000, 0));
+        assert!(rt; compare32(Condition::SignedBelow, 0x8000_0000, 0));
+        assert!(rt; compare64(Condition::AnyBit, 6, 10));
+        assert!(rt; !compare64(Condition::AnyBit, 6, 9));
+    }
+}

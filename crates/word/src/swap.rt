@@ -1,0 +1,61 @@
+//! Bytes of a word put in order.
+
+ghost use Rattle.std.specs.Prelude.{◌≡◌};
+ghost use Rattle.word.specs.Arithmetic.{swapped};
+
+use crate::low::{low_half, low_word};
+use crate::{ByteOrder, SwapSize};
+
+/// The low bytes of a word in an order, on a little-endian host; the bytes above them are zero.
+pub fn swap(order: ByteOrder, size: SwapSize, a: u64) -> u64
+    ensures { result ≡ swapped order size a }
+{
+    match order {
+        ByteOrder::Little => low_bytes(size, a),
+        ByteOrder::Big => reversed_bytes(size, a),
+        ByteOrder::Reversed => reversed_bytes(size, a),
+    }
+}
+
+/// The low bytes of a word.
+fn low_bytes(size: SwapSize, a: u64) -> u64
+    ensures { result ≡ swapped ByteOrder.Little size a }
+{
+    match size {
+        SwapSize::Half => u64::from(low_half(a)),
+        SwapSize::Word => u64::from(low_word(a)),
+        SwapSize::Double => a,
+    }
+}
+
+/// The low bytes of a word, the last one first.
+fn reversed_bytes(size: SwapSize, a: u64) -> u64
+    ensures { result ≡ swapped ByteOrder.Reversed size a }
+{
+    match size {
+        SwapSize::Half => u64::from(low_half(a).swap_bytes()),
+        SwapSize::Word => u64::from(low_word(a).swap_bytes()),
+        SwapSize::Double => a.swap_bytes(),
+    }
+}
+
+#[cfg(test)]
+mod tests {
+    use super::*;
+
+    #[test]
+    fn puts_bytes_in_order(rt: HostRuntime) {
+        let word = 0x1122_3344_5566_7788;
+        assert_eq!(rt; swap(ByteOrder::Big, SwapSize::Half, word), 34935);
+        assert_eq!(rt; swap(ByteOrder::Little, SwapSize::Word, word), 0x5566_7788);
+        assert_eq!(rt;
+            swap(ByteOrder::Reversed, SwapSize::Word, word),
+            0x8877_6655
+        );
+        assert_eq!(rt;
+            swap(ByteOrder::Big, SwapSize::Double, word),
+            0x8877_6655_4433_2211
+        );
+        assert_eq!(rt; swap(ByteOrder::Little, SwapSize::Double, word), word);
+    }
+}
