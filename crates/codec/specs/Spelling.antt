@@ -1,6 +1,7 @@
--- How instructions are spelled in fields (RFC 9669, sections 3 to 5; which fields are zero is own).
-use Rattle.std.specs.Prelude.{ℕ, ◌+◌, ◌*◌, ◌/◌, ◌%◌, ◌^◌, List, [], ◌∷◌}
-use Rattle.std.specs.Int.{w16, w32, cast_unsigned}
+-- How instructions and programs are spelled (RFC 9669, sections 3 to 5; which fields are zero is own).
+use Rattle.std.specs.Prelude.{ℕ, ◌+◌, ◌*◌, ◌/◌, ◌%◌, ◌^◌, List, [], ◌∷◌, ◌++◌, Option, Some, None}
+use Rattle.std.specs.List.{flat_map}
+use Rattle.std.specs.Int.{w16, w32, cast_unsigned, to_le_bytes}
 use Rattle.word.specs.declared.Width.{Width}
 use Rattle.word.specs.declared.Width.TheVariants.{W32, W64}
 use Rattle.word.specs.declared.Operation.{Operation}
@@ -18,15 +19,9 @@ use Rattle.insn.specs.declared.insn.Operand.TheVariants.{Register, Immediate}
 use Rattle.insn.specs.declared.insn.Size.{Size}
 use Rattle.insn.specs.declared.insn.Size.TheVariants as size
 use Rattle.insn.specs.Insn.{part_bytes}
+use Rattle.codec.specs.declared.fields.Fields.{Fields}
 
 -- the fields of one unit, unsigned (section 3.1)
-pub record Fields : Type 0 where
-  pub opcode : ℕ
-  pub dst : ℕ
-  pub src : ℕ
-  pub offset : ℕ
-  pub imm : ℕ
-
 abbrev pub fields : ℕ → ℕ → ℕ → ℕ → ℕ → Fields
 fields opcode dst src offset imm = record { opcode = opcode; dst = dst; src = src; offset = offset; imm = imm }
 
@@ -112,3 +107,19 @@ spelling (Store bytes base offset (Immediate n)) = fields (0x62 + size_code byte
 spelling (Store bytes base offset (Register src)) = fields (0x63 + size_code bytes) base src (cast_unsigned w16 offset) 0 ∷ []
 spelling (Call helper) = fields 0x85 0 0 0 (cast_unsigned w32 helper) ∷ []
 spelling Exit = fields 0x95 0 0 0 0 ∷ []
+
+-- one unit, or two, as a list
+abbrev pub units_list : Fields × Option Fields → List Fields
+units_list (first, None) = first ∷ []
+units_list (first, Some second) = first ∷ second ∷ []
+
+-- the eight bytes of a unit (section 3.1: the registers in one byte, numbers with the lowest byte first)
+abbrev pub unit_bytes : Fields → List ℕ
+unit_bytes f = f.opcode ∷ (f.dst + 16 * f.src) ∷ (to_le_bytes w16 f.offset ++ to_le_bytes w32 f.imm)
+
+abbrev pub instruction_bytes : Insn → List ℕ
+instruction_bytes insn = flat_map unit_bytes (spelling insn)
+
+-- a program's bytes: its instructions', one behind the other
+abbrev pub program_bytes : List Insn → List ℕ
+program_bytes program = flat_map instruction_bytes program

@@ -1,0 +1,91 @@
+-- The bytes of programs, unit by unit.
+use Rattle.std.proofs.Common.{◌≡◌, ◌≢◌, ◌≤◌, ◌<◌, ◌+◌, ◌-◌, ◌*◌, ◌/◌, ◌%◌, ℕ, zero, suc, List, [], ◌∷◌, ◌++◌, Option, Some, None, Result, Ok, Err, length, take, drop, get_or, refl, sym, ap, subst, ◌∙◌, arith, inl, inr, ◌⊎◌, append_assoc, length-append}
+use Rattle.std.specs.Prelude.{IfOk, IfErr, MatchResult}
+use Rattle.std.proofs.lemmas.List.{take-append-drop, drop-drop, length-drop, take_all, length-take-le, append-nil}
+use Rattle.std.proofs.Math.Seq.{take-add}
+use Rattle.std.specs.List.{AllByRecursion}
+use Rattle.insn.specs.declared.insn.Insn.{Insn}
+use Rattle.insn.specs.Insn.{IsInsn, units_of}
+use Rattle.insn.specs.Program.{slots_of}
+use Rattle.insn.proofs.SlotLemmas.{length-slots_of-push, length-slots_of-cons}
+use Rattle.codec.specs.declared.fault.Fault.{Fault}
+use Rattle.codec.specs.declared.fault.CodecError.{CodecError}
+use Rattle.codec.specs.declared.fault.CodecError.TheVariants as errors
+use Rattle.codec.specs.Spelling.{instruction_bytes, program_bytes}
+use Rattle.codec.specs.Reading.{fields_of, fault_at}
+use Rattle.codec.specs.Program.{SpellsProgram, IsFaultAt, IsFirstFault, IsAnswered}
+use Rattle.codec.proofs.FrontLemmas.{length-instruction_bytes}
+
+pub program_bytes-append : (xs ys : List Insn) → program_bytes (xs ++ ys) ≡ program_bytes xs ++ program_bytes ys
+program_bytes-append [] ys = refl
+program_bytes-append (x ∷ xs) ys = ap (λ (b : List ℕ). instruction_bytes x ++ b) (program_bytes-append xs ys) ∙ sym (append_assoc (instruction_bytes x) (program_bytes xs) (program_bytes ys))
+
+-- eight bytes a unit
+pub length-program_bytes : (xs : List Insn) → length (program_bytes xs) ≡ 8 * length (slots_of xs)
+length-program_bytes [] = refl
+length-program_bytes (x ∷ xs) = omega (arith, length-append (instruction_bytes x) (program_bytes xs), length-instruction_bytes x, length-program_bytes xs, length-slots_of-cons x xs)
+
+pub all_append : (xs : List Insn) (x : Insn) → AllByRecursion IsInsn xs → IsInsn x → AllByRecursion IsInsn (xs ++ x ∷ [])
+all_append [] x all here = (here, tt)
+all_append (y ∷ xs) x all here = (all.0, all_append xs x all.1 here)
+
+-- the instructions are those of the units so far
+pub record IsReadTo (bytes : List ℕ) (is : List Insn) (unit units : ℕ) : Type 0 where
+  pub counted : length (slots_of is) ≡ unit
+  pub spelled : take (8 * unit) bytes ≡ program_bytes is
+  pub well_formed : AllByRecursion IsInsn is
+  pub inside : unit ≤ units
+
+-- a range without an end
+pub tail_is : (bytes : List ℕ) (n : ℕ) → take (length bytes - n) (drop n bytes) ≡ drop n bytes
+tail_is bytes n = take_all _ _ (omega (arith, length-drop n bytes))
+
+pub program_bytes-push : (is : List Insn) (i : Insn) → program_bytes (is ++ i ∷ []) ≡ program_bytes is ++ instruction_bytes i
+program_bytes-push is i = program_bytes-append is (i ∷ []) ∙ ap (λ (b : List ℕ). program_bytes is ++ b) (append-nil (instruction_bytes i))
+
+-- one instruction more
+pub read_more : (bytes : List ℕ) (is new : List Insn) (unit next units : ℕ) (i : Insn) (tail : List ℕ) → length bytes ≡ 8 * units → IsReadTo bytes is unit units → tail ≡ take (length bytes - 8 * unit) (drop (8 * unit) bytes) →
+    IsInsn i → 8 * units_of i ≤ length tail → take (8 * units_of i) tail ≡ instruction_bytes i → new ≡ is ++ i ∷ [] → next ≡ unit + units_of i → IsReadTo bytes new next units
+read_more bytes is new unit next units i tail whole r tail-is fits long found new-is next-is = record {
+  counted = ap (λ (x : List Insn). length (slots_of x)) new-is ∙ (length-slots_of-push is i ∙ omega (arith, r.counted, next-is));
+  spelled = ap (λ (n : ℕ). take n bytes) onwards ∙ (take-add (8 * unit) (8 * units_of i) bytes ∙ (ap (λ (b : List ℕ). b ++ take (8 * units_of i) (drop (8 * unit) bytes)) r.spelled
+      ∙ (ap (λ (b : List ℕ). program_bytes is ++ b) here ∙ (sym (program_bytes-push is i) ∙ ap program_bytes (sym new-is)))));
+  well_formed = subst (λ (x : List Insn). AllByRecursion IsInsn x) (sym new-is) (all_append is i r.well_formed fits);
+  inside = omega (arith, r.inside, long, next-is, ap length same, length-drop (8 * unit) bytes);
+}
+  where
+    same : tail ≡ drop (8 * unit) bytes
+    same = tail-is ∙ tail_is bytes (8 * unit)
+
+    onwards : 8 * next ≡ 8 * unit + 8 * units_of i
+    onwards = omega (arith, next-is)
+
+    here : take (8 * units_of i) (drop (8 * unit) bytes) ≡ instruction_bytes i
+    here = ap (λ (b : List ℕ). take (8 * units_of i) b) (sym same) ∙ found
+
+-- no unit is left
+pub read_all : (bytes : List ℕ) (is : List Insn) (unit units : ℕ) → length bytes ≡ 8 * units → 0 < units → units ≤ 4096 → units ≤ unit → IsReadTo bytes is unit units → SpellsProgram bytes is
+read_all bytes is unit units whole some few done r = record {
+  spelled = sym (take_all (8 * unit) bytes (omega arith)) ∙ r.spelled;
+  well_formed = r.well_formed;
+  some = omega arith;
+  bound = omega arith;
+}
+
+-- a fault at the unit that comes next
+pub first_fault_here : (bytes : List ℕ) (is : List Insn) (unit units : ℕ) (tail : List ℕ) (fault : Fault) → length bytes ≡ 8 * units → 0 < units → units ≤ 4096 → unit < units → IsReadTo bytes is unit units →
+    tail ≡ take (length bytes - 8 * unit) (drop (8 * unit) bytes) → fault_at tail ≡ Some fault → IsFirstFault bytes fault unit
+first_fault_here bytes is unit units tail fault whole some few more r tail-is e = record {
+  by_length = λ odd. absurd (odd (omega arith));
+  by_count = λ h over. elim over [ inl none ↦ absurd (omega arith) | inr much ↦ absurd (omega arith) ];
+  by_instruction = λ h k l. (is, record { spelled = r.spelled; well_formed = r.well_formed; inside = omega arith; found = ap fault_at (sym (tail-is ∙ tail_is bytes (8 * unit))) ∙ e });
+}
+
+-- the bytes of a program spell it
+pub spells_program : (bytes : List ℕ) (program : List Insn) (units : ℕ) → bytes ≡ program_bytes program → units ≡ length (slots_of program) → 0 < units → units ≤ 4096 → AllByRecursion IsInsn program → SpellsProgram bytes program
+spells_program bytes program units spelled counted some few well_formed = record {
+  spelled = spelled;
+  well_formed = well_formed;
+  some = omega (arith, ap length spelled, length-program_bytes program);
+  bound = omega (arith, ap length spelled, length-program_bytes program);
+}

@@ -1,0 +1,5 @@
+pub mod Spelling
+pub mod Form
+pub mod Reading
+pub mod Program
+pub mod Laws

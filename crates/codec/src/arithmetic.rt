@@ -1,0 +1,195 @@
+ghost use Rattle.std.specs.Prelude.{◌≡◌, ◌≤◌, ◌<◌, ◌+◌, ◌*◌, true, false, [], ◌∷◌, IfOk, IfErr, Some, ℕ, List};
+ghost use Rattle.insn.specs.Insn.{IsInsn};
+ghost use Rattle.word.specs.Arithmetic.{swapped_bytes};
+ghost use Rattle.codec.specs.declared.form.Form.TheVariants as forms;
+ghost use Rattle.codec.specs.Spelling.{spelling, alu_class, operation_code, operation_offset, swap_code};
+ghost use Rattle.codec.specs.Form.{divided, IsMoved};
+ghost use Rattle.codec.specs.Reading.{checks_of, first_fault, is_no_part, is_no_swap};
+
+use crate::fault::Fault;
+use crate::fields::Fields;
+use crate::form::Division;
+use crate::register::used;
+use insn::{Insn, Operand};
+use word::{ByteOrder, Narrow, Operation, SwapSize, Width};
+
+/// Arithmetic with a number.
+pub fn immediate(width: Width, operation: Operation, fields: Fields) -> Result<Insn, Fault>
+    requires opcode { fields.opcode ≡ operation_code operation + alu_class width }
+    requires offset { operation_offset operation ≡ 0 }
+    ensures found { IfOk result (λ i. IsInsn i × (spelling i ≡ fields ∷ [])) }
+    ensures fault { (behind : List ℕ) → IfErr result (λ e. first_fault (checks_of (forms.Immediate width operation) fields behind) ≡ Some e) }
+{
+    let dst = used(fields.dst)?;
+    if fields.src != 0 || fields.offset != 0 {
+        return Err(Fault::Reserved);
+    }
+    Ok(Insn::Arithmetic {
+        width,
+        operation,
+        dst,
+        operand: Operand::Immediate(fields.imm.cast_signed()),
+    })
+}
+
+/// Arithmetic with a register.
+pub fn register(width: Width, operation: Operation, fields: Fields) -> Result<Insn, Fault>
+    requires opcode { fields.opcode ≡ operation_code operation + 8 + alu_class width }
+    requires offset { operation_offset operation ≡ 0 }
+    ensures found { IfOk result (λ i. IsInsn i × (spelling i ≡ fields ∷ [])) }
+    ensures fault { (behind : List ℕ) → IfErr result (λ e. first_fault (checks_of (forms.Register width operation) fields behind) ≡ Some e) }
+{
+    let dst = used(fields.dst)?;
+    let src = used(fields.src)?;
+    if fields.offset != 0 || fields.imm != 0 {
+        return Err(Fault::Reserved);
+    }
+    Ok(Insn::Arithmetic {
+        width,
+        operation,
+        dst,
+        operand: Operand::Register(src),
+    })
+}
+
+/// The operation that the offset chooses: unsigned where it is 0, signed where it is 1 (section 4.1).
+fn chosen(division: Division, offset: u16) -> Result<Operation, Fault>
+    ensures found { IfOk result (λ o. (offset ≤ 1) × (o ≡ divided division offset)) }
+    ensures fault { IfErr result (λ e. (e ≡ Fault.Operand) × (1 < offset)) }
+{
+    match offset {
+        0 => Ok(match division {
+            Division::Quotient => Operation::Div,
+            Division::Remainder => Operation::Mod,
+        }),
+        1 => Ok(match division {
+            Division::Quotient => Operation::SignedDiv,
+            Division::Remainder => Operation::SignedMod,
+        }),
+        _ => Err(Fault::Operand),
+    }
+}
+
+/// Division by a number.
+pub fn divide_immediate(width: Width, division: Division, fields: Fields) -> Result<Insn, Fault>
+    requires opcode { fields.opcode ≡ operation_code (divided division 0) + alu_class width }
+    ensures found { IfOk result (λ i. IsInsn i × (spelling i ≡ fields ∷ [])) }
+    ensures fault { (behind : List ℕ) → IfErr result (λ e. first_fault (checks_of (forms.DivideImmediate width division) fields behind) ≡ Some e) }
+{
+    let dst = used(fields.dst)?;
+    let operation = chosen(division, fields.offset)?;
+    if fields.src != 0 {
+        return Err(Fault::Reserved);
+    }
+    Ok(Insn::Arithmetic {
+        width,
+        operation,
+        dst,
+        operand: Operand::Immediate(fields.imm.cast_signed()),
+    })
+}
+
+/// Division by a register.
+pub fn divide_register(width: Width, division: Division, fields: Fields) -> Result<Insn, Fault>
+    requires opcode { fields.opcode ≡ operation_code (divided division 0) + 8 + alu_class width }
+    ensures found { IfOk result (λ i. IsInsn i × (spelling i ≡ fields ∷ [])) }
+    ensures fault { (behind : List ℕ) → IfErr result (λ e. first_fault (checks_of (forms.DivideRegister width division) fields behind) ≡ Some e) }
+{
+    let dst = used(fields.dst)?;
+    let src = used(fields.src)?;
+    let operation = chosen(division, fields.offset)?;
+    if fields.imm != 0 {
+        return Err(Fault::Reserved);
+    }
+    Ok(Insn::Arithmetic {
+        width,
+        operation,
+        dst,
+        operand: Operand::Register(src),
+    })
+}
+
+/// The part of the source whose sign is extended, which the offset chooses; none where all of it is moved.
+fn part(width: Width, offset: u16) -> Result<Option<Narrow>, Fault>
+    ensures found { IfOk result (λ p. (is_no_part width offset ≡ false) × IsMoved width p offset) }
+    ensures fault { IfErr result (λ e. (e ≡ Fault.Operand) × (is_no_part width offset ≡ true)) }
+{
+    match offset {
+        0 => Ok(None),
+        8 => Ok(Some(Narrow::Byte)),
+        16 => Ok(Some(Narrow::Half)),
+        32 => match width {
+            Width::W32 => Err(Fault::Operand),
+            Width::W64 => Ok(Some(Narrow::Word)),
+        },
+        _ => Err(Fault::Operand),
+    }
+}
+
+/// A move of a register, or one that extends the sign of a part of it.
+pub fn move_register(width: Width, fields: Fields) -> Result<Insn, Fault>
+    requires opcode { fields.opcode ≡ 0xb8 + alu_class width }
+    ensures found { IfOk result (λ i. IsInsn i × (spelling i ≡ fields ∷ [])) }
+    ensures fault { (behind : List ℕ) → IfErr result (λ e. first_fault (checks_of (forms.MoveRegister width) fields behind) ≡ Some e) }
+{
+    let dst = used(fields.dst)?;
+    let src = used(fields.src)?;
+    let part = part(width, fields.offset)?;
+    if fields.imm != 0 {
+        return Err(Fault::Reserved);
+    }
+    Ok(match part {
+        None => Insn::Arithmetic {
+            width,
+            operation: Operation::Move,
+            dst,
+            operand: Operand::Register(src),
+        },
+        Some(part) => Insn::SignExtend {
+            width,
+            part,
+            dst,
+            src,
+        },
+    })
+}
+
+/// The negative of a register.
+pub fn negate(width: Width, fields: Fields) -> Result<Insn, Fault>
+    requires opcode { fields.opcode ≡ 0x80 + alu_class width }
+    ensures found { IfOk result (λ i. IsInsn i × (spelling i ≡ fields ∷ [])) }
+    ensures fault { (behind : List ℕ) → IfErr result (λ e. first_fault (checks_of (forms.Negate width) fields behind) ≡ Some e) }
+{
+    let dst = used(fields.dst)?;
+    if fields.src != 0 || fields.offset != 0 || fields.imm != 0 {
+        return Err(Fault::Reserved);
+    }
+    Ok(Insn::Negate { width, dst })
+}
+
+/// How many bits are swapped, which imm chooses (section 4.2).
+fn swap_size(bits: u32) -> Result<SwapSize, Fault>
+    ensures found { IfOk result (λ s. (is_no_swap bits ≡ false) × (bits ≡ 8 * swapped_bytes s)) }
+    ensures fault { IfErr result (λ e. (e ≡ Fault.Operand) × (is_no_swap bits ≡ true)) }
+{
+    match bits {
+        16 => Ok(SwapSize::Half),
+        32 => Ok(SwapSize::Word),
+        64 => Ok(SwapSize::Double),
+        _ => Err(Fault::Operand),
+    }
+}
+
+/// The bytes of a register in another order.
+pub fn swap(order: ByteOrder, fields: Fields) -> Result<Insn, Fault>
+    requires opcode { fields.opcode ≡ swap_code order }
+    ensures found { IfOk result (λ i. IsInsn i × (spelling i ≡ fields ∷ [])) }
+    ensures fault { (behind : List ℕ) → IfErr result (λ e. first_fault (checks_of (forms.Swap order) fields behind) ≡ Some e) }
+{
+    let dst = used(fields.dst)?;
+    let size = swap_size(fields.imm)?;
+    if fields.src != 0 || fields.offset != 0 {
+        return Err(Fault::Reserved);
+    }
+    Ok(Insn::Swap { order, size, dst })
+}

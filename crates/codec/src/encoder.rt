@@ -1,0 +1,40 @@
+ghost use Rattle.std.specs.Prelude.{◌≡◌, ◌≤◌, ◌<◌, ◌*◌, ◌++◌, length, IfOk, OnOk};
+ghost use Rattle.std.specs.List.{AllByRecursion};
+ghost use Rattle.insn.specs.Insn.{IsInsn};
+ghost use Rattle.codec.specs.Spelling.{instruction_bytes, program_bytes};
+ghost use Rattle.codec.specs.Program.{SpellsProgram};
+
+use crate::fields::to_bytes;
+use crate::spelling::units;
+use insn::{Insn, Program};
+use std::alloc::{AllocError, Global};
+
+/// Adds the bytes of an instruction.
+fn push_insn(bytes: &mut Vec<u8>, insn: &Insn) -> Result<(), AllocError>
+    ensures { OnOk result (bytes.new.items ≡ bytes.old.items ++ instruction_bytes insn.now) }
+{
+    let (first, second) = units(insn);
+    bytes.extend_from_slice(&to_bytes(first))?;
+    if let Some(second) = second {
+        bytes.extend_from_slice(&to_bytes(second))?;
+    }
+    Ok(())
+}
+
+/// The bytes that spell the program: eight for each unit.
+///
+/// # Errors
+///
+/// Want of memory.
+pub fn encode(alloc: Global, program: &Program) -> Result<Vec<u8>, AllocError>
+    // They are the program's bytes.
+    ensures spelled { IfOk result (λ v. v.items ≡ program_bytes program.now) }
+    // They spell it, so decoding them gives it back, where no instruction extends the sign of 32 bits to 32.
+    ensures spells { AllByRecursion IsInsn program.now → IfOk result (λ v. SpellsProgram v.items program.now) }
+{
+    let mut bytes = Vec::with_capacity(alloc, 8 * program.units())?;
+    for insn in program.instructions() {
+        push_insn(&mut bytes, insn)?;
+    }
+    Ok(bytes)
+}

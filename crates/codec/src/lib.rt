@@ -1,0 +1,21 @@
+//! Programs as bytes (RFC 9669, section 3): each program has one spelling, and each spelling one program.
+#![tactic(auto)]
+
+mod arithmetic;
+mod decoder;
+mod encoder;
+mod fault;
+mod fields;
+mod form;
+mod jump;
+mod laws;
+mod memory;
+mod register;
+mod spelling;
+#[cfg(test)]
+mod tests;
+
+pub use decoder::decode;
+pub use encoder::encode;
+pub use fault::{CodecError, Fault};
+pub use laws::{no_fault_in_programs, one_first_fault, one_instruction, one_program, one_spelling};
