@@ -1,2 +1,9 @@
 pub mod CallFree
 pub mod Accepted
+pub mod Structure
+pub mod Forward
+pub mod Quiet
+pub mod Gamma
+pub mod Reads
+pub mod Outcomes
+pub mod Slots

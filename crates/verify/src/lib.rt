@@ -1,6 +1,18 @@
 //! The verifier: a program that it accepts is sound.
 #![tactic(auto)]
 
+mod fault;
+mod pass;
+mod pending;
+mod reason;
+mod registers;
+mod state;
+mod steps;
+mod structure;
+mod values;
 mod verified;
+mod verifier;
 
+pub use fault::{Fault, Refusal};
 pub use verified::Verified;
+pub use verifier::verify;

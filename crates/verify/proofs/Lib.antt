@@ -1,0 +1,12 @@
+pub mod StructureLemmas
+pub mod Starts
+pub mod Edges
+pub mod Walk
+pub mod PlainWalk
+pub mod QuietLaws
+pub mod Zips
+pub mod Numbers
+pub mod EdgeEnds
+pub mod Jumps
+pub mod Blanks
+pub mod Rests

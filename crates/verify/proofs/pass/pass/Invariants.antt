@@ -1,0 +1,13 @@
+use Rattle.std.proofs.Common.{◌≡◌, length}
+use Rattle.insn.specs.Program.{slots_of}
+use Rattle.semantics.specs.Plain.{IsPlain}
+use Rattle.verify.specs.Slots.{BlanksAreUnwritten}
+use Rattle.verify.proofs.Rests.{EntryRests}
+use Rattle.verify.proofs.pass.pass.Given as goal
+
+abbrev pub invariant-loop-unit : goal.invariant-loop-unit
+invariant-loop-unit l = record {
+  room : length l.pending.items ≡ length (slots_of l.program);
+  quiet : EntryRests l.program l.pending.items l.unit;
+  plain : IsPlain l.program → BlanksAreUnwritten l.program l.pending.items l.unit;
+}

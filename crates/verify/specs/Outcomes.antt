@@ -1,0 +1,45 @@
+-- Where an instruction leads, in terms of abstract states (own).
+use Rattle.std.specs.Prelude.{ℕ, ◌≡◌, ◌+◌, Bool, List, Result, Ok, Err}
+use Rattle.insn.specs.declared.insn.Insn.{Insn}
+use Rattle.insn.specs.declared.insn.Insn.TheVariants.{Jump, LongJump, Branch, Call, Exit}
+use Rattle.insn.specs.Insn.{units_of}
+use Rattle.label.specs.declared.shape.Shape.{Shape}
+use Rattle.semantics.specs.State.{Cause, State, Outcome, Next, Ask, Trap}
+use Rattle.semantics.specs.State.{Exit as Exited}
+use Rattle.semantics.specs.Execution.{executed}
+use Rattle.verify.specs.declared.state.AbsState.{AbsState}
+use Rattle.verify.specs.Gamma.{Describes}
+
+-- the condition is decided
+abbrev pub IsTest : Result Bool Cause → Type 0
+IsTest (Ok b) = Unit {0}
+IsTest (Err cause) = ⊥
+
+-- the program goes on at the unit, in a state that is described
+abbrev pub GoesOn : AbsState → ℕ → Outcome → Type 0
+GoesOn a unit (Next t) = (t.unit ≡ unit) × Describes a t
+GoesOn a unit (Ask request t) = ⊥
+GoesOn a unit (Exited r0 t) = ⊥
+GoesOn a unit (Trap cause) = ⊥
+
+-- from every state that is described, the instruction goes on behind itself to one that is
+abbrev pub Follows : AbsState → Insn → AbsState → Type 0
+Follows old i new = (context : List ℕ) (shape : Shape) (s : State) → Describes old s → GoesOn new (s.unit + units_of i) (executed context shape i s)
+
+abbrev pub IsEnd : Outcome → Type 0
+IsEnd (Next t) = ⊥
+IsEnd (Ask request t) = ⊥
+IsEnd (Exited r0 t) = Unit {0}
+IsEnd (Trap cause) = ⊥
+
+-- an instruction that goes on behind itself
+abbrev pub IsStraight : Insn → Type 0
+IsStraight (Jump distance) = ⊥
+IsStraight (LongJump distance) = ⊥
+IsStraight (Branch width condition dst operand distance) = ⊥
+IsStraight Exit = ⊥
+IsStraight _ = Unit {0}
+
+abbrev pub IsNotCall : Insn → Type 0
+IsNotCall (Call helper) = ⊥
+IsNotCall _ = Unit {0}

@@ -1,0 +1,65 @@
+-- Faults of a program's structure: where its jumps lead, and how it ends (own).
+use Rattle.std.specs.Prelude.{ℕ, ℤ, pos, negsuc, ◌+◌, ◌+ℤ◌, Bool, true, false, nat_le, if◌then◌else◌, List, [], ◌∷◌, ◌++◌, length, Option, Some, None, is_none}
+use Rattle.insn.specs.declared.insn.Insn.{Insn}
+use Rattle.insn.specs.declared.insn.Insn.TheVariants.{Jump, LongJump, Branch, Exit}
+use Rattle.insn.specs.Insn.{units_of}
+use Rattle.insn.specs.Program.{slots_of, instruction_at}
+use Rattle.verify.specs.declared.fault.Fault.{Fault}
+use Rattle.verify.specs.declared.fault.Fault.TheVariants.{BackJump, JumpOut, JumpInWide, LastNotExit, Unset, FrameWrite, PointerUse, Helper, ExitPointer, Memory}
+
+-- a test, and the fault that stands where it holds
+abbrev pub Check : Type 0
+Check = Bool × Fault
+
+-- the first fault of a list of checks
+abbrev pub first_fault : List Check → Option Fault
+first_fault [] = None
+first_fault (check ∷ checks) = if check.0 then Some check.1 else first_fault checks
+
+-- the checks of a jump from a unit: its target lies behind, within the program, and where an instruction starts
+abbrev pub target_checks : List Insn → ℕ → ℤ → List Check
+target_checks program unit (negsuc n) = (true, BackJump unit) ∷ []
+target_checks program unit (pos target) =
+    (nat_le target unit, BackJump unit)
+    ∷ (nat_le (length (slots_of program)) target, JumpOut unit)
+    ∷ (is_none (instruction_at program target), JumpInWide unit)
+    ∷ []
+
+-- the checks of an instruction: a jump counts units from the following one (RFC 9669, section 4.3)
+abbrev pub jump_checks : List Insn → ℕ → Insn → List Check
+jump_checks program unit (Jump distance) = target_checks program unit (pos (unit + 1) +ℤ distance)
+jump_checks program unit (LongJump distance) = target_checks program unit (pos (unit + 1) +ℤ distance)
+jump_checks program unit (Branch width condition dst operand distance) = target_checks program unit (pos (unit + 1) +ℤ distance)
+jump_checks program unit _ = []
+
+-- the checks of the instructions from a unit on, in their order
+abbrev pub checks_from : List Insn → ℕ → List Insn → List Check
+checks_from program unit [] = []
+checks_from program unit (i ∷ is) = jump_checks program unit i ++ checks_from program (unit + units_of i) is
+
+abbrev pub is_exit : Insn → Bool
+is_exit Exit = true
+is_exit _ = false
+
+-- the check that the last of the instructions from a unit on is the exit
+abbrev pub last_checks : ℕ → List Insn → List Check
+last_checks unit [] = []
+last_checks unit (i ∷ []) = (if is_exit i then false else true, LastNotExit unit) ∷ []
+last_checks unit (i ∷ j ∷ is) = last_checks (unit + units_of i) (j ∷ is)
+
+-- the structural fault of a program: the first of its instructions' faults in their order, and behind them that the last is not the exit
+abbrev pub structural_fault : List Insn → Option Fault
+structural_fault program = first_fault (checks_from program 0 program ++ last_checks 0 program)
+
+-- the fault is one of structure
+abbrev pub IsStructural : Fault → Type 0
+IsStructural (BackJump unit) = Unit {0}
+IsStructural (JumpOut unit) = Unit {0}
+IsStructural (JumpInWide unit) = Unit {0}
+IsStructural (LastNotExit unit) = Unit {0}
+IsStructural (Unset unit) = ⊥
+IsStructural (FrameWrite unit) = ⊥
+IsStructural (PointerUse unit) = ⊥
+IsStructural (Helper unit) = ⊥
+IsStructural (ExitPointer unit) = ⊥
+IsStructural Memory = ⊥

@@ -1,0 +1,181 @@
+//! The forward pass.
+ghost use Rattle.std.specs.Prelude.{◌≡◌, ◌≤◌, ◌<◌, ◌+◌, ◌∷◌, List, ℕ, pos, ◌<ℤ◌, ◌+ℤ◌, length, IfOk, IfErr, OnOk, IsOk, IsErrAnd};
+ghost use Rattle.word.specs.declared.Width.{Width};
+ghost use Rattle.word.specs.declared.Condition.{Condition};
+ghost use Rattle.insn.specs.Program.{slots_of};
+ghost use Rattle.semantics.specs.Plain.{IsIn, IsOfNumbers, IsPlain, operand_reads, writes};
+ghost use Rattle.verify.specs.Structure.{IsStructural};
+ghost use Rattle.verify.specs.Forward.{IsForward};
+ghost use Rattle.verify.specs.Quiet.{StartsQuiet};
+ghost use Rattle.verify.specs.Reads.{AllNumbers, AllRead};
+ghost use Rattle.verify.specs.Outcomes.{IsStraight, IsNotCall};
+ghost use Rattle.verify.specs.Slots.{Slot, Keeps, LeadsOn, IsPassed, EdgesInside, EdgesForward, BlanksFrom, BlanksAreUnwritten};
+
+use crate::fault::Fault;
+use crate::pending::{Pending, boxed, empty, flow, take};
+use crate::state::AbsState;
+use crate::structure::forward_target;
+use crate::{registers, steps};
+use insn::{Insn, Operand, Program, Reg};
+use std::alloc::Global;
+
+/// An instruction that goes on behind itself.
+fn pass_straight(
+    unit: usize,
+    insn: &Insn,
+    mut state: Box<AbsState>,
+    pending: &mut Pending,
+) -> Result<(), Fault>
+    requires straight { IsStraight insn.now }
+    requires bound { unit < 4096 }
+    requires edges { EdgesInside insn.now unit (length pending.old.items) }
+    ensures length { length pending.new.items ≡ length pending.old.items }
+    ensures leads { OnOk result (LeadsOn state.value insn.now unit pending.new.items) }
+    ensures no_call { OnOk result (IsNotCall insn.now) }
+    ensures keeps { OnOk result (Keeps pending.old.items pending.new.items) }
+    ensures own { IfErr result (λ fault. IsStructural fault → ⊥) }
+    ensures plain { IsOfNumbers insn.now → (IsIn 10 (writes insn.now) → ⊥) → AllRead insn.now state.value.registers → IfErr result (λ fault. fault ≡ Fault.Memory) }
+    ensures blanks { OnOk result (AllRead insn.now state.value.registers → BlanksFrom insn.now unit state.value.registers pending.old.items pending.new.items) }
+{
+    if let Err(reason) = steps::straight(&mut state, insn) {
+        return Err(reason.at(unit));
+    }
+    flow(pending, unit + insn.units() as usize, state);
+    Ok(())
+}
+
+/// A jump by so many units.
+fn pass_jump(unit: usize, distance: i32, state: Box<AbsState>, pending: &mut Pending)
+    requires bound { unit < 4096 }
+    requires forward { pos unit <ℤ (pos (unit + 1) +ℤ distance) }
+    requires edges { EdgesInside (Insn.LongJump distance) unit (length pending.old.items) }
+    ensures length { length pending.new.items ≡ length pending.old.items }
+    ensures leads { LeadsOn state.value (Insn.LongJump distance) unit pending.new.items }
+    ensures keeps { Keeps pending.old.items pending.new.items }
+    ensures blanks { BlanksFrom (Insn.LongJump distance) unit state.value.registers pending.old.items pending.new.items }
+{
+    flow(pending, forward_target(unit, distance), state);
+}
+
+/// A conditional jump by so many units: both of its edges are followed.
+fn pass_branch(
+    alloc: Global,
+    unit: usize,
+    compared: (Reg, Operand),
+    distance: i16,
+    state: Box<AbsState>,
+    pending: &mut Pending,
+) -> Result<(), Fault>
+    requires bound { unit < 4096 }
+    requires forward { pos unit <ℤ (pos (unit + 1) +ℤ distance) }
+    requires edges { (width : Width) (condition : Condition) → EdgesInside (Insn.Branch width condition compared.0 compared.1 distance) unit (length pending.old.items) }
+    ensures length { length pending.new.items ≡ length pending.old.items }
+    ensures leads { OnOk result ((width : Width) (condition : Condition) →
+        LeadsOn state.value (Insn.Branch width condition compared.0 compared.1 distance) unit pending.new.items) }
+    ensures keeps { OnOk result (Keeps pending.old.items pending.new.items) }
+    ensures own { IfErr result (λ fault. IsStructural fault → ⊥) }
+    ensures plain { AllNumbers (compared.0 ∷ operand_reads compared.1) state.value.registers → IfErr result (λ fault. fault ≡ Fault.Memory) }
+    ensures blanks { OnOk result ((width : Width) (condition : Condition) →
+        BlanksFrom (Insn.Branch width condition compared.0 compared.1 distance) unit state.value.registers pending.old.items pending.new.items) }
+{
+    if let Err(reason) = steps::compare(&state, compared.0, compared.1) {
+        return Err(reason.at(unit));
+    }
+    let Ok(other) = boxed(alloc, *state) else {
+        return Err(Fault::Memory);
+    };
+    flow(pending, unit + 1, other);
+    flow(pending, forward_target(unit, i32::from(distance)), state);
+    Ok(())
+}
+
+/// The program ends.
+fn pass_exit(unit: usize, state: Box<AbsState>) -> Result<(), Fault>
+    ensures leads { OnOk result ((pending : List Slot) → LeadsOn state.value Insn.Exit unit pending) }
+    ensures own { IfErr result (λ fault. IsStructural fault → ⊥) }
+    ensures plain { AllRead Insn.Exit state.value.registers → IfErr result (λ fault. fault ≡ Fault.Memory) }
+{
+    if let Err(reason) = steps::exit(&state) {
+        return Err(reason.at(unit));
+    }
+    Ok(())
+}
+
+/// An instruction at its unit, with what is known there.
+fn pass_state(
+    alloc: Global,
+    unit: usize,
+    insn: &Insn,
+    state: Box<AbsState>,
+    pending: &mut Pending,
+) -> Result<(), Fault>
+    requires bound { unit < 4096 }
+    requires forward { EdgesForward insn.now unit }
+    requires inside { EdgesInside insn.now unit (length pending.old.items) }
+    ensures length { length pending.new.items ≡ length pending.old.items }
+    ensures leads { OnOk result (LeadsOn state.value insn.now unit pending.new.items) }
+    ensures no_call { OnOk result (IsNotCall insn.now) }
+    ensures keeps { OnOk result (Keeps pending.old.items pending.new.items) }
+    ensures own { IfErr result (λ fault. IsStructural fault → ⊥) }
+    ensures plain { IsOfNumbers insn.now → (IsIn 10 (writes insn.now) → ⊥) → AllRead insn.now state.value.registers → IfErr result (λ fault. fault ≡ Fault.Memory) }
+    ensures blanks { OnOk result (AllRead insn.now state.value.registers → BlanksFrom insn.now unit state.value.registers pending.old.items pending.new.items) }
+{
+    match insn {
+        Insn::Jump { distance } => {
+            pass_jump(unit, i32::from(*distance), state, pending);
+            Ok(())
+        }
+        Insn::LongJump { distance } => {
+            pass_jump(unit, *distance, state, pending);
+            Ok(())
+        }
+        Insn::Branch {
+            dst,
+            operand,
+            distance,
+            ..
+        } => pass_branch(alloc, unit, (*dst, *operand), *distance, state, pending),
+        Insn::Exit => pass_exit(unit, state),
+        _ => pass_straight(unit, insn, state, pending),
+    }
+}
+
+/// The next unit: what is kept for it flows on.
+fn pass_unit(
+    alloc: Global,
+    program: &Program,
+    unit: usize,
+    pending: &mut Pending,
+) -> Result<(), Fault>
+    requires forward { IsForward program.now }
+    requires unit { unit < length (slots_of program.now) }
+    requires room { length pending.old.items ≡ length (slots_of program.now) }
+    ensures length { length pending.new.items ≡ length pending.old.items }
+    ensures passed { OnOk result (IsPassed program.now unit pending.old.items pending.new.items) }
+    ensures own { IfErr result (λ fault. IsStructural fault → ⊥) }
+    ensures plain { IsPlain program.now → BlanksAreUnwritten program.now pending.old.items unit → IfErr result (λ fault. fault ≡ Fault.Memory) }
+    ensures blanks { OnOk result (IsPlain program.now → BlanksAreUnwritten program.now pending.old.items unit → BlanksAreUnwritten program.now pending.new.items (unit + 1)) }
+{
+    let Some(insn) = program.at(unit) else {
+        return Ok(());
+    };
+    let Some(state) = take(pending, unit) else {
+        return Ok(());
+    };
+    pass_state(alloc, unit, &insn, state, pending)
+}
+
+/// The forward pass over a program whose every edge leads forward.
+pub fn pass(alloc: Global, program: &Program) -> Result<(), Fault>
+    requires { IsForward program.now }
+    ensures quiet { OnOk result (StartsQuiet program.now) }
+    ensures own { IfErr result (λ fault. IsStructural fault → ⊥) }
+    ensures plain { IsPlain program.now → IfErr result (λ fault. fault ≡ Fault.Memory) }
+{
+    let mut pending = empty(alloc, program.units())?;
+    flow(&mut pending, 0, boxed(alloc, registers::at_entry())?);
+    for unit in 0..program.units() {
+        pass_unit(alloc, program, unit, &mut pending)?;
+    }
+    Ok(())
+}

@@ -1,0 +1,29 @@
+ghost use Rattle.std.specs.Prelude.{◌≡◌};
+ghost use Rattle.verify.specs.Structure.{IsStructural};
+
+use crate::fault::Fault;
+
+/// Why an instruction may not run.
+#[derive(Clone, Copy, Debug, PartialEq, Eq)]
+pub enum Reason {
+    Unset,
+    FrameWrite,
+    PointerUse,
+    Helper,
+    ExitPointer,
+}
+
+impl Reason {
+    /// The fault of the instruction at the unit.
+    pub fn at(self, unit: usize) -> Fault
+        ensures { IsStructural result → ⊥ }
+    {
+        match self {
+            Reason::Unset => Fault::Unset(unit),
+            Reason::FrameWrite => Fault::FrameWrite(unit),
+            Reason::PointerUse => Fault::PointerUse(unit),
+            Reason::Helper => Fault::Helper(unit),
+            Reason::ExitPointer => Fault::ExitPointer(unit),
+        }
+    }
+}

@@ -1,0 +1,73 @@
+//! What is known of the registers.
+ghost use Rattle.std.specs.Prelude.{◌≡◌, ◌≤◌, ◌<◌, true, List, [], ◌∷◌, slice_index_or, slice_set};
+ghost use Rattle.semantics.specs.declared.value.Value.{Value};
+ghost use Rattle.semantics.specs.State.{Outbox, entry, value_at, operand_value};
+ghost use Rattle.semantics.specs.Step.{first_operand};
+ghost use Rattle.semantics.specs.Plain.{operand_reads, first_reads};
+ghost use Rattle.verify.specs.Gamma.{Contains, RegistersDescribe, Describes, entry_known, is_number};
+ghost use Rattle.verify.specs.Reads.{AllNumbers, LeavesBut, JoinsNumbers};
+
+use crate::state::{AbsState, AbsVal};
+use crate::values;
+use insn::{Operand, Reg};
+use word::Operation;
+
+/// What is known at the entry: r1 and r10 hold pointers.
+pub fn at_entry() -> AbsState
+    ensures known { result.registers ≡ entry_known }
+    ensures holds { (outbox : Outbox) → Describes result (entry outbox) }
+{
+    let mut registers = [AbsVal::Unset; 11];
+    registers[1] = AbsVal::Pointer;
+    registers[10] = AbsVal::Pointer;
+    AbsState { registers }
+}
+
+/// What is known of a register.
+pub fn read(registers: &[AbsVal; 11], r: Reg) -> AbsVal
+    ensures holds { (vs : List Value) → RegistersDescribe registers.now vs → Contains result (value_at vs r) }
+    ensures numbers { AllNumbers (r ∷ []) registers.now → is_number result ≡ true }
+{
+    registers[r.number() as usize]
+}
+
+/// What is known of an operand.
+pub fn operand(registers: &[AbsVal; 11], operand: Operand) -> AbsVal
+    ensures holds { (vs : List Value) → RegistersDescribe registers.now vs → Contains result (operand_value vs operand) }
+    ensures numbers { AllNumbers (operand_reads operand) registers.now → is_number result ≡ true }
+{
+    match operand {
+        Operand::Register(r) => read(registers, r),
+        Operand::Immediate(_) => AbsVal::Number,
+    }
+}
+
+/// What is known of what an operation reads of dst: a move reads nothing there.
+pub fn first(registers: &[AbsVal; 11], operation: Operation, dst: Reg) -> AbsVal
+    ensures holds { (vs : List Value) → RegistersDescribe registers.now vs → Contains result (first_operand operation (value_at vs dst)) }
+    ensures numbers { AllNumbers (first_reads operation dst) registers.now → is_number result ≡ true }
+{
+    match operation {
+        Operation::Move => AbsVal::Number,
+        _ => read(registers, dst),
+    }
+}
+
+/// A register holds another value.
+pub fn write(registers: &mut [AbsVal; 11], r: Reg, value: AbsVal)
+    ensures holds { (vs : List Value) (v : Value) → RegistersDescribe registers.old vs → Contains value v → RegistersDescribe registers.new (slice_set vs r v) }
+    ensures numbers { is_number value ≡ true → LeavesBut (r ∷ []) registers.old registers.new }
+{
+    registers[r.number() as usize] = value;
+}
+
+/// What is known where two paths meet.
+pub fn join(registers: &mut [AbsVal; 11], other: &[AbsVal; 11])
+    ensures left { (vs : List Value) → RegistersDescribe registers.old vs → RegistersDescribe registers.new vs }
+    ensures right { (vs : List Value) → RegistersDescribe other.now vs → RegistersDescribe registers.new vs }
+    ensures numbers { JoinsNumbers registers.old other.now registers.new 11 }
+{
+    for i in 0..11 {
+        registers[i] = values::join(registers[i], other[i]);
+    }
+}

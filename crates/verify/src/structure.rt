@@ -1,0 +1,106 @@
+//! Where the jumps of a program lead, and how it ends.
+ghost use Rattle.std.specs.Prelude.{◌≡◌, ◌<◌, ◌≤◌, ◌+◌, ◌+ℤ◌, ◌<ℤ◌, pos, length};
+ghost use Rattle.insn.specs.Program.{slots_of};
+ghost use Rattle.verify.specs.Structure.{first_fault, target_checks, jump_checks, checks_from, last_checks, structural_fault, is_exit};
+
+use crate::fault::Fault;
+use insn::{Insn, Program};
+
+/// Where a jump from a unit leads, counted in units.
+pub(crate) fn target(unit: usize, distance: i32) -> i64
+    requires { unit < 4096 }
+    ensures { result ≡ pos (unit + 1) +ℤ distance }
+{
+    unit as i64 + 1 + i64::from(distance)
+}
+
+/// Where a jump leads that leads forward.
+pub(crate) fn forward_target(unit: usize, distance: i32) -> usize
+    requires bound { unit < 4096 }
+    requires forward { pos unit <ℤ (pos (unit + 1) +ℤ distance) }
+    ensures { pos result ≡ pos (unit + 1) +ℤ distance }
+{
+    target(unit, distance) as usize
+}
+
+/// The fault of a jump from a unit, by so many units, in a program of `end` units.
+fn target_fault(program: &Program, end: usize, unit: usize, distance: i32) -> Option<Fault>
+    requires end { end ≡ length (slots_of program.now) }
+    requires bound { end ≤ 4096 }
+    requires inside { unit < end }
+    ensures { result ≡ first_fault (target_checks program.now unit (pos (unit + 1) +ℤ distance)) }
+{
+    let target = target(unit, distance);
+    if target <= unit as i64 {
+        return Some(Fault::BackJump(unit));
+    }
+    let target = target as usize;
+    if target >= end {
+        return Some(Fault::JumpOut(unit));
+    }
+    if program.at(target).is_none() {
+        return Some(Fault::JumpInWide(unit));
+    }
+    None
+}
+
+/// The fault of the instruction at a unit, if it is a jump.
+fn jump_fault(program: &Program, end: usize, unit: usize, insn: &Insn) -> Option<Fault>
+    requires end { end ≡ length (slots_of program.now) }
+    requires bound { end ≤ 4096 }
+    requires inside { unit < end }
+    ensures { result ≡ first_fault (jump_checks program.now unit insn.now) }
+{
+    match insn {
+        Insn::Jump { distance } => target_fault(program, end, unit, i32::from(*distance)),
+        Insn::LongJump { distance } => target_fault(program, end, unit, *distance),
+        Insn::Branch { distance, .. } => target_fault(program, end, unit, i32::from(*distance)),
+        _ => None,
+    }
+}
+
+/// The first fault of the jumps.
+fn first_jump_fault(program: &Program) -> Option<Fault>
+    ensures { result ≡ first_fault (checks_from program.now 0 program.now) }
+{
+    let end = program.units();
+    let mut unit = 0;
+    for insn in program.instructions() {
+        if let Some(fault) = jump_fault(program, end, unit, insn) {
+            return Some(fault);
+        }
+        unit += insn.units() as usize;
+    }
+    None
+}
+
+/// Whether an instruction is the exit.
+fn is_the_exit(insn: &Insn) -> bool
+    ensures { result ≡ is_exit insn.now }
+{
+    match insn {
+        Insn::Exit => true,
+        _ => false,
+    }
+}
+
+/// The fault of a last instruction that is not the exit.
+fn last_fault(program: &Program) -> Option<Fault>
+    ensures { result ≡ first_fault (last_checks 0 program.now) }
+{
+    let last = program.len() - 1;
+    if is_the_exit(&program.instructions()[last]) {
+        return None;
+    }
+    Some(Fault::LastNotExit(program.unit_of(last)))
+}
+
+/// The first fault of a program's structure.
+pub(crate) fn find_fault(program: &Program) -> Option<Fault>
+    ensures { result ≡ structural_fault program.now }
+{
+    if let Some(fault) = first_jump_fault(program) {
+        return Some(fault);
+    }
+    last_fault(program)
+}

@@ -1,0 +1,46 @@
+ghost use Rattle.std.specs.Prelude.{◌≡◌, None, Some, IfOk, IfErr, IsErrAnd, OnOk, IfSome, Err};
+ghost use Rattle.semantics.specs.Run.{IsSound};
+ghost use Rattle.semantics.specs.Plain.{IsPlain};
+ghost use Rattle.verify.specs.CallFree.{IsCallFree};
+ghost use Rattle.verify.specs.Structure.{structural_fault, IsStructural};
+ghost use Rattle.verify.specs.Quiet.{StartsQuiet};
+
+use crate::fault::{Fault, Refusal};
+use crate::pass::pass;
+use crate::structure::find_fault;
+use crate::verified::Verified;
+use insn::Program;
+use std::alloc::Global;
+
+/// The first fault: those of structure, and behind them those of the pass.
+fn check(alloc: Global, program: &Program) -> Result<(), Fault>
+    ensures sound { OnOk result (IsSound program.now) }
+    ensures call_free { OnOk result (IsCallFree program.now) }
+    ensures plain { IsPlain program.now → IfErr result (λ fault. fault ≡ Fault.Memory) }
+    ensures structural { IfSome (structural_fault program.now) (λ fault. result ≡ Err fault) }
+    ensures unstructural { structural_fault program.now ≡ None → IfErr result (λ fault. IsStructural fault → ⊥) }
+{
+    if let Some(fault) = find_fault(program) {
+        return Err(fault);
+    }
+    pass(alloc, program)
+}
+
+/// The program, if it is accepted, else the first fault. Only the pass takes memory.
+pub fn verify(alloc: Global, program: Program) -> Result<Verified, Refusal>
+    ensures same { IfOk result (λ v. v ≡ program) }
+    ensures sound { IfOk result (λ v. IsSound v) }
+    ensures back { IfErr result (λ r. r.program ≡ program) }
+
+    // A plain program is refused only for want of memory.
+    ensures plain { IsPlain program → IfErr result (λ r. r.fault ≡ Fault.Memory) }
+
+    // A structural fault is answered exactly where one stands, and then the first.
+    ensures structural { IfSome (structural_fault program) (λ fault. IsErrAnd result (λ r. r.fault ≡ fault)) }
+    ensures unstructural { structural_fault program ≡ None → IfErr result (λ r. IsStructural r.fault → ⊥) }
+{
+    match check(alloc, &program) {
+        Ok(()) => Ok(Verified::of(program)),
+        Err(fault) => Err(Refusal { program, fault }),
+    }
+}
