@@ -1,3 +1,6 @@
 pub mod Induction
 pub mod Steps
 pub mod Listed
+pub mod PartLemmas
+pub mod LabelLemmas
+pub mod ReadingLemmas

@@ -38,9 +38,9 @@ listed f law holds n c m M inside order traitor bound faithful =
     }
 
 -- those of a table too
-pub table_agrees : IsMajorityRule majority → AgreementHolds → (t : MessageTable) → t.commander < t.generals → AgreesIfBound t.generals t.commander t.bound (told t.lines) (decisions_of t)
+pub table_agrees : IsMajorityRule majority → AgreementHolds → (t : MessageTable) → t.commander < t.generals → AgreesIfBound t.generals t.commander t.bound (told t.messages) (decisions_of t)
 unfolding decisions_of decision_of
-table_agrees law holds t inside = listed majority law holds t.generals t.commander t.bound (told t.lines) inside
+table_agrees law holds t inside = listed majority law holds t.generals t.commander t.bound (told t.messages) inside
 
 pub listed_all : (t : MessageTable) (decisions : List ℕ) (k : ℕ) → t.generals ≤ k → k ≤ t.generals → decisions ≡ map (decision_of t) (others k (t.commander ∷ [])) → decisions ≡ decisions_of t
 unfolding decisions_of

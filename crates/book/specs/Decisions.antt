@@ -11,7 +11,7 @@ lieutenants n c = others n (c ∷ [])
 
 -- what a lieutenant decides by the majority of the messages that the table tells
 unfoldable pub decision_of : MessageTable → ℕ → ℕ
-decision_of t p = om majority t.generals (told t.lines) t.bound (t.commander ∷ []) p
+decision_of t p = om majority t.generals (told t.messages) t.bound (t.commander ∷ []) p
 
 -- the decisions of the lieutenants, ascending
 unfoldable pub decisions_of : MessageTable → List ℕ

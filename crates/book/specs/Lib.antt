@@ -2,3 +2,5 @@ pub mod Theorem
 pub mod Table
 pub mod Decisions
 pub mod Entry
+pub mod Grammar
+pub mod Reading

@@ -1,7 +1,7 @@
 -- A message table as a value, and the messages that it tells.
 use Rattle.std.specs.Prelude.{ℕ, ◌+◌, ◌<◌, ◌≤◌, ◌==◌, ◌&&◌, Bool, List, option_map, find, bytes_eq}
 use Rattle.label.specs.Oral.{Messages}
-use Rattle.book.specs.declared.line.Line.{Line}
+use Rattle.book.specs.declared.message.Message.{Message}
 
 -- a campaign's numbers within their limits
 pub record IsWithin (generals bound commander : ℕ) : Type 0 where
@@ -10,17 +10,17 @@ pub record IsWithin (generals bound commander : ℕ) : Type 0 where
   pub relays : bound + 2 ≤ generals
   pub present : commander < generals
 
--- a table: the campaign's numbers, and a line for each message
+-- a table: the campaign's numbers, and its messages
 pub record MessageTable : Type 0 where
   pub generals : ℕ
   pub bound : ℕ
   pub commander : ℕ
-  pub lines : List Line
+  pub messages : List Message
 
--- the line is of this label and receiver
-abbrev pub is_about : List ℕ → ℕ → Line → Bool
-is_about w p line = line.receiver == p && bytes_eq line.label w
+-- the message is of this label and receiver
+abbrev pub is_about : List ℕ → ℕ → Message → Bool
+is_about w p message = message.receiver == p && bytes_eq message.label w
 
--- the messages of a list of lines: the first that is about a place tells its order, and nothing came where none is
-unfoldable pub told : List Line → Messages
-told lines w p = option_map (λ line. line.order) (find (is_about w p) lines)
+-- the messages of a list: the first that is about a place tells its order, and nothing came where none is
+unfoldable pub told : List Message → Messages
+told messages w p = option_map (λ message. message.order) (find (is_about w p) messages)

@@ -1,7 +1,7 @@
 ghost use Rattle.std.specs.Prelude.{◌≡◌};
 ghost use Rattle.book.specs.declared.fault.TableError.TheVariants.{Memory};
 
-use std::alloc::AllocFailed;
+use std::alloc::AllocError;
 use thiserror::Error;
 
 /// Why a text tells no message table: the first fault, with its line, counted from 1.
@@ -24,10 +24,10 @@ pub enum TableError {
     Memory,
 }
 
-impl<T: Drop> From<AllocFailed<T>> for TableError {
+impl From<AllocError> for TableError {
     ghost from_gives = { λ _ e. e ≡ Memory };
 
-    fn from(_e: AllocFailed<T>) -> TableError {
+    fn from(_e: AllocError) -> TableError {
         TableError::Memory
     }
 }

@@ -2,13 +2,17 @@
 #![tactic(auto)]
 
 mod fault;
-mod line;
+mod message;
+mod parts;
+mod placing;
+mod reader;
 mod recursion;
 mod table;
 mod theorem;
 
 pub use fault::TableError;
-pub use line::Line;
+pub use message::Message;
+pub use reader::read_table;
 pub use recursion::{decision, decisions};
 pub use table::Table;
 pub use theorem::agreement;

@@ -4,14 +4,14 @@ ghost use Rattle.label.specs.Oral.{om, taken};
 ghost use Rattle.book.specs.Decisions.{decision_of, decisions_of, AgreesIfBound};
 ghost use Rattle.book.specs.Table.{told, is_about};
 
-use crate::line::Line;
+use crate::message::Message;
 use crate::table::Table;
 use crate::theorem::agreement;
 use arrayvec::ArrayVec;
 use combine::{Combine, Majority};
 use label::Label;
 
-/// What a lieutenant decides, by the recursion of OM(m) over the table's lines (TOPLAS 1982). Slow and plain.
+/// What a lieutenant decides, by the recursion of OM(m) over the table's messages (TOPLAS 1982). Slow and plain.
 #[tactic(auto, unfolding(crate::specs::Decisions::decision_of))]
 pub fn decision(table: &Table, general: u8) -> u32
     requires general { general < table.now.generals }
@@ -23,7 +23,7 @@ pub fn decision(table: &Table, general: u8) -> u32
     decide(
         &Majority,
         generals,
-        table.lines(),
+        table.messages(),
         table.bound(),
         &label,
         general,
@@ -33,7 +33,7 @@ pub fn decision(table: &Table, general: u8) -> u32
 /// What the lieutenants decide, ascending by number: the loyal ones alike, where few enough are traitors.
 pub fn decisions(table: &Table) -> ArrayVec<u32, 12>
     ensures values { result.items ≡ decisions_of table.now }
-    ensures agree { AgreesIfBound table.now.generals table.now.commander table.now.bound (told table.now.lines) result.items }
+    ensures agree { AgreesIfBound table.now.generals table.now.commander table.now.bound (told table.now.messages) result.items }
 {
     agreement();
     let generals = table.generals();
@@ -51,16 +51,16 @@ pub fn decisions(table: &Table) -> ArrayVec<u32, 12>
 fn decide<C: Combine>(
     rule: &C,
     generals: u8,
-    lines: &[Line],
+    messages: &[Message],
     relays: u8,
     label: &Label,
     general: u8,
 ) -> u32
     requires within { generals ≤ 13 }
     requires room { length label.now + relays ≤ 13 }
-    ensures { result ≡ om (C.combined rule.now) generals (told lines.now) relays label.now general }
+    ensures { result ≡ om (C.combined rule.now) generals (told messages.now) relays label.now general }
 {
-    let own = order_told(lines, label, general);
+    let own = order_told(messages, label, general);
     if relays == 0 {
         return own;
     }
@@ -71,7 +71,7 @@ fn decide<C: Combine>(
                 own
             } else {
                 let longer = label.with(j);
-                decide(rule, generals, lines, relays - 1, &longer, general)
+                decide(rule, generals, messages, relays - 1, &longer, general)
             };
             orders.push(order);
         }
@@ -81,20 +81,18 @@ fn decide<C: Combine>(
 
 /// The order that a line tells, RETREAT where there is none.
 #[tactic(auto, unfolding(crate::specs::Table::told))]
-fn order_told(lines: &[Line], label: &Label, receiver: u8) -> u32
-    ensures { result ≡ taken (told lines.now) label.now receiver }
+fn order_told(messages: &[Message], label: &Label, receiver: u8) -> u32
+    ensures { result ≡ taken (told messages.now) label.now receiver }
 {
-    match line_about(lines, label, receiver) {
-        Some(line) => line.order,
+    match message_about(messages, label, receiver) {
+        Some(message) => message.order,
         None => 0,
     }
 }
 
 /// The first line about a label and receiver.
-pub(crate) fn line_about<'a>(lines: &'a [Line], label: &Label, receiver: u8) -> Option<&'a Line>
-    ensures { option_map (λ line. line.now) result ≡ find (is_about label.now receiver) lines.now }
+fn message_about<'a>(messages: &'a [Message], label: &Label, receiver: u8) -> Option<&'a Message>
+    ensures { option_map (λ message. message.now) result ≡ find (is_about label.now receiver) messages.now }
 {
-    lines
-        .iter()
-        .find(|line| line.receiver == receiver && line.label.same(label))
+    messages.iter().find(|message| message.receiver == receiver && message.label.same(label))
 }

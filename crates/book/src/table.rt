@@ -1,7 +1,7 @@
 ghost use Rattle.std.specs.Prelude.{◌≡◌, ◌<◌, ◌≤◌, [], ◌∷◌, ◌++◌, OnOk, OnErr};
 ghost use Rattle.book.specs.Table.{MessageTable, IsWithin};
 
-use crate::line::Line;
+use crate::message::Message;
 use std::alloc::{AllocError, Global};
 use std::marker::Model;
 
@@ -11,7 +11,7 @@ pub struct Table {
     generals: u8,
     bound: u8,
     commander: u8,
-    lines: Vec<Line>,
+    messages: Vec<Message>,
 }
 
 impl Model for Table {
@@ -19,7 +19,7 @@ impl Model for Table {
 
     ghost Value = { MessageTable };
 
-    ghost view = { λ t. record { generals = t.generals; bound = t.bound; commander = t.commander; lines = t.lines.items } };
+    ghost view = { λ t. record { generals = t.generals; bound = t.bound; commander = t.commander; messages = t.messages.items } };
 
     ghost invariant = { λ t. IsWithin t.generals t.bound t.commander };
 }
@@ -28,21 +28,21 @@ impl Table {
     /// The table of a campaign, without messages.
     pub(crate) fn open(alloc: Global, generals: u8, bound: u8, commander: u8) -> Table
         requires { IsWithin generals bound commander }
-        ensures { result ≡ record { generals = generals; bound = bound; commander = commander; lines = [] } }
+        ensures { result ≡ record { generals = generals; bound = bound; commander = commander; messages = [] } }
     {
         Table {
             generals,
             bound,
             commander,
-            lines: Vec::new(alloc),
+            messages: Vec::new(alloc),
         }
     }
 
     /// One message more.
-    pub(crate) fn push(&mut self, line: Line) -> Result<(), AllocError>
-        ensures ok { OnOk result (self.new ≡ record self.old { lines = self.old.lines ++ line ∷ [] }) }
+    pub(crate) fn push(&mut self, message: Message) -> Result<(), AllocError>
+        ensures ok { OnOk result (self.new ≡ record self.old { messages = self.old.messages ++ message ∷ [] }) }
     {
-        self.lines.push(line)?;
+        self.messages.push(message)?;
         Ok(())
     }
 
@@ -56,22 +56,24 @@ impl Table {
 
     /// The greatest number of traitors that the campaign is made for, 0 to 4.
     pub fn bound(&self) -> u8
-        ensures { result ≡ self.now.bound }
+        ensures value { result ≡ self.now.bound }
+        ensures within { IsWithin self.now.generals self.now.bound self.now.commander }
     {
         self.bound
     }
 
     /// The commander's number.
     pub fn commander(&self) -> u8
-        ensures { result ≡ self.now.commander }
+        ensures value { result ≡ self.now.commander }
+        ensures within { IsWithin self.now.generals self.now.bound self.now.commander }
     {
         self.commander
     }
 
     /// The messages, in the order of the text.
-    pub fn lines(&self) -> &[Line]
-        ensures { result.now ≡ self.now.lines }
+    pub fn messages(&self) -> &[Message]
+        ensures { result.now ≡ self.now.messages }
     {
-        self.lines.as_slice()
+        self.messages.as_slice()
     }
 }

@@ -1,7 +1,7 @@
--- What holds of the list of labels. Each statement is the contract of a function of this crate.
-use Rattle.std.specs.Prelude.{ℕ, suc, ◌+◌, ◌-◌, ◌*◌, ◌<◌, ◌≡◌, ◌≢◌, false, List, [], ◌∷◌, ◌++◌, length, Some, slice_get, ◌⊎◌}
+-- What holds of the list of labels, and of the recursion over it. Each statement is the contract of a function of this crate.
+use Rattle.std.specs.Prelude.{ℕ, suc, ◌+◌, ◌-◌, ◌*◌, ◌<◌, ◌≤◌, ◌≡◌, ◌≢◌, false, List, [], ◌∷◌, ◌++◌, length, map, insert, Some, slice_get, ◌⊎◌}
 use Rattle.label.specs.Labels.{on, others, labels}
-use Rattle.label.specs.Oral.{IsLabel}
+use Rattle.label.specs.Oral.{IsLabel, Messages, taken, om}
 
 -- the list of a length has exactly the labels of that length that lack p
 pub record LabelsAreExact : Type 0 where
@@ -31,3 +31,13 @@ pub record LabelsAreCounted : Type 0 where
 abbrev pub ChildrenStand : Type 0
 ChildrenStand = (n c p k r t j : ℕ) (w : List ℕ) → c < n → p < n → p ≢ c → slice_get (labels n c p (suc k)) r ≡ Some w → slice_get (others n (p ∷ w)) t ≡ Some j
     → slice_get (labels n c p (suc (suc k))) (r * (n - 2 - k) + t) ≡ Some (w ++ j ∷ [])
+
+-- the decision of p reads no more of the messages than his own, at labels of at most so many generals that lack him
+abbrev pub DecisionsReadOwn : Type 0
+DecisionsReadOwn = (f : List ℕ → ℕ) (n c last p : ℕ) (M N : Messages) → ((w : List ℕ) → IsLabel n c w → on w p ≡ false → length w ≤ last → taken M w p ≡ taken N w p)
+    → (k : ℕ) (w : List ℕ) → IsLabel n c w → on w p ≡ false → length w + k ≤ last → om f n M k w p ≡ om f n N k w p
+
+-- one level of the recursion: the decisions about the children that lack p, with his own value at his place among them
+abbrev pub LevelsDecide : Type 0
+LevelsDecide = (f : List ℕ → ℕ) (n : ℕ) (M : Messages) (k : ℕ) (w : List ℕ) (p : ℕ) → p < n → on w p ≡ false
+    → om f n M (suc k) w p ≡ f (insert (map (λ j. om f n M k (w ++ j ∷ []) p) (others n (p ∷ w))) (length (others p w)) (taken M w p))

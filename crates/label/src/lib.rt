@@ -9,7 +9,8 @@ mod space;
 
 pub use label::Label;
 pub use laws::{
-    children_stand, labels_are_counted, labels_are_exact, labels_ascend, labels_differ,
+    children_stand, decisions_read_own, labels_are_counted, labels_are_exact, labels_ascend,
+    labels_differ, levels_decide,
 };
 pub use ranking::{count, rank, unrank};
 pub use shape::Shape;

@@ -8,4 +8,4 @@ abbrev pub decreases-decide : goal.decreases-decide
 decreases-decide g l = l.relays
 
 abbrev pub invariant-loop-j : goal.invariant-loop-j
-invariant-loop-j g l = l.orders.items ≡ map (entry (g.C.Combine.combined l.rule) l.generals (told l.lines) (l.relays - 1) l.label l.general) (others l.j l.label)
+invariant-loop-j g l = l.orders.items ≡ map (entry (g.C.Combine.combined l.rule) l.generals (told l.messages) (l.relays - 1) l.label l.general) (others l.j l.label)

@@ -13,17 +13,17 @@ use Rattle.book.proofs.recursion.decisions.Goals.{then-general-commander, else-g
 pub push-requires : goal.push-requires
 push-requires c =
     let inside : c.loop-general.general < c.args.table.now.generals = let e = c.generals-generals.ensures.value in omega arith in
-    let few : length c.loop-general.decisions.items < 12 = rw c.loop-general.invariant (few_before (decision_of c.args.table.now) c.args.table.now.generals c.args.table.now.commander c.loop-general.general c.generals-generals.ensures.within.few c.generals-generals.ensures.within.present inside (λ e. c.if-general-commander.true (e ∙ sym c.commander-commander.ensures))) in
+    let few : length c.loop-general.decisions.items < 12 = rw c.loop-general.invariant (few_before (decision_of c.args.table.now) c.args.table.now.generals c.args.table.now.commander c.loop-general.general c.generals-generals.ensures.within.few c.generals-generals.ensures.within.present inside (λ e. c.if-general-commander.true (e ∙ sym c.commander-commander.ensures.value))) in
     (lit< tt, few)
 
 pub loop-general-preserved : goal.loop-general-preserved
 loop-general-preserved c =
     elim c.if-general-commander.branch [
       | then-general-commander w ↦
-          let fresh : on (c.args.table.now.commander ∷ []) c.loop-general.general ≡ false = or_from (c.args.table.now.commander == c.loop-general.general) false (ne_eqb _ _ (λ e. w.if-general-commander.true (sym e ∙ sym c.commander-commander.ensures))) refl in
+          let fresh : on (c.args.table.now.commander ∷ []) c.loop-general.general ≡ false = or_from (c.args.table.now.commander == c.loop-general.general) false (ne_eqb _ _ (λ e. w.if-general-commander.true (sym e ∙ sym c.commander-commander.ensures.value))) refl in
           rw (w.decisions-is, w.push.ensures.items, c.loop-general.invariant, w.decision.ensures) (sym (entries_more (decision_of c.args.table.now) (c.args.table.now.commander ∷ []) c.loop-general.general fresh))
       | else-general-commander w ↦
-          rw (w.decisions-is, c.loop-general.invariant, others-more_no (c.args.table.now.commander ∷ []) c.loop-general.general (or_left (c.args.table.now.commander == c.loop-general.general) false (eq-eqb _ _ (sym c.commander-commander.ensures ∙ sym w.if-general-commander.false)))) refl
+          rw (w.decisions-is, c.loop-general.invariant, others-more_no (c.args.table.now.commander ∷ []) c.loop-general.general (or_left (c.args.table.now.commander == c.loop-general.general) false (eq-eqb _ _ (sym c.commander-commander.ensures.value ∙ sym w.if-general-commander.false)))) refl
     ]
 
 pub returns-clause-values : goal.returns-clause-values
@@ -33,5 +33,5 @@ returns-clause-values c =
 
 pub returns-clause-agree : goal.returns-clause-agree
 returns-clause-agree c =
-    let P : List ℕ → Type 0 = AgreesIfBound c.args.table.now.generals c.args.table.now.commander c.args.table.now.bound (told c.args.table.now.lines) in
+    let P : List ℕ → Type 0 = AgreesIfBound c.args.table.now.generals c.args.table.now.commander c.args.table.now.bound (told c.args.table.now.messages) in
     subst P (sym (returns-clause-values c)) (table_agrees majority_is_rule c.agreement.ensures c.args.table.now c.generals-generals.ensures.within.present)

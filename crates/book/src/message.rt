@@ -2,7 +2,7 @@ use label::Label;
 
 /// A message: what the last of a label told a receiver of the rest.
 #[derive(Drop)]
-pub struct Line {
+pub struct Message {
     /// Whom the order came through.
     pub label: Label,
     /// The number of the general who was told.

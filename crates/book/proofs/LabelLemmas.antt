@@ -1,0 +1,119 @@
+-- A label that is prolonged general by general is one of different generals.
+use Rattle.std.proofs.Common.{◌≡◌, ℕ, ◌+◌, ◌≤◌, ◌<◌, Bool, true, false, not, ◌&&◌, cond, List, [], ◌∷◌, ◌++◌, length, Option, Some, None, refl, sym, ap, ◌∙◌, arith, inl, inr, length-append}
+use Rattle.std.specs.Prelude.{◌==◌, nat_lt, nat_le, if◌then◌else◌}
+use Rattle.std.specs.List.{list_all}
+use Rattle.std.proofs.lemmas.List.{append-nil, append_assoc}
+use Rattle.std.proofs.lemmas.Bool.Decides.{nat_tests}
+use Rattle.std.proofs.lemmas.Bool.{and_parts, not-true, leb-true, le-leb, cases_Bool, cases_eq, ne_eqb, lt-ltb, eq-eqb, or_left, or_right, or_cases, eqb-true}
+use Rattle.label.specs.Labels.{on, is_distinct}
+use Rattle.label.proofs.Counting.{distinct-push}
+use Rattle.text.specs.Options.{◌>>=◌}
+use Rattle.text.specs.Number.{decimal_of}
+use Rattle.book.specs.Table.{MessageTable}
+use Rattle.book.specs.Grammar.{numbers_of, is_place}
+use Rattle.book.specs.Reading.{prolonged_label, begun_label, placed_label}
+
+on_middle : (w : List ℕ) (j : ℕ) (js : List ℕ) → on (w ++ j ∷ js) j ≡ true
+on_middle [] j js = or_left (j == j) (on js j) (eq-eqb j j refl)
+on_middle (x ∷ xs) j js = or_right (x == j) (on (xs ++ j ∷ js) j) (on_middle xs j js)
+
+and_never : (b : Bool) → (b && false) ≡ false
+and_never true = refl
+and_never false = refl
+
+-- a general who stands twice
+pub twice : (w : List ℕ) (j : ℕ) (js : List ℕ) → on w j ≡ true → is_distinct (w ++ j ∷ js) ≡ false
+twice [] j js e = cc
+twice (x ∷ xs) j js e =
+    elim (or_cases (x == j) (on xs j) e) [
+      | inl here ↦
+          let same : x ≡ j = eqb-true x j here in
+          let there : on (xs ++ j ∷ js) x ≡ true = rw same (on_middle xs j js) in
+          rw there refl
+      | inr there ↦ rw (twice xs j js there) (and_never (not (on (xs ++ j ∷ js) x)))
+    ]
+
+-- the tests of a whole label
+abbrev pub fits : ℕ → ℕ → List ℕ → List ℕ → Bool
+fits n m w js = is_distinct (w ++ js) && list_all (λ x. nat_lt x n) js && nat_le (length (w ++ js)) (m + 1)
+
+refused_here : (n m : ℕ) (w : List ℕ) (j : ℕ) (js : List ℕ) → (nat_le (length w) m && nat_lt j n && not (on w j)) ≡ false → fits n m w (j ∷ js) ≡ false
+refused_here n m w j js e =
+    elim (cases_Bool (on w j)) [
+      | inl it ↦ rw (twice w j js it) refl
+      | inr off ↦ grind (arith, nat_tests, length-append w (j ∷ js))
+    ]
+
+taken_here : (n m : ℕ) (w : List ℕ) (j : ℕ) (js : List ℕ) → nat_lt j n ≡ true → fits n m w (j ∷ js) ≡ fits n m (w ++ j ∷ []) js
+taken_here n m w j js e = rw (e, append_assoc w (j ∷ []) js) refl
+
+-- numbers of several parts
+all_numbers : (o : Option ℕ) (rest : Option (List ℕ)) (js : List ℕ) → (o >>= λ n. rest >>= λ ns. Some (n ∷ ns)) ≡ Some js → (n : ℕ) × (ns : List ℕ) × (o ≡ Some n) × (rest ≡ Some ns) × (js ≡ n ∷ ns)
+all_numbers None rest js e = cc
+all_numbers (Some n) None js e = cc
+all_numbers (Some n) (Some ns) js e = (n, ns, refl, refl, cc)
+
+step : (n m : ℕ) (w : List ℕ) (j : ℕ) (js : List ℕ) (more : Option (List ℕ)) → is_distinct w ≡ true
+    → (is_distinct (w ++ j ∷ []) ≡ true → length (w ++ j ∷ []) ≤ m + 1 → more ≡ cond (fits n m (w ++ j ∷ []) js) (Some ((w ++ j ∷ []) ++ js)) None)
+    → (if nat_le (length w) m && nat_lt j n && not (on w j) then more else None) ≡ cond (fits n m w (j ∷ js)) (Some (w ++ j ∷ js)) None
+step n m w j js more d ih =
+    elim (cases_Bool (nat_le (length w) m && nat_lt j n && not (on w j))) [
+      | inl good ↦
+          let long = and_parts (nat_le (length w) m && nat_lt j n) (not (on w j)) good in
+          let short = and_parts (nat_le (length w) m) (nat_lt j n) long.0 in
+          let fresh : on w j ≡ false = not-true (on w j) long.1 in
+          let room : length w ≤ m = leb-true (length w) m short.0 in
+          rw good (ih (distinct-push w j d fresh) (omega (arith, length-append w (j ∷ [])))
+          ∙ (ap (λ (b : Bool). cond b (Some ((w ++ j ∷ []) ++ js)) None) (sym (taken_here n m w j js short.1))
+          ∙ ap (λ (v : List ℕ). cond (fits n m w (j ∷ js)) (Some v) None) (append_assoc w (j ∷ []) js)))
+      | inr bad ↦ rw (bad, refused_here n m w j js bad) refl
+    ]
+
+-- the label that goes on is the whole, where the whole is one
+pub prolonged_label-whole : (n m : ℕ) (w : List ℕ) (parts : List (List ℕ)) (js : List ℕ) → numbers_of parts ≡ Some js → is_distinct w ≡ true → length w ≤ m + 1
+    → prolonged_label n m w parts ≡ cond (fits n m w js) (Some (w ++ js)) None
+unfolding prolonged_label
+prolonged_label-whole n m w [] js e d l = let h : js ≡ [] = cc in rw (h, append-nil w, d, le-leb (length w) (m + 1) l) refl
+prolonged_label-whole n m w (part ∷ parts) js e d l =
+    let s = all_numbers (decimal_of part) (numbers_of parts) js e in
+    ap (λ (o : Option ℕ). o >>= λ j. if nat_le (length w) m && nat_lt j n && not (on w j) then prolonged_label n m (w ++ j ∷ []) parts else None) s.2
+    ∙ (step n m w s.0 s.1 (prolonged_label n m (w ++ s.0 ∷ []) parts) d (λ d' l'. prolonged_label-whole n m (w ++ s.0 ∷ []) parts s.1 s.3 d' l')
+    ∙ ap (λ (v : List ℕ). cond (fits n m w v) (Some (w ++ v)) None) (sym s.4))
+
+all_tests : (d a l p o : Bool) (w : List ℕ) (f : List ℕ → Option (List ℕ)) → f w ≡ (if o then None else Some w)
+    → (if p then (cond (d && a && l) (Some w) None >>= f) else None) ≡ (if d && true && a && l && p && not o then Some w else None)
+all_tests false a l true o w f e = refl
+all_tests false a l false o w f e = refl
+all_tests true false l true o w f e = refl
+all_tests true false l false o w f e = refl
+all_tests true true false true o w f e = refl
+all_tests true true false false o w f e = refl
+all_tests true true true false o w f e = refl
+all_tests true true true true true w f e = e
+all_tests true true true true false w f e = e
+
+no_test : (b : Bool) → cond {A = Option (List ℕ)} b None None ≡ None
+no_test true = refl
+no_test false = refl
+
+after_first : (t : MessageTable) (parts : List (List ℕ)) (c : ℕ) (js : List ℕ) (p : ℕ) → t.commander < t.generals → numbers_of parts ≡ Some js
+    → (if nat_lt p t.generals then ((if c == t.commander then prolonged_label t.generals t.bound (t.commander ∷ []) parts else None) >>= λ w. if on w p then None else Some w) else None)
+    ≡ (if is_place t (c ∷ js) p then Some (c ∷ js) else None)
+after_first t parts c js p inside e =
+    elim (cases_eq c t.commander) [
+      | inl same ↦
+          let within : nat_lt t.commander t.generals ≡ true = lt-ltb t.commander t.generals inside in
+          rw (same, eq-eqb t.commander t.commander refl, prolonged_label-whole t.generals t.bound (t.commander ∷ []) parts js e refl (omega arith), within)
+          (all_tests (is_distinct (t.commander ∷ js)) (list_all (λ x. nat_lt x t.generals) js) (nat_le (length (t.commander ∷ js)) (t.bound + 1)) (nat_lt p t.generals) (on (t.commander ∷ js) p) (t.commander ∷ js) (λ w. if on w p then None else Some w) refl)
+      | inr ne ↦ rw (ne_eqb c t.commander ne, and_never (is_distinct (c ∷ js))) (no_test (nat_lt p t.generals))
+    ]
+
+-- the reader's label is the line's, where that is a place
+pub placed_label-is : (t : MessageTable) (parts : List (List ℕ)) (w : List ℕ) (p : ℕ) → t.commander < t.generals → numbers_of parts ≡ Some w
+    → placed_label t parts p ≡ (if is_place t w p then Some w else None)
+unfolding placed_label begun_label
+placed_label-is t [] w p inside e = let h : w ≡ [] = cc in rw h (no_test (nat_lt p t.generals))
+placed_label-is t (part ∷ parts) w p inside e =
+    let s = all_numbers (decimal_of part) (numbers_of parts) w e in
+    ap (λ (o : Option ℕ). if nat_lt p t.generals then ((o >>= λ c. if c == t.commander then prolonged_label t.generals t.bound (t.commander ∷ []) parts else None) >>= λ w. if on w p then None else Some w) else None) s.2
+    ∙ (after_first t parts s.0 s.1 p inside s.3 ∙ ap (λ (v : List ℕ). if is_place t v p then Some v else None) (sym s.4))

@@ -1,0 +1,5 @@
+use Rattle.book.specs.Reading.{left_len}
+use Rattle.book.proofs.placing.+prolonged.Given as goal
+
+abbrev pub decreases-prolonged : goal.decreases-prolonged
+decreases-prolonged l = left_len l.rest

@@ -1,0 +1,124 @@
+//! The parts of a message table's lines.
+ghost use Rattle.std.specs.Prelude.{◌≡◌, ◌≤◌, ◌<◌, ◌^◌, ◌↔◌, IsTrue, IfSome, option_map, is_some};
+ghost use Rattle.text.specs.Stop.{space, dot};
+ghost use Rattle.text.specs.Parts.{pieces};
+ghost use Rattle.book.specs.Grammar.{head_parts, head_of, tell_parts, numbers_of, order_in, message_of};
+ghost use Rattle.book.specs.Reading.{GivesShape};
+
+use text::{Stop, decimal, piece};
+
+const SPACE: Stop = Stop::Byte(b' ');
+
+const DOT: Stop = Stop::Byte(b'.');
+
+/// The three numbers of the first line.
+#[tactic(auto, unfolding(crate::specs::Grammar::head_of))]
+pub fn head(line: &[u8]) -> Option<(u128, u128, u128)>
+    ensures value { result ≡ head_of line.now }
+    ensures small { IfSome result (λ h. (h.0 ≤ 2 ^ 64) × (h.1 ≤ 2 ^ 64) × (h.2 ≤ 2 ^ 64)) }
+{
+    let (generals, bound, commander) = cut_head(line)?;
+    let generals = decimal(generals)?;
+    let bound = decimal(bound)?;
+    let commander = decimal(commander)?;
+    Some((generals, bound, commander))
+}
+
+/// The parts of `generals N bound M commander C` that are numbers.
+#[tactic(auto, using(crate::proofs::PartLemmas::head_too_long))]
+fn cut_head(line: &[u8]) -> Option<(&[u8], &[u8], &[u8])>
+    ensures { option_map (λ p. (p.0.now, p.1.now, p.2.now)) result ≡ head_parts (pieces space line.now) }
+{
+    let (first, Some(rest)) = piece(SPACE, line) else {
+        return None;
+    };
+    let (generals, Some(rest)) = piece(SPACE, rest) else {
+        return None;
+    };
+    let (second, Some(rest)) = piece(SPACE, rest) else {
+        return None;
+    };
+    let (bound, Some(rest)) = piece(SPACE, rest) else {
+        return None;
+    };
+    let (third, Some(rest)) = piece(SPACE, rest) else {
+        return None;
+    };
+    let (commander, None) = piece(SPACE, rest) else {
+        return None;
+    };
+    if first == b"generals".as_slice()
+        && second == b"bound".as_slice()
+        && third == b"commander".as_slice()
+    {
+        Some((generals, bound, commander))
+    } else {
+        None
+    }
+}
+
+/// The parts of `tell LABEL RECEIVER V` behind its word.
+#[tactic(auto, using(crate::proofs::PartLemmas::tell_too_long))]
+fn cut_tell(line: &[u8]) -> Option<(&[u8], &[u8], &[u8])>
+    ensures { option_map (λ p. (p.0.now, p.1.now, p.2.now)) result ≡ tell_parts (pieces space line.now) }
+{
+    let (word, Some(rest)) = piece(SPACE, line) else {
+        return None;
+    };
+    let (label, Some(rest)) = piece(SPACE, rest) else {
+        return None;
+    };
+    let (receiver, Some(rest)) = piece(SPACE, rest) else {
+        return None;
+    };
+    let (order, None) = piece(SPACE, rest) else {
+        return None;
+    };
+    if word == b"tell".as_slice() {
+        Some((label, receiver, order))
+    } else {
+        None
+    }
+}
+
+/// Whether these are decimal numbers, joined by dots.
+fn are_numbers(part: &[u8]) -> bool
+    ensures { result ≡ is_some (numbers_of (pieces dot part.now)) }
+{
+    let mut rest = Some(part);
+    while let Some(numbers) = rest {
+        let (number, behind) = piece(DOT, numbers);
+        if decimal(number).is_none() {
+            return false;
+        }
+        rest = behind;
+    }
+    true
+}
+
+/// An order of 32 bits.
+#[tactic(auto, unfolding(crate::specs::Grammar::order_in))]
+fn order(part: &[u8]) -> Option<u32>
+    ensures { result ≡ order_in part.now }
+{
+    let number = decimal(part)?;
+    if number < 0x1_0000_0000 {
+        Some(number as u32)
+    } else {
+        None
+    }
+}
+
+/// The label's part, the receiver and the order of a line of the right shape.
+#[tactic(auto, unfolding(crate::specs::Grammar::message_of))]
+pub fn shape(line: &[u8]) -> Option<(&[u8], u128, u32)>
+    ensures { GivesShape (option_map (λ s. (s.0.now, s.1, s.2)) result) (message_of line.now) }
+{
+    let (label, receiver, number) = cut_tell(line)?;
+    if !are_numbers(label) {
+        return None;
+    }
+    let receiver = decimal(receiver)?;
+    let number = order(number)?;
+    Some((label, receiver, number))
+}
