@@ -92,9 +92,15 @@ fn combined(width: Width, operation: Operation, a: Value, b: Value) -> Value
 {
     match (a, b) {
         (Value::Number(m), Value::Number(n)) => Value::Number(arithmetic(width, operation, m, n)),
-        (Value::Pointer(region, offset), Value::Number(n)) => moved(width, operation, region, offset, n),
-        (Value::Number(_), Value::Pointer(region, offset)) => copied(width, operation, region, offset),
-        (Value::Pointer(_, _), Value::Pointer(region, offset)) => copied(width, operation, region, offset),
+        (Value::Pointer(region, offset), Value::Number(n)) => moved(
+            width, operation, region, offset, n,
+        ),
+        (Value::Number(_), Value::Pointer(region, offset)) => copied(
+            width, operation, region, offset,
+        ),
+        (Value::Pointer(_, _), Value::Pointer(region, offset)) => copied(
+            width, operation, region, offset,
+        ),
         _ => unreachable!(),
     }
 }

@@ -1,5 +1,5 @@
 -- Loads by places.
-use Rattle.std.proofs.Common.{◌≡◌, ℕ, ℤ, zero, suc, ◌+◌, ◌+ℤ◌, List, [], ◌∷◌, take, drop, map, refl, sym, ap, subst, ◌∙◌}
+use Rattle.std.proofs.Common.{◌≡◌, ℕ, ℤ, ◌+◌, ◌+ℤ◌, List, [], ◌∷◌, take, drop, map, refl, sym, ap, subst, ◌∙◌}
 use Rattle.std.specs.Prelude.{Result, Ok, Err, slice_range}
 use Rattle.std.proofs.lemmas.List.{take-map, drop-map}
 use Rattle.word.specs.Bytes.{little_number}

@@ -1,12 +1,12 @@
 -- Numbers in parts of cells.
-use Rattle.std.proofs.Common.{◌≡◌, ℕ, zero, suc, ◌+◌, ◌-◌, ◌*◌, ◌^◌, ◌<◌, ◌≤◌, List, [], ◌∷◌, ◌++◌, length, take, drop, map, refl, sym, ap, ◌∙◌, arith}
-use Rattle.std.specs.Prelude.{Result, Ok, Err, Option, Some, None}
+use Rattle.std.proofs.Common.{◌≡◌, ℕ, suc, ◌+◌, ◌*◌, ◌^◌, ◌≤◌, List, [], ◌∷◌, ◌++◌, length, take, drop, refl, sym, ap, ◌∙◌, arith}
+use Rattle.std.specs.Prelude.{Result, Ok, Err, Some, None}
 use Rattle.std.proofs.lemmas.List.{drop-drop, length-take-le, length-drop}
 use Rattle.std.proofs.Math.Nat.{pow-succ', mul_assoc}
 use Rattle.word.specs.Bytes.{little_number}
 use Rattle.semantics.specs.declared.value.Cell.{Cell}
 use Rattle.semantics.specs.declared.value.Cell.TheVariants.{Empty, Byte, Piece}
-use Rattle.semantics.specs.State.{Cause, NoBytes, given}
+use Rattle.semantics.specs.State.{Cause, given}
 use Rattle.semantics.specs.Memory.{bytes_in}
 use Rattle.mem.specs.Reading.{number_in, Reads}
 use Rattle.mem.proofs.Parts.{take-split}
@@ -17,7 +17,7 @@ little_number-append [] ys = omega arith
 little_number-append (x ∷ xs) ys =
     let ih = little_number-append xs ys in
     let p : 256 ^ suc (length xs) * little_number ys ≡ 256 * (256 ^ length xs * little_number ys) =
-        ap (λ (k : ℕ). k * little_number ys) (pow-succ' 256 (length xs)) ∙ mul_assoc 256 (256 ^ length xs) (little_number ys) in
+    ap (λ (k : ℕ). k * little_number ys) (pow-succ' 256 (length xs)) ∙ mul_assoc 256 (256 ^ length xs) (little_number ys) in
     omega (arith, ih, p)
 
 -- the number in front of another

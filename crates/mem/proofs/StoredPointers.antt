@@ -1,5 +1,5 @@
 -- Pointers that stand in cells.
-use Rattle.std.proofs.Common.{◌≡◌, ℕ, ℤ, zero, suc, ◌+◌, ◌-◌, ◌<◌, ◌≤◌, List, [], ◌∷◌, ◌++◌, length, take, drop, get_or, set, Bool, true, false, ◌&&◌, refl, sym, ap, ◌∙◌, arith, add-one, drop-cons}
+use Rattle.std.proofs.Common.{◌≡◌, ℕ, ℤ, zero, suc, ◌+◌, ◌-◌, ◌<◌, ◌≤◌, List, [], ◌∷◌, ◌++◌, length, take, drop, get_or, set, Bool, true, false, ◌&&◌, refl, sym, ap, ◌∙◌, arith, drop-cons}
 use Rattle.std.proofs.lemmas.List.{take_more, length-take-le, append-nil, take-append-drop}
 use Rattle.semantics.specs.declared.value.Region.{Region}
 use Rattle.semantics.specs.declared.value.Cell.{Cell}
@@ -66,7 +66,7 @@ piece_written old new place i region offset below fits same e =
     let inside : place + i < length new = omega arith in
     let room : place + length xs ≤ length old = omega arith in
     let more : take (i + 1) (pieces_of region offset) ≡ xs ++ x ∷ [] =
-        take_more (pieces_of region offset) i x (omega arith) ∙ ap (λ (y : Cell). xs ++ y ∷ []) (piece_in region offset i x below) in
+    take_more (pieces_of region offset) i x (omega arith) ∙ ap (λ (y : Cell). xs ++ y ∷ []) (piece_in region offset i x below) in
     overwritten-one new (place + i) x inside
     ∙ (ap (λ (l : List Cell). overwritten l (place + i) (x ∷ [])) e
     ∙ (ap (λ (n : ℕ). overwritten (overwritten old place xs) (place + n) (x ∷ [])) (sym long)

@@ -1,5 +1,5 @@
 -- Cells that are written in parts.
-use Rattle.std.proofs.Common.{◌≡◌, ℕ, zero, suc, ◌+◌, ◌-◌, ◌*◌, ◌/◌, ◌%◌, ◌^◌, ◌<◌, ◌≤◌, List, [], ◌∷◌, ◌++◌, length, take, drop, map, set, refl, sym, ap, ◌∙◌, arith, append_assoc, add-one, pow-add}
+use Rattle.std.proofs.Common.{◌≡◌, ℕ, zero, suc, ◌+◌, ◌/◌, ◌%◌, ◌^◌, ◌<◌, ◌≤◌, List, [], ◌∷◌, ◌++◌, length, take, drop, map, set, refl, sym, ap, ◌∙◌, arith, append_assoc, add-one, pow-add}
 use Rattle.std.proofs.lemmas.List.{drop-drop, length-take-le, length-append, length-map, set_split, take_at, drop_at, map-append}
 use Rattle.std.proofs.Math.Nat.{div-div-eq-div-mul, div-one}
 use Rattle.std.specs.Int.{byte_at, bytes_low_first}
@@ -23,11 +23,11 @@ overwritten-more cells place xs ys fits =
     let rest = drop (place + length xs) cells in
     let room : place ≤ length cells = omega arith in
     let long : length (take place cells ++ xs) ≡ place + length xs =
-        length-append (take place cells) xs ∙ ap (λ (k : ℕ). k + length xs) (length-take-le place cells room) in
+    length-append (take place cells) xs ∙ ap (λ (k : ℕ). k + length xs) (length-take-le place cells room) in
     let kept : take (place + length xs) (front ++ rest) ≡ front = take_at front rest (place + length xs) long in
     let left : drop (place + length xs + length ys) (front ++ rest) ≡ drop (place + length xs + length ys) cells =
-        sym (drop-drop (length ys) (place + length xs) (front ++ rest))
-        ∙ (ap (λ (l : List Cell). drop (length ys) l) (drop_at front rest (place + length xs) long) ∙ drop-drop (length ys) (place + length xs) cells) in
+    sym (drop-drop (length ys) (place + length xs) (front ++ rest))
+    ∙ (ap (λ (l : List Cell). drop (length ys) l) (drop_at front rest (place + length xs) long) ∙ drop-drop (length ys) (place + length xs) cells) in
     let size : place + length xs + length ys ≡ place + length (xs ++ ys) = omega (arith, length-append xs ys) in
     ap (λ (l : List Cell). l ++ ys ++ drop (place + length xs + length ys) (front ++ rest)) kept
     ∙ (ap (λ (l : List Cell). front ++ ys ++ l) left
@@ -85,4 +85,3 @@ written_both cells place a b n fits =
     ap (λ (k : ℕ). overwritten (overwritten cells place xs) (place + k) ys) (sym long)
     ∙ (overwritten-more cells place xs ys room
     ∙ ap (λ (l : List Cell). overwritten cells place l) (sym (map-append Byte (little_bytes a n) (little_bytes b (n / 256 ^ a))) ∙ ap (λ (l : List ℕ). map Byte l) (sym (little_bytes-split a b n))))
-

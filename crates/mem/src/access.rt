@@ -15,7 +15,13 @@ use word::arithmetic::sign_extend;
 use word::{Narrow, Width};
 
 /// What stands at a pointer and a distance, zero-extended; of 8 pieces of one pointer, that pointer (RFC 9669, section 5.1).
-pub fn load(stack: &Stack, context: &Context, size: Size, base: Value, distance: i16) -> Result<Value, MemoryFault>
+pub fn load(
+    stack: &Stack,
+    context: &Context,
+    size: Size,
+    base: Value,
+    distance: i16,
+) -> Result<Value, MemoryFault>
     ensures { IsAnswer (loaded context.now stack.now (bytes_of size) base distance) result }
 {
     let (region, place) = place_at(base, distance, size)?;
@@ -23,7 +29,13 @@ pub fn load(stack: &Stack, context: &Context, size: Size, base: Value, distance:
 }
 
 /// The number in 1, 2 or 4 bytes at a pointer and a distance, extended by its sign (RFC 9669, section 5.2).
-pub fn load_signed(stack: &Stack, context: &Context, part: Narrow, base: Value, distance: i16) -> Result<Value, MemoryFault>
+pub fn load_signed(
+    stack: &Stack,
+    context: &Context,
+    part: Narrow,
+    base: Value,
+    distance: i16,
+) -> Result<Value, MemoryFault>
     ensures { IsAnswer (loaded_signed context.now stack.now part base distance) result }
 {
     let size = size_of(part);
@@ -33,7 +45,13 @@ pub fn load_signed(stack: &Stack, context: &Context, part: Narrow, base: Value, 
 }
 
 /// What a window of a region holds.
-fn value_in(stack: &Stack, context: &Context, region: Region, place: usize, size: Size) -> Result<Value, MemoryFault>
+fn value_in(
+    stack: &Stack,
+    context: &Context,
+    region: Region,
+    place: usize,
+    size: Size,
+) -> Result<Value, MemoryFault>
     requires { place + bytes_of size ≤ room_of region }
     ensures { IsAnswer (value_in (part_at context.now stack.now (bytes_of size) (region, place))) result }
 {
@@ -44,7 +62,13 @@ fn value_in(stack: &Stack, context: &Context, region: Region, place: usize, size
 }
 
 /// The number in a window of a region.
-fn number_in(stack: &Stack, context: &Context, region: Region, place: usize, size: Size) -> Result<u64, MemoryFault>
+fn number_in(
+    stack: &Stack,
+    context: &Context,
+    region: Region,
+    place: usize,
+    size: Size,
+) -> Result<u64, MemoryFault>
     requires { place + bytes_of size ≤ room_of region }
     ensures { IsAnswer (number_in (part_at context.now stack.now (bytes_of size) (region, place))) result }
 {
@@ -66,7 +90,13 @@ fn size_of(part: Narrow) -> Size
 }
 
 /// Writes the low bytes of a number, or a whole pointer, at a pointer and a distance (RFC 9669, section 5.1).
-pub fn store(stack: &mut Stack, size: Size, base: Value, distance: i16, value: Value) -> Result<(), MemoryFault>
+pub fn store(
+    stack: &mut Stack,
+    size: Size,
+    base: Value,
+    distance: i16,
+    value: Value,
+) -> Result<(), MemoryFault>
     ensures stored { OnOk result (stored stack.old (bytes_of size) base distance value ≡ Ok stack.new) }
     ensures refused { IfErr result (λ f. stored stack.old (bytes_of size) base distance value ≡ Err (cause_of f)) }
     ensures kept { IfErr result (λ _. stack.new ≡ stack.old) }

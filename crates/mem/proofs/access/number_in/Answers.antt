@@ -1,5 +1,4 @@
 -- The context's cells are bytes.
-use Rattle.std.proofs.Common.{◌≡◌, ◌∙◌, sym, ap, Ok}
 use Rattle.insn.specs.Insn.{bytes_of}
 use Rattle.mem.proofs.Loading.{context_number}
 use Rattle.mem.proofs.access.number_in.Goals as goal

@@ -1,5 +1,5 @@
 -- The number of the two parts.
-use Rattle.std.proofs.Common.{◌≡◌, ◌+◌, ◌*◌, ◌≤◌, length, take, drop, Some, None, Ok, arith, rules}
+use Rattle.std.proofs.Common.{◌≡◌, ◌+◌, ◌*◌, take, drop, None, Ok, arith, rules}
 use Rattle.mem.specs.Reading.{Reads, number_in}
 use Rattle.mem.proofs.Numbers.{reads_high, reads_number}
 use Rattle.mem.proofs.cells.double_at.Goals as goal
@@ -12,5 +12,5 @@ returns-in_err-high c =
 pub returns : goal.returns
 returns c =
     let h : number_in (take 8 (drop c.args.place c.args.cells.now)) ≡ Ok (c.in_ok-low.low + 4294967296 * c.in_ok-high.high) =
-        reads_number c.args.cells.now c.args.place 4 4 c.in_ok-low.low c.in_ok-high.high (omega arith) c.in_ok-low.ensures c.in_ok-high.ensures in
+    reads_number c.args.cells.now c.args.place 4 4 c.in_ok-low.low c.in_ok-high.high (omega arith) c.in_ok-low.ensures c.in_ok-high.ensures in
     cc

@@ -1,6 +1,5 @@
 -- The low part is written, and then the high one.
-use Rattle.std.proofs.Common.{◌≡◌, ap, ◌∙◌, arith, List}
-use Rattle.word.specs.Bytes.{little_bytes}
+use Rattle.std.proofs.Common.{arith}
 use Rattle.mem.proofs.Writing.{written_both}
 use Rattle.mem.proofs.cells.put_word.Goals as goal
 

@@ -1,7 +1,6 @@
 -- Piece after piece.
-use Rattle.std.proofs.Common.{◌≡◌, ℕ, ℤ, arith, ap, sym, ◌∙◌, subst, false, true, List, Bool, take, drop, to_z, of_z}
+use Rattle.std.proofs.Common.{◌≡◌, ℤ, arith, ap, sym, ◌∙◌, subst, false, true, List, take, drop, to_z, of_z}
 use Rattle.std.specs.Int.{w32}
-
 use Rattle.std.proofs.lemmas.Int.{to_z-of_z}
 use Rattle.semantics.specs.declared.value.Cell.{Cell}
 use Rattle.semantics.specs.Memory.{are_pieces}

@@ -1,6 +1,5 @@
 -- The next piece.
 use Rattle.std.proofs.Common.{◌≡◌, arith, length-set, ◌∙◌, length}
-use Rattle.std.specs.Int.{w32}
 use Rattle.mem.proofs.StoredPointers.{piece_written}
 use Rattle.mem.proofs.pieces.put_pieces.Goals as goal
 
