@@ -1,2 +1,5 @@
 pub mod PartsLemmas
 pub mod DigitLemmas
+pub mod BytesLemmas
+pub mod CutLemmas
+pub mod DecimalLemmas

@@ -1,0 +1,47 @@
+-- Lines and names that the assembler keeps.
+use Rattle.std.proofs.Common.{◌≡◌, ℕ, ◌≤◌, ◌+◌, false, List, [], ◌∷◌, Some, refl, sym, ap, ◌∙◌, Bor, map, length, arith}
+use Rattle.std.specs.Prelude.{is_some}
+use Rattle.std.specs.Cmp.Lexicographic.{slice_cmp}
+use Rattle.std.specs.Ordering.{nat_cmp}
+use Rattle.std.specs.List.{sum_by}
+use Rattle.std.specs.BTreeMap.{BTreeMap, get_by, UpdatesBy}
+use Rattle.std.proofs.lemmas.Map.Text.{btree_map_updates_str}
+use Rattle.std.proofs.lemmas.List.Sums.{sum_by-cons}
+use Rattle.text.specs.Stop.{feed}
+use Rattle.text.specs.Parts.{pieces}
+use Rattle.text.proofs.PartsLemmas.{pieces_is}
+use Rattle.asm.specs.declared.kept.Kept.{Kept}
+use Rattle.asm.specs.Views.{kept_view}
+use Rattle.asm.specs.declared.reading.Reading.{Reading}
+use Rattle.asm.specs.Program.{Read, defined, lines_of, without_return, ended, with_name, source_units}
+use Rattle.asm.specs.Keeping.{Keeps, Finds, units_kept}
+
+-- a text that is one piece is one line
+pub lines_last : (text front : List ℕ) → pieces feed text ≡ front ∷ [] → 1 ≤ length front → lines_of text ≡ front ∷ []
+lines_last text [] h some = absurd (omega (arith, some))
+lines_last text (c ∷ cs) h some = ap ended h
+
+-- a piece before a line feed is a line
+pub lines_first : (text front rest line : List ℕ) → pieces feed text ≡ front ∷ pieces feed rest → line ≡ without_return front → lines_of text ≡ line ∷ lines_of rest
+lines_first text front rest line h e = ap ended h ∙ rw (pieces_is feed rest, e) refl
+
+-- a map with one more name finds what the list with that name finds
+pub found_more : (m n : BTreeMap (Bor (List ℕ)) ℕ) (names : List (List ℕ × ℕ)) (name : List ℕ) (unit : ℕ)
+    → UpdatesBy (λ x y. slice_cmp nat_cmp x.now y.now) (λ k. slice_cmp nat_cmp name k.now) m n (Some unit) → Finds m names → Finds n ((name, unit) ∷ names)
+found_more m n names name unit u h q = btree_map_updates_str name m n (Some unit) u q ∙ rw (h q) refl
+
+-- a new name is kept
+pub name_put : (kept : Reading) (n : BTreeMap (Bor (List ℕ)) ℕ) (r : Read) (name : List ℕ) → Keeps kept r → is_some (get_by (λ k. slice_cmp nat_cmp name k.now) kept.names) ≡ false
+    → UpdatesBy (λ x y. slice_cmp nat_cmp x.now y.now) (λ k. slice_cmp nat_cmp name k.now) kept.names n (Some kept.units)
+    → (x : Read) × (with_name r (Some name) ≡ Some x) × Keeps (record kept { names = n }) x
+name_put kept n r name k absent u =
+    let free : is_some (defined r.names name) ≡ false = ap is_some (sym (k.names name)) ∙ absent in
+    (record { names = (name, kept.units) ∷ r.names; sources = r.sources }, rw (free, k.units) refl, record { units = k.units; sources = k.sources; names = found_more kept.names n r.names name kept.units u k.names })
+
+-- the units of what is kept are those of what was read
+pub sum_by-kept : (sources : List Kept) → sum_by source_units (map kept_view sources) ≡ units_kept sources
+sum_by-kept [] = refl
+sum_by-kept (k ∷ ks) = sum_by-cons source_units (kept_view k) (map kept_view ks) ∙ ap (λ n. source_units (kept_view k) + n) (sum_by-kept ks) ∙ sym (sum_by-cons (λ x. source_units (kept_view x)) k ks)
+
+pub units_are : (kept : Reading) (r : Read) → Keeps kept r → kept.units ≡ units_kept kept.sources.items
+units_are kept r k = k.units ∙ ap (λ s. sum_by source_units s) (sym k.sources) ∙ sum_by-kept kept.sources.items

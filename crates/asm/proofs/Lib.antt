@@ -1,0 +1,11 @@
+pub mod KeepingLemmas
+pub mod ResolveLemmas
+pub mod MnemonicLemmas
+pub mod NumberLemmas
+pub mod OperandLemmas
+pub mod SourceLemmas
+pub mod TokenLemmas
+pub mod WordLemmas
+pub mod WordsLemmas
+pub mod OutlineLemmas
+pub mod RoundLemmas

@@ -1,0 +1,127 @@
+-- A printed line has its outline, and says its instruction.
+use Rattle.std.proofs.Common.{◌≡◌, ℕ, zero, suc, ◌+◌, ◌-◌, ◌<◌, Bool, true, false, List, [], ◌∷◌, ◌++◌, Option, Some, None, length, take, drop, get_or, refl, sym, ap, ◌∙◌, arith}
+use Rattle.std.specs.Prelude.{not, ◌==◌, ◌&&◌, nat_lt, nat_le}
+use Rattle.std.specs.List.{list_all}
+use Rattle.std.proofs.lemmas.Bool.Decides.{nat_tests}
+use Rattle.text.specs.declared.stop.Stop.TheVariants.{Blank, Solid}
+use Rattle.text.specs.Options.{◌>>=◌}
+use Rattle.text.specs.Stop.{is_stop, colon, semicolon, feed}
+use Rattle.text.specs.Parts.{until, before, from}
+use Rattle.text.proofs.BytesLemmas.{all-append, all-weaker, and_first, and_second}
+use Rattle.text.proofs.CutLemmas.{Lacks, until-all, before-all, before-append}
+use Rattle.insn.specs.declared.insn.Insn.{Insn}
+use Rattle.insn.specs.declared.insn.Insn.TheVariants as insns
+use Rattle.insn.specs.declared.insn.Operand.TheVariants.{Register, Immediate}
+use Rattle.insn.specs.Insn.{IsInsn}
+use Rattle.asm.specs.Table.{name_of}
+use Rattle.asm.specs.Line.{Outline, is_word, words_of, outlined, outline_of}
+use Rattle.asm.specs.Program.{Read, without_return, with_words, with_line, line_read}
+use Rattle.asm.specs.Printing.{more_text, operands_text, word_of, operands_of, insn_text}
+use Rattle.asm.proofs.MnemonicLemmas.{IsMnemonic, mnemonic_of-name}
+use Rattle.asm.proofs.SourceLemmas.{source_for, source_of-text}
+use Rattle.asm.proofs.TokenLemmas.{is_plain, IsPlain, ArePlain, plain_operands}
+use Rattle.asm.proofs.WordLemmas.{is_fine, is_fine-name}
+use Rattle.asm.proofs.WordsLemmas.{append-nil, plain_blank, until_solid, words_of-text}
+
+-- a byte of a line: visible or a space, no semicolon
+abbrev pub in_line : ℕ → Bool
+in_line c = nat_le 32 c && nat_lt c 128 && not (c == 59)
+
+plain_in_line : (c : ℕ) → is_plain c ≡ true → in_line c ≡ true
+plain_in_line c h = grind (arith, nat_tests)
+
+plain_colon : (c : ℕ) → is_plain c ≡ true → not (is_stop colon c) ≡ true
+plain_colon c h = grind (arith, nat_tests)
+
+line_semicolon : (c : ℕ) → in_line c ≡ true → not (is_stop semicolon c) ≡ true
+line_semicolon c h = grind (arith, nat_tests)
+
+line_feed : (c : ℕ) → in_line c ≡ true → not (is_stop feed c) ≡ true
+line_feed c h = grind (arith, nat_tests)
+
+line_return : (c : ℕ) → in_line c ≡ true → (c == 13) ≡ false
+line_return c h = grind (arith, nat_tests)
+
+line_more : (ts : List (List ℕ)) → ArePlain ts → list_all in_line (more_text ts) ≡ true
+line_more [] ps = refl
+line_more (t ∷ ts) ps = all-append in_line t (more_text ts) (all-weaker is_plain in_line plain_in_line t ps.0.bytes) (line_more ts ps.1)
+
+line_operands : (ts : List (List ℕ)) → ArePlain ts → list_all in_line (operands_text ts) ≡ true
+line_operands [] ps = refl
+line_operands (t ∷ ts) ps = all-append in_line t (more_text ts) (all-weaker is_plain in_line plain_in_line t ps.0.bytes) (line_more ts ps.1)
+
+line_bytes : (w : List ℕ) (ts : List (List ℕ)) → IsPlain w → ArePlain ts → list_all in_line (w ++ operands_text ts) ≡ true
+line_bytes w ts p ps = all-append in_line w (operands_text ts) (all-weaker is_plain in_line plain_in_line w p.bytes) (line_operands ts ps)
+
+-- no carriage return stands at the end
+no_return : (xs : List ℕ) (k : ℕ) → list_all in_line xs ≡ true → (get_or xs k 0 == 13) ≡ false
+no_return [] k h = refl
+no_return (x ∷ xs) zero h = line_return x (and_first (in_line x) _ h)
+no_return (x ∷ xs) (suc k) h = no_return xs k (and_second (in_line x) _ h)
+
+return_free : (line : List ℕ) → list_all in_line line ≡ true → without_return line ≡ line
+return_free line h = rw (no_return line (length line - 1) h) refl
+
+-- the outline
+not_less : (n : ℕ) → nat_lt n n ≡ false
+not_less n = grind (arith, nat_tests)
+
+outlined-line : (code w : List ℕ) (ts : List (List ℕ)) → before Blank code ≡ w → until colon w ≡ length w → words_of code ≡ Some (w ∷ ts) → outlined code ≡ Some (record { name = None; words = w ∷ ts })
+unfolding outlined
+outlined-line code w ts b u h = rw (b, u, not_less (length w), h) refl
+
+outline_of-line : (line : List ℕ) (o : Option Outline) → before semicolon line ≡ line → until Solid line ≡ 0 → outlined line ≡ o → outline_of line ≡ o
+unfolding outline_of
+outline_of-line line o b u h = rw (b, u) h
+
+before_blank : (w : List ℕ) (ts : List (List ℕ)) → IsPlain w → before Blank (w ++ operands_text ts) ≡ w
+before_blank w [] p = ap (before Blank) (append-nil w) ∙ before-all Blank w (all-weaker is_plain (λ c. not (is_stop Blank c)) plain_blank w p.bytes)
+before_blank w (t ∷ ts) p = before-append Blank w 32 (t ++ more_text ts) (all-weaker is_plain (λ c. not (is_stop Blank c)) plain_blank w p.bytes) refl
+
+outline_of-text : (w : List ℕ) (ts : List (List ℕ)) → is_word w ≡ true → IsPlain w → ArePlain ts → outline_of (w ++ operands_text ts) ≡ Some (record { name = None; words = w ∷ ts })
+outline_of-text w ts word p ps =
+    let line : List ℕ = w ++ operands_text ts in
+    outline_of-line line _ (before-all semicolon line (all-weaker in_line (λ c. not (is_stop semicolon c)) line_semicolon line (line_bytes w ts p ps)))
+      (until_solid w (operands_text ts) p.some p.bytes)
+      (outlined-line line w ts (before_blank w ts p) (until-all colon w (all-weaker is_plain (λ c. not (is_stop colon c)) plain_colon w p.bytes)) (words_of-text w ts word p ps))
+
+-- the word of an instruction
+fine_word : (w : List ℕ) → is_fine w ≡ true → is_word w ≡ true
+fine_word w h = and_second (nat_lt 0 (length w)) (is_word w) (and_first (nat_lt 0 (length w) && is_word w) _ h)
+
+fine_plain : (w : List ℕ) → is_fine w ≡ true → IsPlain w
+fine_plain w h =
+    let some : nat_lt 0 (length w) ≡ true = and_first (nat_lt 0 (length w)) (is_word w) (and_first (nat_lt 0 (length w) && is_word w) _ h) in
+    record { bytes = and_second (nat_lt 0 (length w) && is_word w) _ h; some = grind (arith, nat_tests) }
+
+is_mnemonic : (i : Insn) → IsInsn i → IsMnemonic (word_of i)
+is_mnemonic (insns.SignExtend width part dst src) is = is.0
+is_mnemonic (insns.Arithmetic width operation dst operand) is = tt
+is_mnemonic (insns.Negate width dst) is = tt
+is_mnemonic (insns.Swap order size dst) is = tt
+is_mnemonic (insns.LoadNumber dst number) is = tt
+is_mnemonic (insns.Jump distance) is = tt
+is_mnemonic (insns.LongJump distance) is = tt
+is_mnemonic (insns.Branch width condition dst operand distance) is = tt
+is_mnemonic (insns.Load size dst base offset) is = tt
+is_mnemonic (insns.LoadSigned part dst base offset) is = tt
+is_mnemonic (insns.Store size base offset (Register src)) is = tt
+is_mnemonic (insns.Store size base offset (Immediate number)) is = tt
+is_mnemonic (insns.Call helper) is = tt
+is_mnemonic insns.Exit is = tt
+
+pub insn_lacks_feed : (i : Insn) → IsInsn i → Lacks feed (insn_text i)
+unfolding insn_text
+insn_lacks_feed i is = all-weaker in_line (λ c. not (is_stop feed c)) line_feed (insn_text i) (line_bytes (name_of (word_of i)) (operands_of i) (fine_plain (name_of (word_of i)) (is_fine-name (word_of i))) (plain_operands i is))
+
+pub without_return-insn : (i : Insn) → IsInsn i → without_return (insn_text i) ≡ insn_text i
+unfolding insn_text
+without_return-insn i is = return_free (insn_text i) (line_bytes (name_of (word_of i)) (operands_of i) (fine_plain (name_of (word_of i)) (is_fine-name (word_of i))) (plain_operands i is))
+
+outline_of-insn : (i : Insn) → IsInsn i → outline_of (insn_text i) ≡ Some (record { name = None; words = name_of (word_of i) ∷ operands_of i })
+unfolding insn_text
+outline_of-insn i is = outline_of-text (name_of (word_of i)) (operands_of i) (fine_word (name_of (word_of i)) (is_fine-name (word_of i))) (fine_plain (name_of (word_of i)) (is_fine-name (word_of i))) (plain_operands i is)
+
+pub line_read-insn : (r : Read) (i : Insn) → IsInsn i → line_read r (insn_text i) ≡ Some (record r { sources = r.sources ++ source_for i ∷ [] })
+unfolding line_read with_line with_words
+line_read-insn r i is = rw (outline_of-insn i is, mnemonic_of-name (word_of i) (is_mnemonic i is), source_of-text i is) refl

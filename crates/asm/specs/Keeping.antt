@@ -1,0 +1,73 @@
+-- What the assembler keeps.
+use Rattle.std.specs.Prelude.{ℕ, ◌≡◌, ◌+◌, List, [], ◌∷◌, map, length, Option, Some, None, Result, Ok, Err}
+use Rattle.std.proofs.Common.{Bor}
+use Rattle.std.specs.Cmp.Lexicographic.{slice_cmp}
+use Rattle.std.specs.Ordering.{nat_cmp}
+use Rattle.std.specs.List.{sum_by}
+use Rattle.std.specs.BTreeMap.{BTreeMap, get_by}
+use Rattle.text.specs.declared.stop.Stop.{Stop}
+use Rattle.text.specs.Parts.{pieces}
+use Rattle.asm.specs.declared.fault.LineError.{LineError}
+use Rattle.asm.specs.declared.fault.LineError.TheVariants.{Memory}
+use Rattle.asm.specs.declared.fault.AsmError.{AsmError}
+use Rattle.asm.specs.declared.fault.AsmError.TheVariants as answers
+use Rattle.asm.specs.declared.kept.Kept.{Kept}
+use Rattle.asm.specs.declared.reading.Reading.{Reading}
+use Rattle.asm.specs.Program.{Read, units_in, source_units, defined, lines_of}
+use Rattle.asm.specs.Views.{Fails, kept_view}
+
+-- the map finds what the list has
+abbrev pub Finds : BTreeMap (Bor (List ℕ)) ℕ → List (List ℕ × ℕ) → Type 0
+Finds map names = (name : List ℕ) → get_by (λ k. slice_cmp nat_cmp name k.now) map ≡ defined names name
+
+-- the code's reading is this one
+pub record Keeps (kept : Reading) (r : Read) : Type 0 where
+  pub units : kept.units ≡ units_in r
+  pub sources : map kept_view kept.sources.items ≡ r.sources
+  pub names : Finds kept.names r.names
+
+-- how many units the kept statements take
+abbrev pub units_kept : List Kept → ℕ
+units_kept sources = sum_by (λ k. source_units (kept_view k)) sources
+
+-- what was read is kept, if there is no error
+abbrev pub KeepsRead : {X : Type 0} → Result X LineError → Reading → Read → Type 0
+KeepsRead (Ok x) kept r = Keeps kept r
+KeepsRead (Err e) kept r = e ≡ Memory
+
+abbrev pub GivesRead : {X : Type 0} → Result X LineError → Reading → Option Read → Type 0
+GivesRead (Ok x) kept read = (r : Read) × (read ≡ Some r) × Keeps kept r
+GivesRead (Err e) kept read = Fails e read
+
+-- the pieces that are left
+abbrev pub left : Stop → Option (Bor (List ℕ)) → List (List ℕ)
+left stop None = []
+left stop (Some rest) = pieces stop rest.now
+
+abbrev pub left_len : Option (Bor (List ℕ)) → ℕ
+left_len None = 0
+left_len (Some rest) = length rest.now + 1
+
+-- a text as its first line and the text behind it, if it has lines
+abbrev pub GivesLines : Option (Bor (List ℕ) × Bor (List ℕ)) → List (List ℕ) → Type 0
+GivesLines None all = all ≡ []
+GivesLines (Some cut) all = all ≡ cut.0.now ∷ lines_of cut.1.now
+
+-- an error other than want of memory says that nothing is said
+abbrev pub Refuses : {Y : Type 0} → AsmError → Option Y → Type 0
+Refuses answers.Memory read = Unit {0}
+Refuses (answers.At fault line) read = read ≡ None
+
+abbrev pub GivesGathered : Result Reading AsmError → Option Read → Type 0
+GivesGathered (Ok kept) read = (r : Read) × (read ≡ Some r) × Keeps kept r
+GivesGathered (Err e) read = Refuses e read
+
+-- what is answered is said, and a refusal other than for memory comes only where nothing is said
+abbrev pub Answers : {X : Type 0} → Result X AsmError → Option X → Type 0
+Answers (Ok x) said = said ≡ Some x
+Answers (Err e) said = Refuses e said
+
+-- the same, the answer seen by what it holds
+abbrev pub AnswersBy : {X Y : Type 0} → (X → Y) → Result X AsmError → Option Y → Type 0
+AnswersBy view (Ok x) said = said ≡ Some (view x)
+AnswersBy view (Err e) said = Refuses e said

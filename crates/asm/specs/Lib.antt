@@ -1,0 +1,9 @@
+pub mod Number
+pub mod Operand
+pub mod Table
+pub mod Statement
+pub mod Line
+pub mod Program
+pub mod Views
+pub mod Keeping
+pub mod Printing

@@ -1,0 +1,63 @@
+-- What the code's values stand for.
+use Rattle.std.specs.Prelude.{ℕ, ◌≡◌, List, map, Option, Some, None, Result, Ok, Err}
+use Rattle.std.proofs.Common.{Bor}
+use Rattle.asm.specs.declared.fault.LineError.{LineError}
+use Rattle.asm.specs.declared.fault.LineError.TheVariants as failures
+use Rattle.asm.specs.declared.operand.Aim.{Aim}
+use Rattle.asm.specs.declared.operand.Aim.TheVariants as aims
+use Rattle.asm.specs.declared.kept.Draft.{Draft}
+use Rattle.asm.specs.declared.kept.Draft.TheVariants as drafts
+use Rattle.asm.specs.declared.kept.Statement.{Statement}
+use Rattle.asm.specs.declared.kept.Kept.{Kept}
+use Rattle.asm.specs.Operand.{Goal, Away, Named}
+use Rattle.asm.specs.Statement.{Source, Plain, Jump, LongJump, Branch}
+use Rattle.asm.specs.Line.{Outline}
+
+abbrev pub GivesOption : {X Y : Type 0} → (X → Y) → Option X → Option Y → Type 0
+GivesOption view None read = read ≡ None
+GivesOption view (Some x) read = read ≡ Some (view x)
+
+-- an error of any kind says that nothing is read
+abbrev pub GivesResult : {X Y E : Type 0} → (X → Y) → Result X E → Option Y → Type 0
+GivesResult view (Err e) read = read ≡ None
+GivesResult view (Ok x) read = read ≡ Some (view x)
+
+-- any error but want of memory says that nothing is read
+abbrev pub Fails : {Y : Type 0} → LineError → Option Y → Type 0
+Fails failures.Memory read = Unit {0}
+Fails (failures.Fault f) read = read ≡ None
+
+-- a jump's goal, its name apart
+abbrev pub aim_view : Aim → List ℕ → Goal
+aim_view (aims.Away n) name = Away n
+aim_view aims.Named name = Named name
+
+-- a source, its name apart
+abbrev pub draft_view : Draft → List ℕ → Source
+draft_view (drafts.Plain insn) name = Plain insn
+draft_view (drafts.Jump aim) name = Jump (aim_view aim name)
+draft_view (drafts.LongJump aim) name = LongJump (aim_view aim name)
+draft_view (drafts.Branch width condition dst operand aim) name = Branch width condition dst operand (aim_view aim name)
+
+abbrev pub source_view : Statement → Source
+source_view s = draft_view s.draft s.name.now
+
+abbrev pub kept_view : Kept → Source
+kept_view kept = source_view kept.statement
+
+abbrev pub statement_view : Option Statement → Option Source
+statement_view None = None
+statement_view (Some s) = Some (source_view s)
+
+-- words were written
+abbrev pub GivesWords : {X : Type 0} → List (Bor (List ℕ)) → Result X LineError → Option (List (List ℕ)) → Type 0
+GivesWords words (Err e) read = Fails e read
+GivesWords words (Ok x) read = read ≡ Some (map (λ r. r.now) words)
+
+abbrev pub name_view : Option (Bor (List ℕ)) → Option (List ℕ)
+name_view None = None
+name_view (Some name) = Some name.now
+
+abbrev pub GivesOutline : List (Bor (List ℕ)) → Result (Option (Bor (List ℕ))) LineError → Option Outline → Type 0
+GivesOutline words (Err e) read = Fails e read
+GivesOutline words (Ok name) read = read ≡ Some (record { name = name_view name; words = map (λ r. r.now) words })

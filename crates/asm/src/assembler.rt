@@ -1,0 +1,41 @@
+//! The assembler.
+
+ghost use Rattle.std.specs.Prelude.{◌≡◌};
+ghost use Rattle.asm.specs.Program.{Read, program_of, program_in};
+ghost use Rattle.asm.specs.Keeping.{Keeps, Answers, units_kept};
+
+use crate::fault::{AsmError, Fault};
+use crate::reading::{Reading, gather};
+use crate::resolver::resolve_all;
+use insn::Program;
+use std::alloc::Global;
+
+/// The program of what was read.
+fn finish(alloc: Global, reading: &Reading<'_>) -> Result<Program, AsmError>
+    requires { reading.now.units ≡ units_kept reading.now.sources.items }
+    ensures { (r : Read) → Keeps reading.now r → Answers result (program_in r) }
+{
+    if reading.units == 0 || reading.units > 4096 {
+        return Err(AsmError::At(
+            Fault::Count,
+            if reading.lines == 0 { 1 } else { reading.lines },
+        ));
+    }
+    let insns = resolve_all(alloc, reading)?;
+    Ok(Program::new(alloc, insns)?)
+}
+
+/// The program that the text says. Of several faults it answers the first: lines in order, in each
+/// its outline (A1), a name defined twice (A5), the mnemonic (A2), the operands' number and kinds
+/// (A3), their ranges (A6); then the number of units (A7); then, in line order, names that are not
+/// defined (A4) and distances (A6).
+#[tactic(auto, unfolding(crate::specs::Program::program_of))]
+pub fn assemble(alloc: Global, text: &str) -> Result<Program, AsmError>
+    // What is answered is said; a refusal other than for memory comes only where nothing is said.
+    ensures { Answers result (program_of text.now) }
+{
+    match gather(alloc, text.as_bytes()) {
+        Ok(reading) => finish(alloc, &reading),
+        Err(e) => Err(e),
+    }
+}

@@ -1,0 +1,43 @@
+//! Statements as they are kept.
+
+ghost use Rattle.std.specs.Prelude.{◌≡◌, ◌≤◌};
+ghost use Rattle.asm.specs.Program.{source_units};
+ghost use Rattle.asm.specs.Views.{source_view};
+
+use crate::operand::Aim;
+use insn::{Insn, Operand, Reg};
+use word::{Condition, Width};
+
+/// An instruction, a jump's distance left open.
+#[derive(Clone, Copy, Debug, PartialEq, Eq)]
+pub enum Draft {
+    Plain(Insn),
+    Jump(Aim),
+    LongJump(Aim),
+    Branch(Width, Condition, Reg, Operand, Aim),
+}
+
+/// A draft with the name of its goal (empty where it has none).
+#[derive(Clone, Copy, Debug)]
+pub struct Statement<'a> {
+    pub draft: Draft,
+    pub name: &'a [u8],
+}
+
+/// A statement with its line.
+#[derive(Clone, Copy, Debug)]
+pub struct Kept<'a> {
+    pub statement: Statement<'a>,
+    pub line: u64,
+}
+
+/// How many units the statement takes: 1 or 2.
+pub fn units(statement: &Statement<'_>) -> u64
+    ensures units { result ≡ source_units (source_view statement.now) }
+    ensures bound { result ≤ 2 }
+{
+    match &statement.draft {
+        Draft::Plain(insn) => insn.units() as u64,
+        _ => 1,
+    }
+}

@@ -1,0 +1,24 @@
+//! Assembly: programs as text.
+#![tactic(auto)]
+
+mod assembler;
+mod disassembler;
+mod fault;
+mod helper;
+mod kept;
+mod line;
+mod mnemonic;
+mod number;
+mod operand;
+mod outline;
+mod printing;
+mod reading;
+mod resolver;
+mod statement;
+
+pub use assembler::assemble;
+pub use disassembler::disassemble;
+pub use fault::{AsmError, Fault};
+
+#[cfg(test)]
+mod tests;

@@ -1,0 +1,90 @@
+//! Numbers with a sign.
+
+ghost use Rattle.std.specs.Prelude.{◌≡◌, ◌^◌};
+ghost use Rattle.asm.specs.Number.{number_of, signed_within, bits_within};
+
+use text::magnitude;
+
+/// A number as it is written; a magnitude of 2^64 stands for each that is greater.
+#[derive(Clone, Copy, Debug, PartialEq, Eq)]
+pub struct Number {
+    pub negative: bool,
+    pub magnitude: u128,
+}
+
+/// A number with an optional minus.
+#[tactic(auto, unfolding(crate::specs::Number::number_of))]
+pub fn read_number(text: &[u8]) -> Option<Number>
+    ensures { result ≡ number_of text.now }
+{
+    if text.len() >= 1 && text[0] == b'-' {
+        let magnitude = magnitude(&text[1..])?;
+        return Some(Number {
+            negative: true,
+            magnitude,
+        });
+    }
+    let magnitude = magnitude(text)?;
+    Some(Number {
+        negative: false,
+        magnitude,
+    })
+}
+
+/// The number in 16 bits.
+#[tactic(auto, unfolding(crate::specs::Number::signed_within))]
+pub fn fit16(number: Number) -> Option<i16>
+    ensures { result ≡ signed_within (2 ^ 15) number }
+{
+    if number.negative {
+        if number.magnitude <= 0x8000 {
+            Some((-(number.magnitude as i32)) as i16)
+        } else {
+            None
+        }
+    } else if number.magnitude < 0x8000 {
+        Some(number.magnitude as i16)
+    } else {
+        None
+    }
+}
+
+/// The number in 32 bits.
+#[tactic(auto, unfolding(crate::specs::Number::signed_within))]
+pub fn fit32(number: Number) -> Option<i32>
+    ensures { result ≡ signed_within (2 ^ 31) number }
+{
+    if number.negative {
+        if number.magnitude <= 0x8000_0000 {
+            Some((-(number.magnitude as i64)) as i32)
+        } else {
+            None
+        }
+    } else if number.magnitude < 0x8000_0000 {
+        Some(number.magnitude as i32)
+    } else {
+        None
+    }
+}
+
+/// The 64 bits of a number from -2^63 to 2^64 - 1.
+#[tactic(auto, unfolding(crate::specs::Number::bits_within))]
+pub fn fit64(number: Number) -> Option<u64>
+    ensures { result ≡ bits_within number }
+{
+    if number.negative {
+        if number.magnitude <= 0x8000_0000_0000_0000 {
+            Some(if number.magnitude == 0 {
+                0
+            } else {
+                (0x1_0000_0000_0000_0000 - number.magnitude) as u64
+            })
+        } else {
+            None
+        }
+    } else if number.magnitude < 0x1_0000_0000_0000_0000 {
+        Some(number.magnitude as u64)
+    } else {
+        None
+    }
+}

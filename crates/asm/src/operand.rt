@@ -1,0 +1,168 @@
+//! Operands: registers, numbers, places in memory, targets of jumps.
+
+ghost use Rattle.std.specs.Prelude.{◌≡◌, Some, None};
+ghost use Rattle.asm.specs.Operand.{register_of, raw_of, fitted, signed_of, offset_of, inside, place_of, is_letter, are_name, is_name as named_well, goal_of};
+ghost use Rattle.asm.specs.Views.{aim_view, GivesOption};
+
+use crate::number::{Number, fit32, read_number};
+use insn::{Operand, Reg};
+use text::{Stop, cut, magnitude};
+
+/// A register, or a number as it is written.
+#[derive(Clone, Copy, Debug, PartialEq, Eq)]
+pub enum Raw {
+    Register(Reg),
+    Number(Number),
+}
+
+/// Where a jump goes: so many units away, or to a name that is kept apart.
+#[derive(Clone, Copy, Debug, PartialEq, Eq)]
+pub enum Aim {
+    Away(Number),
+    Named,
+}
+
+/// `r0` to `r10`.
+#[tactic(auto, unfolding(crate::specs::Operand::register_of))]
+pub fn register(text: &[u8]) -> Option<Reg>
+    ensures { result ≡ register_of text.now }
+{
+    match text {
+        [r, a] if *r == b'r' && b'0' <= *a && *a <= b'9' => Reg::new(*a - b'0'),
+        [r, a, b] if *r == b'r' && *a == b'1' && *b == b'0' => Reg::new(10),
+        _ => None,
+    }
+}
+
+/// A register or a number.
+#[tactic(auto, unfolding(crate::specs::Operand::raw_of))]
+pub fn read_raw(text: &[u8]) -> Option<Raw>
+    ensures { result ≡ raw_of text.now }
+{
+    if text.len() >= 1 && text[0] == b'r' {
+        let reg = register(text)?;
+        return Some(Raw::Register(reg));
+    }
+    let n = read_number(text)?;
+    Some(Raw::Number(n))
+}
+
+/// The operand, its number in 32 bits.
+#[tactic(auto, unfolding(crate::specs::Operand::fitted))]
+pub fn fit(raw: Raw) -> Option<Operand>
+    ensures { result ≡ fitted raw }
+{
+    match raw {
+        Raw::Register(reg) => Some(Operand::Register(reg)),
+        Raw::Number(n) => {
+            let imm = fit32(n)?;
+            Some(Operand::Immediate(imm))
+        }
+    }
+}
+
+/// `+k` or `-k`.
+#[tactic(auto, unfolding(crate::specs::Operand::signed_of))]
+fn signed(text: &[u8]) -> Option<Number>
+    ensures { result ≡ signed_of text.now }
+{
+    if text.is_empty() {
+        return None;
+    }
+    if text[0] == b'+' {
+        let magnitude = magnitude(&text[1..])?;
+        return Some(Number {
+            negative: false,
+            magnitude,
+        });
+    }
+    if text[0] == b'-' {
+        let magnitude = magnitude(&text[1..])?;
+        return Some(Number {
+            negative: true,
+            magnitude,
+        });
+    }
+    None
+}
+
+/// Nothing, `+k` or `-k`.
+fn offset(text: &[u8]) -> Option<Number>
+    ensures { result ≡ offset_of text.now }
+{
+    if text.is_empty() {
+        return Some(Number {
+            negative: false,
+            magnitude: 0,
+        });
+    }
+    signed(text)
+}
+
+/// What stands between the brackets.
+fn inner(text: &[u8]) -> Option<&[u8]>
+    ensures { GivesOption (λ r. r.now) result (inside text.now) }
+{
+    if text.len() < 2 {
+        return None;
+    }
+    if text[0] == b'[' && text[text.len() - 1] == b']' {
+        let rest = &text[1..];
+        return Some(&rest[..rest.len() - 1]);
+    }
+    None
+}
+
+/// `[rN]`, `[rN+k]` or `[rN-k]`.
+#[tactic(auto, unfolding(crate::specs::Operand::place_of))]
+pub fn place(text: &[u8]) -> Option<(Reg, Number)>
+    ensures { result ≡ place_of text.now }
+{
+    let inner = inner(text)?;
+    let (front, back) = cut(Stop::Sign, inner);
+    let base = register(front)?;
+    let offset = offset(back)?;
+    Some((base, offset))
+}
+
+/// A letter or `_`.
+pub fn letter(byte: u8) -> bool
+    ensures { result ≡ is_letter byte }
+{
+    (b'a' <= byte && byte <= b'z') || (b'A' <= byte && byte <= b'Z') || byte == b'_'
+}
+
+/// Letters, digits, `_`.
+fn name_bytes(text: &[u8]) -> bool
+    ensures { result ≡ are_name text.now }
+{
+    for byte in text {
+        if !(letter(*byte) || (b'0' <= *byte && *byte <= b'9')) {
+            return false;
+        }
+    }
+    true
+}
+
+/// A letter or `_`, then letters, digits, `_`.
+pub fn is_name(text: &[u8]) -> bool
+    ensures { result ≡ named_well text.now }
+{
+    text.len() >= 1 && letter(text[0]) && name_bytes(text)
+}
+
+/// A target: a name, `+k` or `-k`. The bytes are the name.
+#[tactic(auto, unfolding(crate::specs::Operand::goal_of))]
+pub fn target(text: &[u8]) -> Option<(Aim, &[u8])>
+    ensures { GivesOption (λ t. aim_view t.0 t.1.now) result (goal_of text.now) }
+{
+    if text.len() >= 1 && letter(text[0]) {
+        return if name_bytes(text) {
+            Some((Aim::Named, text))
+        } else {
+            None
+        };
+    }
+    let n = signed(text)?;
+    Some((Aim::Away(n), &[]))
+}

@@ -1,0 +1,140 @@
+//! What the lines of a text say, one line after the other.
+
+ghost use Rattle.std.specs.Prelude.{◌≡◌, ◌+◌, ◌^◌, ◌<◌, ◌≤◌, ◌++◌, ◌∷◌, [], map, OnOk, IfErr, IfOk, Some, None};
+ghost use Rattle.asm.specs.Program.{Read, line_read, with_words, with_name, with_source, read_on, nothing, lines_of};
+ghost use Rattle.asm.specs.Views.{kept_view, source_view, draft_view, name_view};
+ghost use Rattle.asm.specs.Keeping.{KeepsRead, GivesRead, Keeps, GivesGathered, units_kept};
+
+use crate::fault::{AsmError, Fault, LineError};
+use crate::kept::{Draft, Kept, Statement, units};
+use crate::line::next_line;
+use crate::outline::read_outline;
+use crate::statement::read_statement;
+use std::alloc::Global;
+use std::collections::BTreeMap;
+
+/// What the lines so far say.
+#[derive(Drop)]
+pub struct Reading<'a> {
+    /// The unit that each name stands for.
+    pub names: BTreeMap<&'a [u8], u64>,
+    /// How many units the statements take.
+    pub units: u64,
+    pub sources: Vec<Kept<'a>>,
+    /// How many lines there are.
+    pub lines: u64,
+}
+
+/// Defines a name as the unit of what follows.
+fn put_name<'a>(reading: &mut Reading<'a>, name: &'a [u8]) -> Result<(), LineError>
+    ensures read { (r : Read) → Keeps reading.old r → GivesRead result reading.new (with_name r (Some name.now)) }
+    ensures units { reading.new.units ≡ reading.old.units }
+{
+    if reading.names.contains_key(name) {
+        return Err(LineError::Fault(Fault::Twice));
+    }
+    reading.names.insert(name, reading.units)?;
+    Ok(())
+}
+
+fn read_name<'a>(reading: &mut Reading<'a>, name: Option<&'a [u8]>) -> Result<(), LineError>
+    ensures read { (r : Read) → Keeps reading.old r → GivesRead result reading.new (with_name r (name_view name.entry)) }
+    ensures units { reading.new.units ≡ reading.old.units }
+{
+    match name {
+        None => Ok(()),
+        Some(name) => put_name(reading, name),
+    }
+}
+
+fn push_kept<'a>(
+    sources: &mut Vec<Kept<'a>>,
+    draft: Draft,
+    name: &'a [u8],
+    line: u64,
+) -> Result<(), LineError>
+    ensures ok { OnOk result (map kept_view sources.new.items ≡ map kept_view sources.old.items ++ draft_view draft name.now ∷ []) }
+    ensures err { IfErr result (λ e. e ≡ LineError.Memory) }
+{
+    let statement = Statement { draft, name };
+    sources.extend_from_slice(&[Kept { statement, line }])?;
+    Ok(())
+}
+
+fn put_source<'a>(
+    reading: &mut Reading<'a>,
+    statement: &Statement<'a>,
+    line: u64,
+) -> Result<(), LineError>
+    requires { reading.old.units + 2 < 2 ^ 64 }
+    ensures read { (r : Read) → Keeps reading.old r → KeepsRead result reading.new (with_source r (Some (source_view statement.now))) }
+    ensures units { reading.new.units ≤ reading.old.units + 2 }
+{
+    push_kept(&mut reading.sources, statement.draft, statement.name, line)?;
+    reading.units += units(statement);
+    Ok(())
+}
+
+/// Adds the statement of these words, if there are any.
+#[tactic(auto, unfolding(crate::specs::Program::with_words))]
+fn put_words<'a>(reading: &mut Reading<'a>, words: &[&'a [u8]], line: u64) -> Result<(), LineError>
+    requires { reading.old.units + 2 < 2 ^ 64 }
+    ensures read { (r : Read) → Keeps reading.old r → GivesRead result reading.new (with_words r (map (λ w. w.now) words.now)) }
+    ensures units { reading.new.units ≤ reading.old.units + 2 }
+{
+    match read_statement(words) {
+        Err(fault) => Err(LineError::Fault(fault)),
+        Ok(None) => Ok(()),
+        Ok(Some(statement)) => put_source(reading, &statement, line),
+    }
+}
+
+/// Adds what a line says.
+#[tactic(auto, unfolding(crate::specs::Program::line_read, crate::specs::Program::with_line))]
+fn read_line<'a>(
+    reading: &mut Reading<'a>,
+    words: &mut Vec<&'a [u8]>,
+    text: &'a [u8],
+    line: u64,
+) -> Result<(), LineError>
+    requires { reading.old.units + 2 < 2 ^ 64 }
+    ensures read { (r : Read) → Keeps reading.old r → GivesRead result reading.new (line_read r text.now) }
+    ensures units { reading.new.units ≤ reading.old.units + 2 }
+{
+    let name = match read_outline(words, text) {
+        Ok(name) => name,
+        Err(e) => return Err(e),
+    };
+    match read_name(reading, name) {
+        Ok(()) => {}
+        Err(e) => return Err(e),
+    }
+    put_words(reading, words, line)
+}
+
+/// What the lines of the text say.
+pub fn gather<'a>(alloc: Global, text: &'a [u8]) -> Result<Reading<'a>, AsmError>
+    ensures read { GivesGathered result (read_on nothing (lines_of text.now)) }
+    ensures units { IfOk result (λ reading. reading.units ≡ units_kept reading.sources.items) }
+{
+    let mut reading = Reading {
+        names: BTreeMap::new(alloc),
+        units: 0,
+        sources: Vec::new(alloc),
+        lines: 0,
+    };
+    let mut words = Vec::new(alloc);
+    let mut lines = 0;
+    let mut rest = text;
+    while let Some((line, after)) = next_line(rest) {
+        lines += 1;
+        match read_line(&mut reading, &mut words, line, lines) {
+            Ok(()) => {}
+            Err(LineError::Memory) => return Err(AsmError::Memory),
+            Err(LineError::Fault(fault)) => return Err(AsmError::At(fault, lines)),
+        }
+        rest = after;
+    }
+    reading.lines = lines;
+    Ok(reading)
+}

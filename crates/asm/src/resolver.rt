@@ -1,0 +1,97 @@
+//! The instructions of what was read: names become distances.
+
+ghost use Rattle.std.specs.Prelude.{◌≡◌, ◌+◌, ◌^◌, ◌<◌, ◌≤◌, [], List, ℕ, length, IfOk};
+ghost use Rattle.insn.specs.Insn.{units_of};
+ghost use Rattle.insn.specs.Program.{slots_of};
+ghost use Rattle.asm.specs.Program.{Read, source_units, distance_of, insn_of, insns_on};
+ghost use Rattle.asm.specs.Views.{GivesResult, aim_view, source_view};
+ghost use Rattle.asm.specs.Keeping.{Keeps, Finds, AnswersBy, units_kept};
+
+use crate::fault::{AsmError, Fault};
+use crate::kept::{Draft, Statement, units};
+use crate::number::{Number, fit16, fit32};
+use crate::operand::Aim;
+use crate::reading::Reading;
+use insn::Insn;
+use std::alloc::Global;
+use std::collections::BTreeMap;
+
+/// The distance to a goal, counted from the unit behind the jump.
+#[tactic(auto, unfolding(crate::specs::Program::distance_of))]
+fn distance(names: &BTreeMap<&[u8], u64>, unit: u64, aim: &Aim, name: &[u8]) -> Option<Number>
+    requires { unit < 4096 }
+    ensures { (ds : List (List ℕ × ℕ)) → Finds names.now ds → result ≡ distance_of ds unit (aim_view aim.now name.now) }
+{
+    match aim {
+        Aim::Away(n) => Some(*n),
+        Aim::Named => {
+            let target = *names.get(name)?;
+            let start = unit + 1;
+            if start <= target {
+                Some(Number {
+                    negative: false,
+                    magnitude: (target - start) as u128,
+                })
+            } else {
+                Some(Number {
+                    negative: true,
+                    magnitude: (start - target) as u128,
+                })
+            }
+        }
+    }
+}
+
+/// The instruction, its jump's distance filled in.
+fn resolve(
+    names: &BTreeMap<&[u8], u64>,
+    unit: u64,
+    statement: &Statement<'_>,
+) -> Result<Insn, Fault>
+    requires { unit < 4096 }
+    ensures said { (ds : List (List ℕ × ℕ)) → Finds names.now ds → GivesResult (λ i. i) result (insn_of ds unit (source_view statement.now)) }
+    ensures units { IfOk result (λ i. units_of i ≡ source_units (source_view statement.now)) }
+{
+    match &statement.draft {
+        Draft::Plain(insn) => Ok(*insn),
+        Draft::Jump(aim) => {
+            let n = distance(names, unit, aim, statement.name).ok_or(Fault::Label)?;
+            let distance = fit16(n).ok_or(Fault::Range)?;
+            Ok(Insn::Jump { distance })
+        }
+        Draft::LongJump(aim) => {
+            let n = distance(names, unit, aim, statement.name).ok_or(Fault::Label)?;
+            let distance = fit32(n).ok_or(Fault::Range)?;
+            Ok(Insn::LongJump { distance })
+        }
+        Draft::Branch(width, condition, dst, operand, aim) => {
+            let n = distance(names, unit, aim, statement.name).ok_or(Fault::Label)?;
+            let distance = fit16(n).ok_or(Fault::Range)?;
+            Ok(Insn::Branch {
+                width: *width,
+                condition: *condition,
+                dst: *dst,
+                operand: *operand,
+                distance,
+            })
+        }
+    }
+}
+
+/// The instructions of what was read.
+pub fn resolve_all(alloc: Global, reading: &Reading<'_>) -> Result<Vec<Insn>, AsmError>
+    requires { units_kept reading.now.sources.items ≤ 4096 }
+    ensures said { (r : Read) → Keeps reading.now r → AnswersBy (λ v. v.items) result (insns_on r.names 0 [] r.sources) }
+    ensures units { IfOk result (λ v. length (slots_of v.items) ≡ units_kept reading.now.sources.items) }
+{
+    let mut insns = Vec::with_capacity(alloc, reading.sources.len())?;
+    let mut unit = 0;
+    for kept in &reading.sources {
+        match resolve(&reading.names, unit, &kept.statement) {
+            Ok(insn) => insns.push(insn)?,
+            Err(fault) => return Err(AsmError::At(fault, kept.line)),
+        }
+        unit += units(&kept.statement);
+    }
+    Ok(insns)
+}

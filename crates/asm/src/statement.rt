@@ -1,0 +1,309 @@
+//! Statements: a mnemonic and its operands, one function a row of the table.
+
+ghost use Rattle.std.specs.Prelude.{◌≡◌, map, [], Some, None, IfSome, IfNone};
+ghost use Rattle.asm.specs.declared.mnemonic.Mnemonic.TheVariants as words;
+ghost use Rattle.asm.specs.Statement.{Plain, source_of, none_of, one_of, two_of, three_of};
+ghost use Rattle.asm.specs.Line.{statement_of};
+ghost use Rattle.asm.specs.Views.{GivesOption, GivesResult, source_view, statement_view};
+
+use crate::fault::Fault;
+use crate::helper::helper_named;
+use crate::kept::{Draft, Statement};
+use crate::mnemonic::{Mnemonic, read_mnemonic};
+use crate::number::{fit16, fit32, fit64, read_number};
+use crate::operand::{fit, letter, place, read_raw, register, target};
+use insn::{Insn, Operand, Size};
+use word::{ByteOrder, Condition, Narrow, Operation, SwapSize, Width};
+
+#[tactic(auto, unfolding(crate::specs::Statement::none_of))]
+fn no_operand<'a>(operands: &[&'a [u8]]) -> Option<()>
+    ensures some { IfSome result (λ _. none_of (map (λ r. r.now) operands.now) ≡ Some []) }
+    ensures none { IfNone result (none_of (map (λ r. r.now) operands.now) ≡ None) }
+{
+    match operands {
+        [] => Some(()),
+        [_, ..] => None,
+    }
+}
+
+#[tactic(auto, unfolding(crate::specs::Statement::one_of))]
+fn one_operand<'a>(operands: &[&'a [u8]]) -> Option<&'a [u8]>
+    ensures { GivesOption (λ r. r.now) result (one_of (map (λ r. r.now) operands.now)) }
+{
+    match operands {
+        [] => None,
+        [a] => Some(*a),
+        [_, _, ..] => None,
+    }
+}
+
+#[tactic(auto, unfolding(crate::specs::Statement::two_of))]
+fn two_operands<'a>(operands: &[&'a [u8]]) -> Option<(&'a [u8], &'a [u8])>
+    ensures { GivesOption (λ r. (r.0.now, r.1.now)) result (two_of (map (λ r. r.now) operands.now)) }
+{
+    match operands {
+        [] => None,
+        [_] => None,
+        [a, b] => Some((*a, *b)),
+        [_, _, _, ..] => None,
+    }
+}
+
+#[tactic(auto, unfolding(crate::specs::Statement::three_of))]
+fn three_operands<'a>(operands: &[&'a [u8]]) -> Option<(&'a [u8], &'a [u8], &'a [u8])>
+    ensures { GivesOption (λ r. (r.0.now, r.1.now, r.2.now)) result (three_of (map (λ r. r.now) operands.now)) }
+{
+    match operands {
+        [] => None,
+        [_] => None,
+        [_, _] => None,
+        [a, b, c] => Some((*a, *b, *c)),
+        [_, _, _, _, ..] => None,
+    }
+}
+
+/// An instruction that is no jump by a name or distance.
+fn plain<'a>(insn: Insn) -> Statement<'a>
+    ensures { source_view result ≡ Plain insn }
+{
+    Statement {
+        draft: Draft::Plain(insn),
+        name: &[],
+    }
+}
+
+/// `rD, rS` or `rD, imm`
+fn arithmetic<'a>(
+    width: Width,
+    operation: Operation,
+    operands: &[&'a [u8]],
+) -> Result<Statement<'a>, Fault>
+    ensures { GivesResult source_view result (source_of (words.Arithmetic width operation) (map (λ r. r.now) operands.now)) }
+{
+    let (a, b) = two_operands(operands).ok_or(Fault::Operand)?;
+    let dst = register(a).ok_or(Fault::Operand)?;
+    let raw = read_raw(b).ok_or(Fault::Operand)?;
+    let operand = fit(raw).ok_or(Fault::Range)?;
+    Ok(plain(Insn::Arithmetic {
+        width,
+        operation,
+        dst,
+        operand,
+    }))
+}
+
+/// `rD`
+fn negate<'a>(width: Width, operands: &[&'a [u8]]) -> Result<Statement<'a>, Fault>
+    ensures { GivesResult source_view result (source_of (words.Negate width) (map (λ r. r.now) operands.now)) }
+{
+    let a = one_operand(operands).ok_or(Fault::Operand)?;
+    let dst = register(a).ok_or(Fault::Operand)?;
+    Ok(plain(Insn::Negate { width, dst }))
+}
+
+/// `rD, rS`
+fn sign_extend<'a>(
+    width: Width,
+    part: Narrow,
+    operands: &[&'a [u8]],
+) -> Result<Statement<'a>, Fault>
+    ensures { GivesResult source_view result (source_of (words.SignExtend width part) (map (λ r. r.now) operands.now)) }
+{
+    let (a, b) = two_operands(operands).ok_or(Fault::Operand)?;
+    let dst = register(a).ok_or(Fault::Operand)?;
+    let src = register(b).ok_or(Fault::Operand)?;
+    Ok(plain(Insn::SignExtend {
+        width,
+        part,
+        dst,
+        src,
+    }))
+}
+
+/// `rD`
+fn swap<'a>(order: ByteOrder, size: SwapSize, operands: &[&'a [u8]]) -> Result<Statement<'a>, Fault>
+    ensures { GivesResult source_view result (source_of (words.Swap order size) (map (λ r. r.now) operands.now)) }
+{
+    let a = one_operand(operands).ok_or(Fault::Operand)?;
+    let dst = register(a).ok_or(Fault::Operand)?;
+    Ok(plain(Insn::Swap { order, size, dst }))
+}
+
+/// `rD, number`
+fn load_number<'a>(operands: &[&'a [u8]]) -> Result<Statement<'a>, Fault>
+    ensures { GivesResult source_view result (source_of words.LoadNumber (map (λ r. r.now) operands.now)) }
+{
+    let (a, b) = two_operands(operands).ok_or(Fault::Operand)?;
+    let dst = register(a).ok_or(Fault::Operand)?;
+    let n = read_number(b).ok_or(Fault::Operand)?;
+    let number = fit64(n).ok_or(Fault::Range)?;
+    Ok(plain(Insn::LoadNumber { dst, number }))
+}
+
+/// A target.
+fn jump<'a>(operands: &[&'a [u8]]) -> Result<Statement<'a>, Fault>
+    ensures { GivesResult source_view result (source_of words.Jump (map (λ r. r.now) operands.now)) }
+{
+    let a = one_operand(operands).ok_or(Fault::Operand)?;
+    let (aim, name) = target(a).ok_or(Fault::Operand)?;
+    Ok(Statement {
+        draft: Draft::Jump(aim),
+        name,
+    })
+}
+
+/// A target.
+fn long_jump<'a>(operands: &[&'a [u8]]) -> Result<Statement<'a>, Fault>
+    ensures { GivesResult source_view result (source_of words.LongJump (map (λ r. r.now) operands.now)) }
+{
+    let a = one_operand(operands).ok_or(Fault::Operand)?;
+    let (aim, name) = target(a).ok_or(Fault::Operand)?;
+    Ok(Statement {
+        draft: Draft::LongJump(aim),
+        name,
+    })
+}
+
+/// `rD, rS or imm, target`
+fn branch<'a>(
+    width: Width,
+    condition: Condition,
+    operands: &[&'a [u8]],
+) -> Result<Statement<'a>, Fault>
+    ensures { GivesResult source_view result (source_of (words.Branch width condition) (map (λ r. r.now) operands.now)) }
+{
+    let (a, b, c) = three_operands(operands).ok_or(Fault::Operand)?;
+    let dst = register(a).ok_or(Fault::Operand)?;
+    let raw = read_raw(b).ok_or(Fault::Operand)?;
+    let (aim, name) = target(c).ok_or(Fault::Operand)?;
+    let operand = fit(raw).ok_or(Fault::Range)?;
+    Ok(Statement {
+        draft: Draft::Branch(width, condition, dst, operand, aim),
+        name,
+    })
+}
+
+/// `rD, [rS+k]`
+fn load<'a>(size: Size, operands: &[&'a [u8]]) -> Result<Statement<'a>, Fault>
+    ensures { GivesResult source_view result (source_of (words.Load size) (map (λ r. r.now) operands.now)) }
+{
+    let (a, b) = two_operands(operands).ok_or(Fault::Operand)?;
+    let dst = register(a).ok_or(Fault::Operand)?;
+    let (base, n) = place(b).ok_or(Fault::Operand)?;
+    let offset = fit16(n).ok_or(Fault::Range)?;
+    Ok(plain(Insn::Load {
+        size,
+        dst,
+        base,
+        offset,
+    }))
+}
+
+/// `rD, [rS+k]`
+fn load_signed<'a>(part: Narrow, operands: &[&'a [u8]]) -> Result<Statement<'a>, Fault>
+    ensures { GivesResult source_view result (source_of (words.LoadSigned part) (map (λ r. r.now) operands.now)) }
+{
+    let (a, b) = two_operands(operands).ok_or(Fault::Operand)?;
+    let dst = register(a).ok_or(Fault::Operand)?;
+    let (base, n) = place(b).ok_or(Fault::Operand)?;
+    let offset = fit16(n).ok_or(Fault::Range)?;
+    Ok(plain(Insn::LoadSigned {
+        part,
+        dst,
+        base,
+        offset,
+    }))
+}
+
+/// `[rD+k], rS`
+fn store_register<'a>(size: Size, operands: &[&'a [u8]]) -> Result<Statement<'a>, Fault>
+    ensures { GivesResult source_view result (source_of (words.StoreRegister size) (map (λ r. r.now) operands.now)) }
+{
+    let (a, b) = two_operands(operands).ok_or(Fault::Operand)?;
+    let (base, n) = place(a).ok_or(Fault::Operand)?;
+    let src = register(b).ok_or(Fault::Operand)?;
+    let offset = fit16(n).ok_or(Fault::Range)?;
+    Ok(plain(Insn::Store {
+        size,
+        base,
+        offset,
+        source: Operand::Register(src),
+    }))
+}
+
+/// `[rD+k], imm`
+fn store_number<'a>(size: Size, operands: &[&'a [u8]]) -> Result<Statement<'a>, Fault>
+    ensures { GivesResult source_view result (source_of (words.StoreNumber size) (map (λ r. r.now) operands.now)) }
+{
+    let (a, b) = two_operands(operands).ok_or(Fault::Operand)?;
+    let (base, n) = place(a).ok_or(Fault::Operand)?;
+    let imm = read_number(b).ok_or(Fault::Operand)?;
+    let offset = fit16(n).ok_or(Fault::Range)?;
+    let number = fit32(imm).ok_or(Fault::Range)?;
+    Ok(plain(Insn::Store {
+        size,
+        base,
+        offset,
+        source: Operand::Immediate(number),
+    }))
+}
+
+/// A number, or a helper's name.
+fn call<'a>(operands: &[&'a [u8]]) -> Result<Statement<'a>, Fault>
+    ensures { GivesResult source_view result (source_of words.Call (map (λ r. r.now) operands.now)) }
+{
+    let a = one_operand(operands).ok_or(Fault::Operand)?;
+    if a.len() >= 1 && letter(a[0]) {
+        let helper = helper_named(a).ok_or(Fault::Operand)?;
+        return Ok(plain(Insn::Call { helper }));
+    }
+    let n = read_number(a).ok_or(Fault::Operand)?;
+    let helper = fit32(n).ok_or(Fault::Range)?;
+    Ok(plain(Insn::Call { helper }))
+}
+
+/// None.
+fn exit<'a>(operands: &[&'a [u8]]) -> Result<Statement<'a>, Fault>
+    ensures { GivesResult source_view result (source_of words.Exit (map (λ r. r.now) operands.now)) }
+{
+    no_operand(operands).ok_or(Fault::Operand)?;
+    Ok(plain(Insn::Exit))
+}
+
+/// The instruction of a mnemonic and its operands.
+fn read_source<'a>(mnemonic: Mnemonic, operands: &[&'a [u8]]) -> Result<Statement<'a>, Fault>
+    ensures { GivesResult source_view result (source_of mnemonic (map (λ r. r.now) operands.now)) }
+{
+    match mnemonic {
+        Mnemonic::Arithmetic(width, operation) => arithmetic(width, operation, operands),
+        Mnemonic::Negate(width) => negate(width, operands),
+        Mnemonic::SignExtend(width, part) => sign_extend(width, part, operands),
+        Mnemonic::Swap(order, size) => swap(order, size, operands),
+        Mnemonic::LoadNumber => load_number(operands),
+        Mnemonic::Jump => jump(operands),
+        Mnemonic::LongJump => long_jump(operands),
+        Mnemonic::Branch(width, condition) => branch(width, condition, operands),
+        Mnemonic::Load(size) => load(size, operands),
+        Mnemonic::LoadSigned(part) => load_signed(part, operands),
+        Mnemonic::StoreRegister(size) => store_register(size, operands),
+        Mnemonic::StoreNumber(size) => store_number(size, operands),
+        Mnemonic::Call => call(operands),
+        Mnemonic::Exit => exit(operands),
+    }
+}
+
+/// The statement of these words, if there are any.
+pub fn read_statement<'a>(words: &[&'a [u8]]) -> Result<Option<Statement<'a>>, Fault>
+    ensures { GivesResult statement_view result (statement_of (map (λ r. r.now) words.now)) }
+{
+    match words {
+        [] => Ok(None),
+        [word, operands @ ..] => {
+            let mnemonic = read_mnemonic(word).ok_or(Fault::Mnemonic)?;
+            match read_source(mnemonic, operands) {
+                Ok(statement) => Ok(Some(statement)),
+                Err(fault) => Err(fault),
+            }
+        }
+    }
+}
