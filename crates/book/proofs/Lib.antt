@@ -4,3 +4,4 @@ pub mod Listed
 pub mod PartLemmas
 pub mod LabelLemmas
 pub mod ReadingLemmas
+pub mod WholeLemmas

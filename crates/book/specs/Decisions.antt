@@ -30,3 +30,7 @@ pub record AgreeInList (n c order : ℕ) (traitor : ℕ → Bool) (decisions : L
 -- with the bound, and loyal generals that tell what they took, the decisions agree
 abbrev pub AgreesIfBound : ℕ → ℕ → ℕ → Messages → List ℕ → Type 0
 AgreesIfBound n c m M decisions = (order : ℕ) (traitor : ℕ → Bool) → IsBound n m traitor → ((g : ℕ) → g < n → traitor g ≡ false → IsFaithful n c m order M g) → AgreeInList n c order traitor decisions
+
+-- so do those of a table
+abbrev pub TableAgrees : MessageTable → List ℕ → Type 0
+TableAgrees t decisions = AgreesIfBound t.generals t.commander t.bound (told t.messages) decisions

@@ -4,3 +4,4 @@ pub mod Decisions
 pub mod Entry
 pub mod Grammar
 pub mod Reading
+pub mod Laws

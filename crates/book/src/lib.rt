@@ -15,4 +15,4 @@ pub use message::Message;
 pub use reader::read_table;
 pub use recursion::{decision, decisions};
 pub use table::Table;
-pub use theorem::agreement;
+pub use theorem::{agreement, told_tables_are_whole};

@@ -1,7 +1,7 @@
-ghost use Rattle.std.specs.Prelude.{◌≡◌, ◌≢◌, ◌<◌, ◌≤◌, ◌+◌, ◌∷◌, [], length, find, option_map};
+ghost use Rattle.std.specs.Prelude.{◌≡◌, ◌≢◌, ◌<◌, ◌≤◌, ◌+◌, ◌∷◌, ◌++◌, [], length, find, option_map};
 ghost use Rattle.combine.specs.Rule.{majority};
 ghost use Rattle.label.specs.Oral.{om, taken};
-ghost use Rattle.book.specs.Decisions.{decision_of, decisions_of, AgreesIfBound};
+ghost use Rattle.book.specs.Decisions.{decision_of, decisions_of, TableAgrees};
 ghost use Rattle.book.specs.Table.{told, is_about};
 
 use crate::message::Message;
@@ -33,7 +33,7 @@ pub fn decision(table: &Table, general: u8) -> u32
 /// What the lieutenants decide, ascending by number: the loyal ones alike, where few enough are traitors.
 pub fn decisions(table: &Table) -> ArrayVec<u32, 12>
     ensures values { result.items ≡ decisions_of table.now }
-    ensures agree { AgreesIfBound table.now.generals table.now.commander table.now.bound (told table.now.messages) result.items }
+    ensures agree { TableAgrees table.now result.items }
 {
     agreement();
     let generals = table.generals();
@@ -73,13 +73,21 @@ fn decide<C: Combine>(
                 let longer = label.with(j);
                 decide(rule, generals, messages, relays - 1, &longer, general)
             };
-            orders.push(order);
+            put(&mut orders, order);
         }
     }
     rule.combine(orders.as_slice())
 }
 
-/// The order that a line tells, RETREAT where there is none.
+/// One more order behind the others, RETREAT too.
+fn put(orders: &mut ArrayVec<u32, 13>, order: u32)
+    requires { length orders.old.items < 13 }
+    ensures { orders.new.items ≡ orders.old.items ++ order ∷ [] }
+{
+    orders.push(order);
+}
+
+/// The order that a message tells, RETREAT where there is none.
 #[tactic(auto, unfolding(crate::specs::Table::told))]
 fn order_told(messages: &[Message], label: &Label, receiver: u8) -> u32
     ensures { result ≡ taken (told messages.now) label.now receiver }
@@ -90,7 +98,7 @@ fn order_told(messages: &[Message], label: &Label, receiver: u8) -> u32
     }
 }
 
-/// The first line about a label and receiver.
+/// The first message about a label and receiver.
 fn message_about<'a>(messages: &'a [Message], label: &Label, receiver: u8) -> Option<&'a Message>
     ensures { option_map (λ message. message.now) result ≡ find (is_about label.now receiver) messages.now }
 {

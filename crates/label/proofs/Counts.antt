@@ -41,11 +41,11 @@ whole-stands s w i r a b e =
     let all : take i w ≡ w = take_all i w a in
     rw (← same) (e ∙ ap Some all)
 
-begins : (c : ℕ) (w : List ℕ) → begins_with c w ≡ true → BeginsWith c w
+pub begins : (c : ℕ) (w : List ℕ) → begins_with c w ≡ true → BeginsWith c w
 begins c [] e = cc
 begins c (x ∷ xs) e = eqb-true x c e
 
-below : (n : ℕ) (w : List ℕ) → list_all (λ x. nat_lt x n) w ≡ true → AllBelow n w
+pub below : (n : ℕ) (w : List ℕ) → list_all (λ x. nat_lt x n) w ≡ true → AllBelow n w
 below n [] e = tt
 below n (x ∷ xs) e = let both = and_parts (nat_lt x n) (list_all (λ y. nat_lt y n) xs) e in (ltb-true x n both.0, below n xs both.1)
 

@@ -1,5 +1,5 @@
 -- The labels of a campaign that lack one lieutenant.
-use Rattle.std.specs.Prelude.{ℕ, ◌<◌, ◌≤◌, ◌≢◌, List, Bool, false, not, ◌&&◌, ◌==◌, nat_lt, [], ◌∷◌}
+use Rattle.std.specs.Prelude.{ℕ, ◌<◌, ◌≤◌, ◌≢◌, List, Bool, false, not, ◌&&◌, ◌==◌, ◌≡◌, nat_lt, [], ◌∷◌, length, Some, slice_get}
 use Rattle.std.specs.List.{list_all}
 use Rattle.label.specs.Labels.{on, labels}
 use Rattle.label.specs.declared.space.Space.{Space}
@@ -11,9 +11,15 @@ pub record IsSpace (s : Space) : Type 0 where
   pub general : s.general < s.generals
   pub lieutenant : s.general ≢ s.commander
 
+-- the labels of a length that lack the lieutenant
 abbrev pub labels_of : Space → ℕ → List (List ℕ)
 labels_of s k = labels s.generals s.commander s.general k
 
+-- the label stands at this place of the list of its length
+abbrev pub HasRank : Space → List ℕ → ℕ → Type 0
+HasRank s w r = slice_get (labels_of s (length w)) r ≡ Some w
+
+-- the list begins with the commander
 abbrev pub begins_with : ℕ → List ℕ → Bool
 begins_with c [] = false
 begins_with c (x ∷ xs) = x == c

@@ -1,8 +1,8 @@
-ghost use Rattle.std.specs.Prelude.{◌≡◌, ◌<◌, ◌≤◌, ◌∷◌, false, length, ◌≢◌, ℕ, IfOk, IfErr, Some, slice_get, nat_lt};
+ghost use Rattle.std.specs.Prelude.{◌≡◌, ◌<◌, ◌≤◌, ◌∷◌, false, length, ℕ, IfOk, IfErr, Some, slice_get, nat_lt};
 ghost use Rattle.std.specs.List.{list_all};
 ghost use Rattle.label.specs.Labels.{on, others};
 ghost use Rattle.label.specs.Oral.{IsLabel};
-ghost use Rattle.label.specs.Space.{IsSpace, labels_of, is_label_of, begins_with};
+ghost use Rattle.label.specs.Space.{HasRank, IsSpace, labels_of, is_label_of, begins_with};
 ghost use Rattle.label.specs.declared.space.LabelError.TheVariants.{NotALabel, Rank};
 
 use crate::label::{Label, has_general};
@@ -29,8 +29,8 @@ pub fn count(space: Space, size: u8) -> u32
 /// `NotALabel` exactly where it does not stand in that list.
 pub fn rank(space: Space, label: &Label) -> Result<u32, LabelError>
     requires space { IsSpace space }
-    ensures ok { IfOk result (λ r. slice_get (labels_of space (length label.now)) r ≡ Some label.now) }
-    ensures err { IfErr result (λ e. (e ≡ NotALabel) × ((r : ℕ) → slice_get (labels_of space (length label.now)) r ≢ Some label.now)) }
+    ensures ok { IfOk result (HasRank space label.now) }
+    ensures err { IfErr result (λ e. (e ≡ NotALabel) × ((r : ℕ) → ¬ HasRank space label.now r)) }
 {
     let generals = label.generals();
     if !is_label(space, generals) {
@@ -87,7 +87,7 @@ fn rank_of(space: Space, generals: &[u8]) -> u32
     requires label { IsLabel space.generals space.commander generals.now }
     requires without { on generals.now space.general ≡ false }
     requires short { length generals.now ≤ 13 }
-    ensures { slice_get (labels_of space (length generals.now)) result ≡ Some generals.now }
+    ensures { HasRank space generals.now result }
 {
     let mut rank: u32 = 0;
     for i in 1..generals.len() {

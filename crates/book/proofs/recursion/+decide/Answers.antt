@@ -1,4 +1,4 @@
-use Rattle.std.proofs.Common.{◌≡◌, ◌<◌, false, length, ℕ, ◌-◌, suc, List, map, sym, ap, ◌∙◌, arith, lit<}
+use Rattle.std.proofs.Common.{◌≡◌, false, ℕ, ◌-◌, suc, List, map, sym, ap, ◌∙◌, arith}
 use Rattle.label.specs.Labels.{on, others}
 use Rattle.label.specs.Oral.{om}
 use Rattle.book.specs.Table.{told}
@@ -10,10 +10,9 @@ use Rattle.book.proofs.recursion.+decide.Goals.{then-not-has, then-j-general, el
 pub returns-then-relays-eq0 : goal.returns-then-relays-eq0
 returns-then-relays-eq0 g t c = rw c.if-relays-eq0.true (c.order_told-own.ensures ∙ sym (om-last (g.C.Combine.combined c.args.rule.now) c.args.generals (told c.args.messages.now) c.args.label.now c.args.general))
 
-pub push-requires : goal.push-requires
-push-requires g t c =
-    let few : length c.loop-j.orders.items < 13 = rw c.loop-j.invariant (let h = entries_few (entry (g.C.Combine.combined c.args.rule.now) c.args.generals (told c.args.messages.now) (c.args.relays - 1) c.args.label.now c.args.general) c.args.label.now c.loop-j.j in omega arith) in
-    (lit< tt, few)
+pub put-requires : goal.put-requires
+put-requires g t c =
+    rw c.loop-j.invariant (let h = entries_few (entry (g.C.Combine.combined c.args.rule.now) c.args.generals (told c.args.messages.now) (c.args.relays - 1) c.args.label.now c.args.general) c.args.label.now c.loop-j.j in omega arith)
 
 pub loop-j-preserved : goal.loop-j-preserved
 loop-j-preserved g t c =
@@ -26,7 +25,7 @@ loop-j-preserved g t c =
             | else-j-general v ↦ v.order-is ∙ (v.decide-order.ensures ∙ (ap (λ (w : List ℕ). om (g.C.Combine.combined c.args.rule.now) c.args.generals (told c.args.messages.now) (c.args.relays - 1) w c.args.general) v.with-longer.ensures ∙ entry-other _ _ _ _ _ _ _ v.if-j-general.false))
           ]
           in
-          rw (w.orders-is, w.push.ensures.items, c.loop-j.invariant, order) (sym (entries_more (entry (g.C.Combine.combined c.args.rule.now) c.args.generals (told c.args.messages.now) (c.args.relays - 1) c.args.label.now c.args.general) c.args.label.now c.loop-j.j fresh))
+          rw (w.orders-is, w.put.ensures, c.loop-j.invariant, order) (sym (entries_more (entry (g.C.Combine.combined c.args.rule.now) c.args.generals (told c.args.messages.now) (c.args.relays - 1) c.args.label.now c.args.general) c.args.label.now c.loop-j.j fresh))
       | else-not-has w ↦ rw (w.orders-is, c.loop-j.invariant, others-more_no c.args.label.now c.loop-j.j (sym c.has.ensures ∙ w.if-not-has.false))
     ]
 
