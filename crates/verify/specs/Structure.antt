@@ -1,5 +1,5 @@
 -- Faults of a program's structure: where its jumps lead, and how it ends (own).
-use Rattle.std.specs.Prelude.{ℕ, ℤ, pos, negsuc, ◌+◌, ◌+ℤ◌, Bool, true, false, nat_le, if◌then◌else◌, List, [], ◌∷◌, ◌++◌, length, Option, Some, None, is_none}
+use Rattle.std.specs.Prelude.{ℕ, ℤ, pos, negsuc, ◌+◌, ◌+ℤ◌, Bool, true, false, nat_le, if◌then◌else◌, List, [], ◌∷◌, ◌++◌, length, Option, Some, None, is_none, ◌≡◌, IsSome}
 use Rattle.insn.specs.declared.insn.Insn.{Insn}
 use Rattle.insn.specs.declared.insn.Insn.TheVariants.{Jump, LongJump, Branch, Exit}
 use Rattle.insn.specs.Insn.{units_of}
@@ -51,15 +51,28 @@ last_checks unit (i ∷ j ∷ is) = last_checks (unit + units_of i) (j ∷ is)
 abbrev pub structural_fault : List Insn → Option Fault
 structural_fault program = first_fault (checks_from program 0 program ++ last_checks 0 program)
 
--- the fault is one of structure
-abbrev pub IsStructural : Fault → Type 0
-IsStructural (BackJump unit) = Unit {0}
-IsStructural (JumpOut unit) = Unit {0}
-IsStructural (JumpInWide unit) = Unit {0}
-IsStructural (LastNotExit unit) = Unit {0}
-IsStructural (Unset unit) = ⊥
-IsStructural (FrameWrite unit) = ⊥
-IsStructural (PointerUse unit) = ⊥
-IsStructural (Helper unit) = ⊥
-IsStructural (ExitPointer unit) = ⊥
-IsStructural Memory = ⊥
+-- the fault is the pass's own, of the instruction at that unit
+abbrev pub IsFaultAt : ℕ → Fault → Type 0
+IsFaultAt at (BackJump unit) = ⊥
+IsFaultAt at (JumpOut unit) = ⊥
+IsFaultAt at (JumpInWide unit) = ⊥
+IsFaultAt at (LastNotExit unit) = ⊥
+IsFaultAt at (Unset unit) = unit ≡ at
+IsFaultAt at (FrameWrite unit) = unit ≡ at
+IsFaultAt at (PointerUse unit) = unit ≡ at
+IsFaultAt at (Helper unit) = unit ≡ at
+IsFaultAt at (ExitPointer unit) = unit ≡ at
+IsFaultAt at Memory = Unit {0}
+
+-- the fault is none of structure, and an instruction stands at its unit, if it has one
+abbrev pub IsOwnFault : List Insn → Fault → Type 0
+IsOwnFault program (BackJump unit) = ⊥
+IsOwnFault program (JumpOut unit) = ⊥
+IsOwnFault program (JumpInWide unit) = ⊥
+IsOwnFault program (LastNotExit unit) = ⊥
+IsOwnFault program (Unset unit) = IsSome (instruction_at program unit)
+IsOwnFault program (FrameWrite unit) = IsSome (instruction_at program unit)
+IsOwnFault program (PointerUse unit) = IsSome (instruction_at program unit)
+IsOwnFault program (Helper unit) = IsSome (instruction_at program unit)
+IsOwnFault program (ExitPointer unit) = IsSome (instruction_at program unit)
+IsOwnFault program Memory = Unit {0}

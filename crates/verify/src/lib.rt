@@ -9,6 +9,8 @@ mod registers;
 mod state;
 mod steps;
 mod structure;
+#[cfg(test)]
+mod tests;
 mod values;
 mod verified;
 mod verifier;

@@ -4,7 +4,7 @@ ghost use Rattle.word.specs.declared.Width.{Width};
 ghost use Rattle.word.specs.declared.Condition.{Condition};
 ghost use Rattle.insn.specs.Program.{slots_of};
 ghost use Rattle.semantics.specs.Plain.{IsIn, IsOfNumbers, IsPlain, operand_reads, writes};
-ghost use Rattle.verify.specs.Structure.{IsStructural};
+ghost use Rattle.verify.specs.Structure.{IsFaultAt, IsOwnFault};
 ghost use Rattle.verify.specs.Forward.{IsForward};
 ghost use Rattle.verify.specs.Quiet.{StartsQuiet};
 ghost use Rattle.verify.specs.Reads.{AllNumbers, AllRead};
@@ -33,7 +33,7 @@ fn pass_straight(
     ensures leads { OnOk result (LeadsOn state.value insn.now unit pending.new.items) }
     ensures no_call { OnOk result (IsNotCall insn.now) }
     ensures keeps { OnOk result (Keeps pending.old.items pending.new.items) }
-    ensures own { IfErr result (λ fault. IsStructural fault → ⊥) }
+    ensures own { IfErr result (IsFaultAt unit) }
     ensures plain { IsOfNumbers insn.now → (IsIn 10 (writes insn.now) → ⊥) → AllRead insn.now state.value.registers → IfErr result (λ fault. fault ≡ Fault.Memory) }
     ensures blanks { OnOk result (AllRead insn.now state.value.registers → BlanksFrom insn.now unit state.value.registers pending.old.items pending.new.items) }
 {
@@ -73,7 +73,7 @@ fn pass_branch(
     ensures leads { OnOk result ((width : Width) (condition : Condition) →
         LeadsOn state.value (Insn.Branch width condition compared.0 compared.1 distance) unit pending.new.items) }
     ensures keeps { OnOk result (Keeps pending.old.items pending.new.items) }
-    ensures own { IfErr result (λ fault. IsStructural fault → ⊥) }
+    ensures own { IfErr result (IsFaultAt unit) }
     ensures plain { AllNumbers (compared.0 ∷ operand_reads compared.1) state.value.registers → IfErr result (λ fault. fault ≡ Fault.Memory) }
     ensures blanks { OnOk result ((width : Width) (condition : Condition) →
         BlanksFrom (Insn.Branch width condition compared.0 compared.1 distance) unit state.value.registers pending.old.items pending.new.items) }
@@ -92,7 +92,7 @@ fn pass_branch(
 /// The program ends.
 fn pass_exit(unit: usize, state: Box<AbsState>) -> Result<(), Fault>
     ensures leads { OnOk result ((pending : List Slot) → LeadsOn state.value Insn.Exit unit pending) }
-    ensures own { IfErr result (λ fault. IsStructural fault → ⊥) }
+    ensures own { IfErr result (IsFaultAt unit) }
     ensures plain { AllRead Insn.Exit state.value.registers → IfErr result (λ fault. fault ≡ Fault.Memory) }
 {
     if let Err(reason) = steps::exit(&state) {
@@ -116,7 +116,7 @@ fn pass_state(
     ensures leads { OnOk result (LeadsOn state.value insn.now unit pending.new.items) }
     ensures no_call { OnOk result (IsNotCall insn.now) }
     ensures keeps { OnOk result (Keeps pending.old.items pending.new.items) }
-    ensures own { IfErr result (λ fault. IsStructural fault → ⊥) }
+    ensures own { IfErr result (IsFaultAt unit) }
     ensures plain { IsOfNumbers insn.now → (IsIn 10 (writes insn.now) → ⊥) → AllRead insn.now state.value.registers → IfErr result (λ fault. fault ≡ Fault.Memory) }
     ensures blanks { OnOk result (AllRead insn.now state.value.registers → BlanksFrom insn.now unit state.value.registers pending.old.items pending.new.items) }
 {
@@ -152,7 +152,7 @@ fn pass_unit(
     requires room { length pending.old.items ≡ length (slots_of program.now) }
     ensures length { length pending.new.items ≡ length pending.old.items }
     ensures passed { OnOk result (IsPassed program.now unit pending.old.items pending.new.items) }
-    ensures own { IfErr result (λ fault. IsStructural fault → ⊥) }
+    ensures own { IfErr result (IsOwnFault program.now) }
     ensures plain { IsPlain program.now → BlanksAreUnwritten program.now pending.old.items unit → IfErr result (λ fault. fault ≡ Fault.Memory) }
     ensures blanks { OnOk result (IsPlain program.now → BlanksAreUnwritten program.now pending.old.items unit → BlanksAreUnwritten program.now pending.new.items (unit + 1)) }
 {
@@ -169,7 +169,7 @@ fn pass_unit(
 pub fn pass(alloc: Global, program: &Program) -> Result<(), Fault>
     requires { IsForward program.now }
     ensures quiet { OnOk result (StartsQuiet program.now) }
-    ensures own { IfErr result (λ fault. IsStructural fault → ⊥) }
+    ensures own { IfErr result (IsOwnFault program.now) }
     ensures plain { IsPlain program.now → IfErr result (λ fault. fault ≡ Fault.Memory) }
 {
     let mut pending = empty(alloc, program.units())?;

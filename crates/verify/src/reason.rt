@@ -1,5 +1,6 @@
 ghost use Rattle.std.specs.Prelude.{◌≡◌};
-ghost use Rattle.verify.specs.Structure.{IsStructural};
+ghost use Rattle.verify.specs.Structure.{IsFaultAt};
+ghost use Rattle.verify.specs.Faults.{fault_at};
 
 use crate::fault::Fault;
 
@@ -16,7 +17,8 @@ pub enum Reason {
 impl Reason {
     /// The fault of the instruction at the unit.
     pub fn at(self, unit: usize) -> Fault
-        ensures { IsStructural result → ⊥ }
+        ensures exact { result ≡ fault_at self unit }
+        ensures own { IsFaultAt unit result }
     {
         match self {
             Reason::Unset => Fault::Unset(unit),

@@ -5,6 +5,7 @@ ghost use Rattle.semantics.specs.State.{Outbox, entry, value_at, operand_value};
 ghost use Rattle.semantics.specs.Step.{first_operand};
 ghost use Rattle.semantics.specs.Plain.{operand_reads, first_reads};
 ghost use Rattle.verify.specs.Gamma.{Contains, RegistersDescribe, Describes, entry_known, is_number};
+ghost use Rattle.verify.specs.Reasons.{known_at, known_operand, known_first};
 ghost use Rattle.verify.specs.Reads.{AllNumbers, LeavesBut, JoinsNumbers};
 
 use crate::state::{AbsState, AbsVal};
@@ -25,6 +26,7 @@ pub fn at_entry() -> AbsState
 
 /// What is known of a register.
 pub fn read(registers: &[AbsVal; 11], r: Reg) -> AbsVal
+    ensures exact { result ≡ known_at registers.now r }
     ensures holds { (vs : List Value) → RegistersDescribe registers.now vs → Contains result (value_at vs r) }
     ensures numbers { AllNumbers (r ∷ []) registers.now → is_number result ≡ true }
 {
@@ -33,6 +35,7 @@ pub fn read(registers: &[AbsVal; 11], r: Reg) -> AbsVal
 
 /// What is known of an operand.
 pub fn operand(registers: &[AbsVal; 11], operand: Operand) -> AbsVal
+    ensures exact { result ≡ known_operand registers.now operand }
     ensures holds { (vs : List Value) → RegistersDescribe registers.now vs → Contains result (operand_value vs operand) }
     ensures numbers { AllNumbers (operand_reads operand) registers.now → is_number result ≡ true }
 {
@@ -44,6 +47,7 @@ pub fn operand(registers: &[AbsVal; 11], operand: Operand) -> AbsVal
 
 /// What is known of what an operation reads of dst: a move reads nothing there.
 pub fn first(registers: &[AbsVal; 11], operation: Operation, dst: Reg) -> AbsVal
+    ensures exact { result ≡ known_first registers.now operation dst }
     ensures holds { (vs : List Value) → RegistersDescribe registers.now vs → Contains result (first_operand operation (value_at vs dst)) }
     ensures numbers { AllNumbers (first_reads operation dst) registers.now → is_number result ≡ true }
 {

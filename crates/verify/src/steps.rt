@@ -1,5 +1,5 @@
 //! What one instruction does to what is known.
-ghost use Rattle.std.specs.Prelude.{◌≡◌, ◌≢◌, ℕ, ◌+◌, ◌++◌, true, List, [], ◌∷◌, IsOk, IsErr, OnOk, Result};
+ghost use Rattle.std.specs.Prelude.{◌==◌, if◌then◌else◌, Some, None, ◌≡◌, ◌≢◌, ℕ, ◌+◌, ◌++◌, true, List, [], ◌∷◌, IsOk, IsErr, OnOk, Result};
 ghost use Rattle.word.specs.declared.Width.{Width};
 ghost use Rattle.word.specs.declared.Condition.{Condition};
 ghost use Rattle.label.specs.declared.shape.Shape.{Shape};
@@ -9,6 +9,7 @@ ghost use Rattle.semantics.specs.Step.{assigned, mapped, condition_of};
 ghost use Rattle.semantics.specs.Execution.{executed};
 ghost use Rattle.semantics.specs.Plain.{IsIn, IsOfNumbers, operand_reads, first_reads, writes};
 ghost use Rattle.verify.specs.Gamma.{Gives, Describes, is_number};
+ghost use Rattle.verify.specs.Reasons.{refusal_in, first_reason, is_unset, known_at, known_operand, known_first, combine_checks, convert_checks, write_checks, load_checks, store_checks, compare_checks, reasons_of};
 ghost use Rattle.verify.specs.Reads.{AllNumbers, AllRead, Leaves, LeavesBut};
 ghost use Rattle.verify.specs.Outcomes.{IsTest, GoesOn, Follows, IsEnd, IsStraight, IsNotCall};
 
@@ -20,18 +21,20 @@ use word::{Operation, Width};
 
 /// A register that is read is set.
 fn check_set(value: AbsVal) -> Result<(), Reason>
-    ensures { is_number value ≡ true → IsOk result }
+    ensures plain { is_number value ≡ true → IsOk result }
+    ensures exact { refusal_in result ≡ (if is_unset value then Some Reason.Unset else None) }
 {
-    match value {
-        AbsVal::Unset => Err(Reason::Unset),
-        _ => Ok(()),
+    if value == AbsVal::Unset {
+        return Err(Reason::Unset);
     }
+    Ok(())
 }
 
 /// The register that is written is not the frame pointer.
 fn check_writable(dst: Reg) -> Result<(), Reason>
     ensures holds { OnOk result (dst ≢ 10) }
     ensures plain { dst ≢ 10 → IsOk result }
+    ensures exact { refusal_in result ≡ (if dst == 10 then Some Reason.FrameWrite else None) }
 {
     if dst.number() == 10 {
         return Err(Reason::FrameWrite);
@@ -60,6 +63,7 @@ fn arithmetic(
     ensures plain { dst ≢ 10 → AllNumbers (first_reads operation dst ++ operand_reads operand) state.old.registers → IsOk result }
     ensures leaves { OnOk result (AllNumbers (first_reads operation dst ++ operand_reads operand) state.old.registers →
         LeavesBut (dst ∷ []) state.old.registers state.new.registers) }
+    ensures exact { refusal_in result ≡ first_reason (combine_checks (known_first state.old.registers operation dst) (known_operand state.old.registers operand) dst) }
 {
     let first = registers::first(&state.registers, operation, dst);
     let second = registers::operand(&state.registers, operand);
@@ -80,6 +84,7 @@ fn convert(state: &mut AbsState, dst: Reg, src: Reg) -> Result<(), Reason>
     ensures plain { dst ≢ 10 → AllNumbers (src ∷ []) state.old.registers → IsOk result }
     ensures leaves { OnOk result (AllNumbers (src ∷ []) state.old.registers →
         LeavesBut (dst ∷ []) state.old.registers state.new.registers) }
+    ensures exact { refusal_in result ≡ first_reason (convert_checks (known_at state.old.registers src) dst) }
 {
     let value = registers::read(&state.registers, src);
     check_set(value)?;
@@ -95,6 +100,7 @@ fn load_number(state: &mut AbsState, dst: Reg, number: u64) -> Result<(), Reason
     ensures holds { OnOk result (Follows state.old (Insn.LoadNumber dst number) state.new) }
     ensures plain { dst ≢ 10 → IsOk result }
     ensures leaves { OnOk result (LeavesBut (dst ∷ []) state.old.registers state.new.registers) }
+    ensures exact { refusal_in result ≡ first_reason (write_checks dst) }
 {
     check_writable(dst)?;
     put(state, dst, values::number(number));
@@ -103,7 +109,7 @@ fn load_number(state: &mut AbsState, dst: Reg, number: u64) -> Result<(), Reason
 
 /// Memory is not known yet, so a load is refused as a use of a pointer, behind the faults of its registers.
 fn load(state: &AbsState, dst: Reg, base: Reg) -> Result<(), Reason>
-    ensures { IsErr result }
+    ensures { refusal_in result ≡ first_reason (load_checks (known_at state.now.registers base) dst) }
 {
     check_set(registers::read(&state.registers, base))?;
     check_writable(dst)?;
@@ -112,7 +118,7 @@ fn load(state: &AbsState, dst: Reg, base: Reg) -> Result<(), Reason>
 
 /// And so is a store.
 fn store(state: &AbsState, base: Reg, source: Operand) -> Result<(), Reason>
-    ensures { IsErr result }
+    ensures { refusal_in result ≡ first_reason (store_checks (known_at state.now.registers base) (known_operand state.now.registers source)) }
 {
     check_set(registers::read(&state.registers, base))?;
     check_set(registers::operand(&state.registers, source))?;
@@ -126,6 +132,7 @@ pub fn straight(state: &mut AbsState, insn: &Insn) -> Result<(), Reason>
     ensures no_call { OnOk result (IsNotCall insn.now) }
     ensures plain { IsOfNumbers insn.now → (IsIn 10 (writes insn.now) → ⊥) → AllRead insn.now state.old.registers → IsOk result }
     ensures leaves { OnOk result (AllRead insn.now state.old.registers → Leaves insn.now state.old.registers state.new.registers) }
+    ensures exact { refusal_in result ≡ first_reason (reasons_of state.old.registers insn.now) }
 {
     match insn {
         Insn::Arithmetic {
@@ -153,6 +160,7 @@ pub fn compare(state: &AbsState, dst: Reg, operand: Operand) -> Result<(), Reaso
     ensures holds { OnOk result ((width : Width) (condition : Condition) (s : State) →
         Describes state.now s → IsTest (condition_of width condition (value_at s.registers dst) (operand_value s.registers operand))) }
     ensures plain { AllNumbers (dst ∷ operand_reads operand) state.now.registers → IsOk result }
+    ensures exact { refusal_in result ≡ first_reason (compare_checks (known_at state.now.registers dst) (known_operand state.now.registers operand)) }
 {
     let first = registers::read(&state.registers, dst);
     let second = registers::operand(&state.registers, operand);
@@ -168,6 +176,7 @@ pub fn compare(state: &AbsState, dst: Reg, operand: Operand) -> Result<(), Reaso
 pub fn exit(state: &AbsState) -> Result<(), Reason>
     ensures holds { OnOk result ((context : List ℕ) (shape : Shape) (s : State) → Describes state.now s → IsEnd (executed context shape Insn.Exit s)) }
     ensures plain { AllRead Insn.Exit state.now.registers → IsOk result }
+    ensures exact { refusal_in result ≡ first_reason (reasons_of state.now.registers Insn.Exit) }
 {
     match state.registers[0] {
         AbsVal::Number => Ok(()),

@@ -1,5 +1,5 @@
 //! Operations on what is known of values.
-ghost use Rattle.std.specs.Prelude.{◌≡◌, ℕ, true, Bool, IfSome, IsSomeAnd};
+ghost use Rattle.std.specs.Prelude.{IfNone, false, ◌&&◌, ◌≡◌, ℕ, true, Bool, IfSome, IsSomeAnd};
 ghost use Rattle.word.specs.declared.Width.{Width};
 ghost use Rattle.word.specs.declared.Condition.{Condition};
 ghost use Rattle.semantics.specs.declared.value.Value.{Value};
@@ -23,6 +23,8 @@ pub fn combine(width: Width, operation: Operation, a: AbsVal, b: AbsVal) -> Opti
     ensures holds { IfSome result
         (λ r. (x y : Value) → Contains a x → Contains b y → Gives r (combined width operation x y)) }
     ensures numbers { is_number a ≡ true → is_number b ≡ true → IsSomeAnd result (λ r. is_number r ≡ true) }
+    ensures none { IfNone result ((is_number a && is_number b) ≡ false) }
+    ensures some { IfSome result (λ _. (is_number a && is_number b) ≡ true) }
 {
     match (a, b) {
         (AbsVal::Number, AbsVal::Number) => Some(AbsVal::Number),
@@ -34,6 +36,8 @@ pub fn combine(width: Width, operation: Operation, a: AbsVal, b: AbsVal) -> Opti
 pub fn map(a: AbsVal) -> Option<AbsVal>
     ensures holds { IfSome result (λ r. (f : ℕ → ℕ) (x : Value) → Contains a x → Gives r (mapped f x)) }
     ensures numbers { is_number a ≡ true → IsSomeAnd result (λ r. is_number r ≡ true) }
+    ensures none { IfNone result (is_number a ≡ false) }
+    ensures some { IfSome result (λ _. is_number a ≡ true) }
 {
     match a {
         AbsVal::Number => Some(AbsVal::Number),
@@ -44,7 +48,7 @@ pub fn map(a: AbsVal) -> Option<AbsVal>
 /// Whether two values can be compared: neither can be a pointer.
 pub fn is_comparable(a: AbsVal, b: AbsVal) -> bool
     ensures holds { result ≡ true → (width : Width) (condition : Condition) (x y : Value) → Contains a x → Contains b y → IsTest (condition_of width condition x y) }
-    ensures numbers { is_number a ≡ true → is_number b ≡ true → result ≡ true }
+    ensures exact { result ≡ (is_number a && is_number b) }
 {
     match (a, b) {
         (AbsVal::Number, AbsVal::Number) => true,

@@ -2,7 +2,7 @@ ghost use Rattle.std.specs.Prelude.{◌≡◌, None, Some, IfOk, IfErr, IsErrAnd
 ghost use Rattle.semantics.specs.Run.{IsSound};
 ghost use Rattle.semantics.specs.Plain.{IsPlain};
 ghost use Rattle.verify.specs.CallFree.{IsCallFree};
-ghost use Rattle.verify.specs.Structure.{structural_fault, IsStructural};
+ghost use Rattle.verify.specs.Structure.{structural_fault, IsOwnFault};
 ghost use Rattle.verify.specs.Quiet.{StartsQuiet};
 
 use crate::fault::{Fault, Refusal};
@@ -18,7 +18,7 @@ fn check(alloc: Global, program: &Program) -> Result<(), Fault>
     ensures call_free { OnOk result (IsCallFree program.now) }
     ensures plain { IsPlain program.now → IfErr result (λ fault. fault ≡ Fault.Memory) }
     ensures structural { IfSome (structural_fault program.now) (λ fault. result ≡ Err fault) }
-    ensures unstructural { structural_fault program.now ≡ None → IfErr result (λ fault. IsStructural fault → ⊥) }
+    ensures unstructural { structural_fault program.now ≡ None → IfErr result (IsOwnFault program.now) }
 {
     if let Some(fault) = find_fault(program) {
         return Err(fault);
@@ -35,9 +35,9 @@ pub fn verify(alloc: Global, program: Program) -> Result<Verified, Refusal>
     // A plain program is refused only for want of memory.
     ensures plain { IsPlain program → IfErr result (λ r. r.fault ≡ Fault.Memory) }
 
-    // A structural fault is answered exactly where one stands, and then the first.
+    // A structural fault is answered exactly where one stands, and then the first. Any other stands at an instruction.
     ensures structural { IfSome (structural_fault program) (λ fault. IsErrAnd result (λ r. r.fault ≡ fault)) }
-    ensures unstructural { structural_fault program ≡ None → IfErr result (λ r. IsStructural r.fault → ⊥) }
+    ensures unstructural { structural_fault program ≡ None → IfErr result (λ r. IsOwnFault program r.fault) }
 {
     match check(alloc, &program) {
         Ok(()) => Ok(Verified::of(program)),

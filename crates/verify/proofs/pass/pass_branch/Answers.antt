@@ -1,11 +1,13 @@
-use Rattle.std.proofs.Common.{◌≡◌, ◌+◌, ◌<◌, inl, inr, refl, subst, length, ◌∙◌, w16, w32, ℤ, pos, ◌+ℤ◌}
+use Rattle.std.proofs.Common.{arith, ◌≡◌, ◌+◌, ◌<◌, inl, inr, refl, subst, length, ◌∙◌, w16, w32, ℤ, pos, ◌+ℤ◌}
 use Rattle.std.proofs.lemmas.Int.{to_z-of_z}
 use Rattle.word.specs.declared.Width.TheVariants.{W64}
 use Rattle.word.specs.declared.Condition.TheVariants.{Equal}
 use Rattle.verify.proofs.pass.pass_branch.Goals as goal
 
 pub flow-requires : goal.flow-requires
-flow-requires c = c.requires.edges W64 Equal (c.args.unit + 1) (inl refl)
+flow-requires c =
+    let inside : c.args.unit + 1 < length c.args.pending.now.items = c.requires.edges W64 Equal (c.args.unit + 1) (inl refl) in
+    omega arith
 
 pub flow-requires-2 : goal.flow-requires-2
 flow-requires-2 c =

@@ -1,0 +1,142 @@
+ghost use Rattle.std.specs.Prelude.{◌<◌, ◌≤◌, length};
+ghost use Rattle.insn.specs.Program.{slots_of};
+
+use crate::verify;
+use insn::{Insn, Operand, Program, Reg, Size};
+use std::alloc::Global;
+use std::test::Fail;
+use word::{Condition, Operation, Width};
+
+fn register(number: u8) -> Result<Reg, Fail> {
+    Ok(Reg::new(number).ok_or("no register")?)
+}
+
+/// What is said of a program.
+fn answer(alloc: Global, instructions: Vec<Insn>) -> Result<String, Fail>
+    requires some { 0 < length (slots_of instructions.items) }
+    requires bound { length (slots_of instructions.items) ≤ 4096 }
+{
+    let program = Program::new(alloc, instructions)?;
+    let text = match verify(alloc, program) {
+        Ok(verified) => format!(in alloc; "accepted {}", verified.program().len())?,
+        Err(refusal) => format!(in alloc; "{}", refusal.fault)?,
+    };
+    Ok(text)
+}
+
+macro_rules! arithmetic {
+    ($operation:ident, $dst:expr, $operand:expr) => {
+        Insn::Arithmetic {
+            width: Width::W64,
+            operation: Operation::$operation,
+            dst: $dst,
+            operand: $operand,
+        }
+    };
+}
+
+macro_rules! jump_if_equal {
+    ($dst:expr, $operand:expr, $distance:expr) => {
+        Insn::Branch {
+            width: Width::W64,
+            condition: Condition::Equal,
+            dst: $dst,
+            operand: $operand,
+            distance: $distance,
+        }
+    };
+}
+
+#[test]
+fn structural_faults(rt: HostRuntime) -> Result<(), Fail> {
+    let alloc = rt.alloc();
+    let r0 = register(0)?;
+    let set = arithmetic!(Move, r0, Operand::Immediate(0));
+    let back = [Insn::Jump { distance: -1 }, Insn::Exit].to_vec(alloc)?;
+    assert_eq!(rt; answer(alloc, back)?.as_str(), "V1 unit 0");
+    let past = [Insn::LongJump { distance: 1 }, Insn::Exit].to_vec(alloc)?;
+    assert_eq!(rt; answer(alloc, past)?.as_str(), "V2 unit 0");
+    let wide = Insn::LoadNumber { dst: r0, number: 1 };
+    let half = [Insn::Jump { distance: 1 }, wide, Insn::Exit].to_vec(alloc)?;
+    assert_eq!(rt; answer(alloc, half)?.as_str(), "V3 unit 0");
+    assert_eq!(rt; answer(alloc, [set].to_vec(alloc)?)?.as_str(), "V4 unit 0");
+    assert_eq!(rt;
+        answer(alloc, [set, wide].to_vec(alloc)?)?.as_str(),
+        "V4 unit 1"
+    );
+    let next = [set, Insn::Jump { distance: 0 }, Insn::Exit].to_vec(alloc)?;
+    assert_eq!(rt; answer(alloc, next)?.as_str(), "accepted 3");
+    Ok(())
+}
+
+#[test]
+fn faults_of_registers(rt: HostRuntime) -> Result<(), Fail> {
+    let alloc = rt.alloc();
+    let (r0, r1) = (register(0)?, register(1)?);
+    let (r3, r10) = (register(3)?, register(10)?);
+    let unset = [Insn::Exit].to_vec(alloc)?;
+    assert_eq!(rt; answer(alloc, unset)?.as_str(), "V5 unit 0");
+    let add = arithmetic!(Add, r1, Operand::Immediate(287454020));
+    assert_eq!(rt;
+        answer(alloc, [add, Insn::Exit].to_vec(alloc)?)?.as_str(),
+        "V7 unit 0"
+    );
+    let copy = arithmetic!(Move, r0, Operand::Register(r1));
+    assert_eq!(rt;
+        answer(alloc, [copy, Insn::Exit].to_vec(alloc)?)?.as_str(),
+        "V7 unit 0"
+    );
+    let frame = arithmetic!(Move, r10, Operand::Immediate(0));
+    assert_eq!(rt;
+        answer(alloc, [frame, Insn::Exit].to_vec(alloc)?)?.as_str(),
+        "V6 unit 0"
+    );
+    let first_unset = arithmetic!(Move, r10, Operand::Register(r3));
+    assert_eq!(rt;
+        answer(alloc, [first_unset, Insn::Exit].to_vec(alloc)?)?.as_str(),
+        "V5 unit 0"
+    );
+    let load = Insn::Load {
+        size: Size::Double,
+        dst: r0,
+        base: r10,
+        offset: -8,
+    };
+    assert_eq!(rt;
+        answer(alloc, [load, Insn::Exit].to_vec(alloc)?)?.as_str(),
+        "V7 unit 0"
+    );
+    let store = Insn::Store {
+        size: Size::Double,
+        base: r10,
+        offset: -8,
+        source: Operand::Register(r3),
+    };
+    assert_eq!(rt;
+        answer(alloc, [store, Insn::Exit].to_vec(alloc)?)?.as_str(),
+        "V5 unit 0"
+    );
+    let call = [Insn::Call { helper: 1 }, Insn::Exit].to_vec(alloc)?;
+    assert_eq!(rt; answer(alloc, call)?.as_str(), "V11 unit 0");
+    Ok(())
+}
+
+#[test]
+fn paths_that_meet(rt: HostRuntime) -> Result<(), Fail> {
+    let alloc = rt.alloc();
+    let (r0, r1) = (register(0)?, register(1)?);
+    let set = arithmetic!(Move, r0, Operand::Immediate(0));
+    let set_r1 = arithmetic!(Move, r1, Operand::Immediate(0));
+    let copy = arithmetic!(Move, r0, Operand::Register(r1));
+    let skip = jump_if_equal!(r0, Operand::Immediate(0), 1);
+    let call = Insn::Call { helper: 1 };
+    let one_side = [set, skip, set_r1, copy, Insn::Exit].to_vec(alloc)?;
+    assert_eq!(rt; answer(alloc, one_side)?.as_str(), "V5 unit 3");
+    let neither = [set, skip, set, copy, Insn::Exit].to_vec(alloc)?;
+    assert_eq!(rt; answer(alloc, neither)?.as_str(), "V7 unit 3");
+    let both = [set, set_r1, skip, set_r1, copy, Insn::Exit].to_vec(alloc)?;
+    assert_eq!(rt; answer(alloc, both)?.as_str(), "accepted 6");
+    let unreached = [set, Insn::Jump { distance: 1 }, call, Insn::Exit].to_vec(alloc)?;
+    assert_eq!(rt; answer(alloc, unreached)?.as_str(), "accepted 4");
+    Ok(())
+}
