@@ -4,6 +4,7 @@
 mod activation;
 mod arithmetic;
 mod execution;
+mod flow;
 mod pause;
 mod registers;
 
