@@ -1,0 +1,168 @@
+-- `clap` takes the words where the rule finds a task in them, and meets that task.
+use Rattle.std.proofs.Common.{◌≡◌, ◌∙◌, ◌==◌, ◌⊎◌, inl, inr, Bool, true, false, List, ℕ, [], ◌∷◌, Option, Some, None, ap, ap₂, codes, refl, subst, sym, find, is_some, option_map}
+use Rattle.std.specs.List.{fold}
+use Rattle.std.specs.Str.{bytes_eq}
+use Rattle.std.proofs.lemmas.Slice.Eq.{bytes_eq-Decides}
+use Rattle.clap.specs.Kinds.{Kinds, or_else}
+use Rattle.clap.specs.Walk.{Names, Row, Text, Walk, answers_to, arg_by_long, arg_by_short, finished, idle, nothing_held, settled, subcommand_met, walk, walk_from, walked}
+use Rattle.clap.specs.Simple.{Shape, built, entered, filled, help_rule, label_of, names_of, subcommand_of}
+use Rattle.clap.specs.Faults.{check_fault, defaults_fault, entered_fault, fault_of, settle_fault, walk_fault}
+use Rattle.clap.proofs.FaultLemmas.{stopped_fault}
+use Rattle.clap.proofs.OnLiterals.{clap_on_literals}
+use Rattle.command_line.specs.Asked.{asked, file_in, is_end_of_flags, is_flag, is_subcommand}
+use Rattle.command_line.specs.Lab.{lab_app, task_met}
+use Rattle.command_line.proofs.WordLemmas.{Fails, HasHelpAlone, or_else-first, true_or_false}
+use Rattle.command_line.proofs.TurnLemmas.{flag_turn, fold_stopped, plain_turn, turn_fails}
+use Rattle.command_line.proofs.FileLemmas.{FileAgrees, faults, file_agrees, file_shape, rows}
+
+-- the words fail where the rule finds no task, and else their task is met
+abbrev pub Agrees : Kinds → Option (Text × List Row) → Option (Text × Text) → Type 0
+Agrees kinds met None = Fails kinds
+Agrees kinds met (Some task) = (kinds ≡ []) × (task_met met ≡ Some task) × (is_subcommand task.0 ≡ true)
+
+abbrev top : Shape
+top = (built lab_app).top
+
+abbrev names : Names
+names = names_of (built lab_app)
+
+abbrev start : Walk
+start = walk_from nothing_held
+
+by_long : (word : Text) (b : Bool) → bytes_eq (codes "help") word ≡ b
+    → (arg_by_long top.rules word ≡ None) ⊎ (arg_by_long top.rules word ≡ Some (filled help_rule))
+by_long word true e = inr (rw e refl)
+by_long word false e = inl (rw e refl)
+
+by_short : (c : ℕ) (b : Bool) → (104 == c) ≡ b
+    → (arg_by_short top.rules c ≡ None) ⊎ (arg_by_short top.rules c ≡ Some (filled help_rule))
+by_short c true e = inr (rw e refl)
+by_short c false e = inl (rw e refl)
+
+alone : HasHelpAlone top.rules
+alone = record { by_long = λ word. by_long word _ refl; by_short = λ c. by_short c _ refl }
+
+lab_fails : (words : List Text) → Fails (walk_fault top names start words) → Fails (fault_of lab_app words)
+lab_fails words fails = or_else-first _ _ fails
+
+-- what the level answers past its words, and past its subcommand
+abbrev after_level : Bool → Kinds
+after_level met = or_else (settle_fault top.rules false nothing_held)
+    (or_else (defaults_fault (settled top.rules nothing_held).rows top.rules)
+    (check_fault top (finished top.rules nothing_held) met))
+
+nothing_left : after_level true ≡ []
+unfolding clap_on_literals
+nothing_left = refl
+
+abbrev after_walk : Kinds → Walk → Kinds
+after_walk kinds w = or_else kinds (or_else (entered_fault (built lab_app) w.stopped)
+    (or_else (settle_fault top.rules false w.held)
+    (or_else (defaults_fault (settled top.rules w.held).rows top.rules)
+    (check_fault top (finished top.rules w.held) (is_some (entered (built lab_app) w.stopped))))))
+
+-- ---- a subcommand of one file
+
+as_task : (name : Text) → is_subcommand name ≡ true → (kinds : Kinds) (found : List Row) (file : Option Text)
+    → FileAgrees kinds found file → Agrees (or_else kinds []) (Some (name, found)) (option_map (λ f. (name, f)) file)
+as_task name known kinds found None fails = or_else-first _ _ fails
+as_task name known kinds found (Some file) passes =
+    (ap (λ (k : Kinds). or_else k []) passes.0, ap (option_map (λ (f : Text). (name, f))) passes.1, known)
+
+module _ (name : Text) (rest : List Text)
+    (meets : walked top.rules names start name ≡ record start { stopped = Some (name, []) })
+    (passes : walk_fault top names start (name ∷ rest) ≡ walk_fault top names (record start { stopped = Some (name, []) }) rest)
+    (found : find (λ s. answers_to name (label_of s)) (built lab_app).subs ≡ Some (file_shape name))
+    (known : is_subcommand name ≡ true) where
+  stop_is : walk top.rules names nothing_held (name ∷ rest) ≡ record start { stopped = Some (name, rest) }
+  stop_is = ap (λ w. fold (walked top.rules names) w rest) meets ∙ fold_stopped top.rules names start name [] rest
+
+  met_is : entered (built lab_app) (Some (name, rest)) ≡ Some (name, rows name rest)
+  met_is = rw found refl
+
+  below_is : entered_fault (built lab_app) (Some (name, rest)) ≡ faults name rest
+  below_is = rw found refl
+
+  faults_are : fault_of lab_app (name ∷ rest) ≡ or_else (faults name rest) []
+  faults_are =
+      ap₂ after_walk (passes ∙ stopped_fault top names start (name, []) rest) stop_is
+      ∙ ap₂ (λ (k : Kinds) (m : Option (Text × List Row)). or_else k (after_level (is_some m))) below_is met_is
+      ∙ ap (or_else (faults name rest)) nothing_left
+
+  named : Agrees (fault_of lab_app (name ∷ rest)) (subcommand_of lab_app (name ∷ rest)) (option_map (λ f. (name, f)) (file_in rest))
+  named =
+      let agrees = as_task name known (faults name rest) (rows name rest) (file_in rest) (file_agrees name rest) in
+      let met = ap (λ (w : Walk). entered (built lab_app) w.stopped) stop_is ∙ met_is in
+      subst (λ (k : Kinds). Agrees k (subcommand_of lab_app (name ∷ rest)) (option_map (λ f. (name, f)) (file_in rest))) (sym faults_are)
+      (subst (λ (m : Option (Text × List Row)). Agrees (or_else (faults name rest) []) m (option_map (λ f. (name, f)) (file_in rest))) (sym met) agrees)
+
+-- ---- the words by their cases
+
+is_text : (known word : Text) → (word ≡ known) ⊎ (bytes_eq known word ≡ false)
+is_text known word = elim (true_or_false (bytes_eq known word)) [
+  | inl same ↦ inl (sym ((bytes_eq-Decides known word).0 same))
+  | inr other ↦ inr other
+]
+
+abbrev RuleAt : Text → List Text → Type 0
+RuleAt name rest = Agrees (fault_of lab_app (name ∷ rest)) (subcommand_of lab_app (name ∷ rest)) (asked (name ∷ rest))
+
+at_check : (rest : List Text) → RuleAt (codes "check") rest
+unfolding clap_on_literals
+at_check rest = named (codes "check") rest refl refl refl refl
+
+at_asm : (rest : List Text) → RuleAt (codes "asm") rest
+unfolding clap_on_literals
+at_asm rest = named (codes "asm") rest refl refl refl refl
+
+at_dis : (rest : List Text) → RuleAt (codes "dis") rest
+unfolding clap_on_literals
+at_dis rest = named (codes "dis") rest refl refl refl refl
+
+at_book : (rest : List Text) → RuleAt (codes "book") rest
+unfolding clap_on_literals
+at_book rest = named (codes "book") rest refl refl refl refl
+
+no_words : Fails (fault_of lab_app [])
+unfolding clap_on_literals
+no_words = λ e. cc
+
+at_help : (rest : List Text) → Fails (fault_of lab_app (codes "help" ∷ rest))
+unfolding clap_on_literals
+at_help rest = λ e. cc
+
+at_dashes : (rest : List Text) → Fails (fault_of lab_app (codes "--" ∷ rest))
+unfolding clap_on_literals
+at_dashes [] = λ e. cc
+at_dashes (word ∷ rest) = λ e. cc
+
+-- a word that is no subcommand
+at_other : (word : Text) (rest : List Text) → subcommand_met names idle word ≡ None → Fails (fault_of lab_app (word ∷ rest))
+at_other word rest other = elim (true_or_false (is_end_of_flags word)) [
+  | inl dashes ↦
+      subst (λ (w : Text). Fails (fault_of lab_app (w ∷ rest))) (sym ((bytes_eq-Decides word (codes "--")).0 dashes)) (at_dashes rest)
+  | inr ends ↦ lab_fails (word ∷ rest) (turn_fails top names start word rest (elim (true_or_false (is_flag word)) [
+    | inl flag ↦ flag_turn top names 1 [] None alone word other ends flag
+    | inr plain ↦ rw (plain_turn top names 1 [] None alone word other ends plain) (λ e. cc)
+  ]))
+]
+
+-- `clap` takes the words where the rule finds a task in them, and meets that task
+pub rule_agrees : (words : List Text) → Agrees (fault_of lab_app words) (subcommand_of lab_app words) (asked words)
+rule_agrees [] = no_words
+rule_agrees (word ∷ rest) = elim (is_text (codes "check") word) [
+  | inl is ↦ subst (λ (w : Text). RuleAt w rest) (sym is) (at_check rest)
+  | inr a ↦ elim (is_text (codes "asm") word) [
+    | inl is ↦ subst (λ (w : Text). RuleAt w rest) (sym is) (at_asm rest)
+    | inr b ↦ elim (is_text (codes "dis") word) [
+      | inl is ↦ subst (λ (w : Text). RuleAt w rest) (sym is) (at_dis rest)
+      | inr c ↦ elim (is_text (codes "book") word) [
+        | inl is ↦ subst (λ (w : Text). RuleAt w rest) (sym is) (at_book rest)
+        | inr d ↦ elim (is_text (codes "help") word) [
+          | inl is ↦ rw (a, b, c, d) (subst (λ (w : Text). Fails (fault_of lab_app (w ∷ rest))) (sym is) (at_help rest))
+          | inr e ↦ rw (a, b, c, d) (at_other word rest (rw (a, b, c, d, e) refl))
+        ]
+      ]
+    ]
+  ]
+]

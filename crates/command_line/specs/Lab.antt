@@ -1,0 +1,30 @@
+-- The command line as `clap` is told of it.
+use Rattle.std.specs.Prelude.{List, Option, true, codes, option_and_then, option_map}
+use Rattle.clap.specs.Words.{App, Row, Rule, Text, first_of, new_app, new_rule, with_rule, with_subcommand}
+
+-- a file, which has to be there
+abbrev pub file_rule : Rule
+file_rule = record (new_rule (codes "file")) { value_names = 1; required = true }
+
+-- a subcommand of one file
+abbrev pub file_app : Text → App
+file_app name = with_rule (new_app name) file_rule
+
+abbrev pub with_file_command : App → Text → App
+with_file_command app name = with_subcommand app (file_app name).top
+
+-- the program before its subcommands
+abbrev pub bare_app : App
+bare_app =
+    let app = new_app (codes "byzlab") in
+    record app { top = record app.top { no_binary_name = true; subcommand_required = true } }
+
+-- the program with its subcommands
+abbrev pub lab_app : App
+lab_app = with_file_command (with_file_command (with_file_command (with_file_command bare_app
+    (codes "check")) (codes "asm")) (codes "dis")) (codes "book")
+
+-- the subcommand that `clap` met, and its file
+abbrev pub task_met : Option (Text × List Row) → Option (Text × Text)
+task_met = option_and_then (λ met. option_map (λ file. (met.0, file))
+    (first_of (codes "file") met.1))

@@ -1,0 +1,11 @@
+//! The command line: which subcommand the words name, and its file.
+#![tactic(auto)]
+
+mod lab;
+mod reading;
+mod tasks;
+#[cfg(test)]
+mod tests;
+
+pub use reading::task;
+pub use tasks::{Task, TaskError};

@@ -1,0 +1,2 @@
+pub mod BenchLemmas
+pub mod LineLemmas

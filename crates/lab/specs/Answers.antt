@@ -1,0 +1,54 @@
+-- What a task prints on a file of some bytes.
+use Rattle.std.specs.Prelude.{ℕ, ◌≡◌, List, [], Option, Some, Result, Ok, length}
+use Rattle.insn.specs.declared.insn.Insn.{Insn}
+use Rattle.insn.specs.Program.{slots_of}
+use Rattle.semantics.specs.Run.{IsSound}
+use Rattle.semantics.specs.State.{entry}
+use Rattle.codec.specs.Program.{SpellsProgram}
+use Rattle.machine.specs.Advance.{Exits, bench_shape}
+use Rattle.machine.specs.declared.pause.Ended.{Ended}
+use Rattle.asm.specs.Program.{program_of}
+use Rattle.asm.specs.Printing.{text_of}
+use Rattle.book.specs.Grammar.{table_told}
+use Rattle.book.specs.Table.{MessageTable}
+use Rattle.command_line.specs.declared.tasks.Task.{Task}
+use Rattle.command_line.specs.declared.tasks.Task.TheVariants.{Check, Assemble, Disassemble, Book}
+use Rattle.lab.specs.Bench.{bench_bytes}
+use Rattle.lab.specs.Lines.{checked_lines, decision_lines, hex_line}
+use Rattle.lab.specs.declared.checking.Checked.{Checked}
+
+-- the program is sound, and its run in the bench context ended so
+pub record IsRun (program : List Insn) (checked : Checked) : Type 0 where
+  pub sound : IsSound program
+  pub instructions : checked.instructions ≡ length program
+  pub units : checked.units ≡ length (slots_of program)
+  pub ended : Ended
+  pub exits : Exits program bench_bytes bench_shape [] (length program) (entry []) ended
+  pub r0 : ended.r0 ≡ Some checked.r0
+  pub steps : ended.steps ≡ checked.steps
+
+-- the bytes spell a program, and this is its run
+abbrev pub Checks : List ℕ → Checked → Type 0
+Checks bytes checked = (program : List Insn) × SpellsProgram bytes program × IsRun program checked
+
+-- the text says a program, and this is its line
+abbrev pub Assembles : List ℕ → List ℕ → Type 0
+Assembles text line =
+    (program : List Insn) × (program_of text ≡ Some program) × (line ≡ hex_line program)
+
+-- the bytes spell a program, and this is its text
+abbrev pub Disassembles : List ℕ → List ℕ → Type 0
+Disassembles bytes text =
+    (program : List Insn) × SpellsProgram bytes program × (text ≡ text_of program)
+
+-- the text tells a table, and these are its decisions
+abbrev pub Decides : List ℕ → List ℕ → Type 0
+Decides text lines =
+    (table : MessageTable) × (table_told text ≡ Ok table) × (lines ≡ decision_lines table)
+
+-- the task prints this text on a file of these bytes
+abbrev pub Prints : Task → List ℕ → List ℕ → Type 0
+Prints (Check file) bytes text = (checked : Checked) × Checks bytes checked × (text ≡ checked_lines checked)
+Prints (Assemble file) bytes text = Assembles bytes text
+Prints (Disassemble file) bytes text = Disassembles bytes text
+Prints (Book file) bytes text = Decides bytes text

@@ -1,0 +1,4 @@
+pub mod Answers
+pub mod Bench
+pub mod Lines
+pub mod Refusals

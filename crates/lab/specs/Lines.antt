@@ -1,0 +1,31 @@
+-- The lines that are printed.
+use Rattle.std.specs.Prelude.{ℕ, List, [], ◌∷◌, ◌++◌, codes}
+use Rattle.std.specs.Fmt.{decimal}
+use Rattle.std.specs.List.{flat_map}
+use Rattle.hex.specs.Hex.{encode_lower}
+use Rattle.insn.specs.declared.insn.Insn.{Insn}
+use Rattle.codec.specs.Spelling.{program_bytes}
+use Rattle.book.specs.Decisions.{decision_of, lieutenants}
+use Rattle.book.specs.Table.{MessageTable}
+use Rattle.lab.specs.declared.checking.Checked.{Checked}
+
+-- what a check prints
+abbrev pub checked_lines : Checked → List ℕ
+checked_lines checked =
+    codes "accepted " ++ decimal checked.instructions ++ codes " instructions "
+    ++ decimal checked.units ++ codes " units\nr0 " ++ decimal checked.r0
+    ++ codes " steps " ++ decimal checked.steps ++ codes "\n"
+
+-- a program's bytes in lower-case hex
+abbrev pub hex_line : List Insn → List ℕ
+hex_line program = encode_lower (program_bytes program) ++ codes "\n"
+
+-- what a lieutenant decides
+abbrev pub decision_line : MessageTable → ℕ → List ℕ
+decision_line table general =
+    codes "decision " ++ decimal general ++ codes " " ++ decimal (decision_of table general)
+    ++ codes "\n"
+
+-- a line for each lieutenant, ascending
+unfoldable pub decision_lines : MessageTable → List ℕ
+decision_lines table = flat_map (decision_line table) (lieutenants table.generals table.commander)

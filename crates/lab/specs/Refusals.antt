@@ -1,0 +1,71 @@
+-- Why a task prints nothing on a file of some bytes.
+use Rattle.std.specs.Prelude.{ℕ, ◌≡◌, List, None, Err}
+use Rattle.std.specs.Str.{IsUtf8}
+use Rattle.insn.specs.declared.insn.Insn.{Insn}
+use Rattle.codec.specs.Program.{IsAnswered, SpellsProgram}
+use Rattle.codec.specs.declared.fault.CodecError.{CodecError}
+use Rattle.codec.specs.declared.fault.CodecError.TheVariants as codec
+use Rattle.asm.specs.Program.{program_of}
+use Rattle.asm.specs.declared.fault.AsmError.{AsmError}
+use Rattle.asm.specs.declared.fault.AsmError.TheVariants as asm
+use Rattle.book.specs.Grammar.{table_told}
+use Rattle.book.specs.declared.fault.TableError.{TableError}
+use Rattle.book.specs.declared.fault.TableError.TheVariants as table
+use Rattle.verify.specs.declared.fault.Fault.{Fault}
+use Rattle.verify.specs.declared.fault.Fault.TheVariants as verifier
+use Rattle.command_line.specs.declared.tasks.Task.{Task}
+use Rattle.command_line.specs.declared.tasks.Task.TheVariants.{Check, Assemble, Disassemble, Book}
+use Rattle.lab.specs.declared.refusal.Refusal.{Refusal}
+use Rattle.lab.specs.declared.refusal.Refusal.TheVariants.{Codec, Verifier, Assembly, Table, NotText, Memory}
+
+-- the refusal of each error: want of memory is the same everywhere
+abbrev pub codec_refusal : CodecError → Refusal
+codec_refusal codec.Memory = Memory
+codec_refusal error = Codec error
+
+abbrev pub verifier_refusal : Fault → Refusal
+verifier_refusal verifier.Memory = Memory
+verifier_refusal fault = Verifier fault
+
+abbrev pub assembly_refusal : AsmError → Refusal
+assembly_refusal asm.Memory = Memory
+assembly_refusal error = Assembly error
+
+abbrev pub table_refusal : TableError → Refusal
+table_refusal table.Memory = Memory
+table_refusal error = Table error
+
+-- the bytes spell no program, by this first fault; or the verifier refuses the program that they spell
+abbrev pub RefusesCheck : List ℕ → Refusal → Type 0
+RefusesCheck bytes (Codec error) = IsAnswered bytes error
+RefusesCheck bytes (Verifier fault) = (program : List Insn) × SpellsProgram bytes program
+RefusesCheck bytes Memory = Unit {0}
+RefusesCheck bytes _ = ⊥
+
+abbrev pub RefusesDisassembly : List ℕ → Refusal → Type 0
+RefusesDisassembly bytes (Codec error) = IsAnswered bytes error
+RefusesDisassembly bytes Memory = Unit {0}
+RefusesDisassembly bytes _ = ⊥
+
+-- the text says no program
+abbrev pub RefusesAssembly : List ℕ → Refusal → Type 0
+RefusesAssembly text (Assembly error) = program_of text ≡ None
+RefusesAssembly text Memory = Unit {0}
+RefusesAssembly text _ = ⊥
+
+-- the text tells no table, by this first fault
+abbrev pub RefusesTable : List ℕ → Refusal → Type 0
+RefusesTable text (Table error) = table_told text ≡ Err error
+RefusesTable text Memory = Unit {0}
+RefusesTable text _ = ⊥
+
+abbrev pub RefusesText : (List ℕ → Refusal → Type 0) → List ℕ → Refusal → Type 0
+RefusesText refuses bytes NotText = IsUtf8 bytes → ⊥
+RefusesText refuses bytes refusal = refuses bytes refusal
+
+-- the task has no answer on a file of these bytes
+abbrev pub Refuses : Task → List ℕ → Refusal → Type 0
+Refuses (Check file) bytes refusal = RefusesCheck bytes refusal
+Refuses (Assemble file) bytes refusal = RefusesText RefusesAssembly bytes refusal
+Refuses (Disassemble file) bytes refusal = RefusesDisassembly bytes refusal
+Refuses (Book file) bytes refusal = RefusesText RefusesTable bytes refusal

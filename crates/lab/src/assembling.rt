@@ -1,0 +1,37 @@
+ghost use Rattle.std.specs.Prelude.{IfOk, IfErr, string_bytes};
+ghost use Rattle.lab.specs.Answers.{Assembles, Disassembles};
+ghost use Rattle.lab.specs.Refusals.{RefusesAssembly, RefusesDisassembly};
+
+use crate::refusal::Refusal;
+use asm::{assemble, disassemble};
+use codec::{decode, encode};
+use std::alloc::Global;
+
+/// The bytecode that the assembly says, in lower-case hex on one line.
+///
+/// # Errors
+///
+/// What the assembler refuses, or want of memory.
+pub fn assembled(alloc: Global, text: &str) -> Result<String, Refusal>
+    ensures assembled { IfOk result (λ line. Assembles text.now (string_bytes line)) }
+    ensures refused { IfErr result (RefusesAssembly text.now) }
+{
+    let program = assemble(alloc, text)?;
+    let bytes = encode(alloc, &program)?;
+    let mut line = hex::encode(alloc, bytes.as_slice())?;
+    line.push('\n')?;
+    Ok(line)
+}
+
+/// The assembly of raw bytecode.
+///
+/// # Errors
+///
+/// What the codec refuses, or want of memory.
+pub fn disassembled(alloc: Global, bytes: &[u8]) -> Result<String, Refusal>
+    ensures disassembled { IfOk result (λ text. Disassembles bytes.now (string_bytes text)) }
+    ensures refused { IfErr result (RefusesDisassembly bytes.now) }
+{
+    let program = decode(alloc, bytes)?;
+    Ok(disassemble(alloc, &program)?)
+}

@@ -1,0 +1,51 @@
+ghost use Rattle.std.specs.Prelude.{◌≡◌, ◌≢◌, ◌<◌, ◌++◌, IfOk, IfErr, OnOk, string_bytes};
+ghost use Rattle.book.specs.Grammar.{table_told};
+ghost use Rattle.lab.specs.Answers.{Decides};
+ghost use Rattle.lab.specs.Lines.{decision_line, decision_lines};
+ghost use Rattle.lab.specs.Refusals.{RefusesTable};
+
+use crate::refusal::Refusal;
+use book::{Table, decision, read_table};
+use std::alloc::{AllocError, Global};
+
+/// What the lieutenants of the message table decide.
+///
+/// # Errors
+///
+/// What the table refuses, or want of memory.
+pub fn decided(alloc: Global, text: &str) -> Result<String, Refusal>
+    ensures decided { IfOk result (λ lines. Decides text.now (string_bytes lines)) }
+    ensures refused { IfErr result (RefusesTable text.now) }
+{
+    let table = read_table(alloc, text)?;
+    Ok(decisions_text(alloc, &table)?)
+}
+
+/// A line for each lieutenant, ascending: his number and what he decides.
+fn decisions_text(alloc: Global, table: &Table) -> Result<String, AllocError>
+    ensures { IfOk result (λ lines. string_bytes lines ≡ decision_lines table.now) }
+{
+    let mut lines = String::new(alloc);
+    for general in 0..table.generals() {
+        if general != table.commander() {
+            push_decision(alloc, &mut lines, table, general)?;
+        }
+    }
+    Ok(lines)
+}
+
+/// Adds a lieutenant's line.
+fn push_decision(
+    alloc: Global,
+    lines: &mut String,
+    table: &Table,
+    general: u8,
+) -> Result<(), AllocError>
+    requires general { general < table.now.generals }
+    requires lieutenant { general ≢ table.now.commander }
+    ensures { OnOk result (string_bytes lines.new ≡ string_bytes lines.old ++ decision_line table.now general) }
+{
+    let order = decision(table, general);
+    let line = format!(in alloc; "decision {general} {order}\n")?;
+    lines.push_str(line.as_str())
+}

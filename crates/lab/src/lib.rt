@@ -1,0 +1,20 @@
+//! What the laboratory's subcommands answer and print.
+#![tactic(auto)]
+
+mod answering;
+mod assembling;
+mod bench;
+mod checking;
+mod deciding;
+mod refusal;
+mod serving;
+#[cfg(test)]
+mod tests;
+
+pub use answering::answer;
+pub use assembling::{assembled, disassembled};
+pub use bench::bench_context;
+pub use checking::{Checked, check};
+pub use deciding::decided;
+pub use refusal::Refusal;
+pub use serving::serve;

@@ -1,0 +1,95 @@
+use asm::AsmError;
+use book::TableError;
+use codec::CodecError;
+use std::alloc::AllocError;
+use verify::Fault;
+
+/// Why a task has no answer on a file's bytes: what is refused, with its code and place.
+#[derive(Debug, Drop, thiserror::Error)]
+pub enum Refusal {
+    /// The bytes spell no program.
+    #[error("{0}")]
+    Codec(CodecError),
+    /// The program is not accepted.
+    #[error("{0}")]
+    Verifier(Fault),
+    /// The text says no program.
+    #[error("{0}")]
+    Assembly(AsmError),
+    /// The text tells no message table.
+    #[error("{0}")]
+    Table(TableError),
+    /// The bytes are no text in UTF-8.
+    #[error("not UTF-8")]
+    NotText,
+    /// Want of memory.
+    #[error("out of memory")]
+    Memory,
+}
+
+impl From<AllocError> for Refusal {
+    ghost use Rattle.std.specs.Prelude.{◌≡◌};
+    ghost use Rattle.lab.specs.declared.refusal.Refusal.TheVariants.{Memory};
+
+    ghost from_gives = { λ _ refusal. refusal ≡ Memory };
+
+    fn from(_error: AllocError) -> Refusal {
+        Refusal::Memory
+    }
+}
+
+impl From<CodecError> for Refusal {
+    ghost use Rattle.std.specs.Prelude.{◌≡◌};
+    ghost use Rattle.lab.specs.Refusals.{codec_refusal};
+
+    ghost from_gives = { λ error refusal. refusal ≡ codec_refusal error };
+
+    fn from(error: CodecError) -> Refusal {
+        match error {
+            CodecError::Memory => Refusal::Memory,
+            error => Refusal::Codec(error),
+        }
+    }
+}
+
+impl From<Fault> for Refusal {
+    ghost use Rattle.std.specs.Prelude.{◌≡◌};
+    ghost use Rattle.lab.specs.Refusals.{verifier_refusal};
+
+    ghost from_gives = { λ fault refusal. refusal ≡ verifier_refusal fault };
+
+    fn from(fault: Fault) -> Refusal {
+        match fault {
+            Fault::Memory => Refusal::Memory,
+            fault => Refusal::Verifier(fault),
+        }
+    }
+}
+
+impl From<AsmError> for Refusal {
+    ghost use Rattle.std.specs.Prelude.{◌≡◌};
+    ghost use Rattle.lab.specs.Refusals.{assembly_refusal};
+
+    ghost from_gives = { λ error refusal. refusal ≡ assembly_refusal error };
+
+    fn from(error: AsmError) -> Refusal {
+        match error {
+            AsmError::Memory => Refusal::Memory,
+            error => Refusal::Assembly(error),
+        }
+    }
+}
+
+impl From<TableError> for Refusal {
+    ghost use Rattle.std.specs.Prelude.{◌≡◌};
+    ghost use Rattle.lab.specs.Refusals.{table_refusal};
+
+    ghost from_gives = { λ error refusal. refusal ≡ table_refusal error };
+
+    fn from(error: TableError) -> Refusal {
+        match error {
+            TableError::Memory => Refusal::Memory,
+            error => Refusal::Table(error),
+        }
+    }
+}
