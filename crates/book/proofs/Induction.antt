@@ -159,6 +159,7 @@ start x k inside le = record { label = record { first = refl; below = (inside, t
 receiver : (x : Campaign) (p : ℕ) → IsLoyalLieutenant x.n x.c x.traitor p → Receives x (x.c ∷ []) p
 receiver x p l = record { within = l.general; loyal = l.loyal; off = or_from (x.c == p) false (ne_eqb x.c p (λ e. l.lieutenant (sym e))) refl }
 
+-- Theorem 1: IC1 by `alike`, IC2 by Lemma 1
 pub holds : AgreementHolds
 holds f law n c m order traitor M inside bound faithful =
     let x : Campaign = record { rule = f; law = law; n = n; c = c; m = m; order = order; traitor = traitor; M = M; faithful = faithful } in

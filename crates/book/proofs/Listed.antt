@@ -42,6 +42,7 @@ pub table_agrees : IsMajorityRule majority → AgreementHolds → (t : MessageTa
 unfolding decisions_of decision_of
 table_agrees law holds t inside = listed majority law holds t.generals t.commander t.bound (told t.messages) inside
 
+-- a list that has come to the last general is whole
 pub listed_all : (t : MessageTable) (decisions : List ℕ) (k : ℕ) → t.generals ≤ k → k ≤ t.generals → decisions ≡ map (decision_of t) (others k (t.commander ∷ [])) → decisions ≡ decisions_of t
 unfolding decisions_of
 listed_all t decisions k a b e =

@@ -19,12 +19,14 @@ some_is : (b : Bool) (w v : List ℕ) → Some v ≡ cond b (Some w) None → (b
 some_is true w v e = (refl, cc)
 some_is false w v e = cc
 
+-- the third fault
 pub no_place : (t : MessageTable) (number : ℕ) (label : List ℕ) (p v : ℕ) (said : Option Message) → IsShape label p v said → t.commander < t.generals
     → None ≡ placed_label t (pieces dot label) p → Err (Place number) ≡ checked t number said
 no_place t number label p v said s inside e =
     let fails : is_place t s.w p ≡ false = none_is (is_place t s.w p) s.w (e ∙ placed_label-is t (pieces dot label) s.w p inside s.numbers) in
     rw (s.is, fails) refl
 
+-- the fourth fault
 pub told_twice : (t : MessageTable) (number : ℕ) (label : List ℕ) (p v : ℕ) (said : Option Message) (w : List ℕ) → IsShape label p v said → t.commander < t.generals
     → Some w ≡ placed_label t (pieces dot label) p → list_any (is_about w p) t.messages ≡ true → Err (Twice number) ≡ checked t number said
 told_twice t number label p v said w s inside e again =
@@ -32,6 +34,7 @@ told_twice t number label p v said w s inside e again =
     let any : list_any (is_about s.w p) t.messages ≡ true = rw good.1 again in
     rw (s.is, good.0, any) refl
 
+-- no fault
 pub told_once : (t : MessageTable) (number : ℕ) (label : List ℕ) (p v : ℕ) (said : Option Message) (w : List ℕ) → IsShape label p v said → t.commander < t.generals
     → Some w ≡ placed_label t (pieces dot label) p → list_any (is_about w p) t.messages ≡ false → Ok (record { label = w; receiver = p; order = v }) ≡ checked t number said
 told_once t number label p v said w s inside e once =

@@ -141,6 +141,7 @@ told_whole (line ∷ lines) t e =
     let s = no_fault (opened (head_of line)) (λ u. lines_told u 2 lines) t e in
     lines_whole lines 2 s.0 t (opened_whole (head_of line) s.0 s.1) s.2
 
+-- the law, as specs/Laws states it
 pub proved_told_tables_are_whole : ToldTablesAreWhole
 unfolding table_told
 proved_told_tables_are_whole text t e = told_whole (lines_of text) t e

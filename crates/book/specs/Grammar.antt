@@ -17,6 +17,7 @@ abbrev pub head_parts : List (List ℕ) → Option (List ℕ × List ℕ × List
 head_parts (first ∷ n ∷ second ∷ m ∷ third ∷ c ∷ []) = if bytes_eq first (codes "generals") && bytes_eq second (codes "bound") && bytes_eq third (codes "commander") then Some (n, m, c) else None
 head_parts _ = None
 
+-- the three numbers of a first line of that shape
 unfoldable pub head_of : List ℕ → Option (ℕ × ℕ × ℕ)
 head_of line = head_parts (pieces space line) >>= λ parts. decimal_of parts.0 >>= λ n. decimal_of parts.1 >>= λ m. decimal_of parts.2 >>= λ c. Some (n, m, c)
 
@@ -79,5 +80,6 @@ abbrev pub told_by_lines : List (List ℕ) → Result MessageTable TableError
 told_by_lines [] = Err (Line 1)
 told_by_lines (line ∷ lines) = faultless (opened (head_of line)) (λ t. lines_told t 2 lines)
 
+-- the same of the bytes of a text
 unfoldable pub table_told : List ℕ → Result MessageTable TableError
 table_told text = told_by_lines (lines_of text)

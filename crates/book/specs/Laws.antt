@@ -20,6 +20,7 @@ abbrev pub EachOnce : List Message → Type 0
 EachOnce [] = Unit {0}
 EachOnce (message ∷ later) = (list_any (is_about message.label message.receiver) later ≡ false) × EachOnce later
 
+-- numbers within their limits, and messages of the campaign, each once
 pub record IsWhole (t : MessageTable) : Type 0 where
   pub within : IsWithin t.generals t.bound t.commander
   pub messages : AllByRecursion (IsMessage t.generals t.bound t.commander) t.messages

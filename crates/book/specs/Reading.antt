@@ -40,6 +40,7 @@ pub record IsShape (label : List ℕ) (receiver order : ℕ) (said : Option Mess
   pub numbers : numbers_of (pieces dot label) ≡ Some w
   pub is : said ≡ Some (record { label = w; receiver = receiver; order = order })
 
+-- what a cut line gives, or none
 abbrev pub GivesShape : Option (List ℕ × ℕ × ℕ) → Option Message → Type 0
 GivesShape None said = said ≡ None
 GivesShape (Some s) said = IsShape s.0 s.1 s.2 said

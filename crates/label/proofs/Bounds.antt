@@ -27,9 +27,11 @@ fit_below (suc m) k a l =
       | inr ne ↦ fit_below m k both.1 (omega arith)
     ]
 
+-- that product has 32 bits
 pub most-fits : (k : ℕ) → k < 13 → most k < 2 ^ 32
 most-fits k l = fit_below 13 k refl l
 
+-- no more labels than the product
 pub labels-few : (n c p k : ℕ) → n ≤ 13 → c < n → p < n → p ≢ c → length (labels n c p (suc k)) ≤ most k
 labels-few n c p zero short inside within ne = rw (first_label n c p ne) (omega arith)
 labels-few n c p (suc k) short inside within ne =
@@ -42,6 +44,7 @@ others_length_more v j = rw add-one (elim (cases_Bool (on v j)) [
   | inr it ↦ rw (others-more_yes v j it, it) (omega (arith, length-append (others j v) (j ∷ [])))
 ])
 
+-- who stands at a place of the others
 pub others_here : (n : ℕ) (v : List ℕ) (t j : ℕ) → j < n → on v j ≡ false → t ≡ length (others j v) → slice_get (others n v) t ≡ Some j
 others_here n v t j l o e = rw e (others-at n v j l o)
 
@@ -51,6 +54,7 @@ below-at n [] i b l = absurd (omega arith)
 below-at n (x ∷ xs) zero b l = b.0
 below-at n (x ∷ xs) (suc i) b l = below-at n xs i b.1 (omega arith)
 
+-- what is read stands on the list
 pub on-get_or : (xs : List ℕ) (i : ℕ) → i < length xs → on xs (get_or xs i 0) ≡ true
 on-get_or [] i l = absurd (omega arith)
 on-get_or (x ∷ xs) zero l = or_left (x == x) (on xs x) (eq-eqb x x refl)

@@ -12,6 +12,7 @@ pub on-push : (w : List ℕ) (j x : ℕ) → on (w ++ j ∷ []) x ≡ (on w x ||
 on-push [] j x = grind (arith, nat_tests)
 on-push (y ∷ ys) j x = grind (arith, nat_tests, on-push ys j x)
 
+-- a new general keeps them different
 pub distinct-push : (w : List ℕ) (j : ℕ) → is_distinct w ≡ true → on w j ≡ false → is_distinct (w ++ j ∷ []) ≡ true
 distinct-push [] j d a = refl
 distinct-push (y ∷ ys) j d a = grind (arith, nat_tests, distinct-push ys j, on-push ys j y)
@@ -60,10 +61,12 @@ pub range-below : (a n j : ℕ) → j < a → on (range_with_len a n) j ≡ fals
 range-below a zero j l = refl
 range-below a (suc n) j l = or_from (a == j) (on (range_with_len (a + 1) n) j) (ne_eqb a j (λ e. omega arith)) (range-below (a + 1) n j (omega arith))
 
+-- each of them once
 pub range-distinct : (a n : ℕ) → is_distinct (range_with_len a n) ≡ true
 range-distinct a zero = refl
 range-distinct a (suc n) = and_from (not (on (range_with_len (a + 1) n) a)) (is_distinct (range_with_len (a + 1) n)) (not_from_false (on (range_with_len (a + 1) n) a) (range-below (a + 1) n a (omega arith))) (range-distinct (a + 1) n)
 
+-- all of them
 pub range-on : (a n j : ℕ) → a ≤ j → j < a + n → on (range_with_len a n) j ≡ true
 range-on a zero j l h = absurd (omega arith)
 range-on a (suc n) j l h =
@@ -72,6 +75,7 @@ range-on a (suc n) j l h =
       | inr apart ↦ or_right (a == j) (on (range_with_len (a + 1) n) j) (range-on (a + 1) n j (let ne : a ≢ j = apart.1 in omega arith) (omega arith))
     ]
 
+-- no others
 pub range-on_within : (a n j : ℕ) → on (range_with_len a n) j ≡ true → j < a + n
 range-on_within a zero j h = cc
 range-on_within a (suc n) j h =
@@ -93,6 +97,7 @@ pub on-filter : (t : ℕ → Bool) (xs : List ℕ) (j : ℕ) → on (filter t xs
 on-filter t [] j h = cc
 on-filter t (x ∷ xs) j h = on-filter_more t x xs j (on-filter t xs j) (t x) refl h
 
+-- the others are generals outside of the label
 pub others-on : (n : ℕ) (w : List ℕ) (j : ℕ) → on (others n w) j ≡ true → (j < n) × (on w j ≡ false)
 others-on n w j h =
     let both = on-filter (λ i. not (on w i)) (generals n) j h in
@@ -102,10 +107,12 @@ others-on n w j h =
 pub others-split : (h : ℕ → ℕ) (n : ℕ) (w : List ℕ) (j : ℕ) → j < n → on w j ≡ false → sum_by h (others n w) ≡ h j + sum_by h (others n (w ++ j ∷ []))
 others-split h n w j l a = rest_sum-split h w j (generals n) (range-distinct 0 n) (range-on 0 n j (omega arith) (omega arith)) a
 
+-- a length as a sum
 pub length-sum : (xs : List ℕ) → length xs ≡ sum_by (λ x. 1) xs
 length-sum [] = refl
 length-sum (x ∷ xs) = omega (arith, sum_by-cons (λ (y : ℕ). 1) x xs, length-sum xs)
 
+-- one fewer outside of the longer label
 pub others-length : (n : ℕ) (w : List ℕ) (j : ℕ) → j < n → on w j ≡ false → length (others n w) ≡ 1 + length (others n (w ++ j ∷ []))
 others-length n w j l a = rw (length-sum (others n w), length-sum (others n (w ++ j ∷ []))) (others-split (λ x. 1) n w j l a)
 

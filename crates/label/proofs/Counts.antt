@@ -15,15 +15,18 @@ use Rattle.label.proofs.Bounds.{labels-few, most-fits}
 use Rattle.label.specs.declared.space.Space.{Space}
 use Rattle.label.specs.Space.{IsSpace, labels_of, is_label_of, begins_with}
 
+-- one label of the commander alone
 pub count-none : (s : Space) → IsSpace s → 1 ≡ length (labels_of s 1)
 count-none s i = sym (ap length (first_label s.generals s.commander s.general i.lieutenant))
 
+-- one factor more
 pub count-more : (s : Space) → IsSpace s → (k all : ℕ) → 0 < k → all ≡ length (labels_of s k) → all * (s.generals - 1 - k) ≡ length (labels_of s (k + 1))
 count-more s i zero all l e = absurd (omega arith)
 count-more s i (suc k) all l e =
     let d : s.generals - 1 - suc k ≡ s.generals - 2 - k = omega arith in
     rw (add-one, d, e) (sym (count_is_product s.generals s.commander s.general k i.commander i.general i.lieutenant))
 
+-- the number of labels has 32 bits
 pub count-fits : (s : Space) → IsSpace s → (k : ℕ) → k < 13 → length (labels_of s (k + 1)) < 2 ^ 32
 count-fits s i k l = rw add-one (let few = labels-few s.generals s.commander s.general k i.generals i.commander i.general i.lieutenant in let fits = most-fits k l in omega arith)
 
@@ -31,20 +34,24 @@ count-fits s i k l = rw add-one (let few = labels-few s.generals s.commander s.g
 pub rank-fits : (s : Space) → IsSpace s → (k r : ℕ) (w : List ℕ) → k < 13 → slice_get (labels_of s (k + 1)) r ≡ Some w → r < 2 ^ 32
 rank-fits s i k r w l e = let h = slice_get_within (labels_of s (k + 1)) r w e in let f = count-fits s i k l in omega arith
 
+-- the beginning of a label stands at 0
 pub first-stands : (s : Space) → IsSpace s → (w : List ℕ) → BeginsWith s.commander w → slice_get (labels_of s 1) 0 ≡ Some (take 1 w)
 first-stands s i [] b = absurd b
 first-stands s i (x ∷ xs) b = ap (λ ys. slice_get ys 0) (first_label s.generals s.commander s.general i.lieutenant) ∙ ap (λ y. Some (y ∷ [])) (sym b)
 
+-- a label that was ranked to its end
 pub whole-stands : (s : Space) (w : List ℕ) (i r : ℕ) → length w ≤ i → i ≤ length w → slice_get (labels_of s i) r ≡ Some (take i w) → slice_get (labels_of s (length w)) r ≡ Some w
 whole-stands s w i r a b e =
     let same : i ≡ length w = omega arith in
     let all : take i w ≡ w = take_all i w a in
     rw (← same) (e ∙ ap Some all)
 
+-- the test of the first general
 pub begins : (c : ℕ) (w : List ℕ) → begins_with c w ≡ true → BeginsWith c w
 begins c [] e = cc
 begins c (x ∷ xs) e = eqb-true x c e
 
+-- the test of all generals
 pub below : (n : ℕ) (w : List ℕ) → list_all (λ x. nat_lt x n) w ≡ true → AllBelow n w
 below n [] e = tt
 below n (x ∷ xs) e = let both = and_parts (nat_lt x n) (list_all (λ y. nat_lt y n) xs) e in (ltb-true x n both.0, below n xs both.1)
@@ -81,6 +88,7 @@ row-fits s i k r w p l e =
     let m : r * (s.generals - 1 - k) ≤ length (labels_of s k) * (s.generals - 1 - k) = mul-le r (s.generals - 1 - k) (length (labels_of s k)) (s.generals - 1 - k) (omega arith) (omega arith) in
     omega arith
 
+-- a label is not empty
 pub begun : (c : ℕ) (w : List ℕ) → BeginsWith c w → 1 ≤ length w
 begun c [] b = absurd b
 begun c (x ∷ xs) b = omega arith
@@ -104,12 +112,14 @@ one_of : (s : Space) → IsSpace s → (k r : ℕ) (w : List ℕ) → 0 < k → 
 one_of s i zero r w l e = absurd (omega arith)
 one_of s i (suc k) r w l e = rw sub-one (all-at (IsOneOf s.generals s.commander s.general k) (labels_of s (suc k)) r w (labels-are s.generals s.commander s.general k i.commander i.lieutenant) e)
 
+-- a remainder is a place of a child
 pub place-within : (s : Space) → IsSpace s → (size q t : ℕ) (w : List ℕ) → 1 < size → slice_get (labels_of s (size - 1)) q ≡ Some w → t < s.generals - size → t < length (others s.generals (s.general ∷ w))
 place-within s i size q t w l e h =
     let few : length (children s.generals s.general w) ≡ s.generals - 2 - (size - 1 - 1) = few_children s.generals s.commander s.general (size - 1 - 1) w i.general (one_of s i (size - 1) q w (omega arith) e) in
     let same : length (children s.generals s.general w) ≡ length (others s.generals (s.general ∷ w)) = length-map (others s.generals (s.general ∷ w)) (λ j. w ++ j ∷ []) in
     omega arith
 
+-- the child at the quotient and the remainder
 pub rejoined : (s : Space) → IsSpace s → (size r j : ℕ) (w : List ℕ) → 1 < size → 0 < s.generals - size → slice_get (labels_of s (size - 1)) (r / (s.generals - size)) ≡ Some w → slice_get (others s.generals (s.general ∷ w)) (r % (s.generals - size)) ≡ Some j → slice_get (labels_of s size) r ≡ Some (w ++ j ∷ [])
 rejoined s i zero r j w l p e o = absurd (omega arith)
 rejoined s i (suc zero) r j w l p e o = absurd (omega arith)
@@ -126,11 +136,13 @@ on-get [] t j e = cc
 on-get (x ∷ xs) zero j e = or_left (x == j) (on xs j) (eq-eqb x j cc)
 on-get (x ∷ xs) (suc t) j e = or_right (x == j) (on xs j) (on-get xs t j e)
 
+-- a further general is new to the label
 pub general-fits : (n p : ℕ) (w : List ℕ) (t j : ℕ) → slice_get (others n (p ∷ w)) t ≡ Some j → (j < n) × (on w j ≡ false)
 general-fits n p w t j e =
     let at = others-on n (p ∷ w) j (on-get (others n (p ∷ w)) t j e) in
     (at.0, (or_parts (p == j) (on w j) at.1).1)
 
+-- the label of length 1
 pub one-stands : (s : Space) → IsSpace s → (size r : ℕ) → size ≡ 1 → r < length (labels_of s size) → slice_get (labels_of s size) r ≡ Some (s.commander ∷ [])
 one-stands s i size r e l =
     let l' : r < length (labels_of s 1) = rw e at l in

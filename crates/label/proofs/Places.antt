@@ -30,6 +30,7 @@ all-map_on : {B : Type 0} (P : B → Type 0) (f : ℕ → B) (xs : List ℕ) →
 all-map_on P f [] h = tt
 all-map_on P f (x ∷ xs) h = (h x (or_left (x == x) (on xs x) (eq-eqb x x refl)), all-map_on P f xs (λ j i. h j (or_right (x == j) (on xs j) i)))
 
+-- what holds of all holds at a place
 pub all-at : {A : Type 0} (P : A → Type 0) (xs : List A) (i : ℕ) (x : A) → AllByRecursion P xs → slice_get xs i ≡ Some x → P x
 all-at P [] i x a e = cc
 all-at P (y ∷ ys) zero x a e = let h : y ≡ x = cc in subst P h a.0
@@ -72,6 +73,7 @@ few_children n c p k w within a =
 same_size : (n c p k : ℕ) → c < n → p < n → p ≢ c → (i : ℕ) (w : List ℕ) → slice_get (labels n c p (suc k)) i ≡ Some w → length (children n p w) ≡ n - 2 - k
 same_size n c p k inside within ne i w e = few_children n c p k w within (all-at (IsOneOf n c p k) (labels n c p (suc k)) i w (labels-are n c p k inside ne) e)
 
+-- children stand together
 pub children_stand : ChildrenStand
 children_stand n c p k r t j w inside within ne e o =
     let size : length (children n p w) ≡ n - 2 - k = same_size n c p k inside within ne r w e in
@@ -81,6 +83,7 @@ children_stand n c p k r t j w inside within ne e o =
     ∙ (pieces-get (children n p) (n - 2 - k) (labels n c p (suc k)) (same_size n c p k inside within ne) r t w e (omega arith)
     ∙ (slice_get-map (λ i. w ++ i ∷ []) (others n (p ∷ w)) t ∙ ap (option_map (λ i. w ++ i ∷ [])) o))
 
+-- as many as the product says
 pub count_is_product : (n c p k : ℕ) → c < n → p < n → p ≢ c → length (labels n c p (suc (suc k))) ≡ length (labels n c p (suc k)) * (n - 2 - k)
 count_is_product n c p k inside within ne = ap length (labels-next n c p k) ∙ pieces-length (children n p) (n - 2 - k) (labels n c p (suc k)) (same_size n c p k inside within ne)
 
@@ -94,6 +97,7 @@ pub record Piece {A B : Type 0} (f : A → List B) (s : ℕ) (xs : List A) (i : 
   pub parent : slice_get xs q ≡ Some x
   pub here : slice_get (f x) t ≡ Some y
 
+-- which piece a place of the whole lies in
 pub piece-of : {A B : Type 0} (f : A → List B) (s : ℕ) (xs : List A) → ((k : ℕ) (x : A) → slice_get xs k ≡ Some x → length (f x) ≡ s) → (i : ℕ) (y : B) → slice_get (flat_map f xs) i ≡ Some y → Piece f s xs i y
 piece-of f s [] same i y e = cc
 piece-of f s (x ∷ xs) same i y e =
@@ -109,6 +113,7 @@ mapped : (f : ℕ → List ℕ) (o : Option ℕ) (y : List ℕ) → option_map f
 mapped f None y e = cc
 mapped f (Some j) y e = (j, refl, cc)
 
+-- lists that end alike
 pub snoc_same : (xs ys : List ℕ) (a b : ℕ) → xs ++ a ∷ [] ≡ ys ++ b ∷ [] → (xs ≡ ys) × (a ≡ b)
 snoc_same [] [] a b e = (refl, cc)
 snoc_same [] (y ∷ []) a b e = cc
@@ -136,6 +141,7 @@ pub record Born (n c p k i : ℕ) (w : List ℕ) : Type 0 where
   pub small : length (others j (p ∷ parent)) < n - 2 - k
   pub is : parent ++ j ∷ [] ≡ w
 
+-- where a longer label comes from
 pub born : (n c p k : ℕ) → c < n → p < n → p ≢ c → (i : ℕ) (w : List ℕ) → slice_get (labels n c p (suc (suc k))) i ≡ Some w → Born n c p k i w
 born n c p k inside within ne i w e =
     let cut : Piece (children n p) (n - 2 - k) (labels n c p (suc k)) i w = piece-of (children n p) (n - 2 - k) (labels n c p (suc k)) (same_size n c p k inside within ne) i w (sym (ap (λ xs. slice_get xs i) (labels-next n c p k)) ∙ e) in

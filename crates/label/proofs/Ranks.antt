@@ -91,6 +91,7 @@ get_left [] ys t l = absurd (omega arith)
 get_left (x ∷ xs) ys zero l = refl
 get_left (x ∷ xs) ys (suc t) l = get_left xs ys t (omega arith)
 
+-- a place behind the first list
 pub get_right : {A : Type 0} (xs ys : List A) (i t : ℕ) → i ≡ length xs + t → slice_get (xs ++ ys) i ≡ slice_get ys t
 get_right [] ys i t e = let h : i ≡ t = omega arith in ap (slice_get ys) h
 get_right (x ∷ xs) ys zero t e = absurd (omega arith)
@@ -108,6 +109,7 @@ pieces-get f s (y ∷ ys) same (suc q) t x h l =
     let long : length (f y) ≡ s = same 0 y refl in
     get_right (f y) (flat_map f ys) (suc q * s + t) (q * s + t) (omega arith) ∙ pieces-get f s ys (λ k v e. same (suc k) v e) q t x h l
 
+-- as long as all pieces together
 pub pieces-length : {A B : Type 0} (f : A → List B) (s : ℕ) (xs : List A) → ((k : ℕ) (x : A) → slice_get xs k ≡ Some x → length (f x) ≡ s) → length (flat_map f xs) ≡ length xs * s
 pieces-length f s [] same = omega arith
 pieces-length f s (y ∷ ys) same =
@@ -122,14 +124,17 @@ range_push a (suc n) =
     let s : (a + 1) + n ≡ a + suc n = omega arith in
     ap (λ xs. a ∷ xs) (range_push (a + 1) n ∙ ap (λ x. range_with_len (a + 1) n ++ x ∷ []) s)
 
+-- one general more may stand outside
 pub others-more : (w : List ℕ) (j : ℕ) → others (suc j) w ≡ others j w ++ cond (not (on w j)) (j ∷ []) []
 others-more w j =
     ap (filter (λ i. not (on w i))) (range_push 0 j ∙ ap (λ x. range_with_len 0 j ++ x ∷ []) (zero-add j))
     ∙ filter-append (λ i. not (on w i)) (range_with_len 0 j) (j ∷ [])
 
+-- he stands on the label
 pub others-more_no : (w : List ℕ) (j : ℕ) → on w j ≡ true → others (suc j) w ≡ others j w
 others-more_no w j h = others-more w j ∙ (ap (λ (b : Bool). others j w ++ cond (not b) (j ∷ []) []) h ∙ append-nil (others j w))
 
+-- he does not
 pub others-more_yes : (w : List ℕ) (j : ℕ) → on w j ≡ false → others (suc j) w ≡ others j w ++ j ∷ []
 others-more_yes w j h = others-more w j ∙ ap (λ (b : Bool). others j w ++ cond (not b) (j ∷ []) []) h
 
@@ -152,6 +157,7 @@ last_place : (n t j : ℕ) → slice_get (n ∷ []) t ≡ Some j → (t ≡ 0) �
 last_place n zero j e = (refl, cc)
 last_place n (suc t) j e = cc
 
+-- and only there
 pub others-place : (n : ℕ) (v : List ℕ) (t j : ℕ) → slice_get (others n v) t ≡ Some j → t ≡ length (others j v)
 others-place zero v t j e = cc
 others-place (suc n) v t j e =
@@ -182,6 +188,7 @@ all_kept (x ∷ xs) = ap (λ ys. x ∷ ys) (all_kept xs)
 others-cons : (n : ℕ) (x : ℕ) (v : List ℕ) → others n (v ++ x ∷ []) ≡ others n (x ∷ v)
 others-cons n x v = filter_agree (λ j. not (on (v ++ x ∷ []) j)) (λ j. not (on (x ∷ v) j)) (λ j. ap not (on-push v x j ∙ or_swap (on v j) (x == j))) (generals n)
 
+-- those outside and those on it are all
 pub others-count : (n : ℕ) (v : List ℕ) → is_distinct v ≡ true → AllBelow n v → length (others n v) + length v ≡ n
 others-count n [] d b = rw (all_kept (generals n)) (omega (arith, length-range_with_len 0 n))
 others-count n (x ∷ v) d b =

@@ -42,6 +42,7 @@ stands_upto n c p w inside within ne a o (suc i) l =
     let e : suc i + 1 ≡ suc (suc i) = omega arith in
     (before.0 * (n - 1 - suc i) + length (others (get_or w (suc i) 0) (p ∷ take (suc i) w)), rw e at (rank-more n c p w inside within ne a.below a.distinct o (suc i) before.0 (omega arith) (omega arith) before.1))
 
+-- each whole label does
 pub label_stands : (n c p : ℕ) (w : List ℕ) → c < n → p < n → p ≢ c → IsLabel n c w → on w p ≡ false → (r : ℕ) × (slice_get (labels n c p (length w)) r ≡ Some w)
 label_stands n c p [] inside within ne a o = absurd a.first
 label_stands n c p (x ∷ xs) inside within ne a o =
