@@ -1,3 +1,6 @@
+ghost use Rattle.std.specs.Prelude.{◌≡◌, ◌⊎◌};
+ghost use Rattle.lab.specs.Faults.{fault_of, status_of};
+
 use crate::answering::answer;
 use crate::refusal::Refusal;
 use command_line::Task;
@@ -21,7 +24,9 @@ enum Fault<'a> {
 
 impl<'a> Fault<'a> {
     /// The fault of a file with this name.
-    fn of(refusal: Refusal, file: &'a str) -> Fault<'a> {
+    fn of(refusal: Refusal, file: &'a str) -> Fault<'a>
+        ensures { result ≡ fault_of refusal file.entry }
+    {
         match refusal {
             Refusal::Memory => Fault::Memory,
             Refusal::NotText => Fault::Text(file),
@@ -30,7 +35,9 @@ impl<'a> Fault<'a> {
     }
 
     /// The exit status.
-    fn status(&self) -> u8 {
+    fn status(&self) -> u8
+        ensures { result ≡ status_of self.now }
+    {
         match self {
             Fault::Memory => 3,
             _ => 1,
@@ -45,6 +52,7 @@ where
     R: Read + Drop,
     O: Write,
     F: Write,
+    ensures { (result ≡ 0) ⊎ ((result ≡ 1) ⊎ (result ≡ 3)) }
 {
     match print(alloc, task, first, out) {
         Ok(()) => 0,
