@@ -35,10 +35,10 @@ moves_throughout Q [] w i = tt
 moves_throughout Q (e ∷ es) w i = (move_at Q w e i.0, moves_throughout Q es (happen w e) i.1)
 
 -- it is over after at most so many turns
-Within : ℕ → Activation → Type 0
+unfoldable pub Within : ℕ → Activation → Type 0
 Within k a = (n : ℕ) × (n ≤ k) × IsGoing n a
 
-abbrev WithinAfter : ℕ → Turn → Type 0
+abbrev pub WithinAfter : ℕ → Turn → Type 0
 WithinAfter k (Goes b) = Within k b
 WithinAfter k (Asks q f) = (r : List ℕ) → fits q r ≡ true → Within k (f r)
 WithinAfter k Ended = Unit {0}
@@ -53,7 +53,7 @@ turns_within n k a (Goes b) le h = (n, le, h.going)
 turns_within n k a (Asks q f) le h = λ r fit. (n, le, (h r fit).going)
 turns_within n k a Ended le h = tt
 
-turn_left : (k : ℕ) (a : Activation) → Within (suc k) a → WithinAfter k (turn a)
+pub turn_left : (k : ℕ) (a : Activation) → Within (suc k) a → WithinAfter k (turn a)
 unfolding Within
 turn_left k a h = by h.0 h.1 h.2
   where
@@ -111,7 +111,7 @@ each_moves : (n : ℕ) (f : ℕ → List Event) → ((g : ℕ) → AreMoves (f g
 each_moves zero f h = tt
 each_moves (suc n) f h = moves-append (each n f) (f n) (each_moves n f h) (h n)
 
-part_within : (ps : List Part) (g : ℕ) → g < length ps → (part : Part) × (slice_get ps g ≡ Some part)
+pub part_within : (ps : List Part) (g : ℕ) → g < length ps → (part : Part) × (slice_get ps g ≡ Some part)
 part_within [] g lt = absurd (omega arith)
 part_within (p ∷ ps) zero lt = (p, refl)
 part_within (p ∷ ps) (suc g) lt = part_within ps g (omega arith)
@@ -174,7 +174,7 @@ post_brings s g w (Acting a) (Some p) fits at part' e = let i : Acting a ≡ par
 post_brings s g w Silent (Some p) fits at part' e = absurd fits
 post_brings s g w Posted (Some p) fits at part' e = absurd fits
 
-due_within : (s : Scenario) (g : ℕ) (p : List Insn) (a : Activation) → program_of s g ≡ Some p → IsDue s g a → Within (length p) a
+pub due_within : (s : Scenario) (g : ℕ) (p : List Insn) (a : Activation) → program_of s g ≡ Some p → IsDue s g a → Within (length p) a
 unfolding Within
 due_within s g p a is d =
     let same : a.program ≡ p = (let e = sym d.program ∙ is in cc) in

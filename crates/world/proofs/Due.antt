@@ -73,7 +73,7 @@ not_ended : (a : Activation) (o : Outcome) → turned a o ≡ Ended → ⊥
 not_ended a (Next s) e = (let f : Goes (record a { state = s }) ≡ Ended = e in cc)
 not_ended a (Ask q s) e = (let f : Asks q _ ≡ Ended = e in cc)
 not_ended a (Exit r0 s) e = (let f : Goes (record a { state = s; over = true }) ≡ Ended = e in cc)
-not_ended a (Trap cause) e = (let f : Goes a ≡ Ended = e in cc)
+not_ended a (Trap cause) e = (let f : Goes _ ≡ Ended = e in cc)
 
 pub ended_over : (a : Activation) → turn a ≡ Ended → a.over ≡ true
 ended_over a e = by a.over e

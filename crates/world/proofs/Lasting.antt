@@ -115,7 +115,7 @@ listed_complete s sound lines =
     let r = listed_ends s sound (suc s.bound) lines (opening s) (opening_due s sound) (omega arith) in
     record { punctual = r.punctual; ended = r.ended; closed = r.closed }
 
-named_moves : (g : ℕ) (part : Option Part) → AreMoves (ticks_named g part)
+pub named_moves : (g : ℕ) (part : Option Part) → AreMoves (ticks_named g part)
 named_moves g None = tt
 named_moves g (Some (Acting a)) = ticks_are_moves _ g
 named_moves g (Some Silent) = tt

@@ -13,3 +13,5 @@ pub mod Untrapped
 pub mod Runnings
 pub mod Ways
 pub mod Deciding
+pub mod Stepping
+pub mod Replays

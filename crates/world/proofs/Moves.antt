@@ -76,7 +76,7 @@ turned_within a (Ask r s) is q f e =
     let same : r ≡ q = (let g : Asks r _ ≡ Asks q f = e in cc) in
     (let A : Request → Type 0 = λ x. IsRequest x in subst A same (asks_within a.program a.context a.shape a.state s r is))
 turned_within a (Exit r0 s) is q f e = absurd (let g : Goes (record a { state = s; over = true }) ≡ Asks q f = e in cc)
-turned_within a (Trap cause) is q f e = absurd (let g : Goes a ≡ Asks q f = e in cc)
+turned_within a (Trap cause) is q f e = absurd (let g : Goes _ ≡ Asks q f = e in cc)
 
 pub turn_within : (a : Activation) (q : Request) (f : List ℕ → Activation) → turn a ≡ Asks q f → IsRequest q
 turn_within a q f e = by a.over e
