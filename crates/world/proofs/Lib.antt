@@ -15,3 +15,4 @@ pub mod Ways
 pub mod Deciding
 pub mod Stepping
 pub mod Replays
+pub mod Following
