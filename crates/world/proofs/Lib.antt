@@ -16,3 +16,4 @@ pub mod Deciding
 pub mod Stepping
 pub mod Replays
 pub mod Following
+pub mod Cutting
