@@ -17,3 +17,4 @@ pub mod Stepping
 pub mod Replays
 pub mod Following
 pub mod Cutting
+pub mod Again

@@ -10,7 +10,7 @@ use Rattle.world.specs.Lists.{Throughout, AtClose, HasPosted, IsPunctual}
 use Rattle.world.proofs.Listing.{either_way}
 use Rattle.world.proofs.Moves.{move_same}
 
-all_posted : (parts : List Part) → ((g : ℕ) (part : Part) → slice_get parts g ≡ Some part → HasPosted part) → list_all has_posted parts ≡ true
+pub all_posted : (parts : List Part) → ((g : ℕ) (part : Part) → slice_get parts g ≡ Some part → HasPosted part) → list_all has_posted parts ≡ true
 all_posted [] h = refl
 all_posted (p ∷ ps) h = rw (h 0 p refl) (all_posted ps (λ g part e. h (suc g) part e))
 
