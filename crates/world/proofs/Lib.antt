@@ -18,3 +18,4 @@ pub mod Replays
 pub mod Following
 pub mod Cutting
 pub mod Again
+pub mod Accounting
