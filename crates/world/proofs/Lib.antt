@@ -19,3 +19,5 @@ pub mod Following
 pub mod Cutting
 pub mod Again
 pub mod Accounting
+pub mod Made
+pub mod Converse

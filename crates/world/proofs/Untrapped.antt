@@ -47,7 +47,7 @@ pub record IsHeld (s : Scenario) (w : World) : Type 0 where
   pub timely : IsOnTime s w
   pub short : All (λ letters. All IsShort letters) w.closed
 
-closing_due : (s : Scenario) (w : World) → IsScenario s → IsOnTime s w → length w.closed < suc w.scenario.bound → IsOnTime s (closing w)
+pub closing_due : (s : Scenario) (w : World) → IsScenario s → IsOnTime s w → length w.closed < suc w.scenario.bound → IsOnTime s (closing w)
 closing_due s w is t more =
     let closed' = w.closed ++ round_letters w ∷ [] in
     record {

@@ -94,7 +94,7 @@ module _ (first : World) where
   }
   post_midst w g d (Some Posted) e = d
 
-  move_midst : (w : World) (e : Event) → IsMove e → Midst w → Midst (happen w e)
+  pub move_midst : (w : World) (e : Event) → IsMove e → Midst w → Midst (happen w e)
   move_midst w (Tick g) i d = tick_midst w g d (slice_get w.parts g) refl
   move_midst w (Post g) i d = post_midst w g d (slice_get w.parts g) refl
   move_midst w Close i d = absurd i
