@@ -21,3 +21,4 @@ pub mod Again
 pub mod Accounting
 pub mod Made
 pub mod Converse
+pub mod Replaying
