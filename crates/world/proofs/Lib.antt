@@ -22,3 +22,4 @@ pub mod Accounting
 pub mod Made
 pub mod Converse
 pub mod Replaying
+pub mod Refusing

@@ -10,7 +10,7 @@ use Rattle.world.specs.declared.event.Event.{Event}
 use Rattle.world.specs.declared.event.Event.TheVariants.{Tick, Post, Close}
 use Rattle.world.specs.Scenario.{Scenario, IsScenario, is_traitor}
 use Rattle.world.specs.Letters.{Letter, messages}
-use Rattle.world.specs.World.{Activation, Asks, turn, Part, Acting, World, opening, run}
+use Rattle.world.specs.World.{Activation, Asks, turn, Part, Acting, World, opening, happen, run, Refusal, refusal}
 use Rattle.world.specs.Runs.{Runs, AreAccounted, IsAccounted}
 use Rattle.world.specs.Lists.{HasPosted, HasEnded, IsPunctual, IsComplete, listed, replayed, names_in}
 use Rattle.world.specs.Chronicle.{decision, chronicle_of}
@@ -88,3 +88,7 @@ pub record AccountsAreRuns : Type 0 where
       IsPermutation letters others
   pub own : (s : Scenario) (events : List Event) → IsScenario s → IsComplete s events →
       IsLegal s.board (run (opening s) events).ledger × AreAccounted s [] (run (opening s) events).ledger (run (opening s) events).closed
+
+-- a refused event leaves the world as it was
+abbrev pub RefusalsChangeNothing : Type 0
+RefusalsChangeNothing = (s : Scenario) (events : List Event) (e : Event) (r : Refusal) → refusal (run (opening s) events) e ≡ Some r → happen (run (opening s) events) e ≡ run (opening s) events

@@ -1,5 +1,5 @@
 //! Laws of the world: each function does nothing, and its contract is the law.
-ghost use Rattle.world.specs.Laws.{WorldsAgree, ListsAreComplete, ActivationsAreSafe, LedgersDecide, RunsAreReplays, AccountsAreRuns};
+ghost use Rattle.world.specs.Laws.{WorldsAgree, ListsAreComplete, ActivationsAreSafe, LedgersDecide, RunsAreReplays, AccountsAreRuns, RefusalsChangeNothing};
 
 /// Where every loyal general posted in every round, the loyal generals are faithful and the decisions agree (TOPLAS 1982, Theorem 1).
 pub fn worlds_agree()
@@ -29,4 +29,9 @@ pub fn runs_are_replays()
 /// Letters that a legal ledger accounts for are those of a complete run, the replay of that ledger.
 pub fn accounts_are_runs()
     ensures { AccountsAreRuns }
+{}
+
+/// A refused event leaves the world as it was.
+pub fn refusals_change_nothing()
+    ensures { RefusalsChangeNothing }
 {}
