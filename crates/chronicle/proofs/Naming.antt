@@ -1,6 +1,6 @@
 -- The names of a chronicle's text are those of its accesses.
-use Rattle.std.proofs.Common.{◌≡◌, ◌≢◌, ℕ, zero, suc, ◌+◌, ◌<◌, List, [], ◌∷◌, ◌++◌, length, map, flat_map, Bool, true, false, cond, refl, sym, ap, subst, ◌∙◌, Option, None, Some, append_assoc, append-nil, arith}
-use Rattle.std.specs.Prelude.{decimal, codes, nat_lt, filter, bytes_eq, All, ◌==◌, slice_get, ◌≤◌}
+use Rattle.std.proofs.Common.{◌≡◌, ◌≢◌, ℕ, zero, suc, ◌+◌, ◌<◌, List, [], ◌∷◌, ◌++◌, length, map, flat_map, Bool, true, false, cond, refl, ap, ◌∙◌, Option, None, Some, append_assoc, append-nil, arith}
+use Rattle.std.specs.Prelude.{decimal, filter, bytes_eq, All, ◌==◌, ◌≤◌}
 use Rattle.std.specs.List.{list_all}
 use Rattle.std.proofs.lemmas.Slice.Eq.{bytes_eq-Decides}
 use Rattle.std.specs.Fmt.{digits}
@@ -15,8 +15,8 @@ use Rattle.world.specs.Scenario.{Scenario, is_traitor}
 use Rattle.world.specs.Letters.{Letter}
 use Rattle.world.specs.Lists.{names_in}
 use Rattle.world.specs.Chronicle.{Chronicle, lieutenants}
-use Rattle.chronicle.specs.Text.{Word, Line, access_line, row_lines, letter_line, letter_lines, round_lines, decision_line, decision_lines, verdict_line, head_lines, lines_of, text, text_of}
-use Rattle.chronicle.specs.Names.{general_of, Named, with_line, named, split, names_of}
+use Rattle.chronicle.specs.Text.{Line, access_line, row_lines, letter_line, letter_lines, round_lines, decision_line, decision_lines, verdict_line, lines_of, text_of}
+use Rattle.chronicle.specs.Names.{general_of, Named, with_line, named, names_of}
 use Rattle.chronicle.proofs.Splitting.{text-split}
 use Rattle.chronicle.proofs.Plain.{chronicle_plain}
 
@@ -104,13 +104,13 @@ rounds-named r xs (ls ∷ rest) ks k e =
     let behind = round_lines (suc r) xs rest in
     let letters = flat_map letter_lines ls in
     let shape : (map access_line here ++ (letters ++ behind)) ++ ks ≡ map access_line here ++ (letters ++ (behind ++ ks)) =
-        append_assoc (map access_line here) (letters ++ behind) ks ∙ ap (λ l. map access_line here ++ l) (append_assoc letters behind ks) in
+    append_assoc (map access_line here) (letters ++ behind) ks ∙ ap (λ l. map access_line here ++ l) (append_assoc letters behind ks) in
     let inner : named ((map access_line here ++ (letters ++ behind)) ++ ks) ≡ (map (λ a. a.general) here, names_in (suc r) xs (length rest)) =
-        ap named shape
-        ∙ accesses-named here (letters ++ (behind ++ ks)) (known-filter r xs k)
-        ∙ (let q : named (letters ++ (behind ++ ks)) ≡ ([], names_in (suc r) xs (length rest)) = silent-front letters (behind ++ ks) (letters_silent ls) ∙ rounds-named (suc r) xs rest ks k e in
-          (λ i. (map (λ a. a.general) here ++ (q i).0, (q i).1)))
-        ∙ (λ i. (append-nil (map (λ a. a.general) here) i, names_in (suc r) xs (length rest))) in
+    ap named shape
+    ∙ accesses-named here (letters ++ (behind ++ ks)) (known-filter r xs k)
+    ∙ (let q : named (letters ++ (behind ++ ks)) ≡ ([], names_in (suc r) xs (length rest)) = silent-front letters (behind ++ ks) (letters_silent ls) ∙ rounds-named (suc r) xs rest ks k e in
+    (λ i. (map (λ a. a.general) here ++ (q i).0, (q i).1)))
+    ∙ (λ i. (append-nil (map (λ a. a.general) here) i, names_in (suc r) xs (length rest))) in
     (λ i. ([], (inner i).0 ∷ (inner i).1))
 
 pub names_told : (c : Chronicle) → AreKnown c.accesses → names_of (text_of c) ≡ names_in 1 c.accesses (length c.letters)
@@ -121,7 +121,7 @@ names_told c k =
     let end : List Line = verdict_line c.verdict ∷ [] in
     let tail : List Line = ([] ∷ []) ∷ [] in
     let behind : named ((ds ++ end) ++ tail) ≡ ([], []) =
-        ap named (append_assoc ds end tail) ∙ silent-front ds (end ++ tail) (decisions_silent s (lieutenants s) c.decisions) in
+    ap named (append_assoc ds end tail) ∙ silent-front ds (end ++ tail) (decisions_silent s (lieutenants s) c.decisions) in
     ap (λ ls. (named ls).1) (text-split (lines_of c) (chronicle_plain c))
     ∙ ap (λ ls. (named ls).1) (append_assoc (round_lines 1 c.accesses c.letters) (ds ++ end) tail)
     ∙ ap (λ p. p.1) (rounds-named 1 c.accesses c.letters ((ds ++ end) ++ tail) k behind)

@@ -1,5 +1,5 @@
 -- The lines of a chronicle are lines of plain words.
-use Rattle.std.proofs.Common.{◌≡◌, ℕ, zero, suc, ◌<◌, List, [], ◌∷◌, ◌++◌, map, flat_map, Bool, true, false, cond, refl, Option, None, Some}
+use Rattle.std.proofs.Common.{◌≡◌, ℕ, suc, List, [], ◌∷◌, ◌++◌, map, flat_map, Bool, true, false, refl, Option, None, Some}
 use Rattle.std.specs.Prelude.{decimal, codes, nat_lt, filter, ◌==◌}
 use Rattle.std.specs.List.{list_all}
 use Rattle.std.proofs.lemmas.Bool.{and_parts, ltb-true}
@@ -9,8 +9,8 @@ use Rattle.semantics.specs.declared.request.Request.TheVariants.{Get, Swap, Add,
 use Rattle.board.specs.Board.{Access}
 use Rattle.world.specs.Scenario.{Scenario, is_traitor}
 use Rattle.world.specs.Letters.{Letter}
-use Rattle.world.specs.Chronicle.{Verdict, Chronicle, lieutenants}
-use Rattle.chronicle.specs.Text.{Word, Line, asked, access_line, place, row_lines, yes_no, yes_no_none, letter_line, letter_lines, round_lines, decision_line, decision_lines, verdict_line, head_lines, lines_of}
+use Rattle.world.specs.Chronicle.{Chronicle, lieutenants}
+use Rattle.chronicle.specs.Text.{Word, Line, asked, access_line, place, row_lines, yes_no, yes_no_none, letter_line, letter_lines, round_lines, decision_line, decision_lines, lines_of}
 use Rattle.chronicle.proofs.Splitting.{IsPlain, ArePlain, IsLine, AreLines, decimal_plain}
 
 by_test : (w : Word) → list_all (λ c. nat_lt 32 c) w ≡ true → IsPlain w
@@ -81,10 +81,11 @@ letters_plain (l ∷ ls) = lines-append (letter_lines l) (flat_map letter_lines 
 
 rounds_plain : (r : ℕ) (xs : List Access) (rounds : List (List Letter)) → AreLines (round_lines r xs rounds)
 rounds_plain r xs [] = tt
-rounds_plain r xs (ls ∷ rest) =
-    ((by_test (codes "round") refl, (decimal_plain r, tt)),
-    lines-append (map access_line (filter (λ a. a.round == r) xs)) (flat_map letter_lines ls ++ round_lines (suc r) xs rest) (accesses_plain (filter (λ a. a.round == r) xs))
-    (lines-append (flat_map letter_lines ls) (round_lines (suc r) xs rest) (letters_plain ls) (rounds_plain (suc r) xs rest)))
+rounds_plain r xs (ls ∷ rest) = (
+  (by_test (codes "round") refl, (decimal_plain r, tt)),
+  lines-append (map access_line (filter (λ a. a.round == r) xs)) (flat_map letter_lines ls ++ round_lines (suc r) xs rest) (accesses_plain (filter (λ a. a.round == r) xs))
+      (lines-append (flat_map letter_lines ls) (round_lines (suc r) xs rest) (letters_plain ls) (rounds_plain (suc r) xs rest)),
+)
 
 decisions_plain : (s : Scenario) (gs ds : List ℕ) → AreLines (decision_lines s gs ds)
 decisions_plain s [] ds = tt
@@ -94,7 +95,12 @@ decisions_plain s (g ∷ gs) (d ∷ ds) = (decision_plain g (is_traitor s g) d, 
 pub chronicle_plain : (c : Chronicle) → AreLines (lines_of c)
 unfolding lines_of
 chronicle_plain c =
-    let s = c.scenario in
-    ((by_test (codes "chronicle") refl, (by_test (codes "1") refl, tt)), ((by_test (codes "generals") refl, (decimal_plain s.generals, (by_test (codes "bound") refl, (decimal_plain s.bound, (by_test (codes "commander") refl, (decimal_plain s.commander, (by_test (codes "order") refl, (decimal_plain s.order, tt)))))))), lines-append (round_lines 1 c.accesses c.letters) _ (rounds_plain 1 c.accesses c.letters)
-    (lines-append (decision_lines s (lieutenants s) c.decisions) _ (decisions_plain s (lieutenants s) c.decisions)
-    ((by_test (codes "verdict") refl, (by_test (codes "alike") refl, (yes_no_plain c.verdict.alike, (by_test (codes "obeyed") refl, (yes_no_none_plain c.verdict.obeyed, (by_test (codes "bound") refl, (yes_no_plain c.verdict.bound, tt))))))), tt))))
+    let s = c.scenario in (
+      (by_test (codes "chronicle") refl, (by_test (codes "1") refl, tt)),
+      (
+        (by_test (codes "generals") refl, (decimal_plain s.generals, (by_test (codes "bound") refl, (decimal_plain s.bound, (by_test (codes "commander") refl, (decimal_plain s.commander, (by_test (codes "order") refl, (decimal_plain s.order, tt)))))))),
+        lines-append (round_lines 1 c.accesses c.letters) _ (rounds_plain 1 c.accesses c.letters)
+            (lines-append (decision_lines s (lieutenants s) c.decisions) _ (decisions_plain s (lieutenants s) c.decisions)
+            ((by_test (codes "verdict") refl, (by_test (codes "alike") refl, (yes_no_plain c.verdict.alike, (by_test (codes "obeyed") refl, (yes_no_none_plain c.verdict.obeyed, (by_test (codes "bound") refl, (yes_no_plain c.verdict.bound, tt))))))), tt)),
+      ),
+    )

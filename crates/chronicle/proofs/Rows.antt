@@ -1,5 +1,5 @@
 -- Campaigns of two to four generals, from the scenario to the chronicle's text. The right sides come from a model of its own.
-use Rattle.std.specs.Prelude.{ℕ, pos, map, take, negsuc, ◌≡◌, List, [], ◌∷◌, ◌++◌, flat_map, replicate, codes, Option, None, Some, refl}
+use Rattle.std.specs.Prelude.{ℕ, pos, map, take, negsuc, ◌≡◌, List, [], ◌∷◌, ◌++◌, flat_map, replicate, codes, None, Some, refl}
 use Rattle.std.specs.Fmt.{digits}
 use Rattle.word.specs.declared.Width.TheVariants.{W64}
 use Rattle.word.specs.declared.Operation.TheVariants as op

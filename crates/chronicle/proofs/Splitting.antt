@@ -1,10 +1,10 @@
 -- A text of lines of plain words is split into them again.
-use Rattle.std.proofs.Common.{◌≡◌, ℕ, zero, suc, ◌+◌, ◌<◌, ◌≤◌, List, [], ◌∷◌, ◌++◌, map, flat_map, Bool, true, false, cond, refl, sym, ap, subst, ◌∙◌, ◌≢◌, arith, append_assoc, append-nil}
+use Rattle.std.proofs.Common.{◌≡◌, ℕ, zero, suc, ◌+◌, ◌<◌, ◌≤◌, List, [], ◌∷◌, ◌++◌, map, Bool, true, false, cond, refl, ap, ◌∙◌, ◌≢◌, arith, append-nil}
 use Rattle.std.specs.Prelude.{◌==◌, decimal, nat_lt, ◌/◌, ◌%◌}
 use Rattle.std.specs.Fmt.{digits, digits_onto, digit_glyph}
 use Rattle.std.proofs.lemmas.Bool.{eq-eqb, ne_eqb}
 use Rattle.chronicle.specs.Text.{Word, Line, further, spaced, text}
-use Rattle.chronicle.specs.Names.{before_first, split}
+use Rattle.chronicle.specs.Names.{split}
 
 -- no space and no line's end in it
 abbrev pub IsPlain : Word → Type 0

@@ -1,31 +1,28 @@
 -- A round whose letters a piece of the ledger accounts for happens again, when its accesses are named.
-use Rattle.std.proofs.Common.{◌≡◌, ◌≢◌, ℕ, zero, suc, ◌+◌, ◌-◌, ◌<◌, ◌≤◌, List, [], ◌∷◌, ◌++◌, length, map, take, drop, Bool, true, false, cond, refl, sym, ap, subst, ◌∙◌, Option, Some, None, append_assoc, append-nil, arith, length-append}
-use Rattle.std.specs.Prelude.{slice_get, ◌==◌, ◌&&◌, filter, nat_lt}
+use Rattle.std.proofs.Common.{◌≡◌, ℕ, zero, suc, ◌<◌, ◌≤◌, List, [], ◌∷◌, ◌++◌, length, map, take, drop, Bool, true, false, cond, refl, sym, ap, subst, ◌∙◌, Option, Some, None, append_assoc, arith}
+use Rattle.std.specs.Prelude.{slice_get, ◌==◌, ◌&&◌}
 use Rattle.std.specs.List.{list_all}
 use Rattle.std.proofs.lemmas.Bool.{lt-ltb}
 use Rattle.std.proofs.lemmas.List.{take_all}
 use Rattle.std.proofs.lemmas.Option.{slice_get_within}
 use Rattle.std.proofs.Math.Seq.{drop-append_seam}
 use Rattle.insn.specs.declared.insn.Insn.{Insn}
-use Rattle.board.specs.Board.{IsBoard, Access, words_after, IsLegal}
-use Rattle.world.specs.declared.event.Event.{Event}
-use Rattle.world.specs.declared.event.Event.TheVariants.{Tick, Post, Close}
+use Rattle.board.specs.Board.{Access, words_after, IsLegal}
+use Rattle.world.specs.declared.event.Event.TheVariants.{Close}
 use Rattle.world.specs.Scenario.{Scenario, IsScenario, program_of, shape_of}
 use Rattle.world.specs.Letters.{Letter, context_of, loyal_letter}
-use Rattle.world.specs.World.{Activation, started, Part, Acting, Silent, Posted, has_posted, World, each, round_open, begins, begun, of, letters_at, round_letters, closing, happen, run}
+use Rattle.world.specs.World.{Activation, started, Part, Acting, Silent, Posted, has_posted, World, each, round_open, begins, begun, of, letters_at, round_letters, happen, run}
 use Rattle.world.specs.Runs.{Runs, IsLetterOf, IsAccountedRound}
-use Rattle.world.specs.Lists.{HasPosted, HasEnded, names_events, wound_up}
+use Rattle.world.specs.Lists.{names_events, wound_up}
 use Rattle.world.specs.Laws.{IsRipe}
 use Rattle.world.proofs.Kept.{Fits, IsKept}
 use Rattle.world.proofs.Listing.{each-get, each-get_only, each-length}
-use Rattle.world.proofs.Moves.{SameRound, moves_same, then_same, moves_board, moves_keep, run-append, AllParts}
-use Rattle.world.proofs.Rounds.{run_kept}
+use Rattle.world.proofs.Moves.{moves_same, then_same, moves_keep, run-append, AllParts}
 use Rattle.world.proofs.Punctual.{all_posted}
-use Rattle.world.proofs.Due.{Due}
 use Rattle.world.proofs.Complete.{posts, ends, posts_moves, ends_moves, ripens, part_within}
 use Rattle.world.proofs.Lasting.{IsOnTime, moves_due, close_open, names_moves}
 use Rattle.world.proofs.Stepping.{runs_steps}
-use Rattle.world.proofs.Following.{AreOf, Act, of_first, of_next, Way, Ways, Followed, follow, ways_last, moves_still, way_ended}
+use Rattle.world.proofs.Following.{Act, of_first, Ways, Followed, follow, ways_last, moves_still, way_ended}
 use Rattle.world.proofs.Cutting.{entries_of, entries_below, AreBelow}
 
 take-snoc : (ls : List Letter) (n : ℕ) (l : Letter) → slice_get ls n ≡ Some l → take (suc n) ls ≡ take n ls ++ l ∷ []
@@ -96,9 +93,10 @@ module _ (s : Scenario) (closed : List (List Letter)) (piece : List Access) (let
       → (front rest : List Access) → piece ≡ front ++ rest → AreBelow s.generals rest → Act parts rest
   acts_from parts at front [] e below = tt
   acts_from parts at front (x ∷ rest) e below =
-      let a = acts_one front rest x e below.0 (program_of s x.general) refl in
-      ((a.0, at x.general below.0 ∙ ap Some a.1),
-      acts_from parts at (front ++ x ∷ []) rest (e ∙ sym (append_assoc front (x ∷ []) rest)) below.1)
+      let a = acts_one front rest x e below.0 (program_of s x.general) refl in (
+        (a.0, at x.general below.0 ∙ ap Some a.1),
+        acts_from parts at (front ++ x ∷ []) rest (e ∙ sym (append_assoc front (x ∷ []) rest)) below.1,
+      )
 
   pub acts_begin : (b : Bool) → b ≡ true → Act (cond b (each s.generals (λ g. begins s closed g (program_of s g) ∷ [])) []) piece
   acts_begin true e = acts_from (each s.generals (λ g. begins s closed g (program_of s g) ∷ [])) (λ g lt. each-get s.generals (λ g. begins s closed g (program_of s g)) g lt) [] piece refl (entries_below s.generals (suc (length closed)) piece round.entries)
@@ -141,10 +139,10 @@ pub letters_again : (s : Scenario) (closed : List (List Letter)) (piece : List A
 letters_again s closed piece letters round w sc cl op count k ripe ways =
     let f : ℕ → List Letter = λ g. letters_at w g (slice_get w.parts g) in
     let one : (g : ℕ) (l : Letter) → slice_get letters g ≡ Some l → f g ≡ l ∷ [] = (λ g l at.
-        let lt : g < length letters = slice_get_within letters g l at in
-        let p = part_within w.parts g (let c = round.count in omega arith) in
-        let A : Scenario → Type 0 = λ t. Fits (program_of t g) p.0 in
-        ap (letters_at w g) p.1 ∙ by g l at p.0 p.1 (subst A sc (k.parts g p.0 p.1).1)) in
+    let lt : g < length letters = slice_get_within letters g l at in
+    let p = part_within w.parts g (let c = round.count in omega arith) in
+    let A : Scenario → Type 0 = λ t. Fits (program_of t g) p.0 in
+    ap (letters_at w g) p.1 ∙ by g l at p.0 p.1 (subst A sc (k.parts g p.0 p.1).1)) in
     ap (λ (n : ℕ). each n f) (ap (λ (t : Scenario). t.generals) sc ∙ sym round.count) ∙ (each_is letters f one (length letters) (omega arith) ∙ take_all (length letters) letters (omega arith))
   where
     by : (g : ℕ) (l : Letter) → slice_get letters g ≡ Some l → (part : Part) → slice_get w.parts g ≡ Some part → Fits (program_of s g) part → letters_at w g (Some part) ≡ l ∷ []
@@ -159,7 +157,7 @@ letters_again s closed piece letters round w sc cl op count k ripe ways =
 pub round_again : (s : Scenario) → IsScenario s → (closed : List (List Letter)) (words : List ℕ) (ledger piece : List Access) (letters : List Letter)
     → IsOnTime s (begun s closed words ledger true) → length closed < suc s.bound → IsLegal words piece → IsAccountedRound s closed piece letters
     → run (begun s closed words ledger true) (names_events (begun s closed words ledger true) (map (λ a. a.general) piece) ++ wound_up s)
-        ≡ begun s (closed ++ letters ∷ []) (words_after words piece) (ledger ++ piece) true
+    ≡ begun s (closed ++ letters ∷ []) (words_after words piece) (ledger ++ piece) true
 unfolding posts ends
 round_again s is closed words ledger piece letters d less legal round =
     let w = begun s closed words ledger true in
@@ -168,7 +166,7 @@ round_again s is closed words ledger piece letters d less legal round =
     let es = names_events w (map (λ a. a.general) piece) in
     let i1 = names_moves (map (λ a. a.general) piece) w in
     let F : Followed E w piece (run w es) = follow E s piece w d.kept.board d.due legal (entries_of s.generals (suc (length closed)) piece round.entries) (acts_begin s closed piece letters round (round_open s closed) more)
-        (ways_begin s closed piece letters round (round_open s closed)) in
+    (ways_begin s closed piece letters round (round_open s closed)) in
     let w1 = run w es in
     let d1 = moves_due s es w i1 d in
     let w2 = run w1 (posts s) in

@@ -1,23 +1,22 @@
 -- Behind the accesses of a piece of the ledger nobody makes one.
-use Rattle.std.proofs.Common.{◌≡◌, ◌≢◌, ℕ, zero, suc, ◌+◌, ◌-◌, ◌<◌, ◌≤◌, List, [], ◌∷◌, ◌++◌, length, map, Bool, true, false, cond, refl, sym, ap, subst, ◌∙◌, ⊎_elim, Option, Some, None, append_assoc, append-nil, arith}
-use Rattle.std.specs.Prelude.{slice_get, slice_set, replicate, ◌==◌, filter}
+use Rattle.std.proofs.Common.{◌≡◌, ◌≢◌, ℕ, zero, suc, List, [], ◌∷◌, ◌++◌, length, map, true, false, refl, sym, ap, subst, ◌∙◌, ⊎_elim, Option, Some, None, append_assoc, append-nil}
+use Rattle.std.specs.Prelude.{slice_get, ◌==◌}
 use Rattle.std.proofs.lemmas.Bool.{eq-eqb, ne_eqb}
 use Rattle.std.proofs.lemmas.Bool.Decides.{eqb_tells}
 use Rattle.semantics.specs.declared.request.Request.{Request}
-use Rattle.semantics.specs.Call.{fits}
-use Rattle.board.specs.Board.{IsBoard, Access, reply, next, words_after, IsLegal}
+use Rattle.board.specs.Board.{IsBoard, Access, words_after, IsLegal}
 use Rattle.world.specs.declared.event.Event.{Event}
 use Rattle.world.specs.declared.event.Event.TheVariants.{Tick, Post, Close}
-use Rattle.world.specs.Scenario.{Scenario, program_of}
+use Rattle.world.specs.Scenario.{Scenario}
 use Rattle.world.specs.Letters.{Letter}
 use Rattle.world.specs.World.{Activation, Turn, Goes, Asks, Ended, turn, Part, Acting, Silent, Posted, World, of, served, ticked, posting, happen, run}
 use Rattle.world.specs.Runs.{Onward, Runs}
-use Rattle.world.specs.Lists.{until_access, ticks_named, names_events}
+use Rattle.world.specs.Lists.{ticks_named, names_events}
 use Rattle.world.specs.Laws.{IsMove, AreMoves}
 use Rattle.world.proofs.Moves.{moves_same, moves_board, move_board, moves_keep, move_keeps, run-append, AllParts, IsLasting}
-use Rattle.world.proofs.Due.{over_ended, IsDue, Due, due_lasts}
-use Rattle.world.proofs.Complete.{Within, due_within}
-use Rattle.world.proofs.Lasting.{named_moves, names_moves}
+use Rattle.world.proofs.Due.{over_ended, Due, due_lasts}
+use Rattle.world.proofs.Complete.{due_within}
+use Rattle.world.proofs.Lasting.{named_moves}
 use Rattle.world.proofs.Replays.{Comes, reach}
 
 -- each entry is of this round
@@ -32,11 +31,12 @@ Act parts (x ∷ piece) = ((a : Activation) × (slice_get parts x.general ≡ So
 
 act_moved : (parts later : List Part) (g : ℕ) (now : Activation) (piece : List Access) → slice_get later g ≡ Some (Acting now) → ((h : ℕ) → h ≢ g → slice_get later h ≡ slice_get parts h) → Act parts piece → Act later piece
 act_moved parts later g now [] at others acts = tt
-act_moved parts later g now (x ∷ piece) at others acts =
-    (⊎_elim (λ (q : (x.general == g ≡ true) × (x.general ≡ g)). (now, ap (slice_get later) q.1 ∙ at))
-        (λ (q : (x.general == g ≡ false) × (x.general ≢ g)). (acts.0.0, others x.general q.1 ∙ acts.0.1))
-        (eqb_tells x.general g),
-    act_moved parts later g now piece at others acts.1)
+act_moved parts later g now (x ∷ piece) at others acts = (
+  ⊎_elim (λ (q : (x.general == g ≡ true) × (x.general ≡ g)). (now, ap (slice_get later) q.1 ∙ at))
+      (λ (q : (x.general == g ≡ false) × (x.general ≢ g)). (acts.0.0, others x.general q.1 ∙ acts.0.1))
+      (eqb_tells x.general g),
+  act_moved parts later g now piece at others acts.1,
+)
 
 pub of_first : (g : ℕ) (x : Access) (piece : List Access) → x.general ≡ g → of g (x ∷ piece) ≡ x ∷ of g piece
 of_first g x piece e = rw (eq-eqb x.general g e) refl
@@ -81,23 +81,23 @@ module _ (E : ℕ → Activation → Type 0) where
       let runs : Runs way.k a (x ∷ of g piece) way.end = (let A : List Access → Type 0 = λ t. Runs way.k a t way.end in subst A (of_first g x piece refl) way.runs) in
       let ticks = ticks_named g (slice_get w.parts g) in
       let c : Comes w (run w ticks) g x (of g piece) way.end =
-          (let A : Option Part → Type 0 = λ o. Comes w (run w (ticks_named g o)) g x (of g piece) way.end in
-          subst A (sym at) (reach (length a.program) way.k w g a x (of g piece) way.end at board refl in_round.0 legal.0 (due_within s g a.program a d.program d) runs)) in
+      (let A : Option Part → Type 0 = λ o. Comes w (run w (ticks_named g o)) g x (of g piece) way.end in
+      subst A (sym at) (reach (length a.program) way.k w g a x (of g piece) way.end at board refl in_round.0 legal.0 (due_within s g a.program a d.program d) runs)) in
       let v = run w ticks in
       let moves = named_moves g (slice_get w.parts g) in
       let same = moves_same ticks w moves in
       let ways' : AllParts (Ways piece) v.parts = (λ h part e. ⊎_elim
-          (λ (q : (h == g ≡ true) × (h ≡ g)).
-              let now : Some (Acting c.now) ≡ Some part = sym c.at ∙ (ap (slice_get v.parts) (sym q.1) ∙ e) in
-              let part_is : Acting c.now ≡ part = cc in
-              let A : ℕ → Part → Type 0 = λ j p. Ways piece j p in
-              subst (λ (j : ℕ). A j part) (sym q.1) (subst (λ (p : Part). A g p) part_is (record { k = c.k; end = way.end; runs = c.way; over = way.over; is = way.is })))
-          (λ (q : (h == g ≡ false) × (h ≢ g)). way_other x piece h part (λ s'. q.1 (sym s')) (ways h part (sym (c.others h q.1) ∙ e)))
-          (eqb_tells h g)) in
+      (λ (q : (h == g ≡ true) × (h ≡ g)).
+      let now : Some (Acting c.now) ≡ Some part = sym c.at ∙ (ap (slice_get v.parts) (sym q.1) ∙ e) in
+      let part_is : Acting c.now ≡ part = cc in
+      let A : ℕ → Part → Type 0 = λ j p. Ways piece j p in
+      subst (λ (j : ℕ). A j part) (sym q.1) (subst (λ (p : Part). A g p) part_is (record { k = c.k; end = way.end; runs = c.way; over = way.over; is = way.is })))
+      (λ (q : (h == g ≡ false) × (h ≢ g)). way_other x piece h part (λ s'. q.1 (sym s')) (ways h part (sym (c.others h q.1) ∙ e)))
+      (eqb_tells h g)) in
       let r = follow s piece v (moves_board ticks w moves board) (moves_keep (Due s) (due_lasts s) ticks w moves board due)
-          (let A : List ℕ → Type 0 = λ ws. IsLegal ws piece in subst A (sym c.words) legal.1)
-          (let A : List (List Letter) → Type 0 = λ ls. AreOf (suc (length ls)) piece in subst A (sym same.closed) in_round.1)
-          (act_moved w.parts v.parts g c.now piece c.at c.others acts.1) ways' in
+      (let A : List ℕ → Type 0 = λ ws. IsLegal ws piece in subst A (sym c.words) legal.1)
+      (let A : List (List Letter) → Type 0 = λ ls. AreOf (suc (length ls)) piece in subst A (sym same.closed) in_round.1)
+      (act_moved w.parts v.parts g c.now piece c.at c.others acts.1) ways' in
       let there : run w (ticks ++ names_events v (map (λ b. b.general) piece)) ≡ run v (names_events v (map (λ b. b.general) piece)) = run-append ticks (names_events v (map (λ b. b.general) piece)) w in
       let V = run v (names_events v (map (λ b. b.general) piece)) in
       let here : Followed w (x ∷ piece) V = record {

@@ -23,3 +23,4 @@ pub mod Made
 pub mod Converse
 pub mod Replaying
 pub mod Refusing
+mod Example

@@ -1,26 +1,23 @@
 -- The accesses of a round are those of its traitors, and a ripe round's letters account for them.
-use Rattle.std.proofs.Common.{◌≡◌, ◌≢◌, ℕ, zero, suc, ◌+◌, ◌-◌, ◌<◌, ◌≤◌, List, [], ◌∷◌, ◌++◌, length, map, take, drop, Bool, true, false, cond, refl, sym, ap, subst, ◌∙◌, ⊎_elim, Option, Some, None, append_assoc, append-nil, arith, length-append, All}
-use Rattle.std.specs.Prelude.{slice_get, ◌==◌, ◌&&◌, filter, sum_by, is_some}
-use Rattle.std.proofs.lemmas.Bool.{eq-eqb, ne_eqb, true≢false}
+use Rattle.std.proofs.Common.{◌≡◌, ◌≢◌, ℕ, zero, suc, ◌+◌, ◌<◌, ◌≤◌, List, [], ◌∷◌, ◌++◌, length, drop, Bool, true, false, cond, refl, sym, ap, subst, ◌∙◌, ⊎_elim, Option, Some, None, append_assoc, append-nil, arith, length-append, All}
+use Rattle.std.specs.Prelude.{slice_get, ◌==◌, sum_by, is_some}
+use Rattle.std.proofs.lemmas.Bool.{ne_eqb, true≢false}
 use Rattle.std.proofs.lemmas.Bool.Decides.{eqb_tells}
 use Rattle.std.proofs.lemmas.List.Sums.{sum_by-append}
 use Rattle.std.proofs.lemmas.Option.{slice_get_within}
-use Rattle.std.proofs.Math.Seq.{drop-append_seam}
 use Rattle.insn.specs.declared.insn.Insn.{Insn}
 use Rattle.label.proofs.Ranks.{get_left, get_right}
 use Rattle.board.specs.Board.{Access, reply}
 use Rattle.world.specs.declared.event.Event.{Event}
 use Rattle.world.specs.declared.event.Event.TheVariants.{Tick, Post, Close}
-use Rattle.world.specs.Scenario.{Scenario, IsScenario, program_of, is_traitor, shape_of}
+use Rattle.world.specs.Scenario.{Scenario, program_of, is_traitor, shape_of}
 use Rattle.world.specs.Letters.{Letter, context_of, loyal_letter}
-use Rattle.world.specs.World.{Activation, Turn, Goes, Asks, Ended, turn, started, Part, Acting, Silent, Posted, has_posted, World, each, round_open, begins, begun, of, letters_at, round_letters, served, ticked, posting, happen, run}
+use Rattle.world.specs.World.{Activation, Turn, Goes, Asks, Ended, turn, started, Part, Acting, Silent, Posted, World, each, round_open, begins, begun, of, letters_at, round_letters, served, ticked, posting, happen}
 use Rattle.world.specs.Runs.{Runs, IsLetterOf, IsAccountedRound}
-use Rattle.world.specs.Lists.{HasPosted, HasEnded}
 use Rattle.world.specs.Laws.{IsMove, IsRipe}
 use Rattle.world.proofs.Kept.{Fits, IsKept}
 use Rattle.world.proofs.Listing.{each-get_only}
-use Rattle.world.proofs.Moves.{SameRound}
-use Rattle.world.proofs.Due.{IsDue, Due}
+use Rattle.world.proofs.Due.{IsDue}
 use Rattle.world.proofs.Complete.{part_within}
 use Rattle.world.proofs.Lasting.{IsOnTime}
 use Rattle.world.proofs.Stepping.{runs_steps}
@@ -112,13 +109,13 @@ singles_get (suc n) f h g l e =
     let last = h n (omega arith) in
     ⊎_elim
     (λ (q : (g == n ≡ true) × (g ≡ n)).
-        let there : slice_get (each n f ++ f n) g ≡ slice_get (f n) 0 = get_right (each n f) (f n) g 0 (let w = q.1 in omega arith) in
-        let same : last.0 ≡ l = (let i : Some last.0 ≡ Some l = sym (ap (λ ls. slice_get ls 0) last.1) ∙ (sym there ∙ e) in cc) in
-        ((let w = q.1 in omega arith), ap f q.1 ∙ (last.1 ∙ ap (λ (m : Letter). m ∷ []) same)))
+    let there : slice_get (each n f ++ f n) g ≡ slice_get (f n) 0 = get_right (each n f) (f n) g 0 (let w = q.1 in omega arith) in
+    let same : last.0 ≡ l = (let i : Some last.0 ≡ Some l = sym (ap (λ ls. slice_get ls 0) last.1) ∙ (sym there ∙ e) in cc) in
+    ((let w = q.1 in omega arith), ap f q.1 ∙ (last.1 ∙ ap (λ (m : Letter). m ∷ []) same)))
     (λ (q : (g == n ≡ false) × (g ≢ n)).
-        let less : g < n = (let w = q.1 in let i = slice_get_within (each n f ++ f n) g l e in omega arith) in
-        let r = singles_get n f (singles_fewer n f h) g l (sym (get_left (each n f) (f n) g (omega arith)) ∙ e) in
-        (omega arith, r.1))
+    let less : g < n = (let w = q.1 in let i = slice_get_within (each n f ++ f n) g l e in omega arith) in
+    let r = singles_get n f (singles_fewer n f h) g l (sym (get_left (each n f) (f n) g (omega arith)) ∙ e) in
+    (omega arith, r.1))
     (eqb_tells g n)
 
 -- how many accesses the first generals have together
@@ -133,18 +130,19 @@ total_none (suc n) = (let e = total_none n in omega arith)
 total_one : (n : ℕ) (x : Access) (piece : List Access) → (x.general < n → total n (x ∷ piece) ≡ suc (total n piece)) × (n ≤ x.general → total n (x ∷ piece) ≡ total n piece)
 total_one zero x piece = ((λ lt. absurd (omega arith)), (λ le. refl))
 total_one (suc n) x piece =
-    let before = total_one n x piece in
-    ((λ lt. ⊎_elim
-        (λ (q : (x.general == n ≡ true) × (x.general ≡ n)).
-            let here : length (of n (x ∷ piece)) ≡ suc (length (of n piece)) = rw q.0 refl in
-            let e = before.1 (let w = q.1 in omega arith) in omega arith)
-        (λ (q : (x.general == n ≡ false) × (x.general ≢ n)).
-            let here : length (of n (x ∷ piece)) ≡ length (of n piece) = rw q.0 refl in
-            let e = before.0 (let w = q.1 in omega arith) in omega arith)
-        (eqb_tells x.general n)),
-    (λ le.
-        let here : length (of n (x ∷ piece)) ≡ length (of n piece) = rw (ne_eqb x.general n (λ w. let v = w in omega arith)) refl in
-        let e = before.1 (omega arith) in omega arith))
+    let before = total_one n x piece in (
+      (λ lt. ⊎_elim
+          (λ (q : (x.general == n ≡ true) × (x.general ≡ n)).
+          let here : length (of n (x ∷ piece)) ≡ suc (length (of n piece)) = rw q.0 refl in
+          let e = before.1 (let w = q.1 in omega arith) in omega arith)
+          (λ (q : (x.general == n ≡ false) × (x.general ≢ n)).
+          let here : length (of n (x ∷ piece)) ≡ length (of n piece) = rw q.0 refl in
+          let e = before.0 (let w = q.1 in omega arith) in omega arith)
+          (eqb_tells x.general n)),
+      (λ le.
+          let here : length (of n (x ∷ piece)) ≡ length (of n piece) = rw (ne_eqb x.general n (λ w. let v = w in omega arith)) refl in
+          let e = before.1 (omega arith) in omega arith),
+    )
 
 -- all generals have all
 total_all : (n : ℕ) (piece : List Access) → AreBelow n piece → total n piece ≡ length piece
@@ -184,11 +182,12 @@ module _ (s : Scenario) (closed : List (List Letter)) (words : List ℕ) (ledger
       let steps = runs_steps c.0 (started program (context_of s closed g) (shape_of s g (suc (length closed)))) (of g piece) a runs in
       let k : c.0 ≡ a.state.steps = omega arith in
       let l : Letter = record { general = g; round = suc (length closed); context = context_of s closed g; program = Some program; transcript = of g piece; steps = a.state.steps; outbox = a.state.outbox } in
-      let program_is : program_of w.scenario g ≡ Some program = ap (λ (v : Scenario). program_of v g) sc ∙ is in
-      (l,
-      (λ i. record { general = g; round = suc (length (cl i)); context = context_of (sc i) (cl i) g; program = program_is i; transcript = of g (op i); steps = a.state.steps; outbox = a.state.outbox } ∷ []),
-      (a, (let A : ℕ → Type 0 = λ n. Runs n (started program (context_of s closed g) (shape_of s g (suc (length closed)))) (of g piece) a in subst A k runs), ripe.ended_all g (Acting a) at, refl),
-      refl)
+      let program_is : program_of w.scenario g ≡ Some program = ap (λ (v : Scenario). program_of v g) sc ∙ is in (
+        l,
+        (λ i. record { general = g; round = suc (length (cl i)); context = context_of (sc i) (cl i) g; program = program_is i; transcript = of g (op i); steps = a.state.steps; outbox = a.state.outbox } ∷ []),
+        (a, (let A : ℕ → Type 0 = λ n. Runs n (started program (context_of s closed g) (shape_of s g (suc (length closed)))) (of g piece) a in subst A k runs), ripe.ended_all g (Acting a) at, refl),
+        refl,
+      )
   letter_made w piece sc cl op made ripe came g Silent at o is fits = absurd (let f : false ≡ true = ripe.posted_all g Silent at in cc)
   letter_made w piece sc cl op made ripe came g Posted at None is fits =
       (loyal_letter s closed g, (λ i. loyal_letter (sc i) (cl i) g ∷ []), refl, made_none s (suc (length closed)) g piece made (ap is_some is))
@@ -204,20 +203,23 @@ module _ (s : Scenario) (closed : List (List Letter)) (words : List ℕ) (ledger
   round_accounts w piece sc cl op made count k ripe came =
       let f : ℕ → List Letter = λ g. letters_at w g (slice_get w.parts g) in
       let one : (g : ℕ) → g < s.generals → (l : Letter) × (f g ≡ l ∷ []) × IsLetterOf s closed g (program_of s g) l × (of g piece ≡ l.transcript) = (λ g lt.
-          let p = part_within w.parts g (omega arith) in
-          let A : Scenario → Type 0 = λ t. Fits (program_of t g) p.0 in
-          let r = letter_made w piece sc cl op made ripe came g p.0 p.1 (program_of s g) refl (subst A sc (k.parts g p.0 p.1).1) in
-          (r.0, ap (letters_at w g) p.1 ∙ r.1, r.2, r.3)) in
+      let p = part_within w.parts g (omega arith) in
+      let A : Scenario → Type 0 = λ t. Fits (program_of t g) p.0 in
+      let r = letter_made w piece sc cl op made ripe came g p.0 p.1 (program_of s g) refl (subst A sc (k.parts g p.0 p.1).1) in
+      (r.0, ap (letters_at w g) p.1 ∙ r.1, r.2, r.3)) in
       let singles : Singles s.generals f = (λ g lt. let r = one g lt in (r.0, r.1)) in
       let B : ℕ → Type 0 = λ n. IsAccountedRound s closed piece (each n f) × (sum_by (λ l. length l.transcript) (each n f) ≡ length piece) in
-      let both = subst B (sym (ap (λ (t : Scenario). t.generals) sc)) (record {
-        count = singles_length s.generals f singles;
-        each = λ g l at.
-            let there = singles_get s.generals f singles g l at in
-            let r = one g there.0 in
-            let same : r.0 ≡ l = (let i : r.0 ∷ [] ≡ l ∷ [] = sym r.1 ∙ there.1 in cc) in
-            let C : Letter → Type 0 = λ m. IsLetterOf s closed g (program_of s g) m × (of g piece ≡ m.transcript) in
-            subst C same (r.2, r.3);
-        entries = made_all s (suc (length closed)) piece made;
-      }, singles_sum piece s.generals f (λ g lt. let r = one g lt in (r.0, r.1, r.3)) ∙ total_all s.generals piece (made_below s (suc (length closed)) piece made)) in
+      let both = subst B (sym (ap (λ (t : Scenario). t.generals) sc)) (
+        record {
+          count = singles_length s.generals f singles;
+          each = λ g l at.
+              let there = singles_get s.generals f singles g l at in
+              let r = one g there.0 in
+              let same : r.0 ≡ l = (let i : r.0 ∷ [] ≡ l ∷ [] = sym r.1 ∙ there.1 in cc) in
+              let C : Letter → Type 0 = λ m. IsLetterOf s closed g (program_of s g) m × (of g piece ≡ m.transcript) in
+              subst C same (r.2, r.3);
+          entries = made_all s (suc (length closed)) piece made;
+        },
+        singles_sum piece s.generals f (λ g lt. let r = one g lt in (r.0, r.1, r.3)) ∙ total_all s.generals piece (made_below s (suc (length closed)) piece made),
+      ) in
       record { round = both.0; count = both.1 }

@@ -1,13 +1,13 @@
 -- What ticks and posts keep.
-use Rattle.std.proofs.Common.{◌≡◌, ◌≢◌, ℕ, zero, suc, ◌+◌, ◌-◌, ◌<◌, ◌≤◌, List, [], ◌∷◌, ◌++◌, length, Bool, true, false, cond, refl, sym, ap, subst, ◌∙◌, ◌⊎◌, inl, inr, ⊎_elim, Option, Some, None, arith}
+use Rattle.std.proofs.Common.{◌≡◌, ◌≢◌, ℕ, zero, suc, List, [], ◌∷◌, ◌++◌, length, Bool, true, false, cond, refl, sym, ap, subst, ◌∙◌, ◌⊎◌, inl, inr, ⊎_elim, Option, Some, None, arith}
 use Rattle.std.specs.Prelude.{slice_get, slice_set}
 use Rattle.world.specs.Laws.{IsMove, AreMoves}
 use Rattle.world.proofs.Listing.{set-length}
 use Rattle.semantics.specs.declared.request.Request.{Request}
-use Rattle.semantics.specs.State.{State, Outcome, Next, Ask, Exit, Trap}
+use Rattle.semantics.specs.State.{Outcome, Next, Ask, Exit, Trap}
 use Rattle.semantics.specs.Call.{fits}
 use Rattle.semantics.specs.Execution.{step}
-use Rattle.board.specs.Board.{IsBoard, reply, next}
+use Rattle.board.specs.Board.{IsBoard, reply}
 use Rattle.board.proofs.Asking.{IsRequest, asks_within}
 use Rattle.board.proofs.Serving.{reply_fits, next_board}
 use Rattle.world.specs.declared.event.Event.{Event}

@@ -1,5 +1,5 @@
 -- A refused event leaves the world as it was.
-use Rattle.std.proofs.Common.{◌≡◌, ℕ, zero, suc, ◌+◌, List, [], ◌∷◌, length, Bool, true, false, cond, refl, sym, ap, subst, ◌∙◌, Option, Some, None, arith}
+use Rattle.std.proofs.Common.{◌≡◌, ℕ, List, [], ◌∷◌, length, Bool, true, false, cond, refl, sym, ap, ◌∙◌, Option, Some, None, arith}
 use Rattle.std.specs.Prelude.{slice_get}
 use Rattle.world.specs.declared.event.Event.{Event}
 use Rattle.world.specs.declared.event.Event.TheVariants.{Tick, Post, Close}
@@ -7,7 +7,7 @@ use Rattle.world.specs.Scenario.{Scenario, program_of}
 use Rattle.world.specs.Letters.{Letter}
 use Rattle.world.specs.World.{Part, Acting, Silent, Posted, World, each, begins, round_open, opening, ticked, posting, closing, happen, run, Refusal, NotOpen, unfit, named_by, refusal}
 use Rattle.world.specs.Laws.{IsMove}
-use Rattle.world.proofs.Moves.{SameRound, move_same}
+use Rattle.world.proofs.Moves.{move_same}
 
 -- behind the last round nobody has a part
 abbrev IsClear : World → Type 0

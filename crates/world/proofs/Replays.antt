@@ -1,23 +1,15 @@
 -- Named generals make the accesses of a ledger again.
-use Rattle.std.proofs.Common.{◌≡◌, ◌≢◌, ℕ, zero, suc, ◌+◌, ◌-◌, ◌<◌, ◌≤◌, List, [], ◌∷◌, ◌++◌, length, map, Bool, true, false, cond, refl, sym, ap, subst, ◌∙◌, ⊎_elim, Option, Some, None, append_assoc, append-nil, arith}
-use Rattle.std.specs.Prelude.{slice_get, slice_set, replicate, ◌==◌, filter}
-use Rattle.std.proofs.lemmas.Bool.{eq-eqb, ne_eqb}
-use Rattle.std.proofs.lemmas.Bool.Decides.{eqb_tells}
-use Rattle.semantics.specs.declared.request.Request.{Request}
-use Rattle.board.specs.Board.{IsBoard, Access, reply, next, words_after, IsLegal}
-use Rattle.world.specs.declared.event.Event.{Event}
-use Rattle.world.specs.declared.event.Event.TheVariants.{Tick, Post, Close}
-use Rattle.world.specs.Scenario.{Scenario}
+use Rattle.std.proofs.Common.{◌≡◌, ◌≢◌, ℕ, zero, suc, ◌≤◌, List, [], ◌∷◌, ◌++◌, length, true, refl, sym, ap, subst, ◌∙◌, Option, Some, arith}
+use Rattle.std.specs.Prelude.{slice_get, replicate}
+use Rattle.board.specs.Board.{IsBoard, Access, reply, next}
+use Rattle.world.specs.declared.event.Event.TheVariants.{Tick}
 use Rattle.world.specs.Letters.{Letter}
-use Rattle.world.specs.World.{Activation, Turn, Goes, Asks, Ended, turn, Part, Acting, Silent, Posted, World, of, served, ticked, happen, run}
+use Rattle.world.specs.World.{Activation, Turn, Goes, Asks, Ended, turn, Part, Acting, World, served, ticked, happen, run}
 use Rattle.world.specs.Runs.{Onward, Runs}
-use Rattle.world.specs.Lists.{further_turns, until_access, ticks_named, names_events}
-use Rattle.world.specs.Laws.{AreMoves}
+use Rattle.world.specs.Lists.{further_turns, until_access}
 use Rattle.world.proofs.Listing.{set-here, set-other}
-use Rattle.world.proofs.Moves.{moves_same, moves_board, moves_keep, run-append, AllParts}
-use Rattle.world.proofs.Due.{IsGoing, going_zero, over_ended, IsDue, Due, due_lasts}
+use Rattle.world.proofs.Due.{IsGoing, going_zero, over_ended}
 use Rattle.world.proofs.Complete.{Within, WithinAfter, turn_left}
-use Rattle.world.proofs.Lasting.{named_moves, names_moves}
 use Rattle.world.proofs.Ways.{access}
 
 -- the named general's ticks come to his next access, and the others stay where they are
@@ -36,7 +28,7 @@ tick_is w g a o at e = ap (λ (p : Option Part). ticked w g p) at ∙ ap (λ (t 
 reach_by : (fuel : ℕ) (w : World) (g : ℕ) (a : Activation) (x : Access) (t : List Access) (end : Activation) → slice_get w.parts g ≡ Some (Acting a) → IsBoard w.words
     → x.general ≡ g → x.round ≡ suc (length w.closed) → x.reply ≡ reply w.words x.request
     → ((v : World) (b : Activation) (j : ℕ) → slice_get v.parts g ≡ Some (Acting b) → v.words ≡ w.words → v.closed ≡ w.closed → Within fuel b → Runs j b (x ∷ t) end
-        → Comes v (run v (replicate (until_access fuel b) (Tick g))) g x t end)
+    → Comes v (run v (replicate (until_access fuel b) (Tick g))) g x t end)
     → (o : Turn) → turn a ≡ o → WithinAfter fuel o → (k : ℕ) → Onward (Runs k) o (x ∷ t) end
     → Comes w (run w (replicate (further_turns (until_access fuel) o) (Tick g))) g x t end
 reach_by fuel w g a x t end at board by in_round legal again (Goes b) e within k way =
@@ -44,7 +36,12 @@ reach_by fuel w g a x t end at board by in_round legal again (Goes b) e within k
     let c = again v b k (set-here w.parts g (Acting b) (Acting a) at) refl refl within way in
     let V = run v (replicate (until_access fuel b) (Tick g)) in
     let here : Comes w V g x t end = record {
-      ledger = c.ledger; words = c.words; k = c.k; now = c.now; at = c.at; way = c.way;
+      ledger = c.ledger;
+      words = c.words;
+      k = c.k;
+      now = c.now;
+      at = c.at;
+      way = c.way;
       others = λ h ne. c.others h ne ∙ set-other w.parts g h (Acting b) ne;
     } in
     let A : World → Type 0 = λ u. Comes w (run u (replicate (until_access fuel b) (Tick g))) g x t end in
@@ -56,7 +53,8 @@ reach_by fuel w g a x t end at board by in_round legal again (Asks q f) e within
     let here : Comes w (served w g (Asks q f)) g x t end = record {
       ledger = ap (λ (y : Access). w.ledger ++ y ∷ []) made;
       words = ap (next w.words) (sym way.0);
-      k = k; now = f answer;
+      k = k;
+      now = f answer;
       at = set-here w.parts g (Acting (f answer)) (Acting a) at;
       way = (let A : List ℕ → Type 0 = λ r. Runs k (f r) t end in subst A replied way.1);
       others = λ h ne. set-other w.parts g h (Acting (f answer)) ne;
@@ -85,7 +83,7 @@ reach (suc fuel) zero w g a x t end at board by in_round legal within way = absu
 reach (suc fuel) (suc k) w g a x t end at board by in_round legal within way =
     reach_by fuel w g a x t end at board by in_round legal
     (λ v b j at' words closed within' way'. reach fuel j v g b x t end at'
-        (let A : List ℕ → Type 0 = λ ws. IsBoard ws in subst A (sym words) board) by
-        (let A : List (List Letter) → Type 0 = λ c. x.round ≡ suc (length c) in subst A (sym closed) in_round)
-        (let A : List ℕ → Type 0 = λ ws. x.reply ≡ reply ws x.request in subst A (sym words) legal) within' way')
+    (let A : List ℕ → Type 0 = λ ws. IsBoard ws in subst A (sym words) board) by
+    (let A : List (List Letter) → Type 0 = λ c. x.round ≡ suc (length c) in subst A (sym closed) in_round)
+    (let A : List ℕ → Type 0 = λ ws. x.reply ≡ reply ws x.request in subst A (sym words) legal) within' way')
     (turn a) refl (turn_left fuel a within) k way
