@@ -24,3 +24,4 @@ pub mod Converse
 pub mod Replaying
 pub mod Refusing
 mod Example
+pub mod Telling

@@ -1,15 +1,17 @@
 -- What holds of every world. Each statement is the contract of a function of this crate.
-use Rattle.std.specs.Prelude.{ℕ, suc, ◌≡◌, ◌≢◌, ◌<◌, ◌≤◌, true, false, All, IsPermutation, List, [], ◌∷◌, length, flat_map, slice_get, Some}
+use Rattle.std.specs.Prelude.{ℕ, suc, ◌^◌, ◌≡◌, ◌≢◌, ◌<◌, ◌≤◌, true, false, All, IsPermutation, List, [], ◌∷◌, length, flat_map, slice_get, Some}
 use Rattle.insn.specs.declared.insn.Insn.{Insn}
 use Rattle.label.specs.Oral.{IsFaithful, IsBound, Agree}
+use Rattle.label.specs.Relay.{relay}
+use Rattle.semantics.specs.Outbox.{taken_value}
 use Rattle.semantics.specs.State.{Cause, Trap}
 use Rattle.semantics.specs.Execution.{step}
 use Rattle.semantics.specs.declared.request.Request.{Request}
 use Rattle.board.specs.Board.{Access, IsLegal}
 use Rattle.world.specs.declared.event.Event.{Event}
 use Rattle.world.specs.declared.event.Event.TheVariants.{Tick, Post, Close}
-use Rattle.world.specs.Scenario.{Scenario, IsScenario, is_traitor}
-use Rattle.world.specs.Letters.{Letter, messages}
+use Rattle.world.specs.Scenario.{Scenario, IsScenario, is_traitor, shape_of}
+use Rattle.world.specs.Letters.{Letter, messages, value_of, context_of}
 use Rattle.world.specs.World.{Activation, Asks, turn, Part, Acting, World, opening, happen, run, Refusal, refusal}
 use Rattle.world.specs.Runs.{Runs, AreAccounted, IsAccounted}
 use Rattle.world.specs.Lists.{HasPosted, HasEnded, IsPunctual, IsComplete, listed, replayed, names_in}
@@ -92,3 +94,8 @@ pub record AccountsAreRuns : Type 0 where
 -- a refused event leaves the world as it was
 abbrev pub RefusalsChangeNothing : Type 0
 RefusalsChangeNothing = (s : Scenario) (events : List Event) (e : Event) (r : Refusal) → refusal (run (opening s) events) e ≡ Some r → happen (run (opening s) events) e ≡ run (opening s) events
+
+-- a context tells its general what he took for each label that he relays
+abbrev pub ContextsTell : Type 0
+ContextsTell = (s : Scenario) (before : List (List Letter)) (g rank : ℕ) (label : List ℕ) → IsScenario s → g < s.generals → length before ≤ s.bound →
+    slice_get (relay (shape_of s g (suc (length before)))) rank ≡ Some label → value_of s before g label < 2 ^ 32 → taken_value (context_of s before g) rank ≡ value_of s before g label
