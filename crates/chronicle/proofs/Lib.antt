@@ -1,2 +1,5 @@
+pub mod Splitting
+pub mod Plain
+pub mod Naming
 mod Rows
 mod ScheduleRows

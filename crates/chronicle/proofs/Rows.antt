@@ -1,5 +1,5 @@
 -- Campaigns of two to four generals, from the scenario to the chronicle's text. The right sides come from a model of its own.
-use Rattle.std.specs.Prelude.{ℕ, pos, negsuc, ◌≡◌, List, [], ◌∷◌, ◌++◌, flat_map, replicate, codes, Option, None, Some, refl}
+use Rattle.std.specs.Prelude.{ℕ, pos, map, take, negsuc, ◌≡◌, List, [], ◌∷◌, ◌++◌, flat_map, replicate, codes, None, Some, refl}
 use Rattle.std.specs.Fmt.{digits}
 use Rattle.word.specs.declared.Width.TheVariants.{W64}
 use Rattle.word.specs.declared.Operation.TheVariants as op
@@ -11,9 +11,10 @@ use Rattle.label.specs.Labels.{labels}
 use Rattle.label.specs.Oral.{om}
 use Rattle.semantics.specs.Execution.{step}
 use Rattle.world.specs.Scenario.{Scenario}
-use Rattle.world.specs.Letters.{context_bytes, messages}
-use Rattle.world.specs.World.{opening, run}
-use Rattle.world.specs.Lists.{listed}
+use Rattle.world.specs.Letters.{context_bytes, context_of, messages}
+use Rattle.world.specs.World.{NotOpen, NoGeneral, opening, run, refusal}
+use Rattle.world.specs.declared.event.Event.TheVariants.{Tick, Post, Close}
+use Rattle.world.specs.Lists.{listed_rounds, listed}
 use Rattle.world.specs.Chronicle.{decisions, chronicle_of}
 use Rattle.chronicle.specs.Text.{lines_of, text_of}
 
@@ -277,3 +278,147 @@ three_generals : printed three ([]) ≡ lines (
     ∷ [])
 unfolding three liar labels om majority context_bytes messages decisions lines_of text_of step digits
 three_generals = refl
+
+-- he says nothing
+mute : List Insn
+mute =
+    i.Arithmetic W64 op.Move 0 (Immediate (pos 0))
+    ∷ i.Exit
+    ∷ []
+
+-- three generals, one of them a traitor
+three_mute : Scenario
+three_mute = record { generals = 3; bound = 1; commander = 0; order = 1; board = replicate 64 0; programs = None ∷ None ∷ Some mute ∷ [] }
+
+-- what does not come counts as 0, and stands in the list
+three_mute_generals : printed three_mute ([]) ≡ lines (
+    codes "chronicle 1"
+    ∷ codes "generals 3 bound 1 commander 0 order 1"
+    ∷ codes "round 1"
+    ∷ codes "letter 0 loyal"
+    ∷ codes "row 0 1 1"
+    ∷ codes "letter 1 loyal"
+    ∷ codes "letter 2 steps 2"
+    ∷ codes "round 2"
+    ∷ codes "letter 0 loyal"
+    ∷ codes "letter 1 loyal"
+    ∷ codes "row 0 1"
+    ∷ codes "letter 2 steps 2"
+    ∷ codes "row 0 -"
+    ∷ codes "decision 1 0"
+    ∷ codes "decision 2 traitor 1"
+    ∷ codes "verdict alike yes obeyed no bound no"
+    ∷ [])
+unfolding three_mute mute labels om majority context_bytes messages decisions lines_of text_of step digits
+three_mute_generals = refl
+
+-- he makes an access of each kind
+clerk : List Insn
+clerk =
+    i.Arithmetic W64 op.Move 1 (Immediate (pos 3))
+    ∷ i.Arithmetic W64 op.Move 2 (Immediate (pos 8))
+    ∷ i.Call (pos 2)
+    ∷ i.Arithmetic W64 op.Move 1 (Immediate (pos 3))
+    ∷ i.Arithmetic W64 op.Move 2 (Immediate (pos 2))
+    ∷ i.Call (pos 3)
+    ∷ i.Arithmetic W64 op.Move 1 (Immediate (pos 3))
+    ∷ i.Arithmetic W64 op.Move 2 (Immediate (pos 10))
+    ∷ i.Arithmetic W64 op.Move 3 (Immediate (pos 11))
+    ∷ i.Call (pos 4)
+    ∷ i.Arithmetic W64 op.Move 1 (Immediate (pos 3))
+    ∷ i.Arithmetic W64 op.Move 2 (Immediate (pos 10))
+    ∷ i.Arithmetic W64 op.Move 3 (Immediate (pos 12))
+    ∷ i.Call (pos 4)
+    ∷ i.Arithmetic W64 op.Move 1 (Immediate (pos 2))
+    ∷ i.Arithmetic W64 op.Move 2 (Register 10)
+    ∷ i.Arithmetic W64 op.Add 2 (Immediate (negsuc 23))
+    ∷ i.Arithmetic W64 op.Move 3 (Immediate (pos 3))
+    ∷ i.Call (pos 5)
+    ∷ i.Arithmetic W64 op.Move 1 (Immediate (pos 3))
+    ∷ i.Call (pos 1)
+    ∷ i.Exit
+    ∷ []
+
+-- two generals, words on the board
+board : Scenario
+board = record { generals = 2; bound = 0; commander = 0; order = 7; board = 0 ∷ 0 ∷ 6 ∷ 5 ∷ replicate 60 0; programs = None ∷ Some clerk ∷ [] }
+
+-- each kind of access
+each_access : printed board ([]) ≡ lines (
+    codes "chronicle 1"
+    ∷ codes "generals 2 bound 0 commander 0 order 7"
+    ∷ codes "round 1"
+    ∷ codes "access 1 swap 3 8 = 5"
+    ∷ codes "access 1 add 3 2 = 8"
+    ∷ codes "access 1 cas 3 10 11 = 10"
+    ∷ codes "access 1 cas 3 10 12 = 11"
+    ∷ codes "access 1 copy 2 3 = 6 11 0"
+    ∷ codes "access 1 get 3 = 11"
+    ∷ codes "letter 0 loyal"
+    ∷ codes "row 0 7"
+    ∷ codes "letter 1 steps 22"
+    ∷ codes "decision 1 traitor 7"
+    ∷ codes "verdict alike yes obeyed yes bound no"
+    ∷ [])
+unfolding board clerk labels om majority context_bytes messages decisions lines_of text_of step digits
+each_access = refl
+
+-- he is honest to general 1, and tells general 2 the order 9
+half : List Insn
+half =
+    i.Arithmetic W64 op.Move 1 (Immediate (pos 1))
+    ∷ i.Call (pos 9)
+    ∷ i.Arithmetic W64 op.Move 1 (Immediate (pos 0))
+    ∷ i.Arithmetic W64 op.Move 2 (Immediate (pos 2))
+    ∷ i.Arithmetic W64 op.Move 3 (Immediate (pos 9))
+    ∷ i.Call (pos 6)
+    ∷ i.Exit
+    ∷ []
+
+-- four generals, a traitor who is honest to one
+half_honest : Scenario
+half_honest = record { generals = 4; bound = 1; commander = 0; order = 6; board = replicate 64 0; programs = None ∷ None ∷ None ∷ Some half ∷ [] }
+
+-- what he took stands in his context
+honest_to_one : printed half_honest ([]) ≡ lines (
+    codes "chronicle 1"
+    ∷ codes "generals 4 bound 1 commander 0 order 6"
+    ∷ codes "round 1"
+    ∷ codes "letter 0 loyal"
+    ∷ codes "row 0 6 6 6"
+    ∷ codes "letter 1 loyal"
+    ∷ codes "letter 2 loyal"
+    ∷ codes "letter 3 steps 7"
+    ∷ codes "round 2"
+    ∷ codes "letter 0 loyal"
+    ∷ codes "letter 1 loyal"
+    ∷ codes "row 0 6 6"
+    ∷ codes "letter 2 loyal"
+    ∷ codes "row 0 6 6"
+    ∷ codes "letter 3 steps 7"
+    ∷ codes "row 0 6 9"
+    ∷ codes "decision 1 6"
+    ∷ codes "decision 2 6"
+    ∷ codes "decision 3 traitor 6"
+    ∷ codes "verdict alike yes obeyed yes bound yes"
+    ∷ [])
+unfolding half_honest half labels om majority context_bytes messages decisions lines_of text_of step digits
+honest_to_one = refl
+
+-- what general 2 of the four is told in round 2, in bytes
+context_in_round_2 : take 40 (context_of four (run (opening four) (listed_rounds four 1 [])).closed 2) ≡
+    4 ∷ 0 ∷ 0 ∷ 0 ∷ 1 ∷ 0 ∷ 0 ∷ 0 ∷ 2 ∷ 0 ∷ 0 ∷ 0 ∷ 0 ∷ 0 ∷ 0 ∷ 0
+    ∷ 2 ∷ 0 ∷ 0 ∷ 0 ∷ 1 ∷ 0 ∷ 0 ∷ 0 ∷ 2 ∷ 0 ∷ 0 ∷ 0 ∷ 0 ∷ 0 ∷ 0 ∷ 0
+    ∷ 1 ∷ 0 ∷ 0 ∷ 0 ∷ 0 ∷ 0 ∷ 0 ∷ 0 ∷ []
+unfolding four turncoat labels context_bytes messages step
+context_in_round_2 = refl
+
+-- a tick of a loyal general, a post of a traitor and of nobody, and any event behind the last round are refused
+refused_events :
+    map (refusal (opening four)) (Tick 0 ∷ Post 3 ∷ Post 12 ∷ Tick 3 ∷ Post 0 ∷ Close ∷ []) ≡ Some NoGeneral ∷ Some NoGeneral ∷ Some NoGeneral ∷ None ∷ None ∷ None ∷ []
+unfolding four turncoat labels context_bytes messages
+refused_events = refl
+
+refused_behind : map (refusal (run (opening four) (listed four []))) (Tick 3 ∷ Post 0 ∷ Close ∷ []) ≡ Some NotOpen ∷ Some NotOpen ∷ Some NotOpen ∷ []
+unfolding four turncoat labels context_bytes messages step
+refused_behind = refl

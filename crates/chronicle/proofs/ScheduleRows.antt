@@ -1,5 +1,5 @@
 -- Campaigns of seven generals under schedules, from the scenario to the chronicle's text. The right sides come from a model of its own.
-use Rattle.std.specs.Prelude.{ℕ, pos, negsuc, ◌≡◌, List, [], ◌∷◌, ◌++◌, flat_map, replicate, codes, Option, None, Some, refl}
+use Rattle.std.specs.Prelude.{ℕ, pos, map, true, false, ◌≡◌, List, [], ◌∷◌, ◌++◌, flat_map, replicate, codes, None, Some, refl}
 use Rattle.std.specs.Fmt.{digits}
 use Rattle.word.specs.declared.Width.TheVariants.{W64}
 use Rattle.word.specs.declared.Operation.TheVariants as op
@@ -13,7 +13,8 @@ use Rattle.semantics.specs.Execution.{step}
 use Rattle.world.specs.Scenario.{Scenario}
 use Rattle.world.specs.Letters.{context_bytes, messages}
 use Rattle.world.specs.World.{opening, run}
-use Rattle.world.specs.Lists.{listed}
+use Rattle.world.specs.declared.event.Event.TheVariants.{Close}
+use Rattle.world.specs.Lists.{listed_rounds, listed}
 use Rattle.world.specs.Chronicle.{decisions, chronicle_of}
 use Rattle.chronicle.specs.Text.{lines_of, text_of}
 
@@ -294,3 +295,8 @@ two_rounds : printed seven (replicate 15 4 ∷ replicate 15 4 ∷ []) ≡ lines 
     ∷ [])
 unfolding seven counter labels om majority context_bytes messages decisions lines_of text_of step digits
 two_rounds = refl
+
+-- where a round is closed at once, not all loyal generals had posted
+hasty : map (λ w. w.full) (run (opening seven) (Close ∷ []) ∷ run (opening seven) (listed_rounds seven 1 []) ∷ []) ≡ false ∷ true ∷ []
+unfolding seven counter labels context_bytes messages step
+hasty = refl

@@ -1,11 +1,9 @@
 -- Listed and replayed lists of events are punctual and complete.
-use Rattle.std.proofs.Common.{◌≡◌, ◌≢◌, ℕ, zero, suc, ◌+◌, ◌-◌, ◌<◌, ◌≤◌, List, [], ◌∷◌, ◌++◌, length, map, get_or, Bool, true, false, cond, refl, sym, ap, subst, ◌∙◌, ◌⊎◌, inl, inr, ⊎_elim, Option, Some, None, arith, length-append, append_assoc}
-use Rattle.std.specs.Prelude.{slice_get, slice_set, ◌==◌, nat_lt, filter, replicate}
-use Rattle.std.proofs.lemmas.Bool.{lt-ltb}
+use Rattle.std.proofs.Common.{◌≡◌, ◌≢◌, ℕ, zero, suc, ◌<◌, ◌≤◌, List, [], ◌∷◌, ◌++◌, length, true, false, refl, sym, ap, subst, ◌∙◌, ⊎_elim, Option, Some, None, arith}
+use Rattle.std.specs.Prelude.{slice_get, slice_set, ◌==◌, replicate}
 use Rattle.std.proofs.lemmas.Option.{slice_get_within}
 use Rattle.std.proofs.lemmas.Bool.Decides.{eqb_tells}
 use Rattle.insn.specs.declared.insn.Insn.{Insn}
-use Rattle.semantics.specs.declared.request.Request.{Request}
 use Rattle.semantics.specs.Call.{fits}
 use Rattle.board.specs.Board.{IsBoard, reply}
 use Rattle.board.proofs.Serving.{reply_fits, next_board}
@@ -17,9 +15,9 @@ use Rattle.world.specs.Lists.{Throughout, AtClose, HasPosted, HasEnded, post_of,
 use Rattle.world.proofs.Kept.{Fits, IsKept}
 use Rattle.world.proofs.Listing.{set-here}
 use Rattle.world.specs.Laws.{IsMove, AreMoves, IsRipe}
-use Rattle.world.proofs.Moves.{moves-append, SameRound, moves_same, moves_board, run-append, turn_within, AllParts, IsLasting, moves_keep}
+use Rattle.world.proofs.Moves.{moves-append, moves_same, moves_board, run-append, turn_within, AllParts, IsLasting, moves_keep}
 use Rattle.world.proofs.Rounds.{run_kept}
-use Rattle.world.proofs.Due.{IsGoing, IsAfter, TurnsTo, turn_safe, going_zero, over_ended, ended_over, IsDue, Due, due_lasts}
+use Rattle.world.proofs.Due.{IsGoing, TurnsTo, turn_safe, going_zero, over_ended, ended_over, IsDue, Due, due_lasts}
 
 pub throughout-append : (Q : World → Event → Type 0) (es fs : List Event) (w : World) → Throughout Q w es → Throughout Q (run w es) fs → Throughout Q w (es ++ fs)
 throughout-append Q [] fs w a b = b
@@ -35,10 +33,10 @@ moves_throughout Q [] w i = tt
 moves_throughout Q (e ∷ es) w i = (move_at Q w e i.0, moves_throughout Q es (happen w e) i.1)
 
 -- it is over after at most so many turns
-Within : ℕ → Activation → Type 0
+unfoldable pub Within : ℕ → Activation → Type 0
 Within k a = (n : ℕ) × (n ≤ k) × IsGoing n a
 
-abbrev WithinAfter : ℕ → Turn → Type 0
+abbrev pub WithinAfter : ℕ → Turn → Type 0
 WithinAfter k (Goes b) = Within k b
 WithinAfter k (Asks q f) = (r : List ℕ) → fits q r ≡ true → Within k (f r)
 WithinAfter k Ended = Unit {0}
@@ -53,7 +51,7 @@ turns_within n k a (Goes b) le h = (n, le, h.going)
 turns_within n k a (Asks q f) le h = λ r fit. (n, le, (h r fit).going)
 turns_within n k a Ended le h = tt
 
-turn_left : (k : ℕ) (a : Activation) → Within (suc k) a → WithinAfter k (turn a)
+pub turn_left : (k : ℕ) (a : Activation) → Within (suc k) a → WithinAfter k (turn a)
 unfolding Within
 turn_left k a h = by h.0 h.1 h.2
   where
@@ -111,7 +109,7 @@ each_moves : (n : ℕ) (f : ℕ → List Event) → ((g : ℕ) → AreMoves (f g
 each_moves zero f h = tt
 each_moves (suc n) f h = moves-append (each n f) (f n) (each_moves n f h) (h n)
 
-part_within : (ps : List Part) (g : ℕ) → g < length ps → (part : Part) × (slice_get ps g ≡ Some part)
+pub part_within : (ps : List Part) (g : ℕ) → g < length ps → (part : Part) × (slice_get ps g ≡ Some part)
 part_within [] g lt = absurd (omega arith)
 part_within (p ∷ ps) zero lt = (p, refl)
 part_within (p ∷ ps) (suc g) lt = part_within ps g (omega arith)
@@ -126,6 +124,7 @@ fits_lasts s = record { goes = λ g a b q e. fits_go' (program_of s g) a b q; as
     fits_go' : (o : Option (List Insn)) (a b : Activation) → Fits o (Acting a) → Fits o (Acting b)
     fits_go' None a b f = absurd f
     fits_go' (Some p) a b f = tt
+
     fits_post' : (o : Option (List Insn)) → Fits o Silent → Fits o Posted
     fits_post' None f = tt
     fits_post' (Some p) f = absurd f
@@ -144,12 +143,12 @@ brought Q s f lasts moves brings (suc n) w board due fits g part e lt =
     let e' : slice_get (run w' (f n)).parts g ≡ Some part = ap (λ v. slice_get v.parts g) (sym (run-append first (f n) w)) ∙ e in
     ⊎_elim
     (λ (x : (g == n ≡ true) × (g ≡ n)).
-        let there : slice_get (run w' (f n)).parts n ≡ Some part = (let A : ℕ → Type 0 = λ j. slice_get (run w' (f n)).parts j ≡ Some part in subst A x.1 e') in
-        let same = moves_same (f n) w' (moves n) in
-        let old = part_within w'.parts n (let l = slice_get_within (run w' (f n)).parts n part there in let c = same.count in omega arith) in
-        brings n w' old.0 (moves_board first w before board) (moves_keep (Due s) (due_lasts s) first w before board due n old.0 old.1) (moves_keep (FitsIn s) (fits_lasts s) first w before board fits n old.0 old.1) old.1 part there)
+    let there : slice_get (run w' (f n)).parts n ≡ Some part = (let A : ℕ → Type 0 = λ j. slice_get (run w' (f n)).parts j ≡ Some part in subst A x.1 e') in
+    let same = moves_same (f n) w' (moves n) in
+    let old = part_within w'.parts n (let l = slice_get_within (run w' (f n)).parts n part there in let c = same.count in omega arith) in
+    brings n w' old.0 (moves_board first w before board) (moves_keep (Due s) (due_lasts s) first w before board due n old.0 old.1) (moves_keep (FitsIn s) (fits_lasts s) first w before board fits n old.0 old.1) old.1 part there)
     (λ (x : (g == n ≡ false) × (g ≢ n)).
-        moves_keep (λ g part. g < n → Q part) (lasts n) (f n) w' (moves n) (moves_board first w before board) (brought Q s f lasts moves brings n w board due fits) g part e' (let ne = x.1 in omega arith))
+    moves_keep (λ g part. g < n → Q part) (lasts n) (f n) w' (moves n) (moves_board first w before board) (brought Q s f lasts moves brings n w board due fits) g part e' (let ne = x.1 in omega arith))
     (eqb_tells g n)
 
 -- all post, then all end
@@ -174,7 +173,7 @@ post_brings s g w (Acting a) (Some p) fits at part' e = let i : Acting a ≡ par
 post_brings s g w Silent (Some p) fits at part' e = absurd fits
 post_brings s g w Posted (Some p) fits at part' e = absurd fits
 
-due_within : (s : Scenario) (g : ℕ) (p : List Insn) (a : Activation) → program_of s g ≡ Some p → IsDue s g a → Within (length p) a
+pub due_within : (s : Scenario) (g : ℕ) (p : List Insn) (a : Activation) → program_of s g ≡ Some p → IsDue s g a → Within (length p) a
 unfolding Within
 due_within s g p a is d =
     let same : a.program ≡ p = (let e = sym d.program ∙ is in cc) in
@@ -213,5 +212,5 @@ ripens s w is k due =
     let p1 = brought HasPosted s (λ g. post_of g (program_of s g)) posted_lasts (λ g. post_of_moves g (program_of s g)) (λ g v part board d f at part' e. post_brings s g v part (program_of s g) f at part' e) s.generals w k.board due fits in
     let p2 = moves_keep (λ g part. g < s.generals → HasPosted part) (posted_lasts s.generals) (ends s) w1 (ends_moves s) k1.board p1 in
     let e2 = brought HasEnded s (λ g. ticks_of g (program_of s g)) ended_lasts (λ g. ticks_of_moves g (program_of s g)) (λ g v part board d f at part' e. tick_brings s g v part (program_of s g) refl board d f at part' e) s.generals w1 k1.board
-        (moves_keep (Due s) (due_lasts s) (posts s) w (posts_moves s) k.board due) (moves_keep (FitsIn s) (fits_lasts s) (posts s) w (posts_moves s) k.board fits) in
+    (moves_keep (Due s) (due_lasts s) (posts s) w (posts_moves s) k.board due) (moves_keep (FitsIn s) (fits_lasts s) (posts s) w (posts_moves s) k.board fits) in
     record { posted_all = λ g part e. p2 g part e (below g part e); ended_all = λ g part e. e2 g part e (below g part e) }

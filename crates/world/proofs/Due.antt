@@ -1,22 +1,17 @@
 -- Activations of sound programs: they neither trap nor take more steps than the program has instructions.
-use Rattle.std.proofs.Common.{◌≡◌, ◌≢◌, ℕ, zero, suc, ◌+◌, ◌-◌, ◌<◌, ◌≤◌, List, [], ◌∷◌, length, Bool, true, false, cond, refl, sym, ap, subst, ◌∙◌, Option, Some, None, arith}
-use Rattle.std.specs.Prelude.{slice_get}
+use Rattle.std.proofs.Common.{◌≡◌, ℕ, zero, suc, ◌+◌, ◌<◌, ◌≤◌, List, [], ◌∷◌, length, Bool, true, false, cond, refl, sym, ap, subst, ◌∙◌, Option, Some, None, arith}
 use Rattle.insn.specs.declared.insn.Insn.{Insn}
-use Rattle.label.specs.declared.shape.Shape.{Shape}
-use Rattle.label.specs.Relay.{IsShape}
 use Rattle.semantics.specs.declared.request.Request.{Request}
-use Rattle.semantics.specs.State.{Cause, State, Outcome, Next, Ask, Exit, Trap, entry}
-use Rattle.semantics.specs.Outbox.{empty_outbox}
-use Rattle.semantics.specs.Call.{fits, resumed}
+use Rattle.semantics.specs.State.{Outcome, Next, Ask, Exit, Trap}
+use Rattle.semantics.specs.Call.{fits}
 use Rattle.semantics.specs.Execution.{step}
-use Rattle.semantics.specs.Run.{IsContext, IsSound}
 use Rattle.semantics.specs.Safety.{LeadsTo, IsSafe}
 use Rattle.semantics.specs.Whole.{CountsOnce}
 use Rattle.semantics.proofs.StepLaws.{step_counts, resumed_counts}
-use Rattle.semantics.proofs.SafetyLaws.{IsSafe-positive, IsSafe-no_trap, safe_of_sound}
+use Rattle.semantics.proofs.SafetyLaws.{safe_of_sound}
 use Rattle.world.specs.Scenario.{Scenario, IsScenario, program_of, shape_of}
 use Rattle.world.specs.Letters.{Letter, context_of}
-use Rattle.world.specs.World.{Activation, started, Turn, Goes, Asks, Ended, turned, turn, Part, Acting, Silent, Posted, begins, each}
+use Rattle.world.specs.World.{Activation, Turn, Goes, Asks, Ended, turned, turn, Part, Acting, Silent, Posted, begins, each}
 use Rattle.world.proofs.Listing.{each-get_only}
 use Rattle.world.proofs.Moves.{AllParts, IsLasting}
 use Rattle.world.proofs.Contexts.{context_is, shape_is}
@@ -73,7 +68,7 @@ not_ended : (a : Activation) (o : Outcome) → turned a o ≡ Ended → ⊥
 not_ended a (Next s) e = (let f : Goes (record a { state = s }) ≡ Ended = e in cc)
 not_ended a (Ask q s) e = (let f : Asks q _ ≡ Ended = e in cc)
 not_ended a (Exit r0 s) e = (let f : Goes (record a { state = s; over = true }) ≡ Ended = e in cc)
-not_ended a (Trap cause) e = (let f : Goes a ≡ Ended = e in cc)
+not_ended a (Trap cause) e = (let f : Goes _ ≡ Ended = e in cc)
 
 pub ended_over : (a : Activation) → turn a ≡ Ended → a.over ≡ true
 ended_over a e = by a.over e

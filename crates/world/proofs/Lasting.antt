@@ -1,16 +1,16 @@
 -- Listed and replayed lists, round by round.
-use Rattle.std.proofs.Common.{◌≡◌, ◌≢◌, ℕ, zero, suc, ◌+◌, ◌-◌, ◌<◌, ◌≤◌, List, [], ◌∷◌, ◌++◌, length, map, get_or, Bool, true, false, cond, refl, sym, ap, subst, ◌∙◌, Option, Some, None, arith, length-append, append_assoc}
-use Rattle.std.specs.Prelude.{slice_get, nat_lt, filter, replicate}
+use Rattle.std.proofs.Common.{◌≡◌, ℕ, zero, suc, ◌+◌, ◌<◌, ◌≤◌, List, [], ◌∷◌, ◌++◌, length, map, true, refl, sym, ap, subst, ◌∙◌, Option, Some, None, arith, length-append, append_assoc}
+use Rattle.std.specs.Prelude.{slice_get, nat_lt, filter}
 use Rattle.std.proofs.lemmas.Bool.{lt-ltb, ltb-true}
 use Rattle.insn.specs.declared.insn.Insn.{Insn}
 use Rattle.world.specs.declared.event.Event.{Event}
-use Rattle.world.specs.declared.event.Event.TheVariants.{Tick, Post, Close}
+use Rattle.world.specs.declared.event.Event.TheVariants.{Close}
 use Rattle.world.specs.Scenario.{Scenario, IsScenario, program_of}
 use Rattle.world.specs.World.{Part, Acting, Silent, Posted, World, begun, opening, round_open, round_letters, closing, happen, run}
-use Rattle.world.specs.Lists.{first_line, later_lines, Throughout, AtClose, HasPosted, HasEnded, IsPunctual, IsComplete, wound_up, event_of, listed_rounds, listed, ticks_named, names_events, replayed_rounds, replayed}
+use Rattle.world.specs.Lists.{first_line, later_lines, Throughout, AtClose, HasPosted, HasEnded, IsComplete, wound_up, event_of, listed_rounds, listed, ticks_named, names_events, replayed_rounds, replayed}
 use Rattle.world.proofs.Kept.{IsKept}
 use Rattle.world.specs.Laws.{IsMove, AreMoves}
-use Rattle.world.proofs.Moves.{moves-append, SameRound, moves_same, run-append, AllParts, moves_keep}
+use Rattle.world.proofs.Moves.{moves-append, moves_same, run-append, AllParts, moves_keep}
 use Rattle.world.proofs.Rounds.{run_kept, opening_kept, happen_kept}
 use Rattle.world.proofs.Due.{Due, due_lasts, due_parts}
 use Rattle.world.proofs.Complete.{throughout-append, moves_throughout, posts, ends, posts_moves, ends_moves, ripens, ticks_are_moves}
@@ -55,14 +55,14 @@ round_done s sound es w i d less =
     let all = posts s ++ (ends s ++ Close ∷ []) in
     let there : run w1 all ≡ happen w3 Close = run-append (posts s) (ends s ++ Close ∷ []) w1 ∙ run-append (ends s) (Close ∷ []) w2 in
     let closed_is : w3.closed ≡ w.closed =
-        (moves_same (ends s) w2 (ends_moves s)).closed ∙ (moves_same (posts s) w1 (posts_moves s)).closed ∙ (moves_same es w i).closed in
+    (moves_same (ends s) w2 (ends_moves s)).closed ∙ (moves_same (posts s) w1 (posts_moves s)).closed ∙ (moves_same es w i).closed in
     let more : IsOpen w3 = (let A : Scenario → Type 0 = λ t. nat_lt (length w3.closed) (suc t.bound) ≡ true in
-        subst A (sym d3.scenario) (lt-ltb (length w3.closed) (suc s.bound) (let c = ap length closed_is in omega arith))) in
+    subst A (sym d3.scenario) (lt-ltb (length w3.closed) (suc s.bound) (let c = ap length closed_is in omega arith))) in
     let end : run w (es ++ all) ≡ closing w3 = run-append es all w ∙ there ∙ close_open w3 more in
     let thus : (Q : Part → Type 0) → AtClose Q w3 Close → Throughout (AtClose Q) w (es ++ all) =
-        (λ Q q. throughout-append (AtClose Q) es all w (moves_throughout Q es w i)
-        (throughout-append (AtClose Q) (posts s) (ends s ++ Close ∷ []) w1 (moves_throughout Q (posts s) w1 (posts_moves s))
-        (throughout-append (AtClose Q) (ends s) (Close ∷ []) w2 (moves_throughout Q (ends s) w2 (ends_moves s)) (q, tt)))) in
+    (λ Q q. throughout-append (AtClose Q) es all w (moves_throughout Q es w i)
+    (throughout-append (AtClose Q) (posts s) (ends s ++ Close ∷ []) w1 (moves_throughout Q (posts s) w1 (posts_moves s))
+    (throughout-append (AtClose Q) (ends s) (Close ∷ []) w2 (moves_throughout Q (ends s) w2 (ends_moves s)) (q, tt)))) in
     let closing_due : IsOnTime s (closing w3) = record {
       scenario = d3.scenario;
       kept = (let A : World → Type 0 = λ v. IsKept v in subst A (close_open w3 more) (happen_kept w3 Close d3.kept));
@@ -115,7 +115,7 @@ listed_complete s sound lines =
     let r = listed_ends s sound (suc s.bound) lines (opening s) (opening_due s sound) (omega arith) in
     record { punctual = r.punctual; ended = r.ended; closed = r.closed }
 
-named_moves : (g : ℕ) (part : Option Part) → AreMoves (ticks_named g part)
+pub named_moves : (g : ℕ) (part : Option Part) → AreMoves (ticks_named g part)
 named_moves g None = tt
 named_moves g (Some (Acting a)) = ticks_are_moves _ g
 named_moves g (Some Silent) = tt

@@ -13,3 +13,15 @@ pub mod Untrapped
 pub mod Runnings
 pub mod Ways
 pub mod Deciding
+pub mod Stepping
+pub mod Replays
+pub mod Following
+pub mod Cutting
+pub mod Again
+pub mod Accounting
+pub mod Made
+pub mod Converse
+pub mod Replaying
+pub mod Refusing
+mod Example
+pub mod Telling

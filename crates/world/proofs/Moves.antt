@@ -1,13 +1,13 @@
 -- What ticks and posts keep.
-use Rattle.std.proofs.Common.{◌≡◌, ◌≢◌, ℕ, zero, suc, ◌+◌, ◌-◌, ◌<◌, ◌≤◌, List, [], ◌∷◌, ◌++◌, length, Bool, true, false, cond, refl, sym, ap, subst, ◌∙◌, ◌⊎◌, inl, inr, ⊎_elim, Option, Some, None, arith}
+use Rattle.std.proofs.Common.{◌≡◌, ◌≢◌, ℕ, zero, suc, List, [], ◌∷◌, ◌++◌, length, Bool, true, false, cond, refl, sym, ap, subst, ◌∙◌, ◌⊎◌, inl, inr, ⊎_elim, Option, Some, None, arith}
 use Rattle.std.specs.Prelude.{slice_get, slice_set}
 use Rattle.world.specs.Laws.{IsMove, AreMoves}
 use Rattle.world.proofs.Listing.{set-length}
 use Rattle.semantics.specs.declared.request.Request.{Request}
-use Rattle.semantics.specs.State.{State, Outcome, Next, Ask, Exit, Trap}
+use Rattle.semantics.specs.State.{Outcome, Next, Ask, Exit, Trap}
 use Rattle.semantics.specs.Call.{fits}
 use Rattle.semantics.specs.Execution.{step}
-use Rattle.board.specs.Board.{IsBoard, reply, next}
+use Rattle.board.specs.Board.{IsBoard, reply}
 use Rattle.board.specs.Requests.{IsRequest}
 use Rattle.board.proofs.Asking.{asks_within}
 use Rattle.board.proofs.Serving.{reply_fits, next_board}
@@ -77,7 +77,7 @@ turned_within a (Ask r s) is q f e =
     let same : r ≡ q = (let g : Asks r _ ≡ Asks q f = e in cc) in
     (let A : Request → Type 0 = λ x. IsRequest x in subst A same (asks_within a.program a.context a.shape a.state s r is))
 turned_within a (Exit r0 s) is q f e = absurd (let g : Goes (record a { state = s; over = true }) ≡ Asks q f = e in cc)
-turned_within a (Trap cause) is q f e = absurd (let g : Goes a ≡ Asks q f = e in cc)
+turned_within a (Trap cause) is q f e = absurd (let g : Goes _ ≡ Asks q f = e in cc)
 
 pub turn_within : (a : Activation) (q : Request) (f : List ℕ → Activation) → turn a ≡ Asks q f → IsRequest q
 turn_within a q f e = by a.over e

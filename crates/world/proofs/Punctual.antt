@@ -1,5 +1,5 @@
 -- Punctual lists leave a full world, and no event changes the scenario.
-use Rattle.std.proofs.Common.{◌≡◌, ℕ, zero, suc, ◌+◌, ◌-◌, List, [], ◌∷◌, Bool, true, false, cond, refl, sym, ap, subst, ◌∙◌, Option, Some, None, ⊎_elim}
+use Rattle.std.proofs.Common.{◌≡◌, ℕ, suc, List, [], ◌∷◌, Bool, true, false, cond, refl, ap, ◌∙◌, Some}
 use Rattle.std.specs.Prelude.{slice_get, ◌&&◌}
 use Rattle.std.specs.List.{list_all}
 use Rattle.world.specs.declared.event.Event.{Event}
@@ -7,10 +7,9 @@ use Rattle.world.specs.declared.event.Event.TheVariants.{Tick, Post, Close}
 use Rattle.world.specs.Scenario.{Scenario}
 use Rattle.world.specs.World.{Part, has_posted, World, opening, round_open, closing, happen, run}
 use Rattle.world.specs.Lists.{Throughout, AtClose, HasPosted, IsPunctual}
-use Rattle.world.proofs.Listing.{either_way}
 use Rattle.world.proofs.Moves.{move_same}
 
-all_posted : (parts : List Part) → ((g : ℕ) (part : Part) → slice_get parts g ≡ Some part → HasPosted part) → list_all has_posted parts ≡ true
+pub all_posted : (parts : List Part) → ((g : ℕ) (part : Part) → slice_get parts g ≡ Some part → HasPosted part) → list_all has_posted parts ≡ true
 all_posted [] h = refl
 all_posted (p ∷ ps) h = rw (h 0 p refl) (all_posted ps (λ g part e. h (suc g) part e))
 

@@ -1,13 +1,12 @@
 -- What every run keeps, and agreement where all rounds are closed and full.
-use Rattle.std.proofs.Common.{◌≡◌, ◌≢◌, ℕ, zero, suc, ◌+◌, ◌-◌, ◌<◌, ◌≤◌, List, [], ◌∷◌, ◌++◌, length, take, map, get_or, Bool, true, false, cond, refl, sym, ap, subst, ◌∙◌, ◌⊎◌, inl, inr, ⊎_elim, Option, Some, None, arith, length-append}
-use Rattle.std.specs.Prelude.{is_some, find, slice_get, slice_set, ◌==◌, ◌&&◌, nat_lt}
+use Rattle.std.proofs.Common.{◌≡◌, ◌≢◌, ℕ, zero, suc, ◌<◌, ◌≤◌, List, [], ◌∷◌, ◌++◌, length, take, get_or, Bool, true, false, cond, refl, sym, ap, subst, ◌∙◌, ⊎_elim, Option, Some, None, arith, length-append}
+use Rattle.std.specs.Prelude.{is_some, find, slice_get, ◌==◌}
 use Rattle.std.specs.List.{list_all}
-use Rattle.std.proofs.lemmas.Bool.{eq-eqb, ne_eqb, and_parts, ltb-true, ltb-false, lt-ltb}
+use Rattle.std.proofs.lemmas.Bool.{eq-eqb, ne_eqb, and_parts, ltb-true, lt-ltb}
 use Rattle.std.proofs.lemmas.Bool.Decides.{eqb_tells}
-use Rattle.combine.specs.Rule.{IsMajorityRule, majority}
+use Rattle.combine.specs.Rule.{majority}
 use Rattle.combine.specs.Laws.{majority_is_rule}
-use Rattle.label.specs.Oral.{IsFaithful, IsBound, Agree, om}
-use Rattle.book.specs.Theorem.{AgreementHolds}
+use Rattle.label.specs.Oral.{IsFaithful, IsBound, Agree}
 use Rattle.book.proofs.Induction.{holds}
 use Rattle.insn.specs.declared.insn.Insn.{Insn}
 use Rattle.board.specs.Board.{IsBoard}
@@ -15,13 +14,13 @@ use Rattle.world.specs.declared.event.Event.{Event}
 use Rattle.world.specs.declared.event.Event.TheVariants.{Tick, Post, Close}
 use Rattle.world.specs.Scenario.{Scenario, program_of, is_traitor}
 use Rattle.world.specs.Letters.{Letter, loyal_letter, letter_of, messages}
-use Rattle.world.specs.World.{Activation, Goes, Asks, Ended, Part, Acting, Silent, Posted, has_posted, World, begins, begun, opening, round_open, letters_at, round_letters, closing, happen, run, each}
+use Rattle.world.specs.World.{Activation, Part, Acting, Silent, Posted, has_posted, World, begins, opening, round_open, letters_at, round_letters, closing, happen, run, each}
 use Rattle.world.specs.Chronicle.{decision}
 use Rattle.world.proofs.Kept.{Fits, Tells, IsKept}
 use Rattle.world.proofs.Listing.{each-find, each-get_only, each-length, all-at, take-front, take-whole, get_or-left, get_or-seam, either_way}
 use Rattle.world.proofs.Faithful.{faithful}
 use Rattle.world.specs.Laws.{IsMove}
-use Rattle.world.proofs.Moves.{SameRound, move_same, AllParts, IsLasting, move_keeps, move_board}
+use Rattle.world.proofs.Moves.{move_same, AllParts, IsLasting, move_keeps, move_board}
 
 Suits : Scenario → ℕ → Part → Type 0
 Suits s g part = (g < s.generals) × Fits (program_of s g) part
@@ -92,7 +91,7 @@ told_now w k more all g lt loyal =
     each-find w.scenario.generals (λ l. l.general == g) (λ j. letters_at w j (slice_get w.parts j)) g _ lt
     (λ j ne. not_his w g j (slice_get w.parts j) ne)
     (ap (λ o. find (λ l. l.general == g) (letters_at w g o)) part.1
-        ∙ his w g (program_of w.scenario g) part.0 loyal (k.parts g part.0 part.1).1 (all-at has_posted w.parts g part.0 all part.1))
+    ∙ his w g (program_of w.scenario g) part.0 loyal (k.parts g part.0 part.1).1 (all-at has_posted w.parts g part.0 all part.1))
 
 tells_more : (s : Scenario) (rounds : List (List Letter)) (ls : List Letter) (g : ℕ) → Tells s rounds g
     → letter_of ls g ≡ Some (loyal_letter s rounds g) → Tells s (rounds ++ ls ∷ []) g

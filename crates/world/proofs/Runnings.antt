@@ -1,6 +1,6 @@
 -- Runs of activations, and the accesses of one general.
-use Rattle.std.proofs.Common.{◌≡◌, ◌≢◌, ℕ, zero, suc, ◌+◌, ◌-◌, ◌<◌, ◌≤◌, List, [], ◌∷◌, ◌++◌, length, Bool, true, false, cond, refl, sym, ap, subst, ◌∙◌, ⊎_elim, append_assoc, append-nil, arith}
-use Rattle.std.specs.Prelude.{◌==◌, filter}
+use Rattle.std.proofs.Common.{◌≡◌, ◌≢◌, ℕ, zero, suc, List, [], ◌∷◌, ◌++◌, true, false, refl, sym, ap, subst, ◌∙◌, ⊎_elim, append-nil}
+use Rattle.std.specs.Prelude.{◌==◌}
 use Rattle.std.proofs.lemmas.Bool.{eq-eqb, ne_eqb}
 use Rattle.std.proofs.lemmas.Bool.Decides.{eqb_tells}
 use Rattle.semantics.specs.declared.request.Request.{Request}
@@ -81,4 +81,3 @@ of_mine g piece a e = of_snoc g piece a ∙ ap (λ l. of g piece ++ l) (rw (eq-e
 
 pub of_other : (g : ℕ) (piece : List Access) (a : Access) → a.general ≢ g → of g (piece ++ a ∷ []) ≡ of g piece
 of_other g piece a e = of_snoc g piece a ∙ ap (λ l. of g piece ++ l) (rw (ne_eqb a.general g e) refl) ∙ append-nil (of g piece)
-

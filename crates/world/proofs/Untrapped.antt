@@ -1,8 +1,7 @@
 -- In every run no activation traps, and none takes more steps than its program has instructions.
-use Rattle.std.proofs.Common.{◌≡◌, ◌≢◌, ℕ, zero, suc, ◌+◌, ◌-◌, ◌<◌, ◌≤◌, List, [], ◌∷◌, ◌++◌, length, Bool, true, false, cond, refl, sym, ap, subst, ◌∙◌, Option, Some, None, arith, All}
-use Rattle.std.specs.Prelude.{slice_get, nat_lt}
+use Rattle.std.proofs.Common.{◌≡◌, ◌≢◌, ℕ, zero, suc, ◌<◌, List, [], ◌∷◌, ◌++◌, length, Bool, true, false, cond, refl, sym, ap, subst, ◌∙◌, Option, Some, None, arith, All}
+use Rattle.std.specs.Prelude.{slice_get}
 use Rattle.std.proofs.lemmas.List.Elements.{All-append}
-use Rattle.insn.specs.declared.insn.Insn.{Insn}
 use Rattle.semantics.specs.State.{Cause, Outcome, Trap}
 use Rattle.semantics.specs.Execution.{step}
 use Rattle.semantics.specs.Safety.{LeadsTo}
@@ -12,10 +11,9 @@ use Rattle.world.specs.declared.event.Event.TheVariants.{Tick, Post, Close}
 use Rattle.world.specs.Scenario.{Scenario, IsScenario, program_of}
 use Rattle.world.specs.Letters.{Letter, loyal_letter}
 use Rattle.world.specs.World.{Activation, Part, Acting, Silent, Posted, World, each, begun, opening, round_open, letters_at, round_letters, closing, happen, run}
-use Rattle.world.specs.Laws.{IsMove, IsShort}
-use Rattle.world.proofs.Kept.{IsKept}
+use Rattle.world.specs.Laws.{IsShort}
 use Rattle.world.proofs.Moves.{AllParts, move_same}
-use Rattle.world.proofs.Rounds.{closing_kept, happen_kept}
+use Rattle.world.proofs.Rounds.{closing_kept}
 use Rattle.world.proofs.Due.{IsDue, Due, due_parts}
 use Rattle.world.proofs.Lasting.{IsOnTime, moves_due, opening_due, few}
 
@@ -47,7 +45,7 @@ pub record IsHeld (s : Scenario) (w : World) : Type 0 where
   pub timely : IsOnTime s w
   pub short : All (λ letters. All IsShort letters) w.closed
 
-closing_due : (s : Scenario) (w : World) → IsScenario s → IsOnTime s w → length w.closed < suc w.scenario.bound → IsOnTime s (closing w)
+pub closing_due : (s : Scenario) (w : World) → IsScenario s → IsOnTime s w → length w.closed < suc w.scenario.bound → IsOnTime s (closing w)
 closing_due s w is t more =
     let closed' = w.closed ++ round_letters w ∷ [] in
     record {

@@ -1,19 +1,19 @@
 -- What a round's moves keep, and that the ledger determines the world where a round is ripe.
-use Rattle.std.proofs.Common.{◌≡◌, ◌≢◌, ℕ, zero, suc, ◌+◌, ◌-◌, ◌<◌, ◌≤◌, List, [], ◌∷◌, ◌++◌, length, Bool, true, false, cond, refl, sym, ap, subst, ◌∙◌, ◌⊎◌, inl, inr, ⊎_elim, Option, Some, None, append_assoc, append-nil, arith}
-use Rattle.std.specs.Prelude.{slice_get, slice_set, ◌==◌, filter}
+use Rattle.std.proofs.Common.{◌≡◌, ◌≢◌, ℕ, suc, List, [], ◌∷◌, ◌++◌, length, refl, sym, ap, subst, ◌∙◌, ⊎_elim, Option, Some, None, append_assoc, append-nil, arith}
+use Rattle.std.specs.Prelude.{slice_get}
 use Rattle.insn.specs.declared.insn.Insn.{Insn}
 use Rattle.semantics.specs.declared.request.Request.{Request}
 use Rattle.board.specs.Board.{Access, reply, next, words_after, IsLegal}
 use Rattle.board.proofs.Histories.{words_after-snoc, IsLegal-snoc}
 use Rattle.world.specs.declared.event.Event.{Event}
 use Rattle.world.specs.declared.event.Event.TheVariants.{Tick, Post, Close}
-use Rattle.world.specs.Scenario.{Scenario, program_of}
+use Rattle.world.specs.Scenario.{program_of}
 use Rattle.world.specs.World.{Activation, Turn, Goes, Asks, Ended, turn, Part, Acting, Silent, Posted, World, of, served, ticked, posting, happen, run}
 use Rattle.world.specs.Runs.{Onward, Runs}
 use Rattle.world.specs.Lists.{HasPosted, HasEnded}
 use Rattle.world.proofs.Kept.{Fits}
 use Rattle.world.specs.Laws.{IsMove, AreMoves}
-use Rattle.world.proofs.Moves.{set-cases, SameRound, moves_same}
+use Rattle.world.proofs.Moves.{set-cases, SameRound}
 use Rattle.world.proofs.Due.{over_ended}
 use Rattle.world.proofs.Runnings.{StopsAt, Runs-snoc, Runs-same, of_mine, of_other}
 
@@ -42,13 +42,16 @@ module _ (first : World) where
 
   one : (g : ℕ) (w : World) (a : Activation) → slice_get w.parts g ≡ Some (Acting a) → Midst w → (o : Turn) → turn a ≡ o → Midst (served w g o)
   one g w a at d (Goes b) e = record {
-    piece = d.piece; ledger = d.ledger; words_are = d.words_are; legal = d.legal;
+    piece = d.piece;
+    ledger = d.ledger;
+    words_are = d.words_are;
+    legal = d.legal;
     ways = λ h x is. ⊎_elim
         (λ (q : (h ≡ g) × (Acting x ≡ Acting b)).
-            let r : b ≡ x = (let t = q.1 in cc) in
-            let A : ℕ → Activation → Type 0 = λ j y. Came d.piece j y in
-            subst (λ (j : ℕ). A j x) (sym q.0) (subst (λ (y : Activation). A g y) r
-            (further d.piece g a b [] (d.ways g a at) (let B : Turn → Type 0 = λ v. Onward (StopsAt) v [] b in subst B (sym e) (refl, refl)) d.piece (sym (append-nil (of g d.piece))))))
+        let r : b ≡ x = (let t = q.1 in cc) in
+        let A : ℕ → Activation → Type 0 = λ j y. Came d.piece j y in
+        subst (λ (j : ℕ). A j x) (sym q.0) (subst (λ (y : Activation). A g y) r
+        (further d.piece g a b [] (d.ways g a at) (let B : Turn → Type 0 = λ v. Onward (StopsAt) v [] b in subst B (sym e) (refl, refl)) d.piece (sym (append-nil (of g d.piece))))))
         (λ (q : (h ≢ g) × (slice_get w.parts h ≡ Some (Acting x))). d.ways h x q.1)
         (set-cases w.parts g h (Acting b) (Acting x) is);
   }
@@ -62,13 +65,13 @@ module _ (first : World) where
         legal = IsLegal-snoc first.words d.piece x' d.legal (ap (λ v. reply v q) d.words_are);
         ways = λ h x is. ⊎_elim
             (λ (t : (h ≡ g) × (Acting x ≡ Acting b)).
-                let r : b ≡ x = (let u = t.1 in cc) in
-                let A : ℕ → Activation → Type 0 = λ j y. Came (d.piece ++ x' ∷ []) j y in
-                subst (λ (j : ℕ). A j x) (sym t.0) (subst (λ (y : Activation). A g y) r
-                (further d.piece g a b (x' ∷ []) (d.ways g a at) (let B : Turn → Type 0 = λ v. Onward (StopsAt) v (x' ∷ []) b in subst B (sym e) (refl, (refl, refl))) (d.piece ++ x' ∷ []) (of_mine g d.piece x' refl))))
+            let r : b ≡ x = (let u = t.1 in cc) in
+            let A : ℕ → Activation → Type 0 = λ j y. Came (d.piece ++ x' ∷ []) j y in
+            subst (λ (j : ℕ). A j x) (sym t.0) (subst (λ (y : Activation). A g y) r
+            (further d.piece g a b (x' ∷ []) (d.ways g a at) (let B : Turn → Type 0 = λ v. Onward (StopsAt) v (x' ∷ []) b in subst B (sym e) (refl, (refl, refl))) (d.piece ++ x' ∷ []) (of_mine g d.piece x' refl))))
             (λ (t : (h ≢ g) × (slice_get w.parts h ≡ Some (Acting x))).
-                let c = d.ways h x t.1 in
-                (c.0, c.1, c.2, (let A : List Access → Type 0 = λ l. Runs c.0 c.1 l x in subst A (sym (of_other h d.piece x' (λ s. t.0 (sym s)))) c.3)))
+            let c = d.ways h x t.1 in
+            (c.0, c.1, c.2, (let A : List Access → Type 0 = λ l. Runs c.0 c.1 l x in subst A (sym (of_other h d.piece x' (λ s. t.0 (sym s)))) c.3)))
             (set-cases w.parts g h (Acting b) (Acting x) is);
       }
   one g w a at d Ended e = d
@@ -86,7 +89,10 @@ module _ (first : World) where
   post_midst w g d None e = d
   post_midst w g d (Some (Acting a)) e = d
   post_midst w g d (Some Silent) e = record {
-    piece = d.piece; ledger = d.ledger; words_are = d.words_are; legal = d.legal;
+    piece = d.piece;
+    ledger = d.ledger;
+    words_are = d.words_are;
+    legal = d.legal;
     ways = λ h x is. ⊎_elim
         (λ (q : (h ≡ g) × (Acting x ≡ Posted)). absurd (not_acting x (sym q.1)))
         (λ (q : (h ≢ g) × (slice_get w.parts h ≡ Some (Acting x))). d.ways h x q.1)
@@ -94,7 +100,7 @@ module _ (first : World) where
   }
   post_midst w g d (Some Posted) e = d
 
-  move_midst : (w : World) (e : Event) → IsMove e → Midst w → Midst (happen w e)
+  pub move_midst : (w : World) (e : Event) → IsMove e → Midst w → Midst (happen w e)
   move_midst w (Tick g) i d = tick_midst w g d (slice_get w.parts g) refl
   move_midst w (Post g) i d = post_midst w g d (slice_get w.parts g) refl
   move_midst w Close i d = absurd i
@@ -142,9 +148,9 @@ module _ (first : World) where
   same_end v w sv sw dv dw rv rw' e =
       let piece : dv.piece ≡ dw.piece = same_front first.ledger dv.piece dw.piece (sym dv.ledger ∙ e ∙ dw.ledger) in
       let parts : v.parts ≡ w.parts = same_list v.parts w.parts (sv.count ∙ sym sw.count) (λ g x y a b.
-          part_same dw.piece g (program_of first.scenario g) x y (rv.fits g x a) (rw'.fits g y b) (rv.posted_all g x a) (rw'.posted_all g y b) (rv.ended_all g x a) (rw'.ended_all g y b)
-          (λ s h. (let A : List Access → Type 0 = λ p. Came p g s in subst A piece (dv.ways g s (a ∙ ap Some h))))
-          (λ s h. dw.ways g s (b ∙ ap Some h))) in
+      part_same dw.piece g (program_of first.scenario g) x y (rv.fits g x a) (rw'.fits g y b) (rv.posted_all g x a) (rw'.posted_all g y b) (rv.ended_all g x a) (rw'.ended_all g y b)
+      (λ s h. (let A : List Access → Type 0 = λ p. Came p g s in subst A piece (dv.ways g s (a ∙ ap Some h))))
+      (λ s h. dw.ways g s (b ∙ ap Some h))) in
       λ i. record {
         scenario = (sv.scenario ∙ sym sw.scenario) i;
         closed = (sv.closed ∙ sym sw.closed) i;

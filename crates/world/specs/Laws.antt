@@ -1,19 +1,21 @@
 -- What holds of every world. Each statement is the contract of a function of this crate.
-use Rattle.std.specs.Prelude.{ℕ, suc, ◌≡◌, ◌≢◌, ◌<◌, ◌≤◌, true, false, All, List, [], ◌∷◌, length, slice_get, Some}
+use Rattle.std.specs.Prelude.{ℕ, suc, ◌^◌, ◌≡◌, ◌≢◌, ◌<◌, ◌≤◌, true, false, All, IsPermutation, List, [], ◌∷◌, length, flat_map, slice_get, Some}
 use Rattle.insn.specs.declared.insn.Insn.{Insn}
 use Rattle.label.specs.Oral.{IsFaithful, IsBound, Agree}
+use Rattle.label.specs.Relay.{relay}
+use Rattle.semantics.specs.Outbox.{taken_value}
 use Rattle.semantics.specs.State.{Cause, Trap}
 use Rattle.semantics.specs.Execution.{step}
 use Rattle.semantics.specs.declared.request.Request.{Request}
-use Rattle.board.specs.Board.{Access}
+use Rattle.board.specs.Board.{Access, IsLegal}
 use Rattle.world.specs.declared.event.Event.{Event}
 use Rattle.world.specs.declared.event.Event.TheVariants.{Tick, Post, Close}
-use Rattle.world.specs.Scenario.{Scenario, IsScenario, is_traitor}
-use Rattle.world.specs.Letters.{Letter, messages}
-use Rattle.world.specs.World.{Activation, Asks, turn, Part, Acting, World, opening, run}
-use Rattle.world.specs.Runs.{Runs}
-use Rattle.world.specs.Lists.{HasPosted, HasEnded, IsPunctual, IsComplete, listed, replayed}
-use Rattle.world.specs.Chronicle.{decision}
+use Rattle.world.specs.Scenario.{Scenario, IsScenario, is_traitor, shape_of}
+use Rattle.world.specs.Letters.{Letter, messages, value_of, context_of}
+use Rattle.world.specs.World.{Activation, Asks, turn, Part, Acting, World, opening, happen, run, Refusal, refusal}
+use Rattle.world.specs.Runs.{Runs, AreAccounted, IsAccounted}
+use Rattle.world.specs.Lists.{HasPosted, HasEnded, IsPunctual, IsComplete, listed, replayed, names_in}
+use Rattle.world.specs.Chronicle.{decision, chronicle_of}
 
 -- all rounds are closed, and in each of them every loyal general had posted
 pub record IsWhole (w : World) : Type 0 where
@@ -68,3 +70,32 @@ pub record LedgersDecide : Type 0 where
       run (run (opening s) before) events ≡ run (run (opening s) before) others
   pub requests : (k j : ℕ) (start one two : Activation) (transcript : List Access) (request other : Request) (answered resumed : List ℕ → Activation) →
       Runs k start transcript one → Runs j start transcript two → turn one ≡ Asks request answered → turn two ≡ Asks other resumed → request ≡ other
+
+-- the world of the replay of a ledger
+abbrev pub replay_of : Scenario → List Access → World
+replay_of s ledger = run (opening s) (replayed s (names_in 1 ledger (suc s.bound)))
+
+-- a complete run is the replay of its own accesses, and so its chronicle is that of the replay
+pub record RunsAreReplays : Type 0 where
+  pub worlds : (s : Scenario) (events : List Event) → IsScenario s → IsComplete s events → replay_of s (run (opening s) events).ledger ≡ run (opening s) events
+  pub chronicles : (s : Scenario) (events : List Event) → IsScenario s → IsComplete s events → chronicle_of (run (opening s) events) ≡ chronicle_of (replay_of s (run (opening s) events).ledger)
+
+-- letters that a legal ledger accounts for are those of its replay, which is a complete run, and there are no others; a complete run's own letters are so
+pub record AccountsAreRuns : Type 0 where
+  pub rounds : (s : Scenario) (ledger : List Access) (rounds : List (List Letter)) → IsScenario s → IsLegal s.board ledger → AreAccounted s [] ledger rounds →
+      ((replay_of s ledger).closed ≡ rounds) × ((replay_of s ledger).ledger ≡ ledger)
+  pub letters : (s : Scenario) (ledger : List Access) (letters : List Letter) → IsScenario s → IsLegal s.board ledger → IsAccounted s ledger letters →
+      IsPermutation (flat_map (λ round. round) (replay_of s ledger).closed) letters
+  pub same : (s : Scenario) (ledger : List Access) (letters others : List Letter) → IsScenario s → IsLegal s.board ledger → IsAccounted s ledger letters → IsAccounted s ledger others →
+      IsPermutation letters others
+  pub own : (s : Scenario) (events : List Event) → IsScenario s → IsComplete s events →
+      IsLegal s.board (run (opening s) events).ledger × AreAccounted s [] (run (opening s) events).ledger (run (opening s) events).closed
+
+-- a refused event leaves the world as it was
+abbrev pub RefusalsChangeNothing : Type 0
+RefusalsChangeNothing = (s : Scenario) (events : List Event) (e : Event) (r : Refusal) → refusal (run (opening s) events) e ≡ Some r → happen (run (opening s) events) e ≡ run (opening s) events
+
+-- a context tells its general what he took for each label that he relays
+abbrev pub ContextsTell : Type 0
+ContextsTell = (s : Scenario) (before : List (List Letter)) (g rank : ℕ) (label : List ℕ) → IsScenario s → g < s.generals → length before ≤ s.bound →
+    slice_get (relay (shape_of s g (suc (length before)))) rank ≡ Some label → value_of s before g label < 2 ^ 32 → taken_value (context_of s before g) rank ≡ value_of s before g label

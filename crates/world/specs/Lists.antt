@@ -5,7 +5,7 @@ use Rattle.board.specs.Board.{Access}
 use Rattle.world.specs.declared.event.Event.{Event}
 use Rattle.world.specs.declared.event.Event.TheVariants.{Tick, Post, Close}
 use Rattle.world.specs.Scenario.{Scenario, program_of}
-use Rattle.world.specs.World.{Activation, Turn, Goes, Asks, Ended, turn, Part, Acting, Silent, Posted, has_posted, World, each, opening, happen, run}
+use Rattle.world.specs.World.{Activation, Turn, Goes, Asks, Ended, turn, Part, Acting, has_posted, World, each, opening, happen, run}
 
 -- a property of the world before each event
 abbrev pub Throughout : (World → Event → Type 0) → World → List Event → Type 0

@@ -1,5 +1,5 @@
 -- The world of a campaign, as a fold of events (own).
-use Rattle.std.specs.Prelude.{ℕ, zero, suc, nat_lt, ◌==◌, ◌&&◌, cond, Bool, true, false, List, [], ◌∷◌, ◌++◌, length, drop, filter, slice_get, slice_set, Option, None, Some}
+use Rattle.std.specs.Prelude.{ℕ, zero, suc, ◌+◌, nat_lt, ◌==◌, ◌&&◌, cond, Bool, true, false, List, [], ◌∷◌, ◌++◌, length, drop, filter, slice_get, slice_set, Option, None, Some}
 use Rattle.std.specs.List.{list_all}
 use Rattle.insn.specs.declared.insn.Insn.{Insn}
 use Rattle.label.specs.declared.shape.Shape.{Shape}
@@ -31,12 +31,12 @@ pub data Turn : Type 0 where
   Asks : Request → (List ℕ → Activation) → Turn
   Ended : Turn
 
--- a trap would stay where it is and never end
+-- a trap would count its step, stay where it is and never end
 abbrev pub turned : Activation → Outcome → Turn
 turned a (Next s) = Goes (record a { state = s })
 turned a (Ask request s) = Asks request (λ answer. record a { state = resumed request answer s })
 turned a (Exit r0 s) = Goes (record a { state = s; over = true })
-turned a (Trap cause) = Goes a
+turned a (Trap cause) = Goes (record a { state = record a.state { steps = a.state.steps + 1 } })
 
 abbrev pub turn : Activation → Turn
 turn a = cond a.over Ended (turned a (step a.program a.context a.shape a.state))

@@ -5,4 +5,7 @@ mod event;
 mod laws;
 
 pub use event::Event;
-pub use laws::{activations_are_safe, ledgers_decide, lists_are_complete, worlds_agree};
+pub use laws::{
+    accounts_are_runs, activations_are_safe, contexts_tell, ledgers_decide, lists_are_complete,
+    refusals_change_nothing, runs_are_replays, worlds_agree,
+};

@@ -1,4 +1,3 @@
-use Rattle.std.proofs.Common.{◌+◌, ◌≤◌, arith}
 use Rattle.world.specs.World.{Acting}
 use Rattle.world.proofs.Untrapped.{held, untrapped}
 use Rattle.world.proofs.Due.{due_few}

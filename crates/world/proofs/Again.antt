@@ -1,0 +1,191 @@
+-- A round whose letters a piece of the ledger accounts for happens again, when its accesses are named.
+use Rattle.std.proofs.Common.{◌≡◌, ℕ, zero, suc, ◌<◌, ◌≤◌, List, [], ◌∷◌, ◌++◌, length, map, take, drop, Bool, true, false, cond, refl, sym, ap, subst, ◌∙◌, Option, Some, None, append_assoc, arith}
+use Rattle.std.specs.Prelude.{slice_get, ◌==◌, ◌&&◌}
+use Rattle.std.specs.List.{list_all}
+use Rattle.std.proofs.lemmas.Bool.{lt-ltb}
+use Rattle.std.proofs.lemmas.List.{take_all}
+use Rattle.std.proofs.lemmas.Option.{slice_get_within}
+use Rattle.std.proofs.Math.Seq.{drop-append_seam}
+use Rattle.insn.specs.declared.insn.Insn.{Insn}
+use Rattle.board.specs.Board.{Access, words_after, IsLegal}
+use Rattle.world.specs.declared.event.Event.TheVariants.{Close}
+use Rattle.world.specs.Scenario.{Scenario, IsScenario, program_of, shape_of}
+use Rattle.world.specs.Letters.{Letter, context_of, loyal_letter}
+use Rattle.world.specs.World.{Activation, started, Part, Acting, Silent, Posted, has_posted, World, each, round_open, begins, begun, of, letters_at, round_letters, happen, run}
+use Rattle.world.specs.Runs.{Runs, IsLetterOf, IsAccountedRound}
+use Rattle.world.specs.Lists.{names_events, wound_up}
+use Rattle.world.specs.Laws.{IsRipe}
+use Rattle.world.proofs.Kept.{Fits, IsKept}
+use Rattle.world.proofs.Listing.{each-get, each-get_only, each-length}
+use Rattle.world.proofs.Moves.{moves_same, then_same, moves_keep, run-append, AllParts}
+use Rattle.world.proofs.Punctual.{all_posted}
+use Rattle.world.proofs.Complete.{posts, ends, posts_moves, ends_moves, ripens, part_within}
+use Rattle.world.proofs.Lasting.{IsOnTime, moves_due, close_open, names_moves}
+use Rattle.world.proofs.Stepping.{runs_steps}
+use Rattle.world.proofs.Following.{Act, of_first, Ways, Followed, follow, ways_last, moves_still, way_ended}
+use Rattle.world.proofs.Cutting.{entries_of, entries_below, AreBelow}
+
+take-snoc : (ls : List Letter) (n : ℕ) (l : Letter) → slice_get ls n ≡ Some l → take (suc n) ls ≡ take n ls ++ l ∷ []
+take-snoc [] n l e = cc
+take-snoc (x ∷ ls) zero l e = (let f : x ≡ l = cc in ap (λ y. y ∷ []) f)
+take-snoc (x ∷ ls) (suc n) l e = ap (λ ys. x ∷ ys) (take-snoc ls n l e)
+
+-- an activation's end is the one that a general's letter tells of
+abbrev pub Tells : List Letter → ℕ → Activation → Type 0
+Tells letters g end = (l : Letter) → slice_get letters g ≡ Some l → (l.steps ≡ end.state.steps) × (l.outbox ≡ end.state.outbox)
+
+letter_within : (ls : List Letter) (g : ℕ) → g < length ls → (l : Letter) × (slice_get ls g ≡ Some l)
+letter_within [] g lt = absurd (omega arith)
+letter_within (l ∷ ls) zero lt = (l, refl)
+letter_within (l ∷ ls) (suc g) lt = letter_within ls g (omega arith)
+
+module _ (s : Scenario) (closed : List (List Letter)) (piece : List Access) (letters : List Letter) (round : IsAccountedRound s closed piece letters) where
+  -- his letter, where he is a general
+  his : (g : ℕ) → g < s.generals → (l : Letter) × (slice_get letters g ≡ Some l)
+  his g lt = letter_within letters g (let c = round.count in omega arith)
+
+  way_begins : (g : ℕ) (o : Option (List Insn)) → program_of s g ≡ o → g < s.generals → Ways (Tells letters) piece g (begins s closed g o)
+  way_begins g None e lt = tt
+  way_begins g (Some program) e lt =
+      let l = (his g lt).0 in
+      let at = (his g lt).1 in
+      let both = round.each g l at in
+      let A : Option (List Insn) → Type 0 = λ o. IsLetterOf s closed g o l in
+      let is = subst A e both.0 in
+      record {
+        k = l.steps;
+        end = is.0;
+        runs = (let B : List Access → Type 0 = λ t. Runs l.steps (started program (context_of s closed g) (shape_of s g (suc (length closed)))) t is.0 in subst B (sym both.1) is.1);
+        over = is.2;
+        is = λ m there.
+            let same : l ≡ m = (let f = sym at ∙ there in cc) in
+            let steps = runs_steps l.steps (started program (context_of s closed g) (shape_of s g (suc (length closed)))) l.transcript is.0 is.1 in
+            (ap (λ (x : Letter). x.steps) (sym same) ∙ (let n : l.steps ≡ is.0.state.steps = omega arith in n), ap (λ (x : Letter). x.outbox) (sym same) ∙ ap (λ (x : Letter). x.outbox) is.3);
+      }
+
+  pub ways_begin : (b : Bool) → AllParts (Ways (Tells letters) piece) (cond b (each s.generals (λ g. begins s closed g (program_of s g) ∷ [])) [])
+  ways_begin true g part e =
+      let h = each-get_only s.generals (λ g. begins s closed g (program_of s g)) g part e in
+      (let A : Part → Type 0 = λ p. Ways (Tells letters) piece g p in subst A (sym h.1) (way_begins g (program_of s g) refl h.0))
+  ways_begin false g part e = cc
+
+  of_has : (front rest : List Access) (x : Access) → of x.general (front ++ x ∷ rest) ≡ [] → ⊥
+  of_has [] rest x e = (let f = sym (of_first x.general x rest refl) ∙ e in cc)
+  of_has (y ∷ front) rest x e = by (y.general == x.general) (of_has front rest x) e
+    where
+      by : (b : Bool) → (of x.general (front ++ x ∷ rest) ≡ [] → ⊥) → cond b (y ∷ of x.general (front ++ x ∷ rest)) (of x.general (front ++ x ∷ rest)) ≡ [] → ⊥
+      by true again h = cc
+      by false again h = again h
+
+  -- a loyal general makes no access
+  acts_one : (front rest : List Access) (x : Access) → piece ≡ front ++ x ∷ rest → x.general < s.generals → (o : Option (List Insn)) → program_of s x.general ≡ o →
+      (a : Activation) × (begins s closed x.general o ≡ Acting a)
+  acts_one front rest x e lt None is =
+      let l = (his x.general lt).0 in
+      let both = round.each x.general l (his x.general lt).1 in
+      let A : Option (List Insn) → Type 0 = λ o. IsLetterOf s closed x.general o l in
+      let loyal : l ≡ loyal_letter s closed x.general = subst A is both.0 in
+      let none : of x.general piece ≡ [] = both.1 ∙ ap (λ (m : Letter). m.transcript) loyal in
+      absurd (of_has front rest x (ap (of x.general) (sym e) ∙ none))
+  acts_one front rest x e lt (Some program) is = (started program (context_of s closed x.general) (shape_of s x.general (suc (length closed))), refl)
+
+  acts_from : (parts : List Part) → ((g : ℕ) → g < s.generals → slice_get parts g ≡ Some (begins s closed g (program_of s g)))
+      → (front rest : List Access) → piece ≡ front ++ rest → AreBelow s.generals rest → Act parts rest
+  acts_from parts at front [] e below = tt
+  acts_from parts at front (x ∷ rest) e below =
+      let a = acts_one front rest x e below.0 (program_of s x.general) refl in (
+        (a.0, at x.general below.0 ∙ ap Some a.1),
+        acts_from parts at (front ++ x ∷ []) rest (e ∙ sym (append_assoc front (x ∷ []) rest)) below.1,
+      )
+
+  pub acts_begin : (b : Bool) → b ≡ true → Act (cond b (each s.generals (λ g. begins s closed g (program_of s g) ∷ [])) []) piece
+  acts_begin true e = acts_from (each s.generals (λ g. begins s closed g (program_of s g) ∷ [])) (λ g lt. each-get s.generals (λ g. begins s closed g (program_of s g)) g lt) [] piece refl (entries_below s.generals (suc (length closed)) piece round.entries)
+  acts_begin false e = absurd (let f : false ≡ true = e in cc)
+
+-- pieces of one, in order
+each_is : (letters : List Letter) (f : ℕ → List Letter) → ((g : ℕ) (l : Letter) → slice_get letters g ≡ Some l → f g ≡ l ∷ []) → (n : ℕ) → n ≤ length letters → each n f ≡ take n letters
+each_is letters f h zero le = refl
+each_is letters f h (suc n) le =
+    let l = letter_within letters n (omega arith) in
+    (λ i. each_is letters f h n (omega arith) i ++ h n l.0 l.1 i) ∙ sym (take-snoc letters n l.0 l.1)
+
+-- the letter of an activation that has come to its end, and of a loyal general
+letter_acting : (s : Scenario) (closed : List (List Letter)) (piece ledger : List Access) (w : World) (g : ℕ) (l : Letter) (a : Activation) (o : Option (List Insn)) → program_of s g ≡ o → Fits o (Acting a)
+    → w.scenario ≡ s → w.closed ≡ closed → drop w.opened w.ledger ≡ piece → IsLetterOf s closed g o l → of g piece ≡ l.transcript → (l.steps ≡ a.state.steps) × (l.outbox ≡ a.state.outbox)
+    → letters_at w g (Some (Acting a)) ≡ l ∷ []
+letter_acting s closed piece ledger w g l a None is fits sc cl op letter tr end = absurd fits
+letter_acting s closed piece ledger w g l a (Some program) is fits sc cl op letter tr end =
+    let made : l ≡ record { general = g; round = suc (length closed); context = context_of s closed g; program = Some program; transcript = l.transcript; steps = l.steps; outbox = letter.0.state.outbox } = letter.3 in
+    let outbox : a.state.outbox ≡ letter.0.state.outbox = sym end.1 ∙ ap (λ (m : Letter). m.outbox) made in
+    let program_is : program_of w.scenario g ≡ Some program = ap (λ (v : Scenario). program_of v g) sc ∙ is in
+    (λ i. record {
+      general = g;
+      round = suc (length (cl i));
+      context = context_of (sc i) (cl i) g;
+      program = program_is i;
+      transcript = (ap (of g) op ∙ tr) i;
+      steps = (sym end.0) i;
+      outbox = outbox i;
+    } ∷ []) ∙ ap (λ (m : Letter). m ∷ []) (sym made)
+
+letter_posted : (s : Scenario) (closed : List (List Letter)) (w : World) (g : ℕ) (l : Letter) (o : Option (List Insn)) → Fits o Posted → w.scenario ≡ s → w.closed ≡ closed → IsLetterOf s closed g o l
+    → letters_at w g (Some Posted) ≡ l ∷ []
+letter_posted s closed w g l None fits sc cl letter = (λ i. loyal_letter (sc i) (cl i) g ∷ []) ∙ ap (λ (m : Letter). m ∷ []) (sym letter)
+letter_posted s closed w g l (Some program) fits sc cl letter = absurd fits
+
+-- a ripe world at the ends that the letters tell of has these letters
+pub letters_again : (s : Scenario) (closed : List (List Letter)) (piece : List Access) (letters : List Letter) → IsAccountedRound s closed piece letters → (w : World) → w.scenario ≡ s → w.closed ≡ closed
+    → drop w.opened w.ledger ≡ piece → length w.parts ≡ s.generals → IsKept w → IsRipe w → AllParts (Ways (Tells letters) []) w.parts → round_letters w ≡ letters
+letters_again s closed piece letters round w sc cl op count k ripe ways =
+    let f : ℕ → List Letter = λ g. letters_at w g (slice_get w.parts g) in
+    let one : (g : ℕ) (l : Letter) → slice_get letters g ≡ Some l → f g ≡ l ∷ [] = (λ g l at.
+    let lt : g < length letters = slice_get_within letters g l at in
+    let p = part_within w.parts g (let c = round.count in omega arith) in
+    let A : Scenario → Type 0 = λ t. Fits (program_of t g) p.0 in
+    ap (letters_at w g) p.1 ∙ by g l at p.0 p.1 (subst A sc (k.parts g p.0 p.1).1)) in
+    ap (λ (n : ℕ). each n f) (ap (λ (t : Scenario). t.generals) sc ∙ sym round.count) ∙ (each_is letters f one (length letters) (omega arith) ∙ take_all (length letters) letters (omega arith))
+  where
+    by : (g : ℕ) (l : Letter) → slice_get letters g ≡ Some l → (part : Part) → slice_get w.parts g ≡ Some part → Fits (program_of s g) part → letters_at w g (Some part) ≡ l ∷ []
+    by g l at (Acting a) is fits =
+        let both = round.each g l at in
+        let ends : Tells letters g a = way_ended (Tells letters) g a (ripe.ended_all g (Acting a) is) (ways g (Acting a) is) in
+        letter_acting s closed piece w.ledger w g l a (program_of s g) refl fits sc cl op both.0 both.1 (ends l at)
+    by g l at Silent is fits = absurd (let f : false ≡ true = ripe.posted_all g Silent is in cc)
+    by g l at Posted is fits = letter_posted s closed w g l (program_of s g) fits sc cl (round.each g l at).0
+
+-- so, when the accesses are named, the round's letters and its piece of the ledger come again
+pub round_again : (s : Scenario) → IsScenario s → (closed : List (List Letter)) (words : List ℕ) (ledger piece : List Access) (letters : List Letter)
+    → IsOnTime s (begun s closed words ledger true) → length closed < suc s.bound → IsLegal words piece → IsAccountedRound s closed piece letters
+    → run (begun s closed words ledger true) (names_events (begun s closed words ledger true) (map (λ a. a.general) piece) ++ wound_up s)
+    ≡ begun s (closed ++ letters ∷ []) (words_after words piece) (ledger ++ piece) true
+unfolding posts ends
+round_again s is closed words ledger piece letters d less legal round =
+    let w = begun s closed words ledger true in
+    let E = Tells letters in
+    let more : round_open s closed ≡ true = lt-ltb (length closed) (suc s.bound) less in
+    let es = names_events w (map (λ a. a.general) piece) in
+    let i1 = names_moves (map (λ a. a.general) piece) w in
+    let F : Followed E w piece (run w es) = follow E s piece w d.kept.board d.due legal (entries_of s.generals (suc (length closed)) piece round.entries) (acts_begin s closed piece letters round (round_open s closed) more)
+    (ways_begin s closed piece letters round (round_open s closed)) in
+    let w1 = run w es in
+    let d1 = moves_due s es w i1 d in
+    let w2 = run w1 (posts s) in
+    let d2 = moves_due s (posts s) w1 (posts_moves s) d1 in
+    let w3 = run w2 (ends s) in
+    let d3 = moves_due s (ends s) w2 (ends_moves s) d2 in
+    let ripe = ripens s w1 d1.scenario d1.kept d1.due in
+    let same = then_same w w1 w3 (moves_same es w i1) (then_same w1 w2 w3 (moves_same (posts s) w1 (posts_moves s)) (moves_same (ends s) w2 (ends_moves s))) in
+    let still2 = moves_still E (posts s) w1 (posts_moves s) d1.kept.board F.ways in
+    let ways2 = moves_keep (Ways E []) (ways_last E) (posts s) w1 (posts_moves s) d1.kept.board F.ways in
+    let still3 = moves_still E (ends s) w2 (ends_moves s) d2.kept.board ways2 in
+    let ways3 = moves_keep (Ways E []) (ways_last E) (ends s) w2 (ends_moves s) d2.kept.board ways2 in
+    let ledger_is : w3.ledger ≡ ledger ++ piece = still3.0 ∙ (still2.0 ∙ F.ledger) in
+    let words_are : w3.words ≡ words_after words piece = still3.1 ∙ (still2.1 ∙ F.words) in
+    let cut : drop w3.opened w3.ledger ≡ piece = (λ i. drop (same.opened i) (ledger_is i)) ∙ drop-append_seam ledger piece in
+    let counted : length w3.parts ≡ s.generals = same.count ∙ (ap (λ b. length (cond b (each s.generals (λ g. begins s closed g (program_of s g) ∷ [])) [])) more ∙ each-length s.generals (λ g. begins s closed g (program_of s g))) in
+    let letters_are : round_letters w3 ≡ letters = letters_again s closed piece letters round w3 d3.scenario same.closed cut counted d3.kept ripe ways3 in
+    let full_is : (w3.full && list_all has_posted w3.parts) ≡ true = ap (λ b. b && list_all has_posted w3.parts) same.full ∙ all_posted w3.parts ripe.posted_all in
+    let all = posts s ++ (ends s ++ Close ∷ []) in
+    let there : run w1 all ≡ happen w3 Close = run-append (posts s) (ends s ++ Close ∷ []) w1 ∙ run-append (ends s) (Close ∷ []) w2 in
+    let open3 : round_open w3.scenario w3.closed ≡ true = (λ i. round_open (d3.scenario i) (same.closed i)) ∙ more in
+    run-append es all w ∙ (there ∙ (close_open w3 open3 ∙ (λ i. begun (d3.scenario i) (same.closed i ++ letters_are i ∷ []) (words_are i) (ledger_is i) (full_is i))))

@@ -1,0 +1,74 @@
+-- A refused event leaves the world as it was.
+use Rattle.std.proofs.Common.{◌≡◌, ℕ, List, [], ◌∷◌, length, Bool, true, false, cond, refl, sym, ap, ◌∙◌, Option, Some, None, arith}
+use Rattle.std.specs.Prelude.{slice_get}
+use Rattle.world.specs.declared.event.Event.{Event}
+use Rattle.world.specs.declared.event.Event.TheVariants.{Tick, Post, Close}
+use Rattle.world.specs.Scenario.{Scenario, program_of}
+use Rattle.world.specs.Letters.{Letter}
+use Rattle.world.specs.World.{Part, Acting, Silent, Posted, World, each, begins, round_open, opening, ticked, posting, closing, happen, run, Refusal, NotOpen, unfit, named_by, refusal}
+use Rattle.world.specs.Laws.{IsMove}
+use Rattle.world.proofs.Moves.{move_same}
+
+-- behind the last round nobody has a part
+abbrev IsClear : World → Type 0
+IsClear w = round_open w.scenario w.closed ≡ false → w.parts ≡ []
+
+clear_begins : (s : Scenario) (closed : List (List Letter)) (b : Bool) → b ≡ false → cond b (each s.generals (λ g. begins s closed g (program_of s g) ∷ [])) [] ≡ []
+clear_begins s closed true e = absurd (let f : true ≡ false = e in cc)
+clear_begins s closed false e = refl
+
+no_parts : (ps : List Part) → length ps ≡ 0 → ps ≡ []
+no_parts [] e = refl
+no_parts (p ∷ ps) e = absurd (omega arith)
+
+move_clear : (w : World) (e : Event) → IsMove e → IsClear w → IsClear (happen w e)
+move_clear w e i h = λ past.
+    let same = move_same w e i in
+    let before = h ((λ i. round_open (sym same.scenario i) (sym same.closed i)) ∙ past) in
+    no_parts (happen w e).parts (same.count ∙ ap length before)
+
+event_clear : (w : World) (e : Event) → IsClear w → IsClear (happen w e)
+event_clear w (Tick g) h = move_clear w (Tick g) tt h
+event_clear w (Post g) h = move_clear w (Post g) tt h
+event_clear w Close h = by (round_open w.scenario w.closed)
+  where
+    by : (b : Bool) → IsClear (cond b (closing w) w)
+    by true = λ past. clear_begins w.scenario (closing w).closed (round_open w.scenario (closing w).closed) past
+    by false = h
+
+run_clear : (es : List Event) (w : World) → IsClear w → IsClear (run w es)
+run_clear [] w h = h
+run_clear (e ∷ es) w h = run_clear es (happen w e) (event_clear w e h)
+
+closed_still : (w : World) (e : Event) → round_open w.scenario w.closed ≡ false → w.parts ≡ [] → happen w e ≡ w
+closed_still w (Tick g) past none = ap (λ (ps : List Part). ticked w g (slice_get ps g)) none
+closed_still w (Post g) past none = ap (λ (ps : List Part). posting w g (slice_get ps g)) none
+closed_still w Close past none = ap (λ b. cond b (closing w) w) past
+
+tick_still : (w : World) (g : ℕ) (r : Refusal) (o : Option Part) → unfit (Tick g) o ≡ Some r → ticked w g o ≡ w
+tick_still w g r None e = refl
+tick_still w g r (Some (Acting a)) e = absurd (let f : None ≡ Some r = e in cc)
+tick_still w g r (Some Silent) e = refl
+tick_still w g r (Some Posted) e = refl
+
+post_still : (w : World) (g : ℕ) (r : Refusal) (o : Option Part) → unfit (Post g) o ≡ Some r → posting w g o ≡ w
+post_still w g r None e = refl
+post_still w g r (Some (Acting a)) e = refl
+post_still w g r (Some Silent) e = absurd (let f : None ≡ Some r = e in cc)
+post_still w g r (Some Posted) e = refl
+
+open_still : (w : World) (e : Event) (r : Refusal) → unfit e (slice_get w.parts (named_by e)) ≡ Some r → happen w e ≡ w
+open_still w (Tick g) r h = tick_still w g r (slice_get w.parts g) h
+open_still w (Post g) r h = post_still w g r (slice_get w.parts g) h
+open_still w Close r h = absurd (let f : None ≡ Some r = h in cc)
+
+refused_still : (w : World) (e : Event) (r : Refusal) → IsClear w → refusal w e ≡ Some r → happen w e ≡ w
+refused_still w e r clear h = by (round_open w.scenario w.closed) refl h
+  where
+    by : (b : Bool) → round_open w.scenario w.closed ≡ b → cond b (unfit e (slice_get w.parts (named_by e))) (Some NotOpen) ≡ Some r → happen w e ≡ w
+    by true open' h' = open_still w e r h'
+    by false past h' = closed_still w e past (clear past)
+
+pub proved_refusals_change_nothing : (s : Scenario) (events : List Event) (e : Event) (r : Refusal) → refusal (run (opening s) events) e ≡ Some r → happen (run (opening s) events) e ≡ run (opening s) events
+proved_refusals_change_nothing s events e r h =
+    refused_still (run (opening s) events) e r (run_clear events (opening s) (λ past. clear_begins s [] (round_open s []) past)) h
