@@ -1,5 +1,5 @@
 -- What a task prints on a file of some bytes.
-use Rattle.std.specs.Prelude.{ℕ, ◌≡◌, List, [], Option, Some, Result, Ok, length}
+use Rattle.std.specs.Prelude.{ℕ, ◌≡◌, List, [], Some, Ok, length}
 use Rattle.insn.specs.declared.insn.Insn.{Insn}
 use Rattle.insn.specs.Program.{slots_of}
 use Rattle.semantics.specs.Run.{IsSound}

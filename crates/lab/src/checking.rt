@@ -69,7 +69,5 @@ pub fn checked_text(alloc: Global, checked: &Checked) -> Result<String, AllocErr
         r0,
         steps,
     } = *checked;
-    format!(in alloc;
-        "accepted {instructions} instructions {units} units\nr0 {r0} steps {steps}\n"
-    )
+    format!(in alloc; "accepted {instructions} instructions {units} units\nr0 {r0} steps {steps}\n")
 }

@@ -75,13 +75,37 @@ fn assembly_and_bytecode_are_translated(rt: HostRuntime) -> Result<(), Fail> {
     let assemble = Task::Assemble(String::from_str(alloc, "p.asm")?);
     let line = "b70000002a0000009500000000000000\n";
     row(&rt, alloc, &assemble, b"mov r0, 42\nexit\n", (0, line, ""))?;
-    row(&rt, alloc, &assemble, b"mov r11, 0", (1, "", "refused A3 line 1\n"))?;
+    row(
+        &rt,
+        alloc,
+        &assemble,
+        b"mov r11, 0",
+        (1, "", "refused A3 line 1\n"),
+    )?;
     row(&rt, alloc, &assemble, b"", (1, "", "refused A7 line 1\n"))?;
-    row(&rt, alloc, &assemble, b"exit # \xff", (1, "", "fault text p.asm\n"))?;
+    row(
+        &rt,
+        alloc,
+        &assemble,
+        b"exit # \xff",
+        (1, "", "fault text p.asm\n"),
+    )?;
     let disassemble = Task::Disassemble(String::from_str(alloc, "p.bin")?);
     let bytes = b"\x07\x01\x00\x00\x44\x33\x22\x11";
-    row(&rt, alloc, &disassemble, bytes, (0, "add r1, 287454020\n", ""))?;
-    row(&rt, alloc, &disassemble, b"", (1, "", "refused C8 unit 0\n"))
+    row(
+        &rt,
+        alloc,
+        &disassemble,
+        bytes,
+        (0, "add r1, 287454020\n", ""),
+    )?;
+    row(
+        &rt,
+        alloc,
+        &disassemble,
+        b"",
+        (1, "", "refused C8 unit 0\n"),
+    )
 }
 
 #[test]
