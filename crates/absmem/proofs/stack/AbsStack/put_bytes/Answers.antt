@@ -14,5 +14,5 @@ invariant_of-self c = record {
 pub returns-clause-holds : goal.returns-clause-holds
 returns-clause-holds c =
     λ cells new described long are size.
-      described_put (record { bytes = c.self.inside.bytes; spills = c.self.inside.spills }) _ cells new c.args.place c.args.size c.set.ensures c.clear.ensures.each c.requires.within long are size
-      (subst (λ (known : Known). Describes known cells) (sym c.self.view_is) described)
+    described_put (record { bytes = c.self.inside.bytes; spills = c.self.inside.spills }) _ cells new c.args.place c.args.size c.set.ensures c.clear.ensures.each c.requires.within long are size
+    (subst (λ (known : Known). Describes known cells) (sym c.self.view_is) described)
