@@ -10,3 +10,4 @@ pub mod WordsLemmas
 pub mod OutlineLemmas
 pub mod RoundLemmas
 pub mod TableLaws
+pub mod SaidLemmas

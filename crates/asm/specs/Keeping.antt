@@ -3,7 +3,7 @@ use Rattle.std.specs.Prelude.{ℕ, ◌≡◌, ◌+◌, List, [], ◌∷◌, map,
 use Rattle.std.proofs.Common.{Bor}
 use Rattle.std.specs.Cmp.Lexicographic.{slice_cmp}
 use Rattle.std.specs.Ordering.{nat_cmp}
-use Rattle.std.specs.List.{sum_by}
+use Rattle.std.specs.List.{sum_by, AllByRecursion}
 use Rattle.std.specs.BTreeMap.{BTreeMap, get_by}
 use Rattle.text.specs.declared.stop.Stop.{Stop}
 use Rattle.text.specs.Parts.{pieces}
@@ -13,6 +13,7 @@ use Rattle.asm.specs.declared.fault.AsmError.{AsmError}
 use Rattle.asm.specs.declared.fault.AsmError.TheVariants as answers
 use Rattle.asm.specs.declared.kept.Kept.{Kept}
 use Rattle.asm.specs.declared.reading.Reading.{Reading}
+use Rattle.asm.specs.Statement.{IsWellSource}
 use Rattle.asm.specs.Program.{Read, units_in, source_units, defined, lines_of}
 use Rattle.asm.specs.Views.{Fails, kept_view}
 
@@ -38,6 +39,10 @@ KeepsRead (Err e) kept r = e ≡ Memory
 abbrev pub GivesRead : {X : Type 0} → Result X LineError → Reading → Option Read → Type 0
 GivesRead (Ok x) kept read = (r : Read) × (read ≡ Some r) × Keeps kept r
 GivesRead (Err e) kept read = Fails e read
+
+-- 32 bits are extended at 64 alone
+abbrev pub AreWellKept : List Kept → Type 0
+AreWellKept sources = AllByRecursion (λ k. IsWellSource (kept_view k)) sources
 
 -- the pieces that are left
 abbrev pub left : Stop → Option (Bor (List ℕ)) → List (List ℕ)

@@ -8,6 +8,7 @@ use Rattle.insn.specs.declared.insn.Operand.{Operand}
 use Rattle.insn.specs.declared.insn.Operand.TheVariants as seconds
 use Rattle.insn.specs.declared.insn.Insn.{Insn}
 use Rattle.insn.specs.declared.insn.Insn.TheVariants as insns
+use Rattle.insn.specs.Insn.{IsWell}
 use Rattle.asm.specs.declared.mnemonic.Mnemonic.{Mnemonic}
 use Rattle.asm.specs.declared.mnemonic.Mnemonic.TheVariants as words
 use Rattle.asm.specs.Number.{number_of, signed_within, bits_within}
@@ -19,6 +20,13 @@ pub data Source : Type 0 where
   Jump : Goal → Source
   LongJump : Goal → Source
   Branch : Width → Condition → ℕ → Operand → Goal → Source
+
+-- 32 bits are extended at 64 alone
+abbrev pub IsWellSource : Source → Type 0
+IsWellSource (Plain insn) = IsWell insn
+IsWellSource (Jump goal) = Unit {0}
+IsWellSource (LongJump goal) = Unit {0}
+IsWellSource (Branch width condition dst operand goal) = Unit {0}
 
 -- so many operands
 unfoldable pub none_of : List (List ℕ) → Option (List ℕ)

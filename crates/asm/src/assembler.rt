@@ -2,7 +2,7 @@
 
 ghost use Rattle.std.specs.Prelude.{◌≡◌};
 ghost use Rattle.asm.specs.Program.{Read, program_of, program_in};
-ghost use Rattle.asm.specs.Keeping.{Keeps, Answers, units_kept};
+ghost use Rattle.asm.specs.Keeping.{Keeps, Answers, AreWellKept, units_kept};
 
 use crate::fault::{AsmError, Fault};
 use crate::reading::{Reading, gather};
@@ -12,7 +12,8 @@ use std::alloc::Global;
 
 /// The program of what was read.
 fn finish(alloc: Global, reading: &Reading<'_>) -> Result<Program, AsmError>
-    requires { reading.now.units ≡ units_kept reading.now.sources.items }
+    requires units { reading.now.units ≡ units_kept reading.now.sources.items }
+    requires well { AreWellKept reading.now.sources.items }
     ensures { (r : Read) → Keeps reading.now r → Answers result (program_in r) }
 {
     if reading.units == 0 || reading.units > 4096 {

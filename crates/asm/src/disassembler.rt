@@ -1,8 +1,6 @@
 //! The disassembler.
 
 ghost use Rattle.std.specs.Prelude.{◌≡◌, ◌++◌, string_bytes, IfOk, OnOk, Some};
-ghost use Rattle.std.specs.List.{AllByRecursion};
-ghost use Rattle.insn.specs.Insn.{IsInsn};
 ghost use Rattle.asm.specs.Printing.{text_of};
 ghost use Rattle.asm.specs.Program.{program_of};
 
@@ -25,7 +23,7 @@ pub fn disassemble(alloc: Global, program: &Program) -> Result<String, AllocErro
     ensures text { IfOk result (λ s. string_bytes s ≡ text_of program.now) }
 
     // The text says this program, and no other.
-    ensures again { AllByRecursion IsInsn program.now → IfOk result (λ s. program_of (string_bytes s) ≡ Some program.now) }
+    ensures again { IfOk result (λ s. program_of (string_bytes s) ≡ Some program.now) }
 {
     let mut out = String::with_capacity(alloc, 16 * program.units())?;
     put_lines(&mut out, program.instructions())?;

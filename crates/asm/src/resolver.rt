@@ -1,11 +1,13 @@
 //! The instructions of what was read: names become distances.
 
 ghost use Rattle.std.specs.Prelude.{◌≡◌, ◌+◌, ◌^◌, ◌<◌, ◌≤◌, [], List, ℕ, length, IfOk};
-ghost use Rattle.insn.specs.Insn.{units_of};
+ghost use Rattle.std.specs.List.{AllByRecursion};
+ghost use Rattle.insn.specs.Insn.{units_of, IsWell};
 ghost use Rattle.insn.specs.Program.{slots_of};
+ghost use Rattle.asm.specs.Statement.{IsWellSource};
 ghost use Rattle.asm.specs.Program.{Read, source_units, distance_of, insn_of, insns_on};
 ghost use Rattle.asm.specs.Views.{GivesResult, aim_view, source_view};
-ghost use Rattle.asm.specs.Keeping.{Keeps, Finds, AnswersBy, units_kept};
+ghost use Rattle.asm.specs.Keeping.{Keeps, Finds, AnswersBy, AreWellKept, units_kept};
 
 use crate::fault::{AsmError, Fault};
 use crate::kept::{Draft, Statement, units};
@@ -51,6 +53,7 @@ fn resolve(
     requires { unit < 4096 }
     ensures said { (ds : List (List ℕ × ℕ)) → Finds names.now ds → GivesResult (λ i. i) result (insn_of ds unit (source_view statement.now)) }
     ensures units { IfOk result (λ i. units_of i ≡ source_units (source_view statement.now)) }
+    ensures well { IsWellSource (source_view statement.now) → IfOk result (λ i. IsWell i) }
 {
     match &statement.draft {
         Draft::Plain(insn) => Ok(*insn),
@@ -80,9 +83,11 @@ fn resolve(
 
 /// The instructions of what was read.
 pub fn resolve_all(alloc: Global, reading: &Reading<'_>) -> Result<Vec<Insn>, AsmError>
-    requires { units_kept reading.now.sources.items ≤ 4096 }
+    requires bound { units_kept reading.now.sources.items ≤ 4096 }
+    requires well { AreWellKept reading.now.sources.items }
     ensures said { (r : Read) → Keeps reading.now r → AnswersBy (λ v. v.items) result (insns_on r.names 0 [] r.sources) }
     ensures units { IfOk result (λ v. length (slots_of v.items) ≡ units_kept reading.now.sources.items) }
+    ensures well { IfOk result (λ v. AllByRecursion IsWell v.items) }
 {
     let mut insns = Vec::with_capacity(alloc, reading.sources.len())?;
     let mut unit = 0;

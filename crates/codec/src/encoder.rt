@@ -1,6 +1,4 @@
 ghost use Rattle.std.specs.Prelude.{◌≡◌, ◌≤◌, ◌<◌, ◌*◌, ◌++◌, length, IfOk, OnOk};
-ghost use Rattle.std.specs.List.{AllByRecursion};
-ghost use Rattle.insn.specs.Insn.{IsInsn};
 ghost use Rattle.codec.specs.Spelling.{instruction_bytes, program_bytes};
 ghost use Rattle.codec.specs.Program.{SpellsProgram};
 
@@ -29,8 +27,8 @@ fn push_insn(bytes: &mut Vec<u8>, insn: &Insn) -> Result<(), AllocError>
 pub fn encode(alloc: Global, program: &Program) -> Result<Vec<u8>, AllocError>
     // They are the program's bytes.
     ensures spelled { IfOk result (λ v. v.items ≡ program_bytes program.now) }
-    // They spell it, so decoding them gives it back, where no instruction extends the sign of 32 bits to 32.
-    ensures spells { AllByRecursion IsInsn program.now → IfOk result (λ v. SpellsProgram v.items program.now) }
+    // They spell it, so decoding them gives it back.
+    ensures spells { IfOk result (λ v. SpellsProgram v.items program.now) }
 {
     let mut bytes = Vec::with_capacity(alloc, 8 * program.units())?;
     for insn in program.instructions() {

@@ -6,6 +6,7 @@ mod program;
 mod reg;
 #[cfg(test)]
 mod tests;
+mod well;
 
 pub use insn::{Insn, Operand, Size};
 pub use program::Program;
