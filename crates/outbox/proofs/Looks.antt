@@ -1,15 +1,18 @@
 -- The order at a place, and the outbox in which nothing is put.
-use Rattle.std.proofs.Common.{ℕ, zero, suc, ◌+◌, ◌<◌, ◌≤◌, ◌≡◌, List, [], ◌∷◌, map, length, get_or, refl, sym, ap, ◌∙◌, arith, None, Option, subst}
+use Rattle.std.proofs.Common.{Some, Bool, true, ◌||◌, inl, inr, set, get_or-set_same, length-set, ℕ, zero, suc, ◌+◌, ◌<◌, ◌≤◌, ◌≡◌, List, [], ◌∷◌, map, length, get_or, refl, sym, ap, ◌∙◌, arith, None, Option, subst}
 use Rattle.std.specs.Prelude.{◌==◌, if◌then◌else◌}
 use Rattle.std.proofs.lemmas.List.{length-map}
+use Rattle.std.proofs.lemmas.Bool.{false≢true}
+use Rattle.std.proofs.lemmas.Bool.Decides.{eqb_tells}
+use Rattle.label.specs.Labels.{on}
 use Rattle.label.specs.declared.shape.Shape.{Shape}
 use Rattle.label.specs.Relay.{relay, receivers}
 use Rattle.semantics.specs.Outbox.{Place, places}
 use Rattle.semantics.proofs.PlacesLaws.{row_from, rows_from}
-use Rattle.outbox.specs.Rows.{RowOrders, receivers_in, orders_in, empty_row, row_for, order_in}
+use Rattle.outbox.specs.Rows.{RowOrders, receivers_in, orders_in, empty_row, row_for, order_in, put_row}
 use Rattle.outbox.specs.Contents.{Contents, contents_of, IsOutbox, order_among, order_at}
-use Rattle.outbox.proofs.Whole.{Stand, stand_parts}
-use Rattle.outbox.proofs.Single.{same_default}
+use Rattle.outbox.proofs.Whole.{Stand, stand_parts, put_names}
+use Rattle.outbox.proofs.Single.{same_default, single_stands}
 
 get_past : {A : Type 0} (xs : List A) (i : ℕ) (d : A) → length xs ≤ i → get_or xs i d ≡ d
 get_past [] i d l = refl
@@ -52,6 +55,22 @@ order_found now s rows label r row o seen a l at is =
     (is ∙ (ap (order_in r) was ∙ (sym (row_order r (0 + label) 0 (get_or rows label []))
     ∙ (ap (λ ps. order_among r ps (orders_in (get_or rows label []))) (sym (get_places s 0 label rows (relay s) a.names l))
     ∙ ap (order_among r (get_or (places s) label [])) (sym (get_orders rows label))))))
+
+-- what was put is found
+put_found : (r v : ℕ) (row : RowOrders) → on (receivers_in row) r ≡ true → Some v ≡ order_in r (put_row r v row)
+put_found r v [] h = absurd (false≢true h)
+put_found r v (p ∷ row) h =
+    elim (eqb_tells p.0 r) [
+      | inl same ↦ rw same.0 refl
+      | inr apart ↦ rw apart.0 (put_found r v row (sym (ap (λ t. t || on (receivers_in row) r) apart.0) ∙ h))
+    ]
+
+pub found_after : (s : Shape) (rows : List RowOrders) (label r v : ℕ) (row new : RowOrders) (there : Bool) → IsOutbox s rows → label < length rows → row ≡ get_or rows label row → new ≡ put_row r v row → there ≡ on (receivers_in row) r → there ≡ true
+    → order_at s (map orders_in (set rows label new)) label r ≡ Some v
+found_after s rows label r v row new there a l at is t yes_there =
+    let stands : IsOutbox s (set rows label new) = single_stands s rows label row new a l at (ap receivers_in is ∙ put_names r v row) in
+    let inside : label < length (set rows label new) = rw (length-set rows label new) l in
+    sym (order_found (contents_of s (set rows label new)) s (set rows label new) label r new (Some v) refl stands inside (sym (get_or-set_same rows label new new l)) (put_found r v row (sym t ∙ yes_there) ∙ ap (order_in r) (sym is)))
 
 -- nothing is put
 empty_names_in : (ns : List ℕ) → receivers_in (empty_row ns) ≡ ns

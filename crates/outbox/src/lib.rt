@@ -5,6 +5,8 @@ mod context;
 mod orders;
 mod relays;
 mod row;
+#[cfg(test)]
+mod tests;
 
 pub use label::Shape;
 pub use orders::Outbox;

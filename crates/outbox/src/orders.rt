@@ -1,4 +1,4 @@
-ghost use Rattle.std.specs.Prelude.{◌≡◌, ◌<◌, ◌↔◌, IfOk, IsTrue, length};
+ghost use Rattle.std.specs.Prelude.{◌≡◌, ◌<◌, ◌↔◌, IfOk, IsTrue, Some, length};
 ghost use Rattle.label.specs.Relay.{IsShape};
 ghost use Rattle.semantics.specs.Outbox.{empty_outbox, written, places_set, at_place, along_row, at_receiver, as_taken};
 ghost use Rattle.outbox.specs.Contents.{order_at};
@@ -49,6 +49,7 @@ impl Outbox {
         ensures shape { self.new.shape ≡ self.old.shape }
         ensures rows { self.new.rows ≡ written self.old.shape (at_place label receiver value) self.old.rows }
         ensures there { IsTrue result ↔ (0 < places_set self.old.shape (at_place label receiver value)) }
+        ensures found { IsTrue result → order_at self.new.shape self.new.rows label receiver ≡ Some value }
     {
         let rank = label as usize;
         if rank >= self.rows.len() {

@@ -4,6 +4,7 @@ use Rattle.semantics.specs.Outbox.{at_place}
 use Rattle.outbox.specs.Rows.{receivers_in}
 use Rattle.outbox.proofs.Whole.{put_names}
 use Rattle.outbox.proofs.Single.{absent_written, only_place, place_written, place_there, place_absent, single_stands}
+use Rattle.outbox.proofs.Looks.{found_after}
 use Rattle.outbox.proofs.orders.Outbox.put.Goals as goal
 
 pub returns-then-rank-len-clause-rows : goal.returns-then-rank-len-clause-rows
@@ -30,3 +31,8 @@ pub returns-clause-there : goal.returns-clause-there
 returns-clause-there c =
     let inside : c.args.label < length c.self.inside.rows.items = omega arith in
     place_there c.args.self.now c.self.inside.shape c.self.inside.rows.items c.args.label c.args.receiver c.args.value c.index_mut.result.now c.put.result c.self.view_is c.self.invariant inside c.index_mut.ensures.value c.put.ensures.there
+
+pub returns-clause-found : goal.returns-clause-found
+returns-clause-found c there =
+    let inside : c.args.label < length c.self.inside.rows.items = omega arith in
+    found_after c.self.inside.shape c.self.inside.rows.items c.args.label c.args.receiver c.args.value c.index_mut.result.now c.put.new.self c.put.result c.self.invariant inside c.index_mut.ensures.value c.put.ensures.row c.put.ensures.there there
