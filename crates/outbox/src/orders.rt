@@ -94,7 +94,8 @@ impl Outbox {
         ensures count { result ≡ places_set self.old.shape (as_taken context.now receiver) }
     {
         let mut set = 0;
-        for rank in 0..self.rows.len() {
+        let labels = self.rows.len();
+        for rank in 0..labels {
             if self.rows[rank].put(receiver, taken_value(context, rank)) {
                 set += 1;
             }
