@@ -5,3 +5,4 @@ pub mod SoundExample
 pub mod WholeLaws
 pub mod SafetyLaws
 pub mod ReachedLaws
+pub mod PlacesLaws

@@ -12,3 +12,4 @@ pub mod Whole
 pub mod Plain
 pub mod Laws
 pub mod Examples
+pub mod Places

@@ -1,5 +1,6 @@
 //! Laws of steps and runs: each function does nothing, and its contract is the law.
 ghost use Rattle.semantics.specs.Examples.{SomeArePlainAndSound};
+ghost use Rattle.semantics.specs.Places.{FewPlacesAreSet, RangesAreKept, RelaysAreFew};
 ghost use Rattle.semantics.specs.Laws.{StepsAreCounted, StatesStayWhole, RunsStayOver, ReachedIsRun, SoundIsSafeAtEntry, ReachedIsSafe};
 
 /// Each step is counted once.
@@ -35,4 +36,19 @@ pub fn reached_is_safe()
 /// A program that is plain and sound, and one that is neither: the definitions are neither empty nor full.
 pub fn some_are_plain_and_sound()
     ensures { SomeArePlainAndSound }
+{}
+
+/// A general relays at most 990 labels in a round.
+pub fn relays_are_few()
+    ensures { RelaysAreFew }
+{}
+
+/// A helper sets no more places than it has orders, or one in every label.
+pub fn few_places_are_set()
+    ensures { FewPlacesAreSet }
+{}
+
+/// What the helpers that fill the outbox return lies in their ranges.
+pub fn ranges_are_kept()
+    ensures { RangesAreKept }
 {}

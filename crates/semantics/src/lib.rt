@@ -7,8 +7,9 @@ mod request;
 mod value;
 
 pub use laws::{
-    reached_is_run, reached_is_safe, runs_stay_over, some_are_plain_and_sound,
-    sound_is_safe_at_entry, states_stay_whole, steps_are_counted,
+    few_places_are_set, ranges_are_kept, reached_is_run, reached_is_safe, relays_are_few,
+    runs_stay_over, some_are_plain_and_sound, sound_is_safe_at_entry, states_stay_whole,
+    steps_are_counted,
 };
 pub use reply::Reply;
 pub use request::{Helper, Request, Slot, Span};

@@ -1,0 +1,5 @@
+use Rattle.helper.proofs.Tests.{calls_test}
+use Rattle.helper.proofs.table.arguments.Goals as goal
+
+pub returns-clause-tests : goal.returns-clause-tests
+returns-clause-tests c = calls_test c.args.helper

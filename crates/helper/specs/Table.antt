@@ -1,0 +1,56 @@
+-- What the helpers take.
+use Rattle.std.specs.Prelude.{ℕ, ◌+◌, ◌^◌, ◌≡◌, List, [], ◌∷◌, Option, Some, None, Result, Ok, Err}
+use Rattle.label.specs.declared.shape.Shape.{Shape}
+use Rattle.semantics.specs.declared.value.Value.{Value}
+use Rattle.semantics.specs.declared.request.Helper.{Helper}
+use Rattle.semantics.specs.declared.request.Helper.TheVariants.{BoardGet, BoardSwap, BoardAdd, BoardCas, BoardCopy, Send, SendRow, Sway, Honest}
+use Rattle.semantics.specs.State.{Cause, State, Trap, value_at}
+use Rattle.semantics.specs.Call.{below, pointer, called}
+use Rattle.helper.specs.declared.argument.Argument.{Argument}
+use Rattle.helper.specs.declared.argument.Argument.TheVariants.{Slot, Word, Label, Receiver, Words, Orders, StackPointer, ReadablePointer}
+
+-- an argument that is a number is below this one
+abbrev pub bound_of : Argument → Option ℕ
+bound_of Slot = Some 64
+bound_of Word = Some (2 ^ 64)
+bound_of Label = Some 1016
+bound_of Receiver = Some 13
+bound_of Words = Some 65
+bound_of Orders = Some 14
+bound_of StackPointer = None
+bound_of ReadablePointer = None
+
+abbrev pub arguments_of : Helper → List (Option Argument)
+arguments_of BoardGet = Some Slot ∷ None ∷ None ∷ []
+arguments_of BoardSwap = Some Slot ∷ Some Word ∷ None ∷ []
+arguments_of BoardAdd = Some Slot ∷ Some Word ∷ None ∷ []
+arguments_of BoardCas = Some Slot ∷ Some Word ∷ Some Word ∷ []
+arguments_of BoardCopy = Some Slot ∷ Some StackPointer ∷ Some Words ∷ []
+arguments_of Send = Some Label ∷ Some Receiver ∷ Some Word ∷ []
+arguments_of SendRow = Some Label ∷ Some ReadablePointer ∷ Some Orders ∷ []
+arguments_of Sway = Some Receiver ∷ Some Word ∷ None ∷ []
+arguments_of Honest = Some Receiver ∷ None ∷ None ∷ []
+
+-- why a call refuses a result
+abbrev pub refusal : {A : Type 0} → Result A Cause → Option Cause
+refusal (Ok a) = None
+refusal (Err cause) = Some cause
+
+-- the test of a value: a number below its bound, or a pointer
+abbrev pub test_of : Option ℕ → Value → Option Cause
+test_of (Some bound) v = refusal (below bound v)
+test_of None v = refusal (pointer v)
+
+-- the first refusal of the arguments in the registers from r on
+abbrev pub or_else : Option Cause → Option Cause → Option Cause
+or_else (Some cause) other = Some cause
+or_else None other = other
+
+abbrev pub refused : List (Option Argument) → ℕ → List Value → Option Cause
+refused [] r registers = None
+refused (None ∷ arguments) r registers = refused arguments (r + 1) registers
+refused (Some argument ∷ arguments) r registers = or_else (test_of (bound_of argument) (value_at registers r)) (refused arguments (r + 1) registers)
+
+-- a call of the helper traps for the first of these arguments that is refused
+abbrev pub TestsThese : Helper → List (Option Argument) → Type 0
+TestsThese helper arguments = (context : List ℕ) (shape : Shape) (s : State) (cause : Cause) → refused arguments 1 s.registers ≡ Some cause → called context shape s (Some helper) ≡ Trap cause

@@ -1,0 +1,40 @@
+ghost use Rattle.std.specs.Prelude.{◌≡◌, ◌+◌, option_map};
+ghost use Rattle.helper.specs.Table.{bound_of};
+
+/// What a helper takes in a register.
+#[derive(Clone, Copy, Debug, PartialEq, Eq)]
+pub enum Argument {
+    /// The number of a word of the board, 0 to 63.
+    Slot,
+    /// Any word.
+    Word,
+    /// The rank of a label, 0 to 1015.
+    Label,
+    /// The number of a general, 0 to 12.
+    Receiver,
+    /// How many words of the board, 0 to 64.
+    Words,
+    /// How many orders, 0 to 13.
+    Orders,
+    /// A pointer to cells of the stack, to be written.
+    StackPointer,
+    /// A pointer to bytes of the stack or the context, to be read.
+    ReadablePointer,
+}
+
+impl Argument {
+    /// The greatest number that it may be; a pointer has none.
+    pub fn greatest(self) -> Option<u64>
+        ensures { option_map (λ n. n + 1) result ≡ bound_of self }
+    {
+        match self {
+            Argument::Slot => Some(63),
+            Argument::Word => Some(u64::MAX),
+            Argument::Label => Some(1015),
+            Argument::Receiver => Some(12),
+            Argument::Words => Some(64),
+            Argument::Orders => Some(13),
+            Argument::StackPointer | Argument::ReadablePointer => None,
+        }
+    }
+}

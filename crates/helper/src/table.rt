@@ -1,0 +1,87 @@
+ghost use Rattle.std.specs.Prelude.{◌≡◌};
+ghost use Rattle.semantics.specs.Call.{helper_of};
+ghost use Rattle.helper.specs.Table.{arguments_of, TestsThese};
+ghost use Rattle.helper.specs.Results.{result_of, Returns};
+
+use crate::argument::Argument;
+use range::Range;
+use semantics::Helper;
+
+/// The helper of a number, where there is one: 1 to 9.
+pub fn helper_of(number: i32) -> Option<Helper>
+    ensures { result ≡ helper_of number }
+{
+    match number {
+        1 => Some(Helper::BoardGet),
+        2 => Some(Helper::BoardSwap),
+        3 => Some(Helper::BoardAdd),
+        4 => Some(Helper::BoardCas),
+        5 => Some(Helper::BoardCopy),
+        6 => Some(Helper::Send),
+        7 => Some(Helper::SendRow),
+        8 => Some(Helper::Sway),
+        9 => Some(Helper::Honest),
+        _ => None,
+    }
+}
+
+/// What the helper takes in r1, r2 and r3. Each is tested in this order, as a call does.
+pub fn arguments(helper: Helper) -> [Option<Argument>; 3]
+    ensures exact { result ≡ arguments_of helper }
+    ensures tests { TestsThese helper (arguments_of helper) }
+{
+    let (first, second, third) = match helper {
+        Helper::BoardGet => (Argument::Slot, None, None),
+        Helper::BoardSwap | Helper::BoardAdd => (Argument::Slot, Some(Argument::Word), None),
+        Helper::BoardCas => (Argument::Slot, Some(Argument::Word), Some(Argument::Word)),
+        Helper::BoardCopy => (
+            Argument::Slot,
+            Some(Argument::StackPointer),
+            Some(Argument::Words),
+        ),
+        Helper::Send => (
+            Argument::Label,
+            Some(Argument::Receiver),
+            Some(Argument::Word),
+        ),
+        Helper::SendRow => (
+            Argument::Label,
+            Some(Argument::ReadablePointer),
+            Some(Argument::Orders),
+        ),
+        Helper::Sway => (Argument::Receiver, Some(Argument::Word), None),
+        Helper::Honest => (Argument::Receiver, None, None),
+    };
+    [Some(first), second, third]
+}
+
+/// What the helper returns in r0.
+pub fn result(helper: Helper) -> Range
+    ensures exact { (result.lo, result.hi) ≡ result_of helper }
+    ensures holds { Returns helper (result_of helper).0 (result_of helper).1 }
+{
+    let hi = match helper {
+        Helper::BoardGet | Helper::BoardSwap | Helper::BoardAdd | Helper::BoardCas => u64::MAX,
+        Helper::BoardCopy => 64,
+        Helper::Send => 1,
+        Helper::SendRow => 13,
+        Helper::Sway | Helper::Honest => 1016,
+    };
+    Range { lo: 0, hi }
+}
+
+#[cfg(test)]
+mod tests {
+    use crate::{Argument, Helper, arguments, helper_of, result};
+
+    #[test]
+    fn looks_up(rt: HostRuntime) {
+        assert_eq!(rt; helper_of(6), Some(Helper::Send));
+        assert_eq!(rt; helper_of(0), None);
+        assert_eq!(rt; helper_of(10), None);
+        let [first, _, third] = arguments(Helper::SendRow);
+        assert_eq!(rt; first, Some(Argument::Label));
+        assert_eq!(rt; third.and_then(|argument| argument.greatest()), Some(13));
+        assert_eq!(rt; result(Helper::BoardCopy).hi, 64);
+    }
+}

@@ -1,0 +1,9 @@
+pub mod RowLemmas
+pub mod Numbers
+pub mod Writing
+pub mod Whole
+pub mod One
+pub mod Outcomes
+pub mod Single
+pub mod Looks
+pub mod RowByRow

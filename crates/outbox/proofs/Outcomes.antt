@@ -1,0 +1,49 @@
+-- From the rows to what the owner sees.
+use Rattle.std.proofs.Common.{ℕ, suc, ◌+◌, ◌<◌, ◌≤◌, ◌≡◌, Bool, cond, List, map, length, get_or, set, sym, ap, ◌∙◌, arith, Some, None, subst, add-one, zero-add}
+use Rattle.std.specs.Prelude.{◌==◌, if◌then◌else◌}
+use Rattle.std.proofs.lemmas.List.{length-map}
+use Rattle.label.specs.declared.shape.Shape.{Shape}
+use Rattle.label.specs.Labels.{on}
+use Rattle.label.specs.Relay.{relay, receivers}
+use Rattle.semantics.specs.Outbox.{Choice, written, places_set}
+use Rattle.semantics.proofs.PlacesLaws.{relays_few}
+use Rattle.outbox.specs.Rows.{RowOrders, receivers_in, orders_in, put_row}
+use Rattle.outbox.specs.Contents.{Contents, contents_of, IsOutbox}
+use Rattle.outbox.proofs.Whole.{put_first, found_first, first_names, first_next, first_more, found_more, all_written, all_set}
+
+-- there are few rows
+pub rows_few : (s : Shape) (rows : List RowOrders) → IsOutbox s rows → length rows ≤ 990
+rows_few s rows a =
+    let few : length (relay s) ≤ 990 = relays_few s a.within in
+    let same : length rows ≡ length (relay s) = sym (length-map rows receivers_in) ∙ (ap length a.names ∙ length-map (relay s) (receivers s)) in
+    omega arith
+
+-- one row more
+pub sweep_step : (r : ℕ) (f : ℕ → ℕ) (m : ℕ) (rows cur : List RowOrders) (row new : RowOrders) → cur ≡ put_first r f 0 m rows → m < length rows → row ≡ get_or cur m row → new ≡ put_row r (f m) row → set cur m new ≡ put_first r f 0 (m + 1) rows
+sweep_step r f m rows cur row new e l at is =
+    let was : row ≡ get_or rows m row = at ∙ (ap (λ xs. get_or xs m row) e ∙ first_next r f 0 m rows row l) in
+    let next : new ≡ put_row r (f (0 + m)) (get_or rows m row) = is ∙ (ap (λ k. put_row r (f k) row) (sym (zero-add m)) ∙ ap (put_row r (f (0 + m))) was) in
+    ap (λ xs. set xs m new) e ∙ (ap (set (put_first r f 0 m rows) m) next ∙ (first_more r f 0 m rows row l ∙ ap (λ k. put_first r f 0 k rows) (sym (add-one m))))
+
+pub count_step : (r : ℕ) (f : ℕ → ℕ) (m count : ℕ) (rows cur : List RowOrders) (row : RowOrders) (there : Bool) → cur ≡ put_first r f 0 m rows → m < length rows → row ≡ get_or cur m row → there ≡ on (receivers_in row) r → count ≡ found_first r m rows → count + cond {A = ℕ} there 1 0 ≡ found_first r (m + 1) rows
+count_step r f m count rows cur row there e l at t is =
+    let was : row ≡ get_or rows m row = at ∙ (ap (λ xs. get_or xs m row) e ∙ first_next r f 0 m rows row l) in
+    let bit : cond {A = ℕ} there 1 0 ≡ cond {A = ℕ} (on (receivers_in (get_or rows m row)) r) 1 0 = ap (λ b. cond {A = ℕ} b 1 0) (t ∙ ap (λ x. on (receivers_in x) r) was) in
+    let more : found_first r (suc m) rows ≡ found_first r m rows + cond {A = ℕ} (on (receivers_in (get_or rows m row)) r) 1 0 = found_more r m rows row l in
+    rw (add-one m) (omega arith)
+
+pub sweep_stands : (s t : Shape) (r : ℕ) (f : ℕ → ℕ) (m : ℕ) (rows cur : List RowOrders) → IsOutbox s rows → t ≡ s → cur ≡ put_first r f 0 m rows → IsOutbox t cur
+sweep_stands s t r f m rows cur a same e =
+    let here : IsOutbox s cur = record { within = a.within; names = ap (map receivers_in) e ∙ (first_names r f 0 m rows ∙ a.names) } in
+    subst (λ (k : Shape). IsOutbox k cur) (sym same) here
+
+-- all rows are written
+pub sweep_written : (choice : Choice) (now : Contents) (s : Shape) (r : ℕ) (f : ℕ → ℕ) (m : ℕ) (rows cur : List RowOrders) → ((k b n : ℕ) → choice (record { rank = k; number = b; receiver = n }) ≡ (if n == r then Some (f k) else None)) → contents_of s rows ≡ now → IsOutbox s rows → m ≡ length rows → cur ≡ put_first r f 0 m rows → map orders_in cur ≡ written now.shape choice now.rows
+sweep_written choice now s r f m rows cur goes seen a all e =
+    subst (λ (k : Contents). map orders_in cur ≡ written k.shape choice k.rows) seen
+    (ap (map orders_in) (e ∙ ap (λ k. put_first r f 0 k rows) all) ∙ sym (all_written choice s r f goes 0 rows (relay s) a.names))
+
+pub sweep_counted : (choice : Choice) (now : Contents) (s : Shape) (r : ℕ) (f : ℕ → ℕ) (m count : ℕ) (rows : List RowOrders) → ((k b n : ℕ) → choice (record { rank = k; number = b; receiver = n }) ≡ (if n == r then Some (f k) else None)) → contents_of s rows ≡ now → IsOutbox s rows → m ≡ length rows → count ≡ found_first r m rows → count ≡ places_set now.shape choice
+sweep_counted choice now s r f m count rows goes seen a all e =
+    subst (λ (k : Contents). count ≡ places_set k.shape choice) seen
+    (e ∙ (ap (λ k. found_first r k rows) all ∙ sym (all_set choice s r f goes 0 rows (relay s) a.names)))

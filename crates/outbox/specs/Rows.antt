@@ -1,0 +1,52 @@
+-- One label's row of an outbox.
+use Rattle.std.specs.Prelude.{ℕ, ◌≡◌, ◌==◌, true, if◌then◌else◌, List, [], ◌∷◌, map, length, Option, Some, None, slice_index_or}
+use Rattle.label.specs.declared.shape.Shape.{Shape}
+use Rattle.label.specs.Labels.{is_distinct}
+use Rattle.label.specs.Oral.{AllBelow}
+use Rattle.label.specs.Relay.{receivers}
+
+-- the receivers, ascending, each with his order or nothing
+abbrev pub RowOrders : Type 0
+RowOrders = List (ℕ × Option ℕ)
+
+abbrev pub receivers_in : RowOrders → List ℕ
+receivers_in row = map (λ p. p.0) row
+
+abbrev pub orders_in : RowOrders → List (Option ℕ)
+orders_in row = map (λ p. p.1) row
+
+-- the row of orders that are kept by the receiver's number
+abbrev pub row_of : List (Option ℕ) → List ℕ → RowOrders
+row_of orders names = map (λ n. (n, slice_index_or orders n None)) names
+
+-- what the numbers keep
+pub record IsRow (orders : List (Option ℕ)) (names : List ℕ) : Type 0 where
+  pub long : length orders ≡ 13
+  pub below : AllBelow 13 names
+  pub distinct : is_distinct names ≡ true
+
+-- a row in which nothing is put
+abbrev pub empty_row : List ℕ → RowOrders
+empty_row names = map (λ n. (n, None)) names
+
+-- that of a label
+abbrev pub row_for : Shape → List ℕ → RowOrders
+row_for s label = empty_row (receivers s label)
+
+-- an order for one receiver
+abbrev pub put_one : ℕ → ℕ → ℕ × Option ℕ → ℕ × Option ℕ
+put_one receiver order p = (p.0, (if p.0 == receiver then Some order else p.1))
+
+abbrev pub put_row : ℕ → ℕ → RowOrders → RowOrders
+put_row receiver order row = map (put_one receiver order) row
+
+-- orders for the first receivers, as many as there are
+abbrev pub filled : List ℕ → RowOrders → RowOrders
+filled [] row = row
+filled (order ∷ orders) [] = []
+filled (order ∷ orders) (p ∷ row) = (p.0, Some order) ∷ filled orders row
+
+-- a receiver's order
+abbrev pub order_in : ℕ → RowOrders → Option ℕ
+order_in receiver [] = None
+order_in receiver (p ∷ row) = if p.0 == receiver then p.1 else order_in receiver row

@@ -1,0 +1,12 @@
+//! The orders that a general puts for a round, a place for each label relayed and each receiver.
+#![tactic(auto)]
+
+mod context;
+mod orders;
+mod relays;
+mod row;
+#[cfg(test)]
+mod tests;
+
+pub use label::Shape;
+pub use orders::Outbox;

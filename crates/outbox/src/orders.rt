@@ -1,0 +1,124 @@
+ghost use Rattle.std.specs.Prelude.{◌≡◌, ◌<◌, ◌↔◌, IfOk, IsTrue, Some, length};
+ghost use Rattle.label.specs.Relay.{IsShape};
+ghost use Rattle.semantics.specs.Outbox.{empty_outbox, written, places_set, at_place, along_row, at_receiver, as_taken};
+ghost use Rattle.outbox.specs.Contents.{order_at};
+
+use crate::context::taken_value;
+use crate::relays::rows_of;
+use crate::row::Row;
+use label::Shape;
+use std::alloc::{AllocError, Global};
+use std::marker::Model;
+
+/// The outbox of a general in a round: for each label that he relays, by rank, an order or nothing for each receiver.
+#[derive(Drop)]
+pub struct Outbox {
+    shape: Shape,
+    rows: Vec<Row>,
+}
+
+impl Model for Outbox {
+    ghost use Rattle.outbox.specs.Contents.{Contents, IsOutbox, contents_of};
+
+    ghost Value = { Contents };
+
+    ghost view = { λ o. contents_of o.shape o.rows.items };
+
+    ghost invariant = { λ o. IsOutbox o.shape o.rows.items };
+}
+
+impl Outbox {
+    /// An outbox in which nothing is put. Nothing that is put later takes memory.
+    ///
+    /// # Errors
+    ///
+    /// `AllocError` where the memory for the rows is refused.
+    pub fn new(alloc: Global, shape: Shape) -> Result<Outbox, AllocError>
+        requires { IsShape shape }
+        ensures shape { IfOk result (λ outbox. outbox.shape ≡ shape) }
+        ensures empty { IfOk result (λ outbox. outbox.rows ≡ empty_outbox shape) }
+    {
+        Ok(Outbox {
+            shape,
+            rows: rows_of(alloc, shape)?,
+        })
+    }
+
+    /// Puts an order for a receiver of a label, by its rank, in place of an earlier one: whether there is such a place.
+    pub fn put(&mut self, label: u32, receiver: u32, value: u32) -> bool
+        ensures shape { self.new.shape ≡ self.old.shape }
+        ensures rows { self.new.rows ≡ written self.old.shape (at_place label receiver value) self.old.rows }
+        ensures there { IsTrue result ↔ (0 < places_set self.old.shape (at_place label receiver value)) }
+        ensures found { IsTrue result → order_at self.new.shape self.new.rows label receiver ≡ Some value }
+    {
+        let rank = label as usize;
+        if rank >= self.rows.len() {
+            return false;
+        }
+        self.rows[rank].put(receiver, value)
+    }
+
+    /// Puts orders for the receivers of a label, ascending, as many as there are: how many were put.
+    pub fn row(&mut self, label: u32, orders: &[u32]) -> u32
+        ensures shape { self.new.shape ≡ self.old.shape }
+        ensures rows { self.new.rows ≡ written self.old.shape (along_row label orders.now) self.old.rows }
+        ensures count { result ≡ places_set self.old.shape (along_row label orders.now) }
+    {
+        let rank = label as usize;
+        if rank >= self.rows.len() {
+            return 0;
+        }
+        self.rows[rank].fill(orders)
+    }
+
+    /// Puts one order for a receiver at every label: how many were put.
+    pub fn sway(&mut self, receiver: u32, value: u32) -> u32
+        ensures shape { self.new.shape ≡ self.old.shape }
+        ensures rows { self.new.rows ≡ written self.old.shape (at_receiver receiver value) self.old.rows }
+        ensures count { result ≡ places_set self.old.shape (at_receiver receiver value) }
+    {
+        let mut set = 0;
+        for rank in 0..self.rows.len() {
+            if self.rows[rank].put(receiver, value) {
+                set += 1;
+            }
+        }
+        set
+    }
+
+    /// Puts for a receiver, at every label, the value that the general took for it: how many were put.
+    pub fn honest(&mut self, context: &[u8], receiver: u32) -> u32
+        requires { length context.now ≡ 4096 }
+        ensures shape { self.new.shape ≡ self.old.shape }
+        ensures rows { self.new.rows ≡ written self.old.shape (as_taken context.now receiver) self.old.rows }
+        ensures count { result ≡ places_set self.old.shape (as_taken context.now receiver) }
+    {
+        let mut set = 0;
+        let labels = self.rows.len();
+        for rank in 0..labels {
+            if self.rows[rank].put(receiver, taken_value(context, rank)) {
+                set += 1;
+            }
+        }
+        set
+    }
+
+    /// The order at a place, where there is such a place and an order was put.
+    pub fn get(&self, label: u32, receiver: u32) -> Option<u32>
+        ensures { result ≡ order_at self.now.shape self.now.rows label receiver }
+    {
+        let rank = label as usize;
+        if rank >= self.rows.len() {
+            return None;
+        }
+        self.rows[rank].order(receiver)
+    }
+
+    /// Whose relay it is.
+    pub fn shape(&self) -> Shape
+        ensures same { result ≡ self.now.shape }
+        ensures within { IsShape result }
+    {
+        self.shape
+    }
+}

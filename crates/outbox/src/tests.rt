@@ -1,0 +1,47 @@
+use crate::{Outbox, Shape};
+
+/// General 3 of 4 under commander 0: in round 2 he relays label 0 to 1 and 2.
+#[test]
+fn relays_one_label(rt: HostRuntime) {
+    let shape = Shape {
+        generals: 4,
+        commander: 0,
+        general: 3,
+        round: 2,
+    };
+    let Ok(mut outbox) = Outbox::new(rt.alloc(), shape) else {
+        return;
+    };
+    assert_eq!(rt; outbox.get(0, 1), None);
+    assert_eq!(rt; outbox.sway(1, 0), 1);
+    assert_eq!(rt; outbox.sway(2, 0), 1);
+    assert_eq!(rt; outbox.sway(0, 9), 0);
+    assert_eq!(rt; outbox.get(0, 1), Some(0));
+    assert!(rt; outbox.put(0, 2, 7));
+    assert!(rt; !outbox.put(0, 3, 7));
+    assert!(rt; !outbox.put(1, 2, 7));
+    assert_eq!(rt; outbox.get(0, 2), Some(7));
+    assert_eq!(rt; outbox.row(0, &[5, 6, 8]), 2);
+    assert_eq!(rt; outbox.get(0, 2), Some(6));
+    let mut context = [0; 4096];
+    context[33] = 1;
+    assert_eq!(rt; outbox.honest(&context, 1), 1);
+    assert_eq!(rt; outbox.get(0, 1), Some(256));
+    assert_eq!(rt; outbox.shape().round, 2);
+}
+
+/// A lieutenant relays nothing in round 1.
+#[test]
+fn relays_nothing(rt: HostRuntime) {
+    let shape = Shape {
+        generals: 4,
+        commander: 0,
+        general: 3,
+        round: 1,
+    };
+    let Ok(mut outbox) = Outbox::new(rt.alloc(), shape) else {
+        return;
+    };
+    assert_eq!(rt; outbox.sway(1, 0), 0);
+    assert_eq!(rt; outbox.get(0, 1), None);
+}
