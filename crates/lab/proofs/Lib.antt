@@ -1,2 +1,3 @@
 pub mod BenchLemmas
 pub mod LineLemmas
+pub mod RefusalLemmas

@@ -1,8 +1,9 @@
 -- Why a task prints nothing on a file of some bytes.
-use Rattle.std.specs.Prelude.{ℕ, ◌≡◌, List, None, Err}
+use Rattle.std.specs.Prelude.{ℕ, ◌≡◌, ◌≢◌, List, None, Err, IfSome}
 use Rattle.std.specs.Str.{IsUtf8}
 use Rattle.insn.specs.declared.insn.Insn.{Insn}
-use Rattle.codec.specs.Program.{IsAnswered, SpellsProgram}
+use Rattle.semantics.specs.Plain.{IsPlain}
+use Rattle.codec.specs.Program.{IsFirstFault, SpellsProgram}
 use Rattle.codec.specs.declared.fault.CodecError.{CodecError}
 use Rattle.codec.specs.declared.fault.CodecError.TheVariants as codec
 use Rattle.asm.specs.Program.{program_of}
@@ -13,6 +14,7 @@ use Rattle.book.specs.declared.fault.TableError.{TableError}
 use Rattle.book.specs.declared.fault.TableError.TheVariants as table
 use Rattle.verify.specs.declared.fault.Fault.{Fault}
 use Rattle.verify.specs.declared.fault.Fault.TheVariants as verifier
+use Rattle.verify.specs.Structure.{structural_fault, IsOwnFault}
 use Rattle.command_line.specs.declared.tasks.Task.{Task}
 use Rattle.command_line.specs.declared.tasks.Task.TheVariants.{Check, Assemble, Disassemble, Book}
 use Rattle.lab.specs.declared.refusal.Refusal.{Refusal}
@@ -35,15 +37,27 @@ abbrev pub table_refusal : TableError → Refusal
 table_refusal table.Memory = Memory
 table_refusal error = Table error
 
--- the bytes spell no program, by this first fault; or the verifier refuses the program that they spell
+-- the bytes spell no program, by this first fault
+abbrev pub RefusesBytes : List ℕ → CodecError → Type 0
+RefusesBytes bytes (codec.At fault unit) = IsFirstFault bytes fault unit
+RefusesBytes bytes codec.Memory = ⊥
+
+-- the verifier refuses the program, which is not plain, by its first structural fault, or where it has none by a fault of an instruction
+pub record RefusesProgram (program : List Insn) (fault : Fault) : Type 0 where
+  pub named : fault ≢ verifier.Memory
+  pub not_plain : IsPlain program → ⊥
+  pub structural : IfSome (structural_fault program) (λ first. fault ≡ first)
+  pub unstructural : structural_fault program ≡ None → IsOwnFault program fault
+
+-- the bytes spell no program, or the verifier refuses the program that they spell
 abbrev pub RefusesCheck : List ℕ → Refusal → Type 0
-RefusesCheck bytes (Codec error) = IsAnswered bytes error
-RefusesCheck bytes (Verifier fault) = (program : List Insn) × SpellsProgram bytes program
+RefusesCheck bytes (Codec error) = RefusesBytes bytes error
+RefusesCheck bytes (Verifier fault) = (program : List Insn) × SpellsProgram bytes program × RefusesProgram program fault
 RefusesCheck bytes Memory = Unit {0}
 RefusesCheck bytes _ = ⊥
 
 abbrev pub RefusesDisassembly : List ℕ → Refusal → Type 0
-RefusesDisassembly bytes (Codec error) = IsAnswered bytes error
+RefusesDisassembly bytes (Codec error) = RefusesBytes bytes error
 RefusesDisassembly bytes Memory = Unit {0}
 RefusesDisassembly bytes _ = ⊥
 
