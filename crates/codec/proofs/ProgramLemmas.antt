@@ -6,6 +6,7 @@ use Rattle.std.specs.List.{AllByRecursion}
 use Rattle.insn.specs.declared.insn.Insn.{Insn}
 use Rattle.insn.specs.Insn.{IsInsn, units_of}
 use Rattle.insn.specs.Program.{slots_of}
+use Rattle.insn.proofs.WellLemmas.{all_push}
 use Rattle.insn.proofs.SlotLemmas.{length-slots_of-push, length-slots_of-cons}
 use Rattle.codec.specs.declared.fault.Fault.{Fault}
 use Rattle.codec.specs.Spelling.{instruction_bytes, program_bytes}
@@ -21,10 +22,6 @@ program_bytes-append (x ∷ xs) ys = ap (λ (b : List ℕ). instruction_bytes x 
 pub length-program_bytes : (xs : List Insn) → length (program_bytes xs) ≡ 8 * length (slots_of xs)
 length-program_bytes [] = refl
 length-program_bytes (x ∷ xs) = omega (arith, length-append (instruction_bytes x) (program_bytes xs), length-instruction_bytes x, length-program_bytes xs, length-slots_of-cons x xs)
-
-pub all_append : (xs : List Insn) (x : Insn) → AllByRecursion IsInsn xs → IsInsn x → AllByRecursion IsInsn (xs ++ x ∷ [])
-all_append [] x all here = (here, tt)
-all_append (y ∷ xs) x all here = (all.0, all_append xs x all.1 here)
 
 -- the instructions are those of the units so far
 pub record IsReadTo (bytes : List ℕ) (is : List Insn) (unit units : ℕ) : Type 0 where
@@ -47,7 +44,7 @@ read_more bytes is new unit next units i tail whole r tail-is fits long found ne
   counted = ap (λ (x : List Insn). length (slots_of x)) new-is ∙ (length-slots_of-push is i ∙ omega (arith, r.counted, next-is));
   spelled = ap (λ (n : ℕ). take n bytes) onwards ∙ (take-add (8 * unit) (8 * units_of i) bytes ∙ (ap (λ (b : List ℕ). b ++ take (8 * units_of i) (drop (8 * unit) bytes)) r.spelled
       ∙ (ap (λ (b : List ℕ). program_bytes is ++ b) here ∙ (sym (program_bytes-push is i) ∙ ap program_bytes (sym new-is)))));
-  well_formed = subst (λ (x : List Insn). AllByRecursion IsInsn x) (sym new-is) (all_append is i r.well_formed fits);
+  well_formed = subst (λ (x : List Insn). AllByRecursion IsInsn x) (sym new-is) (all_push IsInsn is i r.well_formed fits);
   inside = omega (arith, r.inside, long, next-is, ap length same, length-drop (8 * unit) bytes);
 }
   where
