@@ -4,7 +4,7 @@ use Rattle.insn.specs.declared.insn.Insn.{Insn}
 use Rattle.insn.specs.Program.{instruction_at}
 use Rattle.semantics.specs.Plain.{IsPlain, Unwritten, at_entry, along}
 use Rattle.verify.specs.declared.fault.Fault.{Fault}
-use Rattle.verify.specs.declared.state.AbsVal.{AbsVal}
+use Rattle.absval.specs.declared.value.AbsVal.{AbsVal}
 use Rattle.verify.specs.Gamma.{has_number}
 use Rattle.verify.specs.Reads.{AllRead}
 use Rattle.verify.specs.Slots.{Slot, IsBlank, IsBlankAt, BlanksFrom, BlanksComeTo, BlanksAreUnwritten}

@@ -7,7 +7,7 @@ use Rattle.insn.specs.declared.insn.Insn.{Insn}
 use Rattle.insn.specs.declared.insn.Insn.TheVariants.{Jump, LongJump, Branch, Exit}
 use Rattle.insn.specs.declared.insn.Operand.{Operand}
 use Rattle.verify.specs.declared.fault.Fault.{Fault}
-use Rattle.verify.specs.declared.state.AbsVal.{AbsVal}
+use Rattle.absval.specs.declared.value.AbsVal.{AbsVal}
 use Rattle.verify.specs.declared.state.AbsState.{AbsState}
 use Rattle.verify.specs.Reads.{AllRead}
 use Rattle.verify.specs.Slots.{Slot, LeadsOn, EdgesInside, BlanksFrom}

@@ -10,3 +10,4 @@ pub mod EdgeEnds
 pub mod Jumps
 pub mod Blanks
 pub mod Rests
+pub mod StepLemmas

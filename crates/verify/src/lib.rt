@@ -11,7 +11,6 @@ mod steps;
 mod structure;
 #[cfg(test)]
 mod tests;
-mod values;
 mod verified;
 mod verifier;
 

@@ -84,7 +84,7 @@ fn faults_of_registers(rt: HostRuntime) -> Result<(), Fail> {
     let copy = arithmetic!(Move, r0, Operand::Register(r1));
     assert_eq!(rt;
         answer(alloc, [copy, Insn::Exit].to_vec(alloc)?)?.as_str(),
-        "V7 unit 0"
+        "V13 unit 1"
     );
     let frame = arithmetic!(Move, r10, Operand::Immediate(0));
     assert_eq!(rt;
@@ -133,7 +133,7 @@ fn paths_that_meet(rt: HostRuntime) -> Result<(), Fail> {
     let one_side = [set, skip, set_r1, copy, Insn::Exit].to_vec(alloc)?;
     assert_eq!(rt; answer(alloc, one_side)?.as_str(), "V5 unit 3");
     let neither = [set, skip, set, copy, Insn::Exit].to_vec(alloc)?;
-    assert_eq!(rt; answer(alloc, neither)?.as_str(), "V7 unit 3");
+    assert_eq!(rt; answer(alloc, neither)?.as_str(), "V13 unit 4");
     let both = [set, set_r1, skip, set_r1, copy, Insn::Exit].to_vec(alloc)?;
     assert_eq!(rt; answer(alloc, both)?.as_str(), "accepted 6");
     let unreached = [set, Insn::Jump { distance: 1 }, call, Insn::Exit].to_vec(alloc)?;
