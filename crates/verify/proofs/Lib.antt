@@ -11,3 +11,4 @@ pub mod Jumps
 pub mod Blanks
 pub mod Rests
 pub mod StepLemmas
+pub mod BranchLemmas

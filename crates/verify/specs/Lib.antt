@@ -8,3 +8,4 @@ pub mod Reads
 pub mod Outcomes
 pub mod Slots
 pub mod Faults
+pub mod Branches

@@ -1,6 +1,8 @@
 //! The verifier: a program that it accepts is sound.
 #![tactic(auto)]
 
+mod branches;
+mod comparison;
 mod fault;
 mod pass;
 mod pending;

@@ -1,11 +1,12 @@
 //! What is known of the registers.
-ghost use Rattle.std.specs.Prelude.{◌≡◌, ◌≤◌, ◌<◌, true, List, [], ◌∷◌, slice_index_or, slice_set};
+ghost use Rattle.std.specs.Prelude.{◌≡◌, ◌≤◌, ◌<◌, true, false, List, [], ◌∷◌, slice_index_or, slice_set};
 ghost use Rattle.semantics.specs.declared.value.Value.{Value};
 ghost use Rattle.semantics.specs.State.{Outbox, entry, value_at, operand_value};
 ghost use Rattle.semantics.specs.Step.{first_operand};
 ghost use Rattle.semantics.specs.Plain.{operand_reads, first_reads};
 ghost use Rattle.absval.specs.Contains.{Contains, is_number};
-ghost use Rattle.verify.specs.Gamma.{RegistersDescribe, Describes};
+ghost use Rattle.verify.specs.Gamma.{RegistersDescribe, Describes, has_number};
+ghost use Rattle.verify.specs.Branches.{StayNumbers};
 ghost use Rattle.verify.specs.Reads.{AllNumbers, LeavesBut, JoinsNumbers};
 
 use crate::state::AbsState;
@@ -34,6 +35,7 @@ pub fn at_entry() -> AbsState
 
 /// What is known of a register.
 pub fn read(registers: &[AbsVal; 11], r: Reg) -> AbsVal
+    ensures exact { result ≡ slice_index_or registers.now r AbsVal.Unset }
     ensures holds { (vs : List Value) → RegistersDescribe registers.now vs → Contains result (value_at vs r) }
     ensures numbers { AllNumbers (r ∷ []) registers.now → is_number result ≡ true }
 {
@@ -66,6 +68,14 @@ pub fn first(registers: &[AbsVal; 11], operation: Operation, dst: Reg) -> AbsVal
 pub fn write(registers: &mut [AbsVal; 11], r: Reg, value: AbsVal)
     ensures holds { (vs : List Value) (v : Value) → RegistersDescribe registers.old vs → Contains value v → RegistersDescribe registers.new (slice_set vs r v) }
     ensures numbers { is_number value ≡ true → LeavesBut (r ∷ []) registers.old registers.new }
+{
+    registers[r.number() as usize] = value;
+}
+
+/// More is known of what a register holds.
+pub fn narrow(registers: &mut [AbsVal; 11], r: Reg, value: AbsVal)
+    ensures holds { (vs : List Value) → RegistersDescribe registers.old vs → Contains value (value_at vs r) → RegistersDescribe registers.new vs }
+    ensures numbers { (first : List AbsVal) → StayNumbers first registers.old → (is_number value ≡ false → has_number first r ≡ false) → StayNumbers first registers.new }
 {
     registers[r.number() as usize] = value;
 }

@@ -1,18 +1,19 @@
 //! What one instruction does to what is known.
 ghost use Rattle.std.specs.Prelude.{◌≡◌, ◌≢◌, ℕ, ◌+◌, ◌++◌, true, List, [], ◌∷◌, IfSome, IsSome, IsOk, OnOk, Result};
 ghost use Rattle.word.specs.declared.Width.{Width};
-ghost use Rattle.word.specs.declared.Condition.{Condition};
 ghost use Rattle.label.specs.declared.shape.Shape.{Shape};
 ghost use Rattle.semantics.specs.declared.value.Value.{Value};
-ghost use Rattle.semantics.specs.State.{Cause, State, value_at, operand_value};
-ghost use Rattle.semantics.specs.Step.{assigned, condition_of};
+ghost use Rattle.semantics.specs.State.{Cause, State};
+ghost use Rattle.semantics.specs.Step.{assigned};
 ghost use Rattle.semantics.specs.Execution.{executed};
 ghost use Rattle.semantics.specs.Plain.{IsIn, IsOfNumbers, operand_reads, first_reads, writes};
 ghost use Rattle.absval.specs.Contains.{Gives, is_number};
 ghost use Rattle.verify.specs.Gamma.{Describes};
+ghost use Rattle.verify.specs.Branches.{decided_by};
 ghost use Rattle.verify.specs.Reads.{AllNumbers, AllRead, Leaves, LeavesBut};
 ghost use Rattle.verify.specs.Outcomes.{IsTest, GoesOn, Follows, IsEnd, IsStraight, IsNotCall};
 
+use crate::comparison::Comparison;
 use crate::reason::Reason;
 use crate::registers;
 use crate::state::AbsState;
@@ -186,13 +187,12 @@ pub fn straight(state: &mut AbsState, insn: &Insn) -> Result<(), Reason>
 }
 
 /// Two values are compared.
-pub fn compare(state: &AbsState, dst: Reg, operand: Operand) -> Result<(), Reason>
-    ensures holds { OnOk result ((width : Width) (condition : Condition) (s : State) →
-        Describes state.now s → IsTest (condition_of width condition (value_at s.registers dst) (operand_value s.registers operand))) }
-    ensures plain { AllNumbers (dst ∷ operand_reads operand) state.now.registers → IsOk result }
+pub fn compare(state: &AbsState, compared: &Comparison) -> Result<(), Reason>
+    ensures holds { OnOk result ((s : State) → Describes state.now s → IsTest (decided_by compared.now s.registers)) }
+    ensures plain { AllNumbers (compared.now.dst ∷ operand_reads compared.now.operand) state.now.registers → IsOk result }
 {
-    let first = registers::read(&state.registers, dst);
-    let second = registers::operand(&state.registers, operand);
+    let first = registers::read(&state.registers, compared.dst);
+    let second = registers::operand(&state.registers, compared.operand);
     check_set(first)?;
     check_set(second)?;
     check_number(first)?;

@@ -35,11 +35,11 @@ macro_rules! arithmetic {
     };
 }
 
-macro_rules! jump_if_equal {
-    ($dst:expr, $operand:expr, $distance:expr) => {
+macro_rules! jump_if {
+    ($condition:ident, $dst:expr, $operand:expr, $distance:expr) => {
         Insn::Branch {
             width: Width::W64,
-            condition: Condition::Equal,
+            condition: Condition::$condition,
             dst: $dst,
             operand: $operand,
             distance: $distance,
@@ -128,7 +128,8 @@ fn paths_that_meet(rt: HostRuntime) -> Result<(), Fail> {
     let set = arithmetic!(Move, r0, Operand::Immediate(0));
     let set_r1 = arithmetic!(Move, r1, Operand::Immediate(0));
     let copy = arithmetic!(Move, r0, Operand::Register(r1));
-    let skip = jump_if_equal!(r0, Operand::Immediate(0), 1);
+    let skip = jump_if!(AnyBit, r0, Operand::Immediate(1), 1);
+    let always = jump_if!(Equal, r0, Operand::Immediate(0), 1);
     let call = Insn::Call { helper: 1 };
     let one_side = [set, skip, set_r1, copy, Insn::Exit].to_vec(alloc)?;
     assert_eq!(rt; answer(alloc, one_side)?.as_str(), "V5 unit 3");
@@ -136,6 +137,10 @@ fn paths_that_meet(rt: HostRuntime) -> Result<(), Fail> {
     assert_eq!(rt; answer(alloc, neither)?.as_str(), "V13 unit 4");
     let both = [set, set_r1, skip, set_r1, copy, Insn::Exit].to_vec(alloc)?;
     assert_eq!(rt; answer(alloc, both)?.as_str(), "accepted 6");
+    let never = [set, always, call, copy, Insn::Exit].to_vec(alloc)?;
+    assert_eq!(rt; answer(alloc, never)?.as_str(), "V13 unit 4");
+    let known = [set, set_r1, always, set_r1, copy, Insn::Exit].to_vec(alloc)?;
+    assert_eq!(rt; answer(alloc, known)?.as_str(), "accepted 6");
     let unreached = [set, Insn::Jump { distance: 1 }, call, Insn::Exit].to_vec(alloc)?;
     assert_eq!(rt; answer(alloc, unreached)?.as_str(), "accepted 4");
     Ok(())
