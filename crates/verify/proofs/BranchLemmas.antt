@@ -1,5 +1,5 @@
 -- What the edges of a conditional jump hold.
-use Rattle.std.proofs.Common.{◌≡◌, ℕ, ◌+◌, ◌%◌, ◌^◌, ◌<◌, ◌≤◌, ◌⊎◌, inl, inr, List, Option, Some, None, Result, Ok, Err, Bool, true, false, refl, sym, ap, subst, ◌∙◌, ⊎_elim, arith}
+use Rattle.std.proofs.Common.{◌≡◌, ℕ, ◌+◌, inl, inr, List, Option, Some, None, Result, Ok, Err, Bool, true, false, refl, sym, ap, subst, ◌∙◌, ⊎_elim, arith}
 use Rattle.std.specs.Prelude.{ℤ, pos, ◌+ℤ◌}
 use Rattle.word.specs.declared.Width.{Width}
 use Rattle.word.specs.declared.Width.TheVariants.{W32, W64}
@@ -8,22 +8,20 @@ use Rattle.word.specs.Arithmetic.{taken, related, compared}
 use Rattle.range.specs.declared.range.Range.{Range}
 use Rattle.range.specs.Interval.{IsIn}
 use Rattle.range.specs.Edges.{HoldBoth as HoldNumbers}
-use Rattle.insn.specs.declared.insn.Insn.{Insn}
 use Rattle.label.specs.declared.shape.Shape.{Shape}
 use Rattle.semantics.specs.declared.value.Value.{Value}
 use Rattle.semantics.specs.declared.value.Value.TheVariants as value
 use Rattle.semantics.specs.State.{Cause, State}
 use Rattle.semantics.specs.Step.{condition_of, arrived, branched}
 use Rattle.semantics.specs.Execution.{executed}
-use Rattle.semantics.specs.Plain.{leads_to}
 use Rattle.absval.specs.declared.value.AbsVal.{AbsVal}
 use Rattle.absval.specs.Contains.{IsNumberIn}
 use Rattle.verify.specs.declared.comparison.Comparison.{Comparison}
 use Rattle.verify.specs.declared.state.AbsState.{AbsState}
-use Rattle.verify.specs.Gamma.{Describes, has_number}
+use Rattle.verify.specs.Gamma.{Describes}
 use Rattle.verify.specs.Branches.{decided_by, branch_of, StayNumbers}
 use Rattle.verify.specs.Outcomes.{IsTest}
-use Rattle.verify.specs.Slots.{Slot, IsAt, IsBlankAt, Arrives, BlanksComeTo}
+use Rattle.verify.specs.Slots.{Slot, IsAt, Arrives, BlanksComeTo}
 
 -- the two numbers lie in what is left
 abbrev pub HoldValues : Option (Range × Range) → Value → Value → Type 0

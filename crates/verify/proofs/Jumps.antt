@@ -6,6 +6,7 @@ use Rattle.word.specs.declared.Condition.{Condition}
 use Rattle.insn.specs.declared.insn.Insn.{Insn}
 use Rattle.insn.specs.declared.insn.Insn.TheVariants.{Jump, LongJump, Branch, Exit}
 use Rattle.insn.specs.declared.insn.Operand.{Operand}
+use Rattle.semantics.specs.Plain.{IsOfNumbers}
 use Rattle.verify.specs.declared.fault.Fault.{Fault}
 use Rattle.absval.specs.declared.value.AbsVal.{AbsVal}
 use Rattle.verify.specs.declared.state.AbsState.{AbsState}
@@ -42,8 +43,8 @@ branch_leads (Err fault) a i w c dst operand distance x unit pending e same lead
 
 pub branch_blanks : (r : Result (Unit {0}) Fault) (known : List AbsVal) (old new : List Slot) (i : Insn) (w : Width) (c : Condition) (dst : ℕ) (operand : Operand) (distance x : ℤ) (unit : ℕ) →
     i ≡ Branch w c dst operand distance → x ≡ distance → OnOk r (BlanksFrom (Branch w c dst operand x) unit known old new) →
-    OnOk r (AllRead i known → BlanksFrom i unit known old new)
-branch_blanks (Ok u) known old new i w c dst operand distance x unit e same blanks = λ all.
+    OnOk r (IsOfNumbers i → AllRead i known → BlanksFrom i unit known old new)
+branch_blanks (Ok u) known old new i w c dst operand distance x unit e same blanks = λ numbers all.
     subst (λ (j : Insn). BlanksFrom j unit known old new) (sym e) (subst (λ (y : ℤ). BlanksFrom (Branch w c dst operand y) unit known old new) same blanks)
 branch_blanks (Err fault) known old new i w c dst operand distance x unit e same blanks = tt
 

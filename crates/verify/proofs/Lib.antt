@@ -12,3 +12,5 @@ pub mod Blanks
 pub mod Rests
 pub mod StepLemmas
 pub mod BranchLemmas
+pub mod Loads
+pub mod StoreLemmas

@@ -1,14 +1,12 @@
 -- What an instruction makes of values that are known, and where it goes on.
-use Rattle.std.proofs.Common.{◌≡◌, ℕ, ◌+◌, ◌<◌, ◌++◌, ◌⊎◌, ⊎_elim, inl, inr, List, [], ◌∷◌, Option, Some, None, Result, Ok, Err, IfSome, OnOk, Bool, true, refl, sym, ap, subst, ◌∙◌}
+use Rattle.std.proofs.Common.{◌≡◌, ℕ, ◌+◌, ◌++◌, ⊎_elim, inl, inr, List, [], ◌∷◌, Option, Some, None, Result, Ok, Err, IfSome, IfOk, OnOk, true, refl, sym, ap, subst, ◌∙◌}
 use Rattle.std.specs.Prelude.{pos, IsSomeAnd}
 use Rattle.word.specs.declared.Width.{Width}
-use Rattle.word.specs.declared.Condition.{Condition}
 use Rattle.word.specs.declared.Operation.{Operation}
 use Rattle.word.specs.declared.Operation.TheVariants.{Add, Sub, Mul, Div, SignedDiv, Or, And, ShiftLeft, ShiftRight, Mod, SignedMod, Xor, Move, ShiftSigned}
 use Rattle.insn.specs.declared.insn.Insn.{Insn}
 use Rattle.insn.specs.Insn.{units_of}
 use Rattle.semantics.specs.declared.value.Value.{Value}
-use Rattle.semantics.specs.declared.value.Value.TheVariants as value
 use Rattle.semantics.specs.State.{State, Outcome, Next, Ask, Trap}
 use Rattle.semantics.specs.State.{Exit as Exited}
 use Rattle.semantics.specs.Step.{first_operand, result_of}
@@ -26,10 +24,13 @@ pub OnOk-map : {E : Type 0} (r : Result (Unit {0}) E) (P Q : Type 0) → (P → 
 OnOk-map (Ok u) P Q f p = f p
 OnOk-map (Err e) P Q f p = tt
 
+pub IfOk-map : {A E : Type 0} (r : Result A E) (P Q : A → Type 0) → ((a : A) → P a → Q a) → IfOk r P → IfOk r Q
+IfOk-map (Ok a) P Q f p = f a p
+IfOk-map (Err e) P Q f p = tt
+
 pub IfSome-map : {A : Type 0} (o : Option A) (P Q : A → Type 0) → ((a : A) → P a → Q a) → IfSome o P → IfSome o Q
 IfSome-map None P Q f p = tt
 IfSome-map (Some a) P Q f p = f a p
-
 
 result_of-first : (w : Width) (operation : Operation) (x y : Value) → result_of w operation (first_operand operation x) y ≡ result_of w operation x y
 result_of-first w Add x y = refl

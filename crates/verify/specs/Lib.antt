@@ -9,3 +9,4 @@ pub mod Outcomes
 pub mod Slots
 pub mod Faults
 pub mod Branches
+pub mod Stores

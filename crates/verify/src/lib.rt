@@ -4,6 +4,7 @@
 mod branches;
 mod comparison;
 mod fault;
+mod memory;
 mod pass;
 mod pending;
 mod reason;

@@ -37,7 +37,7 @@ fn pass_straight(
     ensures keeps { OnOk result (Keeps pending.old.items pending.new.items) }
     ensures own { IfErr result (IsFaultAt unit) }
     ensures plain { IsOfNumbers insn.now → (IsIn 10 (writes insn.now) → ⊥) → AllRead insn.now state.value.registers → IfErr result (λ fault. fault ≡ Fault.Memory) }
-    ensures blanks { OnOk result (AllRead insn.now state.value.registers → BlanksFrom insn.now unit state.value.registers pending.old.items pending.new.items) }
+    ensures blanks { OnOk result (IsOfNumbers insn.now → AllRead insn.now state.value.registers → BlanksFrom insn.now unit state.value.registers pending.old.items pending.new.items) }
 {
     if let Err(reason) = steps::straight(&mut state, insn) {
         return Err(reason.at(unit));
@@ -138,7 +138,7 @@ fn pass_state(
     ensures keeps { OnOk result (Keeps pending.old.items pending.new.items) }
     ensures own { IfErr result (IsFaultAt unit) }
     ensures plain { IsOfNumbers insn.now → (IsIn 10 (writes insn.now) → ⊥) → AllRead insn.now state.value.registers → IfErr result (λ fault. fault ≡ Fault.Memory) }
-    ensures blanks { OnOk result (AllRead insn.now state.value.registers → BlanksFrom insn.now unit state.value.registers pending.old.items pending.new.items) }
+    ensures blanks { OnOk result (IsOfNumbers insn.now → AllRead insn.now state.value.registers → BlanksFrom insn.now unit state.value.registers pending.old.items pending.new.items) }
 {
     match insn {
         Insn::Jump { distance } => {

@@ -15,10 +15,10 @@ ghost use Rattle.verify.specs.Outcomes.{IsTest, GoesOn, Follows, IsEnd, IsStraig
 
 use crate::comparison::Comparison;
 use crate::reason::Reason;
-use crate::registers;
 use crate::state::AbsState;
+use crate::{memory, registers};
 use absval::AbsVal;
-use insn::{Insn, Operand, Reg};
+use insn::{Insn, Operand, Reg, Size};
 use range::Range;
 use word::{ByteOrder, Narrow, Operation, SwapSize, Width};
 
@@ -128,12 +128,7 @@ fn sign_extend(
     put_made(state, dst, value, absval::sign_extend(width, part, value))
 }
 
-fn swap(
-    state: &mut AbsState,
-    order: ByteOrder,
-    size: SwapSize,
-    dst: Reg,
-) -> Result<(), Reason>
+fn swap(state: &mut AbsState, order: ByteOrder, size: SwapSize, dst: Reg) -> Result<(), Reason>
     ensures holds { OnOk result (Follows state.old (Insn.Swap order size dst) state.new) }
     ensures plain { dst ≢ 10 → AllNumbers (dst ∷ []) state.old.registers → IsOk result }
     ensures leaves { OnOk result (LeavesBut (dst ∷ []) state.old.registers state.new.registers) }
@@ -152,13 +147,57 @@ fn load_number(state: &mut AbsState, dst: Reg, number: u64) -> Result<(), Reason
     Ok(())
 }
 
+fn load(state: &mut AbsState, size: Size, dst: Reg, base: Reg, offset: i16) -> Result<(), Reason>
+    ensures { OnOk result (Follows state.old (Insn.Load size dst base offset) state.new) }
+{
+    let pointer = registers::read(&state.registers, base);
+    check_set(pointer)?;
+    check_writable(dst)?;
+    let value = memory::load(&state.stack, size, pointer, offset)?;
+    put(state, dst, value);
+    Ok(())
+}
+
+fn load_signed(
+    state: &mut AbsState,
+    part: Narrow,
+    dst: Reg,
+    base: Reg,
+    offset: i16,
+) -> Result<(), Reason>
+    ensures { OnOk result (Follows state.old (Insn.LoadSigned part dst base offset) state.new) }
+{
+    let pointer = registers::read(&state.registers, base);
+    check_set(pointer)?;
+    check_writable(dst)?;
+    let value = memory::load_signed(&state.stack, part, pointer, offset)?;
+    put(state, dst, value);
+    Ok(())
+}
+
+fn store(
+    state: &mut AbsState,
+    size: Size,
+    base: Reg,
+    offset: i16,
+    source: Operand,
+) -> Result<(), Reason>
+    ensures { OnOk result (Follows state.old (Insn.Store size base offset source) state.new) }
+{
+    let pointer = registers::read(&state.registers, base);
+    let value = registers::operand(&state.registers, source);
+    check_set(pointer)?;
+    check_set(value)?;
+    memory::store(&mut state.stack, size, pointer, offset, value)
+}
+
 /// An instruction that goes on behind itself. No helper is known yet, so a call is refused.
 pub fn straight(state: &mut AbsState, insn: &Insn) -> Result<(), Reason>
     requires { IsStraight insn.now }
     ensures holds { OnOk result (Follows state.old insn.now state.new) }
     ensures no_call { OnOk result (IsNotCall insn.now) }
     ensures plain { IsOfNumbers insn.now → (IsIn 10 (writes insn.now) → ⊥) → AllRead insn.now state.old.registers → IsOk result }
-    ensures leaves { OnOk result (AllRead insn.now state.old.registers → Leaves insn.now state.old.registers state.new.registers) }
+    ensures leaves { OnOk result (IsOfNumbers insn.now → AllRead insn.now state.old.registers → Leaves insn.now state.old.registers state.new.registers) }
 {
     match insn {
         Insn::Arithmetic {
@@ -176,9 +215,24 @@ pub fn straight(state: &mut AbsState, insn: &Insn) -> Result<(), Reason>
         } => sign_extend(state, *width, *part, *dst, *src),
         Insn::Swap { order, size, dst } => swap(state, *order, *size, *dst),
         Insn::LoadNumber { dst, number } => load_number(state, *dst, *number),
-        Insn::Load { .. } | Insn::LoadSigned { .. } | Insn::Store { .. } => {
-            Err(Reason::PointerUse)
-        }
+        Insn::Load {
+            size,
+            dst,
+            base,
+            offset,
+        } => load(state, *size, *dst, *base, *offset),
+        Insn::LoadSigned {
+            part,
+            dst,
+            base,
+            offset,
+        } => load_signed(state, *part, *dst, *base, *offset),
+        Insn::Store {
+            size,
+            base,
+            offset,
+            source,
+        } => store(state, *size, *base, *offset, *source),
         Insn::Call { .. } => Err(Reason::Helper),
         Insn::Jump { .. } | Insn::LongJump { .. } | Insn::Branch { .. } | Insn::Exit => {
             unreachable!()

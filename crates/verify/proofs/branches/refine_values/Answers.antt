@@ -1,5 +1,4 @@
 use Rattle.std.proofs.Common.{Some, subst}
-use Rattle.semantics.specs.declared.value.Value.{Value}
 use Rattle.absval.specs.declared.value.AbsVal.{AbsVal}
 use Rattle.absval.specs.Contains.{Contains}
 use Rattle.verify.proofs.BranchLemmas.{holds_values}

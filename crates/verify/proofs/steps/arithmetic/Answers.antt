@@ -1,5 +1,3 @@
-use Rattle.std.proofs.Common.{IfSome, true, ◌≡◌}
-use Rattle.insn.specs.declared.insn.Insn.TheVariants.{Arithmetic}
 use Rattle.semantics.specs.State.{value_at, operand_value}
 use Rattle.semantics.specs.Step.{result_of}
 use Rattle.semantics.specs.Plain.{first_reads, operand_reads}
