@@ -2,9 +2,9 @@
 use Rattle.std.proofs.Common.{◌≡◌, ◌≢◌, ℕ, zero, suc, replicate, Result, Ok, Err, OnOk, ◌+◌, ◌<◌, Bool, true, false, List, get_or, set, Some, None, arith, refl, sym, subst, ⊎_elim, get_or-set_other}
 use Rattle.insn.specs.declared.insn.Insn.{Insn}
 use Rattle.insn.specs.Program.{instruction_at}
-use Rattle.semantics.specs.Plain.{IsPlain, Unwritten, at_entry, along}
+use Rattle.semantics.specs.Plain.{IsPlain, IsOfNumbers, Unwritten, at_entry, along}
 use Rattle.verify.specs.declared.fault.Fault.{Fault}
-use Rattle.verify.specs.declared.state.AbsVal.{AbsVal}
+use Rattle.absval.specs.declared.value.AbsVal.{AbsVal}
 use Rattle.verify.specs.Gamma.{has_number}
 use Rattle.verify.specs.Reads.{AllRead}
 use Rattle.verify.specs.Slots.{Slot, IsBlank, IsBlankAt, BlanksFrom, BlanksComeTo, BlanksAreUnwritten}
@@ -56,9 +56,9 @@ blanks_skip program pending unit inv = λ v r le lt blank. inv v r (omega arith)
 
 -- so a unit of a plain program is passed
 pub unit_blanks : (r : Result (Unit {0}) Fault) (program : List Insn) (i : Insn) (known : List AbsVal) (old taken new : List Slot) (unit : ℕ) → instruction_at program unit ≡ Some i →
-    taken ≡ set old unit None → (BlanksAreUnwritten program old unit → UnwrittenHere program known unit) → OnOk r (AllRead i known → BlanksFrom i unit known taken new) →
+    taken ≡ set old unit None → (BlanksAreUnwritten program old unit → UnwrittenHere program known unit) → OnOk r (IsOfNumbers i → AllRead i known → BlanksFrom i unit known taken new) →
     OnOk r (IsPlain program → BlanksAreUnwritten program old unit → BlanksAreUnwritten program new (unit + 1))
 unit_blanks (Ok u) program i known old taken new unit at e here from = λ plain inv.
-    let blanks = from (all_read program i known unit plain at (here inv)) in
+    let blanks = from (plain.numbers unit i at) (all_read program i known unit plain at (here inv)) in
     blanks_next program i known old new unit at inv (here inv) (subst (λ (slots : List Slot). BlanksFrom i unit known slots new) e blanks)
 unit_blanks (Err fault) program i known old taken new unit at e here from = tt

@@ -6,8 +6,9 @@ use Rattle.word.specs.declared.Condition.{Condition}
 use Rattle.insn.specs.declared.insn.Insn.{Insn}
 use Rattle.insn.specs.declared.insn.Insn.TheVariants.{Jump, LongJump, Branch, Exit}
 use Rattle.insn.specs.declared.insn.Operand.{Operand}
+use Rattle.semantics.specs.Plain.{IsOfNumbers}
 use Rattle.verify.specs.declared.fault.Fault.{Fault}
-use Rattle.verify.specs.declared.state.AbsVal.{AbsVal}
+use Rattle.absval.specs.declared.value.AbsVal.{AbsVal}
 use Rattle.verify.specs.declared.state.AbsState.{AbsState}
 use Rattle.verify.specs.Reads.{AllRead}
 use Rattle.verify.specs.Slots.{Slot, LeadsOn, EdgesInside, BlanksFrom}
@@ -20,10 +21,10 @@ pub long_inside : (i : Insn) (distance x : ℤ) (unit end : ℕ) → i ≡ LongJ
 long_inside i distance x unit end e same inside =
     subst (λ (y : ℤ). EdgesInside (LongJump y) unit end) (sym same) (subst (λ (j : Insn). EdgesInside j unit end) e inside)
 
-pub branch_inside : (i : Insn) (w v : Width) (c d : Condition) (dst : ℕ) (operand : Operand) (distance x : ℤ) (unit end : ℕ) → i ≡ Branch w c dst operand distance → x ≡ distance →
-    EdgesInside i unit end → EdgesInside (Branch v d dst operand x) unit end
-branch_inside i w v c d dst operand distance x unit end e same inside =
-    subst (λ (y : ℤ). EdgesInside (Branch v d dst operand y) unit end) (sym same) (subst (λ (j : Insn). EdgesInside j unit end) e inside)
+pub branch_inside : (i : Insn) (w : Width) (c : Condition) (dst : ℕ) (operand : Operand) (distance x : ℤ) (unit end : ℕ) → i ≡ Branch w c dst operand distance → x ≡ distance →
+    EdgesInside i unit end → EdgesInside (Branch w c dst operand x) unit end
+branch_inside i w c dst operand distance x unit end e same inside =
+    subst (λ (y : ℤ). EdgesInside (Branch w c dst operand y) unit end) (sym same) (subst (λ (j : Insn). EdgesInside j unit end) e inside)
 
 pub jump_leads : (a : AbsState) (i : Insn) (distance x : ℤ) (unit : ℕ) (pending : List Slot) → i ≡ Jump distance → x ≡ distance → LeadsOn a (LongJump x) unit pending → LeadsOn a i unit pending
 jump_leads a i distance x unit pending e same leads =
@@ -34,17 +35,17 @@ long_leads a i distance x unit pending e same leads =
     subst (λ (j : Insn). LeadsOn a j unit pending) (sym e) (subst (λ (y : ℤ). LeadsOn a (LongJump y) unit pending) same leads)
 
 pub branch_leads : (r : Result (Unit {0}) Fault) (a : AbsState) (i : Insn) (w : Width) (c : Condition) (dst : ℕ) (operand : Operand) (distance x : ℤ) (unit : ℕ) (pending : List Slot) →
-    i ≡ Branch w c dst operand distance → x ≡ distance → OnOk r ((width : Width) (condition : Condition) → LeadsOn a (Branch width condition dst operand x) unit pending) →
+    i ≡ Branch w c dst operand distance → x ≡ distance → OnOk r (LeadsOn a (Branch w c dst operand x) unit pending) →
     OnOk r (LeadsOn a i unit pending)
 branch_leads (Ok u) a i w c dst operand distance x unit pending e same leads =
-    subst (λ (j : Insn). LeadsOn a j unit pending) (sym e) (subst (λ (y : ℤ). LeadsOn a (Branch w c dst operand y) unit pending) same (leads w c))
+    subst (λ (j : Insn). LeadsOn a j unit pending) (sym e) (subst (λ (y : ℤ). LeadsOn a (Branch w c dst operand y) unit pending) same leads)
 branch_leads (Err fault) a i w c dst operand distance x unit pending e same leads = tt
 
 pub branch_blanks : (r : Result (Unit {0}) Fault) (known : List AbsVal) (old new : List Slot) (i : Insn) (w : Width) (c : Condition) (dst : ℕ) (operand : Operand) (distance x : ℤ) (unit : ℕ) →
-    i ≡ Branch w c dst operand distance → x ≡ distance → OnOk r ((width : Width) (condition : Condition) → BlanksFrom (Branch width condition dst operand x) unit known old new) →
-    OnOk r (AllRead i known → BlanksFrom i unit known old new)
-branch_blanks (Ok u) known old new i w c dst operand distance x unit e same blanks = λ all.
-    subst (λ (j : Insn). BlanksFrom j unit known old new) (sym e) (subst (λ (y : ℤ). BlanksFrom (Branch w c dst operand y) unit known old new) same (blanks w c))
+    i ≡ Branch w c dst operand distance → x ≡ distance → OnOk r (BlanksFrom (Branch w c dst operand x) unit known old new) →
+    OnOk r (IsOfNumbers i → AllRead i known → BlanksFrom i unit known old new)
+branch_blanks (Ok u) known old new i w c dst operand distance x unit e same blanks = λ numbers all.
+    subst (λ (j : Insn). BlanksFrom j unit known old new) (sym e) (subst (λ (y : ℤ). BlanksFrom (Branch w c dst operand y) unit known old new) same blanks)
 branch_blanks (Err fault) known old new i w c dst operand distance x unit e same blanks = tt
 
 pub exit_leads : (r : Result (Unit {0}) Fault) (a : AbsState) (i : Insn) (unit : ℕ) (pending : List Slot) → i ≡ Exit → OnOk r ((slots : List Slot) → LeadsOn a Exit unit slots) →

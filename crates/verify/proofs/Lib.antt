@@ -10,3 +10,7 @@ pub mod EdgeEnds
 pub mod Jumps
 pub mod Blanks
 pub mod Rests
+pub mod StepLemmas
+pub mod BranchLemmas
+pub mod Loads
+pub mod StoreLemmas

@@ -44,11 +44,11 @@ no_call_at program unit v i at e none helper call =
     subst (λ (j : Insn). IsNotCall j) same none
 
 module _ (program : List Insn) (context : List ℕ) (shape : Shape) (old new : List Slot) (unit : ℕ) (forward : IsForward program) (passed : IsPassed program unit old new)
-    (rest : Rest program context shape new (unit + 1)) where
+    (c : IsContext context) (rest : Rest program context shape new (unit + 1)) where
   -- a state at the unit is quiet
   quiet_here : (i : Insn) (s : State) → instruction_at program unit ≡ Some i → s.unit ≡ unit → IsAt old unit s → IsQuiet program context shape (left program unit) s
   quiet_here i s at e kept =
-      let leads = passed.leads i context shape s at e kept in
+      let leads = passed.leads i context shape s c at e kept in
       let less : left program (unit + 1) + 1 ≤ left program unit = left-falls program unit (unit + 1) i at (omega arith) in
       let later : (t : State) → IsIn (pos t.unit) (leads_to i unit) × IsAt new t.unit t → IsQuiet program context shape (left program (unit + 1)) t = λ t h.
       let edge = forward.edges unit i at (pos t.unit) h.0 in
@@ -67,19 +67,19 @@ some_is None some = absurd (cc)
 some_is (Some i) some = (i, refl)
 
 -- a unit is passed
-pub pass_step : (program : List Insn) (context : List ℕ) (shape : Shape) (old new : List Slot) (unit : ℕ) → IsForward program → IsPassed program unit old new →
+pub pass_step : (program : List Insn) (context : List ℕ) (shape : Shape) (old new : List Slot) (unit : ℕ) → IsForward program → IsPassed program unit old new → IsContext context →
     Rest program context shape new (unit + 1) → Rest program context shape old unit
-pass_step program context shape old new unit forward passed rest s le some kept = ⊎_elim
+pass_step program context shape old new unit forward passed c rest s le some kept = ⊎_elim
     (λ lt. rest s (omega arith) some (passed.keeps s.unit s lt kept))
     (λ ge. let e : s.unit ≡ unit = omega arith in
     let found = some_is (instruction_at program s.unit) some in
     let at = subst (λ (u : ℕ). instruction_at program u ≡ Some found.0) e found.1 in
     subst (λ (u : ℕ). IsQuiet program context shape (left program u) s) (sym e)
-    (quiet_here program context shape old new unit forward passed rest found.0 s at e (subst (λ (u : ℕ). IsAt old u s) e kept)))
+    (quiet_here program context shape old new unit forward passed c rest found.0 s at e (subst (λ (u : ℕ). IsAt old u s) e kept)))
     (cases_lt unit s.unit)
 
 pub rests_step : (program : List Insn) (old new : List Slot) (unit : ℕ) → IsForward program → IsPassed program unit old new → EntryRests program old unit → EntryRests program new (unit + 1)
-rests_step program old new unit forward passed rests context shape c h rest = rests context shape c h (pass_step program context shape old new unit forward passed rest)
+rests_step program old new unit forward passed rests context shape c h rest = rests context shape c h (pass_step program context shape old new unit forward passed c rest)
 
 first_start : (program : List Insn) → 0 < length (slots_of program) → IsSome (instruction_at program 0)
 first_start [] lt = absurd (omega arith)

@@ -47,3 +47,10 @@ at_read P xs i k x d l e p = rw (get_or_default xs i x d l) (subst (λ j. P (get
 -- what holds of a place holds of what was read there
 pub of_read : {A : Type 0} (P : A → Type 0) (xs : List A) (i : ℕ) (x d : A) → i < length xs → x ≡ get_or xs i x → P x → P (get_or xs i d)
 of_read P xs i x d l e p = rw (← get_or_default xs i x d l) (subst P e p)
+
+-- a place may hold less
+pub AllZip-narrow : {A B : Type 0} (R : A → B → Type 0) (xs : List A) (ys : List B) (i : ℕ) (x : A) (e : B) → AllZip R xs ys → R x (get_or ys i e) → AllZip R (set xs i x) ys
+AllZip-narrow R [] ys i x e z r = z
+AllZip-narrow R (a ∷ xs) [] i x e z r = absurd z
+AllZip-narrow R (a ∷ xs) (b ∷ ys) zero x e z r = (r, z.1)
+AllZip-narrow R (a ∷ xs) (b ∷ ys) (suc i) x e z r = (z.0, AllZip-narrow R xs ys i x e z.1 r)

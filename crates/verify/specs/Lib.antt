@@ -7,5 +7,6 @@ pub mod Gamma
 pub mod Reads
 pub mod Outcomes
 pub mod Slots
-pub mod Reasons
 pub mod Faults
+pub mod Branches
+pub mod Stores

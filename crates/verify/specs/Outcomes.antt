@@ -7,6 +7,7 @@ use Rattle.label.specs.declared.shape.Shape.{Shape}
 use Rattle.semantics.specs.State.{Cause, State, Outcome, Next, Ask, Trap}
 use Rattle.semantics.specs.State.{Exit as Exited}
 use Rattle.semantics.specs.Execution.{executed}
+use Rattle.semantics.specs.Run.{IsContext}
 use Rattle.verify.specs.declared.state.AbsState.{AbsState}
 use Rattle.verify.specs.Gamma.{Describes}
 
@@ -24,7 +25,7 @@ GoesOn a unit (Trap cause) = ⊥
 
 -- from every state that is described, the instruction goes on behind itself to one that is
 abbrev pub Follows : AbsState → Insn → AbsState → Type 0
-Follows old i new = (context : List ℕ) (shape : Shape) (s : State) → Describes old s → GoesOn new (s.unit + units_of i) (executed context shape i s)
+Follows old i new = (context : List ℕ) (shape : Shape) (s : State) → IsContext context → Describes old s → GoesOn new (s.unit + units_of i) (executed context shape i s)
 
 abbrev pub IsEnd : Outcome → Type 0
 IsEnd (Next t) = ⊥

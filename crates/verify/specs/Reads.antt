@@ -2,7 +2,7 @@
 use Rattle.std.specs.Prelude.{ℕ, ◌≡◌, ◌<◌, true, false, List, ◌⊎◌}
 use Rattle.insn.specs.declared.insn.Insn.{Insn}
 use Rattle.semantics.specs.Plain.{IsIn, reads, writes}
-use Rattle.verify.specs.declared.state.AbsVal.{AbsVal}
+use Rattle.absval.specs.declared.value.AbsVal.{AbsVal}
 use Rattle.verify.specs.Gamma.{has_number}
 
 -- each of these registers is a number

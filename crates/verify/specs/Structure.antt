@@ -5,7 +5,7 @@ use Rattle.insn.specs.declared.insn.Insn.TheVariants.{Jump, LongJump, Branch, Ex
 use Rattle.insn.specs.Insn.{units_of}
 use Rattle.insn.specs.Program.{slots_of, instruction_at}
 use Rattle.verify.specs.declared.fault.Fault.{Fault}
-use Rattle.verify.specs.declared.fault.Fault.TheVariants.{BackJump, JumpOut, JumpInWide, LastNotExit, Unset, FrameWrite, PointerUse, Helper, ExitPointer, Memory}
+use Rattle.verify.specs.declared.fault.Fault.TheVariants.{BackJump, JumpOut, JumpInWide, LastNotExit, Unset, FrameWrite, PointerUse, Bounds, StackUnset, ContextWrite, Helper, ExitPointer, Memory}
 
 -- a test, and the fault that stands where it holds
 abbrev pub Check : Type 0
@@ -16,7 +16,7 @@ abbrev pub first_fault : List Check → Option Fault
 first_fault [] = None
 first_fault (check ∷ checks) = if check.0 then Some check.1 else first_fault checks
 
--- the checks of a jump from a unit: its target lies further on, not past the end, and an instruction starts there
+-- the checks of a jump from a unit: its target lies behind, within the program, and where an instruction starts
 abbrev pub target_checks : List Insn → ℕ → ℤ → List Check
 target_checks program unit (negsuc n) = (true, BackJump unit) ∷ []
 target_checks program unit (pos target) =
@@ -60,6 +60,9 @@ IsFaultAt at (LastNotExit unit) = ⊥
 IsFaultAt at (Unset unit) = unit ≡ at
 IsFaultAt at (FrameWrite unit) = unit ≡ at
 IsFaultAt at (PointerUse unit) = unit ≡ at
+IsFaultAt at (Bounds unit) = unit ≡ at
+IsFaultAt at (StackUnset unit) = unit ≡ at
+IsFaultAt at (ContextWrite unit) = unit ≡ at
 IsFaultAt at (Helper unit) = unit ≡ at
 IsFaultAt at (ExitPointer unit) = unit ≡ at
 IsFaultAt at Memory = Unit {0}
@@ -73,6 +76,9 @@ IsOwnFault program (LastNotExit unit) = ⊥
 IsOwnFault program (Unset unit) = IsSome (instruction_at program unit)
 IsOwnFault program (FrameWrite unit) = IsSome (instruction_at program unit)
 IsOwnFault program (PointerUse unit) = IsSome (instruction_at program unit)
+IsOwnFault program (Bounds unit) = IsSome (instruction_at program unit)
+IsOwnFault program (StackUnset unit) = IsSome (instruction_at program unit)
+IsOwnFault program (ContextWrite unit) = IsSome (instruction_at program unit)
 IsOwnFault program (Helper unit) = IsSome (instruction_at program unit)
 IsOwnFault program (ExitPointer unit) = IsSome (instruction_at program unit)
 IsOwnFault program Memory = Unit {0}

@@ -23,9 +23,18 @@ pub enum Fault {
     /// The frame pointer is written.
     #[error("V6 unit {0}")]
     FrameWrite(usize),
-    /// A pointer is used.
+    /// A pointer is used as it may not be.
     #[error("V7 unit {0}")]
     PointerUse(usize),
+    /// An access may leave its region.
+    #[error("V8 unit {0}")]
+    Bounds(usize),
+    /// A cell of the stack is read that may hold no byte.
+    #[error("V9 unit {0}")]
+    StackUnset(usize),
+    /// The context is written.
+    #[error("V10 unit {0}")]
+    ContextWrite(usize),
     /// A helper is called that is not there.
     #[error("V11 unit {0}")]
     Helper(usize),

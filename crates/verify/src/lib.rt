@@ -1,7 +1,10 @@
 //! The verifier: a program that it accepts is sound.
 #![tactic(auto)]
 
+mod branches;
+mod comparison;
 mod fault;
+mod memory;
 mod pass;
 mod pending;
 mod reason;
@@ -11,7 +14,6 @@ mod steps;
 mod structure;
 #[cfg(test)]
 mod tests;
-mod values;
 mod verified;
 mod verifier;
 

@@ -1,22 +1,24 @@
 //! The forward pass.
-ghost use Rattle.std.specs.Prelude.{◌≡◌, ◌≤◌, ◌<◌, ◌+◌, ◌∷◌, List, ℕ, pos, ◌<ℤ◌, ◌+ℤ◌, length, IfOk, IfErr, OnOk, IsOk, IsErrAnd};
-ghost use Rattle.word.specs.declared.Width.{Width};
-ghost use Rattle.word.specs.declared.Condition.{Condition};
+ghost use Rattle.std.specs.Prelude.{◌≡◌, ◌≤◌, ◌<◌, ◌+◌, ◌∷◌, List, ℕ, pos, ◌<ℤ◌, ◌+ℤ◌, length, IfOk, IfErr, OnOk, IsOk, IsErrAnd, Ok};
 ghost use Rattle.insn.specs.Program.{slots_of};
+ghost use Rattle.semantics.specs.State.{State};
 ghost use Rattle.semantics.specs.Plain.{IsIn, IsOfNumbers, IsPlain, operand_reads, writes};
 ghost use Rattle.verify.specs.Structure.{IsFaultAt, IsOwnFault};
 ghost use Rattle.verify.specs.Forward.{IsForward};
+ghost use Rattle.verify.specs.Gamma.{Describes};
+ghost use Rattle.verify.specs.Branches.{decided_by, branch_of};
 ghost use Rattle.verify.specs.Quiet.{StartsQuiet};
 ghost use Rattle.verify.specs.Reads.{AllNumbers, AllRead};
 ghost use Rattle.verify.specs.Outcomes.{IsStraight, IsNotCall};
-ghost use Rattle.verify.specs.Slots.{Slot, Keeps, LeadsOn, IsPassed, EdgesInside, EdgesForward, BlanksFrom, BlanksAreUnwritten};
+ghost use Rattle.verify.specs.Slots.{Slot, IsAt, Keeps, LeadsOn, IsPassed, EdgesInside, EdgesForward, BlanksFrom, BlanksComeTo, BlanksAreUnwritten};
 
+use crate::comparison::Comparison;
 use crate::fault::Fault;
 use crate::pending::{Pending, boxed, empty, flow, take};
 use crate::state::AbsState;
 use crate::structure::forward_target;
-use crate::{registers, steps};
-use insn::{Insn, Operand, Program, Reg};
+use crate::{branches, registers, steps};
+use insn::{Insn, Program};
 use std::alloc::Global;
 
 /// An instruction that goes on behind itself.
@@ -35,7 +37,7 @@ fn pass_straight(
     ensures keeps { OnOk result (Keeps pending.old.items pending.new.items) }
     ensures own { IfErr result (IsFaultAt unit) }
     ensures plain { IsOfNumbers insn.now → (IsIn 10 (writes insn.now) → ⊥) → AllRead insn.now state.value.registers → IfErr result (λ fault. fault ≡ Fault.Memory) }
-    ensures blanks { OnOk result (AllRead insn.now state.value.registers → BlanksFrom insn.now unit state.value.registers pending.old.items pending.new.items) }
+    ensures blanks { OnOk result (IsOfNumbers insn.now → AllRead insn.now state.value.registers → BlanksFrom insn.now unit state.value.registers pending.old.items pending.new.items) }
 {
     if let Err(reason) = steps::straight(&mut state, insn) {
         return Err(reason.at(unit));
@@ -57,35 +59,53 @@ fn pass_jump(unit: usize, distance: i32, state: Box<AbsState>, pending: &mut Pen
     flow(pending, forward_target(unit, distance), state);
 }
 
-/// A conditional jump by so many units: both of its edges are followed.
+/// An edge of a conditional jump: it is followed where it may be taken.
+fn pass_edge(
+    unit: usize,
+    compared: &Comparison,
+    taken: bool,
+    mut state: Box<AbsState>,
+    pending: &mut Pending,
+)
+    requires { unit < length pending.old.items }
+    ensures length { length pending.new.items ≡ length pending.old.items }
+    ensures here { (s : State) → Describes state.value s → decided_by compared.now s.registers ≡ Ok taken → IsAt pending.new.items unit s }
+    ensures keeps { Keeps pending.old.items pending.new.items }
+    ensures blank { BlanksComeTo unit state.value.registers pending.old.items pending.new.items }
+{
+    if branches::refine(&mut state.registers, compared, taken) {
+        flow(pending, unit, state);
+    }
+}
+
+/// A conditional jump by so many units.
 fn pass_branch(
     alloc: Global,
     unit: usize,
-    compared: (Reg, Operand),
+    compared: &Comparison,
     distance: i16,
     state: Box<AbsState>,
     pending: &mut Pending,
 ) -> Result<(), Fault>
     requires bound { unit < 4096 }
     requires forward { pos unit <ℤ (pos (unit + 1) +ℤ distance) }
-    requires edges { (width : Width) (condition : Condition) → EdgesInside (Insn.Branch width condition compared.0 compared.1 distance) unit (length pending.old.items) }
+    requires edges { EdgesInside (branch_of compared.now distance) unit (length pending.old.items) }
     ensures length { length pending.new.items ≡ length pending.old.items }
-    ensures leads { OnOk result ((width : Width) (condition : Condition) →
-        LeadsOn state.value (Insn.Branch width condition compared.0 compared.1 distance) unit pending.new.items) }
+    ensures leads { OnOk result (LeadsOn state.value (branch_of compared.now distance) unit pending.new.items) }
     ensures keeps { OnOk result (Keeps pending.old.items pending.new.items) }
     ensures own { IfErr result (IsFaultAt unit) }
-    ensures plain { AllNumbers (compared.0 ∷ operand_reads compared.1) state.value.registers → IfErr result (λ fault. fault ≡ Fault.Memory) }
-    ensures blanks { OnOk result ((width : Width) (condition : Condition) →
-        BlanksFrom (Insn.Branch width condition compared.0 compared.1 distance) unit state.value.registers pending.old.items pending.new.items) }
+    ensures plain { AllNumbers (compared.now.dst ∷ operand_reads compared.now.operand) state.value.registers → IfErr result (λ fault. fault ≡ Fault.Memory) }
+    ensures blanks { OnOk result (BlanksFrom (branch_of compared.now distance) unit state.value.registers pending.old.items pending.new.items) }
 {
-    if let Err(reason) = steps::compare(&state, compared.0, compared.1) {
+    if let Err(reason) = steps::compare(&state, compared) {
         return Err(reason.at(unit));
     }
     let Ok(other) = boxed(alloc, *state) else {
         return Err(Fault::Memory);
     };
-    flow(pending, unit + 1, other);
-    flow(pending, forward_target(unit, i32::from(distance)), state);
+    pass_edge(unit + 1, compared, false, other, pending);
+    let target = forward_target(unit, i32::from(distance));
+    pass_edge(target, compared, true, state, pending);
     Ok(())
 }
 
@@ -118,7 +138,7 @@ fn pass_state(
     ensures keeps { OnOk result (Keeps pending.old.items pending.new.items) }
     ensures own { IfErr result (IsFaultAt unit) }
     ensures plain { IsOfNumbers insn.now → (IsIn 10 (writes insn.now) → ⊥) → AllRead insn.now state.value.registers → IfErr result (λ fault. fault ≡ Fault.Memory) }
-    ensures blanks { OnOk result (AllRead insn.now state.value.registers → BlanksFrom insn.now unit state.value.registers pending.old.items pending.new.items) }
+    ensures blanks { OnOk result (IsOfNumbers insn.now → AllRead insn.now state.value.registers → BlanksFrom insn.now unit state.value.registers pending.old.items pending.new.items) }
 {
     match insn {
         Insn::Jump { distance } => {
@@ -130,11 +150,20 @@ fn pass_state(
             Ok(())
         }
         Insn::Branch {
+            width,
+            condition,
             dst,
             operand,
             distance,
-            ..
-        } => pass_branch(alloc, unit, (*dst, *operand), *distance, state, pending),
+        } => {
+            let compared = Comparison {
+                width: *width,
+                condition: *condition,
+                dst: *dst,
+                operand: *operand,
+            };
+            pass_branch(alloc, unit, &compared, *distance, state, pending)
+        }
         Insn::Exit => pass_exit(unit, state),
         _ => pass_straight(unit, insn, state, pending),
     }

@@ -4,7 +4,6 @@ ghost use Rattle.semantics.specs.State.{State};
 ghost use Rattle.verify.specs.Gamma.{Describes, has_number};
 ghost use Rattle.verify.specs.Slots.{Holds, IsAt, Keeps, IsBlank, BlanksComeTo};
 
-use crate::registers;
 use crate::state::AbsState;
 use std::alloc::{AllocError, Global};
 
@@ -46,7 +45,7 @@ fn joined(kept: Option<Box<AbsState>>, mut state: Box<AbsState>) -> Box<AbsState
     ensures blank { (r : ℕ) → r < 11 → has_number result.value.registers r ≡ false → IsBlank kept r ⊎ (has_number state.value.registers r ≡ false) }
 {
     if let Some(other) = kept {
-        registers::join(&mut state.registers, &other.registers);
+        state.join(&other);
     }
     state
 }

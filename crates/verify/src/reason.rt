@@ -10,6 +10,9 @@ pub enum Reason {
     Unset,
     FrameWrite,
     PointerUse,
+    Bounds,
+    StackUnset,
+    ContextWrite,
     Helper,
     ExitPointer,
 }
@@ -24,6 +27,9 @@ impl Reason {
             Reason::Unset => Fault::Unset(unit),
             Reason::FrameWrite => Fault::FrameWrite(unit),
             Reason::PointerUse => Fault::PointerUse(unit),
+            Reason::Bounds => Fault::Bounds(unit),
+            Reason::StackUnset => Fault::StackUnset(unit),
+            Reason::ContextWrite => Fault::ContextWrite(unit),
             Reason::Helper => Fault::Helper(unit),
             Reason::ExitPointer => Fault::ExitPointer(unit),
         }

@@ -1,32 +1,41 @@
 //! What is known of the registers.
-ghost use Rattle.std.specs.Prelude.{◌≡◌, ◌≤◌, ◌<◌, true, List, [], ◌∷◌, slice_index_or, slice_set};
+ghost use Rattle.std.specs.Prelude.{◌≡◌, ◌≤◌, ◌<◌, true, false, List, [], ◌∷◌, slice_index_or, slice_set};
 ghost use Rattle.semantics.specs.declared.value.Value.{Value};
 ghost use Rattle.semantics.specs.State.{Outbox, entry, value_at, operand_value};
 ghost use Rattle.semantics.specs.Step.{first_operand};
 ghost use Rattle.semantics.specs.Plain.{operand_reads, first_reads};
-ghost use Rattle.verify.specs.Gamma.{Contains, RegistersDescribe, Describes, entry_known, is_number};
-ghost use Rattle.verify.specs.Reasons.{known_at, known_operand, known_first};
+ghost use Rattle.absval.specs.Contains.{Contains, is_number};
+ghost use Rattle.verify.specs.Gamma.{RegistersDescribe, Describes, has_number};
+ghost use Rattle.verify.specs.Branches.{StayNumbers};
 ghost use Rattle.verify.specs.Reads.{AllNumbers, LeavesBut, JoinsNumbers};
 
-use crate::state::{AbsState, AbsVal};
-use crate::values;
+use crate::state::AbsState;
+use absmem::AbsStack;
+use absval::{AbsVal, Offsets};
 use insn::{Operand, Reg};
+use range::Range;
+use semantics::Region;
 use word::Operation;
 
-/// What is known at the entry: r1 and r10 hold pointers.
+/// The beginning of the context, and the end of the stack.
+const AT_ZERO: Offsets = Offsets { low: 0, high: 0 };
+
+/// What is known at the entry: r1 points to the context, r10 to the end of the stack, of which nothing is known.
 pub fn at_entry() -> AbsState
-    ensures known { result.registers ≡ entry_known }
     ensures holds { (outbox : Outbox) → Describes result (entry outbox) }
 {
     let mut registers = [AbsVal::Unset; 11];
-    registers[1] = AbsVal::Pointer;
-    registers[10] = AbsVal::Pointer;
-    AbsState { registers }
+    registers[1] = AbsVal::Pointer(Region::Context, AT_ZERO);
+    registers[10] = AbsVal::Pointer(Region::Stack, AT_ZERO);
+    AbsState {
+        registers,
+        stack: AbsStack::unknown(),
+    }
 }
 
 /// What is known of a register.
 pub fn read(registers: &[AbsVal; 11], r: Reg) -> AbsVal
-    ensures exact { result ≡ known_at registers.now r }
+    ensures exact { result ≡ slice_index_or registers.now r AbsVal.Unset }
     ensures holds { (vs : List Value) → RegistersDescribe registers.now vs → Contains result (value_at vs r) }
     ensures numbers { AllNumbers (r ∷ []) registers.now → is_number result ≡ true }
 {
@@ -35,33 +44,38 @@ pub fn read(registers: &[AbsVal; 11], r: Reg) -> AbsVal
 
 /// What is known of an operand.
 pub fn operand(registers: &[AbsVal; 11], operand: Operand) -> AbsVal
-    ensures exact { result ≡ known_operand registers.now operand }
     ensures holds { (vs : List Value) → RegistersDescribe registers.now vs → Contains result (operand_value vs operand) }
     ensures numbers { AllNumbers (operand_reads operand) registers.now → is_number result ≡ true }
 {
     match operand {
         Operand::Register(r) => read(registers, r),
-        Operand::Immediate(_) => AbsVal::Number,
+        Operand::Immediate(number) => absval::immediate(number),
     }
 }
 
 /// What is known of what an operation reads of dst: a move reads nothing there.
 pub fn first(registers: &[AbsVal; 11], operation: Operation, dst: Reg) -> AbsVal
-    ensures exact { result ≡ known_first registers.now operation dst }
     ensures holds { (vs : List Value) → RegistersDescribe registers.now vs → Contains result (first_operand operation (value_at vs dst)) }
     ensures numbers { AllNumbers (first_reads operation dst) registers.now → is_number result ≡ true }
 {
     match operation {
-        Operation::Move => AbsVal::Number,
+        Operation::Move => AbsVal::Number(Range::exactly(0)),
         _ => read(registers, dst),
     }
 }
 
 /// A register holds another value.
 pub fn write(registers: &mut [AbsVal; 11], r: Reg, value: AbsVal)
-    ensures exact { registers.new ≡ slice_set registers.old r value }
     ensures holds { (vs : List Value) (v : Value) → RegistersDescribe registers.old vs → Contains value v → RegistersDescribe registers.new (slice_set vs r v) }
     ensures numbers { is_number value ≡ true → LeavesBut (r ∷ []) registers.old registers.new }
+{
+    registers[r.number() as usize] = value;
+}
+
+/// More is known of what a register holds.
+pub fn narrow(registers: &mut [AbsVal; 11], r: Reg, value: AbsVal)
+    ensures holds { (vs : List Value) → RegistersDescribe registers.old vs → Contains value (value_at vs r) → RegistersDescribe registers.new vs }
+    ensures numbers { (first : List AbsVal) → StayNumbers first registers.old → (is_number value ≡ false → has_number first r ≡ false) → StayNumbers first registers.new }
 {
     registers[r.number() as usize] = value;
 }
@@ -73,6 +87,6 @@ pub fn join(registers: &mut [AbsVal; 11], other: &[AbsVal; 11])
     ensures numbers { JoinsNumbers registers.old other.now registers.new 11 }
 {
     for i in 0..11 {
-        registers[i] = values::join(registers[i], other[i]);
+        registers[i] = absval::join(registers[i], other[i]);
     }
 }

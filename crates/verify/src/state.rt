@@ -1,16 +1,26 @@
-/// What is known of a register.
-#[derive(Clone, Copy, Debug, PartialEq, Eq)]
-pub enum AbsVal {
-    /// Nothing: it may be unset.
-    Unset,
-    /// It holds a number.
-    Number,
-    /// It holds a pointer.
-    Pointer,
-}
+ghost use Rattle.semantics.specs.State.{State};
+ghost use Rattle.verify.specs.Gamma.{Describes};
+ghost use Rattle.verify.specs.Reads.{JoinsNumbers};
 
-/// What is known of a program's state: of each of its eleven registers.
-#[derive(Clone, Copy, Debug, PartialEq, Eq)]
+use crate::registers;
+use absmem::AbsStack;
+use absval::AbsVal;
+
+/// What is known of a program's state: of each of its eleven registers, and of its stack.
+#[derive(Clone, Copy, Debug)]
 pub struct AbsState {
     pub registers: [AbsVal; 11],
+    pub stack: AbsStack,
+}
+
+impl AbsState {
+    /// Keeps what both know.
+    pub fn join(&mut self, other: &AbsState)
+        ensures left { (s : State) → Describes self.old s → Describes self.new s }
+        ensures right { (s : State) → Describes other.now s → Describes self.new s }
+        ensures numbers { JoinsNumbers self.old.registers other.now.registers self.new.registers 11 }
+    {
+        registers::join(&mut self.registers, &other.registers);
+        self.stack.join(&other.stack);
+    }
 }

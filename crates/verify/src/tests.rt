@@ -1,6 +1,4 @@
 ghost use Rattle.std.specs.Prelude.{◌<◌, ◌≤◌, length};
-ghost use Rattle.std.specs.List.{AllByRecursion};
-ghost use Rattle.insn.specs.Insn.{IsWell};
 ghost use Rattle.insn.specs.Program.{slots_of};
 
 use crate::verify;
@@ -17,7 +15,6 @@ fn register(number: u8) -> Result<Reg, Fail> {
 fn answer(alloc: Global, instructions: Vec<Insn>) -> Result<String, Fail>
     requires some { 0 < length (slots_of instructions.items) }
     requires bound { length (slots_of instructions.items) ≤ 4096 }
-    requires well { AllByRecursion IsWell instructions.items }
 {
     let program = Program::new(alloc, instructions)?;
     let text = match verify(alloc, program) {
@@ -38,14 +35,36 @@ macro_rules! arithmetic {
     };
 }
 
-macro_rules! jump_if_equal {
-    ($dst:expr, $operand:expr, $distance:expr) => {
+macro_rules! jump_if {
+    ($condition:ident, $dst:expr, $operand:expr, $distance:expr) => {
         Insn::Branch {
             width: Width::W64,
-            condition: Condition::Equal,
+            condition: Condition::$condition,
             dst: $dst,
             operand: $operand,
             distance: $distance,
+        }
+    };
+}
+
+macro_rules! load {
+    ($size:ident, $dst:expr, $base:expr, $offset:expr) => {
+        Insn::Load {
+            size: Size::$size,
+            dst: $dst,
+            base: $base,
+            offset: $offset,
+        }
+    };
+}
+
+macro_rules! store {
+    ($size:ident, $base:expr, $offset:expr, $source:expr) => {
+        Insn::Store {
+            size: Size::$size,
+            base: $base,
+            offset: $offset,
+            source: $source,
         }
     };
 }
@@ -87,7 +106,7 @@ fn faults_of_registers(rt: HostRuntime) -> Result<(), Fail> {
     let copy = arithmetic!(Move, r0, Operand::Register(r1));
     assert_eq!(rt;
         answer(alloc, [copy, Insn::Exit].to_vec(alloc)?)?.as_str(),
-        "V7 unit 0"
+        "V13 unit 1"
     );
     let frame = arithmetic!(Move, r10, Operand::Immediate(0));
     assert_eq!(rt;
@@ -99,22 +118,7 @@ fn faults_of_registers(rt: HostRuntime) -> Result<(), Fail> {
         answer(alloc, [first_unset, Insn::Exit].to_vec(alloc)?)?.as_str(),
         "V5 unit 0"
     );
-    let load = Insn::Load {
-        size: Size::Double,
-        dst: r0,
-        base: r10,
-        offset: -8,
-    };
-    assert_eq!(rt;
-        answer(alloc, [load, Insn::Exit].to_vec(alloc)?)?.as_str(),
-        "V7 unit 0"
-    );
-    let store = Insn::Store {
-        size: Size::Double,
-        base: r10,
-        offset: -8,
-        source: Operand::Register(r3),
-    };
+    let store = store!(Double, r10, -8, Operand::Register(r3));
     assert_eq!(rt;
         answer(alloc, [store, Insn::Exit].to_vec(alloc)?)?.as_str(),
         "V5 unit 0"
@@ -131,15 +135,79 @@ fn paths_that_meet(rt: HostRuntime) -> Result<(), Fail> {
     let set = arithmetic!(Move, r0, Operand::Immediate(0));
     let set_r1 = arithmetic!(Move, r1, Operand::Immediate(0));
     let copy = arithmetic!(Move, r0, Operand::Register(r1));
-    let skip = jump_if_equal!(r0, Operand::Immediate(0), 1);
+    let skip = jump_if!(AnyBit, r0, Operand::Immediate(1), 1);
+    let always = jump_if!(Equal, r0, Operand::Immediate(0), 1);
     let call = Insn::Call { helper: 1 };
     let one_side = [set, skip, set_r1, copy, Insn::Exit].to_vec(alloc)?;
     assert_eq!(rt; answer(alloc, one_side)?.as_str(), "V5 unit 3");
     let neither = [set, skip, set, copy, Insn::Exit].to_vec(alloc)?;
-    assert_eq!(rt; answer(alloc, neither)?.as_str(), "V7 unit 3");
+    assert_eq!(rt; answer(alloc, neither)?.as_str(), "V13 unit 4");
     let both = [set, set_r1, skip, set_r1, copy, Insn::Exit].to_vec(alloc)?;
     assert_eq!(rt; answer(alloc, both)?.as_str(), "accepted 6");
+    let never = [set, always, call, copy, Insn::Exit].to_vec(alloc)?;
+    assert_eq!(rt; answer(alloc, never)?.as_str(), "V13 unit 4");
+    let known = [set, set_r1, always, set_r1, copy, Insn::Exit].to_vec(alloc)?;
+    assert_eq!(rt; answer(alloc, known)?.as_str(), "accepted 6");
     let unreached = [set, Insn::Jump { distance: 1 }, call, Insn::Exit].to_vec(alloc)?;
     assert_eq!(rt; answer(alloc, unreached)?.as_str(), "accepted 4");
+    Ok(())
+}
+
+#[test]
+fn loads_and_stores(rt: HostRuntime) -> Result<(), Fail> {
+    let alloc = rt.alloc();
+    let (r0, r1) = (register(0)?, register(1)?);
+    let (r2, r10) = (register(2)?, register(10)?);
+    let load = load!(Double, r0, r10, -8);
+    let unset = [load, Insn::Exit].to_vec(alloc)?;
+    assert_eq!(rt; answer(alloc, unset)?.as_str(), "V9 unit 0");
+    let byte = store!(Byte, r10, -8, Operand::Immediate(1));
+    let one = [byte, load, Insn::Exit].to_vec(alloc)?;
+    assert_eq!(rt; answer(alloc, one)?.as_str(), "V9 unit 1");
+    let spill = store!(Double, r10, -8, Operand::Register(r1));
+    let part = load!(Word, r0, r10, -8);
+    let pieces = [spill, part, Insn::Exit].to_vec(alloc)?;
+    assert_eq!(rt; answer(alloc, pieces)?.as_str(), "V9 unit 1");
+    let back = load!(Double, r2, r10, -8);
+    let first = load!(Word, r0, r2, 0);
+    let again = [spill, back, first, Insn::Exit].to_vec(alloc)?;
+    assert_eq!(rt; answer(alloc, again)?.as_str(), "accepted 4");
+    let outside = [load!(Double, r0, r10, -4), Insn::Exit].to_vec(alloc)?;
+    assert_eq!(rt; answer(alloc, outside)?.as_str(), "V8 unit 0");
+    let context = store!(Byte, r1, 0, Operand::Immediate(1));
+    let written = [context, Insn::Exit].to_vec(alloc)?;
+    assert_eq!(rt; answer(alloc, written)?.as_str(), "V10 unit 0");
+    Ok(())
+}
+
+/// What is said of a store at an index below 8, which is compared with so many bits.
+fn indexed(alloc: Global, width: Width) -> Result<String, Fail> {
+    let (r0, r1) = (register(0)?, register(1)?);
+    let (r2, r3) = (register(2)?, register(3)?);
+    let large = Insn::Branch {
+        width,
+        condition: Condition::Above,
+        dst: r2,
+        operand: Operand::Immediate(7),
+        distance: 4,
+    };
+    let program = [
+        load!(Double, r2, r1, 32),
+        arithmetic!(Move, r0, Operand::Immediate(0)),
+        large,
+        arithmetic!(Move, r3, Operand::Register(register(10)?)),
+        arithmetic!(Add, r3, Operand::Immediate(-8)),
+        arithmetic!(Add, r3, Operand::Register(r2)),
+        store!(Byte, r3, 0, Operand::Immediate(1)),
+        Insn::Exit,
+    ];
+    answer(alloc, program.to_vec(alloc)?)
+}
+
+#[test]
+fn ranges_on_edges(rt: HostRuntime) -> Result<(), Fail> {
+    let alloc = rt.alloc();
+    assert_eq!(rt; indexed(alloc, Width::W64)?.as_str(), "accepted 8");
+    assert_eq!(rt; indexed(alloc, Width::W32)?.as_str(), "V7 unit 5");
     Ok(())
 }

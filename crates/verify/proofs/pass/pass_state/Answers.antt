@@ -13,9 +13,9 @@ pass_jump-requires-in-LongJump-clause-edges c =
     long_inside c.args.insn.now c.in-LongJump.distance _ c.args.unit (length c.args.pending.now.items) c.in-LongJump.is same c.requires.inside
 
 pub pass_branch-requires-clause-edges : goal.pass_branch-requires-clause-edges
-pass_branch-requires-clause-edges c = λ width condition.
+pass_branch-requires-clause-edges c =
     let same : to_z w16 (of_z w16 c.in-Branch.distance) ≡ c.in-Branch.distance = search rules in
-    branch_inside c.args.insn.now c.in-Branch.width width c.in-Branch.condition condition c.in-Branch.dst c.in-Branch.operand c.in-Branch.distance _ c.args.unit (length c.args.pending.now.items)
+    branch_inside c.args.insn.now c.in-Branch.width c.in-Branch.condition c.in-Branch.dst c.in-Branch.operand c.in-Branch.distance _ c.args.unit (length c.args.pending.now.items)
     c.in-Branch.is same c.requires.inside
 
 pub returns-in-Jump-clause-leads : goal.returns-in-Jump-clause-leads

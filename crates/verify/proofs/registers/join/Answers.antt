@@ -1,8 +1,9 @@
 use Rattle.std.proofs.Common.{arith, ◌≢◌, ◌⊎◌, ⊎_elim, inl, inr, refl, false, get_or-set_other, ◌≡◌, ◌<◌, length, length-set}
 use Rattle.semantics.specs.declared.value.Value.TheVariants as value
-use Rattle.verify.specs.declared.state.AbsVal.{AbsVal}
-use Rattle.verify.specs.declared.state.AbsVal.TheVariants.{Unset}
-use Rattle.verify.specs.Gamma.{Contains, is_number, has_number}
+use Rattle.absval.specs.declared.value.AbsVal.{AbsVal}
+use Rattle.absval.specs.declared.value.AbsVal.TheVariants.{Unset}
+use Rattle.absval.specs.Contains.{Contains, is_number}
+use Rattle.verify.specs.Gamma.{has_number}
 use Rattle.verify.proofs.Numbers.{number_back, joined_blank}
 use Rattle.verify.proofs.Zips.{AllZip-wider, at_set, at_read}
 use Rattle.verify.proofs.registers.join.Goals as goal
@@ -20,7 +21,7 @@ loop-i-preserved c =
       right = λ k v j h. at_set (λ (a : AbsVal). Contains a v) xs i k x Unset l (λ e. c.join.ensures.right v (at_read (λ (a : AbsVal). Contains a v) c.args.other.now i k _ Unset m e h)) (λ n. c.loop-i.invariant.right k v (omega arith) h);
       rest = λ k j. let n : k ≢ i = omega arith in rw (get_or-set_other xs i k x Unset n) (c.loop-i.invariant.rest k (omega arith));
       number = λ k j. at_set (λ (a : AbsVal). is_number a ≡ false → (has_number c.args.registers.now k ≡ false) ⊎ (has_number c.args.other.now k ≡ false)) xs i k x Unset l
-          (λ e h. ⊎_elim (λ a. inl (number_back xs c.args.registers.now i k _ l e (c.loop-i.invariant.rest i (omega arith)) a)) (λ b. inr (number_back c.args.other.now c.args.other.now i k _ m e refl b)) (joined_blank _ _ x c.join.ensures.numbers h))
+          (λ e h. ⊎_elim (λ a. inl (number_back xs c.args.registers.now i k _ l e (c.loop-i.invariant.rest i (omega arith)) a)) (λ b. inr (number_back c.args.other.now c.args.other.now i k _ m e refl b)) (joined_blank _ _ x c.join.ensures.number h))
           (λ n h. c.loop-i.invariant.number k (omega arith) h);
     }
 

@@ -1,7 +1,7 @@
 use Rattle.std.proofs.Common.{ℕ, ◌<◌, ◌≤◌, ◌≡◌, length, get_or}
 use Rattle.semantics.specs.declared.value.Value.{Value}
-use Rattle.verify.specs.declared.state.AbsVal.TheVariants.{Unset}
-use Rattle.verify.specs.Gamma.{Contains}
+use Rattle.absval.specs.declared.value.AbsVal.TheVariants.{Unset}
+use Rattle.absval.specs.Contains.{Contains}
 use Rattle.verify.specs.Reads.{JoinsNumbers}
 use Rattle.verify.proofs.registers.join.Given as goal
 

@@ -1,4 +1,4 @@
-use Rattle.verify.specs.Gamma.{Contains}
+use Rattle.absval.specs.Contains.{Contains}
 use Rattle.verify.proofs.Zips.{AllZip-set}
 use Rattle.verify.proofs.registers.write.Goals as goal
 

@@ -1,0 +1,110 @@
+//! What a conditional jump tells of the registers that it compares.
+ghost use Rattle.std.specs.Prelude.{◌≡◌, true, false, List, Ok, IfSome, slice_index_or};
+ghost use Rattle.std.specs.Int.{w64, cast_unsigned};
+ghost use Rattle.word.specs.Arithmetic.{taken as used};
+ghost use Rattle.semantics.specs.declared.value.Value.{Value};
+ghost use Rattle.semantics.specs.State.{value_at};
+ghost use Rattle.semantics.specs.Step.{condition_of};
+ghost use Rattle.absval.specs.Contains.{Contains, is_number};
+ghost use Rattle.verify.specs.Gamma.{RegistersDescribe, has_number};
+ghost use Rattle.verify.specs.Branches.{decided_by, HoldBoth, StayNumbers};
+
+use crate::comparison::Comparison;
+use crate::registers::{narrow, read};
+use absval::AbsVal;
+use insn::{Operand, Reg};
+use range::{Range, edges};
+use word::{Condition, Width};
+
+/// What is left of two values where a condition on them goes one way; None where no two of theirs do so.
+fn refine_values(
+    width: Width,
+    condition: Condition,
+    taken: bool,
+    a: AbsVal,
+    b: AbsVal,
+) -> Option<(AbsVal, AbsVal)>
+    ensures holds { (x y : Value) → Contains a x → Contains b y → condition_of width condition x y ≡ Ok taken → HoldBoth result x y }
+    ensures first { IfSome result (λ p. is_number p.0 ≡ is_number a) }
+    ensures second { IfSome result (λ p. is_number p.1 ≡ is_number b) }
+{
+    let AbsVal::Number(m) = a else {
+        return Some((a, b));
+    };
+    let AbsVal::Number(n) = b else {
+        return Some((a, b));
+    };
+    let (m, n) = edges::refine(width, condition, taken, m, n)?;
+    Some((AbsVal::Number(m), AbsVal::Number(n)))
+}
+
+/// The bits of an immediate number that are compared.
+fn used_number(width: Width, number: i32) -> u64
+    ensures { result ≡ used width (cast_unsigned w64 number) }
+{
+    let wide = i64::from(number).cast_unsigned();
+    match width {
+        Width::W64 => wide,
+        Width::W32 => wide % 0x1_0000_0000,
+    }
+}
+
+/// The same of a register and a number.
+fn refine_by_number(
+    registers: &mut [AbsVal; 11],
+    compared: (Width, Condition),
+    taken: bool,
+    dst: Reg,
+    number: i32,
+) -> bool
+    ensures holds { (vs : List Value) → RegistersDescribe registers.old vs → condition_of compared.0 compared.1 (value_at vs dst) (Value.Number (cast_unsigned w64 number)) ≡ Ok taken →
+        (result ≡ true) × RegistersDescribe registers.new vs }
+    ensures numbers { StayNumbers registers.old registers.new }
+{
+    let first = read(registers, dst);
+    let second = AbsVal::Number(Range::exactly(used_number(compared.0, number)));
+    let Some((first, _)) = refine_values(compared.0, compared.1, taken, first, second) else {
+        return false;
+    };
+    narrow(registers, dst, first);
+    true
+}
+
+/// The same of two registers: one register tells nothing of itself.
+fn refine_registers(
+    registers: &mut [AbsVal; 11],
+    compared: (Width, Condition),
+    taken: bool,
+    dst: Reg,
+    src: Reg,
+) -> bool
+    ensures holds { (vs : List Value) → RegistersDescribe registers.old vs → condition_of compared.0 compared.1 (value_at vs dst) (value_at vs src) ≡ Ok taken →
+        (result ≡ true) × RegistersDescribe registers.new vs }
+    ensures numbers { StayNumbers registers.old registers.new }
+{
+    if dst.number() == src.number() {
+        return true;
+    }
+    let first = read(registers, dst);
+    let second = read(registers, src);
+    let Some((first, second)) = refine_values(compared.0, compared.1, taken, first, second) else {
+        return false;
+    };
+    narrow(registers, dst, first);
+    narrow(registers, src, second);
+    true
+}
+
+/// Narrows the registers to what they may hold on an edge of the jump, and answers whether it may be taken at all.
+pub fn refine(registers: &mut [AbsVal; 11], compared: &Comparison, taken: bool) -> bool
+    ensures holds { (vs : List Value) → RegistersDescribe registers.old vs → decided_by compared.now vs ≡ Ok taken → (result ≡ true) × RegistersDescribe registers.new vs }
+    ensures numbers { StayNumbers registers.old registers.new }
+{
+    let how = (compared.width, compared.condition);
+    match compared.operand {
+        Operand::Register(src) => refine_registers(registers, how, taken, compared.dst, src),
+        Operand::Immediate(number) => {
+            refine_by_number(registers, how, taken, compared.dst, number)
+        }
+    }
+}

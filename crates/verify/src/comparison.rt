@@ -1,0 +1,11 @@
+use insn::{Operand, Reg};
+use word::{Condition, Width};
+
+/// What a conditional jump compares, and how.
+#[derive(Clone, Copy, Debug)]
+pub struct Comparison {
+    pub width: Width,
+    pub condition: Condition,
+    pub dst: Reg,
+    pub operand: Operand,
+}

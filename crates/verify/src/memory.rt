@@ -1,0 +1,246 @@
+//! What loads and stores do to what is known.
+ghost use Rattle.std.specs.Prelude.{◌≡◌, ◌+◌, ◌≤◌, ◌<◌, ◌^◌, ◌≤ℤ◌, ◌+ℤ◌, ◌↔◌, ℕ, ℤ, List, length, slice_range, IfOk, IfSome, IsTrue, OnOk};
+ghost use Rattle.word.specs.Arithmetic.{sign_extended};
+ghost use Rattle.insn.specs.Insn.{bytes_of, part_bytes};
+ghost use Rattle.semantics.specs.declared.value.Value.{Value};
+ghost use Rattle.semantics.specs.declared.value.Cell.{Cell};
+ghost use Rattle.semantics.specs.Memory.{window as window_at, value_in, loaded as loaded_from, loaded_signed, stored};
+ghost use Rattle.semantics.specs.Run.{IsContext};
+ghost use Rattle.absval.specs.Contains.{Contains, Gives, IsPointerIn};
+ghost use Rattle.absval.specs.Windows.{room_of, LiesIn};
+ghost use Rattle.absmem.specs.Describes.{Describes as StackDescribes, AreBytes};
+ghost use Rattle.verify.specs.Stores.{Leads};
+
+use crate::reason::Reason;
+use absmem::AbsStack;
+use absval::{AbsVal, Offsets, Window, loaded, window_of};
+use insn::Size;
+use range::{Range, unary};
+use semantics::Region;
+use word::{Narrow, Width};
+
+/// How many bytes are loaded or stored.
+fn bytes(size: Size) -> usize
+    ensures bytes { result ≡ bytes_of size }
+    ensures few { result ≤ 8 }
+{
+    match size {
+        Size::Byte => 1,
+        Size::Half => 2,
+        Size::Word => 4,
+        Size::Double => 8,
+    }
+}
+
+/// How many bytes are loaded and extended.
+fn bytes_of_part(part: Narrow) -> usize
+    ensures bytes { result ≡ part_bytes part }
+    ensures few { result ≤ 8 }
+{
+    match part {
+        Narrow::Byte => 1,
+        Narrow::Half => 2,
+        Narrow::Word => 4,
+    }
+}
+
+/// The pointer that a base is.
+fn pointer_of(base: AbsVal) -> Result<(Region, Offsets), Reason>
+    ensures { IfOk result (λ p. base ≡ AbsVal.Pointer p.0 p.1) }
+{
+    match base {
+        AbsVal::Pointer(region, offsets) => Ok((region, offsets)),
+        AbsVal::Unset | AbsVal::Number(_) => Err(Reason::PointerUse),
+    }
+}
+
+/// The cells that an access may touch.
+fn window(region: Region, offsets: Offsets, distance: i16, size: usize) -> Result<Window, Reason>
+    requires { size ≤ 8 }
+    ensures fits { IfOk result (λ w. w.place + w.size ≤ room_of region) }
+    ensures holds { IfOk result (λ w. (o : ℤ) → offsets.low ≤ℤ o → o ≤ℤ offsets.high →
+        LiesIn w.place w.size size (window_at region (o +ℤ distance) size)) }
+    ensures single { IfOk result (λ w. offsets.low ≡ offsets.high → w.size ≡ size) }
+{
+    let Some(window) = window_of(region, offsets, distance, size) else {
+        return Err(Reason::Bounds);
+    };
+    Ok(window)
+}
+
+/// The pointer that a load of eight bytes at one address finds.
+fn stored_pointer(stack: &AbsStack, size: Size, window: Window) -> Option<AbsVal>
+    requires { window.place + window.size ≤ 512 }
+    ensures { IfSome result (λ r. (cells : List Cell) (at : ℕ) → StackDescribes stack.now cells → window.place ≤ at → at + bytes_of size ≤ window.place + window.size →
+        Gives r (value_in (slice_range cells at (at + bytes_of size)))) }
+{
+    let Size::Double = size else {
+        return None;
+    };
+    if window.size != 8 {
+        return None;
+    }
+    let (region, offset) = stack.pointer_at(window.place)?;
+    let offsets = Offsets {
+        low: offset,
+        high: offset,
+    };
+    Some(AbsVal::Pointer(region, offsets))
+}
+
+/// What a load from the stack gives.
+fn load_stack(stack: &AbsStack, size: Size, window: Window) -> Result<AbsVal, Reason>
+    requires { window.place + window.size ≤ 512 }
+    ensures { IfOk result (λ r. (cells : List Cell) (at : ℕ) → StackDescribes stack.now cells → length cells ≡ 512 →
+        window.place ≤ at → at + bytes_of size ≤ window.place + window.size → Gives r (value_in (slice_range cells at (at + bytes_of size)))) }
+{
+    if let Some(pointer) = stored_pointer(stack, size, window) {
+        return Ok(pointer);
+    }
+    if !stack.has_bytes(window.place, window.size) {
+        return Err(Reason::StackUnset);
+    }
+    Ok(loaded(size))
+}
+
+/// What a load gives.
+pub fn load(stack: &AbsStack, size: Size, base: AbsVal, distance: i16) -> Result<AbsVal, Reason>
+    ensures { IfOk result (λ r. (context : List ℕ) (cells : List Cell) (v : Value) → IsContext context → StackDescribes stack.now cells → length cells ≡ 512 → Contains base v →
+        Gives r (loaded_from context cells (bytes_of size) v distance)) }
+{
+    let (region, offsets) = pointer_of(base)?;
+    let window = window(region, offsets, distance, bytes(size))?;
+    match region {
+        Region::Context => Ok(loaded(size)),
+        Region::Stack => load_stack(stack, size, window),
+    }
+}
+
+/// What extending so many loaded bytes by their sign may give: any number.
+fn extended(part: Narrow) -> AbsVal
+    ensures { (n : ℕ) → n < 2 ^ 64 → Contains result (Value.Number (sign_extended Width.W64 part n)) }
+{
+    AbsVal::Number(unary::sign_extend(Width::W64, part, Range::full()))
+}
+
+/// The cells of the window are bytes: those of the context are.
+fn check_bytes(stack: &AbsStack, region: Region, window: Window) -> Result<(), Reason>
+    requires { window.place + window.size ≤ room_of region }
+    ensures { OnOk result (region ≡ Region.Stack → (cells : List Cell) (at n : ℕ) → StackDescribes stack.now cells → length cells ≡ 512 →
+        window.place ≤ at → at + n ≤ window.place + window.size → AreBytes (slice_range cells at (at + n))) }
+{
+    match region {
+        Region::Context => Ok(()),
+        Region::Stack => {
+            if !stack.has_bytes(window.place, window.size) {
+                return Err(Reason::StackUnset);
+            }
+            Ok(())
+        }
+    }
+}
+
+/// What a load gives that extends by the sign.
+pub fn load_signed(
+    stack: &AbsStack,
+    part: Narrow,
+    base: AbsVal,
+    distance: i16,
+) -> Result<AbsVal, Reason>
+    ensures { IfOk result (λ r. (context : List ℕ) (cells : List Cell) (v : Value) → IsContext context → StackDescribes stack.now cells → length cells ≡ 512 → Contains base v →
+        Gives r (loaded_signed context cells part v distance)) }
+{
+    let (region, offsets) = pointer_of(base)?;
+    let window = window(region, offsets, distance, bytes_of_part(part))?;
+    check_bytes(stack, region, window)?;
+    Ok(extended(part))
+}
+
+/// The cells of the stack that a store may touch: the context is not written.
+fn stack_window(
+    region: Region,
+    offsets: Offsets,
+    distance: i16,
+    size: usize,
+) -> Result<Window, Reason>
+    requires { size ≤ 8 }
+    ensures stack { IfOk result (λ w. region ≡ Region.Stack) }
+    ensures fits { IfOk result (λ w. w.place + w.size ≤ 512) }
+    ensures holds { IfOk result (λ w. (o : ℤ) → offsets.low ≤ℤ o → o ≤ℤ offsets.high →
+        LiesIn w.place w.size size (window_at Region.Stack (o +ℤ distance) size)) }
+    ensures single { IfOk result (λ w. offsets.low ≡ offsets.high → w.size ≡ size) }
+{
+    match region {
+        Region::Context => Err(Reason::ContextWrite),
+        Region::Stack => window(Region::Stack, offsets, distance, size),
+    }
+}
+
+/// A number is stored.
+fn store_number(
+    stack: &mut AbsStack,
+    size: Size,
+    base: (Region, Offsets),
+    distance: i16,
+) -> Result<(), Reason>
+    ensures { OnOk result ((cells : List Cell) (p : Value) (n : ℕ) → StackDescribes stack.old cells → length cells ≡ 512 → IsPointerIn base.0 base.1.low base.1.high p →
+        Leads stack.new (stored cells (bytes_of size) p distance (Value.Number n))) }
+{
+    let window = stack_window(base.0, base.1, distance, bytes(size))?;
+    if window.size == bytes(size) {
+        stack.put_bytes(window.place, window.size);
+    } else {
+        stack.spread_bytes(window.place, window.size);
+    }
+    Ok(())
+}
+
+/// Whether a pointer may have one offset only.
+fn is_one(offsets: Offsets) -> bool
+    ensures { IsTrue result ↔ (offsets.low ≡ offsets.high) }
+{
+    offsets.low == offsets.high
+}
+
+/// A pointer is stored: whole, at one address, with one offset.
+fn store_pointer(
+    stack: &mut AbsStack,
+    size: Size,
+    base: (Region, Offsets),
+    distance: i16,
+    pointer: (Region, Offsets),
+) -> Result<(), Reason>
+    ensures { OnOk result ((cells : List Cell) (p v : Value) → StackDescribes stack.old cells → length cells ≡ 512 → IsPointerIn base.0 base.1.low base.1.high p →
+        IsPointerIn pointer.0 pointer.1.low pointer.1.high v → Leads stack.new (stored cells (bytes_of size) p distance v)) }
+{
+    let Size::Double = size else {
+        return Err(Reason::PointerUse);
+    };
+    if !is_one(base.1) || !is_one(pointer.1) {
+        return Err(Reason::PointerUse);
+    }
+    let window = stack_window(base.0, base.1, distance, 8)?;
+    stack.put_pointer(window.place, pointer.0, pointer.1.low);
+    Ok(())
+}
+
+/// What a store leaves.
+pub fn store(
+    stack: &mut AbsStack,
+    size: Size,
+    base: AbsVal,
+    distance: i16,
+    value: AbsVal,
+) -> Result<(), Reason>
+    ensures { OnOk result ((cells : List Cell) (p v : Value) → StackDescribes stack.old cells → length cells ≡ 512 → Contains base p → Contains value v →
+        Leads stack.new (stored cells (bytes_of size) p distance v)) }
+{
+    let base = pointer_of(base)?;
+    match value {
+        AbsVal::Unset => Err(Reason::Unset),
+        AbsVal::Number(_) => store_number(stack, size, base, distance),
+        AbsVal::Pointer(region, offsets) => {
+            store_pointer(stack, size, base, distance, (region, offsets))
+        }
+    }
+}
