@@ -16,7 +16,7 @@ abbrev pub first_fault : List Check → Option Fault
 first_fault [] = None
 first_fault (check ∷ checks) = if check.0 then Some check.1 else first_fault checks
 
--- the checks of a jump from a unit: its target lies behind, within the program, and where an instruction starts
+-- the checks of a jump from a unit: its target lies further on, not past the end, and an instruction starts there
 abbrev pub target_checks : List Insn → ℕ → ℤ → List Check
 target_checks program unit (negsuc n) = (true, BackJump unit) ∷ []
 target_checks program unit (pos target) =

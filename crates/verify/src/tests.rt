@@ -1,4 +1,6 @@
 ghost use Rattle.std.specs.Prelude.{◌<◌, ◌≤◌, length};
+ghost use Rattle.std.specs.List.{AllByRecursion};
+ghost use Rattle.insn.specs.Insn.{IsWell};
 ghost use Rattle.insn.specs.Program.{slots_of};
 
 use crate::verify;
@@ -15,6 +17,7 @@ fn register(number: u8) -> Result<Reg, Fail> {
 fn answer(alloc: Global, instructions: Vec<Insn>) -> Result<String, Fail>
     requires some { 0 < length (slots_of instructions.items) }
     requires bound { length (slots_of instructions.items) ≤ 4096 }
+    requires well { AllByRecursion IsWell instructions.items }
 {
     let program = Program::new(alloc, instructions)?;
     let text = match verify(alloc, program) {

@@ -7,12 +7,12 @@ pub returns-then-is_the_exit : goal.returns-then-is_the_exit
 returns-then-is_the_exit c =
     let e : suc (c.len-last.result - 1) ≡ length c.args.program.now = omega arith in
     last_is_exit c.args.program.now (c.len-last.result - 1) c.index-instructions-last.result e
-    (subst (λ (is : List Insn). c.index-instructions-last.result ≡ get_or is (c.len-last.result - 1) c.index-instructions-last.result) c.instructions.ensures c.index-instructions-last.is)
+    (subst (λ (is : List Insn). c.index-instructions-last.result ≡ get_or is (c.len-last.result - 1) c.index-instructions-last.result) c.instructions.ensures.same c.index-instructions-last.is)
     (sym c.is_the_exit.ensures ∙ c.if-is_the_exit.true)
 
 pub returns : goal.returns
 returns c =
     let e : suc (c.len-last.result - 1) ≡ length c.args.program.now = omega arith in
     last_is_other c.args.program.now (c.len-last.result - 1) c.unit_of.result c.index-instructions-last.result e
-    (subst (λ (is : List Insn). c.index-instructions-last.result ≡ get_or is (c.len-last.result - 1) c.index-instructions-last.result) c.instructions.ensures c.index-instructions-last.is)
+    (subst (λ (is : List Insn). c.index-instructions-last.result ≡ get_or is (c.len-last.result - 1) c.index-instructions-last.result) c.instructions.ensures.same c.index-instructions-last.is)
     (sym c.is_the_exit.ensures ∙ c.if-is_the_exit.false) c.unit_of.ensures
