@@ -40,3 +40,12 @@ okay a = Ok a
 
 pub ok_same : {A : Type 0} (a b : A) → okay a ≡ okay b → a ≡ b
 ok_same a b e = cc
+
+-- where nothing is refused, a chain that fails fails behind
+pub back : {A B : Type 0} (r : Result A Cause) (f : A → Result B Cause) (rest : Option Cause) (cause : Cause) → or_else (refusal r) rest ≡ None → given r f ≡ Err cause → (a : A) × (rest ≡ None) × (f a ≡ Err cause)
+back (Ok a) f rest cause e q = (a, e, q)
+back (Err other) f rest cause e q = cc
+
+pub back_last : {A B C : Type 0} (r : Result A Cause) (g : A → B) (f : B → Result C Cause) (cause : Cause) → or_else (refusal r) None ≡ None → given (given r (λ a. Ok (g a))) f ≡ Err cause → (b : B) × (f b ≡ Err cause)
+back_last (Ok a) g f cause e q = (g a, q)
+back_last (Err other) g f cause e q = cc

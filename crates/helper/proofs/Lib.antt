@@ -1,3 +1,4 @@
 pub mod Chains
 pub mod Tests
 pub mod Answered
+pub mod Accepts

@@ -1,6 +1,6 @@
 ghost use Rattle.std.specs.Prelude.{◌≡◌};
 ghost use Rattle.semantics.specs.Call.{helper_of};
-ghost use Rattle.helper.specs.Table.{arguments_of, TestsThese};
+ghost use Rattle.helper.specs.Table.{arguments_of, AcceptsThese, TestsThese};
 ghost use Rattle.helper.specs.Results.{result_of, Returns};
 
 use crate::argument::Argument;
@@ -29,6 +29,7 @@ pub fn helper_of(number: i32) -> Option<Helper>
 pub fn arguments(helper: Helper) -> [Option<Argument>; 3]
     ensures exact { result ≡ arguments_of helper }
     ensures tests { TestsThese helper (arguments_of helper) }
+    ensures accepts { AcceptsThese helper (arguments_of helper) }
 {
     let (first, second, third) = match helper {
         Helper::BoardGet => (Argument::Slot, None, None),
