@@ -32,8 +32,12 @@ fn run(rt: &HostRuntime) -> io::Result<u8> {
     let task = match command_line::task(alloc, texts.as_slice()) {
         Ok(task) => task,
         Err(TaskError::Words(error)) => {
+            if error.use_stderr() {
+                let _ = error.print(rt);
+                return Ok(2);
+            }
             error.print(rt)?;
-            return Ok(if error.use_stderr() { 2 } else { 0 });
+            return Ok(0);
         }
         Err(TaskError::Memory) => return Err(io::Error::from(ErrorKind::OutOfMemory)),
     };

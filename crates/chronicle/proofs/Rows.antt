@@ -1,5 +1,5 @@
 -- Campaigns of two to four generals, from the scenario to the chronicle's text. The right sides come from a model of its own.
-use Rattle.std.specs.Prelude.{ℕ, pos, map, take, negsuc, ◌≡◌, List, [], ◌∷◌, ◌++◌, flat_map, replicate, codes, None, Some, refl}
+use Rattle.std.specs.Prelude.{true, false, ℕ, pos, map, take, negsuc, ◌≡◌, List, [], ◌∷◌, ◌++◌, flat_map, replicate, codes, None, Some, refl}
 use Rattle.std.specs.Fmt.{digits}
 use Rattle.word.specs.declared.Width.TheVariants.{W64}
 use Rattle.word.specs.declared.Operation.TheVariants as op
@@ -15,7 +15,8 @@ use Rattle.world.specs.Letters.{context_bytes, context_of, messages}
 use Rattle.world.specs.World.{NotOpen, NoGeneral, opening, run, refusal}
 use Rattle.world.specs.declared.event.Event.TheVariants.{Tick, Post, Close}
 use Rattle.world.specs.Lists.{listed_rounds, listed}
-use Rattle.world.specs.Chronicle.{decisions, chronicle_of}
+use Rattle.world.specs.Chronicle.{decisions, chronicle_of, verdict_of}
+use Rattle.world.specs.World.{World}
 use Rattle.chronicle.specs.Text.{lines_of, text_of}
 
 -- the text that a campaign prints under a schedule
@@ -422,3 +423,140 @@ refused_events = refl
 refused_behind : map (refusal (run (opening four) (listed four []))) (Tick 3 ∷ Post 0 ∷ Close ∷ []) ≡ Some NotOpen ∷ Some NotOpen ∷ Some NotOpen ∷ []
 unfolding four turncoat labels context_bytes messages step
 refused_behind = refl
+
+-- he tells general 0 the order 1, and general 1 the order 0
+divider : List Insn
+divider =
+    i.Arithmetic W64 op.Move 1 (Immediate (pos 0))
+    ∷ i.Arithmetic W64 op.Move 2 (Immediate (pos 1))
+    ∷ i.Call (pos 8)
+    ∷ i.Arithmetic W64 op.Move 1 (Immediate (pos 1))
+    ∷ i.Arithmetic W64 op.Move 2 (Immediate (pos 0))
+    ∷ i.Call (pos 8)
+    ∷ i.Exit
+    ∷ []
+
+-- the commander, general 2, and general 3 divide the two others
+divided : Scenario
+divided = record { generals = 4; bound = 1; commander = 2; order = 5; board = replicate 64 0; programs = None ∷ None ∷ Some divider ∷ Some divider ∷ [] }
+
+two_traitors : printed divided ([]) ≡ lines (
+    codes "chronicle 1"
+    ∷ codes "generals 4 bound 1 commander 2 order 5"
+    ∷ codes "round 1"
+    ∷ codes "letter 0 loyal"
+    ∷ codes "letter 1 loyal"
+    ∷ codes "letter 2 steps 7"
+    ∷ codes "row 0 1 0 -"
+    ∷ codes "letter 3 steps 7"
+    ∷ codes "round 2"
+    ∷ codes "letter 0 loyal"
+    ∷ codes "row 0 1 1"
+    ∷ codes "letter 1 loyal"
+    ∷ codes "row 0 0 0"
+    ∷ codes "letter 2 steps 7"
+    ∷ codes "letter 3 steps 7"
+    ∷ codes "row 0 1 0"
+    ∷ codes "decision 0 1"
+    ∷ codes "decision 1 0"
+    ∷ codes "decision 3 traitor 0"
+    ∷ codes "verdict alike no obeyed - bound no"
+    ∷ [])
+unfolding divided divider labels om majority context_bytes messages decisions lines_of text_of step digits
+two_traitors = refl
+
+-- a traitor is cut off before his first step, and behind his fourth
+cut_off : text_of (chronicle_of (run (opening four) (Post 0 ∷ Post 1 ∷ Post 2 ∷ Close ∷ Post 0 ∷ Post 1 ∷ Post 2 ∷ replicate 4 (Tick 3) ++ Close ∷ []))) ≡ lines (
+    codes "chronicle 1"
+    ∷ codes "generals 4 bound 1 commander 0 order 1"
+    ∷ codes "round 1"
+    ∷ codes "letter 0 loyal"
+    ∷ codes "row 0 1 1 1"
+    ∷ codes "letter 1 loyal"
+    ∷ codes "letter 2 loyal"
+    ∷ codes "letter 3 steps 0"
+    ∷ codes "round 2"
+    ∷ codes "letter 0 loyal"
+    ∷ codes "letter 1 loyal"
+    ∷ codes "row 0 1 1"
+    ∷ codes "letter 2 loyal"
+    ∷ codes "row 0 1 1"
+    ∷ codes "letter 3 steps 4"
+    ∷ codes "row 0 0 -"
+    ∷ codes "decision 1 1"
+    ∷ codes "decision 2 1"
+    ∷ codes "decision 3 traitor 1"
+    ∷ codes "verdict alike yes obeyed yes bound yes"
+    ∷ [])
+unfolding four turncoat labels om majority context_bytes messages decisions lines_of text_of step digits
+cut_off = refl
+
+-- he tells general 1 the order 1, and general 2 the order 0
+divider_later : List Insn
+divider_later =
+    i.Arithmetic W64 op.Move 1 (Immediate (pos 1))
+    ∷ i.Arithmetic W64 op.Move 2 (Immediate (pos 1))
+    ∷ i.Call (pos 8)
+    ∷ i.Arithmetic W64 op.Move 1 (Immediate (pos 2))
+    ∷ i.Arithmetic W64 op.Move 2 (Immediate (pos 0))
+    ∷ i.Call (pos 8)
+    ∷ i.Exit
+    ∷ []
+
+-- generals 1 and 2 are absent in round 2, and then 1 and 2 have posted
+four_divided : Scenario
+four_divided = record { generals = 4; bound = 1; commander = 0; order = 1; board = replicate 64 0; programs = None ∷ None ∷ None ∷ Some divider_later ∷ [] }
+
+deciding : World → List ℕ
+deciding w = decisions w.scenario (messages w.scenario w.closed)
+
+absent : map (λ w. deciding w) (run (opening four_divided) (Post 0 ∷ Post 1 ∷ Post 2 ∷ Close ∷ replicate 7 (Tick 3) ++ Close ∷ []) ∷ run (opening four_divided) (Post 0 ∷ Post 1 ∷ Post 2 ∷ Close ∷ replicate 7 (Tick 3) ++ Post 0 ∷ Post 1 ∷ Post 2 ∷ Close ∷ []) ∷ [])
+    ≡ (1 ∷ 0 ∷ 0 ∷ []) ∷ (1 ∷ 1 ∷ 1 ∷ []) ∷ []
+unfolding deciding four_divided divider_later labels om majority context_bytes messages decisions lines_of text_of step digits
+absent = refl
+
+absent_full : map (λ w. w.full) (run (opening four_divided) (Post 0 ∷ Post 1 ∷ Post 2 ∷ Close ∷ replicate 7 (Tick 3) ++ Close ∷ []) ∷ run (opening four_divided) (Post 0 ∷ Post 1 ∷ Post 2 ∷ Close ∷ replicate 7 (Tick 3) ++ Post 0 ∷ Post 1 ∷ Post 2 ∷ Close ∷ []) ∷ [])
+    ≡ false ∷ true ∷ []
+unfolding four_divided divider_later labels om majority context_bytes messages decisions lines_of text_of step digits
+absent_full = refl
+
+-- a second post and a tick of an ended activation are not refused
+idle_events : map (refusal (run (opening four) (Post 0 ∷ replicate 7 (Tick 3)))) (Post 0 ∷ Tick 3 ∷ []) ≡ None ∷ None ∷ []
+unfolding four turncoat labels context_bytes messages step
+idle_events = refl
+
+-- the commander's context, and one of a general who relays nothing
+contexts : map (take 40) (context_of four [] 0 ∷ context_of four [] 2 ∷ context_of four (run (opening four) (listed_rounds four 1 [])).closed 0 ∷ []) ≡
+    (4 ∷ 0 ∷ 0 ∷ 0 ∷ 1 ∷ 0 ∷ 0 ∷ 0 ∷ 0 ∷ 0 ∷ 0 ∷ 0 ∷ 0 ∷ 0 ∷ 0 ∷ 0 ∷ 1 ∷ 0 ∷ 0 ∷ 0 ∷ 1 ∷ 0 ∷ 0 ∷ 0 ∷ 3 ∷ 0 ∷ 0 ∷ 0 ∷ 0 ∷ 0 ∷ 0 ∷ 0 ∷ 1 ∷ 0 ∷ 0 ∷ 0 ∷ 0 ∷ 0 ∷ 0 ∷ 0 ∷ [])
+    ∷ (4 ∷ 0 ∷ 0 ∷ 0 ∷ 1 ∷ 0 ∷ 0 ∷ 0 ∷ 2 ∷ 0 ∷ 0 ∷ 0 ∷ 0 ∷ 0 ∷ 0 ∷ 0 ∷ 1 ∷ 0 ∷ 0 ∷ 0 ∷ 0 ∷ 0 ∷ 0 ∷ 0 ∷ 3 ∷ 0 ∷ 0 ∷ 0 ∷ 0 ∷ 0 ∷ 0 ∷ 0 ∷ 0 ∷ 0 ∷ 0 ∷ 0 ∷ 0 ∷ 0 ∷ 0 ∷ 0 ∷ [])
+    ∷ (4 ∷ 0 ∷ 0 ∷ 0 ∷ 1 ∷ 0 ∷ 0 ∷ 0 ∷ 0 ∷ 0 ∷ 0 ∷ 0 ∷ 0 ∷ 0 ∷ 0 ∷ 0 ∷ 2 ∷ 0 ∷ 0 ∷ 0 ∷ 0 ∷ 0 ∷ 0 ∷ 0 ∷ 2 ∷ 0 ∷ 0 ∷ 0 ∷ 0 ∷ 0 ∷ 0 ∷ 0 ∷ 0 ∷ 0 ∷ 0 ∷ 0 ∷ 0 ∷ 0 ∷ 0 ∷ 0 ∷ [])
+    ∷ []
+unfolding four turncoat labels context_bytes messages step
+contexts = refl
+
+-- he copies no word
+idler : List Insn
+idler =
+    i.Arithmetic W64 op.Move 1 (Immediate (pos 5))
+    ∷ i.Arithmetic W64 op.Move 2 (Register 10)
+    ∷ i.Arithmetic W64 op.Move 3 (Immediate (pos 0))
+    ∷ i.Call (pos 5)
+    ∷ i.Exit
+    ∷ []
+
+idle : Scenario
+idle = record { generals = 2; bound = 0; commander = 0; order = 7; board = replicate 64 0; programs = None ∷ Some idler ∷ [] }
+
+copies_none : printed idle ([]) ≡ lines (
+    codes "chronicle 1"
+    ∷ codes "generals 2 bound 0 commander 0 order 7"
+    ∷ codes "round 1"
+    ∷ codes "access 1 copy 5 0 ="
+    ∷ codes "letter 0 loyal"
+    ∷ codes "row 0 7"
+    ∷ codes "letter 1 steps 5"
+    ∷ codes "decision 1 traitor 7"
+    ∷ codes "verdict alike yes obeyed yes bound no"
+    ∷ [])
+unfolding idle idler labels om majority context_bytes messages decisions lines_of text_of step digits
+copies_none = refl

@@ -17,255 +17,255 @@ use Rattle.semantics.specs.State.{UnsetRegister, PointerUse, FrameWrite, OutOfBo
 use Rattle.semantics.specs.Execution.{step}
 use Rattle.semantics.specs.Run.{Running, Exited, Trapped, onwards, after}
 
--- row_1; the verifier: accepted
-row_1 : after (i.Arithmetic W64 op.Move 0 (Immediate (pos 42)) ∷ i.Exit ∷ []) ((4 ∷ 0 ∷ 0 ∷ 0 ∷ 1 ∷ 0 ∷ 0 ∷ 0 ∷ 3 ∷ 0 ∷ 0 ∷ 0 ∷ 0 ∷ 0 ∷ 0 ∷ 0 ∷ 1 ∷ 0 ∷ 0 ∷ 0 ∷ 0 ∷ 0 ∷ 0 ∷ 0 ∷ 3 ∷ []) ++ replicate 4071 0) (record { generals = 4; commander = 0; general = 3; round = 1 }) ([]) 2 ≡ Exited 42 (record { unit = 1; registers = ((Number 42) ∷ (Pointer Context (pos 0)) ∷ (Unset) ∷ (Unset) ∷ (Unset) ∷ (Unset) ∷ (Unset) ∷ (Unset) ∷ (Unset) ∷ (Unset) ∷ (Pointer Stack (pos 0)) ∷ []); cells = (replicate 512 (Empty)); outbox = ([]); steps = 2 })
+-- answer; the verifier: accepted
+answer : after (i.Arithmetic W64 op.Move 0 (Immediate (pos 42)) ∷ i.Exit ∷ []) ((4 ∷ 0 ∷ 0 ∷ 0 ∷ 1 ∷ 0 ∷ 0 ∷ 0 ∷ 3 ∷ 0 ∷ 0 ∷ 0 ∷ 0 ∷ 0 ∷ 0 ∷ 0 ∷ 1 ∷ 0 ∷ 0 ∷ 0 ∷ 0 ∷ 0 ∷ 0 ∷ 0 ∷ 3 ∷ []) ++ replicate 4071 0) (record { generals = 4; commander = 0; general = 3; round = 1 }) ([]) 2 ≡ Exited 42 (record { unit = 1; registers = ((Number 42) ∷ (Pointer Context (pos 0)) ∷ (Unset) ∷ (Unset) ∷ (Unset) ∷ (Unset) ∷ (Unset) ∷ (Unset) ∷ (Unset) ∷ (Unset) ∷ (Pointer Stack (pos 0)) ∷ []); cells = (replicate 512 (Empty)); outbox = ([]); steps = 2 })
 unfolding labels step onwards
-row_1 = refl
+answer = refl
 
--- row_2; the verifier: refused V5 unit 0
-row_2 : after (i.Exit ∷ []) ((4 ∷ 0 ∷ 0 ∷ 0 ∷ 1 ∷ 0 ∷ 0 ∷ 0 ∷ 3 ∷ 0 ∷ 0 ∷ 0 ∷ 0 ∷ 0 ∷ 0 ∷ 0 ∷ 1 ∷ 0 ∷ 0 ∷ 0 ∷ 0 ∷ 0 ∷ 0 ∷ 0 ∷ 3 ∷ []) ++ replicate 4071 0) (record { generals = 4; commander = 0; general = 3; round = 1 }) ([]) 2 ≡ Trapped UnsetRegister
+-- bare_exit; the verifier: refused V5 unit 0
+bare_exit : after (i.Exit ∷ []) ((4 ∷ 0 ∷ 0 ∷ 0 ∷ 1 ∷ 0 ∷ 0 ∷ 0 ∷ 3 ∷ 0 ∷ 0 ∷ 0 ∷ 0 ∷ 0 ∷ 0 ∷ 0 ∷ 1 ∷ 0 ∷ 0 ∷ 0 ∷ 0 ∷ 0 ∷ 0 ∷ 0 ∷ 3 ∷ []) ++ replicate 4071 0) (record { generals = 4; commander = 0; general = 3; round = 1 }) ([]) 2 ≡ Trapped UnsetRegister
 unfolding labels step onwards
-row_2 = refl
+bare_exit = refl
 
--- row_3_back; the verifier: refused V1 unit 0
-row_3_back : after (i.Jump (negsuc 0) ∷ i.Exit ∷ []) ((4 ∷ 0 ∷ 0 ∷ 0 ∷ 1 ∷ 0 ∷ 0 ∷ 0 ∷ 3 ∷ 0 ∷ 0 ∷ 0 ∷ 0 ∷ 0 ∷ 0 ∷ 0 ∷ 1 ∷ 0 ∷ 0 ∷ 0 ∷ 0 ∷ 0 ∷ 0 ∷ 0 ∷ 3 ∷ []) ++ replicate 4071 0) (record { generals = 4; commander = 0; general = 3; round = 1 }) ([]) 60 ≡ Running (record { unit = 0; registers = ((Unset) ∷ (Pointer Context (pos 0)) ∷ (Unset) ∷ (Unset) ∷ (Unset) ∷ (Unset) ∷ (Unset) ∷ (Unset) ∷ (Unset) ∷ (Unset) ∷ (Pointer Stack (pos 0)) ∷ []); cells = (replicate 512 (Empty)); outbox = ([]); steps = 60 })
+-- jump_back; the verifier: refused V1 unit 0
+jump_back : after (i.Jump (negsuc 0) ∷ i.Exit ∷ []) ((4 ∷ 0 ∷ 0 ∷ 0 ∷ 1 ∷ 0 ∷ 0 ∷ 0 ∷ 3 ∷ 0 ∷ 0 ∷ 0 ∷ 0 ∷ 0 ∷ 0 ∷ 0 ∷ 1 ∷ 0 ∷ 0 ∷ 0 ∷ 0 ∷ 0 ∷ 0 ∷ 0 ∷ 3 ∷ []) ++ replicate 4071 0) (record { generals = 4; commander = 0; general = 3; round = 1 }) ([]) 60 ≡ Running (record { unit = 0; registers = ((Unset) ∷ (Pointer Context (pos 0)) ∷ (Unset) ∷ (Unset) ∷ (Unset) ∷ (Unset) ∷ (Unset) ∷ (Unset) ∷ (Unset) ∷ (Unset) ∷ (Pointer Stack (pos 0)) ∷ []); cells = (replicate 512 (Empty)); outbox = ([]); steps = 60 })
 unfolding labels step onwards
-row_3_back = refl
+jump_back = refl
 
--- row_3_next; the verifier: accepted
-row_3_next : after (i.Arithmetic W64 op.Move 0 (Immediate (pos 0)) ∷ i.Jump (pos 0) ∷ i.Exit ∷ []) ((4 ∷ 0 ∷ 0 ∷ 0 ∷ 1 ∷ 0 ∷ 0 ∷ 0 ∷ 3 ∷ 0 ∷ 0 ∷ 0 ∷ 0 ∷ 0 ∷ 0 ∷ 0 ∷ 1 ∷ 0 ∷ 0 ∷ 0 ∷ 0 ∷ 0 ∷ 0 ∷ 0 ∷ 3 ∷ []) ++ replicate 4071 0) (record { generals = 4; commander = 0; general = 3; round = 1 }) ([]) 3 ≡ Exited 0 (record { unit = 2; registers = ((Number 0) ∷ (Pointer Context (pos 0)) ∷ (Unset) ∷ (Unset) ∷ (Unset) ∷ (Unset) ∷ (Unset) ∷ (Unset) ∷ (Unset) ∷ (Unset) ∷ (Pointer Stack (pos 0)) ∷ []); cells = (replicate 512 (Empty)); outbox = ([]); steps = 3 })
+-- jump_to_next; the verifier: accepted
+jump_to_next : after (i.Arithmetic W64 op.Move 0 (Immediate (pos 0)) ∷ i.Jump (pos 0) ∷ i.Exit ∷ []) ((4 ∷ 0 ∷ 0 ∷ 0 ∷ 1 ∷ 0 ∷ 0 ∷ 0 ∷ 3 ∷ 0 ∷ 0 ∷ 0 ∷ 0 ∷ 0 ∷ 0 ∷ 0 ∷ 1 ∷ 0 ∷ 0 ∷ 0 ∷ 0 ∷ 0 ∷ 0 ∷ 0 ∷ 3 ∷ []) ++ replicate 4071 0) (record { generals = 4; commander = 0; general = 3; round = 1 }) ([]) 3 ≡ Exited 0 (record { unit = 2; registers = ((Number 0) ∷ (Pointer Context (pos 0)) ∷ (Unset) ∷ (Unset) ∷ (Unset) ∷ (Unset) ∷ (Unset) ∷ (Unset) ∷ (Unset) ∷ (Unset) ∷ (Pointer Stack (pos 0)) ∷ []); cells = (replicate 512 (Empty)); outbox = ([]); steps = 3 })
 unfolding labels step onwards
-row_3_next = refl
+jump_to_next = refl
 
--- row_3_in_wide; the verifier: refused V3 unit 0
-row_3_in_wide : after (i.Jump (pos 1) ∷ i.LoadNumber 0 1 ∷ i.Exit ∷ []) ((4 ∷ 0 ∷ 0 ∷ 0 ∷ 1 ∷ 0 ∷ 0 ∷ 0 ∷ 3 ∷ 0 ∷ 0 ∷ 0 ∷ 0 ∷ 0 ∷ 0 ∷ 0 ∷ 1 ∷ 0 ∷ 0 ∷ 0 ∷ 0 ∷ 0 ∷ 0 ∷ 0 ∷ 3 ∷ []) ++ replicate 4071 0) (record { generals = 4; commander = 0; general = 3; round = 1 }) ([]) 2 ≡ Trapped NoInstruction
+-- jump_into_wide; the verifier: refused V3 unit 0
+jump_into_wide : after (i.Jump (pos 1) ∷ i.LoadNumber 0 1 ∷ i.Exit ∷ []) ((4 ∷ 0 ∷ 0 ∷ 0 ∷ 1 ∷ 0 ∷ 0 ∷ 0 ∷ 3 ∷ 0 ∷ 0 ∷ 0 ∷ 0 ∷ 0 ∷ 0 ∷ 0 ∷ 1 ∷ 0 ∷ 0 ∷ 0 ∷ 0 ∷ 0 ∷ 0 ∷ 0 ∷ 3 ∷ []) ++ replicate 4071 0) (record { generals = 4; commander = 0; general = 3; round = 1 }) ([]) 2 ≡ Trapped NoInstruction
 unfolding labels step onwards
-row_3_in_wide = refl
+jump_into_wide = refl
 
--- row_3_end; the verifier: refused V4 unit 0
-row_3_end : after (i.Arithmetic W64 op.Move 0 (Immediate (pos 0)) ∷ []) ((4 ∷ 0 ∷ 0 ∷ 0 ∷ 1 ∷ 0 ∷ 0 ∷ 0 ∷ 3 ∷ 0 ∷ 0 ∷ 0 ∷ 0 ∷ 0 ∷ 0 ∷ 0 ∷ 1 ∷ 0 ∷ 0 ∷ 0 ∷ 0 ∷ 0 ∷ 0 ∷ 0 ∷ 3 ∷ []) ++ replicate 4071 0) (record { generals = 4; commander = 0; general = 3; round = 1 }) ([]) 2 ≡ Trapped NoInstruction
+-- no_exit; the verifier: refused V4 unit 0
+no_exit : after (i.Arithmetic W64 op.Move 0 (Immediate (pos 0)) ∷ []) ((4 ∷ 0 ∷ 0 ∷ 0 ∷ 1 ∷ 0 ∷ 0 ∷ 0 ∷ 3 ∷ 0 ∷ 0 ∷ 0 ∷ 0 ∷ 0 ∷ 0 ∷ 0 ∷ 1 ∷ 0 ∷ 0 ∷ 0 ∷ 0 ∷ 0 ∷ 0 ∷ 0 ∷ 3 ∷ []) ++ replicate 4071 0) (record { generals = 4; commander = 0; general = 3; round = 1 }) ([]) 2 ≡ Trapped NoInstruction
 unfolding labels step onwards
-row_3_end = refl
+no_exit = refl
 
--- row_5; the verifier: refused V7 unit 0
-row_5 : after (i.Arithmetic W64 op.Add 1 (Immediate (pos 287454020)) ∷ i.Exit ∷ []) ((4 ∷ 0 ∷ 0 ∷ 0 ∷ 1 ∷ 0 ∷ 0 ∷ 0 ∷ 3 ∷ 0 ∷ 0 ∷ 0 ∷ 0 ∷ 0 ∷ 0 ∷ 0 ∷ 1 ∷ 0 ∷ 0 ∷ 0 ∷ 0 ∷ 0 ∷ 0 ∷ 0 ∷ 3 ∷ []) ++ replicate 4071 0) (record { generals = 4; commander = 0; general = 3; round = 1 }) ([]) 2 ≡ Trapped PointerUse
+-- pointer_past_the_limit; the verifier: refused V7 unit 0
+pointer_past_the_limit : after (i.Arithmetic W64 op.Add 1 (Immediate (pos 287454020)) ∷ i.Exit ∷ []) ((4 ∷ 0 ∷ 0 ∷ 0 ∷ 1 ∷ 0 ∷ 0 ∷ 0 ∷ 3 ∷ 0 ∷ 0 ∷ 0 ∷ 0 ∷ 0 ∷ 0 ∷ 0 ∷ 1 ∷ 0 ∷ 0 ∷ 0 ∷ 0 ∷ 0 ∷ 0 ∷ 0 ∷ 3 ∷ []) ++ replicate 4071 0) (record { generals = 4; commander = 0; general = 3; round = 1 }) ([]) 2 ≡ Trapped PointerUse
 unfolding labels step onwards
-row_5 = refl
+pointer_past_the_limit = refl
 
--- row_6_div64; the verifier: accepted
-row_6_div64 : after (i.Arithmetic W64 op.Move 0 (Immediate (pos 5)) ∷ i.Arithmetic W64 op.Div 0 (Immediate (pos 0)) ∷ i.Exit ∷ []) ((4 ∷ 0 ∷ 0 ∷ 0 ∷ 1 ∷ 0 ∷ 0 ∷ 0 ∷ 3 ∷ 0 ∷ 0 ∷ 0 ∷ 0 ∷ 0 ∷ 0 ∷ 0 ∷ 1 ∷ 0 ∷ 0 ∷ 0 ∷ 0 ∷ 0 ∷ 0 ∷ 0 ∷ 3 ∷ []) ++ replicate 4071 0) (record { generals = 4; commander = 0; general = 3; round = 1 }) ([]) 3 ≡ Exited 0 (record { unit = 2; registers = ((Number 0) ∷ (Pointer Context (pos 0)) ∷ (Unset) ∷ (Unset) ∷ (Unset) ∷ (Unset) ∷ (Unset) ∷ (Unset) ∷ (Unset) ∷ (Unset) ∷ (Pointer Stack (pos 0)) ∷ []); cells = (replicate 512 (Empty)); outbox = ([]); steps = 3 })
+-- divided_by_zero_64; the verifier: accepted
+divided_by_zero_64 : after (i.Arithmetic W64 op.Move 0 (Immediate (pos 5)) ∷ i.Arithmetic W64 op.Div 0 (Immediate (pos 0)) ∷ i.Exit ∷ []) ((4 ∷ 0 ∷ 0 ∷ 0 ∷ 1 ∷ 0 ∷ 0 ∷ 0 ∷ 3 ∷ 0 ∷ 0 ∷ 0 ∷ 0 ∷ 0 ∷ 0 ∷ 0 ∷ 1 ∷ 0 ∷ 0 ∷ 0 ∷ 0 ∷ 0 ∷ 0 ∷ 0 ∷ 3 ∷ []) ++ replicate 4071 0) (record { generals = 4; commander = 0; general = 3; round = 1 }) ([]) 3 ≡ Exited 0 (record { unit = 2; registers = ((Number 0) ∷ (Pointer Context (pos 0)) ∷ (Unset) ∷ (Unset) ∷ (Unset) ∷ (Unset) ∷ (Unset) ∷ (Unset) ∷ (Unset) ∷ (Unset) ∷ (Pointer Stack (pos 0)) ∷ []); cells = (replicate 512 (Empty)); outbox = ([]); steps = 3 })
 unfolding labels step onwards
-row_6_div64 = refl
+divided_by_zero_64 = refl
 
--- row_6_mod64; the verifier: accepted
-row_6_mod64 : after (i.LoadNumber 0 4294967301 ∷ i.Arithmetic W64 op.Mod 0 (Immediate (pos 0)) ∷ i.Exit ∷ []) ((4 ∷ 0 ∷ 0 ∷ 0 ∷ 1 ∷ 0 ∷ 0 ∷ 0 ∷ 3 ∷ 0 ∷ 0 ∷ 0 ∷ 0 ∷ 0 ∷ 0 ∷ 0 ∷ 1 ∷ 0 ∷ 0 ∷ 0 ∷ 0 ∷ 0 ∷ 0 ∷ 0 ∷ 3 ∷ []) ++ replicate 4071 0) (record { generals = 4; commander = 0; general = 3; round = 1 }) ([]) 3 ≡ Exited 4294967301 (record { unit = 3; registers = ((Number 4294967301) ∷ (Pointer Context (pos 0)) ∷ (Unset) ∷ (Unset) ∷ (Unset) ∷ (Unset) ∷ (Unset) ∷ (Unset) ∷ (Unset) ∷ (Unset) ∷ (Pointer Stack (pos 0)) ∷ []); cells = (replicate 512 (Empty)); outbox = ([]); steps = 3 })
+-- modulo_zero_64; the verifier: accepted
+modulo_zero_64 : after (i.LoadNumber 0 4294967301 ∷ i.Arithmetic W64 op.Mod 0 (Immediate (pos 0)) ∷ i.Exit ∷ []) ((4 ∷ 0 ∷ 0 ∷ 0 ∷ 1 ∷ 0 ∷ 0 ∷ 0 ∷ 3 ∷ 0 ∷ 0 ∷ 0 ∷ 0 ∷ 0 ∷ 0 ∷ 0 ∷ 1 ∷ 0 ∷ 0 ∷ 0 ∷ 0 ∷ 0 ∷ 0 ∷ 0 ∷ 3 ∷ []) ++ replicate 4071 0) (record { generals = 4; commander = 0; general = 3; round = 1 }) ([]) 3 ≡ Exited 4294967301 (record { unit = 3; registers = ((Number 4294967301) ∷ (Pointer Context (pos 0)) ∷ (Unset) ∷ (Unset) ∷ (Unset) ∷ (Unset) ∷ (Unset) ∷ (Unset) ∷ (Unset) ∷ (Unset) ∷ (Pointer Stack (pos 0)) ∷ []); cells = (replicate 512 (Empty)); outbox = ([]); steps = 3 })
 unfolding labels step onwards
-row_6_mod64 = refl
+modulo_zero_64 = refl
 
--- row_6_div32; the verifier: accepted
-row_6_div32 : after (i.Arithmetic W64 op.Move 0 (Immediate (pos 5)) ∷ i.Arithmetic W32 op.Div 0 (Immediate (pos 0)) ∷ i.Exit ∷ []) ((4 ∷ 0 ∷ 0 ∷ 0 ∷ 1 ∷ 0 ∷ 0 ∷ 0 ∷ 3 ∷ 0 ∷ 0 ∷ 0 ∷ 0 ∷ 0 ∷ 0 ∷ 0 ∷ 1 ∷ 0 ∷ 0 ∷ 0 ∷ 0 ∷ 0 ∷ 0 ∷ 0 ∷ 3 ∷ []) ++ replicate 4071 0) (record { generals = 4; commander = 0; general = 3; round = 1 }) ([]) 3 ≡ Exited 0 (record { unit = 2; registers = ((Number 0) ∷ (Pointer Context (pos 0)) ∷ (Unset) ∷ (Unset) ∷ (Unset) ∷ (Unset) ∷ (Unset) ∷ (Unset) ∷ (Unset) ∷ (Unset) ∷ (Pointer Stack (pos 0)) ∷ []); cells = (replicate 512 (Empty)); outbox = ([]); steps = 3 })
+-- divided_by_zero_32; the verifier: accepted
+divided_by_zero_32 : after (i.Arithmetic W64 op.Move 0 (Immediate (pos 5)) ∷ i.Arithmetic W32 op.Div 0 (Immediate (pos 0)) ∷ i.Exit ∷ []) ((4 ∷ 0 ∷ 0 ∷ 0 ∷ 1 ∷ 0 ∷ 0 ∷ 0 ∷ 3 ∷ 0 ∷ 0 ∷ 0 ∷ 0 ∷ 0 ∷ 0 ∷ 0 ∷ 1 ∷ 0 ∷ 0 ∷ 0 ∷ 0 ∷ 0 ∷ 0 ∷ 0 ∷ 3 ∷ []) ++ replicate 4071 0) (record { generals = 4; commander = 0; general = 3; round = 1 }) ([]) 3 ≡ Exited 0 (record { unit = 2; registers = ((Number 0) ∷ (Pointer Context (pos 0)) ∷ (Unset) ∷ (Unset) ∷ (Unset) ∷ (Unset) ∷ (Unset) ∷ (Unset) ∷ (Unset) ∷ (Unset) ∷ (Pointer Stack (pos 0)) ∷ []); cells = (replicate 512 (Empty)); outbox = ([]); steps = 3 })
 unfolding labels step onwards
-row_6_div32 = refl
+divided_by_zero_32 = refl
 
--- row_6_sdiv64; the verifier: accepted
-row_6_sdiv64 : after (i.LoadNumber 0 9223372036854775808 ∷ i.Arithmetic W64 op.SignedDiv 0 (Immediate (negsuc 0)) ∷ i.Exit ∷ []) ((4 ∷ 0 ∷ 0 ∷ 0 ∷ 1 ∷ 0 ∷ 0 ∷ 0 ∷ 3 ∷ 0 ∷ 0 ∷ 0 ∷ 0 ∷ 0 ∷ 0 ∷ 0 ∷ 1 ∷ 0 ∷ 0 ∷ 0 ∷ 0 ∷ 0 ∷ 0 ∷ 0 ∷ 3 ∷ []) ++ replicate 4071 0) (record { generals = 4; commander = 0; general = 3; round = 1 }) ([]) 3 ≡ Exited 9223372036854775808 (record { unit = 3; registers = ((Number 9223372036854775808) ∷ (Pointer Context (pos 0)) ∷ (Unset) ∷ (Unset) ∷ (Unset) ∷ (Unset) ∷ (Unset) ∷ (Unset) ∷ (Unset) ∷ (Unset) ∷ (Pointer Stack (pos 0)) ∷ []); cells = (replicate 512 (Empty)); outbox = ([]); steps = 3 })
+-- least_divided_by_minus_one_64; the verifier: accepted
+least_divided_by_minus_one_64 : after (i.LoadNumber 0 9223372036854775808 ∷ i.Arithmetic W64 op.SignedDiv 0 (Immediate (negsuc 0)) ∷ i.Exit ∷ []) ((4 ∷ 0 ∷ 0 ∷ 0 ∷ 1 ∷ 0 ∷ 0 ∷ 0 ∷ 3 ∷ 0 ∷ 0 ∷ 0 ∷ 0 ∷ 0 ∷ 0 ∷ 0 ∷ 1 ∷ 0 ∷ 0 ∷ 0 ∷ 0 ∷ 0 ∷ 0 ∷ 0 ∷ 3 ∷ []) ++ replicate 4071 0) (record { generals = 4; commander = 0; general = 3; round = 1 }) ([]) 3 ≡ Exited 9223372036854775808 (record { unit = 3; registers = ((Number 9223372036854775808) ∷ (Pointer Context (pos 0)) ∷ (Unset) ∷ (Unset) ∷ (Unset) ∷ (Unset) ∷ (Unset) ∷ (Unset) ∷ (Unset) ∷ (Unset) ∷ (Pointer Stack (pos 0)) ∷ []); cells = (replicate 512 (Empty)); outbox = ([]); steps = 3 })
 unfolding labels step onwards
-row_6_sdiv64 = refl
+least_divided_by_minus_one_64 = refl
 
--- row_6_smod64; the verifier: accepted
-row_6_smod64 : after (i.LoadNumber 0 9223372036854775808 ∷ i.Arithmetic W64 op.SignedMod 0 (Immediate (negsuc 0)) ∷ i.Exit ∷ []) ((4 ∷ 0 ∷ 0 ∷ 0 ∷ 1 ∷ 0 ∷ 0 ∷ 0 ∷ 3 ∷ 0 ∷ 0 ∷ 0 ∷ 0 ∷ 0 ∷ 0 ∷ 0 ∷ 1 ∷ 0 ∷ 0 ∷ 0 ∷ 0 ∷ 0 ∷ 0 ∷ 0 ∷ 3 ∷ []) ++ replicate 4071 0) (record { generals = 4; commander = 0; general = 3; round = 1 }) ([]) 3 ≡ Exited 0 (record { unit = 3; registers = ((Number 0) ∷ (Pointer Context (pos 0)) ∷ (Unset) ∷ (Unset) ∷ (Unset) ∷ (Unset) ∷ (Unset) ∷ (Unset) ∷ (Unset) ∷ (Unset) ∷ (Pointer Stack (pos 0)) ∷ []); cells = (replicate 512 (Empty)); outbox = ([]); steps = 3 })
+-- least_modulo_minus_one_64; the verifier: accepted
+least_modulo_minus_one_64 : after (i.LoadNumber 0 9223372036854775808 ∷ i.Arithmetic W64 op.SignedMod 0 (Immediate (negsuc 0)) ∷ i.Exit ∷ []) ((4 ∷ 0 ∷ 0 ∷ 0 ∷ 1 ∷ 0 ∷ 0 ∷ 0 ∷ 3 ∷ 0 ∷ 0 ∷ 0 ∷ 0 ∷ 0 ∷ 0 ∷ 0 ∷ 1 ∷ 0 ∷ 0 ∷ 0 ∷ 0 ∷ 0 ∷ 0 ∷ 0 ∷ 3 ∷ []) ++ replicate 4071 0) (record { generals = 4; commander = 0; general = 3; round = 1 }) ([]) 3 ≡ Exited 0 (record { unit = 3; registers = ((Number 0) ∷ (Pointer Context (pos 0)) ∷ (Unset) ∷ (Unset) ∷ (Unset) ∷ (Unset) ∷ (Unset) ∷ (Unset) ∷ (Unset) ∷ (Unset) ∷ (Pointer Stack (pos 0)) ∷ []); cells = (replicate 512 (Empty)); outbox = ([]); steps = 3 })
 unfolding labels step onwards
-row_6_smod64 = refl
+least_modulo_minus_one_64 = refl
 
--- row_6_sdiv32; the verifier: accepted
-row_6_sdiv32 : after (i.LoadNumber 0 2147483648 ∷ i.Arithmetic W32 op.SignedDiv 0 (Immediate (negsuc 0)) ∷ i.Exit ∷ []) ((4 ∷ 0 ∷ 0 ∷ 0 ∷ 1 ∷ 0 ∷ 0 ∷ 0 ∷ 3 ∷ 0 ∷ 0 ∷ 0 ∷ 0 ∷ 0 ∷ 0 ∷ 0 ∷ 1 ∷ 0 ∷ 0 ∷ 0 ∷ 0 ∷ 0 ∷ 0 ∷ 0 ∷ 3 ∷ []) ++ replicate 4071 0) (record { generals = 4; commander = 0; general = 3; round = 1 }) ([]) 3 ≡ Exited 2147483648 (record { unit = 3; registers = ((Number 2147483648) ∷ (Pointer Context (pos 0)) ∷ (Unset) ∷ (Unset) ∷ (Unset) ∷ (Unset) ∷ (Unset) ∷ (Unset) ∷ (Unset) ∷ (Unset) ∷ (Pointer Stack (pos 0)) ∷ []); cells = (replicate 512 (Empty)); outbox = ([]); steps = 3 })
+-- least_divided_by_minus_one_32; the verifier: accepted
+least_divided_by_minus_one_32 : after (i.LoadNumber 0 2147483648 ∷ i.Arithmetic W32 op.SignedDiv 0 (Immediate (negsuc 0)) ∷ i.Exit ∷ []) ((4 ∷ 0 ∷ 0 ∷ 0 ∷ 1 ∷ 0 ∷ 0 ∷ 0 ∷ 3 ∷ 0 ∷ 0 ∷ 0 ∷ 0 ∷ 0 ∷ 0 ∷ 0 ∷ 1 ∷ 0 ∷ 0 ∷ 0 ∷ 0 ∷ 0 ∷ 0 ∷ 0 ∷ 3 ∷ []) ++ replicate 4071 0) (record { generals = 4; commander = 0; general = 3; round = 1 }) ([]) 3 ≡ Exited 2147483648 (record { unit = 3; registers = ((Number 2147483648) ∷ (Pointer Context (pos 0)) ∷ (Unset) ∷ (Unset) ∷ (Unset) ∷ (Unset) ∷ (Unset) ∷ (Unset) ∷ (Unset) ∷ (Unset) ∷ (Pointer Stack (pos 0)) ∷ []); cells = (replicate 512 (Empty)); outbox = ([]); steps = 3 })
 unfolding labels step onwards
-row_6_sdiv32 = refl
+least_divided_by_minus_one_32 = refl
 
--- row_6_smod32; the verifier: accepted
-row_6_smod32 : after (i.LoadNumber 0 2147483648 ∷ i.Arithmetic W32 op.SignedMod 0 (Immediate (negsuc 0)) ∷ i.Exit ∷ []) ((4 ∷ 0 ∷ 0 ∷ 0 ∷ 1 ∷ 0 ∷ 0 ∷ 0 ∷ 3 ∷ 0 ∷ 0 ∷ 0 ∷ 0 ∷ 0 ∷ 0 ∷ 0 ∷ 1 ∷ 0 ∷ 0 ∷ 0 ∷ 0 ∷ 0 ∷ 0 ∷ 0 ∷ 3 ∷ []) ++ replicate 4071 0) (record { generals = 4; commander = 0; general = 3; round = 1 }) ([]) 3 ≡ Exited 0 (record { unit = 3; registers = ((Number 0) ∷ (Pointer Context (pos 0)) ∷ (Unset) ∷ (Unset) ∷ (Unset) ∷ (Unset) ∷ (Unset) ∷ (Unset) ∷ (Unset) ∷ (Unset) ∷ (Pointer Stack (pos 0)) ∷ []); cells = (replicate 512 (Empty)); outbox = ([]); steps = 3 })
+-- least_modulo_minus_one_32; the verifier: accepted
+least_modulo_minus_one_32 : after (i.LoadNumber 0 2147483648 ∷ i.Arithmetic W32 op.SignedMod 0 (Immediate (negsuc 0)) ∷ i.Exit ∷ []) ((4 ∷ 0 ∷ 0 ∷ 0 ∷ 1 ∷ 0 ∷ 0 ∷ 0 ∷ 3 ∷ 0 ∷ 0 ∷ 0 ∷ 0 ∷ 0 ∷ 0 ∷ 0 ∷ 1 ∷ 0 ∷ 0 ∷ 0 ∷ 0 ∷ 0 ∷ 0 ∷ 0 ∷ 3 ∷ []) ++ replicate 4071 0) (record { generals = 4; commander = 0; general = 3; round = 1 }) ([]) 3 ≡ Exited 0 (record { unit = 3; registers = ((Number 0) ∷ (Pointer Context (pos 0)) ∷ (Unset) ∷ (Unset) ∷ (Unset) ∷ (Unset) ∷ (Unset) ∷ (Unset) ∷ (Unset) ∷ (Unset) ∷ (Pointer Stack (pos 0)) ∷ []); cells = (replicate 512 (Empty)); outbox = ([]); steps = 3 })
 unfolding labels step onwards
-row_6_smod32 = refl
+least_modulo_minus_one_32 = refl
 
--- row_7_empty; the verifier: refused V9 unit 0
-row_7_empty : after (i.Load size.Double 0 10 (negsuc 7) ∷ i.Exit ∷ []) ((4 ∷ 0 ∷ 0 ∷ 0 ∷ 1 ∷ 0 ∷ 0 ∷ 0 ∷ 3 ∷ 0 ∷ 0 ∷ 0 ∷ 0 ∷ 0 ∷ 0 ∷ 0 ∷ 1 ∷ 0 ∷ 0 ∷ 0 ∷ 0 ∷ 0 ∷ 0 ∷ 0 ∷ 3 ∷ []) ++ replicate 4071 0) (record { generals = 4; commander = 0; general = 3; round = 1 }) ([]) 2 ≡ Trapped NoBytes
+-- load_of_empty_cells; the verifier: refused V9 unit 0
+load_of_empty_cells : after (i.Load size.Double 0 10 (negsuc 7) ∷ i.Exit ∷ []) ((4 ∷ 0 ∷ 0 ∷ 0 ∷ 1 ∷ 0 ∷ 0 ∷ 0 ∷ 3 ∷ 0 ∷ 0 ∷ 0 ∷ 0 ∷ 0 ∷ 0 ∷ 0 ∷ 1 ∷ 0 ∷ 0 ∷ 0 ∷ 0 ∷ 0 ∷ 0 ∷ 0 ∷ 3 ∷ []) ++ replicate 4071 0) (record { generals = 4; commander = 0; general = 3; round = 1 }) ([]) 2 ≡ Trapped NoBytes
 unfolding labels step onwards
-row_7_empty = refl
+load_of_empty_cells = refl
 
--- row_7_one_byte; the verifier: refused V9 unit 1
-row_7_one_byte : after (i.Store size.Byte 10 (negsuc 7) (Immediate (pos 1)) ∷ i.Load size.Double 0 10 (negsuc 7) ∷ i.Exit ∷ []) ((4 ∷ 0 ∷ 0 ∷ 0 ∷ 1 ∷ 0 ∷ 0 ∷ 0 ∷ 3 ∷ 0 ∷ 0 ∷ 0 ∷ 0 ∷ 0 ∷ 0 ∷ 0 ∷ 1 ∷ 0 ∷ 0 ∷ 0 ∷ 0 ∷ 0 ∷ 0 ∷ 0 ∷ 3 ∷ []) ++ replicate 4071 0) (record { generals = 4; commander = 0; general = 3; round = 1 }) ([]) 3 ≡ Trapped NoBytes
+-- load_past_one_byte; the verifier: refused V9 unit 1
+load_past_one_byte : after (i.Store size.Byte 10 (negsuc 7) (Immediate (pos 1)) ∷ i.Load size.Double 0 10 (negsuc 7) ∷ i.Exit ∷ []) ((4 ∷ 0 ∷ 0 ∷ 0 ∷ 1 ∷ 0 ∷ 0 ∷ 0 ∷ 3 ∷ 0 ∷ 0 ∷ 0 ∷ 0 ∷ 0 ∷ 0 ∷ 0 ∷ 1 ∷ 0 ∷ 0 ∷ 0 ∷ 0 ∷ 0 ∷ 0 ∷ 0 ∷ 3 ∷ []) ++ replicate 4071 0) (record { generals = 4; commander = 0; general = 3; round = 1 }) ([]) 3 ≡ Trapped NoBytes
 unfolding labels step onwards
-row_7_one_byte = refl
+load_past_one_byte = refl
 
--- row_7_piece; the verifier: refused V9 unit 1
-row_7_piece : after (i.Store size.Double 10 (negsuc 7) (Register 1) ∷ i.Load size.Word 0 10 (negsuc 7) ∷ i.Exit ∷ []) ((4 ∷ 0 ∷ 0 ∷ 0 ∷ 1 ∷ 0 ∷ 0 ∷ 0 ∷ 3 ∷ 0 ∷ 0 ∷ 0 ∷ 0 ∷ 0 ∷ 0 ∷ 0 ∷ 1 ∷ 0 ∷ 0 ∷ 0 ∷ 0 ∷ 0 ∷ 0 ∷ 0 ∷ 3 ∷ []) ++ replicate 4071 0) (record { generals = 4; commander = 0; general = 3; round = 1 }) ([]) 3 ≡ Trapped NoBytes
+-- load_of_a_part_of_a_pointer; the verifier: refused V9 unit 1
+load_of_a_part_of_a_pointer : after (i.Store size.Double 10 (negsuc 7) (Register 1) ∷ i.Load size.Word 0 10 (negsuc 7) ∷ i.Exit ∷ []) ((4 ∷ 0 ∷ 0 ∷ 0 ∷ 1 ∷ 0 ∷ 0 ∷ 0 ∷ 3 ∷ 0 ∷ 0 ∷ 0 ∷ 0 ∷ 0 ∷ 0 ∷ 0 ∷ 1 ∷ 0 ∷ 0 ∷ 0 ∷ 0 ∷ 0 ∷ 0 ∷ 0 ∷ 3 ∷ []) ++ replicate 4071 0) (record { generals = 4; commander = 0; general = 3; round = 1 }) ([]) 3 ≡ Trapped NoBytes
 unfolding labels step onwards
-row_7_piece = refl
+load_of_a_part_of_a_pointer = refl
 
--- row_7_pointer; the verifier: accepted
-row_7_pointer : after (i.Store size.Double 10 (negsuc 7) (Register 1) ∷ i.Load size.Double 2 10 (negsuc 7) ∷ i.Load size.Word 0 2 (pos 0) ∷ i.Exit ∷ []) ((4 ∷ 0 ∷ 0 ∷ 0 ∷ 1 ∷ 0 ∷ 0 ∷ 0 ∷ 3 ∷ 0 ∷ 0 ∷ 0 ∷ 0 ∷ 0 ∷ 0 ∷ 0 ∷ 1 ∷ 0 ∷ 0 ∷ 0 ∷ 0 ∷ 0 ∷ 0 ∷ 0 ∷ 3 ∷ []) ++ replicate 4071 0) (record { generals = 4; commander = 0; general = 3; round = 1 }) ([]) 4 ≡ Exited 4 (record { unit = 3; registers = ((Number 4) ∷ (Pointer Context (pos 0)) ∷ (Pointer Context (pos 0)) ∷ (Unset) ∷ (Unset) ∷ (Unset) ∷ (Unset) ∷ (Unset) ∷ (Unset) ∷ (Unset) ∷ (Pointer Stack (pos 0)) ∷ []); cells = (replicate 504 (Empty) ++ replicate 1 (Piece 0 Context (pos 0)) ++ replicate 1 (Piece 1 Context (pos 0)) ++ replicate 1 (Piece 2 Context (pos 0)) ++ replicate 1 (Piece 3 Context (pos 0)) ++ replicate 1 (Piece 4 Context (pos 0)) ++ replicate 1 (Piece 5 Context (pos 0)) ++ replicate 1 (Piece 6 Context (pos 0)) ++ replicate 1 (Piece 7 Context (pos 0))); outbox = ([]); steps = 4 })
+-- load_of_a_pointer; the verifier: accepted
+load_of_a_pointer : after (i.Store size.Double 10 (negsuc 7) (Register 1) ∷ i.Load size.Double 2 10 (negsuc 7) ∷ i.Load size.Word 0 2 (pos 0) ∷ i.Exit ∷ []) ((4 ∷ 0 ∷ 0 ∷ 0 ∷ 1 ∷ 0 ∷ 0 ∷ 0 ∷ 3 ∷ 0 ∷ 0 ∷ 0 ∷ 0 ∷ 0 ∷ 0 ∷ 0 ∷ 1 ∷ 0 ∷ 0 ∷ 0 ∷ 0 ∷ 0 ∷ 0 ∷ 0 ∷ 3 ∷ []) ++ replicate 4071 0) (record { generals = 4; commander = 0; general = 3; round = 1 }) ([]) 4 ≡ Exited 4 (record { unit = 3; registers = ((Number 4) ∷ (Pointer Context (pos 0)) ∷ (Pointer Context (pos 0)) ∷ (Unset) ∷ (Unset) ∷ (Unset) ∷ (Unset) ∷ (Unset) ∷ (Unset) ∷ (Unset) ∷ (Pointer Stack (pos 0)) ∷ []); cells = (replicate 504 (Empty) ++ replicate 1 (Piece 0 Context (pos 0)) ++ replicate 1 (Piece 1 Context (pos 0)) ++ replicate 1 (Piece 2 Context (pos 0)) ++ replicate 1 (Piece 3 Context (pos 0)) ++ replicate 1 (Piece 4 Context (pos 0)) ++ replicate 1 (Piece 5 Context (pos 0)) ++ replicate 1 (Piece 6 Context (pos 0)) ++ replicate 1 (Piece 7 Context (pos 0))); outbox = ([]); steps = 4 })
 unfolding labels step onwards
-row_7_pointer = refl
+load_of_a_pointer = refl
 
--- row_7_bounds; the verifier: refused V8 unit 0
-row_7_bounds : after (i.Load size.Double 0 10 (negsuc 3) ∷ i.Exit ∷ []) ((4 ∷ 0 ∷ 0 ∷ 0 ∷ 1 ∷ 0 ∷ 0 ∷ 0 ∷ 3 ∷ 0 ∷ 0 ∷ 0 ∷ 0 ∷ 0 ∷ 0 ∷ 0 ∷ 1 ∷ 0 ∷ 0 ∷ 0 ∷ 0 ∷ 0 ∷ 0 ∷ 0 ∷ 3 ∷ []) ++ replicate 4071 0) (record { generals = 4; commander = 0; general = 3; round = 1 }) ([]) 2 ≡ Trapped OutOfBounds
+-- load_past_the_stack; the verifier: refused V8 unit 0
+load_past_the_stack : after (i.Load size.Double 0 10 (negsuc 3) ∷ i.Exit ∷ []) ((4 ∷ 0 ∷ 0 ∷ 0 ∷ 1 ∷ 0 ∷ 0 ∷ 0 ∷ 3 ∷ 0 ∷ 0 ∷ 0 ∷ 0 ∷ 0 ∷ 0 ∷ 0 ∷ 1 ∷ 0 ∷ 0 ∷ 0 ∷ 0 ∷ 0 ∷ 0 ∷ 0 ∷ 3 ∷ []) ++ replicate 4071 0) (record { generals = 4; commander = 0; general = 3; round = 1 }) ([]) 2 ≡ Trapped OutOfBounds
 unfolding labels step onwards
-row_7_bounds = refl
+load_past_the_stack = refl
 
--- row_8; the verifier: accepted
-row_8 : after (i.Arithmetic W64 op.Move 1 (Immediate (pos 0)) ∷ i.Call (pos 1) ∷ i.Arithmetic W64 op.Move 2 (Register 0) ∷ i.Arithmetic W64 op.And 2 (Immediate (pos 7)) ∷ i.Arithmetic W64 op.Move 3 (Register 10) ∷ i.Arithmetic W64 op.Add 3 (Immediate (negsuc 7)) ∷ i.Arithmetic W64 op.Add 3 (Register 2) ∷ i.Store size.Byte 3 (pos 0) (Immediate (pos 1)) ∷ i.Arithmetic W64 op.Move 0 (Immediate (pos 0)) ∷ i.Exit ∷ []) ((4 ∷ 0 ∷ 0 ∷ 0 ∷ 1 ∷ 0 ∷ 0 ∷ 0 ∷ 3 ∷ 0 ∷ 0 ∷ 0 ∷ 0 ∷ 0 ∷ 0 ∷ 0 ∷ 1 ∷ 0 ∷ 0 ∷ 0 ∷ 0 ∷ 0 ∷ 0 ∷ 0 ∷ 3 ∷ []) ++ replicate 4071 0) (record { generals = 4; commander = 0; general = 3; round = 1 }) ((0 ∷ []) ∷ []) 10 ≡ Exited 0 (record { unit = 9; registers = ((Number 0) ∷ (Unset) ∷ (Number 0) ∷ (Pointer Stack (negsuc 7)) ∷ (Unset) ∷ (Unset) ∷ (Unset) ∷ (Unset) ∷ (Unset) ∷ (Unset) ∷ (Pointer Stack (pos 0)) ∷ []); cells = (replicate 504 (Empty) ++ replicate 1 (Byte 1) ++ replicate 7 (Empty)); outbox = ([]); steps = 10 })
+-- store_at_a_masked_offset; the verifier: accepted
+store_at_a_masked_offset : after (i.Arithmetic W64 op.Move 1 (Immediate (pos 0)) ∷ i.Call (pos 1) ∷ i.Arithmetic W64 op.Move 2 (Register 0) ∷ i.Arithmetic W64 op.And 2 (Immediate (pos 7)) ∷ i.Arithmetic W64 op.Move 3 (Register 10) ∷ i.Arithmetic W64 op.Add 3 (Immediate (negsuc 7)) ∷ i.Arithmetic W64 op.Add 3 (Register 2) ∷ i.Store size.Byte 3 (pos 0) (Immediate (pos 1)) ∷ i.Arithmetic W64 op.Move 0 (Immediate (pos 0)) ∷ i.Exit ∷ []) ((4 ∷ 0 ∷ 0 ∷ 0 ∷ 1 ∷ 0 ∷ 0 ∷ 0 ∷ 3 ∷ 0 ∷ 0 ∷ 0 ∷ 0 ∷ 0 ∷ 0 ∷ 0 ∷ 1 ∷ 0 ∷ 0 ∷ 0 ∷ 0 ∷ 0 ∷ 0 ∷ 0 ∷ 3 ∷ []) ++ replicate 4071 0) (record { generals = 4; commander = 0; general = 3; round = 1 }) ((0 ∷ []) ∷ []) 10 ≡ Exited 0 (record { unit = 9; registers = ((Number 0) ∷ (Unset) ∷ (Number 0) ∷ (Pointer Stack (negsuc 7)) ∷ (Unset) ∷ (Unset) ∷ (Unset) ∷ (Unset) ∷ (Unset) ∷ (Unset) ∷ (Pointer Stack (pos 0)) ∷ []); cells = (replicate 504 (Empty) ++ replicate 1 (Byte 1) ++ replicate 7 (Empty)); outbox = ([]); steps = 10 })
 unfolding labels step onwards
-row_8 = refl
+store_at_a_masked_offset = refl
 
--- row_8_wide; the verifier: refused V8 unit 7
-row_8_wide : after (i.Arithmetic W64 op.Move 1 (Immediate (pos 0)) ∷ i.Call (pos 1) ∷ i.Arithmetic W64 op.Move 2 (Register 0) ∷ i.Arithmetic W64 op.And 2 (Immediate (pos 15)) ∷ i.Arithmetic W64 op.Move 3 (Register 10) ∷ i.Arithmetic W64 op.Add 3 (Immediate (negsuc 7)) ∷ i.Arithmetic W64 op.Add 3 (Register 2) ∷ i.Store size.Byte 3 (pos 0) (Immediate (pos 1)) ∷ i.Arithmetic W64 op.Move 0 (Immediate (pos 0)) ∷ i.Exit ∷ []) ((4 ∷ 0 ∷ 0 ∷ 0 ∷ 1 ∷ 0 ∷ 0 ∷ 0 ∷ 3 ∷ 0 ∷ 0 ∷ 0 ∷ 0 ∷ 0 ∷ 0 ∷ 0 ∷ 1 ∷ 0 ∷ 0 ∷ 0 ∷ 0 ∷ 0 ∷ 0 ∷ 0 ∷ 3 ∷ []) ++ replicate 4071 0) (record { generals = 4; commander = 0; general = 3; round = 1 }) ((9 ∷ []) ∷ []) 9 ≡ Trapped OutOfBounds
+-- store_at_a_wider_offset; the verifier: refused V8 unit 7
+store_at_a_wider_offset : after (i.Arithmetic W64 op.Move 1 (Immediate (pos 0)) ∷ i.Call (pos 1) ∷ i.Arithmetic W64 op.Move 2 (Register 0) ∷ i.Arithmetic W64 op.And 2 (Immediate (pos 15)) ∷ i.Arithmetic W64 op.Move 3 (Register 10) ∷ i.Arithmetic W64 op.Add 3 (Immediate (negsuc 7)) ∷ i.Arithmetic W64 op.Add 3 (Register 2) ∷ i.Store size.Byte 3 (pos 0) (Immediate (pos 1)) ∷ i.Arithmetic W64 op.Move 0 (Immediate (pos 0)) ∷ i.Exit ∷ []) ((4 ∷ 0 ∷ 0 ∷ 0 ∷ 1 ∷ 0 ∷ 0 ∷ 0 ∷ 3 ∷ 0 ∷ 0 ∷ 0 ∷ 0 ∷ 0 ∷ 0 ∷ 0 ∷ 1 ∷ 0 ∷ 0 ∷ 0 ∷ 0 ∷ 0 ∷ 0 ∷ 0 ∷ 3 ∷ []) ++ replicate 4071 0) (record { generals = 4; commander = 0; general = 3; round = 1 }) ((9 ∷ []) ∷ []) 9 ≡ Trapped OutOfBounds
 unfolding labels step onwards
-row_8_wide = refl
+store_at_a_wider_offset = refl
 
--- row_9; the verifier: accepted
-row_9 : after (i.Load size.Double 2 1 (pos 32) ∷ i.Arithmetic W64 op.Move 0 (Immediate (pos 0)) ∷ i.Branch W64 c.Above 2 (Immediate (pos 63)) (pos 2) ∷ i.Arithmetic W64 op.Move 1 (Register 2) ∷ i.Call (pos 1) ∷ i.Exit ∷ []) ((4 ∷ 0 ∷ 0 ∷ 0 ∷ 1 ∷ 0 ∷ 0 ∷ 0 ∷ 3 ∷ 0 ∷ 0 ∷ 0 ∷ 0 ∷ 0 ∷ 0 ∷ 0 ∷ 1 ∷ 0 ∷ 0 ∷ 0 ∷ 0 ∷ 0 ∷ 0 ∷ 0 ∷ 3 ∷ []) ++ replicate 4071 0) (record { generals = 4; commander = 0; general = 3; round = 1 }) ((0 ∷ []) ∷ []) 6 ≡ Exited 0 (record { unit = 5; registers = ((Number 0) ∷ (Unset) ∷ (Unset) ∷ (Unset) ∷ (Unset) ∷ (Unset) ∷ (Unset) ∷ (Unset) ∷ (Unset) ∷ (Unset) ∷ (Pointer Stack (pos 0)) ∷ []); cells = (replicate 512 (Empty)); outbox = ([]); steps = 6 })
+-- get_behind_a_test; the verifier: accepted
+get_behind_a_test : after (i.Load size.Double 2 1 (pos 32) ∷ i.Arithmetic W64 op.Move 0 (Immediate (pos 0)) ∷ i.Branch W64 c.Above 2 (Immediate (pos 63)) (pos 2) ∷ i.Arithmetic W64 op.Move 1 (Register 2) ∷ i.Call (pos 1) ∷ i.Exit ∷ []) ((4 ∷ 0 ∷ 0 ∷ 0 ∷ 1 ∷ 0 ∷ 0 ∷ 0 ∷ 3 ∷ 0 ∷ 0 ∷ 0 ∷ 0 ∷ 0 ∷ 0 ∷ 0 ∷ 1 ∷ 0 ∷ 0 ∷ 0 ∷ 0 ∷ 0 ∷ 0 ∷ 0 ∷ 3 ∷ []) ++ replicate 4071 0) (record { generals = 4; commander = 0; general = 3; round = 1 }) ((0 ∷ []) ∷ []) 6 ≡ Exited 0 (record { unit = 5; registers = ((Number 0) ∷ (Unset) ∷ (Unset) ∷ (Unset) ∷ (Unset) ∷ (Unset) ∷ (Unset) ∷ (Unset) ∷ (Unset) ∷ (Unset) ∷ (Pointer Stack (pos 0)) ∷ []); cells = (replicate 512 (Empty)); outbox = ([]); steps = 6 })
 unfolding labels step onwards
-row_9 = refl
+get_behind_a_test = refl
 
--- row_9_narrow; the verifier: refused V12 unit 4
-row_9_narrow : after (i.Load size.Double 2 1 (pos 32) ∷ i.Arithmetic W64 op.Move 0 (Immediate (pos 0)) ∷ i.Branch W32 c.Above 2 (Immediate (pos 63)) (pos 2) ∷ i.Arithmetic W64 op.Move 1 (Register 2) ∷ i.Call (pos 1) ∷ i.Exit ∷ []) ((4 ∷ 0 ∷ 0 ∷ 0 ∷ 1 ∷ 0 ∷ 0 ∷ 0 ∷ 3 ∷ 0 ∷ 0 ∷ 0 ∷ 0 ∷ 0 ∷ 0 ∷ 0 ∷ 2 ∷ 0 ∷ 0 ∷ 0 ∷ 1 ∷ 0 ∷ 0 ∷ 0 ∷ 2 ∷ 0 ∷ 0 ∷ 0 ∷ 0 ∷ 0 ∷ 0 ∷ 0 ∷ 0 ∷ 0 ∷ 0 ∷ 0 ∷ 1 ∷ []) ++ replicate 4059 0) (record { generals = 4; commander = 0; general = 3; round = 2 }) ([]) 6 ≡ Trapped Argument
+-- get_behind_a_narrow_test; the verifier: refused V12 unit 4
+get_behind_a_narrow_test : after (i.Load size.Double 2 1 (pos 32) ∷ i.Arithmetic W64 op.Move 0 (Immediate (pos 0)) ∷ i.Branch W32 c.Above 2 (Immediate (pos 63)) (pos 2) ∷ i.Arithmetic W64 op.Move 1 (Register 2) ∷ i.Call (pos 1) ∷ i.Exit ∷ []) ((4 ∷ 0 ∷ 0 ∷ 0 ∷ 1 ∷ 0 ∷ 0 ∷ 0 ∷ 3 ∷ 0 ∷ 0 ∷ 0 ∷ 0 ∷ 0 ∷ 0 ∷ 0 ∷ 2 ∷ 0 ∷ 0 ∷ 0 ∷ 1 ∷ 0 ∷ 0 ∷ 0 ∷ 2 ∷ 0 ∷ 0 ∷ 0 ∷ 0 ∷ 0 ∷ 0 ∷ 0 ∷ 0 ∷ 0 ∷ 0 ∷ 0 ∷ 1 ∷ []) ++ replicate 4059 0) (record { generals = 4; commander = 0; general = 3; round = 2 }) ([]) 6 ≡ Trapped Argument
 unfolding labels step onwards
-row_9_narrow = refl
+get_behind_a_narrow_test = refl
 
--- row_10_round_1; the verifier: accepted
-row_10_round_1 : after (i.Arithmetic W64 op.Move 1 (Immediate (pos 1)) ∷ i.Arithmetic W64 op.Move 2 (Immediate (pos 0)) ∷ i.Call (pos 8) ∷ i.Arithmetic W64 op.Move 1 (Immediate (pos 2)) ∷ i.Arithmetic W64 op.Move 2 (Immediate (pos 0)) ∷ i.Call (pos 8) ∷ i.Exit ∷ []) ((4 ∷ 0 ∷ 0 ∷ 0 ∷ 1 ∷ 0 ∷ 0 ∷ 0 ∷ 3 ∷ 0 ∷ 0 ∷ 0 ∷ 0 ∷ 0 ∷ 0 ∷ 0 ∷ 1 ∷ 0 ∷ 0 ∷ 0 ∷ 0 ∷ 0 ∷ 0 ∷ 0 ∷ 3 ∷ []) ++ replicate 4071 0) (record { generals = 4; commander = 0; general = 3; round = 1 }) ([]) 7 ≡ Exited 0 (record { unit = 6; registers = ((Number 0) ∷ (Unset) ∷ (Unset) ∷ (Unset) ∷ (Unset) ∷ (Unset) ∷ (Unset) ∷ (Unset) ∷ (Unset) ∷ (Unset) ∷ (Pointer Stack (pos 0)) ∷ []); cells = (replicate 512 (Empty)); outbox = ([]); steps = 7 })
+-- two_sways_without_labels; the verifier: accepted
+two_sways_without_labels : after (i.Arithmetic W64 op.Move 1 (Immediate (pos 1)) ∷ i.Arithmetic W64 op.Move 2 (Immediate (pos 0)) ∷ i.Call (pos 8) ∷ i.Arithmetic W64 op.Move 1 (Immediate (pos 2)) ∷ i.Arithmetic W64 op.Move 2 (Immediate (pos 0)) ∷ i.Call (pos 8) ∷ i.Exit ∷ []) ((4 ∷ 0 ∷ 0 ∷ 0 ∷ 1 ∷ 0 ∷ 0 ∷ 0 ∷ 3 ∷ 0 ∷ 0 ∷ 0 ∷ 0 ∷ 0 ∷ 0 ∷ 0 ∷ 1 ∷ 0 ∷ 0 ∷ 0 ∷ 0 ∷ 0 ∷ 0 ∷ 0 ∷ 3 ∷ []) ++ replicate 4071 0) (record { generals = 4; commander = 0; general = 3; round = 1 }) ([]) 7 ≡ Exited 0 (record { unit = 6; registers = ((Number 0) ∷ (Unset) ∷ (Unset) ∷ (Unset) ∷ (Unset) ∷ (Unset) ∷ (Unset) ∷ (Unset) ∷ (Unset) ∷ (Unset) ∷ (Pointer Stack (pos 0)) ∷ []); cells = (replicate 512 (Empty)); outbox = ([]); steps = 7 })
 unfolding labels step onwards
-row_10_round_1 = refl
+two_sways_without_labels = refl
 
--- row_10_round_2; the verifier: accepted
-row_10_round_2 : after (i.Arithmetic W64 op.Move 1 (Immediate (pos 1)) ∷ i.Arithmetic W64 op.Move 2 (Immediate (pos 0)) ∷ i.Call (pos 8) ∷ i.Arithmetic W64 op.Move 1 (Immediate (pos 2)) ∷ i.Arithmetic W64 op.Move 2 (Immediate (pos 0)) ∷ i.Call (pos 8) ∷ i.Exit ∷ []) ((4 ∷ 0 ∷ 0 ∷ 0 ∷ 1 ∷ 0 ∷ 0 ∷ 0 ∷ 3 ∷ 0 ∷ 0 ∷ 0 ∷ 0 ∷ 0 ∷ 0 ∷ 0 ∷ 2 ∷ 0 ∷ 0 ∷ 0 ∷ 1 ∷ 0 ∷ 0 ∷ 0 ∷ 2 ∷ 0 ∷ 0 ∷ 0 ∷ 0 ∷ 0 ∷ 0 ∷ 0 ∷ 1 ∷ []) ++ replicate 4063 0) (record { generals = 4; commander = 0; general = 3; round = 2 }) ([]) 7 ≡ Exited 1 (record { unit = 6; registers = ((Number 1) ∷ (Unset) ∷ (Unset) ∷ (Unset) ∷ (Unset) ∷ (Unset) ∷ (Unset) ∷ (Unset) ∷ (Unset) ∷ (Unset) ∷ (Pointer Stack (pos 0)) ∷ []); cells = (replicate 512 (Empty)); outbox = ((Some 0 ∷ Some 0 ∷ []) ∷ []); steps = 7 })
+-- two_sways; the verifier: accepted
+two_sways : after (i.Arithmetic W64 op.Move 1 (Immediate (pos 1)) ∷ i.Arithmetic W64 op.Move 2 (Immediate (pos 0)) ∷ i.Call (pos 8) ∷ i.Arithmetic W64 op.Move 1 (Immediate (pos 2)) ∷ i.Arithmetic W64 op.Move 2 (Immediate (pos 0)) ∷ i.Call (pos 8) ∷ i.Exit ∷ []) ((4 ∷ 0 ∷ 0 ∷ 0 ∷ 1 ∷ 0 ∷ 0 ∷ 0 ∷ 3 ∷ 0 ∷ 0 ∷ 0 ∷ 0 ∷ 0 ∷ 0 ∷ 0 ∷ 2 ∷ 0 ∷ 0 ∷ 0 ∷ 1 ∷ 0 ∷ 0 ∷ 0 ∷ 2 ∷ 0 ∷ 0 ∷ 0 ∷ 0 ∷ 0 ∷ 0 ∷ 0 ∷ 1 ∷ []) ++ replicate 4063 0) (record { generals = 4; commander = 0; general = 3; round = 2 }) ([]) 7 ≡ Exited 1 (record { unit = 6; registers = ((Number 1) ∷ (Unset) ∷ (Unset) ∷ (Unset) ∷ (Unset) ∷ (Unset) ∷ (Unset) ∷ (Unset) ∷ (Unset) ∷ (Unset) ∷ (Pointer Stack (pos 0)) ∷ []); cells = (replicate 512 (Empty)); outbox = ((Some 0 ∷ Some 0 ∷ []) ∷ []); steps = 7 })
 unfolding labels step onwards
-row_10_round_2 = refl
+two_sways = refl
 
--- row_14_commander; the verifier: accepted
-row_14_commander : after (i.Arithmetic W64 op.Move 1 (Immediate (pos 0)) ∷ i.Arithmetic W64 op.Move 2 (Immediate (pos 1)) ∷ i.Call (pos 3) ∷ i.Arithmetic W64 op.Move 6 (Register 0) ∷ i.Arithmetic W64 op.And 6 (Immediate (pos 1)) ∷ i.Arithmetic W64 op.Move 1 (Immediate (pos 1)) ∷ i.Arithmetic W64 op.Move 2 (Register 6) ∷ i.Call (pos 8) ∷ i.Arithmetic W64 op.Move 1 (Immediate (pos 2)) ∷ i.Arithmetic W64 op.Move 2 (Register 6) ∷ i.Call (pos 8) ∷ i.Arithmetic W64 op.Move 1 (Immediate (pos 3)) ∷ i.Arithmetic W64 op.Move 2 (Register 6) ∷ i.Call (pos 8) ∷ i.Exit ∷ []) ((7 ∷ 0 ∷ 0 ∷ 0 ∷ 2 ∷ 0 ∷ 0 ∷ 0 ∷ 0 ∷ 0 ∷ 0 ∷ 0 ∷ 0 ∷ 0 ∷ 0 ∷ 0 ∷ 1 ∷ 0 ∷ 0 ∷ 0 ∷ 1 ∷ 0 ∷ 0 ∷ 0 ∷ 6 ∷ []) ++ replicate 4071 0) (record { generals = 7; commander = 0; general = 0; round = 1 }) ((3 ∷ []) ∷ []) 15 ≡ Exited 1 (record { unit = 14; registers = ((Number 1) ∷ (Unset) ∷ (Unset) ∷ (Unset) ∷ (Unset) ∷ (Unset) ∷ (Number 1) ∷ (Unset) ∷ (Unset) ∷ (Unset) ∷ (Pointer Stack (pos 0)) ∷ []); cells = (replicate 512 (Empty)); outbox = ((Some 1 ∷ Some 1 ∷ Some 1 ∷ None ∷ None ∷ None ∷ []) ∷ []); steps = 15 })
+-- odd_orders_of_the_commander; the verifier: accepted
+odd_orders_of_the_commander : after (i.Arithmetic W64 op.Move 1 (Immediate (pos 0)) ∷ i.Arithmetic W64 op.Move 2 (Immediate (pos 1)) ∷ i.Call (pos 3) ∷ i.Arithmetic W64 op.Move 6 (Register 0) ∷ i.Arithmetic W64 op.And 6 (Immediate (pos 1)) ∷ i.Arithmetic W64 op.Move 1 (Immediate (pos 1)) ∷ i.Arithmetic W64 op.Move 2 (Register 6) ∷ i.Call (pos 8) ∷ i.Arithmetic W64 op.Move 1 (Immediate (pos 2)) ∷ i.Arithmetic W64 op.Move 2 (Register 6) ∷ i.Call (pos 8) ∷ i.Arithmetic W64 op.Move 1 (Immediate (pos 3)) ∷ i.Arithmetic W64 op.Move 2 (Register 6) ∷ i.Call (pos 8) ∷ i.Exit ∷ []) ((7 ∷ 0 ∷ 0 ∷ 0 ∷ 2 ∷ 0 ∷ 0 ∷ 0 ∷ 0 ∷ 0 ∷ 0 ∷ 0 ∷ 0 ∷ 0 ∷ 0 ∷ 0 ∷ 1 ∷ 0 ∷ 0 ∷ 0 ∷ 1 ∷ 0 ∷ 0 ∷ 0 ∷ 6 ∷ []) ++ replicate 4071 0) (record { generals = 7; commander = 0; general = 0; round = 1 }) ((3 ∷ []) ∷ []) 15 ≡ Exited 1 (record { unit = 14; registers = ((Number 1) ∷ (Unset) ∷ (Unset) ∷ (Unset) ∷ (Unset) ∷ (Unset) ∷ (Number 1) ∷ (Unset) ∷ (Unset) ∷ (Unset) ∷ (Pointer Stack (pos 0)) ∷ []); cells = (replicate 512 (Empty)); outbox = ((Some 1 ∷ Some 1 ∷ Some 1 ∷ None ∷ None ∷ None ∷ []) ∷ []); steps = 15 })
 unfolding labels step onwards
-row_14_commander = refl
+odd_orders_of_the_commander = refl
 
--- row_14_general_4; the verifier: accepted
-row_14_general_4 : after (i.Arithmetic W64 op.Move 1 (Immediate (pos 0)) ∷ i.Arithmetic W64 op.Move 2 (Immediate (pos 1)) ∷ i.Call (pos 3) ∷ i.Arithmetic W64 op.Move 6 (Register 0) ∷ i.Arithmetic W64 op.And 6 (Immediate (pos 1)) ∷ i.Arithmetic W64 op.Move 1 (Immediate (pos 1)) ∷ i.Arithmetic W64 op.Move 2 (Register 6) ∷ i.Call (pos 8) ∷ i.Arithmetic W64 op.Move 1 (Immediate (pos 2)) ∷ i.Arithmetic W64 op.Move 2 (Register 6) ∷ i.Call (pos 8) ∷ i.Arithmetic W64 op.Move 1 (Immediate (pos 3)) ∷ i.Arithmetic W64 op.Move 2 (Register 6) ∷ i.Call (pos 8) ∷ i.Exit ∷ []) ((7 ∷ 0 ∷ 0 ∷ 0 ∷ 2 ∷ 0 ∷ 0 ∷ 0 ∷ 4 ∷ 0 ∷ 0 ∷ 0 ∷ 0 ∷ 0 ∷ 0 ∷ 0 ∷ 3 ∷ 0 ∷ 0 ∷ 0 ∷ 5 ∷ 0 ∷ 0 ∷ 0 ∷ 4 ∷ 0 ∷ 0 ∷ 0 ∷ 0 ∷ 0 ∷ 0 ∷ 0 ∷ 1 ∷ 0 ∷ 0 ∷ 0 ∷ 1 ∷ 0 ∷ 0 ∷ 0 ∷ 0 ∷ 0 ∷ 0 ∷ 0 ∷ 0 ∷ 0 ∷ 0 ∷ 0 ∷ 1 ∷ []) ++ replicate 4047 0) (record { generals = 7; commander = 0; general = 4; round = 3 }) ((3 ∷ []) ∷ []) 15 ≡ Exited 4 (record { unit = 14; registers = ((Number 4) ∷ (Unset) ∷ (Unset) ∷ (Unset) ∷ (Unset) ∷ (Unset) ∷ (Number 1) ∷ (Unset) ∷ (Unset) ∷ (Unset) ∷ (Pointer Stack (pos 0)) ∷ []); cells = (replicate 512 (Empty)); outbox = ((Some 1 ∷ Some 1 ∷ None ∷ None ∷ []) ∷ (Some 1 ∷ Some 1 ∷ None ∷ None ∷ []) ∷ (Some 1 ∷ Some 1 ∷ None ∷ None ∷ []) ∷ (Some 1 ∷ Some 1 ∷ Some 1 ∷ None ∷ []) ∷ (Some 1 ∷ Some 1 ∷ Some 1 ∷ None ∷ []) ∷ []); steps = 15 })
+-- odd_orders_of_a_general; the verifier: accepted
+odd_orders_of_a_general : after (i.Arithmetic W64 op.Move 1 (Immediate (pos 0)) ∷ i.Arithmetic W64 op.Move 2 (Immediate (pos 1)) ∷ i.Call (pos 3) ∷ i.Arithmetic W64 op.Move 6 (Register 0) ∷ i.Arithmetic W64 op.And 6 (Immediate (pos 1)) ∷ i.Arithmetic W64 op.Move 1 (Immediate (pos 1)) ∷ i.Arithmetic W64 op.Move 2 (Register 6) ∷ i.Call (pos 8) ∷ i.Arithmetic W64 op.Move 1 (Immediate (pos 2)) ∷ i.Arithmetic W64 op.Move 2 (Register 6) ∷ i.Call (pos 8) ∷ i.Arithmetic W64 op.Move 1 (Immediate (pos 3)) ∷ i.Arithmetic W64 op.Move 2 (Register 6) ∷ i.Call (pos 8) ∷ i.Exit ∷ []) ((7 ∷ 0 ∷ 0 ∷ 0 ∷ 2 ∷ 0 ∷ 0 ∷ 0 ∷ 4 ∷ 0 ∷ 0 ∷ 0 ∷ 0 ∷ 0 ∷ 0 ∷ 0 ∷ 3 ∷ 0 ∷ 0 ∷ 0 ∷ 5 ∷ 0 ∷ 0 ∷ 0 ∷ 4 ∷ 0 ∷ 0 ∷ 0 ∷ 0 ∷ 0 ∷ 0 ∷ 0 ∷ 1 ∷ 0 ∷ 0 ∷ 0 ∷ 1 ∷ 0 ∷ 0 ∷ 0 ∷ 0 ∷ 0 ∷ 0 ∷ 0 ∷ 0 ∷ 0 ∷ 0 ∷ 0 ∷ 1 ∷ []) ++ replicate 4047 0) (record { generals = 7; commander = 0; general = 4; round = 3 }) ((3 ∷ []) ∷ []) 15 ≡ Exited 4 (record { unit = 14; registers = ((Number 4) ∷ (Unset) ∷ (Unset) ∷ (Unset) ∷ (Unset) ∷ (Unset) ∷ (Number 1) ∷ (Unset) ∷ (Unset) ∷ (Unset) ∷ (Pointer Stack (pos 0)) ∷ []); cells = (replicate 512 (Empty)); outbox = ((Some 1 ∷ Some 1 ∷ None ∷ None ∷ []) ∷ (Some 1 ∷ Some 1 ∷ None ∷ None ∷ []) ∷ (Some 1 ∷ Some 1 ∷ None ∷ None ∷ []) ∷ (Some 1 ∷ Some 1 ∷ Some 1 ∷ None ∷ []) ∷ (Some 1 ∷ Some 1 ∷ Some 1 ∷ None ∷ []) ∷ []); steps = 15 })
 unfolding labels step onwards
-row_14_general_4 = refl
+odd_orders_of_a_general = refl
 
--- row_15; the verifier: accepted
-row_15 : after (i.Arithmetic W64 op.Move 1 (Immediate (pos 5)) ∷ i.Arithmetic W64 op.Move 2 (Immediate (pos 1)) ∷ i.Call (pos 2) ∷ i.Arithmetic W64 op.Move 1 (Immediate (pos 6)) ∷ i.Call (pos 1) ∷ i.Exit ∷ []) ((7 ∷ 0 ∷ 0 ∷ 0 ∷ 2 ∷ 0 ∷ 0 ∷ 0 ∷ 5 ∷ 0 ∷ 0 ∷ 0 ∷ 0 ∷ 0 ∷ 0 ∷ 0 ∷ 1 ∷ 0 ∷ 0 ∷ 0 ∷ 0 ∷ 0 ∷ 0 ∷ 0 ∷ 6 ∷ []) ++ replicate 4071 0) (record { generals = 7; commander = 0; general = 5; round = 1 }) ((0 ∷ []) ∷ (1 ∷ []) ∷ []) 6 ≡ Exited 1 (record { unit = 5; registers = ((Number 1) ∷ (Unset) ∷ (Unset) ∷ (Unset) ∷ (Unset) ∷ (Unset) ∷ (Unset) ∷ (Unset) ∷ (Unset) ∷ (Unset) ∷ (Pointer Stack (pos 0)) ∷ []); cells = (replicate 512 (Empty)); outbox = ([]); steps = 6 })
+-- swap_and_get; the verifier: accepted
+swap_and_get : after (i.Arithmetic W64 op.Move 1 (Immediate (pos 5)) ∷ i.Arithmetic W64 op.Move 2 (Immediate (pos 1)) ∷ i.Call (pos 2) ∷ i.Arithmetic W64 op.Move 1 (Immediate (pos 6)) ∷ i.Call (pos 1) ∷ i.Exit ∷ []) ((7 ∷ 0 ∷ 0 ∷ 0 ∷ 2 ∷ 0 ∷ 0 ∷ 0 ∷ 5 ∷ 0 ∷ 0 ∷ 0 ∷ 0 ∷ 0 ∷ 0 ∷ 0 ∷ 1 ∷ 0 ∷ 0 ∷ 0 ∷ 0 ∷ 0 ∷ 0 ∷ 0 ∷ 6 ∷ []) ++ replicate 4071 0) (record { generals = 7; commander = 0; general = 5; round = 1 }) ((0 ∷ []) ∷ (1 ∷ []) ∷ []) 6 ≡ Exited 1 (record { unit = 5; registers = ((Number 1) ∷ (Unset) ∷ (Unset) ∷ (Unset) ∷ (Unset) ∷ (Unset) ∷ (Unset) ∷ (Unset) ∷ (Unset) ∷ (Unset) ∷ (Pointer Stack (pos 0)) ∷ []); cells = (replicate 512 (Empty)); outbox = ([]); steps = 6 })
 unfolding labels step onwards
-row_15 = refl
+swap_and_get = refl
 
--- row_R1_1; the verifier: accepted
-row_R1_1 : after (i.Arithmetic W64 op.Move 0 (Immediate (negsuc 0)) ∷ i.Arithmetic W64 op.Add 0 (Immediate (pos 2)) ∷ i.Exit ∷ []) ((4 ∷ 0 ∷ 0 ∷ 0 ∷ 1 ∷ 0 ∷ 0 ∷ 0 ∷ 3 ∷ 0 ∷ 0 ∷ 0 ∷ 0 ∷ 0 ∷ 0 ∷ 0 ∷ 1 ∷ 0 ∷ 0 ∷ 0 ∷ 0 ∷ 0 ∷ 0 ∷ 0 ∷ 3 ∷ []) ++ replicate 4071 0) (record { generals = 4; commander = 0; general = 3; round = 1 }) ([]) 3 ≡ Exited 1 (record { unit = 2; registers = ((Number 1) ∷ (Pointer Context (pos 0)) ∷ (Unset) ∷ (Unset) ∷ (Unset) ∷ (Unset) ∷ (Unset) ∷ (Unset) ∷ (Unset) ∷ (Unset) ∷ (Pointer Stack (pos 0)) ∷ []); cells = (replicate 512 (Empty)); outbox = ([]); steps = 3 })
+-- wrapping_sum; the verifier: accepted
+wrapping_sum : after (i.Arithmetic W64 op.Move 0 (Immediate (negsuc 0)) ∷ i.Arithmetic W64 op.Add 0 (Immediate (pos 2)) ∷ i.Exit ∷ []) ((4 ∷ 0 ∷ 0 ∷ 0 ∷ 1 ∷ 0 ∷ 0 ∷ 0 ∷ 3 ∷ 0 ∷ 0 ∷ 0 ∷ 0 ∷ 0 ∷ 0 ∷ 0 ∷ 1 ∷ 0 ∷ 0 ∷ 0 ∷ 0 ∷ 0 ∷ 0 ∷ 0 ∷ 3 ∷ []) ++ replicate 4071 0) (record { generals = 4; commander = 0; general = 3; round = 1 }) ([]) 3 ≡ Exited 1 (record { unit = 2; registers = ((Number 1) ∷ (Pointer Context (pos 0)) ∷ (Unset) ∷ (Unset) ∷ (Unset) ∷ (Unset) ∷ (Unset) ∷ (Unset) ∷ (Unset) ∷ (Unset) ∷ (Pointer Stack (pos 0)) ∷ []); cells = (replicate 512 (Empty)); outbox = ([]); steps = 3 })
 unfolding labels step onwards
-row_R1_1 = refl
+wrapping_sum = refl
 
--- row_R1_2; the verifier: refused V6 unit 0
-row_R1_2 : after (i.Arithmetic W64 op.Move 10 (Immediate (pos 0)) ∷ i.Exit ∷ []) ((4 ∷ 0 ∷ 0 ∷ 0 ∷ 1 ∷ 0 ∷ 0 ∷ 0 ∷ 3 ∷ 0 ∷ 0 ∷ 0 ∷ 0 ∷ 0 ∷ 0 ∷ 0 ∷ 1 ∷ 0 ∷ 0 ∷ 0 ∷ 0 ∷ 0 ∷ 0 ∷ 0 ∷ 3 ∷ []) ++ replicate 4071 0) (record { generals = 4; commander = 0; general = 3; round = 1 }) ([]) 2 ≡ Trapped FrameWrite
+-- frame_written; the verifier: refused V6 unit 0
+frame_written : after (i.Arithmetic W64 op.Move 10 (Immediate (pos 0)) ∷ i.Exit ∷ []) ((4 ∷ 0 ∷ 0 ∷ 0 ∷ 1 ∷ 0 ∷ 0 ∷ 0 ∷ 3 ∷ 0 ∷ 0 ∷ 0 ∷ 0 ∷ 0 ∷ 0 ∷ 0 ∷ 1 ∷ 0 ∷ 0 ∷ 0 ∷ 0 ∷ 0 ∷ 0 ∷ 0 ∷ 3 ∷ []) ++ replicate 4071 0) (record { generals = 4; commander = 0; general = 3; round = 1 }) ([]) 2 ≡ Trapped FrameWrite
 unfolding labels step onwards
-row_R1_2 = refl
+frame_written = refl
 
--- row_R1_3; the verifier: refused V13 unit 1
-row_R1_3 : after (i.Arithmetic W64 op.Move 0 (Register 1) ∷ i.Exit ∷ []) ((4 ∷ 0 ∷ 0 ∷ 0 ∷ 1 ∷ 0 ∷ 0 ∷ 0 ∷ 3 ∷ 0 ∷ 0 ∷ 0 ∷ 0 ∷ 0 ∷ 0 ∷ 0 ∷ 1 ∷ 0 ∷ 0 ∷ 0 ∷ 0 ∷ 0 ∷ 0 ∷ 0 ∷ 3 ∷ []) ++ replicate 4071 0) (record { generals = 4; commander = 0; general = 3; round = 1 }) ([]) 3 ≡ Trapped PointerUse
+-- context_pointer_returned; the verifier: refused V13 unit 1
+context_pointer_returned : after (i.Arithmetic W64 op.Move 0 (Register 1) ∷ i.Exit ∷ []) ((4 ∷ 0 ∷ 0 ∷ 0 ∷ 1 ∷ 0 ∷ 0 ∷ 0 ∷ 3 ∷ 0 ∷ 0 ∷ 0 ∷ 0 ∷ 0 ∷ 0 ∷ 0 ∷ 1 ∷ 0 ∷ 0 ∷ 0 ∷ 0 ∷ 0 ∷ 0 ∷ 0 ∷ 3 ∷ []) ++ replicate 4071 0) (record { generals = 4; commander = 0; general = 3; round = 1 }) ([]) 3 ≡ Trapped PointerUse
 unfolding labels step onwards
-row_R1_3 = refl
+context_pointer_returned = refl
 
--- row_R3_1; the verifier: accepted
-row_R3_1 : after (i.Arithmetic W64 op.Move 0 (Immediate (negsuc 12)) ∷ i.Arithmetic W64 op.SignedMod 0 (Immediate (pos 3)) ∷ i.Exit ∷ []) ((4 ∷ 0 ∷ 0 ∷ 0 ∷ 1 ∷ 0 ∷ 0 ∷ 0 ∷ 3 ∷ 0 ∷ 0 ∷ 0 ∷ 0 ∷ 0 ∷ 0 ∷ 0 ∷ 1 ∷ 0 ∷ 0 ∷ 0 ∷ 0 ∷ 0 ∷ 0 ∷ 0 ∷ 3 ∷ []) ++ replicate 4071 0) (record { generals = 4; commander = 0; general = 3; round = 1 }) ([]) 3 ≡ Exited 18446744073709551615 (record { unit = 2; registers = ((Number 18446744073709551615) ∷ (Pointer Context (pos 0)) ∷ (Unset) ∷ (Unset) ∷ (Unset) ∷ (Unset) ∷ (Unset) ∷ (Unset) ∷ (Unset) ∷ (Unset) ∷ (Pointer Stack (pos 0)) ∷ []); cells = (replicate 512 (Empty)); outbox = ([]); steps = 3 })
+-- signed_modulo; the verifier: accepted
+signed_modulo : after (i.Arithmetic W64 op.Move 0 (Immediate (negsuc 12)) ∷ i.Arithmetic W64 op.SignedMod 0 (Immediate (pos 3)) ∷ i.Exit ∷ []) ((4 ∷ 0 ∷ 0 ∷ 0 ∷ 1 ∷ 0 ∷ 0 ∷ 0 ∷ 3 ∷ 0 ∷ 0 ∷ 0 ∷ 0 ∷ 0 ∷ 0 ∷ 0 ∷ 1 ∷ 0 ∷ 0 ∷ 0 ∷ 0 ∷ 0 ∷ 0 ∷ 0 ∷ 3 ∷ []) ++ replicate 4071 0) (record { generals = 4; commander = 0; general = 3; round = 1 }) ([]) 3 ≡ Exited 18446744073709551615 (record { unit = 2; registers = ((Number 18446744073709551615) ∷ (Pointer Context (pos 0)) ∷ (Unset) ∷ (Unset) ∷ (Unset) ∷ (Unset) ∷ (Unset) ∷ (Unset) ∷ (Unset) ∷ (Unset) ∷ (Pointer Stack (pos 0)) ∷ []); cells = (replicate 512 (Empty)); outbox = ([]); steps = 3 })
 unfolding labels step onwards
-row_R3_1 = refl
+signed_modulo = refl
 
--- row_R3_2; the verifier: accepted
-row_R3_2 : after (i.LoadNumber 0 4294967301 ∷ i.Arithmetic W32 op.Mod 0 (Immediate (pos 0)) ∷ i.Exit ∷ []) ((4 ∷ 0 ∷ 0 ∷ 0 ∷ 1 ∷ 0 ∷ 0 ∷ 0 ∷ 3 ∷ 0 ∷ 0 ∷ 0 ∷ 0 ∷ 0 ∷ 0 ∷ 0 ∷ 1 ∷ 0 ∷ 0 ∷ 0 ∷ 0 ∷ 0 ∷ 0 ∷ 0 ∷ 3 ∷ []) ++ replicate 4071 0) (record { generals = 4; commander = 0; general = 3; round = 1 }) ([]) 3 ≡ Exited 5 (record { unit = 3; registers = ((Number 5) ∷ (Pointer Context (pos 0)) ∷ (Unset) ∷ (Unset) ∷ (Unset) ∷ (Unset) ∷ (Unset) ∷ (Unset) ∷ (Unset) ∷ (Unset) ∷ (Pointer Stack (pos 0)) ∷ []); cells = (replicate 512 (Empty)); outbox = ([]); steps = 3 })
+-- modulo_zero_cuts; the verifier: accepted
+modulo_zero_cuts : after (i.LoadNumber 0 4294967301 ∷ i.Arithmetic W32 op.Mod 0 (Immediate (pos 0)) ∷ i.Exit ∷ []) ((4 ∷ 0 ∷ 0 ∷ 0 ∷ 1 ∷ 0 ∷ 0 ∷ 0 ∷ 3 ∷ 0 ∷ 0 ∷ 0 ∷ 0 ∷ 0 ∷ 0 ∷ 0 ∷ 1 ∷ 0 ∷ 0 ∷ 0 ∷ 0 ∷ 0 ∷ 0 ∷ 0 ∷ 3 ∷ []) ++ replicate 4071 0) (record { generals = 4; commander = 0; general = 3; round = 1 }) ([]) 3 ≡ Exited 5 (record { unit = 3; registers = ((Number 5) ∷ (Pointer Context (pos 0)) ∷ (Unset) ∷ (Unset) ∷ (Unset) ∷ (Unset) ∷ (Unset) ∷ (Unset) ∷ (Unset) ∷ (Unset) ∷ (Pointer Stack (pos 0)) ∷ []); cells = (replicate 512 (Empty)); outbox = ([]); steps = 3 })
 unfolding labels step onwards
-row_R3_2 = refl
+modulo_zero_cuts = refl
 
--- row_R3_3; the verifier: accepted
-row_R3_3 : after (i.Arithmetic W64 op.Move 0 (Immediate (pos 1)) ∷ i.Arithmetic W64 op.ShiftLeft 0 (Immediate (pos 65)) ∷ i.Exit ∷ []) ((4 ∷ 0 ∷ 0 ∷ 0 ∷ 1 ∷ 0 ∷ 0 ∷ 0 ∷ 3 ∷ 0 ∷ 0 ∷ 0 ∷ 0 ∷ 0 ∷ 0 ∷ 0 ∷ 1 ∷ 0 ∷ 0 ∷ 0 ∷ 0 ∷ 0 ∷ 0 ∷ 0 ∷ 3 ∷ []) ++ replicate 4071 0) (record { generals = 4; commander = 0; general = 3; round = 1 }) ([]) 3 ≡ Exited 2 (record { unit = 2; registers = ((Number 2) ∷ (Pointer Context (pos 0)) ∷ (Unset) ∷ (Unset) ∷ (Unset) ∷ (Unset) ∷ (Unset) ∷ (Unset) ∷ (Unset) ∷ (Unset) ∷ (Pointer Stack (pos 0)) ∷ []); cells = (replicate 512 (Empty)); outbox = ([]); steps = 3 })
+-- shift_by_65; the verifier: accepted
+shift_by_65 : after (i.Arithmetic W64 op.Move 0 (Immediate (pos 1)) ∷ i.Arithmetic W64 op.ShiftLeft 0 (Immediate (pos 65)) ∷ i.Exit ∷ []) ((4 ∷ 0 ∷ 0 ∷ 0 ∷ 1 ∷ 0 ∷ 0 ∷ 0 ∷ 3 ∷ 0 ∷ 0 ∷ 0 ∷ 0 ∷ 0 ∷ 0 ∷ 0 ∷ 1 ∷ 0 ∷ 0 ∷ 0 ∷ 0 ∷ 0 ∷ 0 ∷ 0 ∷ 3 ∷ []) ++ replicate 4071 0) (record { generals = 4; commander = 0; general = 3; round = 1 }) ([]) 3 ≡ Exited 2 (record { unit = 2; registers = ((Number 2) ∷ (Pointer Context (pos 0)) ∷ (Unset) ∷ (Unset) ∷ (Unset) ∷ (Unset) ∷ (Unset) ∷ (Unset) ∷ (Unset) ∷ (Unset) ∷ (Pointer Stack (pos 0)) ∷ []); cells = (replicate 512 (Empty)); outbox = ([]); steps = 3 })
 unfolding labels step onwards
-row_R3_3 = refl
+shift_by_65 = refl
 
--- row_R3_4; the verifier: accepted
-row_R3_4 : after (i.LoadNumber 0 1234605616436508552 ∷ i.Swap order.Big swap.Half 0 ∷ i.Exit ∷ []) ((4 ∷ 0 ∷ 0 ∷ 0 ∷ 1 ∷ 0 ∷ 0 ∷ 0 ∷ 3 ∷ 0 ∷ 0 ∷ 0 ∷ 0 ∷ 0 ∷ 0 ∷ 0 ∷ 1 ∷ 0 ∷ 0 ∷ 0 ∷ 0 ∷ 0 ∷ 0 ∷ 0 ∷ 3 ∷ []) ++ replicate 4071 0) (record { generals = 4; commander = 0; general = 3; round = 1 }) ([]) 3 ≡ Exited 34935 (record { unit = 3; registers = ((Number 34935) ∷ (Pointer Context (pos 0)) ∷ (Unset) ∷ (Unset) ∷ (Unset) ∷ (Unset) ∷ (Unset) ∷ (Unset) ∷ (Unset) ∷ (Unset) ∷ (Pointer Stack (pos 0)) ∷ []); cells = (replicate 512 (Empty)); outbox = ([]); steps = 3 })
+-- two_bytes_big_end_first; the verifier: accepted
+two_bytes_big_end_first : after (i.LoadNumber 0 1234605616436508552 ∷ i.Swap order.Big swap.Half 0 ∷ i.Exit ∷ []) ((4 ∷ 0 ∷ 0 ∷ 0 ∷ 1 ∷ 0 ∷ 0 ∷ 0 ∷ 3 ∷ 0 ∷ 0 ∷ 0 ∷ 0 ∷ 0 ∷ 0 ∷ 0 ∷ 1 ∷ 0 ∷ 0 ∷ 0 ∷ 0 ∷ 0 ∷ 0 ∷ 0 ∷ 3 ∷ []) ++ replicate 4071 0) (record { generals = 4; commander = 0; general = 3; round = 1 }) ([]) 3 ≡ Exited 34935 (record { unit = 3; registers = ((Number 34935) ∷ (Pointer Context (pos 0)) ∷ (Unset) ∷ (Unset) ∷ (Unset) ∷ (Unset) ∷ (Unset) ∷ (Unset) ∷ (Unset) ∷ (Unset) ∷ (Pointer Stack (pos 0)) ∷ []); cells = (replicate 512 (Empty)); outbox = ([]); steps = 3 })
 unfolding labels step onwards
-row_R3_4 = refl
+two_bytes_big_end_first = refl
 
--- row_R3_5; the verifier: accepted
-row_R3_5 : after (i.Arithmetic W64 op.Move 0 (Immediate (pos 1)) ∷ i.Arithmetic W64 op.Move 1 (Immediate (negsuc 0)) ∷ i.Branch W64 c.SignedAbove 0 (Register 1) (pos 1) ∷ i.Arithmetic W64 op.Move 0 (Immediate (pos 7)) ∷ i.Exit ∷ []) ((4 ∷ 0 ∷ 0 ∷ 0 ∷ 1 ∷ 0 ∷ 0 ∷ 0 ∷ 3 ∷ 0 ∷ 0 ∷ 0 ∷ 0 ∷ 0 ∷ 0 ∷ 0 ∷ 1 ∷ 0 ∷ 0 ∷ 0 ∷ 0 ∷ 0 ∷ 0 ∷ 0 ∷ 3 ∷ []) ++ replicate 4071 0) (record { generals = 4; commander = 0; general = 3; round = 1 }) ([]) 5 ≡ Exited 1 (record { unit = 4; registers = ((Number 1) ∷ (Number 18446744073709551615) ∷ (Unset) ∷ (Unset) ∷ (Unset) ∷ (Unset) ∷ (Unset) ∷ (Unset) ∷ (Unset) ∷ (Unset) ∷ (Pointer Stack (pos 0)) ∷ []); cells = (replicate 512 (Empty)); outbox = ([]); steps = 4 })
+-- signed_jump; the verifier: accepted
+signed_jump : after (i.Arithmetic W64 op.Move 0 (Immediate (pos 1)) ∷ i.Arithmetic W64 op.Move 1 (Immediate (negsuc 0)) ∷ i.Branch W64 c.SignedAbove 0 (Register 1) (pos 1) ∷ i.Arithmetic W64 op.Move 0 (Immediate (pos 7)) ∷ i.Exit ∷ []) ((4 ∷ 0 ∷ 0 ∷ 0 ∷ 1 ∷ 0 ∷ 0 ∷ 0 ∷ 3 ∷ 0 ∷ 0 ∷ 0 ∷ 0 ∷ 0 ∷ 0 ∷ 0 ∷ 1 ∷ 0 ∷ 0 ∷ 0 ∷ 0 ∷ 0 ∷ 0 ∷ 0 ∷ 3 ∷ []) ++ replicate 4071 0) (record { generals = 4; commander = 0; general = 3; round = 1 }) ([]) 5 ≡ Exited 1 (record { unit = 4; registers = ((Number 1) ∷ (Number 18446744073709551615) ∷ (Unset) ∷ (Unset) ∷ (Unset) ∷ (Unset) ∷ (Unset) ∷ (Unset) ∷ (Unset) ∷ (Unset) ∷ (Pointer Stack (pos 0)) ∷ []); cells = (replicate 512 (Empty)); outbox = ([]); steps = 4 })
 unfolding labels step onwards
-row_R3_5 = refl
+signed_jump = refl
 
--- row_R3_6; the verifier: accepted
-row_R3_6 : after (i.Arithmetic W64 op.Move 1 (Immediate (pos 128)) ∷ i.SignExtend W64 narrow.Byte 0 1 ∷ i.Exit ∷ []) ((4 ∷ 0 ∷ 0 ∷ 0 ∷ 1 ∷ 0 ∷ 0 ∷ 0 ∷ 3 ∷ 0 ∷ 0 ∷ 0 ∷ 0 ∷ 0 ∷ 0 ∷ 0 ∷ 1 ∷ 0 ∷ 0 ∷ 0 ∷ 0 ∷ 0 ∷ 0 ∷ 0 ∷ 3 ∷ []) ++ replicate 4071 0) (record { generals = 4; commander = 0; general = 3; round = 1 }) ([]) 3 ≡ Exited 18446744073709551488 (record { unit = 2; registers = ((Number 18446744073709551488) ∷ (Number 128) ∷ (Unset) ∷ (Unset) ∷ (Unset) ∷ (Unset) ∷ (Unset) ∷ (Unset) ∷ (Unset) ∷ (Unset) ∷ (Pointer Stack (pos 0)) ∷ []); cells = (replicate 512 (Empty)); outbox = ([]); steps = 3 })
+-- byte_extended; the verifier: accepted
+byte_extended : after (i.Arithmetic W64 op.Move 1 (Immediate (pos 128)) ∷ i.SignExtend W64 narrow.Byte 0 1 ∷ i.Exit ∷ []) ((4 ∷ 0 ∷ 0 ∷ 0 ∷ 1 ∷ 0 ∷ 0 ∷ 0 ∷ 3 ∷ 0 ∷ 0 ∷ 0 ∷ 0 ∷ 0 ∷ 0 ∷ 0 ∷ 1 ∷ 0 ∷ 0 ∷ 0 ∷ 0 ∷ 0 ∷ 0 ∷ 0 ∷ 3 ∷ []) ++ replicate 4071 0) (record { generals = 4; commander = 0; general = 3; round = 1 }) ([]) 3 ≡ Exited 18446744073709551488 (record { unit = 2; registers = ((Number 18446744073709551488) ∷ (Number 128) ∷ (Unset) ∷ (Unset) ∷ (Unset) ∷ (Unset) ∷ (Unset) ∷ (Unset) ∷ (Unset) ∷ (Unset) ∷ (Pointer Stack (pos 0)) ∷ []); cells = (replicate 512 (Empty)); outbox = ([]); steps = 3 })
 unfolding labels step onwards
-row_R3_6 = refl
+byte_extended = refl
 
--- row_R4_1; the verifier: accepted
-row_R4_1 : after (i.Load size.Double 2 1 (pos 32) ∷ i.Arithmetic W64 op.Move 0 (Immediate (pos 0)) ∷ i.Branch W64 c.Above 2 (Immediate (pos 7)) (pos 4) ∷ i.Arithmetic W64 op.Move 3 (Register 10) ∷ i.Arithmetic W64 op.Add 3 (Immediate (negsuc 7)) ∷ i.Arithmetic W64 op.Add 3 (Register 2) ∷ i.Store size.Byte 3 (pos 0) (Immediate (pos 1)) ∷ i.Exit ∷ []) ((4 ∷ 0 ∷ 0 ∷ 0 ∷ 1 ∷ 0 ∷ 0 ∷ 0 ∷ 3 ∷ 0 ∷ 0 ∷ 0 ∷ 0 ∷ 0 ∷ 0 ∷ 0 ∷ 1 ∷ 0 ∷ 0 ∷ 0 ∷ 0 ∷ 0 ∷ 0 ∷ 0 ∷ 3 ∷ []) ++ replicate 4071 0) (record { generals = 4; commander = 0; general = 3; round = 1 }) ([]) 8 ≡ Exited 0 (record { unit = 7; registers = ((Number 0) ∷ (Pointer Context (pos 0)) ∷ (Number 0) ∷ (Pointer Stack (negsuc 7)) ∷ (Unset) ∷ (Unset) ∷ (Unset) ∷ (Unset) ∷ (Unset) ∷ (Unset) ∷ (Pointer Stack (pos 0)) ∷ []); cells = (replicate 504 (Empty) ++ replicate 1 (Byte 1) ++ replicate 7 (Empty)); outbox = ([]); steps = 8 })
+-- store_behind_a_test; the verifier: accepted
+store_behind_a_test : after (i.Load size.Double 2 1 (pos 32) ∷ i.Arithmetic W64 op.Move 0 (Immediate (pos 0)) ∷ i.Branch W64 c.Above 2 (Immediate (pos 7)) (pos 4) ∷ i.Arithmetic W64 op.Move 3 (Register 10) ∷ i.Arithmetic W64 op.Add 3 (Immediate (negsuc 7)) ∷ i.Arithmetic W64 op.Add 3 (Register 2) ∷ i.Store size.Byte 3 (pos 0) (Immediate (pos 1)) ∷ i.Exit ∷ []) ((4 ∷ 0 ∷ 0 ∷ 0 ∷ 1 ∷ 0 ∷ 0 ∷ 0 ∷ 3 ∷ 0 ∷ 0 ∷ 0 ∷ 0 ∷ 0 ∷ 0 ∷ 0 ∷ 1 ∷ 0 ∷ 0 ∷ 0 ∷ 0 ∷ 0 ∷ 0 ∷ 0 ∷ 3 ∷ []) ++ replicate 4071 0) (record { generals = 4; commander = 0; general = 3; round = 1 }) ([]) 8 ≡ Exited 0 (record { unit = 7; registers = ((Number 0) ∷ (Pointer Context (pos 0)) ∷ (Number 0) ∷ (Pointer Stack (negsuc 7)) ∷ (Unset) ∷ (Unset) ∷ (Unset) ∷ (Unset) ∷ (Unset) ∷ (Unset) ∷ (Pointer Stack (pos 0)) ∷ []); cells = (replicate 504 (Empty) ++ replicate 1 (Byte 1) ++ replicate 7 (Empty)); outbox = ([]); steps = 8 })
 unfolding labels step onwards
-row_R4_1 = refl
+store_behind_a_test = refl
 
--- row_R4_1_narrow; the verifier: refused V7 unit 5
-row_R4_1_narrow : after (i.Load size.Double 2 1 (pos 32) ∷ i.Arithmetic W64 op.Move 0 (Immediate (pos 0)) ∷ i.Branch W32 c.Above 2 (Immediate (pos 7)) (pos 4) ∷ i.Arithmetic W64 op.Move 3 (Register 10) ∷ i.Arithmetic W64 op.Add 3 (Immediate (negsuc 7)) ∷ i.Arithmetic W64 op.Add 3 (Register 2) ∷ i.Store size.Byte 3 (pos 0) (Immediate (pos 1)) ∷ i.Exit ∷ []) ((4 ∷ 0 ∷ 0 ∷ 0 ∷ 1 ∷ 0 ∷ 0 ∷ 0 ∷ 3 ∷ 0 ∷ 0 ∷ 0 ∷ 0 ∷ 0 ∷ 0 ∷ 0 ∷ 2 ∷ 0 ∷ 0 ∷ 0 ∷ 1 ∷ 0 ∷ 0 ∷ 0 ∷ 2 ∷ 0 ∷ 0 ∷ 0 ∷ 0 ∷ 0 ∷ 0 ∷ 0 ∷ 0 ∷ 0 ∷ 0 ∷ 0 ∷ 1 ∷ []) ++ replicate 4059 0) (record { generals = 4; commander = 0; general = 3; round = 2 }) ([]) 7 ≡ Trapped PointerUse
+-- store_behind_a_narrow_test; the verifier: refused V7 unit 5
+store_behind_a_narrow_test : after (i.Load size.Double 2 1 (pos 32) ∷ i.Arithmetic W64 op.Move 0 (Immediate (pos 0)) ∷ i.Branch W32 c.Above 2 (Immediate (pos 7)) (pos 4) ∷ i.Arithmetic W64 op.Move 3 (Register 10) ∷ i.Arithmetic W64 op.Add 3 (Immediate (negsuc 7)) ∷ i.Arithmetic W64 op.Add 3 (Register 2) ∷ i.Store size.Byte 3 (pos 0) (Immediate (pos 1)) ∷ i.Exit ∷ []) ((4 ∷ 0 ∷ 0 ∷ 0 ∷ 1 ∷ 0 ∷ 0 ∷ 0 ∷ 3 ∷ 0 ∷ 0 ∷ 0 ∷ 0 ∷ 0 ∷ 0 ∷ 0 ∷ 2 ∷ 0 ∷ 0 ∷ 0 ∷ 1 ∷ 0 ∷ 0 ∷ 0 ∷ 2 ∷ 0 ∷ 0 ∷ 0 ∷ 0 ∷ 0 ∷ 0 ∷ 0 ∷ 0 ∷ 0 ∷ 0 ∷ 0 ∷ 1 ∷ []) ++ replicate 4059 0) (record { generals = 4; commander = 0; general = 3; round = 2 }) ([]) 7 ≡ Trapped PointerUse
 unfolding labels step onwards
-row_R4_1_narrow = refl
+store_behind_a_narrow_test = refl
 
--- row_R4_2; the verifier: refused V10 unit 0
-row_R4_2 : after (i.Store size.Byte 1 (pos 0) (Immediate (pos 1)) ∷ i.Exit ∷ []) ((4 ∷ 0 ∷ 0 ∷ 0 ∷ 1 ∷ 0 ∷ 0 ∷ 0 ∷ 3 ∷ 0 ∷ 0 ∷ 0 ∷ 0 ∷ 0 ∷ 0 ∷ 0 ∷ 1 ∷ 0 ∷ 0 ∷ 0 ∷ 0 ∷ 0 ∷ 0 ∷ 0 ∷ 3 ∷ []) ++ replicate 4071 0) (record { generals = 4; commander = 0; general = 3; round = 1 }) ([]) 2 ≡ Trapped ContextWrite
+-- context_stored_to; the verifier: refused V10 unit 0
+context_stored_to : after (i.Store size.Byte 1 (pos 0) (Immediate (pos 1)) ∷ i.Exit ∷ []) ((4 ∷ 0 ∷ 0 ∷ 0 ∷ 1 ∷ 0 ∷ 0 ∷ 0 ∷ 3 ∷ 0 ∷ 0 ∷ 0 ∷ 0 ∷ 0 ∷ 0 ∷ 0 ∷ 1 ∷ 0 ∷ 0 ∷ 0 ∷ 0 ∷ 0 ∷ 0 ∷ 0 ∷ 3 ∷ []) ++ replicate 4071 0) (record { generals = 4; commander = 0; general = 3; round = 1 }) ([]) 2 ≡ Trapped ContextWrite
 unfolding labels step onwards
-row_R4_2 = refl
+context_stored_to = refl
 
--- row_R4_3; the verifier: refused V13 unit 1
-row_R4_3 : after (i.Arithmetic W64 op.Move 0 (Register 1) ∷ i.Exit ∷ []) ((4 ∷ 0 ∷ 0 ∷ 0 ∷ 1 ∷ 0 ∷ 0 ∷ 0 ∷ 3 ∷ 0 ∷ 0 ∷ 0 ∷ 0 ∷ 0 ∷ 0 ∷ 0 ∷ 1 ∷ 0 ∷ 0 ∷ 0 ∷ 0 ∷ 0 ∷ 0 ∷ 0 ∷ 3 ∷ []) ++ replicate 4071 0) (record { generals = 4; commander = 0; general = 3; round = 1 }) ([]) 3 ≡ Trapped PointerUse
+-- pointer_returned; the verifier: refused V13 unit 1
+pointer_returned : after (i.Arithmetic W64 op.Move 0 (Register 1) ∷ i.Exit ∷ []) ((4 ∷ 0 ∷ 0 ∷ 0 ∷ 1 ∷ 0 ∷ 0 ∷ 0 ∷ 3 ∷ 0 ∷ 0 ∷ 0 ∷ 0 ∷ 0 ∷ 0 ∷ 0 ∷ 1 ∷ 0 ∷ 0 ∷ 0 ∷ 0 ∷ 0 ∷ 0 ∷ 0 ∷ 3 ∷ []) ++ replicate 4071 0) (record { generals = 4; commander = 0; general = 3; round = 1 }) ([]) 3 ≡ Trapped PointerUse
 unfolding labels step onwards
-row_R4_3 = refl
+pointer_returned = refl
 
--- row_R5_1; the verifier: refused V12 unit 1
-row_R5_1 : after (i.Arithmetic W64 op.Move 1 (Immediate (pos 64)) ∷ i.Call (pos 1) ∷ i.Exit ∷ []) ((4 ∷ 0 ∷ 0 ∷ 0 ∷ 1 ∷ 0 ∷ 0 ∷ 0 ∷ 3 ∷ 0 ∷ 0 ∷ 0 ∷ 0 ∷ 0 ∷ 0 ∷ 0 ∷ 1 ∷ 0 ∷ 0 ∷ 0 ∷ 0 ∷ 0 ∷ 0 ∷ 0 ∷ 3 ∷ []) ++ replicate 4071 0) (record { generals = 4; commander = 0; general = 3; round = 1 }) ([]) 3 ≡ Trapped Argument
+-- slot_64; the verifier: refused V12 unit 1
+slot_64 : after (i.Arithmetic W64 op.Move 1 (Immediate (pos 64)) ∷ i.Call (pos 1) ∷ i.Exit ∷ []) ((4 ∷ 0 ∷ 0 ∷ 0 ∷ 1 ∷ 0 ∷ 0 ∷ 0 ∷ 3 ∷ 0 ∷ 0 ∷ 0 ∷ 0 ∷ 0 ∷ 0 ∷ 0 ∷ 1 ∷ 0 ∷ 0 ∷ 0 ∷ 0 ∷ 0 ∷ 0 ∷ 0 ∷ 3 ∷ []) ++ replicate 4071 0) (record { generals = 4; commander = 0; general = 3; round = 1 }) ([]) 3 ≡ Trapped Argument
 unfolding labels step onwards
-row_R5_1 = refl
+slot_64 = refl
 
--- row_R5_2; the verifier: refused V11 unit 1
-row_R5_2 : after (i.Arithmetic W64 op.Move 1 (Immediate (pos 0)) ∷ i.Call (pos 12) ∷ i.Exit ∷ []) ((4 ∷ 0 ∷ 0 ∷ 0 ∷ 1 ∷ 0 ∷ 0 ∷ 0 ∷ 3 ∷ 0 ∷ 0 ∷ 0 ∷ 0 ∷ 0 ∷ 0 ∷ 0 ∷ 1 ∷ 0 ∷ 0 ∷ 0 ∷ 0 ∷ 0 ∷ 0 ∷ 0 ∷ 3 ∷ []) ++ replicate 4071 0) (record { generals = 4; commander = 0; general = 3; round = 1 }) ([]) 3 ≡ Trapped NoHelper
+-- helper_12; the verifier: refused V11 unit 1
+helper_12 : after (i.Arithmetic W64 op.Move 1 (Immediate (pos 0)) ∷ i.Call (pos 12) ∷ i.Exit ∷ []) ((4 ∷ 0 ∷ 0 ∷ 0 ∷ 1 ∷ 0 ∷ 0 ∷ 0 ∷ 3 ∷ 0 ∷ 0 ∷ 0 ∷ 0 ∷ 0 ∷ 0 ∷ 0 ∷ 1 ∷ 0 ∷ 0 ∷ 0 ∷ 0 ∷ 0 ∷ 0 ∷ 0 ∷ 3 ∷ []) ++ replicate 4071 0) (record { generals = 4; commander = 0; general = 3; round = 1 }) ([]) 3 ≡ Trapped NoHelper
 unfolding labels step onwards
-row_R5_2 = refl
+helper_12 = refl
 
--- row_R5_3; the verifier: accepted
-row_R5_3 : after (i.Arithmetic W64 op.Move 1 (Immediate (pos 60)) ∷ i.Arithmetic W64 op.Move 2 (Register 10) ∷ i.Arithmetic W64 op.Add 2 (Immediate (negsuc 31)) ∷ i.Arithmetic W64 op.Move 3 (Immediate (pos 4)) ∷ i.Call (pos 5) ∷ i.Load size.Double 0 10 (negsuc 31) ∷ i.Exit ∷ []) ((4 ∷ 0 ∷ 0 ∷ 0 ∷ 1 ∷ 0 ∷ 0 ∷ 0 ∷ 3 ∷ 0 ∷ 0 ∷ 0 ∷ 0 ∷ 0 ∷ 0 ∷ 0 ∷ 1 ∷ 0 ∷ 0 ∷ 0 ∷ 0 ∷ 0 ∷ 0 ∷ 0 ∷ 3 ∷ []) ++ replicate 4071 0) (record { generals = 4; commander = 0; general = 3; round = 1 }) ((7 ∷ 9223372036854775809 ∷ 3 ∷ 18446744073709551615 ∷ []) ∷ []) 7 ≡ Exited 7 (record { unit = 6; registers = ((Number 7) ∷ (Unset) ∷ (Unset) ∷ (Unset) ∷ (Unset) ∷ (Unset) ∷ (Unset) ∷ (Unset) ∷ (Unset) ∷ (Unset) ∷ (Pointer Stack (pos 0)) ∷ []); cells = (replicate 480 (Empty) ++ replicate 1 (Byte 7) ++ replicate 7 (Byte 0) ++ replicate 1 (Byte 1) ++ replicate 6 (Byte 0) ++ replicate 1 (Byte 128) ++ replicate 1 (Byte 3) ++ replicate 7 (Byte 0) ++ replicate 8 (Byte 255)); outbox = ([]); steps = 7 })
+-- copy_to_the_stack; the verifier: accepted
+copy_to_the_stack : after (i.Arithmetic W64 op.Move 1 (Immediate (pos 60)) ∷ i.Arithmetic W64 op.Move 2 (Register 10) ∷ i.Arithmetic W64 op.Add 2 (Immediate (negsuc 31)) ∷ i.Arithmetic W64 op.Move 3 (Immediate (pos 4)) ∷ i.Call (pos 5) ∷ i.Load size.Double 0 10 (negsuc 31) ∷ i.Exit ∷ []) ((4 ∷ 0 ∷ 0 ∷ 0 ∷ 1 ∷ 0 ∷ 0 ∷ 0 ∷ 3 ∷ 0 ∷ 0 ∷ 0 ∷ 0 ∷ 0 ∷ 0 ∷ 0 ∷ 1 ∷ 0 ∷ 0 ∷ 0 ∷ 0 ∷ 0 ∷ 0 ∷ 0 ∷ 3 ∷ []) ++ replicate 4071 0) (record { generals = 4; commander = 0; general = 3; round = 1 }) ((7 ∷ 9223372036854775809 ∷ 3 ∷ 18446744073709551615 ∷ []) ∷ []) 7 ≡ Exited 7 (record { unit = 6; registers = ((Number 7) ∷ (Unset) ∷ (Unset) ∷ (Unset) ∷ (Unset) ∷ (Unset) ∷ (Unset) ∷ (Unset) ∷ (Unset) ∷ (Unset) ∷ (Pointer Stack (pos 0)) ∷ []); cells = (replicate 480 (Empty) ++ replicate 1 (Byte 7) ++ replicate 7 (Byte 0) ++ replicate 1 (Byte 1) ++ replicate 6 (Byte 0) ++ replicate 1 (Byte 128) ++ replicate 1 (Byte 3) ++ replicate 7 (Byte 0) ++ replicate 8 (Byte 255)); outbox = ([]); steps = 7 })
 unfolding labels step onwards
-row_R5_3 = refl
+copy_to_the_stack = refl
 
--- row_R5_3_sum; the verifier: refused V12 unit 4
-row_R5_3_sum : after (i.Arithmetic W64 op.Move 1 (Immediate (pos 60)) ∷ i.Arithmetic W64 op.Move 2 (Register 10) ∷ i.Arithmetic W64 op.Add 2 (Immediate (negsuc 31)) ∷ i.Arithmetic W64 op.Move 3 (Immediate (pos 5)) ∷ i.Call (pos 5) ∷ i.Load size.Double 0 10 (negsuc 31) ∷ i.Exit ∷ []) ((4 ∷ 0 ∷ 0 ∷ 0 ∷ 1 ∷ 0 ∷ 0 ∷ 0 ∷ 3 ∷ 0 ∷ 0 ∷ 0 ∷ 0 ∷ 0 ∷ 0 ∷ 0 ∷ 1 ∷ 0 ∷ 0 ∷ 0 ∷ 0 ∷ 0 ∷ 0 ∷ 0 ∷ 3 ∷ []) ++ replicate 4071 0) (record { generals = 4; commander = 0; general = 3; round = 1 }) ([]) 6 ≡ Trapped Argument
+-- copy_past_the_board; the verifier: refused V12 unit 4
+copy_past_the_board : after (i.Arithmetic W64 op.Move 1 (Immediate (pos 60)) ∷ i.Arithmetic W64 op.Move 2 (Register 10) ∷ i.Arithmetic W64 op.Add 2 (Immediate (negsuc 31)) ∷ i.Arithmetic W64 op.Move 3 (Immediate (pos 5)) ∷ i.Call (pos 5) ∷ i.Load size.Double 0 10 (negsuc 31) ∷ i.Exit ∷ []) ((4 ∷ 0 ∷ 0 ∷ 0 ∷ 1 ∷ 0 ∷ 0 ∷ 0 ∷ 3 ∷ 0 ∷ 0 ∷ 0 ∷ 0 ∷ 0 ∷ 0 ∷ 0 ∷ 1 ∷ 0 ∷ 0 ∷ 0 ∷ 0 ∷ 0 ∷ 0 ∷ 0 ∷ 3 ∷ []) ++ replicate 4071 0) (record { generals = 4; commander = 0; general = 3; round = 1 }) ([]) 6 ≡ Trapped Argument
 unfolding labels step onwards
-row_R5_3_sum = refl
+copy_past_the_board = refl
 
--- row_R5_3_bounds; the verifier: refused V8 unit 4
-row_R5_3_bounds : after (i.Arithmetic W64 op.Move 1 (Immediate (pos 60)) ∷ i.Arithmetic W64 op.Move 2 (Register 10) ∷ i.Arithmetic W64 op.Add 2 (Immediate (negsuc 23)) ∷ i.Arithmetic W64 op.Move 3 (Immediate (pos 4)) ∷ i.Call (pos 5) ∷ i.Load size.Double 0 10 (negsuc 31) ∷ i.Exit ∷ []) ((4 ∷ 0 ∷ 0 ∷ 0 ∷ 1 ∷ 0 ∷ 0 ∷ 0 ∷ 3 ∷ 0 ∷ 0 ∷ 0 ∷ 0 ∷ 0 ∷ 0 ∷ 0 ∷ 1 ∷ 0 ∷ 0 ∷ 0 ∷ 0 ∷ 0 ∷ 0 ∷ 0 ∷ 3 ∷ []) ++ replicate 4071 0) (record { generals = 4; commander = 0; general = 3; round = 1 }) ([]) 6 ≡ Trapped OutOfBounds
+-- copy_past_the_stack; the verifier: refused V8 unit 4
+copy_past_the_stack : after (i.Arithmetic W64 op.Move 1 (Immediate (pos 60)) ∷ i.Arithmetic W64 op.Move 2 (Register 10) ∷ i.Arithmetic W64 op.Add 2 (Immediate (negsuc 23)) ∷ i.Arithmetic W64 op.Move 3 (Immediate (pos 4)) ∷ i.Call (pos 5) ∷ i.Load size.Double 0 10 (negsuc 31) ∷ i.Exit ∷ []) ((4 ∷ 0 ∷ 0 ∷ 0 ∷ 1 ∷ 0 ∷ 0 ∷ 0 ∷ 3 ∷ 0 ∷ 0 ∷ 0 ∷ 0 ∷ 0 ∷ 0 ∷ 0 ∷ 1 ∷ 0 ∷ 0 ∷ 0 ∷ 0 ∷ 0 ∷ 0 ∷ 0 ∷ 3 ∷ []) ++ replicate 4071 0) (record { generals = 4; commander = 0; general = 3; round = 1 }) ([]) 6 ≡ Trapped OutOfBounds
 unfolding labels step onwards
-row_R5_3_bounds = refl
+copy_past_the_stack = refl
 
--- row_R5_4; the verifier: accepted
-row_R5_4 : after (i.Arithmetic W64 op.Move 1 (Immediate (pos 0)) ∷ i.Arithmetic W64 op.Move 2 (Immediate (pos 5)) ∷ i.Call (pos 2) ∷ i.Arithmetic W64 op.Move 1 (Immediate (pos 0)) ∷ i.Arithmetic W64 op.Move 2 (Immediate (pos 5)) ∷ i.Arithmetic W64 op.Move 3 (Immediate (pos 9)) ∷ i.Call (pos 4) ∷ i.Arithmetic W64 op.Move 1 (Immediate (pos 0)) ∷ i.Call (pos 1) ∷ i.Exit ∷ []) ((4 ∷ 0 ∷ 0 ∷ 0 ∷ 1 ∷ 0 ∷ 0 ∷ 0 ∷ 3 ∷ 0 ∷ 0 ∷ 0 ∷ 0 ∷ 0 ∷ 0 ∷ 0 ∷ 1 ∷ 0 ∷ 0 ∷ 0 ∷ 0 ∷ 0 ∷ 0 ∷ 0 ∷ 3 ∷ []) ++ replicate 4071 0) (record { generals = 4; commander = 0; general = 3; round = 1 }) ((0 ∷ []) ∷ (5 ∷ []) ∷ (9 ∷ []) ∷ []) 10 ≡ Exited 9 (record { unit = 9; registers = ((Number 9) ∷ (Unset) ∷ (Unset) ∷ (Unset) ∷ (Unset) ∷ (Unset) ∷ (Unset) ∷ (Unset) ∷ (Unset) ∷ (Unset) ∷ (Pointer Stack (pos 0)) ∷ []); cells = (replicate 512 (Empty)); outbox = ([]); steps = 10 })
+-- compare_and_swap; the verifier: accepted
+compare_and_swap : after (i.Arithmetic W64 op.Move 1 (Immediate (pos 0)) ∷ i.Arithmetic W64 op.Move 2 (Immediate (pos 5)) ∷ i.Call (pos 2) ∷ i.Arithmetic W64 op.Move 1 (Immediate (pos 0)) ∷ i.Arithmetic W64 op.Move 2 (Immediate (pos 5)) ∷ i.Arithmetic W64 op.Move 3 (Immediate (pos 9)) ∷ i.Call (pos 4) ∷ i.Arithmetic W64 op.Move 1 (Immediate (pos 0)) ∷ i.Call (pos 1) ∷ i.Exit ∷ []) ((4 ∷ 0 ∷ 0 ∷ 0 ∷ 1 ∷ 0 ∷ 0 ∷ 0 ∷ 3 ∷ 0 ∷ 0 ∷ 0 ∷ 0 ∷ 0 ∷ 0 ∷ 0 ∷ 1 ∷ 0 ∷ 0 ∷ 0 ∷ 0 ∷ 0 ∷ 0 ∷ 0 ∷ 3 ∷ []) ++ replicate 4071 0) (record { generals = 4; commander = 0; general = 3; round = 1 }) ((0 ∷ []) ∷ (5 ∷ []) ∷ (9 ∷ []) ∷ []) 10 ≡ Exited 9 (record { unit = 9; registers = ((Number 9) ∷ (Unset) ∷ (Unset) ∷ (Unset) ∷ (Unset) ∷ (Unset) ∷ (Unset) ∷ (Unset) ∷ (Unset) ∷ (Unset) ∷ (Pointer Stack (pos 0)) ∷ []); cells = (replicate 512 (Empty)); outbox = ([]); steps = 10 })
 unfolding labels step onwards
-row_R5_4 = refl
+compare_and_swap = refl
 
--- row_R5_5; the verifier: accepted
-row_R5_5 : after (i.Arithmetic W64 op.Move 1 (Immediate (pos 0)) ∷ i.Arithmetic W64 op.Move 2 (Immediate (pos 1)) ∷ i.Arithmetic W64 op.Move 3 (Immediate (pos 1)) ∷ i.Call (pos 6) ∷ i.Exit ∷ []) ((4 ∷ 0 ∷ 0 ∷ 0 ∷ 1 ∷ 0 ∷ 0 ∷ 0 ∷ 3 ∷ 0 ∷ 0 ∷ 0 ∷ 0 ∷ 0 ∷ 0 ∷ 0 ∷ 1 ∷ 0 ∷ 0 ∷ 0 ∷ 0 ∷ 0 ∷ 0 ∷ 0 ∷ 3 ∷ []) ++ replicate 4071 0) (record { generals = 4; commander = 0; general = 3; round = 1 }) ([]) 5 ≡ Exited 1 (record { unit = 4; registers = ((Number 1) ∷ (Unset) ∷ (Unset) ∷ (Unset) ∷ (Unset) ∷ (Unset) ∷ (Unset) ∷ (Unset) ∷ (Unset) ∷ (Unset) ∷ (Pointer Stack (pos 0)) ∷ []); cells = (replicate 512 (Empty)); outbox = ([]); steps = 5 })
+-- send_without_place; the verifier: accepted
+send_without_place : after (i.Arithmetic W64 op.Move 1 (Immediate (pos 0)) ∷ i.Arithmetic W64 op.Move 2 (Immediate (pos 1)) ∷ i.Arithmetic W64 op.Move 3 (Immediate (pos 1)) ∷ i.Call (pos 6) ∷ i.Exit ∷ []) ((4 ∷ 0 ∷ 0 ∷ 0 ∷ 1 ∷ 0 ∷ 0 ∷ 0 ∷ 3 ∷ 0 ∷ 0 ∷ 0 ∷ 0 ∷ 0 ∷ 0 ∷ 0 ∷ 1 ∷ 0 ∷ 0 ∷ 0 ∷ 0 ∷ 0 ∷ 0 ∷ 0 ∷ 3 ∷ []) ++ replicate 4071 0) (record { generals = 4; commander = 0; general = 3; round = 1 }) ([]) 5 ≡ Exited 1 (record { unit = 4; registers = ((Number 1) ∷ (Unset) ∷ (Unset) ∷ (Unset) ∷ (Unset) ∷ (Unset) ∷ (Unset) ∷ (Unset) ∷ (Unset) ∷ (Unset) ∷ (Pointer Stack (pos 0)) ∷ []); cells = (replicate 512 (Empty)); outbox = ([]); steps = 5 })
 unfolding labels step onwards
-row_R5_5 = refl
+send_without_place = refl
 
--- row_R11_1; the verifier: accepted
-row_R11_1 : after (i.Load size.Double 2 1 (pos 32) ∷ i.Arithmetic W64 op.And 2 (Immediate (pos 8)) ∷ i.Arithmetic W64 op.Xor 2 (Immediate (pos 8)) ∷ i.Arithmetic W64 op.Move 3 (Register 10) ∷ i.Arithmetic W64 op.Add 3 (Immediate (negsuc 8)) ∷ i.Arithmetic W64 op.Add 3 (Register 2) ∷ i.Store size.Byte 3 (pos 0) (Immediate (pos 1)) ∷ i.Arithmetic W64 op.Move 0 (Immediate (pos 0)) ∷ i.Exit ∷ []) ((4 ∷ 0 ∷ 0 ∷ 0 ∷ 1 ∷ 0 ∷ 0 ∷ 0 ∷ 3 ∷ 0 ∷ 0 ∷ 0 ∷ 0 ∷ 0 ∷ 0 ∷ 0 ∷ 1 ∷ 0 ∷ 0 ∷ 0 ∷ 0 ∷ 0 ∷ 0 ∷ 0 ∷ 3 ∷ []) ++ replicate 4071 0) (record { generals = 4; commander = 0; general = 3; round = 1 }) ([]) 9 ≡ Exited 0 (record { unit = 8; registers = ((Number 0) ∷ (Pointer Context (pos 0)) ∷ (Number 8) ∷ (Pointer Stack (negsuc 0)) ∷ (Unset) ∷ (Unset) ∷ (Unset) ∷ (Unset) ∷ (Unset) ∷ (Unset) ∷ (Pointer Stack (pos 0)) ∷ []); cells = (replicate 511 (Empty) ++ replicate 1 (Byte 1)); outbox = ([]); steps = 9 })
+-- store_at_a_known_bit; the verifier: accepted
+store_at_a_known_bit : after (i.Load size.Double 2 1 (pos 32) ∷ i.Arithmetic W64 op.And 2 (Immediate (pos 8)) ∷ i.Arithmetic W64 op.Xor 2 (Immediate (pos 8)) ∷ i.Arithmetic W64 op.Move 3 (Register 10) ∷ i.Arithmetic W64 op.Add 3 (Immediate (negsuc 8)) ∷ i.Arithmetic W64 op.Add 3 (Register 2) ∷ i.Store size.Byte 3 (pos 0) (Immediate (pos 1)) ∷ i.Arithmetic W64 op.Move 0 (Immediate (pos 0)) ∷ i.Exit ∷ []) ((4 ∷ 0 ∷ 0 ∷ 0 ∷ 1 ∷ 0 ∷ 0 ∷ 0 ∷ 3 ∷ 0 ∷ 0 ∷ 0 ∷ 0 ∷ 0 ∷ 0 ∷ 0 ∷ 1 ∷ 0 ∷ 0 ∷ 0 ∷ 0 ∷ 0 ∷ 0 ∷ 0 ∷ 3 ∷ []) ++ replicate 4071 0) (record { generals = 4; commander = 0; general = 3; round = 1 }) ([]) 9 ≡ Exited 0 (record { unit = 8; registers = ((Number 0) ∷ (Pointer Context (pos 0)) ∷ (Number 8) ∷ (Pointer Stack (negsuc 0)) ∷ (Unset) ∷ (Unset) ∷ (Unset) ∷ (Unset) ∷ (Unset) ∷ (Unset) ∷ (Pointer Stack (pos 0)) ∷ []); cells = (replicate 511 (Empty) ++ replicate 1 (Byte 1)); outbox = ([]); steps = 9 })
 unfolding labels step onwards
-row_R11_1 = refl
+store_at_a_known_bit = refl
 
--- row_R11_2; the verifier: accepted
-row_R11_2 : after (i.Load size.Double 2 1 (pos 32) ∷ i.Arithmetic W64 op.And 2 (Immediate (pos 8)) ∷ i.Arithmetic W64 op.Xor 2 (Immediate (pos 8)) ∷ i.Arithmetic W64 op.Move 0 (Immediate (pos 0)) ∷ i.Branch W64 c.Above 2 (Immediate (pos 8)) (pos 1) ∷ i.Exit ∷ i.Load size.Double 0 10 (negsuc 7) ∷ i.Exit ∷ []) ((4 ∷ 0 ∷ 0 ∷ 0 ∷ 1 ∷ 0 ∷ 0 ∷ 0 ∷ 3 ∷ 0 ∷ 0 ∷ 0 ∷ 0 ∷ 0 ∷ 0 ∷ 0 ∷ 1 ∷ 0 ∷ 0 ∷ 0 ∷ 0 ∷ 0 ∷ 0 ∷ 0 ∷ 3 ∷ []) ++ replicate 4071 0) (record { generals = 4; commander = 0; general = 3; round = 1 }) ([]) 8 ≡ Exited 0 (record { unit = 5; registers = ((Number 0) ∷ (Pointer Context (pos 0)) ∷ (Number 8) ∷ (Unset) ∷ (Unset) ∷ (Unset) ∷ (Unset) ∷ (Unset) ∷ (Unset) ∷ (Unset) ∷ (Pointer Stack (pos 0)) ∷ []); cells = (replicate 512 (Empty)); outbox = ([]); steps = 6 })
+-- jump_never_taken; the verifier: accepted
+jump_never_taken : after (i.Load size.Double 2 1 (pos 32) ∷ i.Arithmetic W64 op.And 2 (Immediate (pos 8)) ∷ i.Arithmetic W64 op.Xor 2 (Immediate (pos 8)) ∷ i.Arithmetic W64 op.Move 0 (Immediate (pos 0)) ∷ i.Branch W64 c.Above 2 (Immediate (pos 8)) (pos 1) ∷ i.Exit ∷ i.Load size.Double 0 10 (negsuc 7) ∷ i.Exit ∷ []) ((4 ∷ 0 ∷ 0 ∷ 0 ∷ 1 ∷ 0 ∷ 0 ∷ 0 ∷ 3 ∷ 0 ∷ 0 ∷ 0 ∷ 0 ∷ 0 ∷ 0 ∷ 0 ∷ 1 ∷ 0 ∷ 0 ∷ 0 ∷ 0 ∷ 0 ∷ 0 ∷ 0 ∷ 3 ∷ []) ++ replicate 4071 0) (record { generals = 4; commander = 0; general = 3; round = 1 }) ([]) 8 ≡ Exited 0 (record { unit = 5; registers = ((Number 0) ∷ (Pointer Context (pos 0)) ∷ (Number 8) ∷ (Unset) ∷ (Unset) ∷ (Unset) ∷ (Unset) ∷ (Unset) ∷ (Unset) ∷ (Unset) ∷ (Pointer Stack (pos 0)) ∷ []); cells = (replicate 512 (Empty)); outbox = ([]); steps = 6 })
 unfolding labels step onwards
-row_R11_2 = refl
+jump_never_taken = refl
 
 -- own_send; the verifier: accepted
 own_send : after (i.Arithmetic W64 op.Move 1 (Immediate (pos 1)) ∷ i.Arithmetic W64 op.Move 2 (Immediate (pos 0)) ∷ i.LoadNumber 3 21474836487 ∷ i.Call (pos 6) ∷ i.Arithmetic W64 op.Move 6 (Register 0) ∷ i.Arithmetic W64 op.Move 1 (Immediate (pos 1)) ∷ i.Arithmetic W64 op.Move 2 (Immediate (pos 3)) ∷ i.Arithmetic W64 op.Move 3 (Immediate (pos 8)) ∷ i.Call (pos 6) ∷ i.Arithmetic W64 op.ShiftLeft 0 (Immediate (pos 1)) ∷ i.Arithmetic W64 op.Or 0 (Register 6) ∷ i.Exit ∷ []) ((5 ∷ 0 ∷ 0 ∷ 0 ∷ 2 ∷ 0 ∷ 0 ∷ 0 ∷ 1 ∷ 0 ∷ 0 ∷ 0 ∷ 2 ∷ 0 ∷ 0 ∷ 0 ∷ 3 ∷ 0 ∷ 0 ∷ 0 ∷ 3 ∷ 0 ∷ 0 ∷ 0 ∷ 2 ∷ 0 ∷ 0 ∷ 0 ∷ 0 ∷ 0 ∷ 0 ∷ 0 ∷ 4 ∷ 0 ∷ 0 ∷ 0 ∷ 5 ∷ 0 ∷ 0 ∷ 0 ∷ 6 ∷ []) ++ replicate 4055 0) (record { generals = 5; commander = 2; general = 1; round = 3 }) ([]) 12 ≡ Exited 2 (record { unit = 12; registers = ((Number 2) ∷ (Unset) ∷ (Unset) ∷ (Unset) ∷ (Unset) ∷ (Unset) ∷ (Number 0) ∷ (Unset) ∷ (Unset) ∷ (Unset) ∷ (Pointer Stack (pos 0)) ∷ []); cells = (replicate 512 (Empty)); outbox = ((None ∷ None ∷ []) ∷ (Some 7 ∷ None ∷ []) ∷ (None ∷ None ∷ []) ∷ []); steps = 12 })
