@@ -4,4 +4,5 @@ pub mod Listed
 pub mod PartLemmas
 pub mod LabelLemmas
 pub mod ReadingLemmas
+pub mod PlaceLemmas
 pub mod WholeLemmas

@@ -4,6 +4,7 @@
 mod fault;
 mod message;
 mod parts;
+mod places;
 mod placing;
 mod reader;
 mod recursion;

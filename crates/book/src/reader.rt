@@ -1,16 +1,17 @@
-ghost use Rattle.std.specs.Prelude.{◌≡◌, ◌≢◌, ◌≤◌, IfOk, IfErr, Ok, Err};
+ghost use Rattle.std.specs.Prelude.{◌≡◌, ◌≢◌, ◌≤◌, ◌++◌, ◌∷◌, [], IfOk, IfErr, Ok, Err};
 ghost use Rattle.book.specs.declared.fault.TableError.TheVariants.{Memory};
-ghost use Rattle.std.specs.List.{list_any};
-ghost use Rattle.book.specs.Table.{is_about};
+ghost use Rattle.book.specs.Places.{AreTold};
 ghost use Rattle.book.specs.Grammar.{opened, head_of, checked, message_of, is_within, table_told};
 
 use crate::fault::TableError;
 use crate::message::Message;
 use crate::parts::{head, shape};
+use crate::places::add_place;
 use crate::placing::placed;
 use crate::table::Table;
-use label::Label;
+use arrayvec::ArrayVec;
 use std::alloc::Global;
+use std::collections::BTreeSet;
 use text::line;
 
 /// The message table that a text tells.
@@ -27,10 +28,11 @@ pub fn read_table(alloc: Global, text: &str) -> Result<Table, TableError>
         return Err(TableError::Line(1));
     };
     let mut table = read_head(alloc, first)?;
+    let mut places = BTreeSet::new(alloc);
     let mut rest = behind;
     let mut number: u64 = 2;
     while let Some((next, behind)) = line(rest) {
-        let message = read_message(&table, number, next)?;
+        let message = read_message(&table, &mut places, number, next)?;
         table.push(message)?;
         rest = behind;
         number += 1;
@@ -59,16 +61,16 @@ fn is_within(generals: u128, bound: u128, commander: u128) -> bool
     generals <= 13 && bound <= 4 && bound + 2 <= generals && commander < generals
 }
 
-/// Whether one of the messages is about this label and receiver.
-fn is_told(messages: &[Message], label: &Label, receiver: u8) -> bool
-    ensures { result ≡ list_any (is_about label.now receiver) messages.now }
-{
-    messages.iter().any(|message| message.receiver == receiver && message.label.same(label))
-}
-
 /// The message of a further line, the first fault of the line otherwise.
-fn read_message(table: &Table, number: u64, line: &[u8]) -> Result<Message, TableError>
-    ensures { result ≡ checked table.now number (message_of line.now) }
+fn read_message(
+    table: &Table,
+    places: &mut BTreeSet<ArrayVec<u8, 14>>,
+    number: u64,
+    line: &[u8],
+) -> Result<Message, TableError>
+    requires { AreTold places.old table.now.messages }
+    ensures told { IfOk result (λ said. (checked table.now number (message_of line.now) ≡ Ok said) × AreTold places.new (table.now.messages ++ said ∷ [])) }
+    ensures fault { IfErr result (λ e. e ≢ Memory → checked table.now number (message_of line.now) ≡ Err e) }
 {
     let Some((label, receiver, order)) = shape(line) else {
         return Err(TableError::Line(number));
@@ -76,7 +78,7 @@ fn read_message(table: &Table, number: u64, line: &[u8]) -> Result<Message, Tabl
     let Some(label) = placed(table, label, receiver) else {
         return Err(TableError::Place(number));
     };
-    if is_told(table.messages(), &label, receiver as u8) {
+    if !add_place(places, &label, receiver as u8)? {
         return Err(TableError::Twice(number));
     }
     Ok(Message {
