@@ -1,6 +1,6 @@
 -- Runs of activations, and the accesses of one general.
 use Rattle.std.proofs.Common.{◌≡◌, ◌≢◌, ℕ, zero, suc, List, [], ◌∷◌, ◌++◌, true, false, refl, sym, ap, subst, ◌∙◌, ⊎_elim, append-nil}
-use Rattle.std.specs.Prelude.{◌==◌}
+use Rattle.std.specs.Prelude.{◌==◌, map}
 use Rattle.std.proofs.lemmas.Bool.{eq-eqb, ne_eqb}
 use Rattle.std.proofs.lemmas.Bool.Decides.{eqb_tells}
 use Rattle.semantics.specs.declared.request.Request.{Request}
@@ -44,32 +44,48 @@ Runs-same zero (suc k') s t u u' h h' d d' = absurd (stays (turn s) (Runs k') t 
 Runs-same (suc k) zero s t u u' h h' d d' = absurd (stays (turn s) (Runs k) t u (ap turn h'.1 ∙ d') h)
 Runs-same (suc k) (suc k') s t u u' h h' d d' = same_by (turn s) k k' t u u' (λ s' t' r r'. Runs-same k k' s' t' u u' r r' d d') h h'
 
--- where two runs with the same accesses both come to a request, it is the same
-asks_by : (o : Turn) (k j : ℕ) (t : List Access) (u v : Activation)
-    → ((s : Activation) (t' : List Access) → Runs k s t' u → Runs j s t' v → u ≡ v)
-    → Onward (Runs k) o t u → Onward (Runs j) o t v → u ≡ v
-asks_by o k j t u v again h h' = same_by o k j t u v again h h'
+abbrev pub replies : List Access → List (List ℕ)
+replies t = map (λ (a : Access). a.reply) t
+
+-- where two runs with the same answers both come to a request, it is the same
+asks_by : (o : Turn) (k j : ℕ) (t t' : List Access) (u v : Activation)
+    → ((s : Activation) (x y : List Access) → replies x ≡ replies y → Runs k s x u → Runs j s y v → u ≡ v)
+    → replies t ≡ replies t' → Onward (Runs k) o t u → Onward (Runs j) o t' v → u ≡ v
+asks_by (Goes s) k j t t' u v again e h h' = again s t t' e h h'
+asks_by (Asks q f) k j [] t' u v again e h h' = absurd h
+asks_by (Asks q f) k j (a ∷ t) [] u v again e h h' = absurd h'
+asks_by (Asks q f) k j (a ∷ t) (b ∷ t') u v again e h h' =
+    let one : a.reply ≡ b.reply = cc in
+    let rest : replies t ≡ replies t' = cc in
+    again (f a.reply) t t' rest h.1 (subst (λ (answer : List ℕ). Runs j (f answer) t' v) (sym one) h'.1)
+asks_by Ended k j t t' u v again e h h' = absurd h
+
+none_left : (t : List Access) → replies t ≡ [] → t ≡ []
+none_left [] e = refl
+none_left (a ∷ t) e = cc
 
 stuck : (o : Turn) (q : Request) (f : List ℕ → Activation) (k : ℕ) (u : Activation) → o ≡ Asks q f → Onward (Runs k) o [] u → ⊥
 stuck (Goes s) q f k u e h = absurd (let g : Goes s ≡ Asks q f = e in cc)
 stuck (Asks r f') q f k u e h = h
 stuck Ended q f k u e h = h
 
-pub asking_same : (k j : ℕ) (s : Activation) (t : List Access) (u v : Activation) (q r : Request) (f h : List ℕ → Activation)
-    → Runs k s t u → Runs j s t v → turn u ≡ Asks q f → turn v ≡ Asks r h → u ≡ v
-asking_same zero zero s t u v q r f h a b e d = sym a.1 ∙ b.1
-asking_same zero (suc j) s t u v q r f h a b e d =
-    absurd (stuck (turn s) q f j v (ap turn a.1 ∙ e) (let A : List Access → Type 0 = λ t'. Onward (Runs j) (turn s) t' v in subst A a.0 b))
-asking_same (suc k) zero s t u v q r f h a b e d =
-    absurd (stuck (turn s) r h k u (ap turn b.1 ∙ d) (let A : List Access → Type 0 = λ t'. Onward (Runs k) (turn s) t' u in subst A b.0 a))
-asking_same (suc k) (suc j) s t u v q r f h a b e d =
-    asks_by (turn s) k j t u v (λ s' t' a' b'. asking_same k j s' t' u v q r f h a' b' e d) a b
+pub asking_same : (k j : ℕ) (s : Activation) (t t' : List Access) (u v : Activation) (q r : Request) (f h : List ℕ → Activation)
+    → replies t ≡ replies t' → Runs k s t u → Runs j s t' v → turn u ≡ Asks q f → turn v ≡ Asks r h → u ≡ v
+asking_same zero zero s t t' u v q r f h n a b e d = sym a.1 ∙ b.1
+asking_same zero (suc j) s t t' u v q r f h n a b e d =
+    let none : t' ≡ [] = none_left t' (sym n ∙ ap replies a.0) in
+    absurd (stuck (turn s) q f j v (ap turn a.1 ∙ e) (let A : List Access → Type 0 = λ x. Onward (Runs j) (turn s) x v in subst A none b))
+asking_same (suc k) zero s t t' u v q r f h n a b e d =
+    let none : t ≡ [] = none_left t (n ∙ ap replies b.0) in
+    absurd (stuck (turn s) r h k u (ap turn b.1 ∙ d) (let A : List Access → Type 0 = λ x. Onward (Runs k) (turn s) x u in subst A none a))
+asking_same (suc k) (suc j) s t t' u v q r f h n a b e d =
+    asks_by (turn s) k j t t' u v (λ s' x y n' a' b'. asking_same k j s' x y u v q r f h n' a' b' e d) n a b
 
 -- so the next request follows from the answers
-pub request_same : (k j : ℕ) (s : Activation) (t : List Access) (u v : Activation) (q r : Request) (f h : List ℕ → Activation)
-    → Runs k s t u → Runs j s t v → turn u ≡ Asks q f → turn v ≡ Asks r h → q ≡ r
-request_same k j s t u v q r f h a b e d =
-    let same : u ≡ v = asking_same k j s t u v q r f h a b e d in
+pub request_same : (k j : ℕ) (s : Activation) (t t' : List Access) (u v : Activation) (q r : Request) (f h : List ℕ → Activation)
+    → replies t ≡ replies t' → Runs k s t u → Runs j s t' v → turn u ≡ Asks q f → turn v ≡ Asks r h → q ≡ r
+request_same k j s t t' u v q r f h n a b e d =
+    let same : u ≡ v = asking_same k j s t t' u v q r f h n a b e d in
     let both : Asks q f ≡ Asks r h = sym e ∙ (ap turn same ∙ d) in cc
 
 pub of_snoc : (g : ℕ) (piece : List Access) (a : Access) → of g (piece ++ a ∷ []) ≡ of g piece ++ of g (a ∷ [])

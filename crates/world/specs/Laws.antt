@@ -1,5 +1,5 @@
 -- What holds of every world. Each statement is the contract of a function of this crate.
-use Rattle.std.specs.Prelude.{ℕ, suc, ◌^◌, ◌≡◌, ◌≢◌, ◌<◌, ◌≤◌, true, false, All, IsPermutation, List, [], ◌∷◌, length, flat_map, slice_get, Some}
+use Rattle.std.specs.Prelude.{ℕ, suc, ◌^◌, ◌≡◌, ◌≢◌, ◌<◌, ◌≤◌, true, false, All, IsPermutation, List, [], ◌∷◌, length, map, flat_map, slice_get, Some}
 use Rattle.insn.specs.declared.insn.Insn.{Insn}
 use Rattle.label.specs.Oral.{IsFaithful, IsBound, Agree}
 use Rattle.label.specs.Relay.{relay}
@@ -68,8 +68,9 @@ pub record LedgersDecide : Type 0 where
       IsRipe (run (run (opening s) before) events) → IsRipe (run (run (opening s) before) others) →
       (run (run (opening s) before) events).ledger ≡ (run (run (opening s) before) others).ledger →
       run (run (opening s) before) events ≡ run (run (opening s) before) others
-  pub requests : (k j : ℕ) (start one two : Activation) (transcript : List Access) (request other : Request) (answered resumed : List ℕ → Activation) →
-      Runs k start transcript one → Runs j start transcript two → turn one ≡ Asks request answered → turn two ≡ Asks other resumed → request ≡ other
+  pub requests : (k j : ℕ) (start one two : Activation) (transcript served : List Access) (request other : Request) (answered resumed : List ℕ → Activation) →
+      map (λ (access : Access). access.reply) transcript ≡ map (λ (access : Access). access.reply) served →
+      Runs k start transcript one → Runs j start served two → turn one ≡ Asks request answered → turn two ≡ Asks other resumed → request ≡ other
 
 -- the world of the replay of a ledger
 abbrev pub replay_of : Scenario → List Access → World
