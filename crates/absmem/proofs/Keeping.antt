@@ -1,5 +1,6 @@
 -- What is known stays right when the stack is written.
-use Rattle.std.proofs.Common.{◌≡◌, ◌≢◌, ℕ, zero, suc, ℤ, ◌+◌, ◌-◌, ◌*◌, ◌/◌, ◌%◌, ◌<◌, ◌≤◌, List, length, Bool, true, false, ◌&&◌, refl, sym, ap, subst, ◌∙◌, inl, inr, arith, get_or, set, get_or-set_same, get_or-set_other, replicate}
+use Rattle.std.proofs.Common.{◌≡◌, ◌≢◌, ℕ, zero, suc, ℤ, ◌+◌, ◌-◌, ◌*◌, ◌/◌, ◌%◌, ◌<◌, ◌≤◌, List, length, Bool, true, false, ◌&&◌, refl, sym, ap, subst, ◌∙◌, inl, inr, arith, get_or, set, get_or-set_same, get_or-set_other, replicate, [], ◌∷◌, ◌++◌, take, drop, append-nil}
+use Rattle.std.proofs.lemmas.List.{take-append-drop}
 use Rattle.std.specs.Prelude.{slice_range, nat_lt, if◌then◌else◌}
 use Rattle.std.proofs.lemmas.Bool.{cases_lt, cases_eq, ltb-false}
 use Rattle.semantics.specs.declared.value.Region.{Region}
@@ -60,32 +61,46 @@ bytes_hidden old new cells written place s fits before k =
 
 -- ---- pointers
 
+-- where nothing is written all is as before
+nothing_written : (cells : List Cell) (place : ℕ) → cells ≡ overwritten cells place []
+nothing_written cells place =
+    let e : place ≡ place + 0 = omega arith in
+    sym (ap (λ (l : List Cell). l ++ drop (place + 0) cells) (append-nil (take place cells)) ∙ (ap (λ (n : ℕ). take place cells ++ drop n cells) (sym e) ∙ take-append-drop place cells))
+
 -- a pointer that the window does not touch still stands
 pub stands_left : (cells new : List Cell) (place end at b : ℕ) (spill : Spill) → place ≤ at → at + length new ≤ end → end ≤ length cells →
     StandsAt cells b spill → StandsAt (overwritten cells at new) b (left_of place end b spill)
 stands_left cells new place end at b Free low high fits stands = tt
 stands_left cells new place end at b (Whole shift region offset) low high fits stands =
-    by_tests (nat_lt (8 * b + shift) end) (nat_lt place (8 * b + shift + 8)) refl refl
+    by_tests (nat_lt place end) (nat_lt (8 * b + shift) end) (nat_lt place (8 * b + shift + 8)) refl refl refl
   where
     room : at + length new ≤ length cells
     room = omega arith
 
-    by_tests : (s t : Bool) → s ≡ nat_lt (8 * b + shift) end → t ≡ nat_lt place (8 * b + shift + 8) →
-        StandsAt (overwritten cells at new) b (if s && t then Free else Whole shift region offset)
-    by_tests true true e f = tt
-    by_tests true false e f =
+    none : (written : List Cell) → length written ≡ 0 → StandsAt (overwritten cells at written) b (Whole shift region offset)
+    none [] empty = subst (λ (all : List Cell). StandsAt all b (Whole shift region offset)) (nothing_written cells at) stands
+    none (cell ∷ written) empty = absurd (omega (arith, empty))
+
+    by_tests : (n s t : Bool) → n ≡ nat_lt place end → s ≡ nat_lt (8 * b + shift) end → t ≡ nat_lt place (8 * b + shift + 8) →
+        StandsAt (overwritten cells at new) b (if (n && s) && t then Free else Whole shift region offset)
+    by_tests true true true d e f = tt
+    by_tests true true false d e f =
         let ge : 8 * b + shift + 8 ≤ place = ltb-false place (8 * b + shift + 8) (sym f) in
         let ordered : 8 * b + shift ≤ 8 * b + shift + 8 = omega arith in
         let before : 8 * b + shift + 8 ≤ at = omega arith in
         range-before cells new at room (8 * b + shift) (8 * b + shift + 8) ordered before ∙ stands
-    by_tests false t e f =
+    by_tests true false t d e f =
         let ge : end ≤ 8 * b + shift = ltb-false (8 * b + shift) end (sym e) in
         let behind : at + length new ≤ 8 * b + shift = omega arith in
         range-behind cells new at room (8 * b + shift) (8 * b + shift + 8) behind ∙ stands
+    by_tests false s t d e f =
+        let ge : end ≤ place = ltb-false place end (sym d) in
+        let empty : length new ≡ 0 = omega arith in
+        none new empty
 
 pub filed_left : (place end b : ℕ) (spill : Spill) → IsFiled b spill → IsFiled b (left_of place end b spill)
 filed_left place end b Free filed = tt
-filed_left place end b (Whole shift region offset) filed = by_test (nat_lt (8 * b + shift) end && nat_lt place (8 * b + shift + 8))
+filed_left place end b (Whole shift region offset) filed = by_test ((nat_lt place end && nat_lt (8 * b + shift) end) && nat_lt place (8 * b + shift + 8))
   where
     by_test : (t : Bool) → IsFiled b (if t then Free else Whole shift region offset)
     by_test true = tt

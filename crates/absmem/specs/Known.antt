@@ -33,11 +33,11 @@ pub record IsKept (bytes : List Bool) (spills : List Spill) : Type 0 where
   pub blocks : length spills ≡ 64
   pub filed : (b : ℕ) → b < 64 → IsFiled b (spill_at spills b)
 
--- what is left of a spill once the cells from one place up to another are written
+-- what is left of a spill once the cells from one place up to another are written: where there are none, it stays
 abbrev pub left_of : ℕ → ℕ → ℕ → Spill → Spill
 left_of place end b Free = Free
 left_of place end b (Whole shift region offset) =
-    if nat_lt (8 * b + shift) end && nat_lt place (8 * b + shift + 8) then Free else Whole shift region offset
+    if (nat_lt place end && nat_lt (8 * b + shift) end) && nat_lt place (8 * b + shift + 8) then Free else Whole shift region offset
 
 -- what both know of a block
 abbrev pub joined_spill : Spill → Spill → Spill

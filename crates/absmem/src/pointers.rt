@@ -1,5 +1,5 @@
 //! Where whole pointers stand.
-ghost use Rattle.std.specs.Prelude.{◌≡◌, ◌+◌, ◌/◌, ◌%◌, ◌<◌, ◌≤◌, ℕ, length, slice_set};
+ghost use Rattle.std.specs.Prelude.{◌≡◌, ◌+◌, ◌/◌, ◌%◌, ◌<◌, ◌≤◌, ℕ, length, slice_set, if◌then◌else◌};
 ghost use Rattle.semantics.specs.Memory.{is_same_region};
 ghost use Rattle.absmem.specs.Known.{IsFiled, spill_at, left_of, joined_spill};
 
@@ -50,7 +50,7 @@ fn left(spill: Spill, b: usize, place: usize, end: usize) -> Spill
         return Spill::Free;
     };
     let start = 8 * b + shift as usize;
-    if start < end && place < start + 8 {
+    if place < end && start < end && place < start + 8 {
         return Spill::Free;
     }
     spill
@@ -62,13 +62,22 @@ pub(crate) fn join(spills: &mut [Spill; 64], other: &[Spill; 64])
     ensures each { (b : ℕ) → b < 64 → spill_at spills.new b ≡ joined_spill (spill_at spills.old b) (spill_at other.now b) }
 {
     for b in 0..64 {
-        spills[b] = joined(spills[b], other[b]);
+        settle(&mut spills[b], other[b]);
     }
 }
 
-/// What both know of a block.
-fn joined(a: Spill, b: Spill) -> Spill
-    ensures { result ≡ joined_spill a b }
+/// Keeps of a block what both know. Most blocks stay as they are, and are not written.
+fn settle(spill: &mut Spill, other: Spill)
+    ensures { spill.new ≡ joined_spill spill.old other }
+{
+    if !stays(*spill, other) {
+        *spill = Spill::Free;
+    }
+}
+
+/// Whether what is known of a block stays when it is joined with another.
+fn stays(a: Spill, b: Spill) -> bool
+    ensures { joined_spill a b ≡ (if result then a else Spill.Free) }
 {
     let Spill::Whole {
         shift,
@@ -76,7 +85,7 @@ fn joined(a: Spill, b: Spill) -> Spill
         offset,
     } = a
     else {
-        return Spill::Free;
+        return true;
     };
     let Spill::Whole {
         shift: other_shift,
@@ -84,12 +93,9 @@ fn joined(a: Spill, b: Spill) -> Spill
         offset: other_offset,
     } = b
     else {
-        return Spill::Free;
+        return false;
     };
-    if shift == other_shift && same_region(region, other_region) && offset == other_offset {
-        return a;
-    }
-    Spill::Free
+    shift == other_shift && same_region(region, other_region) && offset == other_offset
 }
 
 /// Whether two regions are the same.

@@ -1,8 +1,9 @@
 -- Windows that hold windows.
-use Rattle.std.specs.Prelude.{ℕ, ◌+◌, ◌≤◌, Result, Ok, Err}
+use Rattle.std.specs.Prelude.{ℕ, ℤ, pos, ◌+◌, ◌-◌, ◌≤◌, ◌+ℤ◌, ◌&&◌, nat_le, if◌then◌else◌, Option, Some, None, Result, Ok, Err}
 use Rattle.semantics.specs.declared.value.Region.{Region}
 use Rattle.semantics.specs.declared.value.Region.TheVariants.{Stack, Context}
 use Rattle.semantics.specs.State.{Cause}
+use Rattle.absval.specs.declared.windows.Window.{Window}
 
 -- how many cells a region has, and the place of its offset 0
 abbrev pub room_of : Region → ℕ
@@ -17,3 +18,14 @@ base_of Context = 0
 abbrev pub LiesIn : ℕ → ℕ → ℕ → Result ℕ Cause → Type 0
 LiesIn first total size (Ok place) = (first ≤ place) × (place + size ≤ first + total)
 LiesIn first total size (Err cause) = ⊥
+
+-- the cells that so many bytes at each place from the first to the last touch, where they all lie in the room
+abbrev pub between : ℕ → ℕ → ℤ → ℤ → Option Window
+between room size (pos first) (pos last) =
+    if nat_le first last && nat_le (last + size) room then Some (record { place = first; size = (last - first) + size }) else None
+between room size _ _ = None
+
+-- the same at each offset from the least to the greatest, a distance on
+abbrev pub window_known : Region → ℤ → ℤ → ℤ → ℕ → Option Window
+window_known region low high distance size =
+    between (room_of region) size ((low +ℤ distance) +ℤ pos (base_of region)) ((high +ℤ distance) +ℤ pos (base_of region))

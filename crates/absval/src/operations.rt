@@ -1,9 +1,11 @@
-ghost use Rattle.std.specs.Prelude.{◌≡◌, ◌≢◌, ◌≤ℤ◌, ◌↔◌, ℕ, ℤ, true, IfSome, IsSome, IsSomeAnd};
+ghost use Rattle.std.specs.Prelude.{◌≡◌, ◌≢◌, ◌≤ℤ◌, ◌↔◌, ℕ, ℤ, true, IfSome, IsSome, IsSomeAnd, option_map};
 ghost use Rattle.word.specs.Arithmetic.{arithmetic as computed, negated, sign_extended, swapped};
 ghost use Rattle.range.specs.Interval.{IsIn};
 ghost use Rattle.semantics.specs.declared.value.Value.{Value};
 ghost use Rattle.semantics.specs.Step.{result_of, mapped};
+ghost use Rattle.range.specs.Table.{low};
 ghost use Rattle.absval.specs.Contains.{Contains, Gives, is_number};
+ghost use Rattle.absval.specs.Table.{ends_of, computed as known, moved as known_moved, combined as known_combined, shifted as known_shifted, negated_known, extended_known, swapped_known};
 
 use crate::pointer::{as_signed, lowered, raised};
 use crate::value::{AbsVal, Offsets};
@@ -16,6 +18,7 @@ pub fn arithmetic(width: Width, operation: Operation, a: AbsVal, b: AbsVal) -> O
     ensures holds { IfSome result (λ r. (x y : Value) → Contains a x → Contains b y → Gives r (result_of width operation x y)) }
     ensures moves { operation ≡ Operation.Move → is_number b ≡ true → IsSomeAnd result (λ r. is_number r ≡ true) }
     ensures numbers { is_number a ≡ true → is_number b ≡ true → IsSomeAnd result (λ r. is_number r ≡ true) }
+    ensures exact { option_map ends_of result ≡ known width operation (ends_of a) (ends_of b) }
 {
     if let Operation::Move = operation {
         return moved(width, b);
@@ -27,6 +30,7 @@ pub fn arithmetic(width: Width, operation: Operation, a: AbsVal, b: AbsVal) -> O
 fn moved(width: Width, b: AbsVal) -> Option<AbsVal>
     ensures holds { IfSome result (λ r. (x y : Value) → Contains b y → Gives r (result_of width Operation.Move x y)) }
     ensures numbers { is_number b ≡ true → IsSomeAnd result (λ r. is_number r ≡ true) }
+    ensures exact { option_map ends_of result ≡ known_moved width (ends_of b) }
 {
     match b {
         AbsVal::Unset => None,
@@ -40,7 +44,8 @@ fn moved(width: Width, b: AbsVal) -> Option<AbsVal>
 
 /// The numbers that moves of these give.
 fn copied(width: Width, n: Range) -> Range
-    ensures { (y : ℕ) → IsIn n.lo n.hi y → IsIn result.lo result.hi (computed width Operation.Move 0 y) }
+    ensures holds { (y : ℕ) → IsIn n.lo n.hi y → IsIn result.lo result.hi (computed width Operation.Move 0 y) }
+    ensures exact { (result.lo, result.hi) ≡ low width n.lo n.hi }
 {
     operate::operate(width, Operation::Move, Range::exactly(0), n)
 }
@@ -50,6 +55,7 @@ fn combined(width: Width, operation: Operation, a: AbsVal, b: AbsVal) -> Option<
     requires { operation ≢ Operation.Move }
     ensures holds { IfSome result (λ r. (x y : Value) → Contains a x → Contains b y → Gives r (result_of width operation x y)) }
     ensures numbers { is_number a ≡ true → is_number b ≡ true → IsSomeAnd result (λ r. is_number r ≡ true) }
+    ensures exact { option_map ends_of result ≡ known_combined width operation (ends_of a) (ends_of b) }
 {
     match (a, b) {
         (AbsVal::Number(m), AbsVal::Number(n)) => Some(AbsVal::Number(operate::operate(
@@ -73,6 +79,7 @@ fn shifted(
     requires { operation ≢ Operation.Move }
     ensures holds { IfSome result (λ r. (o : ℤ) (y : ℕ) → offsets.low ≤ℤ o → o ≤ℤ offsets.high → IsIn n.lo n.hi y →
         Gives r (result_of width operation (Value.Pointer region o) (Value.Number y))) }
+    ensures exact { option_map ends_of result ≡ known_shifted width operation region (offsets.low, offsets.high) (n.lo, n.hi) }
 {
     let Width::W64 = width else {
         return None;
@@ -90,6 +97,7 @@ pub fn negate(width: Width, a: AbsVal) -> Option<AbsVal>
     ensures holds { IfSome result (λ r. (x : Value) → Contains a x → Gives r (mapped (negated width) x)) }
     ensures number { IsSome result ↔ (is_number a ≡ true) }
     ensures again { IfSome result (λ r. is_number r ≡ true) }
+    ensures exact { option_map ends_of result ≡ negated_known width (ends_of a) }
 {
     match a {
         AbsVal::Number(n) => Some(AbsVal::Number(unary::negate(width, n))),
@@ -102,6 +110,7 @@ pub fn sign_extend(width: Width, part: Narrow, a: AbsVal) -> Option<AbsVal>
     ensures holds { IfSome result (λ r. (x : Value) → Contains a x → Gives r (mapped (sign_extended width part) x)) }
     ensures number { IsSome result ↔ (is_number a ≡ true) }
     ensures again { IfSome result (λ r. is_number r ≡ true) }
+    ensures exact { option_map ends_of result ≡ extended_known width part (ends_of a) }
 {
     match a {
         AbsVal::Number(n) => Some(AbsVal::Number(unary::sign_extend(width, part, n))),
@@ -114,6 +123,7 @@ pub fn swap(order: ByteOrder, size: SwapSize, a: AbsVal) -> Option<AbsVal>
     ensures holds { IfSome result (λ r. (x : Value) → Contains a x → Gives r (mapped (swapped order size) x)) }
     ensures number { IsSome result ↔ (is_number a ≡ true) }
     ensures again { IfSome result (λ r. is_number r ≡ true) }
+    ensures exact { option_map ends_of result ≡ swapped_known order size (ends_of a) }
 {
     match a {
         AbsVal::Number(n) => Some(AbsVal::Number(unary::swap(order, size, n))),

@@ -1,6 +1,7 @@
 //! Numbers added to pointers and taken from them.
-ghost use Rattle.std.specs.Prelude.{pos, negsuc, ◌≡◌, ◌≤◌, ◌+ℤ◌, ◌-ℤ◌, ◌≤ℤ◌, ℕ, ℤ, IfSome};
+ghost use Rattle.std.specs.Prelude.{pos, negsuc, ◌≡◌, ◌≤◌, ◌+ℤ◌, ◌-ℤ◌, ◌≤ℤ◌, ℕ, ℤ, IfSome, Some, None, option_map, if◌then◌else◌};
 ghost use Rattle.std.specs.Int.{w64, cast_signed};
+ghost use Rattle.absval.specs.Table.{in_a_row, is_near, raised as known_raised, lowered as known_lowered};
 
 use crate::value::Offsets;
 use range::Range;
@@ -18,6 +19,7 @@ pub(crate) struct SignedRange {
 /// The numbers of the range as signed, where they are in a row.
 pub(crate) fn as_signed(range: Range) -> Option<SignedRange>
     ensures holds { IfSome result (λ s. (n : ℕ) → range.lo ≤ n → n ≤ range.hi → (s.low ≤ℤ cast_signed w64 n) × (cast_signed w64 n ≤ℤ s.high)) }
+    ensures exact { option_map (λ s. (s.low, s.high)) result ≡ in_a_row (range.lo, range.hi) }
 {
     let low = range.lo.cast_signed();
     let high = range.hi.cast_signed();
@@ -32,6 +34,7 @@ pub(crate) fn raised(offsets: Offsets, by: SignedRange) -> Option<Offsets>
     ensures holds { IfSome result (λ r. (o z : ℤ) → offsets.low ≤ℤ o → o ≤ℤ offsets.high → by.low ≤ℤ z → z ≤ℤ by.high →
         (r.low ≤ℤ (o +ℤ z)) × ((o +ℤ z) ≤ℤ r.high)) }
     ensures limits { IfSome result (λ r. (negsuc 65535 ≤ℤ r.low) × (r.high ≤ℤ pos 65536)) }
+    ensures exact { option_map (λ r. (r.low, r.high)) result ≡ known_raised (offsets.low, offsets.high) (by.low, by.high) }
 {
     let low = sum(offsets.low, by.low)?;
     let high = sum(offsets.high, by.high)?;
@@ -43,6 +46,7 @@ pub(crate) fn lowered(offsets: Offsets, by: SignedRange) -> Option<Offsets>
     ensures holds { IfSome result (λ r. (o z : ℤ) → offsets.low ≤ℤ o → o ≤ℤ offsets.high → by.low ≤ℤ z → z ≤ℤ by.high →
         (r.low ≤ℤ (o -ℤ z)) × ((o -ℤ z) ≤ℤ r.high)) }
     ensures limits { IfSome result (λ r. (negsuc 65535 ≤ℤ r.low) × (r.high ≤ℤ pos 65536)) }
+    ensures exact { option_map (λ r. (r.low, r.high)) result ≡ known_lowered (offsets.low, offsets.high) (by.low, by.high) }
 {
     let low = difference(offsets.low, by.high)?;
     let high = difference(offsets.high, by.low)?;
@@ -53,6 +57,7 @@ pub(crate) fn lowered(offsets: Offsets, by: SignedRange) -> Option<Offsets>
 fn sum(offset: i32, by: i64) -> Option<i32>
     ensures same { IfSome result (λ r. r ≡ offset +ℤ by) }
     ensures limits { IfSome result (λ r. (negsuc 65535 ≤ℤ r) × (r ≤ℤ pos 65536)) }
+    ensures exact { result ≡ (if is_near (offset +ℤ by) then Some (offset +ℤ by) else None) }
 {
     within(i64::from(offset).checked_add(by)?)
 }
@@ -61,6 +66,7 @@ fn sum(offset: i32, by: i64) -> Option<i32>
 fn difference(offset: i32, by: i64) -> Option<i32>
     ensures same { IfSome result (λ r. r ≡ offset -ℤ by) }
     ensures limits { IfSome result (λ r. (negsuc 65535 ≤ℤ r) × (r ≤ℤ pos 65536)) }
+    ensures exact { result ≡ (if is_near (offset -ℤ by) then Some (offset -ℤ by) else None) }
 {
     within(i64::from(offset).checked_sub(by)?)
 }
@@ -69,6 +75,7 @@ fn difference(offset: i32, by: i64) -> Option<i32>
 fn within(offset: i64) -> Option<i32>
     ensures same { IfSome result (λ r. r ≡ offset) }
     ensures limits { IfSome result (λ r. (negsuc 65535 ≤ℤ r) × (r ≤ℤ pos 65536)) }
+    ensures exact { result ≡ (if is_near offset then Some offset else None) }
 {
     if offset < -LIMIT || offset > LIMIT {
         return None;

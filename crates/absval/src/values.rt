@@ -1,8 +1,9 @@
-ghost use Rattle.std.specs.Prelude.{◌≡◌, ◌≤◌, ◌<◌, ◌^◌, ◌*◌, ◌&&◌, ◌≤ℤ◌, ℕ, true};
+ghost use Rattle.std.specs.Prelude.{◌≡◌, ◌≤◌, ◌<◌, ◌^◌, ◌-◌, ◌*◌, ◌&&◌, ◌≤ℤ◌, ℕ, true};
 ghost use Rattle.std.specs.Int.{w64, cast_unsigned};
 ghost use Rattle.insn.specs.Insn.{bytes_of};
 ghost use Rattle.semantics.specs.declared.value.Value.{Value};
 ghost use Rattle.absval.specs.Contains.{Contains, is_number};
+ghost use Rattle.absval.specs.Table.{ends_of, immediate_known, loaded_known, joined as known_joined, joined_offsets};
 
 use crate::value::{AbsVal, Offsets};
 use insn::Size;
@@ -13,6 +14,7 @@ use semantics::Region;
 pub fn immediate(n: i32) -> AbsVal
     ensures number { is_number result ≡ true }
     ensures holds { Contains result (Value.Number (cast_unsigned w64 n)) }
+    ensures exact { ends_of result ≡ immediate_known n }
 {
     AbsVal::Number(Range::exactly(i64::from(n).cast_unsigned()))
 }
@@ -21,6 +23,7 @@ pub fn immediate(n: i32) -> AbsVal
 pub fn loaded(size: Size) -> AbsVal
     ensures number { is_number result ≡ true }
     ensures holds { (n : ℕ) → n < 256 ^ bytes_of size → Contains result (Value.Number n) }
+    ensures exact { ends_of result ≡ loaded_known size }
 {
     AbsVal::Number(numbers_of(size))
 }
@@ -29,6 +32,7 @@ pub fn loaded(size: Size) -> AbsVal
 fn numbers_of(size: Size) -> Range
     ensures high { (n : ℕ) → n < 256 ^ bytes_of size → n ≤ result.hi }
     ensures low { result.lo ≡ 0 }
+    ensures exact { result.hi ≡ 256 ^ bytes_of size - 1 }
 {
     let hi = match size {
         Size::Byte => 0xff,
@@ -44,6 +48,7 @@ pub fn join(a: AbsVal, b: AbsVal) -> AbsVal
     ensures left { (v : Value) → Contains a v → Contains result v }
     ensures right { (v : Value) → Contains b v → Contains result v }
     ensures number { is_number result ≡ (is_number a && is_number b) }
+    ensures exact { ends_of result ≡ known_joined (ends_of a) (ends_of b) }
 {
     match (a, b) {
         (AbsVal::Number(m), AbsVal::Number(n)) => AbsVal::Number(m.join(n)),
@@ -63,6 +68,7 @@ fn joined(m: Offsets, n: Offsets) -> Offsets
     ensures low_right { result.low ≤ℤ n.low }
     ensures high_left { m.high ≤ℤ result.high }
     ensures high_right { n.high ≤ℤ result.high }
+    ensures exact { (result.low, result.high) ≡ joined_offsets (m.low, m.high) (n.low, n.high) }
 {
     Offsets {
         low: m.low.min(n.low),

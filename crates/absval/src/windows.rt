@@ -1,7 +1,7 @@
 ghost use Rattle.std.specs.Prelude.{pos, ◌≡◌, ◌≢◌, ◌+◌, ◌≤◌, ◌≤ℤ◌, ◌+ℤ◌, ℕ, ℤ, IfSome, IfNone, IsSome, IsOk};
 ghost use Rattle.semantics.specs.declared.value.Region.{Region};
 ghost use Rattle.semantics.specs.Memory.{window as window_at};
-ghost use Rattle.absval.specs.Windows.{room_of, base_of, LiesIn};
+ghost use Rattle.absval.specs.Windows.{room_of, base_of, LiesIn, window_known};
 
 use crate::value::Offsets;
 use semantics::Region;
@@ -79,6 +79,7 @@ fn place_at(region: Region, offset: i32, distance: i16) -> Option<usize>
 /// The cells that an access of so many bytes may touch, a distance from a pointer, where all of them lie in its region.
 pub fn window_of(region: Region, offsets: Offsets, distance: i16, size: usize) -> Option<Window>
     requires { size ≤ 4096 }
+    ensures exact { result ≡ window_known region offsets.low offsets.high distance size }
     ensures fits { IfSome result (λ w. w.place + w.size ≤ room_of region) }
     ensures holds { IfSome result (λ w. (o : ℤ) → offsets.low ≤ℤ o → o ≤ℤ offsets.high →
         LiesIn w.place w.size size (window_at region (o +ℤ distance) size)) }
@@ -93,6 +94,7 @@ pub fn window_of(region: Region, offsets: Offsets, distance: i16, size: usize) -
 /// The same, from the least offset to the greatest.
 fn window_between(region: Region, low: i32, high: i32, distance: i16, size: usize) -> Option<Window>
     requires { size ≤ 4096 }
+    ensures exact { result ≡ window_known region low high distance size }
     ensures fits { IfSome result (λ w. w.place + w.size ≤ room_of region) }
     ensures holds { IfSome result (λ w. (o : ℤ) → low ≤ℤ o → o ≤ℤ high → LiesIn w.place w.size size (window_at region (o +ℤ distance) size)) }
     ensures there { low ≤ℤ high → IsOk (window_at region (low +ℤ distance) size) → IsOk (window_at region (high +ℤ distance) size) → IsSome result }

@@ -120,48 +120,14 @@ pub fn name(mnemonic: Mnemonic) -> &'static str
     ensures { result.now ≡ name_of mnemonic }
 {
     match mnemonic {
-        Mnemonic::Arithmetic(Width::W64, Operation::Add) => "add",
-        Mnemonic::Arithmetic(Width::W32, Operation::Add) => "add.w",
-        Mnemonic::Arithmetic(Width::W64, Operation::And) => "and",
-        Mnemonic::Arithmetic(Width::W32, Operation::And) => "and.w",
-        Mnemonic::Arithmetic(Width::W64, Operation::ShiftSigned) => "arsh",
-        Mnemonic::Arithmetic(Width::W32, Operation::ShiftSigned) => "arsh.w",
-        Mnemonic::Swap(ByteOrder::Big, SwapSize::Half) => "be16",
-        Mnemonic::Swap(ByteOrder::Big, SwapSize::Word) => "be32",
-        Mnemonic::Swap(ByteOrder::Big, SwapSize::Double) => "be64",
+        Mnemonic::Arithmetic(width, operation) => arithmetic_name(width, operation),
+        Mnemonic::SignExtend(width, part) => sign_extend_name(width, part),
+        Mnemonic::Swap(order, size) => swap_name(order, size),
+        Mnemonic::Branch(width, condition) => branch_name(width, condition),
         Mnemonic::Call => "call",
-        Mnemonic::Arithmetic(Width::W64, Operation::Div) => "div",
-        Mnemonic::Arithmetic(Width::W32, Operation::Div) => "div.w",
         Mnemonic::Exit => "exit",
         Mnemonic::Jump => "ja",
         Mnemonic::LongJump => "ja.w",
-        Mnemonic::Branch(Width::W64, Condition::Equal) => "jeq",
-        Mnemonic::Branch(Width::W32, Condition::Equal) => "jeq.w",
-        Mnemonic::Branch(Width::W64, Condition::Above) => "jgt",
-        Mnemonic::Branch(Width::W32, Condition::Above) => "jgt.w",
-        Mnemonic::Branch(Width::W64, Condition::AtLeast) => "jge",
-        Mnemonic::Branch(Width::W32, Condition::AtLeast) => "jge.w",
-        Mnemonic::Branch(Width::W64, Condition::AnyBit) => "jset",
-        Mnemonic::Branch(Width::W32, Condition::AnyBit) => "jset.w",
-        Mnemonic::Branch(Width::W64, Condition::Different) => "jne",
-        Mnemonic::Branch(Width::W32, Condition::Different) => "jne.w",
-        Mnemonic::Branch(Width::W64, Condition::SignedAbove) => "jsgt",
-        Mnemonic::Branch(Width::W32, Condition::SignedAbove) => "jsgt.w",
-        Mnemonic::Branch(Width::W64, Condition::SignedAtLeast) => "jsge",
-        Mnemonic::Branch(Width::W32, Condition::SignedAtLeast) => "jsge.w",
-        Mnemonic::Branch(Width::W64, Condition::Below) => "jlt",
-        Mnemonic::Branch(Width::W32, Condition::Below) => "jlt.w",
-        Mnemonic::Branch(Width::W64, Condition::AtMost) => "jle",
-        Mnemonic::Branch(Width::W32, Condition::AtMost) => "jle.w",
-        Mnemonic::Branch(Width::W64, Condition::SignedBelow) => "jslt",
-        Mnemonic::Branch(Width::W32, Condition::SignedBelow) => "jslt.w",
-        Mnemonic::Branch(Width::W64, Condition::SignedAtMost) => "jsle",
-        Mnemonic::Branch(Width::W32, Condition::SignedAtMost) => "jsle.w",
-        Mnemonic::Swap(ByteOrder::Little, SwapSize::Half) => "le16",
-        Mnemonic::Swap(ByteOrder::Little, SwapSize::Word) => "le32",
-        Mnemonic::Swap(ByteOrder::Little, SwapSize::Double) => "le64",
-        Mnemonic::Arithmetic(Width::W64, Operation::ShiftLeft) => "lsh",
-        Mnemonic::Arithmetic(Width::W32, Operation::ShiftLeft) => "lsh.w",
         Mnemonic::Load(Size::Byte) => "ldb",
         Mnemonic::Load(Size::Half) => "ldh",
         Mnemonic::Load(Size::Word) => "ldw",
@@ -170,25 +136,8 @@ pub fn name(mnemonic: Mnemonic) -> &'static str
         Mnemonic::LoadSigned(Narrow::Half) => "ldsh",
         Mnemonic::LoadSigned(Narrow::Word) => "ldsw",
         Mnemonic::LoadNumber => "lddw",
-        Mnemonic::Arithmetic(Width::W64, Operation::Move) => "mov",
-        Mnemonic::Arithmetic(Width::W32, Operation::Move) => "mov.w",
-        Mnemonic::Arithmetic(Width::W64, Operation::Mul) => "mul",
-        Mnemonic::Arithmetic(Width::W32, Operation::Mul) => "mul.w",
-        Mnemonic::Arithmetic(Width::W64, Operation::Mod) => "mod",
-        Mnemonic::Arithmetic(Width::W32, Operation::Mod) => "mod.w",
-        Mnemonic::SignExtend(Width::W64, Narrow::Byte) => "movsx8",
-        Mnemonic::SignExtend(Width::W32, Narrow::Byte) => "movsx8.w",
-        Mnemonic::SignExtend(Width::W64, Narrow::Half) => "movsx16",
-        Mnemonic::SignExtend(Width::W32, Narrow::Half) => "movsx16.w",
-        Mnemonic::SignExtend(Width::W64, Narrow::Word) => "movsx32",
         Mnemonic::Negate(Width::W64) => "neg",
         Mnemonic::Negate(Width::W32) => "neg.w",
-        Mnemonic::Arithmetic(Width::W64, Operation::Or) => "or",
-        Mnemonic::Arithmetic(Width::W32, Operation::Or) => "or.w",
-        Mnemonic::Arithmetic(Width::W64, Operation::ShiftRight) => "rsh",
-        Mnemonic::Arithmetic(Width::W32, Operation::ShiftRight) => "rsh.w",
-        Mnemonic::Arithmetic(Width::W64, Operation::Sub) => "sub",
-        Mnemonic::Arithmetic(Width::W32, Operation::Sub) => "sub.w",
         Mnemonic::StoreRegister(Size::Byte) => "stxb",
         Mnemonic::StoreRegister(Size::Half) => "stxh",
         Mnemonic::StoreRegister(Size::Word) => "stxw",
@@ -197,16 +146,103 @@ pub fn name(mnemonic: Mnemonic) -> &'static str
         Mnemonic::StoreNumber(Size::Half) => "sth",
         Mnemonic::StoreNumber(Size::Word) => "stw",
         Mnemonic::StoreNumber(Size::Double) => "std",
-        Mnemonic::Arithmetic(Width::W64, Operation::SignedDiv) => "sdiv",
-        Mnemonic::Arithmetic(Width::W32, Operation::SignedDiv) => "sdiv.w",
-        Mnemonic::Arithmetic(Width::W64, Operation::SignedMod) => "smod",
-        Mnemonic::Arithmetic(Width::W32, Operation::SignedMod) => "smod.w",
-        Mnemonic::Swap(ByteOrder::Reversed, SwapSize::Half) => "swap16",
-        Mnemonic::Swap(ByteOrder::Reversed, SwapSize::Word) => "swap32",
-        Mnemonic::Swap(ByteOrder::Reversed, SwapSize::Double) => "swap64",
-        Mnemonic::Arithmetic(Width::W64, Operation::Xor) => "xor",
-        Mnemonic::Arithmetic(Width::W32, Operation::Xor) => "xor.w",
-        Mnemonic::SignExtend(Width::W32, Narrow::Word) => "movsx32.w",
+    }
+}
+
+/// The word of an operation.
+fn arithmetic_name(width: Width, operation: Operation) -> &'static str
+    ensures { result.now ≡ name_of (Mnemonic.Arithmetic width operation) }
+{
+    match (width, operation) {
+        (Width::W64, Operation::Add) => "add",
+        (Width::W32, Operation::Add) => "add.w",
+        (Width::W64, Operation::And) => "and",
+        (Width::W32, Operation::And) => "and.w",
+        (Width::W64, Operation::ShiftSigned) => "arsh",
+        (Width::W32, Operation::ShiftSigned) => "arsh.w",
+        (Width::W64, Operation::Div) => "div",
+        (Width::W32, Operation::Div) => "div.w",
+        (Width::W64, Operation::ShiftLeft) => "lsh",
+        (Width::W32, Operation::ShiftLeft) => "lsh.w",
+        (Width::W64, Operation::Move) => "mov",
+        (Width::W32, Operation::Move) => "mov.w",
+        (Width::W64, Operation::Mul) => "mul",
+        (Width::W32, Operation::Mul) => "mul.w",
+        (Width::W64, Operation::Mod) => "mod",
+        (Width::W32, Operation::Mod) => "mod.w",
+        (Width::W64, Operation::Or) => "or",
+        (Width::W32, Operation::Or) => "or.w",
+        (Width::W64, Operation::ShiftRight) => "rsh",
+        (Width::W32, Operation::ShiftRight) => "rsh.w",
+        (Width::W64, Operation::Sub) => "sub",
+        (Width::W32, Operation::Sub) => "sub.w",
+        (Width::W64, Operation::SignedDiv) => "sdiv",
+        (Width::W32, Operation::SignedDiv) => "sdiv.w",
+        (Width::W64, Operation::SignedMod) => "smod",
+        (Width::W32, Operation::SignedMod) => "smod.w",
+        (Width::W64, Operation::Xor) => "xor",
+        (Width::W32, Operation::Xor) => "xor.w",
+    }
+}
+
+/// The word of a conditional jump.
+fn branch_name(width: Width, condition: Condition) -> &'static str
+    ensures { result.now ≡ name_of (Mnemonic.Branch width condition) }
+{
+    match (width, condition) {
+        (Width::W64, Condition::Equal) => "jeq",
+        (Width::W32, Condition::Equal) => "jeq.w",
+        (Width::W64, Condition::Above) => "jgt",
+        (Width::W32, Condition::Above) => "jgt.w",
+        (Width::W64, Condition::AtLeast) => "jge",
+        (Width::W32, Condition::AtLeast) => "jge.w",
+        (Width::W64, Condition::AnyBit) => "jset",
+        (Width::W32, Condition::AnyBit) => "jset.w",
+        (Width::W64, Condition::Different) => "jne",
+        (Width::W32, Condition::Different) => "jne.w",
+        (Width::W64, Condition::SignedAbove) => "jsgt",
+        (Width::W32, Condition::SignedAbove) => "jsgt.w",
+        (Width::W64, Condition::SignedAtLeast) => "jsge",
+        (Width::W32, Condition::SignedAtLeast) => "jsge.w",
+        (Width::W64, Condition::Below) => "jlt",
+        (Width::W32, Condition::Below) => "jlt.w",
+        (Width::W64, Condition::AtMost) => "jle",
+        (Width::W32, Condition::AtMost) => "jle.w",
+        (Width::W64, Condition::SignedBelow) => "jslt",
+        (Width::W32, Condition::SignedBelow) => "jslt.w",
+        (Width::W64, Condition::SignedAtMost) => "jsle",
+        (Width::W32, Condition::SignedAtMost) => "jsle.w",
+    }
+}
+
+/// The word of a sign extension.
+fn sign_extend_name(width: Width, part: Narrow) -> &'static str
+    ensures { result.now ≡ name_of (Mnemonic.SignExtend width part) }
+{
+    match (width, part) {
+        (Width::W64, Narrow::Byte) => "movsx8",
+        (Width::W32, Narrow::Byte) => "movsx8.w",
+        (Width::W64, Narrow::Half) => "movsx16",
+        (Width::W32, Narrow::Half) => "movsx16.w",
+        (Width::W64, Narrow::Word) => "movsx32",
+        (Width::W32, Narrow::Word) => "movsx32.w",
+    }
+}
+
+/// The word of a change of byte order.
+fn swap_name(order: ByteOrder, size: SwapSize) -> &'static str
+    ensures { result.now ≡ name_of (Mnemonic.Swap order size) }
+{
+    match (order, size) {
+        (ByteOrder::Big, SwapSize::Half) => "be16",
+        (ByteOrder::Big, SwapSize::Word) => "be32",
+        (ByteOrder::Big, SwapSize::Double) => "be64",
+        (ByteOrder::Little, SwapSize::Half) => "le16",
+        (ByteOrder::Little, SwapSize::Word) => "le32",
+        (ByteOrder::Little, SwapSize::Double) => "le64",
+        (ByteOrder::Reversed, SwapSize::Half) => "swap16",
+        (ByteOrder::Reversed, SwapSize::Word) => "swap32",
+        (ByteOrder::Reversed, SwapSize::Double) => "swap64",
     }
 }
 

@@ -1,6 +1,6 @@
 //! Instructions as text.
 
-ghost use Rattle.std.specs.Prelude.{◌≡◌, ◌++◌, codes, decimal, string_bytes, OnOk};
+ghost use Rattle.std.specs.Prelude.{◌≡◌, ◌++◌, [], ◌∷◌, codes, decimal, string_bytes, OnOk};
 ghost use Rattle.std.specs.Fmt.{signed_decimal};
 ghost use Rattle.asm.specs.Printing.{register_text, operand_text, signed_text, place_text, word_of, operands_of, operands_text, line_text};
 
@@ -112,58 +112,100 @@ fn mnemonic_for(insn: &Insn) -> Mnemonic
     }
 }
 
+/// A register alone.
+fn put_target(out: &mut String, dst: Reg) -> Result<(), AllocError>
+    ensures { OnOk result (string_bytes out.new ≡ string_bytes out.old ++ operands_text (register_text dst ∷ [])) }
+{
+    out.push_str(" ")?;
+    put_register(out, dst)
+}
+
+/// A register and an operand.
+fn put_pair(out: &mut String, dst: Reg, operand: Operand) -> Result<(), AllocError>
+    ensures { OnOk result (string_bytes out.new ≡ string_bytes out.old ++ operands_text (register_text dst ∷ operand_text operand ∷ [])) }
+{
+    out.push_str(" ")?;
+    put_register(out, dst)?;
+    put_comma(out)?;
+    put_operand(out, operand)
+}
+
+/// A register and a number of 64 bits.
+fn put_wide(out: &mut String, dst: Reg, number: u64) -> Result<(), AllocError>
+    ensures { OnOk result (string_bytes out.new ≡ string_bytes out.old ++ operands_text (register_text dst ∷ decimal number ∷ [])) }
+{
+    out.push_str(" ")?;
+    put_register(out, dst)?;
+    put_comma(out)?;
+    put_unsigned(out, number)
+}
+
+/// A distance alone.
+fn put_distance(out: &mut String, distance: i64) -> Result<(), AllocError>
+    ensures { OnOk result (string_bytes out.new ≡ string_bytes out.old ++ operands_text (signed_text distance ∷ [])) }
+{
+    out.push_str(" ")?;
+    put_signed(out, distance)
+}
+
+/// What a branch compares, and its distance.
+fn put_branch(out: &mut String, dst: Reg, operand: Operand, distance: i16) -> Result<(), AllocError>
+    ensures { OnOk result (string_bytes out.new ≡ string_bytes out.old ++ operands_text (register_text dst ∷ operand_text operand ∷ signed_text distance ∷ [])) }
+{
+    out.push_str(" ")?;
+    put_register(out, dst)?;
+    put_comma(out)?;
+    put_operand(out, operand)?;
+    put_comma(out)?;
+    put_signed(out, distance as i64)
+}
+
+/// A register, and the place that it is loaded from.
+fn put_load(out: &mut String, dst: Reg, base: Reg, offset: i16) -> Result<(), AllocError>
+    ensures { OnOk result (string_bytes out.new ≡ string_bytes out.old ++ operands_text (register_text dst ∷ place_text base offset ∷ [])) }
+{
+    out.push_str(" ")?;
+    put_register(out, dst)?;
+    put_comma(out)?;
+    put_place(out, base, offset)
+}
+
+/// A place, and what is stored there.
+fn put_store(out: &mut String, base: Reg, offset: i16, source: Operand) -> Result<(), AllocError>
+    ensures { OnOk result (string_bytes out.new ≡ string_bytes out.old ++ operands_text (place_text base offset ∷ operand_text source ∷ [])) }
+{
+    out.push_str(" ")?;
+    put_place(out, base, offset)?;
+    put_comma(out)?;
+    put_operand(out, source)
+}
+
+/// A helper's number.
+fn put_helper(out: &mut String, helper: i32) -> Result<(), AllocError>
+    ensures { OnOk result (string_bytes out.new ≡ string_bytes out.old ++ operands_text (signed_decimal helper ∷ [])) }
+{
+    out.push_str(" ")?;
+    put_number(out, helper as i64)
+}
+
 /// The operands, a comma and a space between them.
 fn put_operands(out: &mut String, insn: &Insn) -> Result<(), AllocError>
     ensures { OnOk result (string_bytes out.new ≡ string_bytes out.old ++ operands_text (operands_of insn.now)) }
 {
     match insn {
-        Insn::Arithmetic { dst, operand, .. } => {
-            out.push_str(" ")?;
-            put_register(out, *dst)?;
-            put_comma(out)?;
-            put_operand(out, *operand)
-        }
-        Insn::Negate { dst, .. } => {
-            out.push_str(" ")?;
-            put_register(out, *dst)
-        }
-        Insn::SignExtend { dst, src, .. } => {
-            out.push_str(" ")?;
-            put_register(out, *dst)?;
-            put_comma(out)?;
-            put_register(out, *src)
-        }
-        Insn::Swap { dst, .. } => {
-            out.push_str(" ")?;
-            put_register(out, *dst)
-        }
-        Insn::LoadNumber { dst, number } => {
-            out.push_str(" ")?;
-            put_register(out, *dst)?;
-            put_comma(out)?;
-            put_unsigned(out, *number)
-        }
-        Insn::Jump { distance } => {
-            out.push_str(" ")?;
-            put_signed(out, *distance as i64)
-        }
-        Insn::LongJump { distance } => {
-            out.push_str(" ")?;
-            put_signed(out, *distance as i64)
-        }
+        Insn::Arithmetic { dst, operand, .. } => put_pair(out, *dst, *operand),
+        Insn::Negate { dst, .. } => put_target(out, *dst),
+        Insn::SignExtend { dst, src, .. } => put_pair(out, *dst, Operand::Register(*src)),
+        Insn::Swap { dst, .. } => put_target(out, *dst),
+        Insn::LoadNumber { dst, number } => put_wide(out, *dst, *number),
+        Insn::Jump { distance } => put_distance(out, *distance as i64),
+        Insn::LongJump { distance } => put_distance(out, *distance as i64),
         Insn::Branch {
             dst,
             operand,
             distance,
             ..
-        } => {
-            out.push_str(" ")?;
-            put_register(out, *dst)?;
-            put_comma(out)?;
-            put_operand(out, *operand)?;
-            put_comma(out)?;
-            put_signed(out, *distance as i64)
-        }
+        } => put_branch(out, *dst, *operand, *distance),
         Insn::Load {
             dst,
             base,
@@ -175,27 +217,14 @@ fn put_operands(out: &mut String, insn: &Insn) -> Result<(), AllocError>
             base,
             offset,
             ..
-        } => {
-            out.push_str(" ")?;
-            put_register(out, *dst)?;
-            put_comma(out)?;
-            put_place(out, *base, *offset)
-        }
+        } => { put_load(out, *dst, *base, *offset) }
         Insn::Store {
             base,
             offset,
             source,
             ..
-        } => {
-            out.push_str(" ")?;
-            put_place(out, *base, *offset)?;
-            put_comma(out)?;
-            put_operand(out, *source)
-        }
-        Insn::Call { helper } => {
-            out.push_str(" ")?;
-            put_number(out, *helper as i64)
-        }
+        } => put_store(out, *base, *offset, *source),
+        Insn::Call { helper } => put_helper(out, *helper),
         Insn::Exit => Ok(()),
     }
 }

@@ -4,7 +4,7 @@ ghost use Rattle.semantics.specs.Replies.{words_in};
 ghost use Rattle.board.specs.Board.{IsBoard, reply, next};
 ghost use Rattle.board.specs.Requests.{IsRequest};
 
-use semantics::{Reply, Request, Slot};
+use semantics::{Copied, Reply, Request, Slot};
 use std::alloc::{AllocError, Global};
 
 /// What the types of a request keep: its words are on the board, and what it writes are words.
@@ -62,6 +62,9 @@ fn copied(alloc: Global, words: &[u64; 64], slot: usize, count: usize) -> Result
     ensures { IfOk result (λ r. words_in r ≡ take count (drop slot words.now)) }
 {
     let copy = Vec::from_slice(alloc, &words[slot..slot + count])?;
+    let Some(copy) = Copied::new(copy) else {
+        unreachable!()
+    };
     Ok(Reply::Words(copy))
 }
 

@@ -1,3 +1,5 @@
 pub mod BenchLemmas
+pub mod FaultLemmas
 pub mod LineLemmas
 pub mod RefusalLemmas
+pub mod BoardRunLemmas

@@ -5,7 +5,7 @@ use Rattle.insn.specs.declared.insn.Insn.{Insn}
 use Rattle.semantics.specs.Plain.{IsPlain}
 use Rattle.codec.specs.Program.{SpellsProgram}
 use Rattle.verify.specs.declared.fault.Fault.{Fault}
-use Rattle.verify.specs.declared.fault.Fault.TheVariants.{BackJump, JumpOut, JumpInWide, LastNotExit, Unset, FrameWrite, PointerUse, Bounds, StackUnset, ContextWrite, Helper, ExitPointer, Memory}
+use Rattle.verify.specs.declared.fault.Fault.TheVariants.{BackJump, JumpOut, JumpInWide, LastNotExit, Unset, FrameWrite, PointerUse, Bounds, StackUnset, ContextWrite, Helper, Argument, ExitPointer, Memory}
 use Rattle.verify.specs.Structure.{structural_fault, IsOwnFault}
 use Rattle.lab.specs.declared.refusal.Refusal.{Refusal}
 use Rattle.lab.specs.Refusals.{verifier_refusal, RefusesProgram, RefusesCheck}
@@ -36,6 +36,7 @@ by_fault bytes program (Bounds unit) spells r = (program, spells, named program 
 by_fault bytes program (StackUnset unit) spells r = (program, spells, named program (StackUnset unit) (λ e. cc) r)
 by_fault bytes program (ContextWrite unit) spells r = (program, spells, named program (ContextWrite unit) (λ e. cc) r)
 by_fault bytes program (Helper unit) spells r = (program, spells, named program (Helper unit) (λ e. cc) r)
+by_fault bytes program (Argument unit) spells r = (program, spells, named program (Argument unit) (λ e. cc) r)
 by_fault bytes program (ExitPointer unit) spells r = (program, spells, named program (ExitPointer unit) (λ e. cc) r)
 by_fault bytes program Memory spells r = tt
 

@@ -1,31 +1,26 @@
 -- What a task prints on a file of some bytes.
-use Rattle.std.specs.Prelude.{ℕ, ◌≡◌, List, [], Some, Ok, length}
+use Rattle.std.specs.Prelude.{ℕ, ◌≡◌, List, Some, Ok, length}
 use Rattle.insn.specs.declared.insn.Insn.{Insn}
 use Rattle.insn.specs.Program.{slots_of}
 use Rattle.semantics.specs.Run.{IsSound}
-use Rattle.semantics.specs.State.{entry}
 use Rattle.codec.specs.Program.{SpellsProgram}
-use Rattle.machine.specs.Advance.{Exits, bench_shape}
-use Rattle.machine.specs.declared.pause.Ended.{Ended}
 use Rattle.asm.specs.Program.{program_of}
 use Rattle.asm.specs.Printing.{text_of}
 use Rattle.book.specs.Grammar.{table_told}
 use Rattle.book.specs.Table.{MessageTable}
 use Rattle.command_line.specs.declared.tasks.Task.{Task}
 use Rattle.command_line.specs.declared.tasks.Task.TheVariants.{Check, Assemble, Disassemble, Book}
-use Rattle.lab.specs.Bench.{bench_bytes}
+use Rattle.lab.specs.Bench.{bench_bytes, bench_shape}
+use Rattle.lab.specs.BoardRun.{IsServed}
 use Rattle.lab.specs.Lines.{checked_lines, decision_lines, hex_line}
 use Rattle.lab.specs.declared.checking.Checked.{Checked}
 
--- the program is sound, and its run in the bench context ended so
+-- the program is sound, and its run in the bench context, with a board that begins with zeros, ended so
 pub record IsRun (program : List Insn) (checked : Checked) : Type 0 where
   pub sound : IsSound program
   pub instructions : checked.instructions ≡ length program
   pub units : checked.units ≡ length (slots_of program)
-  pub ended : Ended
-  pub exits : Exits program bench_bytes bench_shape [] (length program) (entry []) ended
-  pub r0 : ended.r0 ≡ Some checked.r0
-  pub steps : ended.steps ≡ checked.steps
+  pub served : IsServed program bench_bytes bench_shape checked.r0 checked.steps
 
 -- the bytes spell a program, and this is its run
 abbrev pub Checks : List ℕ → Checked → Type 0

@@ -2,6 +2,11 @@
 use Rattle.std.specs.Prelude.{ℕ, List, [], ◌∷◌, ◌++◌, replicate}
 use Rattle.std.specs.Int.{to_le_bytes, w32}
 use Rattle.std.specs.List.{flat_map}
+use Rattle.label.specs.declared.shape.Shape.{Shape}
+
+-- whose relay the bench is: the last of 4 generals in the first round under the first, who relays nothing
+abbrev pub bench_shape : Shape
+bench_shape = record { generals = 4; commander = 0; general = 3; round = 1 }
 
 -- n, m, me, commander, round, count, receivers
 abbrev pub bench_numbers : List ℕ

@@ -1,5 +1,7 @@
 pub mod Answers
 pub mod Bench
+pub mod BoardRun
 pub mod Faults
 pub mod Lines
 pub mod Refusals
+pub mod Serving

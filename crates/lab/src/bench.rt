@@ -1,6 +1,8 @@
 ghost use Rattle.std.specs.Prelude.{◌≡◌, IfOk, vec_len};
-ghost use Rattle.lab.specs.Bench.{bench_bytes};
+ghost use Rattle.label.specs.Relay.{IsShape};
+ghost use Rattle.lab.specs.Bench.{bench_bytes, bench_shape};
 
+use label::Shape;
 use std::alloc::{AllocError, Global};
 
 /// n, m, me, commander, round, count and receivers of the bench: the last of 4 generals, in the
@@ -18,4 +20,17 @@ pub fn bench_context(alloc: Global) -> Result<Vec<u8>, AllocError>
     }
     bytes.resize(4096, 0)?;
     Ok(bytes)
+}
+
+/// Whose relay the bench is.
+pub fn bench_shape() -> Shape
+    ensures same { result ≡ bench_shape }
+    ensures within { IsShape result }
+{
+    Shape {
+        generals: 4,
+        commander: 0,
+        general: 3,
+        round: 1,
+    }
 }

@@ -1,15 +1,19 @@
 ghost use Rattle.std.specs.Prelude.{◌≡◌, IfOk, IfErr, string_bytes};
-ghost use Rattle.lab.specs.Answers.{Checks};
+ghost use Rattle.lab.specs.Answers.{Checks, IsRun};
+ghost use Rattle.lab.specs.Bench.{bench_shape};
 ghost use Rattle.lab.specs.Lines.{checked_lines};
 ghost use Rattle.lab.specs.Refusals.{RefusesCheck};
+ghost use Rattle.lab.specs.BoardRun.{IsServed};
 
-use crate::bench::bench_context;
+use crate::bench::{bench_context, bench_shape};
 use crate::refusal::Refusal;
+use board::Board;
 use codec::decode;
 use machine::{Activation, Pause};
 use mem::Context;
+use outbox::Outbox;
 use std::alloc::{AllocError, Global};
-use verify::verify;
+use verify::{Verified, verify};
 
 /// An accepted program and its run in the bench context.
 #[derive(Clone, Copy, Debug, PartialEq, Eq)]
@@ -23,7 +27,7 @@ pub struct Checked {
     pub steps: u32,
 }
 
-/// Decodes, verifies and runs a program.
+/// Decodes, verifies and runs a program. The board that it asks is its own, and begins with zeros.
 ///
 /// # Errors
 ///
@@ -37,6 +41,13 @@ pub fn check(alloc: Global, bytes: &[u8]) -> Result<Checked, Refusal>
         Ok(verified) => verified,
         Err(refusal) => return Err(Refusal::from(refusal.fault)),
     };
+    Ok(run(alloc, &verified)?)
+}
+
+/// Runs a program in the bench context.
+fn run(alloc: Global, verified: &Verified) -> Result<Checked, AllocError>
+    ensures { IfOk result (IsRun verified.now) }
+{
     let numbers = bench_context(alloc)?;
     let Some(context) = Context::new(numbers.as_slice()) else {
         unreachable!();
@@ -44,19 +55,48 @@ pub fn check(alloc: Global, bytes: &[u8]) -> Result<Checked, Refusal>
     let program = verified.program();
     let instructions = program.len();
     let units = program.units();
-    let activation = Activation::start(&verified, &context);
-    let Pause::Done(ended) = activation.advance(&verified, &context, instructions as u32) else {
-        unreachable!();
-    };
-    let Some(r0) = ended.r0 else {
-        unreachable!();
-    };
+    let Exit { r0, steps } = serve_board(alloc, verified, &context)?;
     Ok(Checked {
         instructions,
         units,
         r0,
-        steps: ended.steps,
+        steps,
     })
+}
+
+/// How a program has exited.
+struct Exit {
+    r0: u64,
+    steps: u32,
+}
+
+/// Runs a program to its exit, with a board that begins with zeros.
+fn serve_board(alloc: Global, verified: &Verified, context: &Context) -> Result<Exit, AllocError>
+    ensures { IfOk result (λ e. IsServed verified.now context.now bench_shape e.r0 e.steps) }
+{
+    let shape = bench_shape();
+    let limit = verified.program().len() as u32;
+    let mut board = Board::new(alloc, [0; 64]);
+    let mut activation = Activation::start(verified, context, Outbox::new(alloc, shape)?);
+    loop {
+        match activation.advance(verified, context, limit) {
+            Pause::Board(request, waiting) => {
+                let reply = board.apply(shape.general, shape.round, request)?;
+                activation = waiting.answer(reply);
+            }
+            Pause::Done(ended) => {
+                let _accesses = board.ledger();
+                let Some(r0) = ended.r0 else {
+                    unreachable!();
+                };
+                return Ok(Exit {
+                    r0,
+                    steps: ended.steps,
+                });
+            }
+            Pause::Cut(_) => unreachable!(),
+        }
+    }
 }
 
 /// What a check prints.

@@ -7,7 +7,12 @@ mod bench;
 mod checking;
 mod deciding;
 mod refusal;
+#[cfg(test)]
+mod sandbox_call_tests;
+#[cfg(test)]
+mod sandbox_tests;
 mod serving;
+mod streams;
 #[cfg(test)]
 mod tests;
 
@@ -18,3 +23,4 @@ pub use checking::{Checked, check};
 pub use deciding::decided;
 pub use refusal::Refusal;
 pub use serving::serve;
+pub use streams::{Sink, Source};

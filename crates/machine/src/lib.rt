@@ -2,11 +2,16 @@
 #![tactic(auto)]
 
 mod activation;
+mod arguments;
 mod arithmetic;
+mod calls;
 mod execution;
 mod flow;
 mod pause;
 mod registers;
+mod replies;
+mod waiting;
 
 pub use activation::Activation;
 pub use pause::{Ended, Pause};
+pub use waiting::Waiting;

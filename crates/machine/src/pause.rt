@@ -1,19 +1,37 @@
+ghost use Rattle.std.specs.Prelude.{◌≡◌};
+
 use crate::activation::Activation;
+use crate::waiting::Waiting;
+use outbox::Outbox;
+use semantics::Request;
 
 /// What is left of an activation.
-#[derive(Clone, Copy, Debug, PartialEq, Eq)]
+#[derive(Drop)]
 pub struct Ended {
     /// What the program exited with; nothing where it did not exit.
     pub r0: Option<u64>,
     /// How many steps it took.
     pub steps: u32,
+    /// What it has put.
+    pub outbox: Outbox,
 }
 
 /// Where an activation stands still.
 #[derive(Drop)]
 pub enum Pause {
+    /// The program asks the board.
+    Board(Request, Waiting),
     /// The program has exited.
     Done(Ended),
     /// It has taken as many steps as the limit says.
     Cut(Activation),
+}
+
+impl Pause {
+    /// It stands at a request.
+    pub(crate) fn asked(waiting: Waiting) -> Pause
+        ensures { result ≡ Pause.Board waiting.request waiting }
+    {
+        Pause::Board(waiting.request(), waiting)
+    }
 }

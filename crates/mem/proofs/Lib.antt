@@ -3,3 +3,4 @@ pub mod Numbers
 pub mod Writing
 pub mod StoredPointers
 pub mod Loading
+pub mod InARow

@@ -25,13 +25,13 @@ at_window : (context : List ℕ) (stack : List Cell) (size : ℕ) (region : Regi
 at_window context stack size region (Ok place) = ap (λ (l : List Cell). Ok l) (range_is (region_cells context stack region) place size)
 at_window context stack size region (Err cause) = refl
 
-cells_are : (context : List ℕ) (stack : List Cell) (size : ℕ) (base : Value) (distance : ℤ) →
+pub cells_are : (context : List ℕ) (stack : List Cell) (size : ℕ) (base : Value) (distance : ℤ) →
     cells_at context stack base distance size ≡ given (place_at base distance size) (λ p. Ok (part_at context stack size p))
 cells_are context stack size Unset distance = refl
 cells_are context stack size (Number n) distance = refl
 cells_are context stack size (Pointer region offset) distance = at_window context stack size region (window region (offset +ℤ distance) size)
 
-twice : {A B C : Type 0} (r : Result A Cause) (f : A → B) (g : B → Result C Cause) → given (given r (λ a. Ok (f a))) g ≡ given r (λ a. g (f a))
+pub twice : {A B C : Type 0} (r : Result A Cause) (f : A → B) (g : B → Result C Cause) → given (given r (λ a. Ok (f a))) g ≡ given r (λ a. g (f a))
 twice (Ok a) f g = refl
 twice (Err cause) f g = refl
 

@@ -70,7 +70,7 @@ little_bytes-split a b n =
     let e : 0 + a ≡ a + 0 = omega arith in
     bytes_split 0 a b n ∙ ap (λ (l : List ℕ). little_bytes a n ++ l) (ap (λ (k : ℕ). bytes_low_first k b n) e ∙ high_bytes a 0 b n)
 
-length-little : (from size n : ℕ) → length (bytes_low_first from size n) ≡ size
+pub length-little : (from size n : ℕ) → length (bytes_low_first from size n) ≡ size
 length-little from zero n = refl
 length-little from (suc size) n = ap suc (length-little (suc from) size n)
 

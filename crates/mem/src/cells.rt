@@ -43,7 +43,7 @@ fn half_at(cells: &[Cell; 512], place: usize) -> Option<u16>
 }
 
 /// The number in 4 cells.
-fn word_at(cells: &[Cell; 512], place: usize) -> Option<u32>
+pub fn word_at(cells: &[Cell; 512], place: usize) -> Option<u32>
     requires { place + 4 ≤ 512 }
     ensures { Reads cells.now place 4 result }
 {

@@ -59,6 +59,14 @@ impl<'a> Context<'a> {
             Size::Double => double_at(self.bytes, place),
         }
     }
+
+    /// The number that 4 bytes spell, the lowest first.
+    pub(crate) fn word(&self, place: usize) -> u32
+        requires { place + 4 ≤ 4096 }
+        ensures { result ≡ little_number (take 4 (drop place self.now)) }
+    {
+        word_at(self.bytes, place)
+    }
 }
 
 /// The number in 2 bytes.

@@ -6,10 +6,12 @@ mod cells;
 mod context;
 mod fault;
 mod pieces;
+mod rows;
 mod stack;
 mod window;
 
 pub use access::{load, load_signed, store};
 pub use context::Context;
 pub use fault::MemoryFault;
+pub use rows::{load_row, store_words};
 pub use stack::Stack;

@@ -1,11 +1,11 @@
-ghost use Rattle.std.specs.Prelude.{◌≡◌, ◌+◌, ◌≤◌, replicate, slice_range, take, drop, map};
+ghost use Rattle.std.specs.Prelude.{◌≡◌, ◌+◌, ◌≤◌, replicate, slice_range, take, drop, map, length};
 ghost use Rattle.word.specs.Bytes.{little_bytes};
 ghost use Rattle.insn.specs.Insn.{bytes_of};
 ghost use Rattle.semantics.specs.Memory.{value_in, bytes_in, overwritten, pieces_of};
 ghost use Rattle.mem.specs.Answers.{IsAnswer};
 ghost use Rattle.mem.specs.Reading.{number_in};
 
-use crate::cells::{number_at, put_number};
+use crate::cells::{number_at, put_number, word_at};
 use crate::fault::MemoryFault;
 use crate::pieces::{are_pieces, put_pieces};
 use insn::Size;
@@ -44,6 +44,13 @@ impl Stack {
         }
     }
 
+    /// It has all its cells.
+    pub(crate) fn tell(&self)
+        ensures { length self.now ≡ 512 }
+    {
+        let _ = &self.cells;
+    }
+
     /// What a load of the window finds.
     pub(crate) fn value(&self, place: usize, size: Size) -> Result<Value, MemoryFault>
         requires { place + bytes_of size ≤ 512 }
@@ -71,6 +78,17 @@ impl Stack {
         ensures { IsAnswer (number_in (take (bytes_of size) (drop place self.now))) result }
     {
         match number_at(&self.cells, place, size) {
+            Some(number) => Ok(number),
+            None => Err(MemoryFault::NoBytes),
+        }
+    }
+
+    /// The number that 4 bytes spell.
+    pub(crate) fn word(&self, place: usize) -> Result<u32, MemoryFault>
+        requires { place + 4 ≤ 512 }
+        ensures { IsAnswer (number_in (take 4 (drop place self.now))) result }
+    {
+        match word_at(&self.cells, place) {
             Some(number) => Ok(number),
             None => Err(MemoryFault::NoBytes),
         }

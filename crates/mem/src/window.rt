@@ -24,7 +24,7 @@ fn bytes_of(size: Size) -> usize
 
 /// The place of a window in a room of so many bytes.
 fn inside(room: usize, size: usize, place: i64) -> Result<usize, MemoryFault>
-    requires { size ≤ 8 }
+    requires { size ≤ 512 }
     ensures answer { IsAnswer (inside room size place) result }
     ensures fits { IfOk result (λ p. p + size ≤ room) }
 {
@@ -40,21 +40,23 @@ fn inside(room: usize, size: usize, place: i64) -> Result<usize, MemoryFault>
 }
 
 /// The place of a window in its region.
-fn window(region: Region, offset: i32, distance: i16, size: Size) -> Result<usize, MemoryFault>
-    ensures answer { IsAnswer (window region (offset +ℤ distance) (bytes_of size)) result }
-    ensures fits { IfOk result (λ p. p + bytes_of size ≤ room_of region) }
+fn window(region: Region, offset: i32, distance: i16, size: usize) -> Result<usize, MemoryFault>
+    requires { size ≤ 512 }
+    ensures answer { IsAnswer (window region (offset +ℤ distance) size) result }
+    ensures fits { IfOk result (λ p. p + size ≤ room_of region) }
 {
     let offset = i64::from(offset) + i64::from(distance);
     match region {
-        Region::Stack => inside(512, bytes_of(size), offset + 512),
-        Region::Context => inside(4096, bytes_of(size), offset),
+        Region::Stack => inside(512, size, offset + 512),
+        Region::Context => inside(4096, size, offset),
     }
 }
 
-/// The region that a window lies in, and its place there.
-pub fn place_at(base: Value, distance: i16, size: Size) -> Result<(Region, usize), MemoryFault>
-    ensures answer { IsAnswer (place_at base distance (bytes_of size)) result }
-    ensures fits { IfOk result (λ p. p.1 + bytes_of size ≤ room_of p.0) }
+/// The region that a window of so many bytes lies in, and its place there.
+pub fn part_at(base: Value, distance: i16, size: usize) -> Result<(Region, usize), MemoryFault>
+    requires { size ≤ 512 }
+    ensures answer { IsAnswer (place_at base distance size) result }
+    ensures fits { IfOk result (λ p. p.1 + size ≤ room_of p.0) }
 {
     match base {
         Value::Unset => Err(MemoryFault::UnsetRegister),
@@ -66,10 +68,19 @@ pub fn place_at(base: Value, distance: i16, size: Size) -> Result<(Region, usize
     }
 }
 
-/// The place of a window that is written.
-pub fn stack_place(base: Value, distance: i16, size: Size) -> Result<usize, MemoryFault>
-    ensures answer { IsAnswer (stack_place base distance (bytes_of size)) result }
-    ensures fits { IfOk result (λ p. p + bytes_of size ≤ 512) }
+/// The region that a window lies in, and its place there.
+pub fn place_at(base: Value, distance: i16, size: Size) -> Result<(Region, usize), MemoryFault>
+    ensures answer { IsAnswer (place_at base distance (bytes_of size)) result }
+    ensures fits { IfOk result (λ p. p.1 + bytes_of size ≤ room_of p.0) }
+{
+    part_at(base, distance, bytes_of(size))
+}
+
+/// The place of a window of so many bytes that is written.
+pub fn stack_part(base: Value, distance: i16, size: usize) -> Result<usize, MemoryFault>
+    requires { size ≤ 512 }
+    ensures answer { IsAnswer (stack_place base distance size) result }
+    ensures fits { IfOk result (λ p. p + size ≤ 512) }
 {
     match base {
         Value::Unset => Err(MemoryFault::UnsetRegister),
@@ -77,4 +88,12 @@ pub fn stack_place(base: Value, distance: i16, size: Size) -> Result<usize, Memo
         Value::Pointer(Region::Stack, offset) => window(Region::Stack, offset, distance, size),
         Value::Pointer(Region::Context, _) => Err(MemoryFault::ContextWrite),
     }
+}
+
+/// The place of a window that is written.
+pub fn stack_place(base: Value, distance: i16, size: Size) -> Result<usize, MemoryFault>
+    ensures answer { IsAnswer (stack_place base distance (bytes_of size)) result }
+    ensures fits { IfOk result (λ p. p + bytes_of size ≤ 512) }
+{
+    stack_part(base, distance, bytes_of(size))
 }

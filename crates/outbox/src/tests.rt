@@ -1,17 +1,16 @@
 use crate::{Outbox, Shape};
+use std::alloc::AllocError;
 
 /// General 3 of 4 under commander 0: in round 2 he relays label 0 to 1 and 2.
 #[test]
-fn relays_one_label(rt: HostRuntime) {
+fn relays_one_label(rt: HostRuntime) -> Result<(), AllocError> {
     let shape = Shape {
         generals: 4,
         commander: 0,
         general: 3,
         round: 2,
     };
-    let Ok(mut outbox) = Outbox::new(rt.alloc(), shape) else {
-        return;
-    };
+    let mut outbox = Outbox::new(rt.alloc(), shape)?;
     assert_eq!(rt; outbox.get(0, 1), None);
     assert_eq!(rt; outbox.sway(1, 0), 1);
     assert_eq!(rt; outbox.sway(2, 0), 1);
@@ -28,20 +27,20 @@ fn relays_one_label(rt: HostRuntime) {
     assert_eq!(rt; outbox.honest(&context, 1), 1);
     assert_eq!(rt; outbox.get(0, 1), Some(256));
     assert_eq!(rt; outbox.shape().round, 2);
+    Ok(())
 }
 
 /// A lieutenant relays nothing in round 1.
 #[test]
-fn relays_nothing(rt: HostRuntime) {
+fn relays_nothing(rt: HostRuntime) -> Result<(), AllocError> {
     let shape = Shape {
         generals: 4,
         commander: 0,
         general: 3,
         round: 1,
     };
-    let Ok(mut outbox) = Outbox::new(rt.alloc(), shape) else {
-        return;
-    };
+    let mut outbox = Outbox::new(rt.alloc(), shape)?;
     assert_eq!(rt; outbox.sway(1, 0), 0);
     assert_eq!(rt; outbox.get(0, 1), None);
+    Ok(())
 }

@@ -1,6 +1,7 @@
 mod Rows
 pub mod RunLaws
 pub mod StepLaws
+pub mod AskingExample
 pub mod SoundExample
 pub mod WholeLaws
 pub mod SafetyLaws

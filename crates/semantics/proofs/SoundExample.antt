@@ -13,6 +13,7 @@ use Rattle.semantics.specs.Execution.{step}
 use Rattle.semantics.specs.Run.{onwards, after, IsOver, IsTrapped}
 use Rattle.semantics.specs.Plain.{IsIn, IsOfNumbers, IsStart, reads, writes, leads_to, Unwritten, at_entry, along}
 use Rattle.semantics.specs.Examples.{answer, bare_exit, SomeArePlainAndSound}
+use Rattle.semantics.proofs.AskingExample.{asks_never_traps, asks_ends, asks_not_plain}
 
 never_traps : (context : List ℕ) (shape : Shape) (answers : List (List ℕ)) (k : ℕ) → IsTrapped (after answer context shape answers k) → ⊥
 unfolding onwards step
@@ -89,6 +90,11 @@ some_are = record {
   sound = record {
     never_traps = λ context shape answers k c h t. never_traps context shape answers k t;
     ends = λ context shape answers k c h le. ends context shape answers k le;
+  };
+  asks_not_plain = asks_not_plain;
+  asks_sound = record {
+    never_traps = λ context shape answers k c h t. asks_never_traps context shape answers k t;
+    ends = λ context shape answers k c h le. asks_ends context shape answers k le;
   };
   not_plain = λ plain. plain.written_before 0 0 i.Exit refl (inl refl) at_entry;
   not_sound = λ sound. sound.never_traps (replicate 4096 0) (record { generals = 4; commander = 0; general = 3; round = 1 }) [] 1

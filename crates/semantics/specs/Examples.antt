@@ -1,9 +1,9 @@
--- That the definitions are met and not always met: two small programs (own).
+-- That the definitions are met and not always met: three small programs (own).
 use Rattle.std.specs.Prelude.{pos, List, [], ◌∷◌}
 use Rattle.word.specs.declared.Width.TheVariants.{W64}
 use Rattle.word.specs.declared.Operation.TheVariants.{Move}
 use Rattle.insn.specs.declared.insn.Insn.{Insn}
-use Rattle.insn.specs.declared.insn.Insn.TheVariants.{Arithmetic, Exit}
+use Rattle.insn.specs.declared.insn.Insn.TheVariants.{Arithmetic, Call, Exit}
 use Rattle.insn.specs.declared.insn.Operand.TheVariants.{Immediate}
 use Rattle.semantics.specs.Run.{IsSound}
 use Rattle.semantics.specs.Plain.{IsPlain}
@@ -12,13 +12,19 @@ use Rattle.semantics.specs.Plain.{IsPlain}
 abbrev pub answer : List Insn
 answer = Arithmetic W64 Move 0 (Immediate (pos 42)) ∷ Exit ∷ []
 
+-- mov r1, 0; call board_get; exit
+abbrev pub asks : List Insn
+asks = Arithmetic W64 Move 1 (Immediate (pos 0)) ∷ Call (pos 1) ∷ Exit ∷ []
+
 -- exit, with r0 unset
 abbrev pub bare_exit : List Insn
 bare_exit = Exit ∷ []
 
--- the first is plain and sound, the second is neither
+-- the first is plain and sound, the second sound whatever the board answers and not plain, the third is neither
 pub record SomeArePlainAndSound : Type 0 where
   pub plain : IsPlain answer
   pub sound : IsSound answer
+  pub asks_not_plain : IsPlain asks → ⊥
+  pub asks_sound : IsSound asks
   pub not_plain : IsPlain bare_exit → ⊥
   pub not_sound : IsSound bare_exit → ⊥

@@ -5,4 +5,4 @@ use Rattle.semantics.specs.declared.reply.Reply.TheVariants.{Word, Words}
 
 abbrev pub words_in : Reply → List ℕ
 words_in (Word word) = word ∷ []
-words_in (Words words) = words.items
+words_in (Words words) = words

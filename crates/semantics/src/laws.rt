@@ -33,7 +33,7 @@ pub fn reached_is_safe()
     ensures { ReachedIsSafe }
 {}
 
-/// A program that is plain and sound, and one that is neither: the definitions are neither empty nor full.
+/// A program that is plain and sound, one that asks the board and is sound, and one that is neither: the definitions are neither empty nor full.
 pub fn some_are_plain_and_sound()
     ensures { SomeArePlainAndSound }
 {}

@@ -11,6 +11,6 @@ pub use laws::{
     runs_stay_over, some_are_plain_and_sound, sound_is_safe_at_entry, states_stay_whole,
     steps_are_counted,
 };
-pub use reply::Reply;
+pub use reply::{Copied, Reply};
 pub use request::{Helper, Request, Slot, Span};
 pub use value::{Cell, Region, Value};

@@ -3,7 +3,7 @@ pub mod Starts
 pub mod Edges
 pub mod Walk
 pub mod PlainWalk
-pub mod QuietLaws
+pub mod SafeLaws
 pub mod Zips
 pub mod Numbers
 pub mod EdgeEnds
@@ -14,3 +14,12 @@ pub mod StepLemmas
 pub mod BranchLemmas
 pub mod Loads
 pub mod StoreLemmas
+pub mod CallArguments
+pub mod CallRegisters
+pub mod CallWindows
+pub mod CallLemmas
+pub mod Seen
+pub mod SeenEdges
+pub mod MemoryRows
+pub mod StepReasons
+pub mod InstructionLemmas

@@ -1,10 +1,9 @@
--- The invariant of the forward pass: if each state that is described at a unit to come is quiet, the entry is.
+-- The invariant of the forward pass: if each state that is described at a unit to come is safe, the entry is.
 use Rattle.std.proofs.Common.{◌≡◌, ℕ, suc, ◌+◌, ◌<◌, ◌≤◌, List, [], ◌∷◌, Option, Some, None, length, arith, sym, ap, refl, subst, ⊎_elim}
 use Rattle.std.specs.Prelude.{pos, IsSome}
 use Rattle.std.proofs.lemmas.Bool.{cases_lt}
 use Rattle.std.proofs.lemmas.Int.{ints}
 use Rattle.insn.specs.declared.insn.Insn.{Insn}
-use Rattle.insn.specs.declared.insn.Insn.TheVariants.{Call}
 use Rattle.insn.specs.Program.{slots_of, instruction_at}
 use Rattle.label.specs.declared.shape.Shape.{Shape}
 use Rattle.label.specs.Relay.{IsShape}
@@ -12,24 +11,25 @@ use Rattle.semantics.specs.State.{State, Outcome, entry}
 use Rattle.semantics.specs.Outbox.{empty_outbox}
 use Rattle.semantics.specs.Execution.{step, executed, fetched}
 use Rattle.semantics.specs.Run.{IsContext}
-use Rattle.semantics.specs.Safety.{LeadsTo}
+use Rattle.semantics.specs.Safety.{LeadsTo, IsSafe}
+use Rattle.semantics.proofs.SafetyLaws.{IsSafe-longer}
 use Rattle.semantics.specs.Plain.{IsIn, leads_to}
 use Rattle.verify.specs.Forward.{IsForward}
-use Rattle.verify.specs.Quiet.{IsNoCall, IsQuiet, StartsQuiet}
-use Rattle.verify.specs.Outcomes.{IsNotCall}
+use Rattle.verify.specs.Safe.{StartsSafe}
+use Rattle.verify.specs.Outcomes.{IsSetting}
 use Rattle.verify.specs.Slots.{Slot, IsAt, IsPassed}
 use Rattle.verify.proofs.Edges.{start_inside}
 use Rattle.verify.proofs.Starts.{left, left-le, left-falls, left-bound}
-use Rattle.verify.proofs.QuietLaws.{leads_weaker, IsQuiet-longer, IsQuiet-step}
+use Rattle.verify.proofs.SafeLaws.{leads_weaker, IsSafe-step}
 
 -- what a state owes at the units from one on
 abbrev pub Rest : List Insn → List ℕ → Shape → List Slot → ℕ → Type 0
-Rest program context shape pending unit = (s : State) → unit ≤ s.unit → IsSome (instruction_at program s.unit) → IsAt pending s.unit s → IsQuiet program context shape (left program s.unit) s
+Rest program context shape pending unit = (s : State) → unit ≤ s.unit → IsSome (instruction_at program s.unit) → IsAt pending s.unit s → IsSafe program context shape (left program s.unit) s
 
--- if that is paid, the entry is quiet
+-- if that is paid, the entry is safe
 abbrev pub EntryRests : List Insn → List Slot → ℕ → Type 0
 EntryRests program pending unit = (context : List ℕ) (shape : Shape) → IsContext context → IsShape shape → Rest program context shape pending unit →
-    IsQuiet program context shape (length program) (entry (empty_outbox shape))
+    IsSafe program context shape (length program) (entry (empty_outbox shape))
 
 step_at : (program : List Insn) (context : List ℕ) (shape : Shape) (unit : ℕ) (i : Insn) (s : State) → instruction_at program unit ≡ Some i → s.unit ≡ unit →
     step program context shape s ≡ executed context shape i s
@@ -38,48 +38,43 @@ step_at program context shape unit i s at e =
     let here : instruction_at program s.unit ≡ Some i = subst (λ (u : ℕ). instruction_at program u ≡ Some i) (sym e) at in
     ap (λ (o : Option Insn). fetched context shape o s) here
 
-no_call_at : (program : List Insn) (unit v : ℕ) (i : Insn) → instruction_at program unit ≡ Some i → v ≡ unit → IsNotCall i → IsNoCall program v
-no_call_at program unit v i at e none helper call =
-    let same : i ≡ Call helper = let here = subst (λ (u : ℕ). instruction_at program u ≡ Some (Call helper)) e call in cc in
-    subst (λ (j : Insn). IsNotCall j) same none
-
 module _ (program : List Insn) (context : List ℕ) (shape : Shape) (old new : List Slot) (unit : ℕ) (forward : IsForward program) (passed : IsPassed program unit old new)
-    (c : IsContext context) (rest : Rest program context shape new (unit + 1)) where
-  -- a state at the unit is quiet
-  quiet_here : (i : Insn) (s : State) → instruction_at program unit ≡ Some i → s.unit ≡ unit → IsAt old unit s → IsQuiet program context shape (left program unit) s
-  quiet_here i s at e kept =
-      let leads = passed.leads i context shape s c at e kept in
+    (setting : IsSetting context shape) (rest : Rest program context shape new (unit + 1)) where
+  -- a state at the unit is safe
+  safe_here : (i : Insn) (s : State) → instruction_at program unit ≡ Some i → s.unit ≡ unit → IsAt old unit s → IsSafe program context shape (left program unit) s
+  safe_here i s at e kept =
+      let leads = passed.leads i context shape s setting at e kept in
       let less : left program (unit + 1) + 1 ≤ left program unit = left-falls program unit (unit + 1) i at (omega arith) in
-      let later : (t : State) → IsIn (pos t.unit) (leads_to i unit) × IsAt new t.unit t → IsQuiet program context shape (left program (unit + 1)) t = λ t h.
+      let later : (t : State) → IsIn (pos t.unit) (leads_to i unit) × IsAt new t.unit t → IsSafe program context shape (left program (unit + 1)) t = λ t h.
       let edge = forward.edges unit i at (pos t.unit) h.0 in
       let lt : unit + 1 ≤ t.unit = let z = edge.0 in omega (arith, ints) in
       let same : t.unit ≡ edge.1.0 = let y = edge.1.1 in cc in
       let some : IsSome (instruction_at program t.unit) = subst (λ (v : ℕ). IsSome (instruction_at program v)) (sym same) edge.1.2 in
-      IsQuiet-longer program context shape (left program t.unit) (left program (unit + 1)) t (left-le program (unit + 1) t.unit lt) (rest t lt some h.1) in
-      let follows = leads_weaker (λ t. IsIn (pos t.unit) (leads_to i unit) × IsAt new t.unit t) (λ t. IsQuiet program context shape (left program (unit + 1)) t) (executed context shape i s) later leads.1 in
-      let steps = subst (λ (o : Outcome). LeadsTo (λ t. IsQuiet program context shape (left program (unit + 1)) t) o) (sym (step_at program context shape unit i s at e)) follows in
+      IsSafe-longer program context shape (left program t.unit) (left program (unit + 1)) t (left-le program (unit + 1) t.unit lt) (rest t lt some h.1) in
+      let follows = leads_weaker (λ t. IsIn (pos t.unit) (leads_to i unit) × IsAt new t.unit t) (λ t. IsSafe program context shape (left program (unit + 1)) t) (executed context shape i s) later leads in
+      let steps = subst (λ (o : Outcome). LeadsTo (λ t. IsSafe program context shape (left program (unit + 1)) t) o) (sym (step_at program context shape unit i s at e)) follows in
       let more : suc (left program (unit + 1)) ≤ left program unit = omega arith in
-      IsQuiet-longer program context shape (suc (left program (unit + 1))) (left program unit) s more
-      (IsQuiet-step program context shape (left program (unit + 1)) s (no_call_at program unit s.unit i at e leads.0) steps)
+      IsSafe-longer program context shape (suc (left program (unit + 1))) (left program unit) s more
+      (IsSafe-step program context shape (left program (unit + 1)) s steps)
 
 some_is : (o : Option Insn) → IsSome o → (i : Insn) × (o ≡ Some i)
 some_is None some = absurd (cc)
 some_is (Some i) some = (i, refl)
 
 -- a unit is passed
-pub pass_step : (program : List Insn) (context : List ℕ) (shape : Shape) (old new : List Slot) (unit : ℕ) → IsForward program → IsPassed program unit old new → IsContext context →
+pub pass_step : (program : List Insn) (context : List ℕ) (shape : Shape) (old new : List Slot) (unit : ℕ) → IsForward program → IsPassed program unit old new → IsSetting context shape →
     Rest program context shape new (unit + 1) → Rest program context shape old unit
-pass_step program context shape old new unit forward passed c rest s le some kept = ⊎_elim
+pass_step program context shape old new unit forward passed setting rest s le some kept = ⊎_elim
     (λ lt. rest s (omega arith) some (passed.keeps s.unit s lt kept))
     (λ ge. let e : s.unit ≡ unit = omega arith in
     let found = some_is (instruction_at program s.unit) some in
     let at = subst (λ (u : ℕ). instruction_at program u ≡ Some found.0) e found.1 in
-    subst (λ (u : ℕ). IsQuiet program context shape (left program u) s) (sym e)
-    (quiet_here program context shape old new unit forward passed c rest found.0 s at e (subst (λ (u : ℕ). IsAt old u s) e kept)))
+    subst (λ (u : ℕ). IsSafe program context shape (left program u) s) (sym e)
+    (safe_here program context shape old new unit forward passed setting rest found.0 s at e (subst (λ (u : ℕ). IsAt old u s) e kept)))
     (cases_lt unit s.unit)
 
 pub rests_step : (program : List Insn) (old new : List Slot) (unit : ℕ) → IsForward program → IsPassed program unit old new → EntryRests program old unit → EntryRests program new (unit + 1)
-rests_step program old new unit forward passed rests context shape c h rest = rests context shape c h (pass_step program context shape old new unit forward passed c rest)
+rests_step program old new unit forward passed rests context shape c h rest = rests context shape c h (pass_step program context shape old new unit forward passed (record { is_context = c; is_shape = h }) rest)
 
 first_start : (program : List Insn) → 0 < length (slots_of program) → IsSome (instruction_at program 0)
 first_start [] lt = absurd (omega arith)
@@ -89,7 +84,7 @@ first_start (i ∷ is) lt = refl
 pub rests_start : (program : List Insn) (pending : List Slot) → 0 < length (slots_of program) → ((shape : Shape) → IsAt pending 0 (entry (empty_outbox shape))) → EntryRests program pending 0
 rests_start program pending lt kept context shape c h rest =
     let start = entry (empty_outbox shape) in
-    IsQuiet-longer program context shape (left program 0) (length program) start (left-bound program 0) (rest start (omega arith) (first_start program lt) (kept shape))
+    IsSafe-longer program context shape (left program 0) (length program) start (left-bound program 0) (rest start (omega arith) (first_start program lt) (kept shape))
 
 -- behind the last unit nothing is owed
 pub pass_end : (program : List Insn) (context : List ℕ) (shape : Shape) (pending : List Slot) (unit : ℕ) → length (slots_of program) ≤ unit → Rest program context shape pending unit
@@ -97,8 +92,8 @@ pass_end program context shape pending unit le s m some kept =
     let inside : s.unit < length (slots_of program) = start_inside program s.unit some in
     absurd (omega arith)
 
--- so at the end the program starts quiet
-pub rests_end : (program : List Insn) (pending : List Slot) (unit : ℕ) → length (slots_of program) ≤ unit → EntryRests program pending unit → StartsQuiet program
+-- so at the end the program starts safe
+pub rests_end : (program : List Insn) (pending : List Slot) (unit : ℕ) → length (slots_of program) ≤ unit → EntryRests program pending unit → StartsSafe program
 rests_end program pending unit le rests = record {
-  quiet = λ context shape c h. rests context shape c h (pass_end program context shape pending unit le);
+  safe = λ context shape c h. rests context shape c h (pass_end program context shape pending unit le);
 }

@@ -9,6 +9,7 @@ use Rattle.insn.specs.Insn.{units_of}
 use Rattle.semantics.specs.declared.value.Value.{Value}
 use Rattle.semantics.specs.State.{State, Outcome, Next, Ask, Trap}
 use Rattle.semantics.specs.State.{Exit as Exited}
+use Rattle.semantics.specs.Call.{resumed}
 use Rattle.semantics.specs.Step.{first_operand, result_of}
 use Rattle.semantics.specs.Plain.{IsIn, leads_to}
 use Rattle.absval.specs.declared.value.AbsVal.{AbsVal}
@@ -16,7 +17,7 @@ use Rattle.absval.specs.Contains.{Contains, Gives, is_number}
 use Rattle.verify.specs.declared.state.AbsState.{AbsState}
 use Rattle.verify.specs.Gamma.{Describes}
 use Rattle.verify.specs.Reads.{AllNumbers}
-use Rattle.verify.specs.Outcomes.{GoesOn, IsStraight}
+use Rattle.verify.specs.Outcomes.{StandsAt, GoesOn, IsStraight}
 use Rattle.verify.specs.Slots.{Slot, IsAt, Arrives}
 use Rattle.verify.proofs.EdgeEnds.{straight_edge}
 
@@ -73,12 +74,16 @@ pub arithmetic_number : (made : Option AbsVal) (xs ys : List ℕ) (known : List 
 arithmetic_number made xs ys known a b p q numbers all =
     some_and made (numbers (p (λ r lt h. all r lt (in_left r xs ys h))) (q (λ r lt h. all r lt (in_right r xs ys h))))
 
+stands_arrives : (pending : List Slot) (i : Insn) (unit at : ℕ) (a : AbsState) (s t : State) → IsStraight i → s.unit ≡ unit → at ≡ unit + units_of i →
+    ((t : State) → Describes a t → IsAt pending at t) → StandsAt a (s.unit + units_of i) t → IsIn (pos t.unit) (leads_to i unit) × IsAt pending t.unit t
+stands_arrives pending i unit at a s t straight e f here stands =
+    let to : t.unit ≡ unit + units_of i = stands.0 ∙ ap (λ (n : ℕ). n + units_of i) e in
+    (subst (λ (n : ℕ). IsIn (pos n) (leads_to i unit)) (sym to) (straight_edge i unit straight), subst (λ (n : ℕ). IsAt pending n t) (f ∙ sym to) (here t stands.1))
+
 -- an instruction that goes on behind itself arrives there
 pub goes_arrives : (pending : List Slot) (i : Insn) (unit at : ℕ) (a : AbsState) (s : State) (o : Outcome) → IsStraight i → s.unit ≡ unit → at ≡ unit + units_of i →
     ((t : State) → Describes a t → IsAt pending at t) → GoesOn a (s.unit + units_of i) o → Arrives pending i unit o
-goes_arrives pending i unit at a s (Next t) straight e f here goes =
-    let to : t.unit ≡ unit + units_of i = goes.0 ∙ ap (λ (n : ℕ). n + units_of i) e in
-    (subst (λ (n : ℕ). IsIn (pos n) (leads_to i unit)) (sym to) (straight_edge i unit straight), subst (λ (n : ℕ). IsAt pending n t) (f ∙ sym to) (here t goes.1))
-goes_arrives pending i unit at a s (Ask request t) straight e f here goes = absurd goes
+goes_arrives pending i unit at a s (Next t) straight e f here goes = stands_arrives pending i unit at a s t straight e f here goes
+goes_arrives pending i unit at a s (Ask request t) straight e f here goes = λ answer fit. stands_arrives pending i unit at a s (resumed request answer t) straight e f here (goes answer fit)
 goes_arrives pending i unit at a s (Exited r0 t) straight e f here goes = absurd goes
 goes_arrives pending i unit at a s (Trap cause) straight e f here goes = absurd goes

@@ -28,12 +28,12 @@ byte_at-small : (i n : ℕ) → byte_at i n < 256
 byte_at-small zero n = omega arith
 byte_at-small (suc i) n = omega arith
 
-low_bytes : (from size n : ℕ) → AreBytes (map Byte (bytes_low_first from size n))
+pub low_bytes : (from size n : ℕ) → AreBytes (map Byte (bytes_low_first from size n))
 low_bytes from zero n k l = absurd (omega arith)
 low_bytes from (suc size) n zero l = byte_at-small from n
 low_bytes from (suc size) n (suc k) l = low_bytes (suc from) size n k (omega arith)
 
-length-low : (from size n : ℕ) → length (map Byte (bytes_low_first from size n)) ≡ size
+pub length-low : (from size n : ℕ) → length (map Byte (bytes_low_first from size n)) ≡ size
 length-low from zero n = refl
 length-low from (suc size) n = ap suc (length-low (suc from) size n)
 

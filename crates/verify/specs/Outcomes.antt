@@ -1,11 +1,13 @@
 -- Where an instruction leads, in terms of abstract states (own).
-use Rattle.std.specs.Prelude.{ℕ, ◌≡◌, ◌+◌, Bool, List, Result, Ok, Err}
+use Rattle.std.specs.Prelude.{ℕ, ◌≡◌, ◌+◌, Bool, true, List, Result, Ok, Err}
 use Rattle.insn.specs.declared.insn.Insn.{Insn}
-use Rattle.insn.specs.declared.insn.Insn.TheVariants.{Jump, LongJump, Branch, Call, Exit}
+use Rattle.insn.specs.declared.insn.Insn.TheVariants.{Jump, LongJump, Branch, Exit}
 use Rattle.insn.specs.Insn.{units_of}
 use Rattle.label.specs.declared.shape.Shape.{Shape}
+use Rattle.label.specs.Relay.{IsShape}
 use Rattle.semantics.specs.State.{Cause, State, Outcome, Next, Ask, Trap}
 use Rattle.semantics.specs.State.{Exit as Exited}
+use Rattle.semantics.specs.Call.{fits, resumed}
 use Rattle.semantics.specs.Execution.{executed}
 use Rattle.semantics.specs.Run.{IsContext}
 use Rattle.verify.specs.declared.state.AbsState.{AbsState}
@@ -16,16 +18,25 @@ abbrev pub IsTest : Result Bool Cause → Type 0
 IsTest (Ok b) = Unit {0}
 IsTest (Err cause) = ⊥
 
--- the program goes on at the unit, in a state that is described
+-- the state is at the unit, and described
+abbrev pub StandsAt : AbsState → ℕ → State → Type 0
+StandsAt a unit t = (t.unit ≡ unit) × Describes a t
+
+-- the program goes on there, whatever fitting answer comes
 abbrev pub GoesOn : AbsState → ℕ → Outcome → Type 0
-GoesOn a unit (Next t) = (t.unit ≡ unit) × Describes a t
-GoesOn a unit (Ask request t) = ⊥
+GoesOn a unit (Next t) = StandsAt a unit t
+GoesOn a unit (Ask request t) = (answer : List ℕ) → fits request answer ≡ true → StandsAt a unit (resumed request answer t)
 GoesOn a unit (Exited r0 t) = ⊥
 GoesOn a unit (Trap cause) = ⊥
 
+-- what a program runs in: a context, and the relay of a general of a campaign
+pub record IsSetting (context : List ℕ) (shape : Shape) : Type 0 where
+  pub is_context : IsContext context
+  pub is_shape : IsShape shape
+
 -- from every state that is described, the instruction goes on behind itself to one that is
 abbrev pub Follows : AbsState → Insn → AbsState → Type 0
-Follows old i new = (context : List ℕ) (shape : Shape) (s : State) → IsContext context → Describes old s → GoesOn new (s.unit + units_of i) (executed context shape i s)
+Follows old i new = (context : List ℕ) (shape : Shape) (s : State) → IsSetting context shape → Describes old s → GoesOn new (s.unit + units_of i) (executed context shape i s)
 
 abbrev pub IsEnd : Outcome → Type 0
 IsEnd (Next t) = ⊥
@@ -40,7 +51,3 @@ IsStraight (LongJump distance) = ⊥
 IsStraight (Branch width condition dst operand distance) = ⊥
 IsStraight Exit = ⊥
 IsStraight _ = Unit {0}
-
-abbrev pub IsNotCall : Insn → Type 0
-IsNotCall (Call helper) = ⊥
-IsNotCall _ = Unit {0}

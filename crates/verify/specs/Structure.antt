@@ -5,7 +5,7 @@ use Rattle.insn.specs.declared.insn.Insn.TheVariants.{Jump, LongJump, Branch, Ex
 use Rattle.insn.specs.Insn.{units_of}
 use Rattle.insn.specs.Program.{slots_of, instruction_at}
 use Rattle.verify.specs.declared.fault.Fault.{Fault}
-use Rattle.verify.specs.declared.fault.Fault.TheVariants.{BackJump, JumpOut, JumpInWide, LastNotExit, Unset, FrameWrite, PointerUse, Bounds, StackUnset, ContextWrite, Helper, ExitPointer, Memory}
+use Rattle.verify.specs.declared.fault.Fault.TheVariants.{BackJump, JumpOut, JumpInWide, LastNotExit, Unset, FrameWrite, PointerUse, Bounds, StackUnset, ContextWrite, Helper, Argument, ExitPointer, Memory}
 
 -- a test, and the fault that stands where it holds
 abbrev pub Check : Type 0
@@ -64,6 +64,7 @@ IsFaultAt at (Bounds unit) = unit ≡ at
 IsFaultAt at (StackUnset unit) = unit ≡ at
 IsFaultAt at (ContextWrite unit) = unit ≡ at
 IsFaultAt at (Helper unit) = unit ≡ at
+IsFaultAt at (Argument unit) = unit ≡ at
 IsFaultAt at (ExitPointer unit) = unit ≡ at
 IsFaultAt at Memory = Unit {0}
 
@@ -80,5 +81,6 @@ IsOwnFault program (Bounds unit) = IsSome (instruction_at program unit)
 IsOwnFault program (StackUnset unit) = IsSome (instruction_at program unit)
 IsOwnFault program (ContextWrite unit) = IsSome (instruction_at program unit)
 IsOwnFault program (Helper unit) = IsSome (instruction_at program unit)
+IsOwnFault program (Argument unit) = IsSome (instruction_at program unit)
 IsOwnFault program (ExitPointer unit) = IsSome (instruction_at program unit)
 IsOwnFault program Memory = Unit {0}

@@ -38,6 +38,9 @@ pub enum Fault {
     /// A helper is called that is not there.
     #[error("V11 unit {0}")]
     Helper(usize),
+    /// A helper is called with an argument that it may not take.
+    #[error("V12 unit {0}")]
+    Argument(usize),
     /// The program ends with a pointer in r0.
     #[error("V13 unit {0}")]
     ExitPointer(usize),

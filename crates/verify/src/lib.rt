@@ -2,6 +2,7 @@
 #![tactic(auto)]
 
 mod branches;
+mod calls;
 mod comparison;
 mod fault;
 mod memory;

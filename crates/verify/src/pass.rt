@@ -1,15 +1,21 @@
 //! The forward pass.
-ghost use Rattle.std.specs.Prelude.{◌≡◌, ◌≤◌, ◌<◌, ◌+◌, ◌∷◌, List, ℕ, pos, ◌<ℤ◌, ◌+ℤ◌, length, IfOk, IfErr, OnOk, IsOk, IsErrAnd, Ok};
-ghost use Rattle.insn.specs.Program.{slots_of};
+ghost use Rattle.std.specs.Prelude.{◌≡◌, ◌≤◌, ◌<◌, ◌+◌, ◌∷◌, List, ℕ, pos, ◌<ℤ◌, ◌+ℤ◌, length, IfOk, IfErr, OnOk, IsOk, IsErrAnd, Ok, option_map};
+ghost use Rattle.std.specs.Result.{result_err};
+ghost use Rattle.verify.specs.Faults.{fault_at};
+ghost use Rattle.verify.specs.Registers.{seen, known_at, operand_known, edge_known};
+ghost use Rattle.verify.specs.Reasons.{first_reason, compare_checks, exit_checks};
+ghost use Rattle.verify.specs.Flow.{JumpFlows, EdgeFlows, BranchFlows, Answers, slot_at};
+ghost use Rattle.verify.specs.Instructions.{straight_reason, reason_of, StraightFlows, StateFlows, AnswersAt, UnitFlows};
+ghost use Rattle.insn.specs.Program.{slots_of, instruction_at};
 ghost use Rattle.semantics.specs.State.{State};
 ghost use Rattle.semantics.specs.Plain.{IsIn, IsOfNumbers, IsPlain, operand_reads, writes};
 ghost use Rattle.verify.specs.Structure.{IsFaultAt, IsOwnFault};
 ghost use Rattle.verify.specs.Forward.{IsForward};
 ghost use Rattle.verify.specs.Gamma.{Describes};
 ghost use Rattle.verify.specs.Branches.{decided_by, branch_of};
-ghost use Rattle.verify.specs.Quiet.{StartsQuiet};
+ghost use Rattle.verify.specs.Safe.{StartsSafe};
 ghost use Rattle.verify.specs.Reads.{AllNumbers, AllRead};
-ghost use Rattle.verify.specs.Outcomes.{IsStraight, IsNotCall};
+ghost use Rattle.verify.specs.Outcomes.{IsStraight};
 ghost use Rattle.verify.specs.Slots.{Slot, IsAt, Keeps, LeadsOn, IsPassed, EdgesInside, EdgesForward, BlanksFrom, BlanksComeTo, BlanksAreUnwritten};
 
 use crate::comparison::Comparison;
@@ -33,11 +39,12 @@ fn pass_straight(
     requires edges { EdgesInside insn.now unit (length pending.old.items) }
     ensures length { length pending.new.items ≡ length pending.old.items }
     ensures leads { OnOk result (LeadsOn state.value insn.now unit pending.new.items) }
-    ensures no_call { OnOk result (IsNotCall insn.now) }
     ensures keeps { OnOk result (Keeps pending.old.items pending.new.items) }
     ensures own { IfErr result (IsFaultAt unit) }
     ensures plain { IsOfNumbers insn.now → (IsIn 10 (writes insn.now) → ⊥) → AllRead insn.now state.value.registers → IfErr result (λ fault. fault ≡ Fault.Memory) }
     ensures blanks { OnOk result (IsOfNumbers insn.now → AllRead insn.now state.value.registers → BlanksFrom insn.now unit state.value.registers pending.old.items pending.new.items) }
+    ensures refused { result_err result ≡ option_map (λ r. fault_at r unit) (straight_reason insn.now state.value) }
+    ensures flows { OnOk result (StraightFlows state.value insn.now unit pending.old.items pending.new.items) }
 {
     if let Err(reason) = steps::straight(&mut state, insn) {
         return Err(reason.at(unit));
@@ -55,6 +62,7 @@ fn pass_jump(unit: usize, distance: i32, state: Box<AbsState>, pending: &mut Pen
     ensures leads { LeadsOn state.value (Insn.LongJump distance) unit pending.new.items }
     ensures keeps { Keeps pending.old.items pending.new.items }
     ensures blanks { BlanksFrom (Insn.LongJump distance) unit state.value.registers pending.old.items pending.new.items }
+    ensures flows { JumpFlows distance state.value unit pending.old.items pending.new.items }
 {
     flow(pending, forward_target(unit, distance), state);
 }
@@ -72,6 +80,7 @@ fn pass_edge(
     ensures here { (s : State) → Describes state.value s → decided_by compared.now s.registers ≡ Ok taken → IsAt pending.new.items unit s }
     ensures keeps { Keeps pending.old.items pending.new.items }
     ensures blank { BlanksComeTo unit state.value.registers pending.old.items pending.new.items }
+    ensures exact { EdgeFlows (edge_known compared.now taken (seen state.value.registers)) state.value unit pending.old.items pending.new.items }
 {
     if branches::refine(&mut state.registers, compared, taken) {
         flow(pending, unit, state);
@@ -96,6 +105,8 @@ fn pass_branch(
     ensures own { IfErr result (IsFaultAt unit) }
     ensures plain { AllNumbers (compared.now.dst ∷ operand_reads compared.now.operand) state.value.registers → IfErr result (λ fault. fault ≡ Fault.Memory) }
     ensures blanks { OnOk result (BlanksFrom (branch_of compared.now distance) unit state.value.registers pending.old.items pending.new.items) }
+    ensures refused { Answers (first_reason (compare_checks (known_at (seen state.value.registers) compared.now.dst) (operand_known (seen state.value.registers) compared.now.operand))) unit result }
+    ensures flows { OnOk result (BranchFlows compared.now distance state.value unit pending.old.items pending.new.items) }
 {
     if let Err(reason) = steps::compare(&state, compared) {
         return Err(reason.at(unit));
@@ -114,6 +125,7 @@ fn pass_exit(unit: usize, state: Box<AbsState>) -> Result<(), Fault>
     ensures leads { OnOk result ((pending : List Slot) → LeadsOn state.value Insn.Exit unit pending) }
     ensures own { IfErr result (IsFaultAt unit) }
     ensures plain { AllRead Insn.Exit state.value.registers → IfErr result (λ fault. fault ≡ Fault.Memory) }
+    ensures refused { result_err result ≡ option_map (λ r. fault_at r unit) (first_reason (exit_checks (known_at (seen state.value.registers) 0))) }
 {
     if let Err(reason) = steps::exit(&state) {
         return Err(reason.at(unit));
@@ -134,11 +146,12 @@ fn pass_state(
     requires inside { EdgesInside insn.now unit (length pending.old.items) }
     ensures length { length pending.new.items ≡ length pending.old.items }
     ensures leads { OnOk result (LeadsOn state.value insn.now unit pending.new.items) }
-    ensures no_call { OnOk result (IsNotCall insn.now) }
     ensures keeps { OnOk result (Keeps pending.old.items pending.new.items) }
     ensures own { IfErr result (IsFaultAt unit) }
     ensures plain { IsOfNumbers insn.now → (IsIn 10 (writes insn.now) → ⊥) → AllRead insn.now state.value.registers → IfErr result (λ fault. fault ≡ Fault.Memory) }
     ensures blanks { OnOk result (IsOfNumbers insn.now → AllRead insn.now state.value.registers → BlanksFrom insn.now unit state.value.registers pending.old.items pending.new.items) }
+    ensures refused { Answers (reason_of insn.now state.value) unit result }
+    ensures flows { OnOk result (StateFlows insn.now state.value unit pending.old.items pending.new.items) }
 {
     match insn {
         Insn::Jump { distance } => {
@@ -184,6 +197,8 @@ fn pass_unit(
     ensures own { IfErr result (IsOwnFault program.now) }
     ensures plain { IsPlain program.now → BlanksAreUnwritten program.now pending.old.items unit → IfErr result (λ fault. fault ≡ Fault.Memory) }
     ensures blanks { OnOk result (IsPlain program.now → BlanksAreUnwritten program.now pending.old.items unit → BlanksAreUnwritten program.now pending.new.items (unit + 1)) }
+    ensures refused { AnswersAt (instruction_at program.now unit) (slot_at pending.old.items unit) unit result }
+    ensures flows { OnOk result (UnitFlows (instruction_at program.now unit) (slot_at pending.old.items unit) unit pending.old.items pending.new.items) }
 {
     let Some(insn) = program.at(unit) else {
         return Ok(());
@@ -197,7 +212,7 @@ fn pass_unit(
 /// The forward pass over a program whose every edge leads forward.
 pub fn pass(alloc: Global, program: &Program) -> Result<(), Fault>
     requires { IsForward program.now }
-    ensures quiet { OnOk result (StartsQuiet program.now) }
+    ensures safe { OnOk result (StartsSafe program.now) }
     ensures own { IfErr result (IsOwnFault program.now) }
     ensures plain { IsPlain program.now → IfErr result (λ fault. fault ≡ Fault.Memory) }
 {

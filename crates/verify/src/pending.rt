@@ -1,7 +1,8 @@
 //! The states that are kept for units to come.
-ghost use Rattle.std.specs.Prelude.{◌≡◌, ℕ, ◌<◌, ◌⊎◌, false, None, length, replicate, slice_index_or, slice_set, IfOk};
+ghost use Rattle.std.specs.Prelude.{◌≡◌, ℕ, ◌<◌, ◌⊎◌, false, None, Some, length, replicate, slice_index_or, slice_set, IfOk};
 ghost use Rattle.semantics.specs.State.{State};
 ghost use Rattle.verify.specs.Gamma.{Describes, has_number};
+ghost use Rattle.verify.specs.Flow.{Takes, Flows};
 ghost use Rattle.verify.specs.Slots.{Holds, IsAt, Keeps, IsBlank, BlanksComeTo};
 
 use crate::state::AbsState;
@@ -43,6 +44,7 @@ fn joined(kept: Option<Box<AbsState>>, mut state: Box<AbsState>) -> Box<AbsState
     ensures left { (s : State) → Holds kept s → Describes result.value s }
     ensures right { (s : State) → Describes state.value s → Describes result.value s }
     ensures blank { (r : ℕ) → r < 11 → has_number result.value.registers r ≡ false → IsBlank kept r ⊎ (has_number state.value.registers r ≡ false) }
+    ensures exact { Takes kept state.value (Some result) }
 {
     if let Some(other) = kept {
         state.join(&other);
@@ -57,6 +59,7 @@ pub fn flow(pending: &mut Pending, unit: usize, state: Box<AbsState>)
     ensures here { (s : State) → Describes state.value s → IsAt pending.new.items unit s }
     ensures keeps { Keeps pending.old.items pending.new.items }
     ensures blank { BlanksComeTo unit state.value.registers pending.old.items pending.new.items }
+    ensures exact { Flows state.value unit pending.old.items pending.new.items }
 {
     let kept = take(pending, unit);
     pending[unit] = Some(joined(kept, state));

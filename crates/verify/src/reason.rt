@@ -14,6 +14,7 @@ pub enum Reason {
     StackUnset,
     ContextWrite,
     Helper,
+    Argument,
     ExitPointer,
 }
 
@@ -31,6 +32,7 @@ impl Reason {
             Reason::StackUnset => Fault::StackUnset(unit),
             Reason::ContextWrite => Fault::ContextWrite(unit),
             Reason::Helper => Fault::Helper(unit),
+            Reason::Argument => Fault::Argument(unit),
             Reason::ExitPointer => Fault::ExitPointer(unit),
         }
     }

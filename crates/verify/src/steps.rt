@@ -1,5 +1,7 @@
 //! What one instruction does to what is known.
-ghost use Rattle.std.specs.Prelude.{◌≡◌, ◌≢◌, ℕ, ◌+◌, ◌++◌, true, List, [], ◌∷◌, IfSome, IsSome, IsOk, OnOk, Result};
+ghost use Rattle.std.specs.Prelude.{◌≡◌, ◌≢◌, ℕ, ◌+◌, ◌++◌, true, List, [], ◌∷◌, IfSome, IsSome, IsOk, OnOk, OnErr, Result, Some, None, option_map, if◌then◌else◌};
+ghost use Rattle.std.specs.Result.{result_ok, result_err};
+ghost use Rattle.range.specs.Table.{single};
 ghost use Rattle.word.specs.declared.Width.{Width};
 ghost use Rattle.label.specs.declared.shape.Shape.{Shape};
 ghost use Rattle.semantics.specs.declared.value.Value.{Value};
@@ -8,15 +10,20 @@ ghost use Rattle.semantics.specs.Step.{assigned};
 ghost use Rattle.semantics.specs.Execution.{executed};
 ghost use Rattle.semantics.specs.Plain.{IsIn, IsOfNumbers, operand_reads, first_reads, writes};
 ghost use Rattle.absval.specs.Contains.{Gives, is_number};
+ghost use Rattle.absval.specs.Table.{Numbers, ends_of, computed, negated_known, extended_known, swapped_known};
+ghost use Rattle.verify.specs.Registers.{seen, known_at, operand_known, first_known};
+ghost use Rattle.verify.specs.Reasons.{first_reason, is_unset, made_checks, arithmetic_checks, write_checks, compare_checks, exit_checks, Assigns};
+ghost use Rattle.verify.specs.MemoryTable.{load_given, signed_load_given, Stores, load_reason, signed_load_reason, store_reason};
+ghost use Rattle.verify.specs.Instructions.{straight_reason, Becomes};
 ghost use Rattle.verify.specs.Gamma.{Describes};
 ghost use Rattle.verify.specs.Branches.{decided_by};
 ghost use Rattle.verify.specs.Reads.{AllNumbers, AllRead, Leaves, LeavesBut};
-ghost use Rattle.verify.specs.Outcomes.{IsTest, GoesOn, Follows, IsEnd, IsStraight, IsNotCall};
+ghost use Rattle.verify.specs.Outcomes.{IsTest, GoesOn, Follows, IsEnd, IsStraight};
 
 use crate::comparison::Comparison;
 use crate::reason::Reason;
 use crate::state::AbsState;
-use crate::{memory, registers};
+use crate::{calls, memory, registers};
 use absval::AbsVal;
 use insn::{Insn, Operand, Reg, Size};
 use range::Range;
@@ -25,6 +32,7 @@ use word::{ByteOrder, Narrow, Operation, SwapSize, Width};
 /// A register that is read is set.
 fn check_set(value: AbsVal) -> Result<(), Reason>
     ensures plain { is_number value ≡ true → IsOk result }
+    ensures refused { result_err result ≡ first_reason ((is_unset (ends_of value), Reason.Unset) ∷ []) }
 {
     match value {
         AbsVal::Unset => Err(Reason::Unset),
@@ -36,6 +44,7 @@ fn check_set(value: AbsVal) -> Result<(), Reason>
 fn check_number(value: AbsVal) -> Result<(), Reason>
     ensures holds { OnOk result (is_number value ≡ true) }
     ensures plain { is_number value ≡ true → IsOk result }
+    ensures refused { result_err result ≡ (if is_number value then None else Some Reason.PointerUse) }
 {
     match value {
         AbsVal::Number(_) => Ok(()),
@@ -47,6 +56,7 @@ fn check_number(value: AbsVal) -> Result<(), Reason>
 fn check_writable(dst: Reg) -> Result<(), Reason>
     ensures holds { OnOk result (dst ≢ 10) }
     ensures plain { dst ≢ 10 → IsOk result }
+    ensures refused { result_err result ≡ first_reason (write_checks dst) }
 {
     if dst.number() == 10 {
         return Err(Reason::FrameWrite);
@@ -60,6 +70,7 @@ fn put(state: &mut AbsState, dst: Reg, value: AbsVal)
     ensures holds { (s : State) (units : ℕ) (r : Result Value Cause) →
         Describes state.old s → Gives value r → GoesOn state.new (s.unit + units) (assigned s dst units r) }
     ensures leaves { is_number value ≡ true → LeavesBut (dst ∷ []) state.old.registers state.new.registers }
+    ensures left { Assigns state.old dst (Some (ends_of value)) state.new }
 {
     registers::write(&mut state.registers, dst, value);
 }
@@ -75,6 +86,8 @@ fn put_made(
         Describes state.old s → IfSome made (λ m. Gives m r) → GoesOn state.new (s.unit + 1) (assigned s dst 1 r)) }
     ensures plain { dst ≢ 10 → is_number value ≡ true → IsSome made → IsOk result }
     ensures leaves { OnOk result (IfSome made (λ m. is_number m ≡ true) → LeavesBut (dst ∷ []) state.old.registers state.new.registers) }
+    ensures refused { result_err result ≡ first_reason (made_checks dst (ends_of value) (option_map ends_of made)) }
+    ensures left { OnOk result (Assigns state.old dst (option_map ends_of made) state.new) }
 {
     check_set(value)?;
     check_writable(dst)?;
@@ -96,6 +109,8 @@ fn arithmetic(
     ensures plain { dst ≢ 10 → AllNumbers (first_reads operation dst ++ operand_reads operand) state.old.registers → IsOk result }
     ensures leaves { OnOk result (AllNumbers (first_reads operation dst ++ operand_reads operand) state.old.registers →
         LeavesBut (dst ∷ []) state.old.registers state.new.registers) }
+    ensures refused { result_err result ≡ first_reason (arithmetic_checks (seen state.old.registers) width operation dst operand) }
+    ensures left { OnOk result (Assigns state.old dst (computed width operation (first_known (seen state.old.registers) operation dst) (operand_known (seen state.old.registers) operand)) state.new) }
 {
     let first = registers::first(&state.registers, operation, dst);
     let second = registers::operand(&state.registers, operand);
@@ -108,6 +123,8 @@ fn negate(state: &mut AbsState, width: Width, dst: Reg) -> Result<(), Reason>
     ensures holds { OnOk result (Follows state.old (Insn.Negate width dst) state.new) }
     ensures plain { dst ≢ 10 → AllNumbers (dst ∷ []) state.old.registers → IsOk result }
     ensures leaves { OnOk result (LeavesBut (dst ∷ []) state.old.registers state.new.registers) }
+    ensures refused { result_err result ≡ first_reason (made_checks dst (known_at (seen state.old.registers) dst) (negated_known width (known_at (seen state.old.registers) dst))) }
+    ensures left { OnOk result (Assigns state.old dst (negated_known width (known_at (seen state.old.registers) dst)) state.new) }
 {
     let value = registers::read(&state.registers, dst);
     put_made(state, dst, value, absval::negate(width, value))
@@ -123,6 +140,8 @@ fn sign_extend(
     ensures holds { OnOk result (Follows state.old (Insn.SignExtend width part dst src) state.new) }
     ensures plain { dst ≢ 10 → AllNumbers (src ∷ []) state.old.registers → IsOk result }
     ensures leaves { OnOk result (LeavesBut (dst ∷ []) state.old.registers state.new.registers) }
+    ensures refused { result_err result ≡ first_reason (made_checks dst (known_at (seen state.old.registers) src) (extended_known width part (known_at (seen state.old.registers) src))) }
+    ensures left { OnOk result (Assigns state.old dst (extended_known width part (known_at (seen state.old.registers) src)) state.new) }
 {
     let value = registers::read(&state.registers, src);
     put_made(state, dst, value, absval::sign_extend(width, part, value))
@@ -132,6 +151,8 @@ fn swap(state: &mut AbsState, order: ByteOrder, size: SwapSize, dst: Reg) -> Res
     ensures holds { OnOk result (Follows state.old (Insn.Swap order size dst) state.new) }
     ensures plain { dst ≢ 10 → AllNumbers (dst ∷ []) state.old.registers → IsOk result }
     ensures leaves { OnOk result (LeavesBut (dst ∷ []) state.old.registers state.new.registers) }
+    ensures refused { result_err result ≡ first_reason (made_checks dst (known_at (seen state.old.registers) dst) (swapped_known order size (known_at (seen state.old.registers) dst))) }
+    ensures left { OnOk result (Assigns state.old dst (swapped_known order size (known_at (seen state.old.registers) dst)) state.new) }
 {
     let value = registers::read(&state.registers, dst);
     put_made(state, dst, value, absval::swap(order, size, value))
@@ -141,6 +162,8 @@ fn load_number(state: &mut AbsState, dst: Reg, number: u64) -> Result<(), Reason
     ensures holds { OnOk result (Follows state.old (Insn.LoadNumber dst number) state.new) }
     ensures plain { dst ≢ 10 → IsOk result }
     ensures leaves { OnOk result (LeavesBut (dst ∷ []) state.old.registers state.new.registers) }
+    ensures refused { result_err result ≡ first_reason (write_checks dst) }
+    ensures left { OnOk result (Assigns state.old dst (Some (Numbers (single number))) state.new) }
 {
     check_writable(dst)?;
     put(state, dst, AbsVal::Number(Range::exactly(number)));
@@ -148,7 +171,10 @@ fn load_number(state: &mut AbsState, dst: Reg, number: u64) -> Result<(), Reason
 }
 
 fn load(state: &mut AbsState, size: Size, dst: Reg, base: Reg, offset: i16) -> Result<(), Reason>
-    ensures { OnOk result (Follows state.old (Insn.Load size dst base offset) state.new) }
+    ensures refused { result_err result ≡ load_reason state.old size dst base offset }
+    ensures left { OnOk result (Assigns state.old dst (result_ok (load_given state.old.stack size (known_at (seen state.old.registers) base) offset)) state.new) }
+    ensures kept { OnErr result (state.new ≡ state.old) }
+    ensures holds { OnOk result (Follows state.old (Insn.Load size dst base offset) state.new) }
 {
     let pointer = registers::read(&state.registers, base);
     check_set(pointer)?;
@@ -165,7 +191,10 @@ fn load_signed(
     base: Reg,
     offset: i16,
 ) -> Result<(), Reason>
-    ensures { OnOk result (Follows state.old (Insn.LoadSigned part dst base offset) state.new) }
+    ensures refused { result_err result ≡ signed_load_reason state.old part dst base offset }
+    ensures left { OnOk result (Assigns state.old dst (result_ok (signed_load_given state.old.stack part (known_at (seen state.old.registers) base) offset)) state.new) }
+    ensures kept { OnErr result (state.new ≡ state.old) }
+    ensures holds { OnOk result (Follows state.old (Insn.LoadSigned part dst base offset) state.new) }
 {
     let pointer = registers::read(&state.registers, base);
     check_set(pointer)?;
@@ -182,7 +211,11 @@ fn store(
     offset: i16,
     source: Operand,
 ) -> Result<(), Reason>
-    ensures { OnOk result (Follows state.old (Insn.Store size base offset source) state.new) }
+    ensures refused { result_err result ≡ store_reason state.old size base offset source }
+    ensures left { OnOk result (Stores state.old.stack size (known_at (seen state.old.registers) base) offset (operand_known (seen state.old.registers) source) state.new.stack) }
+    ensures registers { state.new.registers ≡ state.old.registers }
+    ensures kept { OnErr result (state.new ≡ state.old) }
+    ensures holds { OnOk result (Follows state.old (Insn.Store size base offset source) state.new) }
 {
     let pointer = registers::read(&state.registers, base);
     let value = registers::operand(&state.registers, source);
@@ -191,13 +224,14 @@ fn store(
     memory::store(&mut state.stack, size, pointer, offset, value)
 }
 
-/// An instruction that goes on behind itself. No helper is known yet, so a call is refused.
+/// An instruction that goes on behind itself.
 pub fn straight(state: &mut AbsState, insn: &Insn) -> Result<(), Reason>
     requires { IsStraight insn.now }
     ensures holds { OnOk result (Follows state.old insn.now state.new) }
-    ensures no_call { OnOk result (IsNotCall insn.now) }
     ensures plain { IsOfNumbers insn.now → (IsIn 10 (writes insn.now) → ⊥) → AllRead insn.now state.old.registers → IsOk result }
     ensures leaves { OnOk result (IsOfNumbers insn.now → AllRead insn.now state.old.registers → Leaves insn.now state.old.registers state.new.registers) }
+    ensures reason { result_err result ≡ straight_reason insn.now state.old }
+    ensures becomes { OnOk result (Becomes state.old insn.now state.new) }
 {
     match insn {
         Insn::Arithmetic {
@@ -233,7 +267,7 @@ pub fn straight(state: &mut AbsState, insn: &Insn) -> Result<(), Reason>
             offset,
             source,
         } => store(state, *size, *base, *offset, *source),
-        Insn::Call { .. } => Err(Reason::Helper),
+        Insn::Call { helper } => calls::call(state, *helper),
         Insn::Jump { .. } | Insn::LongJump { .. } | Insn::Branch { .. } | Insn::Exit => {
             unreachable!()
         }
@@ -244,6 +278,7 @@ pub fn straight(state: &mut AbsState, insn: &Insn) -> Result<(), Reason>
 pub fn compare(state: &AbsState, compared: &Comparison) -> Result<(), Reason>
     ensures holds { OnOk result ((s : State) → Describes state.now s → IsTest (decided_by compared.now s.registers)) }
     ensures plain { AllNumbers (compared.now.dst ∷ operand_reads compared.now.operand) state.now.registers → IsOk result }
+    ensures refused { result_err result ≡ first_reason (compare_checks (known_at (seen state.now.registers) compared.now.dst) (operand_known (seen state.now.registers) compared.now.operand)) }
 {
     let first = registers::read(&state.registers, compared.dst);
     let second = registers::operand(&state.registers, compared.operand);
@@ -257,6 +292,7 @@ pub fn compare(state: &AbsState, compared: &Comparison) -> Result<(), Reason>
 pub fn exit(state: &AbsState) -> Result<(), Reason>
     ensures holds { OnOk result ((context : List ℕ) (shape : Shape) (s : State) → Describes state.now s → IsEnd (executed context shape Insn.Exit s)) }
     ensures plain { AllRead Insn.Exit state.now.registers → IsOk result }
+    ensures refused { result_err result ≡ first_reason (exit_checks (known_at (seen state.now.registers) 0)) }
 {
     match state.registers[0] {
         AbsVal::Number(_) => Ok(()),

@@ -126,8 +126,6 @@ fn faults_of_registers(rt: HostRuntime) -> Result<(), Fail> {
         answer(alloc, [store, Insn::Exit].to_vec(alloc)?)?.as_str(),
         "V5 unit 0"
     );
-    let call = [Insn::Call { helper: 1 }, Insn::Exit].to_vec(alloc)?;
-    assert_eq!(rt; answer(alloc, call)?.as_str(), "V11 unit 0");
     Ok(())
 }
 
@@ -212,5 +210,126 @@ fn ranges_on_edges(rt: HostRuntime) -> Result<(), Fail> {
     let alloc = rt.alloc();
     assert_eq!(rt; indexed(alloc, Width::W64)?.as_str(), "accepted 8");
     assert_eq!(rt; indexed(alloc, Width::W32)?.as_str(), "V7 unit 5");
+    Ok(())
+}
+
+macro_rules! call {
+    ($helper:expr) => {
+        Insn::Call { helper: $helper }
+    };
+}
+
+/// What is said of a byte written at an offset that the board gives, cut by a mask.
+fn masked(alloc: Global, mask: i32) -> Result<String, Fail> {
+    let (r0, r1) = (register(0)?, register(1)?);
+    let (r2, r3) = (register(2)?, register(3)?);
+    let program = [
+        arithmetic!(Move, r1, Operand::Immediate(0)),
+        call!(1),
+        arithmetic!(Move, r2, Operand::Register(r0)),
+        arithmetic!(And, r2, Operand::Immediate(mask)),
+        arithmetic!(Move, r3, Operand::Register(register(10)?)),
+        arithmetic!(Add, r3, Operand::Immediate(-8)),
+        arithmetic!(Add, r3, Operand::Register(r2)),
+        store!(Byte, r3, 0, Operand::Immediate(1)),
+        arithmetic!(Move, r0, Operand::Immediate(0)),
+        Insn::Exit,
+    ];
+    answer(alloc, program.to_vec(alloc)?)
+}
+
+/// What is said of a call for the word whose number the context gives, once it is compared with so many bits.
+fn chosen(alloc: Global, width: Width) -> Result<String, Fail> {
+    let (r0, r1) = (register(0)?, register(1)?);
+    let r2 = register(2)?;
+    let large = Insn::Branch {
+        width,
+        condition: Condition::Above,
+        dst: r2,
+        operand: Operand::Immediate(63),
+        distance: 2,
+    };
+    let program = [
+        load!(Double, r2, r1, 32),
+        arithmetic!(Move, r0, Operand::Immediate(0)),
+        large,
+        arithmetic!(Move, r1, Operand::Register(r2)),
+        call!(1),
+        Insn::Exit,
+    ];
+    answer(alloc, program.to_vec(alloc)?)
+}
+
+/// What is said of a copy of so many words from slot 60 on to an offset of the stack.
+fn copied(alloc: Global, offset: i32, count: i32) -> Result<String, Fail> {
+    let (r0, r1) = (register(0)?, register(1)?);
+    let (r2, r10) = (register(2)?, register(10)?);
+    let program = [
+        arithmetic!(Move, r1, Operand::Immediate(60)),
+        arithmetic!(Move, r2, Operand::Register(r10)),
+        arithmetic!(Add, r2, Operand::Immediate(offset)),
+        arithmetic!(Move, register(3)?, Operand::Immediate(count)),
+        call!(5),
+        load!(Double, r0, r10, -32),
+        Insn::Exit,
+    ];
+    answer(alloc, program.to_vec(alloc)?)
+}
+
+#[test]
+fn calls_of_the_board(rt: HostRuntime) -> Result<(), Fail> {
+    let alloc = rt.alloc();
+    assert_eq!(rt; masked(alloc, 7)?.as_str(), "accepted 10");
+    assert_eq!(rt; masked(alloc, 15)?.as_str(), "V8 unit 7");
+    assert_eq!(rt; chosen(alloc, Width::W64)?.as_str(), "accepted 6");
+    assert_eq!(rt; chosen(alloc, Width::W32)?.as_str(), "V12 unit 4");
+    assert_eq!(rt; copied(alloc, -32, 4)?.as_str(), "accepted 7");
+    assert_eq!(rt; copied(alloc, -32, 5)?.as_str(), "V12 unit 4");
+    assert_eq!(rt; copied(alloc, -24, 4)?.as_str(), "V8 unit 4");
+    Ok(())
+}
+
+#[test]
+fn arguments_of_calls(rt: HostRuntime) -> Result<(), Fail> {
+    let alloc = rt.alloc();
+    let r1 = register(1)?;
+    let set = arithmetic!(Move, r1, Operand::Immediate(0));
+    let large = arithmetic!(Move, r1, Operand::Immediate(64));
+    let above = [large, call!(1), Insn::Exit].to_vec(alloc)?;
+    assert_eq!(rt; answer(alloc, above)?.as_str(), "V12 unit 1");
+    let unknown = [set, call!(12), Insn::Exit].to_vec(alloc)?;
+    assert_eq!(rt; answer(alloc, unknown)?.as_str(), "V11 unit 1");
+    let pointer = [call!(1), Insn::Exit].to_vec(alloc)?;
+    assert_eq!(rt; answer(alloc, pointer)?.as_str(), "V12 unit 0");
+    let unset = [set, call!(2), Insn::Exit].to_vec(alloc)?;
+    assert_eq!(rt; answer(alloc, unset)?.as_str(), "V5 unit 1");
+    let gone = arithmetic!(Move, register(0)?, Operand::Register(r1));
+    let behind = [set, call!(1), gone, Insn::Exit].to_vec(alloc)?;
+    assert_eq!(rt; answer(alloc, behind)?.as_str(), "V5 unit 2");
+    Ok(())
+}
+
+/// What is said of a call with a pointer in r2, a distance from the base, and a count of 1.
+fn with_pointer(alloc: Global, base: u8, distance: i32, helper: i32) -> Result<String, Fail> {
+    let (r1, r2) = (register(1)?, register(2)?);
+    let program = [
+        arithmetic!(Move, r2, Operand::Register(register(base)?)),
+        arithmetic!(Add, r2, Operand::Immediate(distance)),
+        arithmetic!(Move, r1, Operand::Immediate(0)),
+        arithmetic!(Move, register(3)?, Operand::Immediate(1)),
+        call!(helper),
+        Insn::Exit,
+    ];
+    answer(alloc, program.to_vec(alloc)?)
+}
+
+#[test]
+fn pointers_of_calls(rt: HostRuntime) -> Result<(), Fail> {
+    let alloc = rt.alloc();
+    assert_eq!(rt; with_pointer(alloc, 1, 0, 5)?.as_str(), "V10 unit 4");
+    assert_eq!(rt; with_pointer(alloc, 1, 4092, 7)?.as_str(), "accepted 6");
+    assert_eq!(rt; with_pointer(alloc, 1, 4093, 7)?.as_str(), "V8 unit 4");
+    assert_eq!(rt; with_pointer(alloc, 10, -4, 7)?.as_str(), "V9 unit 4");
+    assert_eq!(rt; with_pointer(alloc, 10, -8, 5)?.as_str(), "accepted 6");
     Ok(())
 }

@@ -1,9 +1,8 @@
 ghost use Rattle.std.specs.Prelude.{◌≡◌, None, Some, IfOk, IfErr, IsErrAnd, OnOk, IfSome, Err};
 ghost use Rattle.semantics.specs.Run.{IsSound};
 ghost use Rattle.semantics.specs.Plain.{IsPlain};
-ghost use Rattle.verify.specs.CallFree.{IsCallFree};
 ghost use Rattle.verify.specs.Structure.{structural_fault, IsOwnFault};
-ghost use Rattle.verify.specs.Quiet.{StartsQuiet};
+ghost use Rattle.verify.specs.Safe.{StartsSafe};
 
 use crate::fault::{Fault, Refusal};
 use crate::pass::pass;
@@ -15,7 +14,6 @@ use std::alloc::Global;
 /// The first fault: those of structure, and behind them those of the pass.
 fn check(alloc: Global, program: &Program) -> Result<(), Fault>
     ensures sound { OnOk result (IsSound program.now) }
-    ensures call_free { OnOk result (IsCallFree program.now) }
     ensures plain { IsPlain program.now → IfErr result (λ fault. fault ≡ Fault.Memory) }
     ensures structural { IfSome (structural_fault program.now) (λ fault. result ≡ Err fault) }
     ensures unstructural { structural_fault program.now ≡ None → IfErr result (IsOwnFault program.now) }

@@ -6,8 +6,8 @@ pub loop-b-preserved : goal.loop-b-preserved
 loop-b-preserved c =
     let here : c.loop-b.b ≤ c.loop-b.b = omega arith in
     record {
-      size = length-set c.loop-b.spills c.loop-b.b c.joined.result ∙ c.loop-b.invariant.size;
-      done = λ j lt. joined_more c.args.spills.now c.args.other.now c.loop-b.spills c.loop-b.b j c.joined.result c.loop-b-test.true c.loop-b.invariant.size c.joined.ensures
+      size = length-set c.loop-b.spills c.loop-b.b c.settle.new.spill ∙ c.loop-b.invariant.size;
+      done = λ j lt. joined_more c.args.spills.now c.args.other.now c.loop-b.spills c.loop-b.b j c.settle.new.spill c.loop-b-test.true c.loop-b.invariant.size c.settle.ensures
           (c.loop-b.invariant.left c.loop-b.b here) c.loop-b.invariant.done lt;
-      left = λ j le. left_more c.args.spills.now c.loop-b.spills c.loop-b.b j c.joined.result c.loop-b.invariant.left le;
+      left = λ j le. left_more c.args.spills.now c.loop-b.spills c.loop-b.b j c.settle.new.spill c.loop-b.invariant.left le;
     }

@@ -1,4 +1,3 @@
-use Rattle.lab.specs.Refusals.{RefusesCheck}
 use Rattle.lab.proofs.RefusalLemmas.{refused_program}
 use Rattle.lab.proofs.checking.check.Goals as goal
 

@@ -5,6 +5,7 @@ use Rattle.semantics.specs.declared.value.Value.TheVariants as value
 use Rattle.semantics.specs.State.{value_at}
 use Rattle.absval.specs.Contains.{is_number}
 use Rattle.verify.proofs.BranchLemmas.{decided_used}
+use Rattle.verify.proofs.SeenEdges.{number_left}
 use Rattle.verify.proofs.branches.refine_by_number.Goals as goal
 
 pub returns-in_default-clause-holds : goal.returns-in_default-clause-holds
@@ -20,3 +21,9 @@ returns-clause-holds c = λ vs z e.
 
 pub returns-clause-numbers : goal.returns-clause-numbers
 returns-clause-numbers c = c.narrow.ensures.numbers c.args.registers.now (λ r l h. h) (λ h. ap is_number (sym c.read-first.ensures.exact) ∙ (sym c.in-Some.ensures.first ∙ h))
+
+pub returns-clause-left : goal.returns-clause-left
+returns-clause-left c =
+    number_left c.args.compared.0 c.args.compared.1 c.args.taken c.args.registers.now c.narrow.new.registers c.args.dst (of_z w64 c.args.number) c.used_number.result c.exactly.result.lo c.exactly.result.hi
+    c.read-first.result c.in-Some.first c.in-Some.field-0-1 c.in-Some.ensures.exact c.read-first.ensures.seen c.exactly.ensures.exact
+    (subst (λ (z : ℤ). c.used_number.result ≡ taken c.args.compared.0 (of_z w64 z)) (to_z-of_z w32 c.args.number c.ranges.number) c.used_number.ensures) c.narrow.ensures.exact

@@ -10,16 +10,16 @@ use Rattle.verify.proofs.StepLemmas.{OnOk-map}
 use Rattle.verify.proofs.StoreLemmas.{number_lead}
 use Rattle.verify.proofs.memory.store.Goals as goal
 
-pub returns-in-Number : goal.returns-in-Number
-returns-in-Number c = OnOk-map c.store_number.result _ _ (λ leads cells p v d long inside held.
+pub returns-in-Number-clause-holds : goal.returns-in-Number-clause-holds
+returns-in-Number-clause-holds c = OnOk-map c.store_number.result _ _ (λ leads cells p v d long inside held.
     number_lead c.store_number.new.stack c.in-Number.field-0.lo c.in-Number.field-0.hi cells (bytes_of c.args.size) p v c.args.distance
     (subst (λ (a : AbsVal). Contains a v) c.in-Number.is held)
     (λ n. subst (λ (x : ℤ). Leads c.store_number.new.stack (stored cells (bytes_of c.args.size) p x (value.Number n))) (to_z-of_z w16 c.args.distance c.ranges.distance)
-    (leads cells p n d long (subst (λ (a : AbsVal). Contains a p) c.in_ok-base.ensures inside))))
-    c.store_number.ensures
+    (leads cells p n d long (subst (λ (a : AbsVal). Contains a p) c.in_ok-base.ensures.holds inside))))
+    c.store_number.ensures.holds
 
-pub returns-in-Pointer : goal.returns-in-Pointer
-returns-in-Pointer c = OnOk-map c.store_pointer.result _ _ (λ leads cells p v d long inside held.
+pub returns-in-Pointer-clause-holds : goal.returns-in-Pointer-clause-holds
+returns-in-Pointer-clause-holds c = OnOk-map c.store_pointer.result _ _ (λ leads cells p v d long inside held.
     subst (λ (x : ℤ). Leads c.store_pointer.new.stack (stored cells (bytes_of c.args.size) p x v)) (to_z-of_z w16 c.args.distance c.ranges.distance)
-    (leads cells p v d long (subst (λ (a : AbsVal). Contains a p) c.in_ok-base.ensures inside) (subst (λ (a : AbsVal). Contains a v) c.in-Pointer.is held)))
-    c.store_pointer.ensures
+    (leads cells p v d long (subst (λ (a : AbsVal). Contains a p) c.in_ok-base.ensures.holds inside) (subst (λ (a : AbsVal). Contains a v) c.in-Pointer.is held)))
+    c.store_pointer.ensures.holds

@@ -9,8 +9,8 @@ use Rattle.verify.proofs.Loads.{lies_at}
 use Rattle.verify.proofs.StoreLemmas.{stores_lead, bytes_lead}
 use Rattle.verify.proofs.memory.store_number.Goals as goal
 
-pub returns-then-window-bytes : goal.returns-then-window-bytes
-returns-then-window-bytes c = λ cells p n d long inside.
+pub returns-then-window-bytes-clause-holds : goal.returns-then-window-bytes-clause-holds
+returns-then-window-bytes-clause-holds c = λ cells p n d long inside.
     let lies = lies_at Stack Stack c.args.base.1.low c.args.base.1.high _ c.args.distance c.in_ok-window.window.place c.in_ok-window.window.size c.bytes.result (bytes_of c.args.size)
     refl (to_z-of_z w16 c.args.distance c.ranges.distance) c.bytes.ensures.bytes c.in_ok-window.ensures.holds in
     let size : c.in_ok-window.window.size ≡ bytes_of c.args.size = c.if-window-bytes.true ∙ c.bytes-2.ensures.bytes in
@@ -20,8 +20,8 @@ returns-then-window-bytes c = λ cells p n d long inside.
     bytes_lead c.put_bytes.new.self cells at (bytes_of c.args.size) n long (omega (arith, le, c.in_ok-window.ensures.fits))
     (λ new are e. subst (λ (k : ℕ). StackDescribes c.put_bytes.new.self (overwritten cells k new)) same (c.put_bytes.ensures.holds cells new d long are (e ∙ sym size))))
 
-pub returns-else-window-bytes : goal.returns-else-window-bytes
-returns-else-window-bytes c = λ cells p n d long inside.
+pub returns-else-window-bytes-clause-holds : goal.returns-else-window-bytes-clause-holds
+returns-else-window-bytes-clause-holds c = λ cells p n d long inside.
     let lies = lies_at Stack Stack c.args.base.1.low c.args.base.1.high _ c.args.distance c.in_ok-window.window.place c.in_ok-window.window.size c.bytes.result (bytes_of c.args.size)
     refl (to_z-of_z w16 c.args.distance c.ranges.distance) c.bytes.ensures.bytes c.in_ok-window.ensures.holds in
     stores_lead c.spread_bytes.new.self c.args.base.0 c.args.base.1.low c.args.base.1.high c.args.distance c.in_ok-window.window.place c.in_ok-window.window.size (bytes_of c.args.size) cells p (Number n)

@@ -9,8 +9,8 @@ use Rattle.verify.proofs.Loads.{lies_at}
 use Rattle.verify.proofs.StoreLemmas.{stores_lead, pieces_lead}
 use Rattle.verify.proofs.memory.store_pointer.Goals as goal
 
-pub returns : goal.returns
-returns c = λ cells p v d long inside held.
+pub returns-clause-holds : goal.returns-clause-holds
+returns-clause-holds c = λ cells p v d long inside held.
     let lies = lies_at Stack Stack c.args.base.1.low c.args.base.1.high _ c.args.distance c.in_ok-window.window.place c.in_ok-window.window.size 8 8
     refl (to_z-of_z w16 c.args.distance c.ranges.distance) refl c.in_ok-window.ensures.holds in
     let offset : to_z w32 (of_z w32 c.args.pointer.1.low) ≡ c.args.pointer.1.low = search rules in

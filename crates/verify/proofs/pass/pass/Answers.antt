@@ -11,7 +11,7 @@ use Rattle.verify.proofs.pass.pass.Goals as goal
 pub loop-unit-init : goal.loop-unit-init
 loop-unit-init c = record {
   room = c.flow.ensures.length ∙ (ap length c.in_ok-pending.ensures ∙ (length-replicate _ _ ∙ c.units.ensures.units));
-  quiet = rests_start c.args.program.now c.flow.new.pending.items (subst (λ n. 0 < n) c.units.ensures.units c.units.ensures.some)
+  safe = rests_start c.args.program.now c.flow.new.pending.items (subst (λ n. 0 < n) c.units.ensures.units c.units.ensures.some)
       (λ shape. c.flow.ensures.here (entry (empty_outbox shape))
       (subst (λ (a : AbsState). Describes a (entry (empty_outbox shape))) (sym c.in_ok-boxed.ensures) (c.at_entry.ensures.holds (empty_outbox shape))));
   plain = λ plain. blanks_start c.args.program.now c.units.result c.in_ok-boxed.field-0.value.registers c.in_ok-pending.pending.items c.flow.new.pending.items c.in_ok-pending.ensures c.flow.ensures.blank;
@@ -20,6 +20,6 @@ loop-unit-init c = record {
 pub loop-unit-preserved : goal.loop-unit-preserved
 loop-unit-preserved c = record {
   room = c.in_ok-pass_unit.ensures.length ∙ c.loop-unit.invariant.room;
-  quiet = rests_step c.args.program.now c.loop-unit.pending.items c.pass_unit.new.pending.items c.loop-unit.unit c.requires c.in_ok-pass_unit.ensures.passed c.loop-unit.invariant.quiet;
+  safe = rests_step c.args.program.now c.loop-unit.pending.items c.pass_unit.new.pending.items c.loop-unit.unit c.requires c.in_ok-pass_unit.ensures.passed c.loop-unit.invariant.safe;
   plain = λ plain. c.in_ok-pass_unit.ensures.blanks plain (c.loop-unit.invariant.plain plain);
 }

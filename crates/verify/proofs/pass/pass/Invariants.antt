@@ -8,6 +8,6 @@ use Rattle.verify.proofs.pass.pass.Given as goal
 abbrev pub invariant-loop-unit : goal.invariant-loop-unit
 invariant-loop-unit l = record {
   room : length l.pending.items ≡ length (slots_of l.program);
-  quiet : EntryRests l.program l.pending.items l.unit;
+  safe : EntryRests l.program l.pending.items l.unit;
   plain : IsPlain l.program → BlanksAreUnwritten l.program l.pending.items l.unit;
 }

@@ -1,5 +1,8 @@
 use Rattle.std.proofs.Common.{rules, ◌≡◌, w16, w32, to_z, of_z, length}
 use Rattle.verify.proofs.Jumps.{jump_inside, long_inside, branch_inside, jump_leads, long_leads, branch_leads, branch_blanks, exit_leads}
+use Rattle.verify.specs.Outcomes.{IsStraight}
+use Rattle.verify.proofs.StepLemmas.{OnOk-map}
+use Rattle.verify.proofs.InstructionLemmas.{straight_answers, straight_flows, jump_flows, long_flows}
 use Rattle.verify.proofs.pass.pass_state.Goals as goal
 
 pub pass_jump-requires-clause-edges : goal.pass_jump-requires-clause-edges
@@ -42,3 +45,24 @@ returns-in-Branch-clause-blanks c =
 
 pub returns-in-Exit-clause-leads : goal.returns-in-Exit-clause-leads
 returns-in-Exit-clause-leads c = exit_leads c.pass_exit.result c.args.state.value c.args.insn.now c.args.unit c.args.pending.now.items c.in-Exit.is c.pass_exit.ensures.leads
+
+pub returns-in-Jump-clause-flows : goal.returns-in-Jump-clause-flows
+returns-in-Jump-clause-flows c =
+    let same : to_z w32 (of_z w32 c.from.result) ≡ c.in-Jump.distance = search rules in
+    jump_flows c.args.insn.now c.in-Jump.distance _ c.args.state.value c.args.unit c.args.pending.now.items c.pass_jump.new.pending.items c.in-Jump.is same c.pass_jump.ensures.flows
+
+pub returns-in-LongJump-clause-flows : goal.returns-in-LongJump-clause-flows
+returns-in-LongJump-clause-flows c =
+    let same : to_z w32 (of_z w32 c.in-LongJump.distance) ≡ c.in-LongJump.distance = search rules in
+    long_flows c.args.insn.now c.in-LongJump.distance _ c.args.state.value c.args.unit c.args.pending.now.items c.pass_jump-in-LongJump.new.pending.items c.in-LongJump.is same
+    c.pass_jump-in-LongJump.ensures.flows
+
+pub returns-in_default-clause-refused : goal.returns-in_default-clause-refused
+returns-in_default-clause-refused c =
+    let straight : IsStraight c.args.insn.now = search rules in
+    straight_answers c.args.insn.now c.args.state.value c.args.unit c.pass_straight.result straight c.pass_straight.ensures.refused
+
+pub returns-in_default-clause-flows : goal.returns-in_default-clause-flows
+returns-in_default-clause-flows c =
+    let straight : IsStraight c.args.insn.now = search rules in
+    OnOk-map c.pass_straight.result _ _ (straight_flows c.args.insn.now c.args.state.value c.args.unit c.args.pending.now.items c.pass_straight.new.pending.items straight) c.pass_straight.ensures.flows

@@ -4,6 +4,7 @@ use Rattle.absval.specs.declared.value.AbsVal.{AbsVal}
 use Rattle.absval.specs.declared.value.AbsVal.TheVariants.{Unset}
 use Rattle.absval.specs.Contains.{Contains, is_number}
 use Rattle.verify.specs.Gamma.{has_number}
+use Rattle.verify.proofs.Seen.{join_step}
 use Rattle.verify.proofs.Numbers.{number_back, joined_blank}
 use Rattle.verify.proofs.Zips.{AllZip-wider, at_set, at_read}
 use Rattle.verify.proofs.registers.join.Goals as goal
@@ -23,6 +24,7 @@ loop-i-preserved c =
       number = λ k j. at_set (λ (a : AbsVal). is_number a ≡ false → (has_number c.args.registers.now k ≡ false) ⊎ (has_number c.args.other.now k ≡ false)) xs i k x Unset l
           (λ e h. ⊎_elim (λ a. inl (number_back xs c.args.registers.now i k _ l e (c.loop-i.invariant.rest i (omega arith)) a)) (λ b. inr (number_back c.args.other.now c.args.other.now i k _ m e refl b)) (joined_blank _ _ x c.join.ensures.number h))
           (λ n h. c.loop-i.invariant.number k (omega arith) h);
+      exact = join_step xs c.args.registers.now c.args.other.now i x c.index-registers-i.result c.index-other-i.result l m (c.loop-i.invariant.rest i (omega arith)) c.join.ensures.exact c.loop-i.invariant.exact;
     }
 
 pub returns-clause-left : goal.returns-clause-left
@@ -33,3 +35,6 @@ returns-clause-right c = λ vs z. AllZip-wider Contains _ _ vs Unset value.Unset
 
 pub returns-clause-numbers : goal.returns-clause-numbers
 returns-clause-numbers c = λ k l. c.loop-i.invariant.number k (omega arith)
+
+pub returns-clause-exact : goal.returns-clause-exact
+returns-clause-exact c = λ k l. c.loop-i.invariant.exact k (omega arith)

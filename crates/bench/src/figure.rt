@@ -1,0 +1,52 @@
+use crate::bytecode::UNITS;
+use std::fmt;
+
+/// How long a piece of work took.
+#[derive(Clone, Copy, Debug, PartialEq, Eq)]
+pub struct Figure {
+    /// How many units or steps it had.
+    pub count: u64,
+    /// Its median time in nanoseconds.
+    pub time: u64,
+    /// The median time of the plain loop over 4,096 units.
+    pub plain: u64,
+}
+
+impl fmt::Display for Figure {
+    fn fmt<W: fmt::Write>(&self, f: &mut fmt::Formatter<W>) -> fmt::Result {
+        let micros = self.time / 1000;
+        let each = Hundredths::of(self.time, self.count);
+        let rate = quotient(self.count.saturating_mul(1000), self.time);
+        let ratio = Hundredths::of(
+            self.time.saturating_mul(UNITS as u64),
+            self.count.saturating_mul(self.plain),
+        );
+        write!(
+            f,
+            "{micros} us, {each} ns each, {rate} million a second, {ratio} of the plain loop"
+        )
+    }
+}
+
+/// A quotient in hundredths, cut off.
+#[derive(Clone, Copy)]
+struct Hundredths(u64);
+
+impl Hundredths {
+    fn of(dividend: u64, divisor: u64) -> Hundredths {
+        Hundredths(quotient(dividend.saturating_mul(100), divisor))
+    }
+}
+
+impl fmt::Display for Hundredths {
+    fn fmt<W: fmt::Write>(&self, f: &mut fmt::Formatter<W>) -> fmt::Result {
+        let whole = self.0 / 100;
+        let rest = self.0 % 100;
+        write!(f, "{whole}.{rest:02}")
+    }
+}
+
+/// The quotient, cut off; a divisor 0 counts as 1.
+fn quotient(dividend: u64, divisor: u64) -> u64 {
+    dividend / divisor.max(1)
+}

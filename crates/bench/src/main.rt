@@ -1,0 +1,17 @@
+//! `bench`, which times the codec, the verifier and the machine: what it measures goes to standard
+//! output, which is the same at every run, and the times go to standard error.
+#![tactic(auto)]
+
+mod bytecode;
+mod figure;
+mod median;
+mod plain;
+mod report;
+mod shape;
+mod work;
+
+use anyhow::Result;
+
+fn main(rt: HostRuntime) -> Result<()> {
+    report::report(&rt)
+}

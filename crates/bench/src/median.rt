@@ -1,0 +1,30 @@
+ghost use Rattle.std.specs.Prelude.{◌≡◌, ◌/◌, vec_len, slice_get};
+ghost use Rattle.std.specs.List.Sorted.{IsPermutation, IsSorted};
+ghost use Rattle.std.specs.Ordering.{nat_cmp};
+
+/// The median of the times, which it puts in ascending order; of an even number of times the upper
+/// of the two in the middle.
+pub fn median(times: &mut Vec<u64>) -> Option<u64>
+    ensures permutation { IsPermutation times.old.items times.new.items }
+    ensures ascending { IsSorted nat_cmp times.new.items }
+    ensures middle { result ≡ slice_get times.new.items (vec_len times.new / 2) }
+{
+    times.sort_unstable();
+    times.get(times.len() / 2).copied()
+}
+
+#[cfg(test)]
+mod tests {
+    use super::median;
+    use std::test::Fail;
+
+    #[test]
+    fn stands_in_the_middle(rt: HostRuntime) -> Result<(), Fail> {
+        let mut times = vec![in rt.alloc(); 9, 2, 7]?;
+        assert_eq!(rt; median(&mut times), Some(7));
+        times.push(1)?;
+        assert_eq!(rt; median(&mut times), Some(7));
+        assert_eq!(rt; median(&mut Vec::new(rt.alloc())), None);
+        Ok(())
+    }
+}

@@ -1,0 +1,181 @@
+ghost use Rattle.machine.specs.Advance.{IsOfRun};
+
+use crate::bytecode::{UNITS, bytecode};
+use crate::plain::{mixed, units_of};
+use crate::shape::Shape;
+use anyhow::{Result, bail};
+use board::Board;
+use codec::decode;
+use machine::{Activation, Pause};
+use mem::Context;
+use outbox::{Outbox, Shape as Relay};
+use std::alloc::Global;
+use std::fmt;
+use std::rt::Clock;
+use std::time::{Duration, Instant};
+use verify::{Verified, verify};
+
+/// How many activations are run at a time.
+pub const ACTIVATIONS: usize = 16;
+
+/// The last of 4 generals in the second round: he relays one label, to two receivers.
+const SHAPE: Relay = Relay {
+    generals: 4,
+    commander: 0,
+    general: 3,
+    round: 2,
+};
+
+/// What is timed.
+#[derive(Clone, Copy, Debug, PartialEq, Eq)]
+pub enum Work {
+    /// The plain measure: a loop over the program's units.
+    Plain,
+    Decode,
+    Verify,
+    /// Activations are started, and end at once.
+    Start,
+    /// Activations are run to their exit.
+    Run,
+}
+
+impl fmt::Display for Work {
+    fn fmt<W: fmt::Write>(&self, f: &mut fmt::Formatter<W>) -> fmt::Result {
+        f.write_str(match self {
+            Work::Plain => "plain loop",
+            Work::Decode => "decode",
+            Work::Verify => "verify",
+            Work::Start => "start",
+            Work::Run => "run",
+        })
+    }
+}
+
+/// What the work is done on.
+#[derive(Drop)]
+pub struct Material {
+    bytecode: Vec<u8>,
+    units: Vec<u64>,
+    verified: Verified,
+    context: Vec<u8>,
+}
+
+impl Material {
+    /// That of a program of this shape.
+    pub fn of(alloc: Global, shape: Shape) -> Result<Material> {
+        let bytecode = bytecode(alloc, shape)?;
+        let units = units_of(alloc, bytecode.as_slice())?;
+        let verified = accepted(alloc, bytecode.as_slice())?;
+        let context = vec![in alloc; 0; Context::BYTES]?;
+        Ok(Material {
+            bytecode,
+            units,
+            verified,
+            context,
+        })
+    }
+}
+
+/// The verified program that the bytecode spells.
+fn accepted(alloc: Global, bytecode: &[u8]) -> Result<Verified> {
+    match verify(alloc, decode(alloc, bytecode)?) {
+        Ok(verified) => Ok(verified),
+        Err(refusal) => Err(refusal.fault.into()),
+    }
+}
+
+/// How long the work took once, in nanoseconds. What it gave is mixed into `sum`, so that it is done.
+pub fn time_once<C: Clock>(
+    alloc: Global,
+    clock: &C,
+    work: Work,
+    material: &Material,
+    sum: &mut u64,
+) -> Result<u64> {
+    let bytecode = material.bytecode.as_slice();
+    match work {
+        Work::Plain => time_plain(clock, material.units.as_slice(), sum),
+        Work::Decode => time_decode(alloc, clock, bytecode, sum),
+        Work::Verify => time_verify(alloc, clock, bytecode, sum),
+        Work::Start => time_activations(alloc, clock, material, 0, sum),
+        Work::Run => time_activations(alloc, clock, material, u32::MAX, sum),
+    }
+}
+
+/// The time since the start, in nanoseconds.
+fn nanoseconds<C: Clock>(clock: &C, start: Instant) -> Result<u64> {
+    Ok(u64::try_from(start.elapsed(clock)?.as_nanos())?)
+}
+
+fn time_plain<C: Clock>(clock: &C, units: &[u64], sum: &mut u64) -> Result<u64> {
+    let start = Instant::now(clock)?;
+    *sum = mixed(units, *sum);
+    nanoseconds(clock, start)
+}
+
+fn time_decode<C: Clock>(alloc: Global, clock: &C, bytecode: &[u8], sum: &mut u64) -> Result<u64> {
+    let start = Instant::now(clock)?;
+    let program = decode(alloc, bytecode)?;
+    let time = nanoseconds(clock, start)?;
+    *sum = sum.wrapping_add(program.len() as u64);
+    Ok(time)
+}
+
+fn time_verify<C: Clock>(alloc: Global, clock: &C, bytecode: &[u8], sum: &mut u64) -> Result<u64> {
+    let program = decode(alloc, bytecode)?;
+    let start = Instant::now(clock)?;
+    let answer = verify(alloc, program);
+    let time = nanoseconds(clock, start)?;
+    let Ok(verified) = answer else {
+        bail!("a program is refused");
+    };
+    *sum = sum.wrapping_add(verified.program().len() as u64);
+    Ok(time)
+}
+
+/// Starts activations and runs each until it has taken so many steps or has ended.
+fn time_activations<C: Clock>(
+    alloc: Global,
+    clock: &C,
+    material: &Material,
+    limit: u32,
+    sum: &mut u64,
+) -> Result<u64> {
+    let Some(context) = Context::new(material.context.as_slice()) else {
+        bail!("a context has 4,096 bytes");
+    };
+    let mut time = 0u64;
+    for _ in 0..ACTIVATIONS {
+        let outbox = Outbox::new(alloc, SHAPE)?;
+        let mut board = Board::new(alloc, [0; 64]);
+        let start = Instant::now(clock)?;
+        let activation = Activation::start(&material.verified, &context, outbox);
+        let steps = served(&material.verified, &context, activation, &mut board, limit)?;
+        time = time.saturating_add(nanoseconds(clock, start)?);
+        *sum = sum.wrapping_add(steps);
+    }
+    Ok(time)
+}
+
+/// Runs an activation, whose requests the board answers, until it has taken so many steps or has
+/// ended. The answer is how many steps it took.
+fn served(
+    verified: &Verified,
+    context: &Context,
+    mut activation: Activation,
+    board: &mut Board,
+    limit: u32,
+) -> Result<u64>
+    requires { IsOfRun verified.now context.now activation }
+{
+    for _ in 0..UNITS {
+        match activation.advance(verified, context, limit) {
+            Pause::Board(request, waiting) => {
+                activation = waiting.answer(board.apply(SHAPE.general, SHAPE.round, request)?);
+            }
+            Pause::Done(ended) => return Ok(u64::from(ended.steps)),
+            Pause::Cut(activation) => return Ok(u64::from(activation.steps())),
+        }
+    }
+    bail!("more requests than units")
+}

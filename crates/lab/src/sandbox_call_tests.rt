@@ -1,0 +1,176 @@
+//! The programs of docs/SANDBOX.md that call helpers. Their texts are those of the files in examples/, letter by letter.
+
+use crate::sandbox_tests::verdict;
+use std::test::Fail;
+
+const BOARD_MASK: &str =
+    "; A word of the board chooses one of the eight cells below r10: the mask leaves 0 to 7 of it.
+        mov r1, 0
+        call board_get
+        mov r2, r0
+        and r2, 7
+        mov r3, r10
+        add r3, -8
+        add r3, r2
+        stb [r3+0], 1
+        mov r0, 0
+        exit
+";
+
+const BOARD_SLOT: &str =
+    "; A number of the context names a word of the board, where it is at most 63.
+        ldd r2, [r1+32]
+        mov r0, 0
+        jgt r2, 63, out
+        mov r1, r2
+        call board_get
+out:    exit
+";
+
+const BOARD_COPY: &str = "; The last four words of the board, to the 32 cells from -32 on.
+        mov r1, 60
+        mov r2, r10
+        add r2, -32
+        mov r3, 4
+        call board_copy
+        ldd r0, [r10-32]
+        exit
+";
+
+const BOARD_CAS: &str = "; Word 0 becomes 5, and then 9 because it is 5.
+        mov r1, 0
+        mov r2, 5
+        call board_swap
+        mov r1, 0
+        mov r2, 5
+        mov r3, 9
+        call board_cas
+        mov r1, 0
+        call board_get
+        exit
+";
+
+const SEND: &str =
+    "; Tells general 1 the order 1 for the label of rank 0; r0 is 1 where there is no such place.
+        mov r1, 0
+        mov r2, 1
+        mov r3, 1
+        call send
+        exit
+";
+
+const NO_HELPER: &str = "; V11: there is no helper 12.
+        mov r1, 0
+        call 12
+        exit
+";
+
+const FAR_SLOT: &str = "; V12: the board has the words 0 to 63.
+        mov r1, 64
+        call board_get
+        exit
+";
+
+const LOW_HALF_SLOT: &str =
+    "; V12: the test looks at 32 bits only, so the upper half may still be anything.
+        ldd r2, [r1+32]
+        mov r0, 0
+        jgt.w r2, 63, out
+        mov r1, r2
+        call board_get
+out:    exit
+";
+
+const COPY_PAST_BOARD: &str = "; V12: five words from 60 on would end behind word 63.
+        mov r1, 60
+        mov r2, r10
+        add r2, -32
+        mov r3, 5
+        call board_copy
+        ldd r0, [r10-32]
+        exit
+";
+
+const COPY_PAST_STACK: &str = "; V8: four words need 32 cells, and from -24 on there are 24.
+        mov r1, 60
+        mov r2, r10
+        add r2, -24
+        mov r3, 4
+        call board_copy
+        ldd r0, [r10-32]
+        exit
+";
+
+const BOARD_WIDE_MASK: &str =
+    "; V8: the mask leaves 0 to 15, and from -8 there are only eight cells.
+        mov r1, 0
+        call board_get
+        mov r2, r0
+        and r2, 15
+        mov r3, r10
+        add r3, -8
+        add r3, r2
+        stb [r3+0], 1
+        mov r0, 0
+        exit
+";
+
+const ARGUMENT_GONE: &str = "; V5: a call leaves r1 to r5 unset.
+        mov r1, 0
+        call board_get
+        mov r0, r1
+        exit
+";
+
+const COPY_TO_CONTEXT: &str = "; V10: the words would be written to the context.
+        mov r2, r1
+        mov r1, 0
+        mov r3, 1
+        call board_copy
+        exit
+";
+
+#[test]
+fn programs_with_calls_are_accepted(rt: HostRuntime) -> Result<(), Fail> {
+    for (text, lines) in [
+        (
+            BOARD_MASK,
+            "accepted 10 instructions 10 units\nr0 0 steps 10\n",
+        ),
+        (
+            BOARD_SLOT,
+            "accepted 6 instructions 6 units\nr0 0 steps 6\n",
+        ),
+        (
+            BOARD_COPY,
+            "accepted 7 instructions 7 units\nr0 0 steps 7\n",
+        ),
+        (
+            BOARD_CAS,
+            "accepted 10 instructions 10 units\nr0 9 steps 10\n",
+        ),
+        (SEND, "accepted 5 instructions 5 units\nr0 1 steps 5\n"),
+    ] {
+        let answered = verdict(&rt, rt.alloc(), text)?;
+        assert_eq!(rt; answered.as_str(), lines);
+    }
+    Ok(())
+}
+
+#[test]
+fn programs_with_calls_are_refused(rt: HostRuntime) -> Result<(), Fail> {
+    for (text, refusal) in [
+        (NO_HELPER, "V11 unit 1"),
+        (FAR_SLOT, "V12 unit 1"),
+        (LOW_HALF_SLOT, "V12 unit 4"),
+        (COPY_PAST_BOARD, "V12 unit 4"),
+        (COPY_PAST_STACK, "V8 unit 4"),
+        (BOARD_WIDE_MASK, "V8 unit 7"),
+        (ARGUMENT_GONE, "V5 unit 2"),
+        (COPY_TO_CONTEXT, "V10 unit 3"),
+    ] {
+        let answered = verdict(&rt, rt.alloc(), text)?;
+        assert_eq!(rt; answered.as_str(), refusal);
+    }
+    Ok(())
+}

@@ -1,0 +1,39 @@
+//! What the board's answers leave in a program.
+ghost use Rattle.std.specs.Prelude.{◌≡◌, ◌≤◌, length, slice_index};
+ghost use Rattle.semantics.specs.Call.{returned, resumed};
+ghost use Rattle.semantics.specs.Replies.{words_in};
+
+use crate::activation::Activation;
+use crate::registers::set_result;
+use mem::store_words;
+use semantics::{Reply, Request, Span};
+
+impl Activation {
+    /// r0 has the word that was answered.
+    pub(crate) fn told(&mut self, reply: &Reply)
+        requires { length (words_in reply.now) ≡ 1 }
+        ensures state { self.new.state ≡ returned self.old.state (slice_index (words_in reply.now) 0) }
+        ensures shape { self.new.shape ≡ self.old.shape }
+    {
+        let word = match reply {
+            Reply::Word(word) => *word,
+            Reply::Words(words) => words.as_slice()[0],
+        };
+        set_result(&mut self.registers, word);
+    }
+
+    /// The words that were copied stand at r2.
+    pub(crate) fn copied(&mut self, span: Span, reply: &Reply)
+        requires { length (words_in reply.now) ≡ span.1 }
+        ensures state { self.new.state ≡ resumed (Request.Copy span) (words_in reply.now) self.old.state }
+        ensures shape { self.new.shape ≡ self.old.shape }
+    {
+        let count = span.count();
+        let to = self.registers[2];
+        match reply {
+            Reply::Word(word) => store_words(&mut self.stack, to, &[*word]),
+            Reply::Words(words) => store_words(&mut self.stack, to, words.as_slice()),
+        }
+        set_result(&mut self.registers, count as u64);
+    }
+}

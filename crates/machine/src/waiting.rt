@@ -1,0 +1,90 @@
+//! A program that has asked the board.
+ghost use Rattle.std.specs.Prelude.{◌≡◌, ◌++◌, ◌∷◌, [], true, List, ℕ};
+ghost use Rattle.insn.specs.declared.insn.Insn.{Insn};
+ghost use Rattle.semantics.specs.State.{Ask};
+ghost use Rattle.semantics.specs.Call.{fits, resumed};
+ghost use Rattle.semantics.specs.Execution.{step};
+ghost use Rattle.semantics.specs.Reached.{Reached};
+ghost use Rattle.semantics.specs.Replies.{words_in};
+ghost use Rattle.machine.specs.Advance.{IsOfRun, IsAskOfRun};
+
+use crate::activation::Activation;
+use semantics::{Reply, Request};
+use std::marker::Model;
+
+/// A program that waits for the board's answer, seen as its request, the state that waits and the one before it.
+#[derive(Drop)]
+pub struct Waiting {
+    /// The state that waits.
+    pub(crate) activation: Activation,
+    pub(crate) request: Request,
+}
+
+impl Model for Waiting {
+    ghost use Rattle.machine.specs.Standing.{Asking, HasAsked, before};
+
+    ghost Value = { Asking };
+
+    ghost view = { λ w. record { shape = w.activation.shape; request = w.request; last = before w.activation.state; state = w.activation.state } };
+
+    ghost invariant = { λ w. HasAsked w.activation.state };
+}
+
+impl Waiting {
+    /// How many steps it has taken, with that of the request.
+    pub fn steps(&self) -> u32
+        ensures { result ≡ self.now.state.steps }
+    {
+        self.activation.steps()
+    }
+
+    /// What it has asked.
+    pub fn request(&self) -> Request
+        ensures { result ≡ self.now.request }
+    {
+        self.request
+    }
+
+    /// Goes on with the board's answer.
+    pub fn answer(self, reply: Reply) -> Activation
+        requires fits { fits self.request (words_in reply) ≡ true }
+        ensures shape { result.shape ≡ self.shape }
+        ensures resumed { result.state ≡ resumed self.request (words_in reply) self.state }
+        ensures reached { (program : List Insn) (context : List ℕ) (answers : List (List ℕ)) → Reached program context self.shape answers self.last →
+            step program context self.shape self.last ≡ Ask self.request self.state → Reached program context result.shape (answers ++ words_in reply ∷ []) result.state }
+        ensures of_run { (program : List Insn) (context : List ℕ) → IsAskOfRun program context self → IsOfRun program context result }
+    {
+        self.resumed(&reply)
+    }
+
+    /// The state behind the answer.
+    fn resumed(self, reply: &Reply) -> Activation
+        requires { fits self.request (words_in reply.now) ≡ true }
+        ensures shape { result.shape ≡ self.shape }
+        ensures state { result.state ≡ resumed self.request (words_in reply.now) self.state }
+    {
+        let Waiting {
+            mut activation,
+            request,
+        } = self;
+        match request {
+            Request::Copy { span } => activation.copied(span, reply),
+            Request::Get { .. }
+            | Request::Swap { .. }
+            | Request::Add { .. }
+            | Request::Cas { .. } => activation.told(reply),
+        }
+        activation
+    }
+
+    /// Takes the request back: the state is as before it, and so is the count of steps.
+    pub fn cancel(self) -> Activation
+        ensures shape { result.shape ≡ self.shape }
+        ensures state { result.state ≡ self.last }
+    {
+        let Waiting { mut activation, .. } = self;
+        activation.unit -= 1;
+        activation.steps -= 1;
+        activation
+    }
+}

@@ -1,0 +1,65 @@
+//! Numbers in a row at a pointer.
+ghost use Rattle.std.specs.Prelude.{◌≡◌, ◌+◌, ◌*◌, ◌≤◌, take, length, Ok, Err, IfOk, IfErr};
+ghost use Rattle.semantics.specs.Memory.{with_words};
+ghost use Rattle.mem.specs.Answers.{IsAnswer, cause_of};
+ghost use Rattle.mem.specs.Places.{part_at, room_of};
+ghost use Rattle.mem.specs.Reading.{number_in};
+ghost use Rattle.mem.specs.Rows.{row_at};
+
+use crate::context::Context;
+use crate::fault::MemoryFault;
+use crate::stack::Stack;
+use crate::window::{part_at, stack_part};
+use insn::Size;
+use semantics::{Region, Value};
+
+/// So many numbers of 4 bytes each that stand at a pointer.
+pub fn load_row(
+    stack: &Stack,
+    context: &Context,
+    base: Value,
+    count: usize,
+) -> Result<[u32; 13], MemoryFault>
+    requires { count ≤ 13 }
+    ensures row { IfOk result (λ row. row_at context.now stack.now base count ≡ Ok (take count row)) }
+    ensures refused { IfErr result (λ f. row_at context.now stack.now base count ≡ Err (cause_of f)) }
+{
+    stack.tell();
+    let _bytes = context.bytes();
+    let (region, place) = part_at(base, 0, 4 * count)?;
+    let mut row = [0; 13];
+    for i in 0..count {
+        row[i] = word_in(stack, context, region, place + 4 * i)?;
+    }
+    Ok(row)
+}
+
+/// The number in 4 bytes of a region.
+fn word_in(
+    stack: &Stack,
+    context: &Context,
+    region: Region,
+    place: usize,
+) -> Result<u32, MemoryFault>
+    requires { place + 4 ≤ room_of region }
+    ensures { IsAnswer (number_in (part_at context.now stack.now 4 (region, place))) result }
+{
+    match region {
+        Region::Stack => stack.word(place),
+        Region::Context => Ok(context.word(place)),
+    }
+}
+
+/// Writes words of 8 bytes each at a pointer; nothing where they do not fit there.
+pub fn store_words(stack: &mut Stack, base: Value, words: &[u64])
+    requires { length words.now ≤ 64 }
+    ensures { stack.new ≡ with_words stack.old base words.now }
+{
+    stack.tell();
+    let Ok(place) = stack_part(base, 0, 8 * words.len()) else {
+        return;
+    };
+    for i in 0..words.len() {
+        stack.put_number(place + 8 * i, Size::Double, words[i]);
+    }
+}

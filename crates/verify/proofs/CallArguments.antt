@@ -1,0 +1,86 @@
+-- Arguments that are accepted are taken.
+use Rattle.std.proofs.Common.{◌≡◌, ℕ, ◌+◌, ◌<◌, ◌≤◌, List, [], ◌∷◌, Option, Some, None, Bool, true, false, refl, arith}
+use Rattle.std.specs.Prelude.{Ok, Err, not, nat_lt, if◌then◌else◌}
+use Rattle.std.proofs.lemmas.Bool.{lt-ltb, ltb-true}
+use Rattle.semantics.specs.declared.value.Value.{Value}
+use Rattle.semantics.specs.declared.value.Value.TheVariants as value
+use Rattle.semantics.specs.declared.request.Helper.TheVariants.{BoardCopy, SendRow}
+use Rattle.semantics.specs.State.{Cause, Argument as ArgumentCause, value_at}
+use Rattle.semantics.specs.Call.{below}
+use Rattle.absval.specs.declared.value.AbsVal.{AbsVal}
+use Rattle.absval.specs.declared.value.AbsVal.TheVariants.{Unset, Number, Pointer}
+use Rattle.absval.specs.Contains.{Contains}
+use Rattle.helper.specs.declared.argument.Argument.{Argument}
+use Rattle.helper.specs.Table.{bound_of, arguments_of, refusal, test_of, or_else, refused}
+use Rattle.verify.specs.declared.reason.Reason.{Reason}
+use Rattle.verify.specs.Gamma.{RegistersDescribe}
+use Rattle.verify.specs.Calls.{or_reason, reason_if, known_at, argument_reason, arguments_reason, IsBelow, IsPointer}
+use Rattle.verify.proofs.Zips.{AllZip-at}
+
+pub or_parts : (a b : Option Reason) → or_reason a b ≡ None → (a ≡ None) × (b ≡ None)
+or_parts None b e = (refl, e)
+or_parts (Some r) b e = cc
+
+pub no_reason : (t : Bool) (r : Reason) → reason_if (not t) r ≡ None → t ≡ true
+no_reason true r e = refl
+no_reason false r e = cc
+
+or_none : (a b : Option Cause) → a ≡ None → b ≡ None → or_else a b ≡ None
+or_none None b e f = f
+or_none (Some cause) b e f = cc
+
+below_if : (t : Bool) (n : ℕ) → t ≡ true → refusal (if t then Ok n else Err ArgumentCause) ≡ None
+below_if true n e = refl
+below_if false n e = cc
+
+below_fine : (bound n : ℕ) → n < bound → refusal (below bound (value.Number n)) ≡ None
+below_fine bound n l = below_if (nat_lt n bound) n (lt-ltb n bound l)
+
+argument_fine : (bound : Option ℕ) (a : AbsVal) (v : Value) → argument_reason bound a ≡ None → Contains a v → test_of bound v ≡ None
+argument_fine bound Unset v e c = cc
+argument_fine (Some bound) (Number range) value.Unset e c = absurd c
+argument_fine (Some bound) (Number range) (value.Number n) e c =
+    let less : range.hi < bound = ltb-true range.hi bound (no_reason (nat_lt range.hi bound) _ e) in
+    let small : n ≤ range.hi = c.1 in
+    below_fine bound n (omega arith)
+argument_fine (Some bound) (Number range) (value.Pointer region offset) e c = absurd c
+argument_fine None (Number range) v e c = cc
+argument_fine (Some bound) (Pointer region offsets) v e c = cc
+argument_fine None (Pointer region offsets) value.Unset e c = absurd c
+argument_fine None (Pointer region offsets) (value.Number n) e c = absurd c
+argument_fine None (Pointer region offsets) (value.Pointer other offset) e c = refl
+
+-- so a call refuses none of them
+pub arguments_fine : (arguments : List (Option Argument)) (r : ℕ) (known : List AbsVal) (vs : List Value) → RegistersDescribe known vs → arguments_reason arguments r known ≡ None → refused arguments r vs ≡ None
+arguments_fine [] r known vs d e = refl
+arguments_fine (None ∷ arguments) r known vs d e = arguments_fine arguments (r + 1) known vs d e
+arguments_fine (Some argument ∷ arguments) r known vs d e =
+    let parts = or_parts (argument_reason (bound_of argument) (known_at known r)) (arguments_reason arguments (r + 1) known) e in
+    or_none (test_of (bound_of argument) (value_at vs r)) (refused arguments (r + 1) vs)
+    (argument_fine (bound_of argument) (known_at known r) (value_at vs r) parts.0 (AllZip-at Contains known vs r Unset value.Unset d tt))
+    (arguments_fine arguments (r + 1) known vs d parts.1)
+
+below_of : (bound : ℕ) (a : AbsVal) → argument_reason (Some bound) a ≡ None → IsBelow bound a
+below_of bound Unset e = cc
+below_of bound (Number range) e = ltb-true range.hi bound (no_reason (nat_lt range.hi bound) _ e)
+below_of bound (Pointer region offsets) e = cc
+
+pointer_of : (a : AbsVal) → argument_reason None a ≡ None → IsPointer a
+pointer_of Unset e = cc
+pointer_of (Number range) e = cc
+pointer_of (Pointer region offsets) e = tt
+
+-- what is known of the arguments of the helpers that take a pointer
+pub copy_arguments : (known : List AbsVal) → arguments_reason (arguments_of BoardCopy) 1 known ≡ None → IsBelow 64 (known_at known 1) × IsPointer (known_at known 2) × IsBelow 65 (known_at known 3)
+copy_arguments known e =
+    let first = or_parts (argument_reason (Some 64) (known_at known 1)) _ e in
+    let second = or_parts (argument_reason None (known_at known 2)) _ first.1 in
+    let third = or_parts (argument_reason (Some 65) (known_at known 3)) _ second.1 in
+    (below_of 64 (known_at known 1) first.0, pointer_of (known_at known 2) second.0, below_of 65 (known_at known 3) third.0)
+
+pub row_arguments : (known : List AbsVal) → arguments_reason (arguments_of SendRow) 1 known ≡ None → IsPointer (known_at known 2) × IsBelow 14 (known_at known 3)
+row_arguments known e =
+    let first = or_parts (argument_reason (Some 1016) (known_at known 1)) _ e in
+    let second = or_parts (argument_reason None (known_at known 2)) _ first.1 in
+    let third = or_parts (argument_reason (Some 14) (known_at known 3)) _ second.1 in
+    (pointer_of (known_at known 2) second.0, below_of 14 (known_at known 3) third.0)

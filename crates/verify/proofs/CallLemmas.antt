@@ -1,0 +1,228 @@
+-- Where calls go on.
+use Rattle.std.proofs.Common.{◌≡◌, ◌∙◌, ℕ, ◌+◌, ◌*◌, ◌≤◌, List, Option, None, Some, Bool, true, false, refl, sym, ap, subst, length, replicate}
+use Rattle.std.specs.Prelude.{Result, Ok, Err, pos, IsOk, IfOk, nat_le, if◌then◌else◌, ◌==◌, nat_lt, ◌^◌, ◌-◌}
+use Rattle.std.specs.List.{list_all}
+use Rattle.std.proofs.lemmas.Bool.{and_parts, eqb-true, le-leb}
+use Rattle.std.proofs.lemmas.List.{length-replicate}
+use Rattle.range.specs.Interval.{IsIn}
+use Rattle.label.specs.declared.shape.Shape.{Shape}
+use Rattle.semantics.specs.declared.value.Value.{Value}
+use Rattle.semantics.specs.declared.value.Value.TheVariants.{Unset, Number, Pointer}
+use Rattle.semantics.specs.declared.value.Cell.{Cell}
+use Rattle.semantics.specs.declared.request.Helper.{Helper}
+use Rattle.semantics.specs.declared.request.Helper.TheVariants.{BoardGet, BoardSwap, BoardAdd, BoardCas, BoardCopy, Send, SendRow, Sway, Honest}
+use Rattle.semantics.specs.declared.request.Request.{Request}
+use Rattle.semantics.specs.declared.request.Request.TheVariants.{Get, Swap, Add, Cas, Copy}
+use Rattle.semantics.specs.State.{Cause, Argument, State, Next, Ask, Trap, value_at, given}
+use Rattle.semantics.specs.Memory.{stack_place, cells_at, bytes_in, with_words}
+use Rattle.semantics.specs.Outbox.{Choice, places_set, along_row, as_taken}
+use Rattle.semantics.specs.Call.{argument, below, pointer, slot_in, word_in, pointer_in, copy_of, orders_of, orders_at, asked, sent, called, fits, resumed}
+use Rattle.absval.specs.declared.value.AbsVal.{AbsVal}
+use Rattle.absval.specs.declared.value.AbsVal.TheVariants.{Unset as Unknown}
+use Rattle.absval.specs.Contains.{Contains}
+use Rattle.absmem.specs.Known.{Known}
+use Rattle.absmem.specs.Describes.{Describes as StackDescribes}
+use Rattle.helper.specs.Table.{refusal, or_else, refused, arguments_of, AcceptsThese}
+use Rattle.helper.specs.Results.{HoldsResult, Returns}
+use Rattle.helper.proofs.Tests.{copy_in, place_in, row_in, sway_in}
+use Rattle.verify.specs.declared.state.AbsState.{AbsState}
+use Rattle.verify.specs.Gamma.{RegistersDescribe, Describes}
+use Rattle.verify.specs.Outcomes.{IsSetting, StandsAt, GoesOn}
+use Rattle.verify.specs.Calls.{known_at, arguments_reason}
+use Rattle.verify.specs.CallStates.{Puts, CopyStands, RowStands, WindowStands}
+use Rattle.verify.proofs.CallArguments.{arguments_fine}
+use Rattle.verify.proofs.Zips.{AllZip-at}
+
+held_in : (lo hi m : ℕ) → (n : ℕ) × (Number m ≡ Number n) × IsIn lo hi n → IsIn lo hi m
+held_in lo hi m h = let same : h.0 ≡ m = let e = h.1 in cc in subst (λ (n : ℕ). IsIn lo hi n) same h.2
+
+-- the cells, once the request is answered
+abbrev pub CellsStand : Known → List Cell → Value → Request → List ℕ → Type 0
+CellsStand known cells p (Copy span) words = StackDescribes known (with_words cells p words) × (length (with_words cells p words) ≡ 512)
+CellsStand known cells p _ words = StackDescribes known cells × (length cells ≡ 512)
+
+resumed_stands : (a : AbsState) (lo hi unit : ℕ) (request : Request) (words : List ℕ) (w : State) → w.unit ≡ unit → Puts lo hi a.registers w.registers → HoldsResult lo hi (resumed request words w) →
+    CellsStand a.stack w.cells (value_at w.registers 2) request words → StandsAt a unit (resumed request words w)
+resumed_stands a lo hi unit (Get slot) words w e puts held cells = (e, record { registers = puts _ (held_in lo hi _ held); stack = cells.0; size = cells.1 })
+resumed_stands a lo hi unit (Swap slot value) words w e puts held cells = (e, record { registers = puts _ (held_in lo hi _ held); stack = cells.0; size = cells.1 })
+resumed_stands a lo hi unit (Add slot value) words w e puts held cells = (e, record { registers = puts _ (held_in lo hi _ held); stack = cells.0; size = cells.1 })
+resumed_stands a lo hi unit (Cas slot expected new) words w e puts held cells = (e, record { registers = puts _ (held_in lo hi _ held); stack = cells.0; size = cells.1 })
+resumed_stands a lo hi unit (Copy span) words w e puts held cells = (e, record { registers = puts _ (held_in lo hi _ held); stack = cells.0; size = cells.1 })
+
+-- whatever fitting answer comes, its cells are as is known
+abbrev pub AnswersStand : Known → List Cell → Value → Request → Type 0
+AnswersStand known cells p request = (words : List ℕ) → fits request words ≡ true → CellsStand known cells p request words
+
+pub asked_goes : (a : AbsState) (lo hi : ℕ) (s : State) (r : Result Request Cause) → ((cause : Cause) → asked s r ≡ Trap cause → ⊥) → Puts lo hi a.registers s.registers →
+    ((waiting : State) (request : Request) (words : List ℕ) → asked s r ≡ Ask request waiting → fits request words ≡ true → HoldsResult lo hi (resumed request words waiting)) →
+    IfOk r (AnswersStand a.stack s.cells (value_at s.registers 2)) → GoesOn a (s.unit + 1) (asked s r)
+asked_goes a lo hi s (Err cause) free puts held cells = absurd (free cause refl)
+asked_goes a lo hi s (Ok request) free puts held cells = λ answer fit.
+    resumed_stands a lo hi (s.unit + 1) request answer (record s { unit = s.unit + 1; steps = s.steps + 1 }) refl puts
+    (held (record s { unit = s.unit + 1; steps = s.steps + 1 }) request answer refl fit) (cells answer fit)
+
+pub sent_goes : (a : AbsState) (lo hi : ℕ) (shape : Shape) (s : State) (r0 : ℕ → ℕ) (r : Result Choice Cause) → ((cause : Cause) → sent shape s r0 r ≡ Trap cause → ⊥) → Puts lo hi a.registers s.registers →
+    ((after : State) → sent shape s r0 r ≡ Next after → HoldsResult lo hi after) → StackDescribes a.stack s.cells × (length s.cells ≡ 512) → GoesOn a (s.unit + 1) (sent shape s r0 r)
+sent_goes a lo hi shape s r0 (Err cause) free puts held cells = absurd (free cause refl)
+sent_goes a lo hi shape s r0 (Ok choice) free puts held cells =
+    (refl, record { registers = puts (r0 (places_set shape choice)) (held_in lo hi (r0 (places_set shape choice)) (held _ refl)); stack = cells.0; size = cells.1 })
+
+-- what holds of all that a chain may give
+given_all : {A B : Type 0} (P : B → Type 0) (r : Result A Cause) (f : A → Result B Cause) → ((a : A) → r ≡ Ok a → IfOk (f a) P) → IfOk (given r f) P
+given_all P (Ok a) f h = h a refl
+given_all P (Err cause) f h = tt
+
+-- a chain that fails, once its first part is not refused
+given_fails : {A B : Type 0} (r : Result A Cause) (f : A → Result B Cause) (rest : Option Cause) (cause : Cause) → or_else (refusal r) rest ≡ None → given r f ≡ Err cause → (a : A) × (r ≡ Ok a) × (rest ≡ None) × (f a ≡ Err cause)
+given_fails (Ok a) f rest cause e q = (a, refl, e, q)
+given_fails (Err other) f rest cause e q = cc
+
+below_if : (t : Bool) (m n : ℕ) → (if t then Ok m else Err Argument) ≡ Ok n → m ≡ n
+below_if true m n e = cc
+below_if false m n e = cc
+
+-- a number that is taken is the register's
+taken_number : (bound : ℕ) (v : Value) (n : ℕ) → below bound v ≡ Ok n → v ≡ Number n
+taken_number bound Unset n e = cc
+taken_number bound (Number m) n e = ap Number (below_if (nat_lt m bound) m n e)
+taken_number bound (Pointer region offset) n e = cc
+
+taken_pointer : (v p : Value) → pointer v ≡ Ok p → v ≡ p
+taken_pointer Unset p e = cc
+taken_pointer (Number m) p e = cc
+taken_pointer (Pointer region offset) p e = cc
+
+asked_trap : (s : State) (r : Result Request Cause) (cause : Cause) → asked s r ≡ Trap cause → r ≡ Err cause
+asked_trap s (Ok request) cause e = cc
+asked_trap s (Err other) cause e = let same : other ≡ cause = cc in ap Err same
+
+sent_trap : (shape : Shape) (s : State) (r0 : ℕ → ℕ) (r : Result Choice Cause) (cause : Cause) → sent shape s r0 r ≡ Trap cause → r ≡ Err cause
+sent_trap shape s r0 (Ok choice) cause e = cc
+sent_trap shape s r0 (Err other) cause e = let same : other ≡ cause = cc in ap Err same
+
+at_register : (known : List AbsVal) (s : State) (r : ℕ) (v : Value) → RegistersDescribe known s.registers → value_at s.registers r ≡ v → Contains (known_at known r) v
+at_register known s r v d e = subst (λ (w : Value). Contains (known_at known r) w) e (AllZip-at Contains known s.registers r Unknown Unset d tt)
+
+-- ---- board_copy
+
+copy_fails : (t : Bool) (room : Result ℕ Cause) (request : Request) (cause : Cause) → t ≡ true → IsOk room → (if t then given room (λ place. Ok request) else Err Argument) ≡ Err cause → ⊥
+copy_fails true (Ok place) request cause e h q = cc
+copy_fails true (Err other) request cause e h q = cc
+copy_fails false room request cause e h q = cc
+
+copy_gives : (t : Bool) (room : Result ℕ Cause) (request : Request) (P : Request → Type 0) → P request → IfOk (if t then given room (λ place. Ok request) else Err Argument) P
+copy_gives true (Ok place) request P h = h
+copy_gives true (Err cause) request P h = tt
+copy_gives false room request P h = tt
+
+fitting_length : (slot count : ℕ) (words : List ℕ) → fits (Copy (slot, count)) words ≡ true → length words ≡ count
+fitting_length slot count words e = eqb-true (length words) count (and_parts (length words == count) (list_all (λ word. nat_lt word (2 ^ 64)) words) e).0
+
+pub copy_free : (a : AbsState) (new : Known) (s : State) (cause : Cause) → Describes a s → refused (arguments_of BoardCopy) 1 s.registers ≡ None →
+    CopyStands (known_at a.registers 1) (known_at a.registers 2) (known_at a.registers 3) a.stack new → copy_in s ≡ Err cause → ⊥
+copy_free a new s cause d e stands q =
+    let first = given_fails (slot_in s) (λ slot. given (pointer_in s 2) (λ to. given (argument s 3 65) (λ count. copy_of slot to count))) (or_else (refusal (pointer_in s 2)) (or_else (refusal (argument s 3 65)) None)) cause e q in
+    let second = given_fails (pointer_in s 2) (λ to. given (argument s 3 65) (λ count. copy_of first.0 to count)) (or_else (refusal (argument s 3 65)) None) cause first.2 first.3 in
+    let third = given_fails (argument s 3 65) (λ count. copy_of first.0 second.0 count) None cause second.2 second.3 in
+    let long : length (replicate third.0 0) ≡ third.0 = length-replicate third.0 0 in
+    let slot = taken_number 64 (value_at s.registers 1) first.0 first.1 in
+    let to = taken_pointer (value_at s.registers 2) second.0 second.1 in
+    let count = taken_number 65 (value_at s.registers 3) third.0 third.1 in
+    let found = stands s.cells first.0 second.0 (replicate third.0 0) d.stack d.size
+    (at_register a.registers s 1 (Number first.0) d.registers slot) (at_register a.registers s 2 second.0 d.registers to)
+    (at_register a.registers s 3 (Number (length (replicate third.0 0))) d.registers (count ∙ ap Number (sym long))) in
+    let room : IsOk (stack_place second.0 (pos 0) (8 * third.0)) = subst (λ (n : ℕ). IsOk (stack_place second.0 (pos 0) (8 * n))) long found.1.room in
+    let few : first.0 + third.0 ≤ 64 = subst (λ (n : ℕ). first.0 + n ≤ 64) long found.0 in
+    copy_fails (nat_le (first.0 + third.0) 64) (stack_place second.0 (pos 0) (8 * third.0)) (Copy (first.0, third.0)) cause (le-leb (first.0 + third.0) 64 few) room third.3
+
+pub copy_stands : (a : AbsState) (new : Known) (s : State) → Describes a s → CopyStands (known_at a.registers 1) (known_at a.registers 2) (known_at a.registers 3) a.stack new →
+    IfOk (copy_in s) (AnswersStand new s.cells (value_at s.registers 2))
+copy_stands a new s d stands =
+    let P = λ (request : Request). AnswersStand new s.cells (value_at s.registers 2) request in
+    given_all P (slot_in s) (λ slot. given (pointer_in s 2) (λ to. given (argument s 3 65) (λ count. copy_of slot to count))) (λ slot first.
+    given_all P (pointer_in s 2) (λ to. given (argument s 3 65) (λ count. copy_of slot to count)) (λ to second.
+    given_all P (argument s 3 65) (λ count. copy_of slot to count) (λ count third.
+    copy_gives (nat_le (slot + count) 64) (stack_place to (pos 0) (8 * count)) (Copy (slot, count)) P (λ words fit.
+    let long : length words ≡ count = fitting_length slot count words fit in
+    let found = stands s.cells slot (value_at s.registers 2) words d.stack d.size
+    (at_register a.registers s 1 (Number slot) d.registers (taken_number 64 (value_at s.registers 1) slot first)) (at_register a.registers s 2 (value_at s.registers 2) d.registers refl)
+    (at_register a.registers s 3 (Number (length words)) d.registers (taken_number 65 (value_at s.registers 3) count third ∙ ap Number (sym long))) in
+    (found.1.stack, found.1.size)))))
+
+-- ---- send_row
+
+orders_fail : (cells : Result (List Cell) Cause) (f : List ℕ → Choice) (cause : Cause) → IsOk (given cells bytes_in) →
+    given (given cells (λ found. given (bytes_in found) (λ bytes. Ok (orders_of bytes)))) (λ orders. Ok (f orders)) ≡ Err cause → ⊥
+orders_fail (Ok found) f cause h q = by_bytes (bytes_in found) h q
+  where
+    by_bytes : (r : Result (List ℕ) Cause) → IsOk r → given (given r (λ bytes. Ok (orders_of bytes))) (λ orders. Ok (f orders)) ≡ Err cause → ⊥
+    by_bytes (Ok bytes) h q = cc
+    by_bytes (Err other) h q = cc
+orders_fail (Err other) f cause h q = cc
+
+pub row_free : (a : AbsState) (context : List ℕ) (shape : Shape) (s : State) (cause : Cause) → IsSetting context shape → Describes a s → refused (arguments_of SendRow) 1 s.registers ≡ None →
+    RowStands (known_at a.registers 2) (known_at a.registers 3) a.stack → row_in context s ≡ Err cause → ⊥
+row_free a context shape s cause setting d e stands q =
+    let first = given_fails (argument s 1 1016) (λ label. given (pointer_in s 2) (λ from. given (argument s 3 14) (λ count. given (orders_at context s from count) (λ orders. Ok (along_row label orders)))))
+    (or_else (refusal (pointer_in s 2)) (or_else (refusal (argument s 3 14)) None)) cause e q in
+    let second = given_fails (pointer_in s 2) (λ from. given (argument s 3 14) (λ count. given (orders_at context s from count) (λ orders. Ok (along_row first.0 orders)))) (or_else (refusal (argument s 3 14)) None) cause first.2 first.3 in
+    let third = given_fails (argument s 3 14) (λ count. given (orders_at context s second.0 count) (λ orders. Ok (along_row first.0 orders))) None cause second.2 second.3 in
+    orders_fail (cells_at context s.cells second.0 (pos 0) (4 * third.0)) (λ orders. along_row first.0 orders) cause
+    (stands context s.cells second.0 third.0 setting.is_context d.stack d.size
+    (at_register a.registers s 2 second.0 d.registers (taken_pointer (value_at s.registers 2) second.0 second.1))
+    (at_register a.registers s 3 (Number third.0) d.registers (taken_number 14 (value_at s.registers 3) third.0 third.1)))
+    third.3
+
+-- ---- calls
+
+kept : (a : AbsState) (new : Known) (s : State) → Describes a s → new ≡ a.stack → StackDescribes new s.cells × (length s.cells ≡ 512)
+kept a new s d e = (subst (λ (known : Known). StackDescribes known s.cells) (sym e) d.stack, d.size)
+
+-- a call whose arguments are accepted goes on to what is left
+pub called_goes : (helper : Helper) (a new : AbsState) (lo hi : ℕ) (context : List ℕ) (shape : Shape) (s : State) → IsSetting context shape → Describes a s → arguments_reason (arguments_of helper) 1 a.registers ≡ None →
+    AcceptsThese helper (arguments_of helper) → Returns helper lo hi → WindowStands helper a new.stack → Puts lo hi new.registers s.registers → GoesOn new (s.unit + 1) (called context shape s (Some helper))
+called_goes BoardGet a new lo hi context shape s setting d e accepts returns stands puts =
+    let cells = kept a new.stack s d stands in
+    asked_goes new lo hi s (given (slot_in s) (λ slot. Ok (Get slot))) (λ cause q. accepts context shape s cause (arguments_fine (arguments_of BoardGet) 1 a.registers s.registers d.registers e) q) puts
+    (λ waiting request words q fit. returns.answered context shape s waiting request words q fit)
+    (given_all (AnswersStand new.stack s.cells (value_at s.registers 2)) (slot_in s) (λ slot. Ok (Get slot)) (λ slot q words fit. cells))
+called_goes BoardSwap a new lo hi context shape s setting d e accepts returns stands puts =
+    let cells = kept a new.stack s d stands in
+    asked_goes new lo hi s (given (slot_in s) (λ slot. given (word_in s 2) (λ value. Ok (Swap slot value)))) (λ cause q. accepts context shape s cause (arguments_fine (arguments_of BoardSwap) 1 a.registers s.registers d.registers e) q) puts
+    (λ waiting request words q fit. returns.answered context shape s waiting request words q fit)
+    (given_all (AnswersStand new.stack s.cells (value_at s.registers 2)) (slot_in s) (λ slot. given (word_in s 2) (λ value. Ok (Swap slot value))) (λ slot q.
+    given_all (AnswersStand new.stack s.cells (value_at s.registers 2)) (word_in s 2) (λ value. Ok (Swap slot value)) (λ value p words fit. cells)))
+called_goes BoardAdd a new lo hi context shape s setting d e accepts returns stands puts =
+    let cells = kept a new.stack s d stands in
+    asked_goes new lo hi s (given (slot_in s) (λ slot. given (word_in s 2) (λ value. Ok (Add slot value)))) (λ cause q. accepts context shape s cause (arguments_fine (arguments_of BoardAdd) 1 a.registers s.registers d.registers e) q) puts
+    (λ waiting request words q fit. returns.answered context shape s waiting request words q fit)
+    (given_all (AnswersStand new.stack s.cells (value_at s.registers 2)) (slot_in s) (λ slot. given (word_in s 2) (λ value. Ok (Add slot value))) (λ slot q.
+    given_all (AnswersStand new.stack s.cells (value_at s.registers 2)) (word_in s 2) (λ value. Ok (Add slot value)) (λ value p words fit. cells)))
+called_goes BoardCas a new lo hi context shape s setting d e accepts returns stands puts =
+    let cells = kept a new.stack s d stands in
+    let P = λ (request : Request). AnswersStand new.stack s.cells (value_at s.registers 2) request in
+    asked_goes new lo hi s (given (slot_in s) (λ slot. given (word_in s 2) (λ expected. given (word_in s 3) (λ after. Ok (Cas slot expected after)))))
+    (λ cause q. accepts context shape s cause (arguments_fine (arguments_of BoardCas) 1 a.registers s.registers d.registers e) q) puts
+    (λ waiting request words q fit. returns.answered context shape s waiting request words q fit)
+    (given_all P (slot_in s) (λ slot. given (word_in s 2) (λ expected. given (word_in s 3) (λ after. Ok (Cas slot expected after)))) (λ slot q.
+    given_all P (word_in s 2) (λ expected. given (word_in s 3) (λ after. Ok (Cas slot expected after))) (λ expected p.
+    given_all P (word_in s 3) (λ after. Ok (Cas slot expected after)) (λ after o words fit. cells))))
+called_goes BoardCopy a new lo hi context shape s setting d e accepts returns stands puts =
+    asked_goes new lo hi s (copy_in s)
+    (λ cause q. copy_free a new.stack s cause d (arguments_fine (arguments_of BoardCopy) 1 a.registers s.registers d.registers e) stands (asked_trap s (copy_in s) cause q)) puts
+    (λ waiting request words q fit. returns.answered context shape s waiting request words q fit)
+    (copy_stands a new.stack s d stands)
+called_goes Send a new lo hi context shape s setting d e accepts returns stands puts =
+    sent_goes new lo hi shape s (λ set. 1 - set) (place_in s) (λ cause q. accepts context shape s cause (arguments_fine (arguments_of Send) 1 a.registers s.registers d.registers e) q) puts
+    (λ after q. returns.at_once context shape s after setting.is_shape q) (kept a new.stack s d stands)
+called_goes SendRow a new lo hi context shape s setting d e accepts returns stands puts =
+    sent_goes new lo hi shape s (λ set. set) (row_in context s)
+    (λ cause q. row_free a context shape s cause setting d (arguments_fine (arguments_of SendRow) 1 a.registers s.registers d.registers e) stands.1 (sent_trap shape s (λ set. set) (row_in context s) cause q)) puts
+    (λ after q. returns.at_once context shape s after setting.is_shape q) (kept a new.stack s d stands.0)
+called_goes Sway a new lo hi context shape s setting d e accepts returns stands puts =
+    sent_goes new lo hi shape s (λ set. set) (sway_in s) (λ cause q. accepts context shape s cause (arguments_fine (arguments_of Sway) 1 a.registers s.registers d.registers e) q) puts
+    (λ after q. returns.at_once context shape s after setting.is_shape q) (kept a new.stack s d stands)
+called_goes Honest a new lo hi context shape s setting d e accepts returns stands puts =
+    sent_goes new lo hi shape s (λ set. set) (given (argument s 1 13) (λ receiver. Ok (as_taken context receiver)))
+    (λ cause q. accepts context shape s cause (arguments_fine (arguments_of Honest) 1 a.registers s.registers d.registers e) q) puts
+    (λ after q. returns.at_once context shape s after setting.is_shape q) (kept a new.stack s d stands)

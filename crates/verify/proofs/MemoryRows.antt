@@ -1,0 +1,89 @@
+-- Rows of the table of loads and stores.
+use Rattle.std.proofs.Common.{ap₂, ◌≡◌, ◌∙◌, ℕ, zero, suc, ◌+◌, ◌<◌, ◌≤◌, List, Bool, true, false, Option, Some, None, Result, Err, refl, sym, subst, arith}
+use Rattle.std.specs.Prelude.{ℤ, ◌&&◌, ◌-◌, ◌↔◌, IsTrue, if◌then◌else◌}
+use Rattle.std.specs.Option.{ok_or}
+use Rattle.std.specs.Result.{result_err}
+use Rattle.semantics.specs.declared.value.Region.{Region}
+use Rattle.semantics.specs.declared.value.Region.TheVariants.{Stack}
+use Rattle.absval.specs.declared.windows.Window.{Window}
+use Rattle.absval.specs.Windows.{window_known}
+use Rattle.verify.specs.declared.reason.Reason.{Reason}
+use Rattle.verify.specs.declared.reason.Reason.TheVariants.{Bounds, StackUnset}
+use Rattle.insn.specs.declared.insn.Size.{Size}
+use Rattle.insn.specs.Insn.{bytes_of, part_bytes}
+use Rattle.word.specs.declared.Narrow.{Narrow}
+use Rattle.absval.specs.declared.value.Offsets.{Offsets}
+use Rattle.absval.specs.declared.value.AbsVal.{AbsVal}
+use Rattle.absval.specs.declared.value.AbsVal.TheVariants.{Pointer}
+use Rattle.absval.specs.Table.{Ends, ends_of, loaded_known}
+use Rattle.absmem.specs.Known.{Known, byte_at}
+use Rattle.verify.specs.MemoryTable.{all_bytes, unset_in, spilled, unless, pointer_or, stack_given, load_from, load_given, signed_from, signed_load_given, write_refused}
+
+window_refused : (o : Option Window) → result_err (ok_or o Bounds) ≡ write_refused Stack o
+window_refused None = refl
+window_refused (Some w) = refl
+
+-- the stack's window is refused where it leaves the stack
+pub stack_refused : (region : Region) (r : Result Window Reason) (low high distance x : ℤ) (size : ℕ) → region ≡ Stack → x ≡ distance → r ≡ ok_or (window_known Stack low high x size) Bounds →
+    result_err r ≡ write_refused region (window_known region low high distance size)
+stack_refused region r low high distance x size e f g = rw (g, f, e) (window_refused (window_known Stack low high distance size))
+
+-- ---- cells that are bytes
+
+both_true : (a b : Bool) → (a && b) ≡ true → (a ≡ true) × (b ≡ true)
+both_true true b e = (refl, e)
+both_true false b e = absurd cc
+
+bytes_all : (bytes : List Bool) (place n : ℕ) → ((k : ℕ) → place ≤ k → k < place + n → byte_at bytes k ≡ true) → all_bytes bytes place n ≡ true
+bytes_all bytes place zero h = refl
+bytes_all bytes place (suc n) h =
+    ap₂ (λ (a b : Bool). a && b) (h place (omega arith) (omega arith)) (bytes_all bytes (suc place) n (λ k ge lt. h k (omega arith) (omega arith)))
+
+all_each : (bytes : List Bool) (place n i : ℕ) → all_bytes bytes place n ≡ true → i < n → byte_at bytes (place + i) ≡ true
+all_each bytes place zero i e lt = absurd (omega arith)
+all_each bytes place (suc n) zero e lt =
+    let same : place ≡ place + 0 = omega arith in
+    subst (λ (k : ℕ). byte_at bytes k ≡ true) same (both_true (byte_at bytes place) (all_bytes bytes (suc place) n) e).0
+all_each bytes place (suc n) (suc i) e lt =
+    let same : suc place + i ≡ place + suc i = omega arith in
+    subst (λ (k : ℕ). byte_at bytes k ≡ true) same (all_each bytes (suc place) n i (both_true (byte_at bytes place) (all_bytes bytes (suc place) n) e).1 (omega arith))
+
+bytes_each : (bytes : List Bool) (place n : ℕ) → all_bytes bytes place n ≡ true → (k : ℕ) → place ≤ k → k < place + n → byte_at bytes k ≡ true
+bytes_each bytes place n e k ge lt =
+    let same : place + (k - place) ≡ k = omega arith in
+    subst (λ (j : ℕ). byte_at bytes j ≡ true) same (all_each bytes place n (k - place) e (omega arith))
+
+-- the test of each cell is the row's
+pub bytes_tested : (b : Bool) (bytes : List Bool) (place n : ℕ) → IsTrue b ↔ ((k : ℕ) → place ≤ k → k < place + n → byte_at bytes k ≡ true) → all_bytes bytes place n ≡ b
+bytes_tested b bytes place n tests = by_test (all_bytes bytes place n) b refl refl
+  where
+    by_test : (a c : Bool) → a ≡ all_bytes bytes place n → c ≡ b → a ≡ c
+    by_test true true e f = refl
+    by_test false false e f = refl
+    by_test true false e f = absurd (let holds : b ≡ true = tests.1 (bytes_each bytes place n (sym e)) in let clash = f ∙ holds in cc)
+    by_test false true e f = absurd (let all : all_bytes bytes place n ≡ true = bytes_all bytes place n (tests.0 (subst IsTrue f refl)) in let clash = e ∙ all in cc)
+
+pub stack_checked : (b : Bool) (known : Known) (region : Region) (w : Window) → region ≡ Stack → all_bytes known.bytes w.place w.size ≡ b → (if b then None else Some StackUnset) ≡ unset_in known region w
+stack_checked b known region w e f = rw (e, f) refl
+
+-- a load from the stack that finds no pointer
+pub number_from_stack : (known : Known) (size : Size) (w : Window) (b : Bool) → None ≡ spilled known size w → all_bytes known.bytes w.place w.size ≡ b →
+    unless (if b then None else Some StackUnset) (loaded_known size) ≡ stack_given known size w
+number_from_stack known size w b e f = ap₂ (λ (o : Option Ends) (t : Bool). pointer_or o (unless (if t then None else Some StackUnset) (loaded_known size))) e (sym f)
+
+-- a window that leaves its region
+pub load_out : (known : Known) (size : Size) (base : AbsVal) (region : Region) (offsets : Offsets) (distance x : ℤ) (n : ℕ) (reason : Reason) → base ≡ Pointer region offsets → x ≡ distance → n ≡ bytes_of size →
+    Err reason ≡ ok_or (window_known region offsets.low offsets.high x n) Bounds → Err reason ≡ load_given known size (ends_of base) distance
+load_out known size base region offsets distance x n reason e f g h = rw e (by_window (window_known region offsets.low offsets.high distance (bytes_of size)) (rw (f, g) at h))
+  where
+    by_window : (o : Option Window) → Err reason ≡ ok_or o Bounds → Err reason ≡ load_from known size region o
+    by_window None k = let same : reason ≡ Bounds = cc in rw same refl
+    by_window (Some w) k = absurd cc
+
+pub signed_load_out : (known : Known) (part : Narrow) (base : AbsVal) (region : Region) (offsets : Offsets) (distance x : ℤ) (n : ℕ) (reason : Reason) → base ≡ Pointer region offsets → x ≡ distance → n ≡ part_bytes part →
+    Err reason ≡ ok_or (window_known region offsets.low offsets.high x n) Bounds → Err reason ≡ signed_load_given known part (ends_of base) distance
+signed_load_out known part base region offsets distance x n reason e f g h = rw e (by_window (window_known region offsets.low offsets.high distance (part_bytes part)) (rw (f, g) at h))
+  where
+    by_window : (o : Option Window) → Err reason ≡ ok_or o Bounds → Err reason ≡ signed_from known region o
+    by_window None k = let same : reason ≡ Bounds = cc in rw same refl
+    by_window (Some w) k = absurd cc

@@ -1,0 +1,153 @@
+-- Calls of helpers, on what is known (own).
+use Rattle.std.specs.Prelude.{ℕ, ℤ, pos, ◌≡◌, ◌+◌, ◌*◌, ◌≤◌, ◌<◌, ◌&&◌, ◌==◌, not, nat_lt, Bool, true, false, List, [], ◌∷◌, Option, Some, None, Result, Ok, Err, slice_index_or}
+use Rattle.std.specs.Ordering.{int_eq}
+use Rattle.semantics.specs.declared.value.Region.{Region}
+use Rattle.semantics.specs.declared.value.Region.TheVariants.{Stack, Context}
+use Rattle.semantics.specs.declared.request.Helper.{Helper}
+use Rattle.semantics.specs.declared.request.Helper.TheVariants.{BoardCopy, SendRow}
+use Rattle.semantics.specs.Call.{helper_of}
+use Rattle.absval.specs.declared.value.Offsets.{Offsets}
+use Rattle.absval.specs.declared.value.AbsVal.{AbsVal}
+use Rattle.absval.specs.declared.value.AbsVal.TheVariants.{Unset, Number, Pointer}
+use Rattle.absval.specs.declared.windows.Window.{Window}
+use Rattle.absval.specs.Windows.{window_known}
+use Rattle.absmem.specs.Known.{Known, IsSetTo, spill_at, left_of}
+use Rattle.helper.specs.declared.argument.Argument.{Argument}
+use Rattle.helper.specs.Table.{bound_of, arguments_of}
+use Rattle.verify.specs.MemoryTable.{all_bytes}
+use Rattle.verify.specs.declared.reason.Reason.{Reason}
+use Rattle.verify.specs.declared.reason.Reason.TheVariants as reason
+use Rattle.verify.specs.declared.state.AbsState.{AbsState}
+
+-- the answer of a check that has a reason to refuse, or none
+abbrev pub answer_of : Option Reason → Result (Unit {0}) Reason
+answer_of None = Ok tt
+answer_of (Some reason) = Err reason
+
+-- one reason, or else another
+abbrev pub or_reason : Option Reason → Option Reason → Option Reason
+or_reason None other = other
+or_reason (Some reason) other = Some reason
+
+-- a reason, where the test holds
+abbrev pub reason_if : Bool → Reason → Option Reason
+reason_if true reason = Some reason
+reason_if false reason = None
+
+abbrev pub known_at : List AbsVal → ℕ → AbsVal
+known_at known r = slice_index_or known r Unset
+
+-- ---- arguments
+
+-- an argument is a number whose greatest value is below the bound, or a pointer where there is no bound
+abbrev pub argument_reason : Option ℕ → AbsVal → Option Reason
+argument_reason bound Unset = Some reason.Unset
+argument_reason (Some bound) (Number range) = reason_if (not (nat_lt range.hi bound)) reason.Argument
+argument_reason (Some bound) (Pointer region offsets) = Some reason.Argument
+argument_reason None (Number range) = Some reason.Argument
+argument_reason None (Pointer region offsets) = None
+
+-- a register that the helper does not take is not looked at
+abbrev pub taken_reason : Option Argument → AbsVal → Option Reason
+taken_reason None value = None
+taken_reason (Some argument) value = argument_reason (bound_of argument) value
+
+-- the first reason of the registers from r on
+abbrev pub arguments_reason : List (Option Argument) → ℕ → List AbsVal → Option Reason
+arguments_reason [] r known = None
+arguments_reason (argument ∷ arguments) r known = or_reason (taken_reason argument (known_at known r)) (arguments_reason arguments (r + 1) known)
+
+-- it is a number below the bound
+abbrev pub IsBelow : ℕ → AbsVal → Type 0
+IsBelow bound Unset = ⊥
+IsBelow bound (Number range) = range.hi < bound
+IsBelow bound (Pointer region offsets) = ⊥
+
+abbrev pub IsPointer : AbsVal → Type 0
+IsPointer Unset = ⊥
+IsPointer (Number range) = ⊥
+IsPointer (Pointer region offsets) = Unit {0}
+
+-- ---- windows
+
+-- the cells that so many bytes may take at a pointer, where they all lie in its region
+abbrev pub window_from : Region → Offsets → ℕ → Option Window
+window_from region offsets size = window_known region offsets.low offsets.high (pos 0) size
+
+-- words are written to the stack
+abbrev pub target_reason : Region → Option Window → Option Reason
+target_reason Context window = Some reason.ContextWrite
+target_reason Stack None = Some reason.Bounds
+target_reason Stack (Some window) = None
+
+-- orders are read as bytes; those of the context are
+abbrev pub source_reason : Known → Region → Option Window → Option Reason
+source_reason known region None = Some reason.Bounds
+source_reason known Context (Some window) = None
+source_reason known Stack (Some window) = reason_if (not (all_bytes known.bytes window.place window.size)) reason.StackUnset
+
+-- the words that are copied stand on the board, and find room on the stack
+abbrev pub copy_reason : AbsVal → AbsVal → AbsVal → Option Reason
+copy_reason (Number slots) (Pointer region offsets) (Number counts) =
+    or_reason (reason_if (nat_lt 64 (slots.hi + counts.hi)) reason.Argument) (target_reason region (window_from region offsets (8 * counts.hi)))
+copy_reason _ _ _ = None
+
+-- the orders that are sent are there
+abbrev pub row_reason : Known → AbsVal → AbsVal → Option Reason
+row_reason known (Pointer region offsets) (Number counts) = source_reason known region (window_from region offsets (4 * counts.hi))
+row_reason known _ _ = None
+
+abbrev pub window_reason : Helper → AbsState → Option Reason
+window_reason BoardCopy a = copy_reason (known_at a.registers 1) (known_at a.registers 2) (known_at a.registers 3)
+window_reason SendRow a = row_reason a.stack (known_at a.registers 2) (known_at a.registers 3)
+window_reason _ a = None
+
+-- ---- calls
+
+abbrev pub helper_reason : Option Helper → AbsState → Option Reason
+helper_reason None a = Some reason.Helper
+helper_reason (Some helper) a = or_reason (arguments_reason (arguments_of helper) 1 a.registers) (window_reason helper a)
+
+-- why a call of the number is refused: the number, then the arguments in their order, then the window
+abbrev pub call_reason : AbsState → ℤ → Option Reason
+call_reason a number = helper_reason (helper_of number) a
+
+-- ---- what is left
+
+abbrev pub IsNumberOf : ℕ × ℕ → AbsVal → Type 0
+IsNumberOf ends Unset = ⊥
+IsNumberOf ends (Number range) = (range.lo, range.hi) ≡ ends
+IsNumberOf ends (Pointer region offsets) = ⊥
+
+-- r0 is a number between these, r1 to r5 are unset, and the others are as before
+pub record IsBehind (ends : ℕ × ℕ) (old new : List AbsVal) : Type 0 where
+  pub first : IsNumberOf ends (known_at new 0)
+  pub unset : (r : ℕ) → 1 ≤ r → r ≤ 5 → known_at new r ≡ Unset
+  pub others : (r : ℕ) → 6 ≤ r → known_at new r ≡ known_at old r
+
+-- bytes at one place are certain; elsewhere no more is known than before
+abbrev pub BytesWritten : Bool → ℕ → ℕ → List Bool → List Bool → Type 0
+BytesWritten true place end old new = IsSetTo true old new place end
+BytesWritten false place end old new = new ≡ old
+
+-- bytes are written from one place up to another: pointers that stood there are forgotten
+pub record IsWritten (certain : Bool) (window : Window) (old new : Known) : Type 0 where
+  pub bytes : BytesWritten certain window.place (window.place + window.size) old.bytes new.bytes
+  pub spills : (b : ℕ) → b < 64 → spill_at new.spills b ≡ left_of window.place (window.place + window.size) b (spill_at old.spills b)
+
+abbrev pub IsWrittenTo : Bool → Option Window → Known → Known → Type 0
+IsWrittenTo certain None old new = Unit {0}
+IsWrittenTo certain (Some window) old new = IsWritten certain window old new
+
+-- pointer and count are one number each
+abbrev pub is_certain : Offsets → ℕ → ℕ → Bool
+is_certain offsets lo hi = int_eq offsets.low offsets.high && (lo == hi)
+
+abbrev pub IsCopied : AbsVal → AbsVal → Known → Known → Type 0
+IsCopied (Pointer region offsets) (Number counts) old new = IsWrittenTo (is_certain offsets counts.lo counts.hi) (window_from region offsets (8 * counts.hi)) old new
+IsCopied _ _ old new = Unit {0}
+
+-- what a call leaves of the stack
+abbrev pub StackBehind : Helper → AbsState → Known → Type 0
+StackBehind BoardCopy a new = IsCopied (known_at a.registers 2) (known_at a.registers 3) a.stack new
+StackBehind _ a new = new ≡ a.stack

@@ -1,0 +1,182 @@
+-- The verifier's table of loads and stores (own): what each answers, from what is known of the stack and of the values.
+use Rattle.std.specs.Prelude.{ℕ, ℤ, zero, suc, ◌+◌, ◌/◌, ◌%◌, ◌<◌, ◌≡◌, ◌≢◌, ◌==◌, ◌&&◌, Bool, true, false, if◌then◌else◌, List, Option, Some, None, Result, Ok, Err, option_map}
+use Rattle.std.specs.Bool.{MatchBool}
+use Rattle.std.specs.Ordering.{int_eq}
+use Rattle.std.specs.Result.{result_err}
+use Rattle.word.specs.declared.Width.TheVariants.{W64}
+use Rattle.word.specs.declared.Narrow.{Narrow}
+use Rattle.range.specs.Table.{whole}
+use Rattle.insn.specs.declared.insn.Size.{Size}
+use Rattle.insn.specs.declared.insn.Size.TheVariants.{Byte, Half, Word, Double}
+use Rattle.insn.specs.Insn.{bytes_of, part_bytes}
+use Rattle.semantics.specs.declared.value.Region.{Region}
+use Rattle.semantics.specs.declared.value.Region.TheVariants.{Stack, Context}
+use Rattle.absval.specs.declared.value.Offsets.{Offsets}
+use Rattle.absval.specs.declared.value.AbsVal.{AbsVal}
+use Rattle.absval.specs.declared.value.AbsVal.TheVariants.{Pointer}
+use Rattle.insn.specs.declared.insn.Operand.{Operand}
+use Rattle.absval.specs.declared.windows.Window.{Window}
+use Rattle.absval.specs.Table.{Ends, Nothing, Numbers, Pointers, ends_of, loaded_known}
+use Rattle.absval.specs.Windows.{window_known}
+use Rattle.absmem.specs.declared.spill.Spill.{Spill}
+use Rattle.absmem.specs.declared.spill.Spill.TheVariants.{Whole}
+use Rattle.absmem.specs.Known.{Known, byte_at, spill_at, IsSetTo, left_of, pointer_of}
+use Rattle.verify.specs.declared.reason.Reason.{Reason}
+use Rattle.verify.specs.declared.reason.Reason.TheVariants.{Unset, FrameWrite, PointerUse, Bounds, StackUnset, ContextWrite}
+use Rattle.verify.specs.declared.state.AbsState.{AbsState}
+use Rattle.verify.specs.Registers.{seen, known_at, operand_known}
+
+abbrev pub pointer_in : AbsVal → Result (Region × Offsets) Reason
+pointer_in (Pointer region offsets) = Ok (region, offsets)
+pointer_in _ = Err PointerUse
+
+abbrev pub ends_given : Result AbsVal Reason → Result Ends Reason
+ends_given (Ok a) = Ok (ends_of a)
+ends_given (Err reason) = Err reason
+
+-- ---- loads: the base is a pointer, the window lies in its region, and the cells are there
+
+-- so many cells from the place on are known to be bytes
+abbrev pub all_bytes : List Bool → ℕ → ℕ → Bool
+all_bytes bytes place zero = true
+all_bytes bytes place (suc n) = byte_at bytes place && all_bytes bytes (suc place) n
+
+-- a cell of a window that may be no byte; those of a context are bytes
+abbrev pub unset_in : Known → Region → Window → Option Reason
+unset_in known Context w = None
+unset_in known Stack w = if all_bytes known.bytes w.place w.size then None else Some StackUnset
+
+abbrev pub unless : Option Reason → Ends → Result Ends Reason
+unless None numbers = Ok numbers
+unless (Some reason) numbers = Err reason
+
+-- the pointer whose pieces 0 to 7 stand from the place on
+abbrev pub spilled_at : Known → ℕ → Option Ends
+spilled_at known place = option_map (λ p. Pointers p.0 (p.1, p.1)) (pointer_of (place % 8) (spill_at known.spills (place / 8)))
+
+-- eight bytes at one address, where the window is no wider than they are, find a pointer
+abbrev pub spilled : Known → Size → Window → Option Ends
+spilled known Double w = if w.size == 8 then spilled_at known w.place else None
+spilled known Byte w = None
+spilled known Half w = None
+spilled known Word w = None
+
+abbrev pub pointer_or : Option Ends → Result Ends Reason → Result Ends Reason
+pointer_or (Some pointer) number = Ok pointer
+pointer_or None number = number
+
+abbrev pub stack_given : Known → Size → Window → Result Ends Reason
+stack_given known size w = pointer_or (spilled known size w) (unless (unset_in known Stack w) (loaded_known size))
+
+abbrev pub load_from : Known → Size → Region → Option Window → Result Ends Reason
+load_from known size region None = Err Bounds
+load_from known size Context (Some w) = Ok (loaded_known size)
+load_from known size Stack (Some w) = stack_given known size w
+
+-- what a load gives
+abbrev pub load_given : Known → Size → Ends → ℤ → Result Ends Reason
+load_given known size Nothing distance = Err PointerUse
+load_given known size (Numbers n) distance = Err PointerUse
+load_given known size (Pointers region at) distance =
+    load_from known size region (window_known region at.0 at.1 distance (bytes_of size))
+
+-- all numbers
+abbrev pub all_numbers : Ends
+all_numbers = Numbers (whole W64)
+
+abbrev pub signed_from : Known → Region → Option Window → Result Ends Reason
+signed_from known region None = Err Bounds
+signed_from known region (Some w) = unless (unset_in known region w) all_numbers
+
+-- what a load gives that extends by the sign: no pointer
+abbrev pub signed_load_given : Known → Narrow → Ends → ℤ → Result Ends Reason
+signed_load_given known part Nothing distance = Err PointerUse
+signed_load_given known part (Numbers n) distance = Err PointerUse
+signed_load_given known part (Pointers region at) distance =
+    signed_from known region (window_known region at.0 at.1 distance (part_bytes part))
+
+-- ---- stores: the base is a pointer, a pointer is stored whole, no context is written, and the window lies in the stack
+
+-- a pointer is stored as eight bytes, with one offset, at one address
+abbrev pub is_storable : Size → ℤ × ℤ → ℤ × ℤ → Bool
+is_storable Double at stored = int_eq at.0 at.1 && int_eq stored.0 stored.1
+is_storable Byte at stored = false
+is_storable Half at stored = false
+is_storable Word at stored = false
+
+abbrev pub write_refused : Region → Option Window → Option Reason
+write_refused Context w = Some ContextWrite
+write_refused Stack None = Some Bounds
+write_refused Stack (Some w) = None
+
+abbrev pub pointer_refused : Size → Region → ℤ × ℤ → ℤ → ℤ × ℤ → Option Reason
+pointer_refused size region at distance stored =
+    if is_storable size at stored then write_refused region (window_known region at.0 at.1 distance 8) else Some PointerUse
+
+-- why a value may not be stored, if so
+abbrev pub store_refused : Size → Ends → ℤ → Ends → Option Reason
+store_refused size Nothing distance value = Some PointerUse
+store_refused size (Numbers n) distance value = Some PointerUse
+store_refused size (Pointers region at) distance Nothing = Some Unset
+store_refused size (Pointers region at) distance (Numbers n) = write_refused region (window_known region at.0 at.1 distance (bytes_of size))
+store_refused size (Pointers region at) distance (Pointers other stored) = pointer_refused size region at distance stored
+
+-- each pointer of which a cell lies from one place up to another is forgotten
+abbrev pub Forgets : ℕ → ℕ → List Spill → List Spill → Type 0
+Forgets place end old new = (b : ℕ) → b < 64 → spill_at new b ≡ left_of place end b (spill_at old b)
+
+-- bytes stand there
+pub record HasPutBytes (place size : ℕ) (old new : Known) : Type 0 where
+  pub bytes : IsSetTo true old.bytes new.bytes place (place + size)
+  pub spills : Forgets place (place + size) old.spills new.spills
+
+-- bytes stand somewhere there: what was a byte is one
+pub record HasSpreadBytes (place size : ℕ) (old new : Known) : Type 0 where
+  pub bytes : new.bytes ≡ old.bytes
+  pub spills : Forgets place (place + size) old.spills new.spills
+
+-- the pieces of a pointer stand there
+pub record HasPutPointer (place : ℕ) (region : Region) (offset : ℤ) (old new : Known) : Type 0 where
+  pub bytes : IsSetTo false old.bytes new.bytes place (place + 8)
+  pub here : spill_at new.spills (place / 8) ≡ Whole (place % 8) region offset
+  pub others : (b : ℕ) → b < 64 → b ≢ place / 8 → spill_at new.spills b ≡ left_of place (place + 8) b (spill_at old.spills b)
+
+-- a number is stored at one address, where the window is no wider than it is, or at one of several
+abbrev pub StoresNumber : Known → ℕ → Option Window → Known → Type 0
+StoresNumber old size None new = ⊥
+StoresNumber old size (Some w) new = MatchBool (w.size == size) (HasPutBytes w.place w.size old new) (HasSpreadBytes w.place w.size old new)
+
+abbrev pub StoresPointer : Known → Region → ℤ → Option Window → Known → Type 0
+StoresPointer old region offset None new = ⊥
+StoresPointer old region offset (Some w) new = HasPutPointer w.place region offset old new
+
+-- what a store leaves
+abbrev pub Stores : Known → Size → Ends → ℤ → Ends → Known → Type 0
+Stores old size Nothing distance value new = ⊥
+Stores old size (Numbers n) distance value new = ⊥
+Stores old size (Pointers region at) distance Nothing new = ⊥
+Stores old size (Pointers region at) distance (Numbers n) new = StoresNumber old (bytes_of size) (window_known region at.0 at.1 distance (bytes_of size)) new
+Stores old size (Pointers region at) distance (Pointers other stored) new = StoresPointer old other stored.0 (window_known region at.0 at.1 distance 8) new
+
+-- ---- the instructions' checks in their order: what is read is set, r10 is not written, and then these
+
+abbrev pub unset_or : Ends → Option Reason → Option Reason
+unset_or Nothing next = Some Unset
+unset_or (Numbers n) next = next
+unset_or (Pointers region at) next = next
+
+abbrev pub frame_or : ℕ → Option Reason → Option Reason
+frame_or dst next = if dst == 10 then Some FrameWrite else next
+
+abbrev pub load_reason : AbsState → Size → ℕ → ℕ → ℤ → Option Reason
+load_reason state size dst base offset =
+    unset_or (known_at (seen state.registers) base) (frame_or dst (result_err (load_given state.stack size (known_at (seen state.registers) base) offset)))
+
+abbrev pub signed_load_reason : AbsState → Narrow → ℕ → ℕ → ℤ → Option Reason
+signed_load_reason state part dst base offset =
+    unset_or (known_at (seen state.registers) base) (frame_or dst (result_err (signed_load_given state.stack part (known_at (seen state.registers) base) offset)))
+
+abbrev pub store_reason : AbsState → Size → ℕ → ℤ → Operand → Option Reason
+store_reason state size base offset source =
+    unset_or (known_at (seen state.registers) base) (unset_or (operand_known (seen state.registers) source)
+    (store_refused size (known_at (seen state.registers) base) offset (operand_known (seen state.registers) source)))

@@ -1,0 +1,54 @@
+-- Why an instruction may not run: the verifier's checks in their order (own).
+use Rattle.std.specs.Prelude.{ℕ, ◌≡◌, ◌==◌, Bool, true, false, if◌then◌else◌, List, [], ◌∷◌, Option, Some, None, is_none, slice_set}
+use Rattle.word.specs.declared.Width.{Width}
+use Rattle.word.specs.declared.Operation.{Operation}
+use Rattle.insn.specs.declared.insn.Operand.{Operand}
+use Rattle.absval.specs.Table.{Ends, Nothing, Numbers, Pointers, computed}
+use Rattle.verify.specs.declared.reason.Reason.{Reason}
+use Rattle.verify.specs.declared.reason.Reason.TheVariants.{Unset, FrameWrite, PointerUse, ExitPointer}
+use Rattle.verify.specs.declared.state.AbsState.{AbsState}
+use Rattle.verify.specs.Registers.{seen, operand_known, first_known}
+
+-- a test, and the reason that stands where it holds
+abbrev pub Check : Type 0
+Check = Bool × Reason
+
+-- the first reason of a list of checks
+abbrev pub first_reason : List Check → Option Reason
+first_reason [] = None
+first_reason (check ∷ checks) = if check.0 then Some check.1 else first_reason checks
+
+abbrev pub is_unset : Ends → Bool
+is_unset Nothing = true
+is_unset (Numbers n) = false
+is_unset (Pointers region o) = false
+
+abbrev pub is_pointer : Ends → Bool
+is_pointer Nothing = false
+is_pointer (Numbers n) = false
+is_pointer (Pointers region o) = true
+
+-- the value is set, the register that is written is not the frame pointer, and the table gives something
+abbrev pub made_checks : ℕ → Ends → Option Ends → List Check
+made_checks dst value made = (is_unset value, Unset) ∷ (dst == 10, FrameWrite) ∷ (is_none made, PointerUse) ∷ []
+
+abbrev pub arithmetic_checks : List Ends → Width → Operation → ℕ → Operand → List Check
+arithmetic_checks known w operation dst operand =
+    (is_unset (first_known known operation dst), Unset)
+    ∷ made_checks dst (operand_known known operand) (computed w operation (first_known known operation dst) (operand_known known operand))
+
+abbrev pub write_checks : ℕ → List Check
+write_checks dst = (dst == 10, FrameWrite) ∷ []
+
+-- both values are set, and numbers
+abbrev pub compare_checks : Ends → Ends → List Check
+compare_checks a b = (is_unset a, Unset) ∷ (is_unset b, Unset) ∷ (is_pointer a, PointerUse) ∷ (is_pointer b, PointerUse) ∷ []
+
+-- r0 is a number
+abbrev pub exit_checks : Ends → List Check
+exit_checks r0 = (is_unset r0, Unset) ∷ (is_pointer r0, ExitPointer) ∷ []
+
+-- dst is known to hold that, and all else is as before
+abbrev pub Assigns : AbsState → ℕ → Option Ends → AbsState → Type 0
+Assigns old dst None new = ⊥
+Assigns old dst (Some value) new = (seen new.registers ≡ slice_set (seen old.registers) dst value) × (new.stack ≡ old.stack)

@@ -1,0 +1,216 @@
+//! What a call of a helper does to what is known.
+ghost use Rattle.std.specs.Prelude.{pos, ◌≡◌, ◌+◌, ◌*◌, ◌≤◌, ◌<◌, ℕ, true, List, [], ◌∷◌, None, Some, length, slice_range, IsOk, IfSome, OnOk};
+ghost use Rattle.range.specs.Interval.{IsIn};
+ghost use Rattle.semantics.specs.declared.value.Value.{Value};
+ghost use Rattle.semantics.specs.declared.value.Cell.{Cell};
+ghost use Rattle.semantics.specs.Call.{helper_of};
+ghost use Rattle.absval.specs.Contains.{IsPointerIn, is_number};
+ghost use Rattle.absval.specs.Windows.{room_of};
+ghost use Rattle.absmem.specs.Describes.{Describes as StackDescribes, AreBytes};
+ghost use Rattle.helper.specs.Table.{bound_of, arguments_of};
+ghost use Rattle.helper.specs.Results.{result_of};
+ghost use Rattle.verify.specs.Gamma.{RegistersDescribe};
+ghost use Rattle.verify.specs.Outcomes.{Follows};
+ghost use Rattle.verify.specs.Calls.{answer_of, argument_reason, taken_reason, arguments_reason, known_at, IsBelow, IsPointer, window_from, target_reason, source_reason, copy_reason, row_reason, window_reason, call_reason, is_certain, IsBehind, IsWrittenTo, IsCopied, StackBehind};
+ghost use Rattle.verify.specs.CallStates.{Puts, WordsStand, CopyStands, RowStands, WindowStands};
+
+use crate::reason::Reason;
+use crate::state::AbsState;
+use absmem::AbsStack;
+use absval::{AbsVal, Offsets, Window, window_of};
+use helper::{Argument, Helper};
+use insn::Insn;
+use range::Range;
+use semantics::Region;
+
+/// An argument is a number that is not above its greatest, or a pointer where it has none.
+fn check_argument(argument: Argument, value: AbsVal) -> Result<(), Reason>
+    ensures { result ≡ answer_of (argument_reason (bound_of argument) value) }
+{
+    match (value, argument.greatest()) {
+        (AbsVal::Unset, _) => Err(Reason::Unset),
+        (AbsVal::Number(range), Some(greatest)) if range.hi <= greatest => Ok(()),
+        (AbsVal::Pointer(..), None) => Ok(()),
+        _ => Err(Reason::Argument),
+    }
+}
+
+/// A register that the helper does not take is not looked at.
+fn check_taken(argument: Option<Argument>, value: AbsVal) -> Result<(), Reason>
+    ensures { result ≡ answer_of (taken_reason argument value) }
+{
+    match argument {
+        None => Ok(()),
+        Some(argument) => check_argument(argument, value),
+    }
+}
+
+/// What is known of a register.
+fn known(registers: &[AbsVal; 11], r: usize) -> AbsVal
+    requires { r < 11 }
+    ensures { result ≡ known_at registers.now r }
+{
+    registers[r]
+}
+
+/// The arguments in r1, r2 and r3, in this order.
+fn check_arguments(
+    registers: &[AbsVal; 11],
+    first: Option<Argument>,
+    second: Option<Argument>,
+    third: Option<Argument>,
+) -> Result<(), Reason>
+    ensures { result ≡ answer_of (arguments_reason (first ∷ second ∷ third ∷ []) 1 registers.now) }
+{
+    check_taken(first, known(registers, 1))?;
+    check_taken(second, known(registers, 2))?;
+    check_taken(third, known(registers, 3))
+}
+
+/// The range of an argument that is a number.
+fn number(value: AbsVal) -> Range
+    requires { is_number value ≡ true }
+    ensures { value ≡ AbsVal.Number result }
+{
+    match value {
+        AbsVal::Number(range) => range,
+        AbsVal::Unset | AbsVal::Pointer(..) => unreachable!(),
+    }
+}
+
+/// The pointer that an argument is.
+fn pointer(value: AbsVal) -> (Region, Offsets)
+    requires { IsPointer value }
+    ensures { value ≡ AbsVal.Pointer result.0 result.1 }
+{
+    match value {
+        AbsVal::Pointer(region, offsets) => (region, offsets),
+        AbsVal::Unset | AbsVal::Number(_) => unreachable!(),
+    }
+}
+
+/// Whether words are written to one place: pointer and count are one number each.
+fn is_certain(offsets: Offsets, counts: Range) -> bool
+    ensures { result ≡ is_certain offsets counts.lo counts.hi }
+{
+    offsets.low == offsets.high && counts.is_single()
+}
+
+/// Words are written at an offset of the stack, so many of 8 bytes each.
+fn write_words(stack: &mut AbsStack, offsets: Offsets, counts: Range) -> Result<(), Reason>
+    requires { counts.hi ≤ 64 }
+    ensures refused { result ≡ answer_of (target_reason Region.Stack (window_from Region.Stack offsets (8 * counts.hi))) }
+    ensures left { OnOk result (IsWrittenTo (is_certain offsets counts.lo counts.hi) (window_from Region.Stack offsets (8 * counts.hi)) stack.old stack.new) }
+    ensures holds { OnOk result ((cells : List Cell) (p : Value) (words : List ℕ) → StackDescribes stack.old cells → length cells ≡ 512 →
+        IsPointerIn Region.Stack offsets.low offsets.high p → IsIn counts.lo counts.hi (length words) → WordsStand stack.new cells p words) }
+{
+    let Some(window) = window_of(Region::Stack, offsets, 0, 8 * counts.hi as usize) else {
+        return Err(Reason::Bounds);
+    };
+    if is_certain(offsets, counts) {
+        stack.put_bytes(window.place, window.size);
+    } else {
+        stack.spread_bytes(window.place, window.size);
+    }
+    Ok(())
+}
+
+/// Words of the board are copied to a pointer: up to so many, from one of the slots on.
+fn copy(stack: &mut AbsStack, slots: AbsVal, target: AbsVal, counts: AbsVal) -> Result<(), Reason>
+    requires slots { IsBelow 64 slots }
+    requires target { IsPointer target }
+    requires counts { IsBelow 65 counts }
+    ensures refused { result ≡ answer_of (copy_reason slots target counts) }
+    ensures left { OnOk result (IsCopied target counts stack.old stack.new) }
+    ensures holds { OnOk result (CopyStands slots target counts stack.old stack.new) }
+{
+    let slots = number(slots);
+    let (region, offsets) = pointer(target);
+    let counts = number(counts);
+    if slots.hi + counts.hi > 64 {
+        return Err(Reason::Argument);
+    }
+    match region {
+        Region::Context => Err(Reason::ContextWrite),
+        Region::Stack => write_words(stack, offsets, counts),
+    }
+}
+
+/// The cells of the window are bytes: those of the context are.
+fn check_bytes(stack: &AbsStack, region: Region, window: Window) -> Result<(), Reason>
+    requires { window.place + window.size ≤ room_of region }
+    ensures refused { result ≡ answer_of (source_reason stack.now region (Some window)) }
+    ensures holds { OnOk result (region ≡ Region.Stack → (cells : List Cell) (at n : ℕ) → StackDescribes stack.now cells → length cells ≡ 512 →
+        window.place ≤ at → at + n ≤ window.place + window.size → AreBytes (slice_range cells at (at + n))) }
+{
+    match region {
+        Region::Context => Ok(()),
+        Region::Stack => {
+            if !stack.has_bytes(window.place, window.size) {
+                return Err(Reason::StackUnset);
+            }
+            Ok(())
+        }
+    }
+}
+
+/// Orders are read at a pointer, up to so many of 4 bytes each.
+fn check_row(stack: &AbsStack, source: AbsVal, counts: AbsVal) -> Result<(), Reason>
+    requires source { IsPointer source }
+    requires counts { IsBelow 14 counts }
+    ensures refused { result ≡ answer_of (row_reason stack.now source counts) }
+    ensures holds { OnOk result (RowStands source counts stack.now) }
+{
+    let (region, offsets) = pointer(source);
+    let counts = number(counts);
+    let Some(window) = window_of(region, offsets, 0, 4 * counts.hi as usize) else {
+        return Err(Reason::Bounds);
+    };
+    check_bytes(stack, region, window)
+}
+
+/// The cells at a pointer, for the helpers that take one.
+fn pass_window(state: &mut AbsState, helper: Helper) -> Result<(), Reason>
+    requires { arguments_reason (arguments_of helper) 1 state.old.registers ≡ None }
+    ensures refused { result ≡ answer_of (window_reason helper state.old) }
+    ensures registers { state.new.registers ≡ state.old.registers }
+    ensures left { OnOk result (StackBehind helper state.old state.new.stack) }
+    ensures holds { OnOk result (WindowStands helper state.old state.new.stack) }
+{
+    let first = known(&state.registers, 1);
+    let second = known(&state.registers, 2);
+    let third = known(&state.registers, 3);
+    match helper {
+        Helper::BoardCopy => copy(&mut state.stack, first, second, third),
+        Helper::SendRow => check_row(&state.stack, second, third),
+        _ => Ok(()),
+    }
+}
+
+/// Behind a call r0 has the result, and r1 to r5 are unset.
+fn put_result(registers: &mut [AbsVal; 11], range: Range)
+    ensures behind { IsBehind (range.lo, range.hi) registers.old registers.new }
+    ensures puts { (vs : List Value) → RegistersDescribe registers.old vs → Puts range.lo range.hi registers.new vs }
+{
+    registers[0] = AbsVal::Number(range);
+    for r in 1..6 {
+        registers[r] = AbsVal::Unset;
+    }
+}
+
+/// The helper of the number is called.
+pub fn call(state: &mut AbsState, number: i32) -> Result<(), Reason>
+    ensures holds { OnOk result (Follows state.old (Insn.Call number) state.new) }
+    ensures refused { result ≡ answer_of (call_reason state.old number) }
+    ensures registers { OnOk result (IfSome (helper_of number) (λ h. IsBehind (result_of h) state.old.registers state.new.registers)) }
+    ensures stack { OnOk result (IfSome (helper_of number) (λ h. StackBehind h state.old state.new.stack)) }
+{
+    let Some(helper) = helper::helper_of(number) else {
+        return Err(Reason::Helper);
+    };
+    let [first, second, third] = helper::arguments(helper);
+    check_arguments(&state.registers, first, second, third)?;
+    pass_window(state, helper)?;
+    put_result(&mut state.registers, helper::result(helper));
+    Ok(())
+}
