@@ -1,5 +1,3 @@
-ghost use Rattle.std.specs.Prelude.{◌≡◌};
-
 use crate::activation::Activation;
 use crate::waiting::Waiting;
 use outbox::Outbox;
@@ -25,13 +23,4 @@ pub enum Pause {
     Done(Ended),
     /// It has taken as many steps as the limit says.
     Cut(Activation),
-}
-
-impl Pause {
-    /// It stands at a request.
-    pub(crate) fn asked(waiting: Waiting) -> Pause
-        ensures { result ≡ Pause.Board waiting.request waiting }
-    {
-        Pause::Board(waiting.request(), waiting)
-    }
 }

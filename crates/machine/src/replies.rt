@@ -1,6 +1,6 @@
 //! What the board's answers leave in a program.
-ghost use Rattle.std.specs.Prelude.{◌≡◌, ◌≤◌, length, slice_index};
-ghost use Rattle.semantics.specs.Call.{returned, resumed};
+ghost use Rattle.std.specs.Prelude.{◌≡◌, ◌≤◌, true, length, slice_index};
+ghost use Rattle.semantics.specs.Call.{fits, returned, resumed};
 ghost use Rattle.semantics.specs.Replies.{words_in};
 
 use crate::activation::Activation;
@@ -9,6 +9,21 @@ use mem::store_words;
 use semantics::{Reply, Request, Span};
 
 impl Activation {
+    /// Goes on behind its request, with the board's reply.
+    pub(crate) fn resume(&mut self, request: Request, reply: &Reply)
+        requires { fits request (words_in reply.now) ≡ true }
+        ensures state { self.new.state ≡ resumed request (words_in reply.now) self.old.state }
+        ensures shape { self.new.shape ≡ self.old.shape }
+    {
+        match request {
+            Request::Copy { span } => self.copied(span, reply),
+            Request::Get { .. }
+            | Request::Swap { .. }
+            | Request::Add { .. }
+            | Request::Cas { .. } => self.told(reply),
+        }
+    }
+
     /// r0 has the word that was answered.
     pub(crate) fn told(&mut self, reply: &Reply)
         requires { length (words_in reply.now) ≡ 1 }

@@ -54,26 +54,11 @@ impl Waiting {
             step program context self.shape self.last ≡ Ask self.request self.state → Reached program context result.shape (answers ++ words_in reply ∷ []) result.state }
         ensures of_run { (program : List Insn) (context : List ℕ) → IsAskOfRun program context self → IsOfRun program context result }
     {
-        self.resumed(&reply)
-    }
-
-    /// The state behind the answer.
-    fn resumed(self, reply: &Reply) -> Activation
-        requires { fits self.request (words_in reply.now) ≡ true }
-        ensures shape { result.shape ≡ self.shape }
-        ensures state { result.state ≡ resumed self.request (words_in reply.now) self.state }
-    {
         let Waiting {
             mut activation,
             request,
         } = self;
-        match request {
-            Request::Copy { span } => activation.copied(span, reply),
-            Request::Get { .. }
-            | Request::Swap { .. }
-            | Request::Add { .. }
-            | Request::Cas { .. } => activation.told(reply),
-        }
+        activation.resume(request, &reply);
         activation
     }
 

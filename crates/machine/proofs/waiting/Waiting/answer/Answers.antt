@@ -1,12 +1,19 @@
 -- The answer goes to what was asked.
+use Rattle.std.proofs.Common.{◌∙◌, ap}
+use Rattle.semantics.specs.Call.{resumed}
 use Rattle.semantics.specs.Replies.{words_in}
+use Rattle.machine.specs.Standing.{Asking}
 use Rattle.machine.proofs.AdvanceLemmas.{answer_reached, answer_of_run}
 use Rattle.machine.proofs.waiting.Waiting.answer.Goals as goal
 
 pub returns-clause-reached : goal.returns-clause-reached
 returns-clause-reached c = λ program context answers reached asks.
-    answer_reached program context answers c.args.self (words_in c.args.reply) c.resumed.result reached asks c.requires.fits c.resumed.ensures.shape c.resumed.ensures.state
+    let shape = c.resume.ensures.shape ∙ ap (λ (w : Asking). w.shape) c.self.view_is in
+    let state = c.resume.ensures.state ∙ ap (λ (w : Asking). resumed w.request (words_in c.args.reply) w.state) c.self.view_is in
+    answer_reached program context answers c.args.self (words_in c.args.reply) c.resume.new.self reached asks c.requires.fits shape state
 
 pub returns-clause-of_run : goal.returns-clause-of_run
 returns-clause-of_run c = λ program context ask.
-    answer_of_run program context c.args.self (words_in c.args.reply) c.resumed.result ask c.requires.fits c.resumed.ensures.shape c.resumed.ensures.state
+    let shape = c.resume.ensures.shape ∙ ap (λ (w : Asking). w.shape) c.self.view_is in
+    let state = c.resume.ensures.state ∙ ap (λ (w : Asking). resumed w.request (words_in c.args.reply) w.state) c.self.view_is in
+    answer_of_run program context c.args.self (words_in c.args.reply) c.resume.new.self ask c.requires.fits shape state
