@@ -46,7 +46,7 @@ impl Waiting {
     }
 
     /// Goes on with the board's answer.
-    pub fn answer(self, reply: Reply) -> Activation
+    pub fn answer(mut self, reply: Reply) -> Activation
         requires fits { fits self.request (words_in reply) ≡ true }
         ensures shape { result.shape ≡ self.shape }
         ensures resumed { result.state ≡ resumed self.request (words_in reply) self.state }
@@ -54,12 +54,8 @@ impl Waiting {
             step program context self.shape self.last ≡ Ask self.request self.state → Reached program context result.shape (answers ++ words_in reply ∷ []) result.state }
         ensures of_run { (program : List Insn) (context : List ℕ) → IsAskOfRun program context self → IsOfRun program context result }
     {
-        let Waiting {
-            mut activation,
-            request,
-        } = self;
-        activation.resume(request, &reply);
-        activation
+        self.activation.resume(self.request, &reply);
+        self.activation
     }
 
     /// Takes the request back: the state is as before it, and so is the count of steps.
