@@ -13,5 +13,5 @@ mod replies;
 mod waiting;
 
 pub use activation::Activation;
-pub use pause::{Ended, Pause};
+pub use pause::{Ended, Pause, Stop};
 pub use waiting::Waiting;

@@ -3,6 +3,17 @@ use crate::waiting::Waiting;
 use outbox::Outbox;
 use semantics::Request;
 
+/// Why a running program stands still.
+#[derive(Clone, Copy, Debug, PartialEq, Eq)]
+pub enum Stop {
+    /// It asks the board.
+    Asked(Request),
+    /// It has exited with r0.
+    Exited(u64),
+    /// It has taken as many steps as the limit says.
+    Limit,
+}
+
 /// What is left of an activation.
 #[derive(Drop)]
 pub struct Ended {
