@@ -1,4 +1,7 @@
-ghost use Rattle.machine.specs.Advance.{IsOfRun};
+ghost use Rattle.std.specs.Prelude.{List, ℕ, OnOk};
+ghost use Rattle.insn.specs.declared.insn.Insn.{Insn};
+ghost use Rattle.machine.specs.Standing.{before};
+ghost use Rattle.machine.specs.Advance.{IsOfRun, IsAskOfRun};
 
 use crate::bytecode::{UNITS, bytecode};
 use crate::plain::{mixed, units_of};
@@ -6,9 +9,10 @@ use crate::shape::Shape;
 use anyhow::{Result, bail};
 use board::Board;
 use codec::decode;
-use machine::{Activation, Pause};
+use machine::{Activation, Stop};
 use mem::Context;
 use outbox::{Outbox, Shape as Relay};
+use semantics::Request;
 use std::alloc::Global;
 use std::fmt;
 use std::rt::Clock;
@@ -169,13 +173,21 @@ fn served(
     requires { IsOfRun verified.now context.now activation }
 {
     for _ in 0..UNITS {
-        match activation.advance(verified, context, limit) {
-            Pause::Board(request, waiting) => {
-                activation = waiting.answer(board.apply(SHAPE.general, SHAPE.round, request)?);
-            }
-            Pause::Done(ended) => return Ok(u64::from(ended.steps)),
-            Pause::Cut(activation) => return Ok(u64::from(activation.steps())),
+        match activation.run(verified, context, limit) {
+            Stop::Asked(request) => answer(&mut activation, board, &request)?,
+            Stop::Exited(_) | Stop::Limit => return Ok(u64::from(activation.steps())),
         }
     }
     bail!("more requests than units")
+}
+
+/// The board answers an activation's request.
+fn answer(activation: &mut Activation, board: &mut Board, request: &Request) -> Result<()>
+    ensures of_run { OnOk result ((program : List Insn) (context : List ℕ) →
+        IsAskOfRun program context (record { shape = activation.old.shape; request = request.now; last = before activation.old.state; state = activation.old.state }) →
+        IsOfRun program context activation.new) }
+{
+    let reply = board.apply(SHAPE.general, SHAPE.round, *request)?;
+    activation.resume(request, &reply);
+    Ok(())
 }

@@ -1,5 +1,11 @@
 //! What the board's answers leave in a program.
-ghost use Rattle.std.specs.Prelude.{◌≡◌, ◌≤◌, true, length, slice_index};
+ghost use Rattle.std.specs.Prelude.{◌≡◌, ◌++◌, ◌∷◌, [], true, List, ℕ, length, slice_index};
+ghost use Rattle.insn.specs.declared.insn.Insn.{Insn};
+ghost use Rattle.semantics.specs.State.{Ask};
+ghost use Rattle.semantics.specs.Execution.{step};
+ghost use Rattle.semantics.specs.Reached.{Reached};
+ghost use Rattle.machine.specs.Standing.{before};
+ghost use Rattle.machine.specs.Advance.{IsOfRun, IsAskOfRun};
 ghost use Rattle.semantics.specs.Call.{fits, returned, resumed};
 ghost use Rattle.semantics.specs.Replies.{words_in};
 
@@ -9,8 +15,22 @@ use mem::store_words;
 use semantics::{Reply, Request, Span};
 
 impl Activation {
-    /// Goes on behind its request, with the board's reply.
-    pub(crate) fn resume(&mut self, request: Request, reply: &Reply)
+    /// Goes on with the board's reply to what it asked, where it stands: [`crate::Waiting::answer`] of an
+    /// activation that is lent.
+    pub fn resume(&mut self, request: &Request, reply: &Reply)
+        requires fits { fits request.now (words_in reply.now) ≡ true }
+        ensures shape { self.new.shape ≡ self.old.shape }
+        ensures resumed { self.new.state ≡ resumed request.now (words_in reply.now) self.old.state }
+        ensures reached { (program : List Insn) (context : List ℕ) (answers : List (List ℕ)) → Reached program context self.old.shape answers (before self.old.state) →
+            step program context self.old.shape (before self.old.state) ≡ Ask request.now self.old.state → Reached program context self.new.shape (answers ++ words_in reply.now ∷ []) self.new.state }
+        ensures of_run { (program : List Insn) (context : List ℕ) →
+            IsAskOfRun program context (record { shape = self.old.shape; request = request.now; last = before self.old.state; state = self.old.state }) → IsOfRun program context self.new }
+    {
+        self.replied(*request, reply);
+    }
+
+    /// What the reply leaves.
+    pub(crate) fn replied(&mut self, request: Request, reply: &Reply)
         requires { fits request (words_in reply.now) ≡ true }
         ensures state { self.new.state ≡ resumed request (words_in reply.now) self.old.state }
         ensures shape { self.new.shape ≡ self.old.shape }

@@ -54,7 +54,7 @@ impl Waiting {
             step program context self.shape self.last ≡ Ask self.request self.state → Reached program context result.shape (answers ++ words_in reply ∷ []) result.state }
         ensures of_run { (program : List Insn) (context : List ℕ) → IsAskOfRun program context self → IsOfRun program context result }
     {
-        self.activation.resume(self.request, &reply);
+        self.activation.replied(self.request, &reply);
         self.activation
     }
 
