@@ -1,2 +1,4 @@
 pub mod Overwriting
 pub mod Keeping
+pub mod Masks
+pub mod Members

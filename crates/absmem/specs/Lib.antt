@@ -1,2 +1,4 @@
 pub mod Known
+pub mod Members
+pub mod Laws
 pub mod Describes

@@ -1,7 +1,8 @@
 //! What the verifier knows of a stack: which cells are bytes, and where whole pointers stand.
 #![tactic(auto)]
 
-mod bytes;
+mod cell_set;
+mod mask;
 mod pointers;
 mod spill;
 mod stack;

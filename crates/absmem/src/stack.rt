@@ -4,15 +4,16 @@ ghost use Rattle.semantics.specs.Memory.{overwritten, pieces_of};
 ghost use Rattle.absmem.specs.Known.{byte_at, spill_at, IsSetTo, left_of, joined_spill, pointer_of};
 ghost use Rattle.absmem.specs.Describes.{Describes, AreBytes};
 
+use crate::cell_set::CellSet;
+use crate::pointers;
 use crate::spill::Spill;
-use crate::{bytes, pointers};
 use semantics::Region;
 use std::marker::Model;
 
 /// What is known of a stack of 512 cells.
 #[derive(Clone, Copy, Debug)]
 pub struct AbsStack {
-    bytes: [bool; 512],
+    bytes: CellSet,
     spills: [Spill; 64],
 }
 
@@ -36,7 +37,7 @@ impl AbsStack {
         ensures holds { (cells : List Cell) → Describes result cells }
     {
         AbsStack {
-            bytes: [false; 512],
+            bytes: CellSet::none(),
             spills: [Spill::Free; 64],
         }
     }
@@ -51,7 +52,7 @@ impl AbsStack {
     {
         let end = place + size;
         pointers::clear(&mut self.spills, place, end);
-        bytes::set(&mut self.bytes, place, end, true);
+        self.bytes.set(place, end, true);
     }
 
     /// Bytes are stored somewhere in the window.
@@ -74,7 +75,7 @@ impl AbsStack {
         ensures holds { (cells : List Cell) → Describes self.old cells → length cells ≡ 512 → Describes self.new (overwritten cells place (pieces_of region offset)) }
     {
         pointers::clear(&mut self.spills, place, place + 8);
-        bytes::set(&mut self.bytes, place, place + 8, false);
+        self.bytes.set(place, place + 8, false);
         pointers::put(&mut self.spills, place, region, offset);
     }
 
@@ -85,7 +86,7 @@ impl AbsStack {
         ensures holds { IsTrue result → (cells : List Cell) (at n : ℕ) → Describes self.now cells → length cells ≡ 512 → place ≤ at → at + n ≤ place + size →
             AreBytes (slice_range cells at (at + n)) }
     {
-        bytes::are_all(&self.bytes, place, place + size)
+        self.bytes.has(place, place + size)
     }
 
     /// The pointer that is known to stand whole at the place.
@@ -116,7 +117,7 @@ impl AbsStack {
         ensures left { (cells : List Cell) → Describes self.old cells → Describes self.new cells }
         ensures right { (cells : List Cell) → Describes other.now cells → Describes self.new cells }
     {
-        bytes::join(&mut self.bytes, &other.bytes);
+        self.bytes.intersect(&other.bytes);
         pointers::join(&mut self.spills, &other.spills);
     }
 }

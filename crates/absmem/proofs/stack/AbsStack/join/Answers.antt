@@ -3,7 +3,7 @@ use Rattle.absmem.proofs.stack.AbsStack.join.Goals as goal
 
 pub invariant_of-self : goal.invariant_of-self
 invariant_of-self c = record {
-  cells = c.join.array_long;
-  blocks = c.join-2.ensures.size;
-  filed = λ b lt. rw (c.join-2.ensures.each b lt) (filed_joined b _ _ (c.self.invariant.filed b lt));
+  cells = c.intersect.ensures.size;
+  blocks = c.join.ensures.size;
+  filed = λ b lt. rw (c.join.ensures.each b lt) (filed_joined b _ _ (c.self.invariant.filed b lt));
 }

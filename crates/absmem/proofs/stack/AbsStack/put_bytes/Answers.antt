@@ -6,7 +6,7 @@ use Rattle.absmem.proofs.stack.AbsStack.put_bytes.Goals as goal
 
 pub invariant_of-self : goal.invariant_of-self
 invariant_of-self c = record {
-  cells = c.set.array_long;
+  cells = c.set.ensures.size;
   blocks = c.clear.ensures.size;
   filed = λ b lt. rw (c.clear.ensures.each b lt) (filed_left _ _ b _ (c.self.invariant.filed b lt));
 }
@@ -14,5 +14,5 @@ invariant_of-self c = record {
 pub returns-clause-holds : goal.returns-clause-holds
 returns-clause-holds c =
     λ cells new described long are size.
-    described_put (record { bytes = c.self.inside.bytes; spills = c.self.inside.spills }) _ cells new c.args.place c.args.size c.set.ensures c.clear.ensures.each c.requires.within long are size
+    described_put (record { bytes = c.self.inside.bytes; spills = c.self.inside.spills }) _ cells new c.args.place c.args.size c.set.ensures.window c.clear.ensures.each c.requires.within long are size
     (subst (λ (known : Known). Describes known cells) (sym c.self.view_is) described)

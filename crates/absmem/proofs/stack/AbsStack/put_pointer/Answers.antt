@@ -10,7 +10,7 @@ use Rattle.absmem.proofs.stack.AbsStack.put_pointer.Goals as goal
 pub returns-clause-holds : goal.returns-clause-holds
 returns-clause-holds c =
     λ cells described long.
-    described_pointer (record { bytes = c.self.inside.bytes; spills = c.self.inside.spills }) _ c.clear.new.spills cells c.args.place c.args.region c.args.offset c.set.ensures
+    described_pointer (record { bytes = c.self.inside.bytes; spills = c.self.inside.spills }) _ c.clear.new.spills cells c.args.place c.args.region c.args.offset c.set.ensures.window
     c.clear.ensures.size c.clear.ensures.each
     (subst (λ (o : ℤ). c.put.new.spills ≡ set c.clear.new.spills (c.args.place / 8) (Whole (c.args.place % 8) c.args.region o)) (to_z-of_z w32 c.args.offset c.ranges.offset) c.put.ensures) c.requires.within long
     (subst (λ (known : Known). Describes known cells) (sym c.self.view_is) described)

@@ -1,0 +1,73 @@
+ghost use Rattle.std.specs.Prelude.{◌≡◌, ◌<◌, ◌≤◌, ◌&&◌, ◌↔◌, ℕ, IsTrue, true, false, length, replicate};
+ghost use Rattle.absmem.specs.Known.{byte_at, IsSetTo};
+
+use crate::mask;
+use std::marker::Model;
+
+/// A set of cells of the stack: a bit for each of the 512.
+#[derive(Clone, Copy, Debug)]
+pub(crate) struct CellSet {
+    words: [u64; 8],
+}
+
+impl Model for CellSet {
+    ghost use Rattle.std.specs.Prelude.{List, Bool};
+    ghost use Rattle.absmem.specs.Members.{members, words_of, AreWords};
+    ghost use Rattle.absmem.specs.Laws.{words_of-members};
+
+    ghost Value = { List Bool };
+
+    ghost view = { λ s. members s.words };
+
+    ghost invariant = { λ s. AreWords s.words };
+
+    ghost inverse = { λ flags. record { words = words_of flags } };
+
+    ghost inverse_ok = { λ s kept i. record { words = words_of-members s.words kept i } };
+}
+
+impl CellSet {
+    /// No cell.
+    pub(crate) fn none() -> CellSet
+        ensures { result ≡ replicate 512 false }
+    {
+        CellSet { words: [0; 8] }
+    }
+
+    /// The cells of the window are taken in or out.
+    pub(crate) fn set(&mut self, place: usize, end: usize, value: bool)
+        requires ordered { place ≤ end }
+        requires within { end ≤ 512 }
+        ensures size { length self.new ≡ 512 }
+        ensures window { IsSetTo value self.old self.new place end }
+    {
+        for number in place / 64..(end + 63) / 64 {
+            let mask = mask::window(number, place, end);
+            self.words[number] = mask::put(self.words[number], mask, value);
+        }
+    }
+
+    /// Whether each cell of the window belongs to the set.
+    pub(crate) fn has(&self, place: usize, end: usize) -> bool
+        requires ordered { place ≤ end }
+        requires within { end ≤ 512 }
+        ensures { IsTrue result ↔ ((k : ℕ) → place ≤ k → k < end → byte_at self.now k ≡ true) }
+    {
+        for number in place / 64..(end + 63) / 64 {
+            if !mask::has(self.words[number], mask::window(number, place, end)) {
+                return false;
+            }
+        }
+        true
+    }
+
+    /// Keeps the cells that belong to both.
+    pub(crate) fn intersect(&mut self, other: &CellSet)
+        ensures size { length self.new ≡ 512 }
+        ensures both { (k : ℕ) → byte_at self.new k ≡ (byte_at self.old k && byte_at other.now k) }
+    {
+        for number in 0..8 {
+            self.words[number] &= other.words[number];
+        }
+    }
+}

@@ -1,0 +1,42 @@
+//! Bits of a word that stand beside one another.
+ghost use Rattle.std.specs.Prelude.{◌≡◌, ◌+◌, ◌-◌, ◌*◌, ◌^◌, ◌/◌, ◌<◌, ◌≤◌, ◌↔◌, ◌==◌, ℕ, IsTrue, min, if◌then◌else◌};
+ghost use Rattle.std.specs.Int.{bit_at};
+
+/// The lowest bits of a word, so many.
+fn lowest(count: usize) -> u64
+    requires { count ≤ 64 }
+    ensures { result ≡ 2 ^ count - 1 }
+{
+    if count == 64 {
+        return u64::MAX;
+    }
+    (1 << count) - 1
+}
+
+/// The bits that stand for cells of the window in the word of this number.
+pub(crate) fn window(number: usize, place: usize, end: usize) -> u64
+    requires ordered { place ≤ end }
+    requires within { end ≤ 512 }
+    requires begun { place / 64 ≤ number }
+    requires met { 64 * number ≤ end }
+    ensures { result ≡ 2 ^ min (end - 64 * number) 64 - 2 ^ (place - 64 * number) }
+{
+    let start = 64 * number;
+    let from = place.saturating_sub(start);
+    let to = (end - start).min(64);
+    lowest(to) - lowest(from)
+}
+
+/// The word with the bits of the mask set or cleared, and its other bits.
+pub(crate) fn put(word: u64, mask: u64, value: bool) -> u64
+    ensures { (i : ℕ) → i < 64 → bit_at result i ≡ (if bit_at mask i == 1 then (if value then 1 else 0) else bit_at word i) }
+{
+    if value { word | mask } else { word & !mask }
+}
+
+/// Whether each bit of the mask is set in the word.
+pub(crate) fn has(word: u64, mask: u64) -> bool
+    ensures { IsTrue result ↔ ((i : ℕ) → i < 64 → bit_at mask i ≡ 1 → bit_at word i ≡ 1) }
+{
+    word & mask == mask
+}
