@@ -50,12 +50,55 @@ const BOARD_CAS: &str = "; Word 0 becomes 5, and then 9 because it is 5.
         exit
 ";
 
+const BOARD_ADD: &str =
+    "; A counter in word 0: each call answers the word before it, so the second one answers 1.
+        mov r1, 0
+        mov r2, 1
+        call board_add
+        mov r1, 0
+        mov r2, 1
+        call board_add
+        exit
+";
+
 const SEND: &str =
     "; Tells general 1 the order 1 for the label of rank 0; r0 is 1 where there is no such place.
         mov r1, 0
         mov r2, 1
         mov r3, 1
         call send
+        exit
+";
+
+const SEND_ROW: &str =
+    "; Tells the receivers of the label of rank 0 the orders 1, 0 and 1; r0 is how many are set.
+        stw [r10-12], 1
+        stw [r10-8], 0
+        stw [r10-4], 1
+        mov r1, 0
+        mov r2, r10
+        add r2, -12
+        mov r3, 3
+        call send_row
+        exit
+";
+
+const SWAY: &str = "; Tells general 2 the order 1 for every label; r0 is how many are set.
+        mov r1, 2
+        mov r2, 1
+        call sway
+        exit
+";
+
+const HONEST: &str =
+    "; Tells general 1 for every label what was taken for it, and general 2 the order 0.
+        mov r1, 1
+        call honest
+        mov r6, r0              ; a call leaves r6 to r9 as they are
+        mov r1, 2
+        mov r2, 0
+        call sway
+        add r0, r6
         exit
 ";
 
@@ -122,6 +165,18 @@ const ARGUMENT_GONE: &str = "; V5: a call leaves r1 to r5 unset.
         exit
 ";
 
+const ROW_PAST_CELLS: &str = "; V9: the mask leaves 0 to 3 orders, and only two are stored.
+        stw [r10-12], 1
+        stw [r10-8], 0
+        ldd r3, [r1+32]
+        and r3, 3
+        mov r1, 0
+        mov r2, r10
+        add r2, -12
+        call send_row
+        exit
+";
+
 const COPY_TO_CONTEXT: &str = "; V10: the words would be written to the context.
         mov r2, r1
         mov r1, 0
@@ -149,7 +204,11 @@ fn programs_with_calls_are_accepted(rt: HostRuntime) -> Result<(), Fail> {
             BOARD_CAS,
             "accepted 10 instructions 10 units\nr0 9 steps 10\n",
         ),
+        (BOARD_ADD, "accepted 7 instructions 7 units\nr0 1 steps 7\n"),
         (SEND, "accepted 5 instructions 5 units\nr0 1 steps 5\n"),
+        (SEND_ROW, "accepted 9 instructions 9 units\nr0 0 steps 9\n"),
+        (SWAY, "accepted 4 instructions 4 units\nr0 0 steps 4\n"),
+        (HONEST, "accepted 8 instructions 8 units\nr0 0 steps 8\n"),
     ] {
         let answered = verdict(&rt, rt.alloc(), text)?;
         assert_eq!(rt; answered.as_str(), lines);
@@ -166,6 +225,7 @@ fn programs_with_calls_are_refused(rt: HostRuntime) -> Result<(), Fail> {
         (COPY_PAST_BOARD, "V12 unit 4"),
         (COPY_PAST_STACK, "V8 unit 4"),
         (BOARD_WIDE_MASK, "V8 unit 7"),
+        (ROW_PAST_CELLS, "V9 unit 7"),
         (ARGUMENT_GONE, "V5 unit 2"),
         (COPY_TO_CONTEXT, "V10 unit 3"),
     ] {

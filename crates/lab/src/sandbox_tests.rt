@@ -147,6 +147,18 @@ const LOW_HALF_TESTED: &str =
 out:    exit
 ";
 
+const SIGNED_HALF_TESTED: &str =
+    "; V7: the test reads 32 bits as signed, and the number is only known to be below 2^32.
+        ldw r2, [r1+32]
+        mov r0, 0
+        jsgt.w r2, 7, out
+        mov r3, r10
+        add r3, -8
+        add r3, r2
+        stb [r3+0], 1
+out:    exit
+";
+
 const ABOVE_STACK: &str = "; V8: eight bytes from -4 on end at 4, and the stack ends at 0.
         ldd r0, [r10-4]
         exit
@@ -232,6 +244,7 @@ fn programs_of_the_page_are_refused(rt: HostRuntime) -> Result<(), Fail> {
         (NUMBER_AS_POINTER, "V7 unit 1"),
         (POINTER_COMPARED, "V7 unit 1"),
         (LOW_HALF_TESTED, "V7 unit 5"),
+        (SIGNED_HALF_TESTED, "V7 unit 5"),
         (ABOVE_STACK, "V8 unit 0"),
         (WIDE_MASK, "V8 unit 5"),
         (EMPTY_CELLS, "V9 unit 1"),

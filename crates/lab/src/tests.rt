@@ -23,10 +23,15 @@ fn row(
     Ok(())
 }
 
+/// `check` accepts the bytecode, and prints this.
+fn run(rt: &impl Abort, alloc: Global, code: &str, lines: &str) -> Result<(), Fail> {
+    let task = Task::Check(String::from_str(alloc, "p.bin")?);
+    let bytes = hex::decode(alloc, code)?;
+    row(rt, alloc, &task, bytes.as_slice(), (0, lines, ""))
+}
+
 #[test]
 fn accepted_programs_are_run(rt: HostRuntime) -> Result<(), Fail> {
-    let alloc = rt.alloc();
-    let task = Task::Check(String::from_str(alloc, "p.bin")?);
     for (code, lines) in [
         (
             "b70000002a0000009500000000000000",
@@ -37,20 +42,78 @@ fn accepted_programs_are_run(rt: HostRuntime) -> Result<(), Fail> {
             "accepted 3 instructions 3 units\nr0 0 steps 3\n",
         ),
         (
-            "7b1af8ff0000000079a2f8ff0000000061200000000000009500000000000000",
-            "accepted 4 instructions 4 units\nr0 4 steps 4\n",
-        ),
-        (
             "b7000000ffffffff07000000020000009500000000000000",
             "accepted 3 instructions 3 units\nr0 1 steps 3\n",
+        ),
+        (
+            "b700000001000000b7010000ffffffff6d10010000000000b7000000070000009500000000000000",
+            "accepted 5 instructions 5 units\nr0 1 steps 4\n",
+        ),
+        (
+            "b70000000100000067000000410000009500000000000000",
+            "accepted 3 instructions 3 units\nr0 2 steps 3\n",
+        ),
+        (
+            "18000000887766550000000044332211dc000000100000009500000000000000",
+            "accepted 3 instructions 4 units\nr0 34935 steps 3\n",
+        ),
+        (
+            "b701000080000000bf100800000000009500000000000000",
+            "accepted 3 instructions 3 units\nr0 18446744073709551488 steps 3\n",
+        ),
+    ] {
+        run(&rt, rt.alloc(), code, lines)?;
+    }
+    Ok(())
+}
+
+#[test]
+fn division_by_zero_and_overflow_are_run(rt: HostRuntime) -> Result<(), Fail> {
+    for (code, lines) in [
+        (
+            "b700000005000000b7010000000000003f100000000000009500000000000000",
+            "accepted 4 instructions 4 units\nr0 0 steps 4\n",
+        ),
+        (
+            "1800000005000000000000000100000097000000000000009500000000000000",
+            "accepted 3 instructions 4 units\nr0 4294967301 steps 3\n",
+        ),
+        (
+            "1800000005000000000000000100000034000000000000009500000000000000",
+            "accepted 3 instructions 4 units\nr0 0 steps 3\n",
+        ),
+        (
+            "1800000000000000000000000000008037000100ffffffff9500000000000000",
+            "accepted 3 instructions 4 units\nr0 9223372036854775808 steps 3\n",
+        ),
+        (
+            "1800000000000000000000000000008097000100ffffffff9500000000000000",
+            "accepted 3 instructions 4 units\nr0 0 steps 3\n",
+        ),
+        (
+            "1800000000000080000000000000000034000100ffffffff9500000000000000",
+            "accepted 3 instructions 4 units\nr0 2147483648 steps 3\n",
+        ),
+        (
+            "1800000000000080000000000000000094000100ffffffff9500000000000000",
+            "accepted 3 instructions 4 units\nr0 0 steps 3\n",
         ),
         (
             "b7000000f3ffffff97000100030000009500000000000000",
             "accepted 3 instructions 3 units\nr0 18446744073709551615 steps 3\n",
         ),
+    ] {
+        run(&rt, rt.alloc(), code, lines)?;
+    }
+    Ok(())
+}
+
+#[test]
+fn programs_with_memory_and_calls_are_run(rt: HostRuntime) -> Result<(), Fail> {
+    for (code, lines) in [
         (
-            "b700000001000000b7010000ffffffff6d10010000000000b7000000070000009500000000000000",
-            "accepted 5 instructions 5 units\nr0 1 steps 4\n",
+            "7b1af8ff0000000079a2f8ff0000000061200000000000009500000000000000",
+            "accepted 4 instructions 4 units\nr0 4 steps 4\n",
         ),
         (
             "7912200000000000b7000000000000002502040007000000bfa300000000000007030000f8ffffff0f2300000000000072030000010000009500000000000000",
@@ -73,8 +136,7 @@ fn accepted_programs_are_run(rt: HostRuntime) -> Result<(), Fail> {
             "accepted 9 instructions 9 units\nr0 4 steps 9\n",
         ),
     ] {
-        let bytes = hex::decode(alloc, code)?;
-        row(&rt, alloc, &task, bytes.as_slice(), (0, lines, ""))?;
+        run(&rt, rt.alloc(), code, lines)?;
     }
     Ok(())
 }
