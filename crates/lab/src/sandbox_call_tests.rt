@@ -234,3 +234,15 @@ fn programs_with_calls_are_refused(rt: HostRuntime) -> Result<(), Fail> {
     }
     Ok(())
 }
+
+#[test]
+fn a_row_of_stored_orders_is_accepted(rt: HostRuntime) -> Result<(), Fail> {
+    let alloc = rt.alloc();
+    let text = ROW_PAST_CELLS.replace(alloc, "and r3, 3", "and r3, 1")?;
+    let answered = verdict(&rt, alloc, text.as_str())?;
+    assert_eq!(rt;
+        answered.as_str(),
+        "accepted 9 instructions 9 units\nr0 0 steps 9\n"
+    );
+    Ok(())
+}

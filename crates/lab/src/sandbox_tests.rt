@@ -257,3 +257,17 @@ fn programs_of_the_page_are_refused(rt: HostRuntime) -> Result<(), Fail> {
     }
     Ok(())
 }
+
+#[test]
+fn other_comparisons_tell_of_32_bits(rt: HostRuntime) -> Result<(), Fail> {
+    let alloc = rt.alloc();
+    for comparison in ["jgt", "jgt.w", "jsgt"] {
+        let text = SIGNED_HALF_TESTED.replace(alloc, "jsgt.w", comparison)?;
+        let answered = verdict(&rt, alloc, text.as_str())?;
+        assert_eq!(rt;
+            answered.as_str(),
+            "accepted 8 instructions 8 units\nr0 0 steps 8\n"
+        );
+    }
+    Ok(())
+}
