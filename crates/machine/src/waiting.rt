@@ -62,6 +62,7 @@ impl Waiting {
     pub fn cancel(self) -> Activation
         ensures shape { result.shape ≡ self.shape }
         ensures state { result.state ≡ self.last }
+        ensures of_run { (program : List Insn) (context : List ℕ) → IsAskOfRun program context self → IsOfRun program context result }
     {
         let Waiting { mut activation, .. } = self;
         activation.unit -= 1;
