@@ -1,5 +1,5 @@
 //! What a call of a helper does to what is known.
-ghost use Rattle.std.specs.Prelude.{pos, ◌≡◌, ◌+◌, ◌*◌, ◌≤◌, ◌<◌, ℕ, true, List, [], ◌∷◌, None, Some, length, slice_range, IsOk, IfSome, OnOk};
+ghost use Rattle.std.specs.Prelude.{pos, ◌≡◌, ◌+◌, ◌*◌, ◌≤◌, ◌<◌, ℕ, true, List, [], ◌∷◌, None, Some, length, slice_range, IsOk, IfSome, OnOk, OnErr};
 ghost use Rattle.range.specs.Interval.{IsIn};
 ghost use Rattle.semantics.specs.declared.value.Value.{Value};
 ghost use Rattle.semantics.specs.declared.value.Cell.{Cell};
@@ -101,6 +101,7 @@ fn write_words(stack: &mut AbsStack, offsets: Offsets, counts: Range) -> Result<
     requires { counts.hi ≤ 64 }
     ensures refused { result ≡ answer_of (target_reason Region.Stack (window_from Region.Stack offsets (8 * counts.hi))) }
     ensures left { OnOk result (IsWrittenTo (is_certain offsets counts.lo counts.hi) (window_from Region.Stack offsets (8 * counts.hi)) stack.old stack.new) }
+    ensures kept { OnErr result (stack.new ≡ stack.old) }
     ensures holds { OnOk result ((cells : List Cell) (p : Value) (words : List ℕ) → StackDescribes stack.old cells → length cells ≡ 512 →
         IsPointerIn Region.Stack offsets.low offsets.high p → IsIn counts.lo counts.hi (length words) → WordsStand stack.new cells p words) }
 {
@@ -122,6 +123,7 @@ fn copy(stack: &mut AbsStack, slots: AbsVal, target: AbsVal, counts: AbsVal) -> 
     requires counts { IsBelow 65 counts }
     ensures refused { result ≡ answer_of (copy_reason slots target counts) }
     ensures left { OnOk result (IsCopied target counts stack.old stack.new) }
+    ensures kept { OnErr result (stack.new ≡ stack.old) }
     ensures holds { OnOk result (CopyStands slots target counts stack.old stack.new) }
 {
     let slots = number(slots);
@@ -175,6 +177,7 @@ fn pass_window(state: &mut AbsState, helper: Helper) -> Result<(), Reason>
     ensures refused { result ≡ answer_of (window_reason helper state.old) }
     ensures registers { state.new.registers ≡ state.old.registers }
     ensures left { OnOk result (StackBehind helper state.old state.new.stack) }
+    ensures kept { OnErr result (state.new ≡ state.old) }
     ensures holds { OnOk result (WindowStands helper state.old state.new.stack) }
 {
     let first = known(&state.registers, 1);
@@ -204,6 +207,7 @@ pub fn call(state: &mut AbsState, number: i32) -> Result<(), Reason>
     ensures refused { result ≡ answer_of (call_reason state.old number) }
     ensures registers { OnOk result (IfSome (helper_of number) (λ h. IsBehind (result_of h) state.old.registers state.new.registers)) }
     ensures stack { OnOk result (IfSome (helper_of number) (λ h. StackBehind h state.old state.new.stack)) }
+    ensures kept { OnErr result (state.new ≡ state.old) }
 {
     let Some(helper) = helper::helper_of(number) else {
         return Err(Reason::Helper);

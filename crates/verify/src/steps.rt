@@ -88,6 +88,7 @@ fn put_made(
     ensures leaves { OnOk result (IfSome made (λ m. is_number m ≡ true) → LeavesBut (dst ∷ []) state.old.registers state.new.registers) }
     ensures refused { result_err result ≡ first_reason (made_checks dst (ends_of value) (option_map ends_of made)) }
     ensures left { OnOk result (Assigns state.old dst (option_map ends_of made) state.new) }
+    ensures kept { OnErr result (state.new ≡ state.old) }
 {
     check_set(value)?;
     check_writable(dst)?;
@@ -111,6 +112,7 @@ fn arithmetic(
         LeavesBut (dst ∷ []) state.old.registers state.new.registers) }
     ensures refused { result_err result ≡ first_reason (arithmetic_checks (seen state.old.registers) width operation dst operand) }
     ensures left { OnOk result (Assigns state.old dst (computed width operation (first_known (seen state.old.registers) operation dst) (operand_known (seen state.old.registers) operand)) state.new) }
+    ensures kept { OnErr result (state.new ≡ state.old) }
 {
     let first = registers::first(&state.registers, operation, dst);
     let second = registers::operand(&state.registers, operand);
@@ -125,6 +127,7 @@ fn negate(state: &mut AbsState, width: Width, dst: Reg) -> Result<(), Reason>
     ensures leaves { OnOk result (LeavesBut (dst ∷ []) state.old.registers state.new.registers) }
     ensures refused { result_err result ≡ first_reason (made_checks dst (known_at (seen state.old.registers) dst) (negated_known width (known_at (seen state.old.registers) dst))) }
     ensures left { OnOk result (Assigns state.old dst (negated_known width (known_at (seen state.old.registers) dst)) state.new) }
+    ensures kept { OnErr result (state.new ≡ state.old) }
 {
     let value = registers::read(&state.registers, dst);
     put_made(state, dst, value, absval::negate(width, value))
@@ -142,6 +145,7 @@ fn sign_extend(
     ensures leaves { OnOk result (LeavesBut (dst ∷ []) state.old.registers state.new.registers) }
     ensures refused { result_err result ≡ first_reason (made_checks dst (known_at (seen state.old.registers) src) (extended_known width part (known_at (seen state.old.registers) src))) }
     ensures left { OnOk result (Assigns state.old dst (extended_known width part (known_at (seen state.old.registers) src)) state.new) }
+    ensures kept { OnErr result (state.new ≡ state.old) }
 {
     let value = registers::read(&state.registers, src);
     put_made(state, dst, value, absval::sign_extend(width, part, value))
@@ -153,6 +157,7 @@ fn swap(state: &mut AbsState, order: ByteOrder, size: SwapSize, dst: Reg) -> Res
     ensures leaves { OnOk result (LeavesBut (dst ∷ []) state.old.registers state.new.registers) }
     ensures refused { result_err result ≡ first_reason (made_checks dst (known_at (seen state.old.registers) dst) (swapped_known order size (known_at (seen state.old.registers) dst))) }
     ensures left { OnOk result (Assigns state.old dst (swapped_known order size (known_at (seen state.old.registers) dst)) state.new) }
+    ensures kept { OnErr result (state.new ≡ state.old) }
 {
     let value = registers::read(&state.registers, dst);
     put_made(state, dst, value, absval::swap(order, size, value))
@@ -164,6 +169,7 @@ fn load_number(state: &mut AbsState, dst: Reg, number: u64) -> Result<(), Reason
     ensures leaves { OnOk result (LeavesBut (dst ∷ []) state.old.registers state.new.registers) }
     ensures refused { result_err result ≡ first_reason (write_checks dst) }
     ensures left { OnOk result (Assigns state.old dst (Some (Numbers (single number))) state.new) }
+    ensures kept { OnErr result (state.new ≡ state.old) }
 {
     check_writable(dst)?;
     put(state, dst, AbsVal::Number(Range::exactly(number)));
@@ -232,6 +238,7 @@ pub fn straight(state: &mut AbsState, insn: &Insn) -> Result<(), Reason>
     ensures leaves { OnOk result (IsOfNumbers insn.now → AllRead insn.now state.old.registers → Leaves insn.now state.old.registers state.new.registers) }
     ensures reason { result_err result ≡ straight_reason insn.now state.old }
     ensures becomes { OnOk result (Becomes state.old insn.now state.new) }
+    ensures kept { OnErr result (state.new ≡ state.old) }
 {
     match insn {
         Insn::Arithmetic {
