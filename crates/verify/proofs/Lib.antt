@@ -23,3 +23,4 @@ pub mod SeenEdges
 pub mod MemoryRows
 pub mod StepReasons
 pub mod InstructionLemmas
+pub mod PassRuns

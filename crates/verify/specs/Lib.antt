@@ -15,3 +15,4 @@ pub mod CallStates
 pub mod MemoryTable
 pub mod Flow
 pub mod Instructions
+pub mod Passes

@@ -1,11 +1,12 @@
 //! The forward pass.
-ghost use Rattle.std.specs.Prelude.{◌≡◌, ◌≤◌, ◌<◌, ◌+◌, ◌∷◌, List, ℕ, pos, ◌<ℤ◌, ◌+ℤ◌, length, IfOk, IfErr, OnOk, IsOk, IsErrAnd, Ok, option_map};
+ghost use Rattle.std.specs.Prelude.{◌≡◌, ◌≤◌, ◌<◌, ◌+◌, ◌∷◌, ◌⊎◌, List, ℕ, pos, ◌<ℤ◌, ◌+ℤ◌, length, IfOk, IfErr, OnOk, IsOk, IsErrAnd, Ok, option_map};
 ghost use Rattle.std.specs.Result.{result_err};
 ghost use Rattle.verify.specs.Faults.{fault_at};
 ghost use Rattle.verify.specs.Registers.{seen, known_at, operand_known, edge_known};
 ghost use Rattle.verify.specs.Reasons.{first_reason, compare_checks, exit_checks};
 ghost use Rattle.verify.specs.Flow.{JumpFlows, EdgeFlows, BranchFlows, Answers, slot_at};
 ghost use Rattle.verify.specs.Instructions.{straight_reason, reason_of, StraightFlows, StateFlows, AnswersAt, UnitFlows};
+ghost use Rattle.verify.specs.Passes.{ComesThrough, IsFirstFault};
 ghost use Rattle.insn.specs.Program.{slots_of, instruction_at};
 ghost use Rattle.semantics.specs.State.{State};
 ghost use Rattle.semantics.specs.Plain.{IsIn, IsOfNumbers, IsPlain, operand_reads, writes};
@@ -215,6 +216,8 @@ pub fn pass(alloc: Global, program: &Program) -> Result<(), Fault>
     ensures safe { OnOk result (StartsSafe program.now) }
     ensures own { IfErr result (IsOwnFault program.now) }
     ensures plain { IsPlain program.now → IfErr result (λ fault. fault ≡ Fault.Memory) }
+    ensures passed { OnOk result (ComesThrough program.now) }
+    ensures first { IfErr result (λ fault. (fault ≡ Fault.Memory) ⊎ IsFirstFault program.now fault) }
 {
     let mut pending = empty(alloc, program.units())?;
     flow(&mut pending, 0, boxed(alloc, registers::at_entry())?);

@@ -1,7 +1,8 @@
-ghost use Rattle.std.specs.Prelude.{◌≡◌, None, Some, IfOk, IfErr, IsErrAnd, OnOk, IfSome, Err};
+ghost use Rattle.std.specs.Prelude.{◌≡◌, ◌⊎◌, None, Some, IfOk, IfErr, IsErrAnd, OnOk, IfSome, Err};
 ghost use Rattle.semantics.specs.Run.{IsSound};
 ghost use Rattle.semantics.specs.Plain.{IsPlain};
 ghost use Rattle.verify.specs.Structure.{structural_fault, IsOwnFault};
+ghost use Rattle.verify.specs.Passes.{IsFirstFault, ComesThrough};
 ghost use Rattle.verify.specs.Safe.{StartsSafe};
 
 use crate::fault::{Fault, Refusal};
@@ -17,6 +18,8 @@ fn check(alloc: Global, program: &Program) -> Result<(), Fault>
     ensures plain { IsPlain program.now → IfErr result (λ fault. fault ≡ Fault.Memory) }
     ensures structural { IfSome (structural_fault program.now) (λ fault. result ≡ Err fault) }
     ensures unstructural { structural_fault program.now ≡ None → IfErr result (IsOwnFault program.now) }
+    ensures first { structural_fault program.now ≡ None → IfErr result (λ fault. (fault ≡ Fault.Memory) ⊎ IsFirstFault program.now fault) }
+    ensures passed { OnOk result (ComesThrough program.now) }
 {
     if let Some(fault) = find_fault(program) {
         return Err(fault);
@@ -36,6 +39,10 @@ pub fn verify(alloc: Global, program: Program) -> Result<Verified, Refusal>
     // A structural fault is answered exactly where one stands, and then the first. Any other stands at an instruction.
     ensures structural { IfSome (structural_fault program) (λ fault. IsErrAnd result (λ r. r.fault ≡ fault)) }
     ensures unstructural { structural_fault program ≡ None → IfErr result (λ r. IsOwnFault program r.fault) }
+
+    // Then it is the reason of the first instruction at which the pass may not go on, or want of memory; what is accepted, it passes to the end.
+    ensures first { structural_fault program ≡ None → IfErr result (λ r. (r.fault ≡ Fault.Memory) ⊎ IsFirstFault program r.fault) }
+    ensures passed { IfOk result (λ v. ComesThrough v) }
 {
     match check(alloc, &program) {
         Ok(()) => Ok(Verified::of(program)),
