@@ -1,8 +1,8 @@
 -- Numbers in a row.
-use Rattle.std.proofs.Common.{◌≡◌, ℕ, zero, suc, ◌+◌, ◌*◌, ◌<◌, ◌≤◌, List, [], ◌∷◌, ◌++◌, ◌-◌, length, take, drop, set, map, get_or, append-nil, refl, sym, ap, subst, ◌∙◌, arith}
+use Rattle.std.proofs.Common.{◌≡◌, ℕ, zero, suc, ◌+◌, ◌*◌, ◌<◌, ◌≤◌, List, [], ◌∷◌, ◌++◌, ◌-◌, length, take, drop, set, replicate, map, get_or, append-nil, refl, sym, ap, subst, ◌∙◌, arith}
 use Rattle.std.specs.Prelude.{pos, Result, Ok, Err}
 use Rattle.std.specs.List.{flat_map}
-use Rattle.std.proofs.lemmas.List.{drop-drop, length-take-le, length-drop, length-append, length-map, take_more, take_more_set, map-append, take-append-drop}
+use Rattle.std.proofs.lemmas.List.{drop-drop, drop-set-lt, drop-replicate, length-take-le, length-drop, length-append, length-map, take_more, take_more_set, map-append, take-append-drop}
 use Rattle.std.proofs.lemmas.Grind.{flat_map-append}
 use Rattle.std.proofs.Math.Seq.{take-length}
 use Rattle.word.specs.Bytes.{little_bytes, little_number}
@@ -133,6 +133,13 @@ row_goes_on cells place i room n row long fits size lt so_far number =
     next_number cells place i room long fits
     ∙ (ap (λ (r : Result (List ℕ) Cause). one_more r (number_in (take 4 (drop (place + 4 * i) cells)))) so_far
     ∙ (ap (λ (r : Result ℕ Cause). one_more (Ok (take i row)) r) number ∙ ap (λ (l : List ℕ). Ok l) (sym (take_more_set row i n inside))))
+
+-- behind the numbers so far stand zeros
+pub rest_stays : (i n : ℕ) (row : List ℕ) → drop i row ≡ replicate (13 - i) 0 → drop (i + 1) (set row i n) ≡ replicate (13 - (i + 1)) 0
+rest_stays i n row zeros =
+    drop-set-lt (i + 1) row i n (omega arith)
+    ∙ (sym (drop-drop 1 i row)
+    ∙ (ap (λ (l : List ℕ). drop 1 l) zeros ∙ (drop-replicate 1 (13 - i) 0 ∙ ap (λ (m : ℕ). replicate m 0) (omega arith))))
 
 pub row_stops : (cells : List Cell) (place i count room : ℕ) (cause : Cause) (row : List ℕ) → length cells ≡ room → place + 4 * count ≤ room → i < count →
     row_in (take (4 * i) (drop place cells)) ≡ Ok (take i row) → number_in (take 4 (drop (place + 4 * i) cells)) ≡ Err cause →

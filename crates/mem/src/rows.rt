@@ -1,5 +1,5 @@
 //! Numbers in a row at a pointer.
-ghost use Rattle.std.specs.Prelude.{◌≡◌, ◌+◌, ◌*◌, ◌≤◌, take, length, Ok, Err, IfOk, IfErr};
+ghost use Rattle.std.specs.Prelude.{◌≡◌, ◌+◌, ◌-◌, ◌*◌, ◌≤◌, take, drop, replicate, length, Ok, Err, IfOk, IfErr};
 ghost use Rattle.semantics.specs.Memory.{with_words};
 ghost use Rattle.mem.specs.Answers.{IsAnswer, cause_of};
 ghost use Rattle.mem.specs.Places.{part_at, room_of};
@@ -13,7 +13,7 @@ use crate::window::{part_at, stack_part};
 use insn::Size;
 use semantics::{Region, Value};
 
-/// So many numbers of 4 bytes each that stand at a pointer.
+/// So many numbers of 4 bytes each that stand at a pointer, and zeros behind them.
 pub fn load_row(
     stack: &Stack,
     context: &Context,
@@ -22,6 +22,7 @@ pub fn load_row(
 ) -> Result<[u32; 13], MemoryFault>
     requires { count ≤ 13 }
     ensures row { IfOk result (λ row. row_at context.now stack.now base count ≡ Ok (take count row)) }
+    ensures rest { IfOk result (λ row. drop count row ≡ replicate (13 - count) 0) }
     ensures refused { IfErr result (λ f. row_at context.now stack.now base count ≡ Err (cause_of f)) }
 {
     stack.tell();

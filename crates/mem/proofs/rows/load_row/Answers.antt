@@ -4,7 +4,7 @@ use Rattle.semantics.specs.Memory.{region_cells}
 use Rattle.mem.specs.Answers.{cause_of}
 use Rattle.mem.specs.Places.{room_of}
 use Rattle.mem.specs.Rows.{row_at}
-use Rattle.mem.proofs.InARow.{row_goes_on, row_stops, row_at_place, length-region}
+use Rattle.mem.proofs.InARow.{row_goes_on, rest_stays, row_stops, row_at_place, length-region}
 use Rattle.mem.proofs.rows.load_row.Goals as goal
 
 pub returns-in_err-row-clause-refused : goal.returns-in_err-row-clause-refused
@@ -26,6 +26,7 @@ loop-i-preserved c =
     let few : c.args.count ≤ 13 = c.requires in
     record {
       long = length-set c.loop-i.row _ _ ∙ c.loop-i.invariant.long;
+      rest = rest_stays c.loop-i.i c.in_ok-row.field-0 c.loop-i.row c.loop-i.invariant.rest;
       so_far = row_goes_on cells c.in_ok-region.place c.loop-i.i (room_of c.in_ok-region.region) c.in_ok-row.field-0 c.loop-i.row long (omega (arith, fits, lt)) c.loop-i.invariant.long
           (omega (arith, lt, few)) c.loop-i.invariant.so_far c.in_ok-row.ensures;
     }
