@@ -29,9 +29,7 @@ pub(crate) fn tell(request: &Request)
 
 fn tell_slot(slot: Slot)
     ensures { slot < 64 }
-{
-    let _number = slot.number();
-}
+{}
 
 /// What the type of the words keeps: they are a board.
 pub(crate) fn tell_board(words: &[u64])
