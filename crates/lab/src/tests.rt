@@ -295,6 +295,18 @@ fn tables_are_decided(rt: HostRuntime) -> Result<(), Fail> {
     row(&rt, alloc, &task, b"\xff", (1, "", "fault text t.txt\n"))
 }
 
+/// The table of examples/four.table.
+#[test]
+fn the_example_table_is_decided(rt: HostRuntime) -> Result<(), Fail> {
+    let alloc = rt.alloc();
+    let task = Task::Book(String::from_str(alloc, "four.table")?);
+    let table = b"generals 4 bound 1 commander 0\ntell 0 1 1\ntell 0 2 0\n\
+                  tell 0.1 2 1\ntell 0.1 3 1\ntell 0.2 1 0\ntell 0.2 3 0\n\
+                  tell 0.3 1 0\ntell 0.3 2 0\n";
+    let lines = "decision 1 0\ndecision 2 0\ndecision 3 0\n";
+    row(&rt, alloc, &task, table, (0, lines, ""))
+}
+
 /// A reader or writer that fails.
 #[derive(Drop)]
 struct Broken;

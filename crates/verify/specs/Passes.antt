@@ -1,4 +1,4 @@
--- The pass over a whole program: what it knows as it comes to each unit, and the first instruction that may not run (own).
+-- The pass over a whole program without a structural fault, each of whose edges leads forward: what it knows as it comes to each unit, and the first instruction that may not run (own).
 use Rattle.std.specs.Prelude.{ℕ, zero, suc, ◌≡◌, false, List, Option, Some, None, length, replicate}
 use Rattle.insn.specs.declared.insn.Insn.{Insn}
 use Rattle.insn.specs.Program.{slots_of, instruction_at}
