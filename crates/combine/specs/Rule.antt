@@ -1,5 +1,6 @@
 -- Rules of combination (TOPLAS 1982, section 3).
-use Rattle.std.specs.Prelude.{ℕ, ◌*◌, ◌<◌, ◌≡◌, ◌==◌, nat_lt, Bool, List, length, find, count_by, unwrap_or}
+use Rattle.std.specs.Prelude.{ℕ, ◌*◌, ◌/◌, ◌<◌, ◌≡◌, ◌==◌, nat_lt, nat_le, Bool, ◌&&◌, List, length, find, count_by, unwrap_or, slice_index}
+use Rattle.std.specs.List.Sorted.{IsPermutation, IsNonDecreasing}
 
 -- the order stands in more than half of the places
 abbrev pub is_most : List ℕ → ℕ → Bool
@@ -9,6 +10,18 @@ is_most xs v = nat_lt (length xs) (2 * count_by (λ x. x == v) xs)
 unfoldable pub majority : List ℕ → ℕ
 majority xs = unwrap_or (find (is_most xs) xs) 0
 
+-- at most half of the places have less, and more than half have no more
+unfoldable pub is_middle : List ℕ → ℕ → Bool
+is_middle xs v = nat_le (count_by (λ x. nat_lt x v) xs) (length xs / 2) && nat_lt (length xs / 2) (count_by (λ x. nat_le x v) xs)
+
+-- the median of a list, 0 of the empty one
+unfoldable pub median : List ℕ → ℕ
+median xs = unwrap_or (find (is_middle xs) xs) 0
+
 -- an order in more than half of the places is the result
 abbrev pub IsMajorityRule : (List ℕ → ℕ) → Type 0
 IsMajorityRule f = (xs : List ℕ) (v : ℕ) → length xs < 2 * count_by (λ x. x == v) xs → f xs ≡ v
+
+-- the median is the middle of the sorted list
+abbrev pub MedianIsMiddle : Type 0
+MedianIsMiddle = (xs ys : List ℕ) → IsPermutation xs ys → IsNonDecreasing ys → 0 < length xs → median xs ≡ slice_index ys (length xs / 2)

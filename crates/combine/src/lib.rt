@@ -1,8 +1,14 @@
 //! Rules by which a list of orders becomes one (TOPLAS 1982, section 3).
 #![tactic(auto)]
 
+mod chosen;
+mod laws;
 mod majority;
+mod median;
 mod rule;
 
+pub use chosen::Rule;
+pub use laws::median_is_middle;
 pub use majority::Majority;
+pub use median::Median;
 pub use rule::Combine;

@@ -1,4 +1,4 @@
-ghost use Rattle.std.specs.Prelude.{◌≡◌, ◌==◌, count_by, find};
+ghost use Rattle.std.specs.Prelude.{◌≡◌, ◌==◌, ◌<◌, ◌*◌, ℕ, count_by, length};
 ghost use Rattle.combine.specs.Rule.{majority, is_most};
 ghost use Rattle.combine.specs.Laws.{majority_is_rule};
 
@@ -11,19 +11,36 @@ pub struct Majority;
 impl Combine for Majority {
     ghost combined = { λ _. majority };
 
-    #[tactic(auto, unfolding(crate::specs::Rule::majority))]
     fn combine(&self, orders: &[u32]) -> u32 {
-        most(orders).unwrap_or(0)
+        let candidate = candidate(orders);
+        if is_in_most(orders, candidate) {
+            candidate
+        } else {
+            0
+        }
     }
 
     ghost most_decide = { λ _. majority_is_rule };
 }
 
-/// The first order that stands in more than half of the places.
-fn most(orders: &[u32]) -> Option<u32>
-    ensures { result ≡ find (is_most orders.now) orders.now }
+/// The only order that can stand in more than half of the places: each two different ones are struck
+/// out together (Boyer and Moore 1981).
+fn candidate(orders: &[u32]) -> u32
+    ensures { (v : ℕ) → length orders.now < 2 * count_by (λ x. x == v) orders.now → result ≡ v }
 {
-    orders.iter().copied().find(|v| is_in_most(orders, *v))
+    let mut candidate = 0;
+    let mut lead: usize = 0;
+    for x in orders {
+        if lead == 0 {
+            candidate = *x;
+        }
+        if *x == candidate {
+            lead += 1;
+        } else {
+            lead -= 1;
+        }
+    }
+    candidate
 }
 
 /// Whether the order stands in more than half of the places.

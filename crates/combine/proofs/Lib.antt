@@ -1,0 +1,2 @@
+pub mod SortedMiddle
+pub mod Voting

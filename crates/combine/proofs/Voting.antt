@@ -1,0 +1,96 @@
+-- The vote of Boyer and Moore: what a candidate and its lead say of the list so far.
+use Rattle.std.proofs.Common.{ℕ, suc, ◌+◌, ◌-◌, ◌*◌, ◌<◌, ◌≤◌, ◌≡◌, ◌≢◌, Bool, true, false, cond, List, [], ◌∷◌, ◌++◌, length, get_or, take, refl, sym, ap, ◌∙◌, arith, inl, inr, Some, None, length-append, ◌⊎◌}
+use Rattle.std.specs.Prelude.{count_by, find, ◌==◌, nat_lt}
+use Rattle.std.proofs.lemmas.Bool.{cases_Bool, cases_eq, cond-true, cond-false, eq-eqb, ne_eqb, ltb-true, true≢false}
+use Rattle.std.proofs.lemmas.List.{take_more}
+use Rattle.std.proofs.lemmas.List.Sums.{sum_by-append}
+use Rattle.combine.specs.Rule.{majority, is_most}
+use Rattle.combine.specs.Laws.{majority_is_rule}
+
+-- no other can be in more places than its lead leaves, and it is in no more than that
+pub record Leads (xs : List ℕ) (candidate lead : ℕ) : Type 0 where
+  pub others : (v : ℕ) → v ≢ candidate → 2 * count_by (λ x. x == v) xs + lead ≤ length xs
+  pub own : 2 * count_by (λ x. x == candidate) xs ≤ length xs + lead
+  pub small : lead ≤ length xs
+
+count-same : (v x : ℕ) (xs : List ℕ) → x ≡ v → count_by (λ y. y == v) (xs ++ x ∷ []) ≡ count_by (λ y. y == v) xs + 1
+count-same v x xs e = let one : cond {A = ℕ} (x == v) 1 0 ≡ 1 = cond-true (x == v) 1 0 (eq-eqb x v e) in omega (arith, sum_by-append (λ y. cond (y == v) 1 0) xs (x ∷ []))
+
+count-other : (v x : ℕ) (xs : List ℕ) → x ≢ v → count_by (λ y. y == v) (xs ++ x ∷ []) ≡ count_by (λ y. y == v) xs
+count-other v x xs ne = let none : cond {A = ℕ} (x == v) 1 0 ≡ 0 = cond-false (x == v) 1 0 (ne_eqb x v ne) in omega (arith, sum_by-append (λ y. cond (y == v) 1 0) xs (x ∷ []))
+
+long : (x : ℕ) (xs : List ℕ) → length (xs ++ x ∷ []) ≡ length xs + 1
+long x xs = omega (arith, length-append xs (x ∷ []))
+
+pub leads-none : (candidate : ℕ) → Leads [] candidate 0
+leads-none candidate = record { others = λ v ne. omega arith; own = omega arith; small = omega arith }
+
+few : (xs : List ℕ) (candidate v : ℕ) → Leads xs candidate 0 → 2 * count_by (λ x. x == v) xs ≤ length xs
+few xs candidate v l = elim (cases_eq v candidate) [ inl same ↦ (let h = l.own in rw same (omega arith)) | inr ne ↦ (let h = l.others v ne in omega arith) ]
+
+pub leads-new : (xs : List ℕ) (candidate lead x : ℕ) → Leads xs candidate lead → lead ≡ 0 → Leads (xs ++ x ∷ []) x 1
+leads-new xs candidate lead x l z =
+    let l0 : Leads xs candidate 0 = rw z at l in
+    record {
+      others = λ v ne. let h = few xs candidate v l0 in let n = long x xs in let c = count-other v x xs (λ e. ne (sym e)) in omega arith;
+      own = let h = few xs candidate x l0 in let n = long x xs in let c = count-same x x xs refl in omega arith;
+      small = let n = long x xs in omega arith;
+    }
+
+pub leads-same : (xs : List ℕ) (candidate lead x : ℕ) → Leads xs candidate lead → x ≡ candidate → Leads (xs ++ x ∷ []) candidate (lead + 1)
+leads-same xs candidate lead x l e =
+    record {
+      others = λ v ne. let h = l.others v ne in let n = long x xs in let c = count-other v x xs (λ f. ne (sym f ∙ e)) in omega arith;
+      own = let h = l.own in let n = long x xs in let c = count-same candidate x xs e in omega arith;
+      small = let h = l.small in let n = long x xs in omega arith;
+    }
+
+pub leads-other : (xs : List ℕ) (candidate lead x : ℕ) → Leads xs candidate lead → x ≢ candidate → lead ≢ 0 → Leads (xs ++ x ∷ []) candidate (lead - 1)
+leads-other xs candidate lead x l ne some =
+    record {
+      others = λ v apart. let h = l.others v apart in let n = long x xs in
+          elim (cases_eq x v) [ inl same ↦ (let c = count-same v x xs same in omega arith) | inr other ↦ (let c = count-other v x xs other in omega arith) ];
+      own = let h = l.own in let n = long x xs in let c = count-other candidate x xs ne in omega arith;
+      small = let h = l.small in let n = long x xs in omega arith;
+    }
+
+pub leads-only : (xs : List ℕ) (candidate lead v : ℕ) → Leads xs candidate lead → length xs < 2 * count_by (λ x. x == v) xs → candidate ≡ v
+leads-only xs candidate lead v l most = elim (cases_eq v candidate) [ inl same ↦ sym same | inr ne ↦ absurd (let h = l.others v ne in omega arith) ]
+
+-- who leads when the next order is looked at
+abbrev pub Led : ℕ → ℕ → ℕ → ℕ → Type 0
+Led candidate lead x next = ((lead ≡ 0) × (next ≡ x)) ⊎ ((lead ≢ 0) × (next ≡ candidate))
+
+pub leads-up : (xs : List ℕ) (candidate lead x next : ℕ) → Leads xs candidate lead → Led candidate lead x next → x ≡ next → Leads (xs ++ x ∷ []) next (lead + 1)
+leads-up xs candidate lead x next l led e =
+    elim led [
+      | inl new ↦ rw (new.1, new.0) (leads-new xs candidate lead x l new.0)
+      | inr old ↦ rw old.1 (leads-same xs candidate lead x l (e ∙ old.1))
+    ]
+
+pub leads-down : (xs : List ℕ) (candidate lead x next : ℕ) → Leads xs candidate lead → Led candidate lead x next → x ≢ next → (0 < lead) × Leads (xs ++ x ∷ []) next (lead - 1)
+leads-down xs candidate lead x next l led ne =
+    elim led [
+      | inl new ↦ absurd (ne (sym new.1))
+      | inr old ↦ (let h = old.0 in omega arith, rw old.1 (leads-other xs candidate lead x l (λ e. ne (e ∙ sym old.1)) old.0))
+    ]
+
+-- the vote decides
+pub voted : (xs : List ℕ) (candidate : ℕ) → is_most xs candidate ≡ true → candidate ≡ majority xs
+voted xs candidate it = sym (majority_is_rule xs candidate (ltb-true (length xs) (2 * count_by (λ x. x == candidate) xs) it))
+
+none_found : (t : ℕ → Bool) (xs : List ℕ) → ((x : ℕ) → t x ≡ true → ⊥) → find t xs ≡ None
+none_found t [] fails = refl
+none_found t (x ∷ xs) fails =
+    elim (cases_Bool (t x)) [
+      | inl it ↦ absurd (fails x it)
+      | inr it ↦ cond-false (t x) (Some x) (find t xs) it ∙ none_found t xs fails
+    ]
+
+pub unvoted : (xs : List ℕ) (candidate : ℕ) → ((v : ℕ) → length xs < 2 * count_by (λ x. x == v) xs → candidate ≡ v) → is_most xs candidate ≡ false → 0 ≡ majority xs
+unfolding majority
+unvoted xs candidate only fails =
+    rw (none_found (is_most xs) xs (λ v it. refuted v it (only v (ltb-true (length xs) (2 * count_by (λ x. x == v) xs) it)))) refl
+  where
+    refuted : (v : ℕ) → is_most xs v ≡ true → candidate ≡ v → ⊥
+    refuted v it e = true≢false (sym it ∙ (ap (is_most xs) (sym e) ∙ fails))
