@@ -15,21 +15,12 @@ use Rattle.std.proofs.lemmas.List.FromFn.{length-range_with_len}
 use Rattle.tree.specs.Kept.{Kept, IsCampaign, IsFilled, level_of, level_told}
 use Rattle.tree.proofs.Levels.{levels-at, told-at, read-at}
 use Rattle.resolve.specs.Decided.{decided, child_place, order_at}
-use Rattle.resolve.proofs.Below.{child-below, absent}
+use Rattle.label.proofs.Below.{absent}
+use Rattle.label.proofs.Counts.{on-get}
+use Rattle.label.proofs.Parts.{by_place, wide}
+use Rattle.resolve.proofs.Below.{child-below}
 
--- what is read stands on the list
-pub on_at : (xs : List ℕ) (i j : ℕ) → slice_get xs i ≡ Some j → on xs j ≡ true
-on_at [] i j e = cc
-on_at (x ∷ xs) zero j e = or_left (x == j) (on xs j) (eq-eqb x j cc)
-on_at (x ∷ xs) (suc i) j e = or_right (x == j) (on xs j) (on_at xs i j e)
-
--- a map over places is one over what stands there
-pub by_place : {A : Type 0} (F : ℕ → ℕ) (G : A → ℕ) (a : ℕ) (xs : List A) → ((i : ℕ) (j : A) → slice_get xs i ≡ Some j → F (a + i) ≡ G j) → map F (range_with_len a (length xs)) ≡ map G xs
-by_place F G a [] same = refl
-by_place F G a (x ∷ xs) same =
-    let first : F a ≡ G x = let z : a ≡ a + 0 = omega arith in ap F z ∙ same 0 x refl in
-    rw (first, by_place F G (a + 1) xs (λ i j e. let z : (a + 1) + i ≡ a + suc i = omega arith in ap F z ∙ same (suc i) j e)) refl
-
+-- what the tree says of a label
 pub order-told : (t : Kept) (M : Messages) (size rank : ℕ) (w : List ℕ) → IsFilled t M → 0 < size → size ≤ t.bound + 1 → slice_get (labels t.generals t.commander t.general size) rank ≡ Some w → order_at t size rank ≡ taken M w t.general
 order-told t M size rank w f some short at =
     let up : 1 + (size - 1) ≡ size = omega arith in
@@ -37,14 +28,6 @@ order-told t M size rank w f some short at =
     ap (λ ls. unwrap_or (slice_get ls (size - 1)) []) f ∙ (ap (λ o. unwrap_or o []) (levels-at t.generals t.commander t.general M 1 (t.bound + 1) (size - 1) (omega arith)) ∙ ap (λ (k : ℕ). level_told t.generals t.commander t.general M k) up)
     in
     ap order_of (read-at (level_of t size) rank (M w t.general) None (told-at t.generals t.commander t.general size rank M w (level_of t size) level at))
-
--- there are as many children as the width says
-pub wide : (t : Kept) → IsCampaign t → (k rank : ℕ) (w : List ℕ) → slice_get (labels t.generals t.commander t.general (suc k)) rank ≡ Some w → length (others t.generals (t.general ∷ w)) ≡ t.generals - 1 - suc k
-wide t is k rank w at =
-    let one : IsOneOf t.generals t.commander t.general k w = all-at (IsOneOf t.generals t.commander t.general k) (labels t.generals t.commander t.general (suc k)) rank w (labels-are t.generals t.commander t.general k is.commander is.lieutenant) at in
-    let many : length (children t.generals t.general w) ≡ t.generals - 2 - k = few_children t.generals t.commander t.general k w is.general one in
-    let mapped : length (children t.generals t.general w) ≡ length (others t.generals (t.general ∷ w)) = length-map (others t.generals (t.general ∷ w)) (λ j. w ++ j ∷ []) in
-    omega arith
 
 -- the step, with what is known of the children
 step : (f : List ℕ → ℕ) (t : Kept) (M : Messages) (k size rank place : ℕ) (w : List ℕ) → IsCampaign t → IsFilled t M → suc size + suc k ≤ t.bound + 1 → slice_get (labels t.generals t.commander t.general (suc size)) rank ≡ Some w → place ≡ length (others t.general w)
@@ -56,7 +39,7 @@ step f t M k size rank place w is full short at e ih =
     let p = t.general in
     let without : on w t.general ≡ false = (proved_labels_are_exact.only t.generals t.commander t.general (suc size) rank w is.commander is.general is.lieutenant at).1 in
     let width : t.generals - 1 - suc size ≡ t.generals - 2 - size = omega arith in
-    let many : length (others t.generals (t.general ∷ w)) ≡ t.generals - 1 - suc size = wide t is size rank w at in
+    let many : length (others t.generals (t.general ∷ w)) ≡ t.generals - 1 - suc size = wide t.generals t.commander t.general size rank w is.commander is.general is.lieutenant at in
     let own : order_at t (suc size) rank ≡ taken M w t.general = order-told t M (suc size) rank w full (omega arith) (omega arith) at in
     let below : map (λ i. decided f t k (suc (suc size)) (rank * (t.generals - 1 - suc size) + i) (child_place place i)) (range_with_len 0 (t.generals - 1 - suc size)) ≡ map (λ j. om f t.generals M k (w ++ j ∷ []) t.general) (others t.generals (t.general ∷ w)) =
     ap (λ (l : ℕ). map (λ i. decided f t k (suc (suc size)) (rank * (t.generals - 1 - suc size) + i) (child_place place i)) (range_with_len 0 l)) (sym many)
@@ -72,7 +55,7 @@ step f t M k size rank place w is full short at e ih =
     ∙ sym (om-level f t.generals M k w t.general is.general without)
   where
     stands_off : (n p : ℕ) (w : List ℕ) (i j : ℕ) → slice_get (others n (p ∷ w)) i ≡ Some j → on (p ∷ w) j ≡ false
-    stands_off n p w i j h = (others-on n (p ∷ w) j (on_at (others n (p ∷ w)) i j h)).1
+    stands_off n p w i j h = (others-on n (p ∷ w) j (on-get (others n (p ∷ w)) i j h)).1
 
 -- the recursion over ranks is that over labels
 pub decided-om : (f : List ℕ → ℕ) (t : Kept) (M : Messages) → IsCampaign t → IsFilled t M → (k size rank place : ℕ) (w : List ℕ) → suc size + k ≤ t.bound + 1 → slice_get (labels t.generals t.commander t.general (suc size)) rank ≡ Some w → place ≡ length (others t.general w) → decided f t k (suc size) rank place ≡ om f t.generals M k w t.general
@@ -96,10 +79,12 @@ first-place t is place below behind =
     none_out [] = refl
     none_out (x ∷ xs) = ap (λ ys. x ∷ ys) (none_out xs)
 
+-- and so from the root
 pub resolved : (f : List ℕ → ℕ) (t : Kept) (M : Messages) (place : ℕ) → IsCampaign t → place ≡ length (others t.general (t.commander ∷ [])) → IsFilled t M → decided f t t.bound 1 0 place ≡ om f t.generals M t.bound (t.commander ∷ []) t.general
 resolved f t M place is e full =
     let first : slice_get (labels t.generals t.commander t.general 1) 0 ≡ Some (t.commander ∷ []) = ap (λ ls. slice_get ls 0) (first_label t.generals t.commander t.general is.lieutenant) in
     decided-om f t M is full t.bound 0 0 place (t.commander ∷ []) (omega arith) first e
 
+-- the root is there
 pub first-there : (t : Kept) → IsCampaign t → 0 < length (labels t.generals t.commander t.general 1)
 first-there t is = rw (first_label t.generals t.commander t.general is.lieutenant) (omega arith)

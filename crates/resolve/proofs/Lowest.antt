@@ -39,16 +39,3 @@ step-one f t k size rank place width own children one eo ew l ec =
     let below : map (λ i. order_of (slice_index_or (level_of t (size + 1)) (rank * width + i) None)) (range_with_len 0 width) ≡ map order_of (take width (drop (rank * width + 0) (level_of t (size + 1)))) = part (level_of t (size + 1)) (rank * width) 0 width (omega arith) in
     let part_of : children ≡ take width (drop (rank * width + 0) (level_of t (size + 1))) = ec ∙ (ap (λ (n : ℕ). take n (drop (rank * width) (level_of t (size + 1)))) wide ∙ ap (λ (n : ℕ). take width (drop n (level_of t (size + 1)))) (sym add)) in
     rw (one, eo, part_of, ← below, next, ew) refl
-
--- the children stand in the level below
-pub part-within : (t : Kept) (size rank width : ℕ) → IsCampaign t → 0 < size → width ≡ t.generals - 1 - size → rank < length (labels t.generals t.commander t.general size) → rank * width + width ≤ length (labels t.generals t.commander t.general (size + 1))
-part-within t zero rank width is some ew l = absurd (omega arith)
-part-within t (suc k) rank width is some ew l =
-    let next : suc k + 1 ≡ suc (suc k) = omega arith in
-    let w : t.generals - 2 - k ≡ width = omega arith in
-    let count : length (labels t.generals t.commander t.general (suc (suc k))) ≡ length (labels t.generals t.commander t.general (suc k)) * width = count_is_product t.generals t.commander t.general k is.commander is.general is.lieutenant ∙ ap (λ (x : ℕ). length (labels t.generals t.commander t.general (suc k)) * x) w in
-    let rows : (rank + 1) * width ≤ length (labels t.generals t.commander t.general (suc k)) * width = mul-le (rank + 1) width (length (labels t.generals t.commander t.general (suc k))) width (omega arith) (omega arith) in
-    rw (next, count) (omega arith)
-
-pub part-long : {A : Type 0} (level children : List A) (a width : ℕ) → a + width ≤ length level → children ≡ slice_range level a (a + width) → length children ≡ width
-part-long level children a width l e = ap length e ∙ (length-between level a (a + width) l ∙ omega arith)

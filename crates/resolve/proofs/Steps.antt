@@ -60,17 +60,7 @@ few-behind F i place own orders l e =
     let h : length (map F (range_with_len 0 i)) ≡ i = length-map-range_with_len F 0 i in
     ap length e ∙ (length-insert (map F (range_with_len 0 i)) place own (omega arith) ∙ ap (λ (n : ℕ). n + 1) h)
 
--- the children of a rank are ranks
-pub rank-within : (t : Kept) (size rank width i : ℕ) → IsCampaign t → 0 < size → width ≡ t.generals - 1 - size → rank < length (labels t.generals t.commander t.general size) → i < width → rank * width + i < length (labels t.generals t.commander t.general (size + 1))
-rank-within t zero rank width i is some ew r l = absurd (omega arith)
-rank-within t (suc k) rank width i is some ew r l =
-    let next : suc k + 1 ≡ suc (suc k) = omega arith in
-    let w : t.generals - 2 - k ≡ width = omega arith in
-    let count : length (labels t.generals t.commander t.general (suc (suc k))) ≡ length (labels t.generals t.commander t.general (suc k)) * width = count_is_product t.generals t.commander t.general k is.commander is.general is.lieutenant ∙ ap (λ (x : ℕ). length (labels t.generals t.commander t.general (suc k)) * x) w in
-    let rows : (rank + 1) * width ≤ length (labels t.generals t.commander t.general (suc k)) * width = mul-le (rank + 1) width (length (labels t.generals t.commander t.general (suc k))) width (omega arith) (omega arith) in
-    rw (next, count) (omega arith)
-
--- and have 32 bits
+-- ranks have 32 bits
 pub rank-small : (t : Kept) (size rank : ℕ) → IsCampaign t → 0 < size → size < 14 → rank < length (labels t.generals t.commander t.general size) → rank < 2 ^ 32
 rank-small t zero rank is some short r = absurd (omega arith)
 rank-small t (suc k) rank is some short r =

@@ -4,8 +4,9 @@ use Rattle.std.specs.List.{range_with_len}
 use Rattle.label.specs.Labels.{labels}
 use Rattle.label.specs.Oral.{order_of}
 use Rattle.resolve.specs.Decided.{decided, child, order_at}
-use Rattle.resolve.proofs.Steps.{step-last, step-more, more-before, own-put, more-behind, few-before, few-behind, rank-within, rank-small, first-fits}
-use Rattle.resolve.proofs.Lowest.{step-one, part-within, part-long}
+use Rattle.resolve.proofs.Steps.{step-last, step-more, more-before, own-put, more-behind, few-before, few-behind, rank-small, first-fits}
+use Rattle.label.proofs.Parts.{part-within, part-long, rank-within}
+use Rattle.resolve.proofs.Lowest.{step-one}
 use Rattle.tree.specs.Kept.{Kept, level_of}
 use Rattle.resolve.proofs.recursion.+decide.Goals as goal
 
@@ -35,7 +36,7 @@ decide-requires g t c κs within =
     let i : c.loop-i.i < c.args.place = c.loop-i-test.true in
     let place = c.requires.place in
     let width : c.saturating_sub-width.result ≡ c.args.tree.now.generals - 1 - c.args.size = c.saturating_sub-width.ensures ∙ ap (λ (n : ℕ). n - 1 - c.args.size) c.space.ensures.generals in
-    (let h = c.decreases in let z = c.if-relays-eq0.false in omega arith, (within, (omega arith, (let h = c.requires.short in let z = c.if-relays-eq0.false in omega arith, (rank-within c.args.tree.now c.args.size c.args.rank c.saturating_sub-width.result c.loop-i.i c.space.ensures.kind c.requires.some width c.requires.within (omega arith), omega arith)))))
+    (let h = c.decreases in let z = c.if-relays-eq0.false in omega arith, (within, (omega arith, (let h = c.requires.short in let z = c.if-relays-eq0.false in omega arith, (rank-within c.args.tree.now.generals c.args.tree.now.commander c.args.tree.now.general c.args.size c.args.rank c.saturating_sub-width.result c.loop-i.i c.space.ensures.kind.commander c.space.ensures.kind.general c.space.ensures.kind.lieutenant c.requires.some width c.requires.within (omega arith), omega arith)))))
 
 pub push-requires : goal.push-requires
 push-requires g t c =
@@ -80,7 +81,7 @@ decide-requires-in-loop-j g t c κs within =
     let j : c.loop-j.j < c.saturating_sub-width.result = c.loop-j-test.true in
     let from : c.args.place ≤ c.loop-j.j = c.loop-j.auto.j in
     let width : c.saturating_sub-width.result ≡ c.args.tree.now.generals - 1 - c.args.size = c.saturating_sub-width.ensures ∙ ap (λ (n : ℕ). n - 1 - c.args.size) c.space.ensures.generals in
-    (let h = c.decreases in let z = c.if-relays-eq0.false in omega arith, (within, (omega arith, (let h = c.requires.short in let z = c.if-relays-eq0.false in omega arith, (rank-within c.args.tree.now c.args.size c.args.rank c.saturating_sub-width.result c.loop-j.j c.space.ensures.kind c.requires.some width c.requires.within j, omega arith)))))
+    (let h = c.decreases in let z = c.if-relays-eq0.false in omega arith, (within, (omega arith, (let h = c.requires.short in let z = c.if-relays-eq0.false in omega arith, (rank-within c.args.tree.now.generals c.args.tree.now.commander c.args.tree.now.general c.args.size c.args.rank c.saturating_sub-width.result c.loop-j.j c.space.ensures.kind.commander c.space.ensures.kind.general c.space.ensures.kind.lieutenant c.requires.some width c.requires.within j, omega arith)))))
 
 pub push-requires-in-loop-j : goal.push-requires-in-loop-j
 push-requires-in-loop-j g t c =
@@ -107,14 +108,14 @@ returns g t c =
 pub children-children-requires : goal.children-children-requires
 children-children-requires g t c =
     let width : c.saturating_sub-width.result ≡ c.args.tree.now.generals - 1 - c.args.size = c.saturating_sub-width.ensures ∙ ap (λ (n : ℕ). n - 1 - c.args.size) c.space.ensures.generals in
-    let within : c.args.rank * c.saturating_sub-width.result + c.saturating_sub-width.result ≤ length (labels c.args.tree.now.generals c.args.tree.now.commander c.args.tree.now.general (c.args.size + 1)) = part-within c.args.tree.now c.args.size c.args.rank c.saturating_sub-width.result c.space.ensures.kind c.requires.some width c.requires.within in
+    let within : c.args.rank * c.saturating_sub-width.result + c.saturating_sub-width.result ≤ length (labels c.args.tree.now.generals c.args.tree.now.commander c.args.tree.now.general (c.args.size + 1)) = part-within c.args.tree.now.generals c.args.tree.now.commander c.args.tree.now.general c.args.size c.args.rank c.saturating_sub-width.result c.space.ensures.kind.commander c.space.ensures.kind.general c.space.ensures.kind.lieutenant c.requires.some width c.requires.within in
     let long = c.level-then-relays-eq1.ensures.long in
     omega arith
 
 pub lowest-requires-clause-place : goal.lowest-requires-clause-place
 lowest-requires-clause-place g t c =
     let width : c.saturating_sub-width.result ≡ c.args.tree.now.generals - 1 - c.args.size = c.saturating_sub-width.ensures ∙ ap (λ (n : ℕ). n - 1 - c.args.size) c.space.ensures.generals in
-    let within : c.args.rank * c.saturating_sub-width.result + c.saturating_sub-width.result ≤ length (labels c.args.tree.now.generals c.args.tree.now.commander c.args.tree.now.general (c.args.size + 1)) = part-within c.args.tree.now c.args.size c.args.rank c.saturating_sub-width.result c.space.ensures.kind c.requires.some width c.requires.within in
+    let within : c.args.rank * c.saturating_sub-width.result + c.saturating_sub-width.result ≤ length (labels c.args.tree.now.generals c.args.tree.now.commander c.args.tree.now.general (c.args.size + 1)) = part-within c.args.tree.now.generals c.args.tree.now.commander c.args.tree.now.general c.args.size c.args.rank c.saturating_sub-width.result c.space.ensures.kind.commander c.space.ensures.kind.general c.space.ensures.kind.lieutenant c.requires.some width c.requires.within in
     let long = c.level-then-relays-eq1.ensures.long in
     let many : length c.children-children.result.now ≡ c.saturating_sub-width.result = part-long c.level-then-relays-eq1.result.now c.children-children.result.now (c.args.rank * c.saturating_sub-width.result) c.saturating_sub-width.result (omega arith) c.children-children.ensures in
     let place = c.requires.place in
@@ -126,6 +127,6 @@ one f t size rank place width own order children level k ek eo ew l el ec e = e 
 pub returns-then-relays-eq1 : goal.returns-then-relays-eq1
 returns-then-relays-eq1 g t c =
     let width : c.saturating_sub-width.result ≡ c.args.tree.now.generals - 1 - c.args.size = c.saturating_sub-width.ensures ∙ ap (λ (n : ℕ). n - 1 - c.args.size) c.space.ensures.generals in
-    let within : c.args.rank * c.saturating_sub-width.result + c.saturating_sub-width.result ≤ length (labels c.args.tree.now.generals c.args.tree.now.commander c.args.tree.now.general (c.args.size + 1)) = part-within c.args.tree.now c.args.size c.args.rank c.saturating_sub-width.result c.space.ensures.kind c.requires.some width c.requires.within in
+    let within : c.args.rank * c.saturating_sub-width.result + c.saturating_sub-width.result ≤ length (labels c.args.tree.now.generals c.args.tree.now.commander c.args.tree.now.general (c.args.size + 1)) = part-within c.args.tree.now.generals c.args.tree.now.commander c.args.tree.now.general c.args.size c.args.rank c.saturating_sub-width.result c.space.ensures.kind.commander c.space.ensures.kind.general c.space.ensures.kind.lieutenant c.requires.some width c.requires.within in
     let long = c.level-then-relays-eq1.ensures.long in
     one (g.C.Combine.combined c.args.rule.now) c.args.tree.now c.args.size c.args.rank c.args.place c.saturating_sub-width.result c.order_at-own.result c.lowest.result c.children-children.result.now c.level-then-relays-eq1.result.now c.args.relays c.if-relays-eq1.true (c.order_at-own.ensures ∙ ap (λ xs. order_of (slice_index_or xs c.args.rank None)) c.level.ensures.value) width (omega arith) c.level-then-relays-eq1.ensures.value c.children-children.ensures c.lowest.ensures
