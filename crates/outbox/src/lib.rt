@@ -5,8 +5,6 @@ mod context;
 mod orders;
 mod relays;
 mod row;
-#[cfg(test)]
-mod tests;
 
 pub use label::Shape;
 pub use orders::Outbox;
