@@ -4,8 +4,6 @@
 mod access;
 mod laws;
 mod object;
-#[cfg(test)]
-mod tests;
 mod words;
 
 pub use access::Access;

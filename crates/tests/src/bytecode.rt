@@ -1,4 +1,6 @@
-use crate::{CodecError, decode, encode};
+//! Bytes to programs, and back.
+
+use codec::{CodecError, Fault, decode, encode};
 use insn::{Insn, Operand, Reg, Size};
 use std::alloc::Global;
 use std::process::Abort;
@@ -193,8 +195,8 @@ fn opcodes_taken(rt: HostRuntime) -> Result<(), Fail> {
                 assert_eq!(rt; encode(alloc, &program)?.as_slice(), bytes.as_slice());
                 taken = taken.wrapping_add(1);
             }
-            Err(CodecError::At(crate::Fault::LeftOut, _)) => left_out = left_out.wrapping_add(1),
-            Err(CodecError::At(crate::Fault::Opcode, _)) => unknown = unknown.wrapping_add(1),
+            Err(CodecError::At(Fault::LeftOut, _)) => left_out = left_out.wrapping_add(1),
+            Err(CodecError::At(Fault::Opcode, _)) => unknown = unknown.wrapping_add(1),
             Err(_) => other = other.wrapping_add(1),
         }
     }

@@ -1,6 +1,6 @@
 //! The programs of docs/SANDBOX.md that call helpers. Their texts are those of the files in examples/, letter by letter.
 
-use crate::sandbox_tests::verdict;
+use crate::sandbox::verdict;
 use std::test::Fail;
 
 const BOARD_MASK: &str =

@@ -1,4 +1,6 @@
-use super::*;
+//! Assembly to programs, and back.
+
+use asm::{assemble, disassemble};
 use insn::{Insn, Operand, Reg};
 use std::alloc::Global;
 use std::fmt::Display;

@@ -1,5 +1,7 @@
-use crate::serve;
+//! What each subcommand prints.
+
 use command_line::Task;
+use lab::serve;
 use std::alloc::Global;
 use std::io::{self, ErrorKind, Read, Write};
 use std::process::Abort;

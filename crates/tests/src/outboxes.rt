@@ -1,4 +1,6 @@
-use crate::{Outbox, Shape};
+//! The orders that a general puts.
+
+use outbox::{Outbox, Shape};
 use std::alloc::AllocError;
 
 /// General 3 of 4 under commander 0: in round 2 he relays label 0 to 1 and 2.

@@ -1,7 +1,7 @@
 //! The programs of docs/SANDBOX.md. Their texts are those of the files in examples/, letter by letter.
 
-use crate::answer;
 use command_line::Task;
+use lab::answer;
 use std::alloc::{AllocError, Global};
 use std::process::Abort;
 use std::test::Fail;

@@ -1,4 +1,6 @@
-use crate::Board;
+//! The board and its ledger.
+
+use board::Board;
 use semantics::{Reply, Request, Slot, Span};
 use std::test::Fail;
 

@@ -1,12 +1,13 @@
+//! What the verifier says of programs.
 ghost use Rattle.std.specs.Prelude.{◌<◌, ◌≤◌, length};
 ghost use Rattle.std.specs.List.{AllByRecursion};
 ghost use Rattle.insn.specs.Insn.{IsWell};
 ghost use Rattle.insn.specs.Program.{slots_of};
 
-use crate::verify;
 use insn::{Insn, Operand, Program, Reg, Size};
 use std::alloc::Global;
 use std::test::Fail;
+use verify::verify;
 use word::{Condition, Operation, Width};
 
 fn register(number: u8) -> Result<Reg, Fail> {
