@@ -44,11 +44,11 @@ pub fn read_table(alloc: Global, text: &str) -> Result<Table, TableError>
 fn read_head(alloc: Global, line: &[u8]) -> Result<Table, TableError>
     ensures { result ≡ opened (head_of line.now) }
 {
-    let Some((generals, bound, commander)) = head(line) else {
+    let Some((generals, bound, commander, rule)) = head(line) else {
         return Err(TableError::Line(1));
     };
     if is_within(generals, bound, commander) {
-        Ok(Table::open(alloc, generals as u8, bound as u8, commander as u8))
+        Ok(Table::open(alloc, generals as u8, bound as u8, commander as u8, rule))
     } else {
         Err(TableError::Range(1))
     }

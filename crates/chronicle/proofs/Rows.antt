@@ -7,16 +7,18 @@ use Rattle.insn.specs.declared.insn.Insn.{Insn}
 use Rattle.insn.specs.declared.insn.Insn.TheVariants as i
 use Rattle.insn.specs.declared.insn.Operand.TheVariants.{Register, Immediate}
 use Rattle.combine.specs.Rule.{majority}
+use Rattle.combine.specs.declared.chosen.Rule.TheVariants.{Majority}
 use Rattle.label.specs.Labels.{labels}
 use Rattle.label.specs.Oral.{om}
 use Rattle.semantics.specs.Execution.{step}
-use Rattle.world.specs.Scenario.{Scenario}
-use Rattle.world.specs.Letters.{context_bytes, context_of, messages}
-use Rattle.world.specs.World.{NotOpen, NoGeneral, opening, run, refusal}
+use Rattle.round.specs.Scenario.{Scenario}
+use Rattle.round.specs.Contexts.{context_bytes, context_of}
+use Rattle.round.specs.Letters.{messages}
+use Rattle.world.specs.declared.event.EventError.TheVariants.{NotOpen, NoGeneral}
+use Rattle.world.specs.World.{opening, run, refusal, World}
 use Rattle.world.specs.declared.event.Event.TheVariants.{Tick, Post, Close}
 use Rattle.world.specs.Lists.{listed_rounds, listed}
-use Rattle.world.specs.Chronicle.{decisions, chronicle_of, verdict_of}
-use Rattle.world.specs.World.{World}
+use Rattle.world.specs.Chronicle.{decisions, chronicle_of}
 use Rattle.chronicle.specs.Text.{lines_of, text_of}
 
 -- the text that a campaign prints under a schedule
@@ -29,7 +31,7 @@ lines ls = flat_map (λ l. l ++ 10 ∷ []) ls
 
 -- two generals, no traitor
 two : Scenario
-two = record { generals = 2; bound = 0; commander = 0; order = 7; board = replicate 64 0; programs = None ∷ None ∷ [] }
+two = record { generals = 2; bound = 0; commander = 0; order = 7; board = replicate 64 0; programs = None ∷ None ∷ []; patience = None; rule = Majority }
 
 -- the lieutenant decides the order
 two_generals : printed two ([]) ≡ lines (
@@ -59,7 +61,7 @@ turncoat =
 
 -- four generals, a traitor among the lieutenants
 four : Scenario
-four = record { generals = 4; bound = 1; commander = 0; order = 1; board = replicate 64 0; programs = None ∷ None ∷ None ∷ Some turncoat ∷ [] }
+four = record { generals = 4; bound = 1; commander = 0; order = 1; board = replicate 64 0; programs = None ∷ None ∷ None ∷ Some turncoat ∷ []; patience = None; rule = Majority }
 
 -- the loyal lieutenants obey
 traitor_lieutenant : printed four ([]) ≡ lines (
@@ -130,7 +132,7 @@ split =
 
 -- four generals under him
 under_split : Scenario
-under_split = record { generals = 4; bound = 1; commander = 0; order = 0; board = replicate 64 0; programs = Some split ∷ None ∷ None ∷ None ∷ [] }
+under_split = record { generals = 4; bound = 1; commander = 0; order = 0; board = replicate 64 0; programs = Some split ∷ None ∷ None ∷ None ∷ []; patience = None; rule = Majority }
 
 -- all decide 1
 commander_split : printed under_split ([]) ≡ lines (
@@ -172,7 +174,7 @@ silent =
 
 -- four generals under him
 under_silent : Scenario
-under_silent = record { generals = 4; bound = 1; commander = 0; order = 0; board = replicate 64 0; programs = Some silent ∷ None ∷ None ∷ None ∷ [] }
+under_silent = record { generals = 4; bound = 1; commander = 0; order = 0; board = replicate 64 0; programs = Some silent ∷ None ∷ None ∷ None ∷ []; patience = None; rule = Majority }
 
 -- nothing counts as 0: all decide 0
 commander_silent : printed under_silent ([]) ≡ lines (
@@ -217,7 +219,7 @@ three_ways =
 
 -- four generals under him
 under_three_ways : Scenario
-under_three_ways = record { generals = 4; bound = 1; commander = 0; order = 0; board = replicate 64 0; programs = Some three_ways ∷ None ∷ None ∷ None ∷ [] }
+under_three_ways = record { generals = 4; bound = 1; commander = 0; order = 0; board = replicate 64 0; programs = Some three_ways ∷ None ∷ None ∷ None ∷ []; patience = None; rule = Majority }
 
 -- no order has more than half: all decide 0
 commander_three_ways : printed under_three_ways ([]) ≡ lines (
@@ -256,7 +258,7 @@ liar =
 
 -- three generals, one of them a traitor: too few
 three : Scenario
-three = record { generals = 3; bound = 1; commander = 0; order = 1; board = replicate 64 0; programs = None ∷ None ∷ Some liar ∷ [] }
+three = record { generals = 3; bound = 1; commander = 0; order = 1; board = replicate 64 0; programs = None ∷ None ∷ Some liar ∷ []; patience = None; rule = Majority }
 
 -- the loyal lieutenant does not obey
 three_generals : printed three ([]) ≡ lines (
@@ -289,7 +291,7 @@ mute =
 
 -- three generals, one of them a traitor
 three_mute : Scenario
-three_mute = record { generals = 3; bound = 1; commander = 0; order = 1; board = replicate 64 0; programs = None ∷ None ∷ Some mute ∷ [] }
+three_mute = record { generals = 3; bound = 1; commander = 0; order = 1; board = replicate 64 0; programs = None ∷ None ∷ Some mute ∷ []; patience = None; rule = Majority }
 
 -- what does not come counts as 0, and stands in the list
 three_mute_generals : printed three_mute ([]) ≡ lines (
@@ -342,7 +344,7 @@ clerk =
 
 -- two generals, words on the board
 board : Scenario
-board = record { generals = 2; bound = 0; commander = 0; order = 7; board = 0 ∷ 0 ∷ 6 ∷ 5 ∷ replicate 60 0; programs = None ∷ Some clerk ∷ [] }
+board = record { generals = 2; bound = 0; commander = 0; order = 7; board = 0 ∷ 0 ∷ 6 ∷ 5 ∷ replicate 60 0; programs = None ∷ Some clerk ∷ []; patience = None; rule = Majority }
 
 -- each kind of access
 each_access : printed board ([]) ≡ lines (
@@ -378,7 +380,7 @@ half =
 
 -- four generals, a traitor who is honest to one
 half_honest : Scenario
-half_honest = record { generals = 4; bound = 1; commander = 0; order = 6; board = replicate 64 0; programs = None ∷ None ∷ None ∷ Some half ∷ [] }
+half_honest = record { generals = 4; bound = 1; commander = 0; order = 6; board = replicate 64 0; programs = None ∷ None ∷ None ∷ Some half ∷ []; patience = None; rule = Majority }
 
 -- what he took stands in his context
 honest_to_one : printed half_honest ([]) ≡ lines (
@@ -438,7 +440,7 @@ divider =
 
 -- the commander, general 2, and general 3 divide the two others
 divided : Scenario
-divided = record { generals = 4; bound = 1; commander = 2; order = 5; board = replicate 64 0; programs = None ∷ None ∷ Some divider ∷ Some divider ∷ [] }
+divided = record { generals = 4; bound = 1; commander = 2; order = 5; board = replicate 64 0; programs = None ∷ None ∷ Some divider ∷ Some divider ∷ []; patience = None; rule = Majority }
 
 two_traitors : printed divided ([]) ≡ lines (
     codes "chronicle 1"
@@ -505,10 +507,10 @@ divider_later =
 
 -- generals 1 and 2 are absent in round 2, and then 1 and 2 have posted
 four_divided : Scenario
-four_divided = record { generals = 4; bound = 1; commander = 0; order = 1; board = replicate 64 0; programs = None ∷ None ∷ None ∷ Some divider_later ∷ [] }
+four_divided = record { generals = 4; bound = 1; commander = 0; order = 1; board = replicate 64 0; programs = None ∷ None ∷ None ∷ Some divider_later ∷ []; patience = None; rule = Majority }
 
 deciding : World → List ℕ
-deciding w = decisions w.scenario (messages w.scenario w.closed)
+deciding w = decisions w.scenario (messages w.closed)
 
 absent : map (λ w. deciding w) (run (opening four_divided) (Post 0 ∷ Post 1 ∷ Post 2 ∷ Close ∷ replicate 7 (Tick 3) ++ Close ∷ []) ∷ run (opening four_divided) (Post 0 ∷ Post 1 ∷ Post 2 ∷ Close ∷ replicate 7 (Tick 3) ++ Post 0 ∷ Post 1 ∷ Post 2 ∷ Close ∷ []) ∷ [])
     ≡ (1 ∷ 0 ∷ 0 ∷ []) ∷ (1 ∷ 1 ∷ 1 ∷ []) ∷ []
@@ -545,7 +547,7 @@ idler =
     ∷ []
 
 idle : Scenario
-idle = record { generals = 2; bound = 0; commander = 0; order = 7; board = replicate 64 0; programs = None ∷ Some idler ∷ [] }
+idle = record { generals = 2; bound = 0; commander = 0; order = 7; board = replicate 64 0; programs = None ∷ Some idler ∷ []; patience = None; rule = Majority }
 
 copies_none : printed idle ([]) ≡ lines (
     codes "chronicle 1"

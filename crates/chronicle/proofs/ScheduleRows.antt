@@ -7,11 +7,13 @@ use Rattle.insn.specs.declared.insn.Insn.{Insn}
 use Rattle.insn.specs.declared.insn.Insn.TheVariants as i
 use Rattle.insn.specs.declared.insn.Operand.TheVariants.{Register, Immediate}
 use Rattle.combine.specs.Rule.{majority}
+use Rattle.combine.specs.declared.chosen.Rule.TheVariants.{Majority}
 use Rattle.label.specs.Labels.{labels}
 use Rattle.label.specs.Oral.{om}
 use Rattle.semantics.specs.Execution.{step}
-use Rattle.world.specs.Scenario.{Scenario}
-use Rattle.world.specs.Letters.{context_bytes, messages}
+use Rattle.round.specs.Scenario.{Scenario}
+use Rattle.round.specs.Contexts.{context_bytes}
+use Rattle.round.specs.Letters.{messages}
 use Rattle.world.specs.World.{opening, run}
 use Rattle.world.specs.declared.event.Event.TheVariants.{Close}
 use Rattle.world.specs.Lists.{listed_rounds, listed}
@@ -48,7 +50,7 @@ counter =
 
 -- seven generals under a traitor, another among the lieutenants
 seven : Scenario
-seven = record { generals = 7; bound = 2; commander = 0; order = 0; board = replicate 64 0; programs = Some counter ∷ None ∷ None ∷ None ∷ Some counter ∷ None ∷ None ∷ [] }
+seven = record { generals = 7; bound = 2; commander = 0; order = 0; board = replicate 64 0; programs = Some counter ∷ None ∷ None ∷ None ∷ Some counter ∷ None ∷ None ∷ []; patience = None; rule = Majority }
 
 -- without a schedule general 0 comes first
 seven_generals : printed seven ([]) ≡ lines (

@@ -2,9 +2,12 @@
 #![tactic(auto)]
 
 mod context;
+mod laws;
 mod orders;
 mod relays;
 mod row;
+mod rows;
 
 pub use label::Shape;
+pub use laws::last_orders_are_given;
 pub use orders::Outbox;
