@@ -15,10 +15,10 @@ use Rattle.world.specs.Scenario.{Scenario, is_traitor}
 use Rattle.world.specs.Letters.{Letter}
 use Rattle.world.specs.Lists.{names_in}
 use Rattle.world.specs.Chronicle.{Chronicle, lieutenants}
-use Rattle.chronicle.specs.Text.{Line, access_line, row_lines, letter_line, letter_lines, round_lines, decision_line, decision_lines, verdict_line, lines_of, text_of}
-use Rattle.chronicle.specs.Names.{general_of, Named, with_line, named, names_of}
-use Rattle.chronicle.proofs.Splitting.{text-split}
-use Rattle.chronicle.proofs.Plain.{chronicle_plain}
+use Rattle.trace.specs.Text.{Line, access_line, row_lines, letter_line, letter_lines, round_lines, decision_line, decision_lines, verdict_line, lines_of, text_of}
+use Rattle.trace.specs.Names.{general_of, Named, with_line, named, names_of}
+use Rattle.trace.proofs.Splitting.{text-split}
+use Rattle.trace.proofs.Plain.{chronicle_plain}
 
 -- a number below 13 tells the general of that number alone
 is_told : ℕ → Bool

@@ -1,5 +1,5 @@
 -- Campaigns of seven generals under schedules, from the scenario to the chronicle's text. The right sides come from a model of its own.
-use Rattle.std.specs.Prelude.{ℕ, pos, map, true, false, ◌≡◌, List, [], ◌∷◌, ◌++◌, flat_map, replicate, codes, None, Some, refl}
+use Rattle.std.specs.Prelude.{pos, map, true, false, ◌≡◌, List, [], ◌∷◌, replicate, codes, None, Some, refl}
 use Rattle.std.specs.Fmt.{digits}
 use Rattle.word.specs.declared.Width.TheVariants.{W64}
 use Rattle.word.specs.declared.Operation.TheVariants as op
@@ -14,17 +14,10 @@ use Rattle.world.specs.Scenario.{Scenario}
 use Rattle.world.specs.Letters.{context_bytes, messages}
 use Rattle.world.specs.World.{opening, run}
 use Rattle.world.specs.declared.event.Event.TheVariants.{Close}
-use Rattle.world.specs.Lists.{listed_rounds, listed}
-use Rattle.world.specs.Chronicle.{decisions, chronicle_of}
-use Rattle.chronicle.specs.Text.{lines_of, text_of}
-
--- the text that a campaign prints under a schedule
-abbrev printed : Scenario → List (List ℕ) → List ℕ
-printed s schedule = text_of (chronicle_of (run (opening s) (listed s schedule)))
-
--- lines, each with its LF
-abbrev lines : List (List ℕ) → List ℕ
-lines ls = flat_map (λ l. l ++ 10 ∷ []) ls
+use Rattle.world.specs.Lists.{listed_rounds}
+use Rattle.world.specs.Chronicle.{decisions}
+use Rattle.trace.specs.Text.{lines_of, text_of}
+use Rattle.trace.proofs.Printed.{printed, lines}
 
 -- he adds 1 to a word of the board, and tells generals 1, 2 and 3 the lowest bit of what it was
 counter : List Insn

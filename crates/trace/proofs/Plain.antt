@@ -10,8 +10,8 @@ use Rattle.board.specs.Board.{Access}
 use Rattle.world.specs.Scenario.{Scenario, is_traitor}
 use Rattle.world.specs.Letters.{Letter}
 use Rattle.world.specs.Chronicle.{Chronicle, lieutenants}
-use Rattle.chronicle.specs.Text.{Word, Line, asked, access_line, place, row_lines, yes_no, yes_no_none, letter_line, letter_lines, round_lines, decision_line, decision_lines, lines_of}
-use Rattle.chronicle.proofs.Splitting.{IsPlain, ArePlain, IsLine, AreLines, decimal_plain}
+use Rattle.trace.specs.Text.{Word, Line, asked, access_line, place, row_lines, yes_no, yes_no_none, letter_line, letter_lines, round_lines, decision_line, decision_lines, lines_of}
+use Rattle.trace.proofs.Splitting.{IsPlain, ArePlain, IsLine, AreLines, decimal_plain}
 
 by_test : (w : Word) → list_all (λ c. nat_lt 32 c) w ≡ true → IsPlain w
 by_test [] h = tt

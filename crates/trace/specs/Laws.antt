@@ -2,8 +2,8 @@
 use Rattle.std.specs.Prelude.{◌≡◌, ◌<◌, All, length}
 use Rattle.world.specs.Lists.{names_in}
 use Rattle.world.specs.Chronicle.{Chronicle}
-use Rattle.chronicle.specs.Text.{text_of}
-use Rattle.chronicle.specs.Names.{names_of}
+use Rattle.trace.specs.Text.{text_of}
+use Rattle.trace.specs.Names.{names_of}
 
 -- the names that the text tells are those of its accesses, round by round
 abbrev pub NamesAreTold : Type 0

@@ -1,16 +1,9 @@
 -- Who makes the accesses of each round, as a text tells it (own).
-use Rattle.std.specs.Prelude.{ℕ, ◌==◌, cond, List, [], ◌∷◌, ◌++◌, map, filter, decimal, codes, bytes_eq}
+use Rattle.std.specs.Prelude.{ℕ, cond, List, [], ◌∷◌, ◌++◌, map, filter, decimal, codes, bytes_eq}
+use Rattle.text.specs.Stop.{space, feed}
+use Rattle.text.specs.Parts.{pieces}
 use Rattle.label.specs.Labels.{generals}
-use Rattle.chronicle.specs.Text.{Word, Line}
-
--- the pieces between separators
-abbrev pub before_first : ℕ → List (List ℕ) → List (List ℕ)
-before_first c [] = (c ∷ []) ∷ []
-before_first c (w ∷ ws) = (c ∷ w) ∷ ws
-
-abbrev pub split : ℕ → List ℕ → List (List ℕ)
-split separator [] = [] ∷ []
-split separator (c ∷ cs) = cond (c == separator) ([] ∷ split separator cs) (before_first c (split separator cs))
+use Rattle.trace.specs.Text.{Word, Line}
 
 -- the general of this number, if he is one
 abbrev pub general_of : Word → List ℕ
@@ -32,4 +25,4 @@ named (l ∷ ls) = with_line l (named ls)
 
 -- for each round line of a text, the names of the access lines behind it
 unfoldable pub names_of : List ℕ → List (List ℕ)
-names_of t = (named (map (split 32) (split 10 t))).1
+names_of t = (named (map (pieces space) (pieces feed t))).1

@@ -1,0 +1,48 @@
+-- Loyal generals who are absent from a round, from the scenario to the chronicle's text. The right sides come from a model of its own.
+use Rattle.std.specs.Prelude.{true, false, ℕ, pos, map, ◌≡◌, List, [], ◌∷◌, ◌++◌, replicate, None, Some, refl}
+use Rattle.std.specs.Fmt.{digits}
+use Rattle.word.specs.declared.Width.TheVariants.{W64}
+use Rattle.word.specs.declared.Operation.TheVariants as op
+use Rattle.insn.specs.declared.insn.Insn.{Insn}
+use Rattle.insn.specs.declared.insn.Insn.TheVariants as i
+use Rattle.insn.specs.declared.insn.Operand.TheVariants.{Immediate}
+use Rattle.combine.specs.Rule.{majority}
+use Rattle.label.specs.Labels.{labels}
+use Rattle.label.specs.Oral.{om}
+use Rattle.semantics.specs.Execution.{step}
+use Rattle.world.specs.Scenario.{Scenario}
+use Rattle.world.specs.Letters.{context_bytes, messages}
+use Rattle.world.specs.World.{opening, run}
+use Rattle.world.specs.declared.event.Event.TheVariants.{Tick, Post, Close}
+use Rattle.world.specs.Chronicle.{decisions}
+use Rattle.world.specs.World.{World}
+use Rattle.trace.specs.Text.{lines_of, text_of}
+
+-- he tells general 1 the order 1, and general 2 the order 0
+divider_later : List Insn
+divider_later =
+    i.Arithmetic W64 op.Move 1 (Immediate (pos 1))
+    ∷ i.Arithmetic W64 op.Move 2 (Immediate (pos 1))
+    ∷ i.Call (pos 8)
+    ∷ i.Arithmetic W64 op.Move 1 (Immediate (pos 2))
+    ∷ i.Arithmetic W64 op.Move 2 (Immediate (pos 0))
+    ∷ i.Call (pos 8)
+    ∷ i.Exit
+    ∷ []
+
+-- generals 1 and 2 are absent in round 2, and then 1 and 2 have posted
+four_divided : Scenario
+four_divided = record { generals = 4; bound = 1; commander = 0; order = 1; board = replicate 64 0; programs = None ∷ None ∷ None ∷ Some divider_later ∷ [] }
+
+deciding : World → List ℕ
+deciding w = decisions w.scenario (messages w.scenario w.closed)
+
+absent : map (λ w. deciding w) (run (opening four_divided) (Post 0 ∷ Post 1 ∷ Post 2 ∷ Close ∷ replicate 7 (Tick 3) ++ Close ∷ []) ∷ run (opening four_divided) (Post 0 ∷ Post 1 ∷ Post 2 ∷ Close ∷ replicate 7 (Tick 3) ++ Post 0 ∷ Post 1 ∷ Post 2 ∷ Close ∷ []) ∷ [])
+    ≡ (1 ∷ 0 ∷ 0 ∷ []) ∷ (1 ∷ 1 ∷ 1 ∷ []) ∷ []
+unfolding deciding four_divided divider_later labels om majority context_bytes messages decisions lines_of text_of step digits
+absent = refl
+
+absent_full : map (λ w. w.full) (run (opening four_divided) (Post 0 ∷ Post 1 ∷ Post 2 ∷ Close ∷ replicate 7 (Tick 3) ++ Close ∷ []) ∷ run (opening four_divided) (Post 0 ∷ Post 1 ∷ Post 2 ∷ Close ∷ replicate 7 (Tick 3) ++ Post 0 ∷ Post 1 ∷ Post 2 ∷ Close ∷ []) ∷ [])
+    ≡ false ∷ true ∷ []
+unfolding four_divided divider_later labels om majority context_bytes messages decisions lines_of text_of step digits
+absent_full = refl

@@ -1,0 +1,13 @@
+pub mod Splitting
+pub mod Plain
+pub mod Naming
+mod Printed
+mod TwoGenerals
+mod TraitorLieutenant
+mod TraitorCommander
+mod ThreeGenerals
+mod EachAccess
+mod HonestToOne
+mod TwoTraitors
+mod Absent
+mod SevenGenerals
