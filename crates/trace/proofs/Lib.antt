@@ -1,3 +1,4 @@
+pub mod EntryLemmas
 pub mod Splitting
 pub mod Plain
 pub mod Naming
@@ -11,3 +12,4 @@ mod HonestToOne
 mod TwoTraitors
 mod Absent
 mod SevenGenerals
+mod ScheduleTexts

@@ -1,3 +1,5 @@
 pub mod Text
 pub mod Names
 pub mod Laws
+pub mod Schedules
+pub mod Left

@@ -1,6 +1,10 @@
-//! The text of a chronicle. What is said of it stands in specs/.
+//! The texts of campaigns: chronicles and schedules.
 #![tactic(auto)]
 
+mod fault;
 mod laws;
+mod scheduling;
 
+pub use fault::TraceError;
 pub use laws::names_are_told;
+pub use scheduling::read_schedule;
