@@ -1,4 +1,5 @@
 pub mod EntryLemmas
+pub mod WrittenLemmas
 pub mod Splitting
 pub mod Plain
 pub mod Naming

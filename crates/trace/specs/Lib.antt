@@ -3,3 +3,4 @@ pub mod Names
 pub mod Laws
 pub mod Schedules
 pub mod Left
+pub mod Sinks

@@ -4,7 +4,10 @@
 mod fault;
 mod laws;
 mod scheduling;
+mod sink;
+mod writing;
 
 pub use fault::TraceError;
 pub use laws::names_are_told;
 pub use scheduling::read_schedule;
+pub use sink::{Latch, Sink};
