@@ -7,6 +7,7 @@ use Rattle.insn.specs.declared.insn.Insn.{Insn}
 use Rattle.insn.specs.declared.insn.Insn.TheVariants as i
 use Rattle.insn.specs.declared.insn.Operand.TheVariants.{Immediate}
 use Rattle.combine.specs.Rule.{majority}
+use Rattle.combine.specs.declared.chosen.Rule.TheVariants.{Majority}
 use Rattle.label.specs.Labels.{labels}
 use Rattle.label.specs.Oral.{om}
 use Rattle.semantics.specs.Execution.{step}
@@ -32,7 +33,7 @@ divider_later =
 
 -- generals 1 and 2 are absent in round 2, and then 1 and 2 have posted
 four_divided : Scenario
-four_divided = record { generals = 4; bound = 1; commander = 0; order = 1; board = replicate 64 0; programs = None ∷ None ∷ None ∷ Some divider_later ∷ [] }
+four_divided = record { generals = 4; bound = 1; commander = 0; order = 1; board = replicate 64 0; programs = None ∷ None ∷ None ∷ Some divider_later ∷ []; patience = None; rule = Majority }
 
 deciding : World → List ℕ
 deciding w = decisions w.scenario (messages w.scenario w.closed)

@@ -7,6 +7,7 @@ use Rattle.insn.specs.declared.insn.Insn.{Insn}
 use Rattle.insn.specs.declared.insn.Insn.TheVariants as i
 use Rattle.insn.specs.declared.insn.Operand.TheVariants.{Register, Immediate}
 use Rattle.combine.specs.Rule.{majority}
+use Rattle.combine.specs.declared.chosen.Rule.TheVariants.{Majority}
 use Rattle.label.specs.Labels.{labels}
 use Rattle.label.specs.Oral.{om}
 use Rattle.semantics.specs.Execution.{step}
@@ -45,7 +46,7 @@ clerk =
 
 -- two generals, words on the board
 board : Scenario
-board = record { generals = 2; bound = 0; commander = 0; order = 7; board = 0 ∷ 0 ∷ 6 ∷ 5 ∷ replicate 60 0; programs = None ∷ Some clerk ∷ [] }
+board = record { generals = 2; bound = 0; commander = 0; order = 7; board = 0 ∷ 0 ∷ 6 ∷ 5 ∷ replicate 60 0; programs = None ∷ Some clerk ∷ []; patience = None; rule = Majority }
 
 -- each kind of access
 each_access : printed board ([]) ≡ lines (
@@ -78,7 +79,7 @@ idler =
     ∷ []
 
 idle : Scenario
-idle = record { generals = 2; bound = 0; commander = 0; order = 7; board = replicate 64 0; programs = None ∷ Some idler ∷ [] }
+idle = record { generals = 2; bound = 0; commander = 0; order = 7; board = replicate 64 0; programs = None ∷ Some idler ∷ []; patience = None; rule = Majority }
 
 copies_none : printed idle ([]) ≡ lines (
     codes "chronicle 1"

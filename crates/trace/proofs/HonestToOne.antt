@@ -7,6 +7,7 @@ use Rattle.insn.specs.declared.insn.Insn.{Insn}
 use Rattle.insn.specs.declared.insn.Insn.TheVariants as i
 use Rattle.insn.specs.declared.insn.Operand.TheVariants.{Immediate}
 use Rattle.combine.specs.Rule.{majority}
+use Rattle.combine.specs.declared.chosen.Rule.TheVariants.{Majority}
 use Rattle.label.specs.Labels.{labels}
 use Rattle.label.specs.Oral.{om}
 use Rattle.semantics.specs.Execution.{step}
@@ -30,7 +31,7 @@ half =
 
 -- four generals, a traitor who is honest to one
 half_honest : Scenario
-half_honest = record { generals = 4; bound = 1; commander = 0; order = 6; board = replicate 64 0; programs = None ∷ None ∷ None ∷ Some half ∷ [] }
+half_honest = record { generals = 4; bound = 1; commander = 0; order = 6; board = replicate 64 0; programs = None ∷ None ∷ None ∷ Some half ∷ []; patience = None; rule = Majority }
 
 -- what he took stands in his context
 honest_to_one : printed half_honest ([]) ≡ lines (

@@ -7,6 +7,7 @@ use Rattle.insn.specs.declared.insn.Insn.{Insn}
 use Rattle.insn.specs.declared.insn.Insn.TheVariants as i
 use Rattle.insn.specs.declared.insn.Operand.TheVariants.{Register, Immediate}
 use Rattle.combine.specs.Rule.{majority}
+use Rattle.combine.specs.declared.chosen.Rule.TheVariants.{Majority}
 use Rattle.label.specs.Labels.{labels}
 use Rattle.label.specs.Oral.{om}
 use Rattle.semantics.specs.Execution.{step}
@@ -41,7 +42,7 @@ counter =
 
 -- seven generals under a traitor, another among the lieutenants
 seven : Scenario
-seven = record { generals = 7; bound = 2; commander = 0; order = 0; board = replicate 64 0; programs = Some counter ∷ None ∷ None ∷ None ∷ Some counter ∷ None ∷ None ∷ [] }
+seven = record { generals = 7; bound = 2; commander = 0; order = 0; board = replicate 64 0; programs = Some counter ∷ None ∷ None ∷ None ∷ Some counter ∷ None ∷ None ∷ []; patience = None; rule = Majority }
 
 -- without a schedule general 0 comes first
 seven_generals : printed seven ([]) ≡ lines (

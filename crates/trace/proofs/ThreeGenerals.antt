@@ -7,6 +7,7 @@ use Rattle.insn.specs.declared.insn.Insn.{Insn}
 use Rattle.insn.specs.declared.insn.Insn.TheVariants as i
 use Rattle.insn.specs.declared.insn.Operand.TheVariants.{Immediate}
 use Rattle.combine.specs.Rule.{majority}
+use Rattle.combine.specs.declared.chosen.Rule.TheVariants.{Majority}
 use Rattle.label.specs.Labels.{labels}
 use Rattle.label.specs.Oral.{om}
 use Rattle.semantics.specs.Execution.{step}
@@ -27,7 +28,7 @@ liar =
 
 -- three generals, one of them a traitor: too few
 three : Scenario
-three = record { generals = 3; bound = 1; commander = 0; order = 1; board = replicate 64 0; programs = None ∷ None ∷ Some liar ∷ [] }
+three = record { generals = 3; bound = 1; commander = 0; order = 1; board = replicate 64 0; programs = None ∷ None ∷ Some liar ∷ []; patience = None; rule = Majority }
 
 -- the loyal lieutenant does not obey
 three_generals : printed three ([]) ≡ lines (
@@ -60,7 +61,7 @@ mute =
 
 -- three generals, one of them a traitor
 three_mute : Scenario
-three_mute = record { generals = 3; bound = 1; commander = 0; order = 1; board = replicate 64 0; programs = None ∷ None ∷ Some mute ∷ [] }
+three_mute = record { generals = 3; bound = 1; commander = 0; order = 1; board = replicate 64 0; programs = None ∷ None ∷ Some mute ∷ []; patience = None; rule = Majority }
 
 -- what does not come counts as 0, and stands in the list
 three_mute_generals : printed three_mute ([]) ≡ lines (

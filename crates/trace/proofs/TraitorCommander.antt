@@ -7,6 +7,7 @@ use Rattle.insn.specs.declared.insn.Insn.{Insn}
 use Rattle.insn.specs.declared.insn.Insn.TheVariants as i
 use Rattle.insn.specs.declared.insn.Operand.TheVariants.{Immediate}
 use Rattle.combine.specs.Rule.{majority}
+use Rattle.combine.specs.declared.chosen.Rule.TheVariants.{Majority}
 use Rattle.label.specs.Labels.{labels}
 use Rattle.label.specs.Oral.{om}
 use Rattle.semantics.specs.Execution.{step}
@@ -33,7 +34,7 @@ split =
 
 -- four generals under him
 under_split : Scenario
-under_split = record { generals = 4; bound = 1; commander = 0; order = 0; board = replicate 64 0; programs = Some split ∷ None ∷ None ∷ None ∷ [] }
+under_split = record { generals = 4; bound = 1; commander = 0; order = 0; board = replicate 64 0; programs = Some split ∷ None ∷ None ∷ None ∷ []; patience = None; rule = Majority }
 
 -- all decide 1
 commander_split : printed under_split ([]) ≡ lines (
@@ -75,7 +76,7 @@ silent =
 
 -- four generals under him
 under_silent : Scenario
-under_silent = record { generals = 4; bound = 1; commander = 0; order = 0; board = replicate 64 0; programs = Some silent ∷ None ∷ None ∷ None ∷ [] }
+under_silent = record { generals = 4; bound = 1; commander = 0; order = 0; board = replicate 64 0; programs = Some silent ∷ None ∷ None ∷ None ∷ []; patience = None; rule = Majority }
 
 -- nothing counts as 0: all decide 0
 commander_silent : printed under_silent ([]) ≡ lines (
@@ -120,7 +121,7 @@ three_ways =
 
 -- four generals under him
 under_three_ways : Scenario
-under_three_ways = record { generals = 4; bound = 1; commander = 0; order = 0; board = replicate 64 0; programs = Some three_ways ∷ None ∷ None ∷ None ∷ [] }
+under_three_ways = record { generals = 4; bound = 1; commander = 0; order = 0; board = replicate 64 0; programs = Some three_ways ∷ None ∷ None ∷ None ∷ []; patience = None; rule = Majority }
 
 -- no order has more than half: all decide 0
 commander_three_ways : printed under_three_ways ([]) ≡ lines (

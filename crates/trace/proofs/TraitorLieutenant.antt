@@ -7,6 +7,7 @@ use Rattle.insn.specs.declared.insn.Insn.{Insn}
 use Rattle.insn.specs.declared.insn.Insn.TheVariants as i
 use Rattle.insn.specs.declared.insn.Operand.TheVariants.{Immediate}
 use Rattle.combine.specs.Rule.{majority}
+use Rattle.combine.specs.declared.chosen.Rule.TheVariants.{Majority}
 use Rattle.label.specs.Labels.{labels}
 use Rattle.label.specs.Oral.{om}
 use Rattle.semantics.specs.Execution.{step}
@@ -33,7 +34,7 @@ turncoat =
 
 -- four generals, a traitor among the lieutenants
 four : Scenario
-four = record { generals = 4; bound = 1; commander = 0; order = 1; board = replicate 64 0; programs = None ∷ None ∷ None ∷ Some turncoat ∷ [] }
+four = record { generals = 4; bound = 1; commander = 0; order = 1; board = replicate 64 0; programs = None ∷ None ∷ None ∷ Some turncoat ∷ []; patience = None; rule = Majority }
 
 -- the loyal lieutenants obey
 traitor_lieutenant : printed four ([]) ≡ lines (

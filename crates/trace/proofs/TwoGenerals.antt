@@ -2,6 +2,7 @@
 use Rattle.std.specs.Prelude.{◌≡◌, [], ◌∷◌, replicate, codes, None, refl}
 use Rattle.std.specs.Fmt.{digits}
 use Rattle.combine.specs.Rule.{majority}
+use Rattle.combine.specs.declared.chosen.Rule.TheVariants.{Majority}
 use Rattle.label.specs.Labels.{labels}
 use Rattle.label.specs.Oral.{om}
 use Rattle.semantics.specs.Execution.{step}
@@ -13,7 +14,7 @@ use Rattle.trace.proofs.Printed.{printed, lines}
 
 -- two generals, no traitor
 two : Scenario
-two = record { generals = 2; bound = 0; commander = 0; order = 7; board = replicate 64 0; programs = None ∷ None ∷ [] }
+two = record { generals = 2; bound = 0; commander = 0; order = 7; board = replicate 64 0; programs = None ∷ None ∷ []; patience = None; rule = Majority }
 
 -- the lieutenant decides the order
 two_generals : printed two ([]) ≡ lines (

@@ -7,6 +7,7 @@ use Rattle.insn.specs.declared.insn.Insn.{Insn}
 use Rattle.insn.specs.declared.insn.Insn.TheVariants as i
 use Rattle.insn.specs.declared.insn.Operand.TheVariants.{Immediate}
 use Rattle.combine.specs.Rule.{majority}
+use Rattle.combine.specs.declared.chosen.Rule.TheVariants.{Majority}
 use Rattle.label.specs.Labels.{labels}
 use Rattle.label.specs.Oral.{om}
 use Rattle.semantics.specs.Execution.{step}
@@ -30,7 +31,7 @@ divider =
 
 -- the commander, general 2, and general 3 divide the two others
 divided : Scenario
-divided = record { generals = 4; bound = 1; commander = 2; order = 5; board = replicate 64 0; programs = None ∷ None ∷ Some divider ∷ Some divider ∷ [] }
+divided = record { generals = 4; bound = 1; commander = 2; order = 5; board = replicate 64 0; programs = None ∷ None ∷ Some divider ∷ Some divider ∷ []; patience = None; rule = Majority }
 
 two_traitors : printed divided ([]) ≡ lines (
     codes "chronicle 1"

@@ -1,6 +1,8 @@
 -- The text of a chronicle, line by line (own).
-use Rattle.std.specs.Prelude.{ℕ, suc, ◌==◌, Bool, true, false, List, [], ◌∷◌, ◌++◌, map, flat_map, filter, decimal, codes, Option, None, Some}
+use Rattle.std.specs.Prelude.{ℕ, suc, ◌==◌, Bool, true, false, cond, List, [], ◌∷◌, ◌++◌, map, flat_map, filter, decimal, codes, Option, None, Some}
 use Rattle.insn.specs.declared.insn.Insn.{Insn}
+use Rattle.combine.specs.declared.chosen.Rule.{Rule}
+use Rattle.combine.specs.declared.chosen.Rule.TheVariants.{Majority, Median}
 use Rattle.semantics.specs.declared.request.Request.{Request}
 use Rattle.semantics.specs.declared.request.Request.TheVariants.{Get, Swap, Add, Cas, Copy}
 use Rattle.board.specs.Board.{Access}
@@ -40,10 +42,10 @@ asked (Copy span) = codes "copy" ∷ decimal span.0 ∷ decimal span.1 ∷ codes
 abbrev pub access_line : Access → Line
 access_line a = codes "access" ∷ decimal a.general ∷ (asked a.request ++ map decimal a.reply)
 
--- an order, or - for nothing
+-- a number, or - for nothing
 abbrev pub place : Option ℕ → Word
 place None = codes "-"
-place (Some order) = decimal order
+place (Some number) = decimal number
 
 -- a line for each label, by its rank
 abbrev pub row_lines : ℕ → List (List (Option ℕ)) → List Line
@@ -83,10 +85,24 @@ yes_no_none (Some b) = yes_no b
 abbrev pub verdict_line : Verdict → Line
 verdict_line v = codes "verdict" ∷ codes "alike" ∷ yes_no v.alike ∷ codes "obeyed" ∷ yes_no_none v.obeyed ∷ codes "bound" ∷ yes_no v.bound ∷ []
 
+-- a campaign without a patience, by the majority, is told in version 1, any other in version 2
+abbrev pub is_plain : Option ℕ → Rule → Bool
+is_plain None Majority = true
+is_plain None Median = false
+is_plain (Some patience) rule = false
+
+abbrev pub rule_word : Rule → Word
+rule_word Majority = codes "majority"
+rule_word Median = codes "median"
+
+-- what version 2 tells behind the order
+abbrev pub further_words : Scenario → List Word
+further_words s = cond (is_plain s.patience s.rule) [] (codes "patience" ∷ place s.patience ∷ codes "rule" ∷ rule_word s.rule ∷ [])
+
 abbrev pub head_lines : Scenario → List Line
 head_lines s =
-    (codes "chronicle" ∷ codes "1" ∷ [])
-    ∷ (codes "generals" ∷ decimal s.generals ∷ codes "bound" ∷ decimal s.bound ∷ codes "commander" ∷ decimal s.commander ∷ codes "order" ∷ decimal s.order ∷ [])
+    (codes "chronicle" ∷ cond (is_plain s.patience s.rule) (codes "1") (codes "2") ∷ [])
+    ∷ (codes "generals" ∷ decimal s.generals ∷ codes "bound" ∷ decimal s.bound ∷ codes "commander" ∷ decimal s.commander ∷ codes "order" ∷ decimal s.order ∷ further_words s)
     ∷ []
 
 unfoldable pub lines_of : Chronicle → List Line

@@ -10,7 +10,7 @@ use Rattle.board.proofs.Serving.{reply_fits, next_board}
 use Rattle.world.specs.declared.event.Event.{Event}
 use Rattle.world.specs.declared.event.Event.TheVariants.{Tick, Post, Close}
 use Rattle.world.specs.Scenario.{Scenario, program_of}
-use Rattle.world.specs.World.{Activation, Turn, Goes, Asks, Ended, turn, Part, Acting, Silent, Posted, has_posted, World, happen, run, each, ticked, served, posting}
+use Rattle.world.specs.World.{Activation, Turn, Goes, Asks, Ended, turn, Part, Acting, Silent, Posted, has_posted, World, happen, run, each, ticked, served, posting, has_ended}
 use Rattle.world.specs.Lists.{Throughout, AtClose, HasPosted, HasEnded, post_of, ticks_of}
 use Rattle.world.proofs.Kept.{Fits, IsKept}
 use Rattle.world.proofs.Listing.{set-here}
@@ -41,7 +41,7 @@ WithinAfter k (Goes b) = Within k b
 WithinAfter k (Asks q f) = (r : List ℕ) → fits q r ≡ true → Within k (f r)
 WithinAfter k Ended = Unit {0}
 
-over_within : (k : ℕ) (a : Activation) → a.over ≡ true → Within k a
+over_within : (k : ℕ) (a : Activation) → has_ended a ≡ true → Within k a
 unfolding Within
 over_within k a e = (0, omega arith, λ on. absurd (let f : true ≡ false = sym e ∙ on in cc))
 
@@ -71,7 +71,7 @@ posted_lasts n = record { goes = λ g a b h e lt. refl; asks = λ g a q f r h e 
 
 -- ticks bring an activation to its end
 Arrives : ℕ → World → ℕ → Type 0
-Arrives k v g = (b : Activation) × (slice_get (run v (replicate k (Tick g))).parts g ≡ Some (Acting b)) × (b.over ≡ true)
+Arrives k v g = (b : Activation) × (slice_get (run v (replicate k (Tick g))).parts g ≡ Some (Acting b)) × (has_ended b ≡ true)
 
 tick_end : (k : ℕ) (w : World) (g : ℕ) (a : Activation) → slice_get w.parts g ≡ Some (Acting a) → IsBoard w.words
     → ((v : World) (b : Activation) → slice_get v.parts g ≡ Some (Acting b) → IsBoard v.words → Within k b → Arrives k v g)
@@ -86,7 +86,7 @@ ticks_end : (k : ℕ) (w : World) (g : ℕ) (a : Activation) → slice_get w.par
 unfolding Arrives Within
 ticks_end zero w g a at board h = (a, at, by h.0 h.1 h.2)
   where
-    by : (n : ℕ) → n ≤ 0 → IsGoing n a → a.over ≡ true
+    by : (n : ℕ) → n ≤ 0 → IsGoing n a → has_ended a ≡ true
     by zero le going = going_zero a going
     by (suc n) le going = absurd (omega arith)
 ticks_end (suc k) w g a at board h =

@@ -9,7 +9,7 @@ use Rattle.world.specs.declared.event.Event.{Event}
 use Rattle.world.specs.declared.event.Event.TheVariants.{Tick, Post, Close}
 use Rattle.world.specs.Scenario.{Scenario}
 use Rattle.world.specs.Letters.{Letter}
-use Rattle.world.specs.World.{Activation, Turn, Goes, Asks, Ended, turn, Part, Acting, Silent, Posted, World, of, served, ticked, posting, happen, run}
+use Rattle.world.specs.World.{Activation, Turn, Goes, Asks, Ended, turn, Part, Acting, Silent, Posted, World, of, served, ticked, posting, happen, run, has_ended}
 use Rattle.world.specs.Runs.{Onward, Runs}
 use Rattle.world.specs.Lists.{ticks_named, names_events}
 use Rattle.world.specs.Laws.{IsMove, AreMoves}
@@ -50,7 +50,7 @@ module _ (E : ℕ → Activation → Type 0) where
     pub k : ℕ
     pub end : Activation
     pub runs : Runs k a (of h piece) end
-    pub over : end.over ≡ true
+    pub over : has_ended end ≡ true
     pub is : E h end
 
   abbrev pub Ways : List Access → ℕ → Part → Type 0
@@ -108,11 +108,11 @@ module _ (E : ℕ → Activation → Type 0) where
       (let A : World → Type 0 = λ u. Followed w (x ∷ piece) u in subst A (sym there) here)
 
   -- who has no access left makes none
-  no_goes : (k : ℕ) (a b end : Activation) → end.over ≡ true → turn a ≡ Goes b → Runs k a [] end → (j : ℕ) × Runs j b [] end
+  no_goes : (k : ℕ) (a b end : Activation) → has_ended end ≡ true → turn a ≡ Goes b → Runs k a [] end → (j : ℕ) × Runs j b [] end
   no_goes zero a b end over e h = absurd (let f : Goes b ≡ Ended = sym e ∙ (ap turn h.1 ∙ over_ended end over) in cc)
   no_goes (suc k) a b end over e h = (k, (let A : Turn → Type 0 = λ o. Onward (Runs k) o [] end in subst A e h))
 
-  no_asks : (k : ℕ) (a end : Activation) (q : Request) (f : List ℕ → Activation) → end.over ≡ true → turn a ≡ Asks q f → Runs k a [] end → ⊥
+  no_asks : (k : ℕ) (a end : Activation) (q : Request) (f : List ℕ → Activation) → has_ended end ≡ true → turn a ≡ Asks q f → Runs k a [] end → ⊥
   no_asks zero a end q f over e h = (let g : Asks q f ≡ Ended = sym e ∙ (ap turn h.1 ∙ over_ended end over) in cc)
   no_asks (suc k) a end q f over e h = (let A : Turn → Type 0 = λ o. Onward (Runs k) o [] end in subst A e h)
 
@@ -160,7 +160,7 @@ module _ (E : ℕ → Activation → Type 0) where
       (more.0 ∙ one.0, more.1 ∙ one.1)
 
   -- and an activation that is over is at that end
-  pub way_ended : (g : ℕ) (a : Activation) → a.over ≡ true → Way [] g a → E g a
+  pub way_ended : (g : ℕ) (a : Activation) → has_ended a ≡ true → Way [] g a → E g a
   way_ended g a over w = by w.k w.runs
     where
       by : (k : ℕ) → Runs k a [] w.end → E g a

@@ -14,6 +14,7 @@ pub mod Runnings
 pub mod Ways
 pub mod Deciding
 pub mod Stepping
+pub mod Patience
 pub mod Replays
 pub mod Following
 pub mod Cutting
@@ -21,7 +22,8 @@ pub mod Again
 pub mod Accounting
 pub mod Made
 pub mod Converse
+pub mod Arranged
 pub mod Replaying
 pub mod Refusing
-mod Example
+pub mod Example
 pub mod Telling

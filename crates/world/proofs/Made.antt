@@ -1,6 +1,6 @@
 -- The accesses of a round are those of its traitors, and a ripe round's letters account for them.
 use Rattle.std.proofs.Common.{◌≡◌, ◌≢◌, ℕ, zero, suc, ◌+◌, ◌<◌, ◌≤◌, List, [], ◌∷◌, ◌++◌, length, drop, Bool, true, false, cond, refl, sym, ap, subst, ◌∙◌, ⊎_elim, Option, Some, None, append_assoc, append-nil, arith, length-append, All}
-use Rattle.std.specs.Prelude.{slice_get, ◌==◌, sum_by, is_some}
+use Rattle.std.specs.Prelude.{slice_get, ◌==◌, sum_by, is_some, ◌||◌}
 use Rattle.std.proofs.lemmas.Bool.{ne_eqb, true≢false}
 use Rattle.std.proofs.lemmas.Bool.Decides.{eqb_tells}
 use Rattle.std.proofs.lemmas.List.Sums.{sum_by-append}
@@ -12,7 +12,7 @@ use Rattle.world.specs.declared.event.Event.{Event}
 use Rattle.world.specs.declared.event.Event.TheVariants.{Tick, Post, Close}
 use Rattle.world.specs.Scenario.{Scenario, program_of, is_traitor, shape_of}
 use Rattle.world.specs.Letters.{Letter, context_of, loyal_letter}
-use Rattle.world.specs.World.{Activation, Turn, Goes, Asks, Ended, turn, started, Part, Acting, Silent, Posted, World, each, round_open, begins, begun, of, letters_at, round_letters, served, ticked, posting, happen}
+use Rattle.world.specs.World.{Activation, Turn, Goes, Asks, Ended, turn, started, is_reached, Part, Acting, Silent, Posted, World, each, round_open, begins, begun, of, letters_at, round_letters, served, ticked, posting, happen}
 use Rattle.world.specs.Runs.{Runs, IsLetterOf, IsAccountedRound}
 use Rattle.world.specs.Laws.{IsMove, IsRipe}
 use Rattle.world.proofs.Kept.{Fits, IsKept}
@@ -21,6 +21,7 @@ use Rattle.world.proofs.Due.{IsDue}
 use Rattle.world.proofs.Complete.{part_within}
 use Rattle.world.proofs.Lasting.{IsOnTime}
 use Rattle.world.proofs.Stepping.{runs_steps}
+use Rattle.world.proofs.Patience.{under, runs_under, Kept, runs_kept, within_none}
 use Rattle.world.proofs.Ways.{access, Came}
 use Rattle.world.proofs.Cutting.{AreBelow}
 
@@ -163,7 +164,7 @@ module _ (s : Scenario) (closed : List (List Letter)) (words : List ℕ) (ledger
 
   -- the activation with which a traitor's part began
   starts : (b : Bool) (g : ℕ) (a : Activation) (program : List Insn) → program_of s g ≡ Some program → slice_get (cond b (each s.generals (λ h. begins s closed h (program_of s h) ∷ [])) []) g ≡ Some (Acting a)
-      → started program (context_of s closed g) (shape_of s g (suc (length closed))) ≡ a
+      → started s.patience program (context_of s closed g) (shape_of s g (suc (length closed))) ≡ a
   starts true g a program is e =
       let h = each-get_only s.generals (λ j. begins s closed j (program_of s j)) g (Acting a) e in
       let f : Acting a ≡ begins s closed g (Some program) = h.1 ∙ ap (begins s closed g) is in cc
@@ -178,14 +179,22 @@ module _ (s : Scenario) (closed : List (List Letter)) (words : List ℕ) (ledger
   letter_made w piece sc cl op made ripe came g (Acting a) at (Some program) is fits =
       let c = came g a at in
       let from = starts (round_open s closed) g c.1 program is c.2 in
-      let runs : Runs c.0 (started program (context_of s closed g) (shape_of s g (suc (length closed)))) (of g piece) a = (let A : Activation → Type 0 = λ b. Runs c.0 b (of g piece) a in subst A (sym from) c.3) in
-      let steps = runs_steps c.0 (started program (context_of s closed g) (shape_of s g (suc (length closed)))) (of g piece) a runs in
+      let runs : Runs c.0 (started s.patience program (context_of s closed g) (shape_of s g (suc (length closed)))) (of g piece) a = (let A : Activation → Type 0 = λ b. Runs c.0 b (of g piece) a in subst A (sym from) c.3) in
+      let steps = runs_steps c.0 (started s.patience program (context_of s closed g) (shape_of s g (suc (length closed)))) (of g piece) a runs in
       let k : c.0 ≡ a.state.steps = omega arith in
-      let l : Letter = record { general = g; round = suc (length closed); context = context_of s closed g; program = Some program; transcript = of g piece; steps = a.state.steps; outbox = a.state.outbox } in
+      let kept : Kept s.patience a = runs_kept s.patience c.0 (started s.patience program (context_of s closed g) (shape_of s g (suc (length closed)))) (of g piece) a (refl, within_none s.patience) runs in
+      let l : Letter = record { general = g; round = suc (length closed); context = context_of s closed g; shape = shape_of s g (suc (length closed)); program = Some program; transcript = of g piece; steps = a.state.steps; outbox = a.state.outbox; exited = a.over } in
       let program_is : program_of w.scenario g ≡ Some program = ap (λ (v : Scenario). program_of v g) sc ∙ is in (
         l,
-        (λ i. record { general = g; round = suc (length (cl i)); context = context_of (sc i) (cl i) g; program = program_is i; transcript = of g (op i); steps = a.state.steps; outbox = a.state.outbox } ∷ []),
-        (a, (let A : ℕ → Type 0 = λ n. Runs n (started program (context_of s closed g) (shape_of s g (suc (length closed)))) (of g piece) a in subst A k runs), ripe.ended_all g (Acting a) at, refl),
+        (λ i. record { general = g; round = suc (length (cl i)); context = context_of (sc i) (cl i) g; shape = shape_of (sc i) g (suc (length (cl i))); program = program_is i; transcript = of g (op i); steps = a.state.steps; outbox = a.state.outbox; exited = a.over } ∷ []),
+        (
+          under None a,
+          (let A : ℕ → Type 0 = λ n. Runs n (started None program (context_of s closed g) (shape_of s g (suc (length closed)))) (of g piece) (under None a) in
+              subst A k (runs_under None c.0 (started s.patience program (context_of s closed g) (shape_of s g (suc (length closed)))) (of g piece) a tt runs)),
+          refl,
+          kept.1,
+          (let A : Option ℕ → Type 0 = λ p. (a.over || is_reached p a.state.steps) ≡ true in subst A kept.0 (ripe.ended_all g (Acting a) at)),
+        ),
         refl,
       )
   letter_made w piece sc cl op made ripe came g Silent at o is fits = absurd (let f : false ≡ true = ripe.posted_all g Silent at in cc)

@@ -13,7 +13,7 @@ use Rattle.board.proofs.Asking.{asks_within}
 use Rattle.board.proofs.Serving.{reply_fits, next_board}
 use Rattle.world.specs.declared.event.Event.{Event}
 use Rattle.world.specs.declared.event.Event.TheVariants.{Tick, Post, Close}
-use Rattle.world.specs.World.{Activation, Turn, Goes, Asks, Ended, turned, turn, Part, Acting, Silent, Posted, World, ticked, served, posting, happen, run}
+use Rattle.world.specs.World.{Activation, Turn, Goes, Asks, Ended, turned, turn, Part, Acting, Silent, Posted, World, ticked, served, posting, happen, run, has_ended}
 
 pub set-cases : {A : Type 0} (xs : List A) (i j : ℕ) (v x : A) → slice_get (slice_set xs i v) j ≡ Some x → ((j ≡ i) × (x ≡ v)) ⊎ ((j ≢ i) × (slice_get xs j ≡ Some x))
 set-cases [] i j v x e = absurd (let f : None ≡ Some x = e in cc)
@@ -80,7 +80,7 @@ turned_within a (Exit r0 s) is q f e = absurd (let g : Goes (record a { state = 
 turned_within a (Trap cause) is q f e = absurd (let g : Goes _ ≡ Asks q f = e in cc)
 
 pub turn_within : (a : Activation) (q : Request) (f : List ℕ → Activation) → turn a ≡ Asks q f → IsRequest q
-turn_within a q f e = by a.over e
+turn_within a q f e = by (has_ended a) e
   where
     by : (b : Bool) → cond b Ended (turned a (step a.program a.context a.shape a.state)) ≡ Asks q f → IsRequest q
     by true h = absurd (let g : Ended ≡ Asks q f = h in cc)

@@ -4,8 +4,7 @@ use Rattle.std.specs.Prelude.{is_some, find, slice_get, ◌==◌}
 use Rattle.std.specs.List.{list_all}
 use Rattle.std.proofs.lemmas.Bool.{eq-eqb, ne_eqb, and_parts, ltb-true, lt-ltb}
 use Rattle.std.proofs.lemmas.Bool.Decides.{eqb_tells}
-use Rattle.combine.specs.Rule.{majority}
-use Rattle.combine.specs.Laws.{majority_is_rule}
+use Rattle.combine.specs.Chosen.{combined_by, chosen_is_rule}
 use Rattle.label.specs.Oral.{IsFaithful, IsBound, Agree}
 use Rattle.book.proofs.Induction.{holds}
 use Rattle.insn.specs.declared.insn.Insn.{Insn}
@@ -166,5 +165,5 @@ pub world_agrees : (w : World) → IsKept w → length w.closed ≡ suc w.scenar
     → IsBound w.scenario.generals w.scenario.bound (is_traitor w.scenario)
     → Agree w.scenario.generals w.scenario.commander w.scenario.order (is_traitor w.scenario) (decision w.scenario (messages w.scenario w.closed))
 world_agrees w k all full inside bound =
-    holds majority majority_is_rule w.scenario.generals w.scenario.commander w.scenario.bound w.scenario.order (is_traitor w.scenario) (messages w.scenario w.closed) inside bound
+    holds (combined_by w.scenario.rule) (chosen_is_rule w.scenario.rule) w.scenario.generals w.scenario.commander w.scenario.bound w.scenario.order (is_traitor w.scenario) (messages w.scenario w.closed) inside bound
     (world_faithful w k all full inside)

@@ -5,22 +5,22 @@ use Rattle.semantics.specs.Execution.{step}
 use Rattle.semantics.specs.Whole.{CountsOnce}
 use Rattle.semantics.proofs.StepLaws.{step_counts, resumed_counts}
 use Rattle.board.specs.Board.{Access}
-use Rattle.world.specs.World.{Activation, Turn, Goes, Asks, Ended, turned, turn}
+use Rattle.world.specs.World.{Activation, Turn, Goes, Asks, Ended, turned, turn, has_ended}
 use Rattle.world.specs.Runs.{Onward, Runs}
 
-abbrev CountsTurn : Activation → Turn → Type 0
+abbrev pub CountsTurn : Activation → Turn → Type 0
 CountsTurn a (Goes b) = b.state.steps ≡ a.state.steps + 1
 CountsTurn a (Asks q f) = (r : List ℕ) → (f r).state.steps ≡ a.state.steps + 1
 CountsTurn a Ended = Unit {0}
 
-turned_counts : (a : Activation) (o : Outcome) → CountsOnce a.state o → CountsTurn a (turned a o)
+pub turned_counts : (a : Activation) (o : Outcome) → CountsOnce a.state o → CountsTurn a (turned a o)
 turned_counts a (Next s) h = h
 turned_counts a (Ask q s) h = λ r. resumed_counts q r s ∙ h
 turned_counts a (Exit r0 s) h = h
 turned_counts a (Trap cause) h = refl
 
-turn_counts : (a : Activation) → CountsTurn a (turn a)
-turn_counts a = by a.over
+pub turn_counts : (a : Activation) → CountsTurn a (turn a)
+turn_counts a = by (has_ended a)
   where
     by : (b : Bool) → CountsTurn a (cond b Ended (turned a (step a.program a.context a.shape a.state)))
     by true = tt

@@ -1,5 +1,5 @@
 -- What holds of every world. Each statement is the contract of a function of this crate.
-use Rattle.std.specs.Prelude.{ℕ, suc, ◌^◌, ◌≡◌, ◌≢◌, ◌<◌, ◌≤◌, true, false, All, IsPermutation, List, [], ◌∷◌, length, map, flat_map, slice_get, Some}
+use Rattle.std.specs.Prelude.{ℕ, suc, ◌^◌, ◌≡◌, ◌≢◌, ◌<◌, ◌≤◌, true, false, All, List, [], ◌∷◌, length, map, flat_map, slice_get, Some}
 use Rattle.insn.specs.declared.insn.Insn.{Insn}
 use Rattle.label.specs.Oral.{IsFaithful, IsBound, Agree}
 use Rattle.label.specs.Relay.{relay}
@@ -12,8 +12,8 @@ use Rattle.world.specs.declared.event.Event.{Event}
 use Rattle.world.specs.declared.event.Event.TheVariants.{Tick, Post, Close}
 use Rattle.world.specs.Scenario.{Scenario, IsScenario, is_traitor, shape_of}
 use Rattle.world.specs.Letters.{Letter, messages, value_of, context_of}
-use Rattle.world.specs.World.{Activation, Asks, turn, Part, Acting, World, opening, happen, run, Refusal, refusal}
-use Rattle.world.specs.Runs.{Runs, AreAccounted, IsAccounted}
+use Rattle.world.specs.World.{Activation, Asks, turn, has_ended, Part, Acting, World, opening, happen, run, Refusal, refusal}
+use Rattle.world.specs.Runs.{Runs, AreAccounted, rounds_of, IsAccounted}
 use Rattle.world.specs.Lists.{HasPosted, HasEnded, IsPunctual, IsComplete, listed, replayed, names_in}
 use Rattle.world.specs.Chronicle.{decision, chronicle_of}
 
@@ -42,7 +42,7 @@ IsShort l = (program : List Insn) → l.program ≡ Some program → l.steps ≤
 -- whatever happens, no activation traps or takes more steps than its program has instructions
 pub record ActivationsAreSafe : Type 0 where
   pub untrapped : (s : Scenario) (events : List Event) (g : ℕ) (a : Activation) (cause : Cause) → IsScenario s →
-      slice_get (run (opening s) events).parts g ≡ Some (Acting a) → a.over ≡ false → step a.program a.context a.shape a.state ≢ Trap cause
+      slice_get (run (opening s) events).parts g ≡ Some (Acting a) → has_ended a ≡ false → step a.program a.context a.shape a.state ≢ Trap cause
   pub fewer : (s : Scenario) (events : List Event) (g : ℕ) (a : Activation) → IsScenario s →
       slice_get (run (opening s) events).parts g ≡ Some (Acting a) → a.state.steps ≤ length a.program
   pub letters : (s : Scenario) (events : List Event) → IsScenario s → All (λ letters. All IsShort letters) (run (opening s) events).closed
@@ -81,16 +81,18 @@ pub record RunsAreReplays : Type 0 where
   pub worlds : (s : Scenario) (events : List Event) → IsScenario s → IsComplete s events → replay_of s (run (opening s) events).ledger ≡ run (opening s) events
   pub chronicles : (s : Scenario) (events : List Event) → IsScenario s → IsComplete s events → chronicle_of (run (opening s) events) ≡ chronicle_of (replay_of s (run (opening s) events).ledger)
 
--- letters that a legal ledger accounts for are those of its replay, which is a complete run, and there are no others; a complete run's own letters are so
+-- letters that a legal ledger accounts for are, by round and general, those of its replay, which is a complete run; a complete run's own letters are so
 pub record AccountsAreRuns : Type 0 where
   pub rounds : (s : Scenario) (ledger : List Access) (rounds : List (List Letter)) → IsScenario s → IsLegal s.board ledger → AreAccounted s [] ledger rounds →
       ((replay_of s ledger).closed ≡ rounds) × ((replay_of s ledger).ledger ≡ ledger)
   pub letters : (s : Scenario) (ledger : List Access) (letters : List Letter) → IsScenario s → IsLegal s.board ledger → IsAccounted s ledger letters →
-      IsPermutation (flat_map (λ round. round) (replay_of s ledger).closed) letters
+      ((replay_of s ledger).closed ≡ rounds_of s letters) × ((replay_of s ledger).ledger ≡ ledger)
   pub same : (s : Scenario) (ledger : List Access) (letters others : List Letter) → IsScenario s → IsLegal s.board ledger → IsAccounted s ledger letters → IsAccounted s ledger others →
-      IsPermutation letters others
+      rounds_of s letters ≡ rounds_of s others
   pub own : (s : Scenario) (events : List Event) → IsScenario s → IsComplete s events →
       IsLegal s.board (run (opening s) events).ledger × AreAccounted s [] (run (opening s) events).ledger (run (opening s) events).closed
+  pub own_letters : (s : Scenario) (events : List Event) → IsScenario s → IsComplete s events →
+      IsAccounted s (run (opening s) events).ledger (flat_map (λ (round : List Letter). round) (run (opening s) events).closed)
 
 -- a refused event leaves the world as it was
 abbrev pub RefusalsChangeNothing : Type 0

@@ -5,7 +5,7 @@ use Rattle.board.specs.Board.{Access}
 use Rattle.world.specs.declared.event.Event.{Event}
 use Rattle.world.specs.declared.event.Event.TheVariants.{Tick, Post, Close}
 use Rattle.world.specs.Scenario.{Scenario, program_of}
-use Rattle.world.specs.World.{Activation, Turn, Goes, Asks, Ended, turn, Part, Acting, has_posted, World, each, opening, happen, run}
+use Rattle.world.specs.World.{Activation, Turn, Goes, Asks, Ended, turn, has_ended, Part, Acting, has_posted, World, each, opening, happen, run}
 
 -- a property of the world before each event
 abbrev pub Throughout : (World → Event → Type 0) → World → List Event → Type 0
@@ -21,7 +21,7 @@ abbrev pub HasPosted : Part → Type 0
 HasPosted part = has_posted part ≡ true
 
 abbrev pub HasEnded : Part → Type 0
-HasEnded (Acting a) = a.over ≡ true
+HasEnded (Acting a) = has_ended a ≡ true
 HasEnded _ = Unit {0}
 
 -- before each close every loyal general has posted

@@ -1,5 +1,5 @@
 -- The world of a campaign, as a fold of events (own).
-use Rattle.std.specs.Prelude.{ℕ, zero, suc, ◌+◌, nat_lt, ◌==◌, ◌&&◌, cond, Bool, true, false, List, [], ◌∷◌, ◌++◌, length, drop, filter, slice_get, slice_set, Option, None, Some}
+use Rattle.std.specs.Prelude.{ℕ, zero, suc, ◌+◌, nat_lt, nat_le, ◌==◌, ◌&&◌, ◌||◌, cond, Bool, true, false, List, [], ◌∷◌, ◌++◌, length, drop, filter, slice_get, slice_set, Option, None, Some}
 use Rattle.std.specs.List.{list_all}
 use Rattle.insn.specs.declared.insn.Insn.{Insn}
 use Rattle.label.specs.declared.shape.Shape.{Shape}
@@ -14,16 +14,17 @@ use Rattle.world.specs.declared.event.Event.TheVariants.{Tick, Post, Close}
 use Rattle.world.specs.Scenario.{Scenario, program_of, shape_of}
 use Rattle.world.specs.Letters.{Letter, context_of, loyal_letter}
 
--- a traitor's activation: what is run, with which context and for which relay, where it stands, and whether it has exited
+-- a traitor's activation: what is run, with which context and for which relay, how many steps it may take, where it stands, and whether it has exited
 pub record Activation : Type 0 where
   pub program : List Insn
   pub context : List ℕ
   pub shape : Shape
+  pub patience : Option ℕ
   pub state : State
   pub over : Bool
 
-abbrev pub started : List Insn → List ℕ → Shape → Activation
-started program context shape = record { program = program; context = context; shape = shape; state = entry (empty_outbox shape); over = false }
+abbrev pub started : Option ℕ → List Insn → List ℕ → Shape → Activation
+started patience program context shape = record { program = program; context = context; shape = shape; patience = patience; state = entry (empty_outbox shape); over = false }
 
 -- what an activation does next: it goes on, asks the board, or has ended
 pub data Turn : Type 0 where
@@ -38,8 +39,17 @@ turned a (Ask request s) = Asks request (λ answer. record a { state = resumed r
 turned a (Exit r0 s) = Goes (record a { state = s; over = true })
 turned a (Trap cause) = Goes (record a { state = record a.state { steps = a.state.steps + 1 } })
 
+-- so many steps have reached a patience
+abbrev pub is_reached : Option ℕ → ℕ → Bool
+is_reached None steps = false
+is_reached (Some patience) steps = nat_le patience steps
+
+-- it has exited, or its patience is at an end
+abbrev pub has_ended : Activation → Bool
+has_ended a = a.over || is_reached a.patience a.state.steps
+
 abbrev pub turn : Activation → Turn
-turn a = cond a.over Ended (turned a (step a.program a.context a.shape a.state))
+turn a = cond (has_ended a) Ended (turned a (step a.program a.context a.shape a.state))
 
 -- where a general stands in the open round: a traitor in his activation, a loyal one before or behind his letter
 pub data Part : Type 0 where
@@ -73,7 +83,7 @@ round_open s closed = nat_lt (length closed) (suc s.bound)
 -- how a general begins the round behind these
 abbrev pub begins : Scenario → List (List Letter) → ℕ → Option (List Insn) → Part
 begins s closed g None = Silent
-begins s closed g (Some program) = Acting (started program (context_of s closed g) (shape_of s g (suc (length closed))))
+begins s closed g (Some program) = Acting (started s.patience program (context_of s closed g) (shape_of s g (suc (length closed))))
 
 -- the world where a round begins: behind the last one nobody has a part
 abbrev pub begun : Scenario → List (List Letter) → List ℕ → List Access → Bool → World
@@ -101,10 +111,12 @@ letters_at w g (Some (Acting a)) =
       general = g;
       round = suc (length w.closed);
       context = context_of w.scenario w.closed g;
+      shape = shape_of w.scenario g (suc (length w.closed));
       program = program_of w.scenario g;
       transcript = of g (drop w.opened w.ledger);
       steps = a.state.steps;
       outbox = a.state.outbox;
+      exited = a.over;
     } ∷ []
 letters_at w g (Some Silent) = []
 letters_at w g (Some Posted) = loyal_letter w.scenario w.closed g ∷ []
