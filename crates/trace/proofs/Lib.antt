@@ -13,4 +13,6 @@ mod HonestToOne
 mod TwoTraitors
 mod Absent
 mod SevenGenerals
+mod CutOff
+mod Medians
 mod ScheduleTexts

@@ -21,7 +21,7 @@ use Rattle.trace.specs.Text.{lines_of, text_of}
 use Rattle.trace.proofs.Printed.{printed, lines}
 
 -- he adds 1 to a word of the board, and tells generals 1, 2 and 3 the lowest bit of what it was
-counter : List Insn
+unfoldable pub counter : List Insn
 counter =
     i.Arithmetic W64 op.Move 1 (Immediate (pos 0))
     ∷ i.Arithmetic W64 op.Move 2 (Immediate (pos 1))

@@ -18,7 +18,7 @@ use Rattle.trace.specs.Text.{lines_of, text_of}
 use Rattle.trace.proofs.Printed.{printed, lines}
 
 -- he tells general 1 the order 0
-liar : List Insn
+unfoldable pub liar : List Insn
 liar =
     i.Arithmetic W64 op.Move 1 (Immediate (pos 1))
     ∷ i.Arithmetic W64 op.Move 2 (Immediate (pos 0))

@@ -105,7 +105,7 @@ unfolding under_silent silent labels om majority context_bytes messages decision
 commander_silent = refl
 
 -- a commander who tells three orders
-three_ways : List Insn
+unfoldable pub three_ways : List Insn
 three_ways =
     i.Arithmetic W64 op.Move 1 (Immediate (pos 1))
     ∷ i.Arithmetic W64 op.Move 2 (Immediate (pos 1))

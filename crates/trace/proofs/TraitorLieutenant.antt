@@ -21,7 +21,7 @@ use Rattle.trace.specs.Text.{lines_of, text_of}
 use Rattle.trace.proofs.Printed.{printed, lines}
 
 -- he tells generals 1 and 2 the order 0
-turncoat : List Insn
+unfoldable pub turncoat : List Insn
 turncoat =
     i.Arithmetic W64 op.Move 1 (Immediate (pos 1))
     ∷ i.Arithmetic W64 op.Move 2 (Immediate (pos 0))
