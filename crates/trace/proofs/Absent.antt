@@ -17,7 +17,7 @@ use Rattle.world.specs.World.{opening, run}
 use Rattle.world.specs.declared.event.Event.TheVariants.{Tick, Post, Close}
 use Rattle.world.specs.Chronicle.{decisions, chronicle_of}
 use Rattle.world.specs.World.{World}
-use Rattle.trace.specs.Text.{lines_of, text_of}
+use Rattle.trace.specs.Text.{lines_in, text_in, text_of}
 use Rattle.trace.proofs.Printed.{lines}
 
 -- he tells general 1 the order 1, and general 2 the order 0
@@ -41,12 +41,12 @@ deciding w = decisions w.scenario (messages w.scenario w.closed)
 
 absent : map (λ w. deciding w) (run (opening four_divided) (Post 0 ∷ Post 1 ∷ Post 2 ∷ Close ∷ replicate 7 (Tick 3) ++ Close ∷ []) ∷ run (opening four_divided) (Post 0 ∷ Post 1 ∷ Post 2 ∷ Close ∷ replicate 7 (Tick 3) ++ Post 0 ∷ Post 1 ∷ Post 2 ∷ Close ∷ []) ∷ [])
     ≡ (1 ∷ 0 ∷ 0 ∷ []) ∷ (1 ∷ 1 ∷ 1 ∷ []) ∷ []
-unfolding deciding four_divided divider_later labels om majority context_bytes messages decisions lines_of text_of step digits
+unfolding deciding four_divided divider_later labels om majority context_bytes messages decisions lines_in text_in step digits
 absent = refl
 
 absent_full : map (λ w. w.full) (run (opening four_divided) (Post 0 ∷ Post 1 ∷ Post 2 ∷ Close ∷ replicate 7 (Tick 3) ++ Close ∷ []) ∷ run (opening four_divided) (Post 0 ∷ Post 1 ∷ Post 2 ∷ Close ∷ replicate 7 (Tick 3) ++ Post 0 ∷ Post 1 ∷ Post 2 ∷ Close ∷ []) ∷ [])
     ≡ false ∷ true ∷ []
-unfolding four_divided divider_later labels om majority context_bytes messages decisions lines_of text_of step digits
+unfolding four_divided divider_later labels om majority context_bytes messages decisions lines_in text_in step digits
 absent_full = refl
 
 -- what the hurried close leaves to tell: no letters of the loyal in round 2, and no agreement
@@ -67,7 +67,7 @@ hurried : text_of (chronicle_of (run (opening four_divided) (Post 0 ∷ Post 1 �
     ∷ codes "decision 3 traitor 0"
     ∷ codes "verdict alike no obeyed no bound yes"
     ∷ [])
-unfolding four_divided divider_later labels om majority context_bytes messages decisions lines_of text_of step digits
+unfolding four_divided divider_later labels om majority context_bytes messages decisions lines_in text_in step digits
 hurried = refl
 
 -- the same made punctual
@@ -93,5 +93,5 @@ punctual : text_of (chronicle_of (run (opening four_divided) (Post 0 ∷ Post 1 
     ∷ codes "decision 3 traitor 1"
     ∷ codes "verdict alike yes obeyed yes bound yes"
     ∷ [])
-unfolding four_divided divider_later labels om majority context_bytes messages decisions lines_of text_of step digits
+unfolding four_divided divider_later labels om majority context_bytes messages decisions lines_in text_in step digits
 punctual = refl

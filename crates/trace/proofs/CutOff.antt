@@ -9,7 +9,7 @@ use Rattle.semantics.specs.Execution.{step}
 use Rattle.world.specs.Scenario.{Scenario}
 use Rattle.world.specs.Letters.{context_bytes, messages}
 use Rattle.world.specs.Chronicle.{decisions}
-use Rattle.trace.specs.Text.{lines_of, text_of}
+use Rattle.trace.specs.Text.{lines_in, text_in, text_of}
 use Rattle.trace.proofs.Printed.{printed, lines}
 use Rattle.trace.proofs.TraitorLieutenant.{turncoat}
 use Rattle.trace.proofs.SevenGenerals.{counter}
@@ -41,7 +41,7 @@ cut_behind_three : printed four_cut [] ≡ lines (
     ∷ codes "decision 3 traitor 1"
     ∷ codes "verdict alike yes obeyed yes bound yes"
     ∷ [])
-unfolding four_cut turncoat labels om majority context_bytes messages decisions lines_of text_of step digits
+unfolding four_cut turncoat labels om majority context_bytes messages decisions lines_in text_in step digits
 cut_behind_three = refl
 
 -- seven generals, whose traitors may take three steps
@@ -127,7 +127,7 @@ served_last : printed seven_cut [] ≡ lines (
     ∷ codes "decision 6 0"
     ∷ codes "verdict alike yes obeyed - bound yes"
     ∷ [])
-unfolding seven_cut counter labels om majority context_bytes messages decisions lines_of text_of step digits
+unfolding seven_cut counter labels om majority context_bytes messages decisions lines_in text_in step digits
 served_last = refl
 
 -- the same with two steps
@@ -207,5 +207,5 @@ cut_before : printed seven_short [] ≡ lines (
     ∷ codes "decision 6 0"
     ∷ codes "verdict alike yes obeyed - bound yes"
     ∷ [])
-unfolding seven_short counter labels om majority context_bytes messages decisions lines_of text_of step digits
+unfolding seven_short counter labels om majority context_bytes messages decisions lines_in text_in step digits
 cut_before = refl

@@ -14,7 +14,7 @@ use Rattle.semantics.specs.Execution.{step}
 use Rattle.world.specs.Scenario.{Scenario}
 use Rattle.world.specs.Letters.{context_bytes, messages}
 use Rattle.world.specs.Chronicle.{decisions}
-use Rattle.trace.specs.Text.{lines_of, text_of}
+use Rattle.trace.specs.Text.{lines_in, text_in, text_of}
 use Rattle.trace.proofs.Printed.{printed, lines}
 
 -- he makes an access of each kind
@@ -65,7 +65,7 @@ each_access : printed board ([]) ≡ lines (
     ∷ codes "decision 1 traitor 7"
     ∷ codes "verdict alike yes obeyed yes bound no"
     ∷ [])
-unfolding board clerk labels om majority context_bytes messages decisions lines_of text_of step digits
+unfolding board clerk labels om majority context_bytes messages decisions lines_in text_in step digits
 each_access = refl
 
 -- he copies no word
@@ -92,5 +92,5 @@ copies_none : printed idle ([]) ≡ lines (
     ∷ codes "decision 1 traitor 7"
     ∷ codes "verdict alike yes obeyed yes bound no"
     ∷ [])
-unfolding idle idler labels om majority context_bytes messages decisions lines_of text_of step digits
+unfolding idle idler labels om majority context_bytes messages decisions lines_in text_in step digits
 copies_none = refl

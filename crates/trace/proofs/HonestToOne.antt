@@ -14,7 +14,7 @@ use Rattle.semantics.specs.Execution.{step}
 use Rattle.world.specs.Scenario.{Scenario}
 use Rattle.world.specs.Letters.{context_bytes, messages}
 use Rattle.world.specs.Chronicle.{decisions}
-use Rattle.trace.specs.Text.{lines_of, text_of}
+use Rattle.trace.specs.Text.{lines_in, text_in, text_of}
 use Rattle.trace.proofs.Printed.{printed, lines}
 
 -- he is honest to general 1, and tells general 2 the order 9
@@ -56,5 +56,5 @@ honest_to_one : printed half_honest ([]) ≡ lines (
     ∷ codes "decision 3 traitor 6"
     ∷ codes "verdict alike yes obeyed yes bound yes"
     ∷ [])
-unfolding half_honest half labels om majority context_bytes messages decisions lines_of text_of step digits
+unfolding half_honest half labels om majority context_bytes messages decisions lines_in text_in step digits
 honest_to_one = refl

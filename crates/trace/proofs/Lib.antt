@@ -3,6 +3,7 @@ pub mod WrittenLemmas
 pub mod Splitting
 pub mod Plain
 pub mod Naming
+pub mod Sound
 mod Printed
 mod TwoGenerals
 mod TraitorLieutenant

@@ -9,7 +9,7 @@ use Rattle.semantics.specs.Execution.{step}
 use Rattle.world.specs.Scenario.{Scenario}
 use Rattle.world.specs.Letters.{context_bytes, messages}
 use Rattle.world.specs.Chronicle.{decisions}
-use Rattle.trace.specs.Text.{lines_of, text_of}
+use Rattle.trace.specs.Text.{lines_in, text_in, text_of}
 use Rattle.trace.proofs.Printed.{printed, lines}
 use Rattle.trace.proofs.TraitorCommander.{three_ways}
 use Rattle.trace.proofs.ThreeGenerals.{liar}
@@ -41,7 +41,7 @@ middle_order : printed under_three [] ≡ lines (
     ∷ codes "decision 3 2"
     ∷ codes "verdict alike yes obeyed - bound yes"
     ∷ [])
-unfolding under_three three_ways labels om median is_middle context_bytes messages decisions lines_of text_of step digits
+unfolding under_three three_ways labels om median is_middle context_bytes messages decisions lines_in text_in step digits
 middle_order = refl
 
 -- three generals, one of them a traitor
@@ -67,5 +67,5 @@ three_obey : printed three_median [] ≡ lines (
     ∷ codes "decision 2 traitor 1"
     ∷ codes "verdict alike yes obeyed yes bound no"
     ∷ [])
-unfolding three_median liar labels om median is_middle context_bytes messages decisions lines_of text_of step digits
+unfolding three_median liar labels om median is_middle context_bytes messages decisions lines_in text_in step digits
 three_obey = refl

@@ -15,7 +15,7 @@ use Rattle.world.specs.Scenario.{Scenario, is_traitor}
 use Rattle.world.specs.Letters.{Letter}
 use Rattle.world.specs.Lists.{names_in}
 use Rattle.world.specs.Chronicle.{Chronicle, lieutenants}
-use Rattle.trace.specs.Text.{Line, access_line, row_lines, letter_line, letter_lines, round_lines, decision_line, decision_lines, verdict_line, lines_of, text_of}
+use Rattle.trace.specs.Text.{Line, access_line, row_lines, letter_line, letter_lines, round_lines, decision_line, decision_lines, verdict_line, Version, lines_in, text_in}
 use Rattle.trace.specs.Names.{general_of, Named, with_line, named, names_of}
 use Rattle.trace.proofs.Splitting.{text-split}
 use Rattle.trace.proofs.Plain.{chronicle_plain}
@@ -113,22 +113,22 @@ rounds-named r xs (ls ∷ rest) ks k e =
     ∙ (λ i. (append-nil (map (λ a. a.general) here) i, names_in (suc r) xs (length rest))) in
     (λ i. ([], (inner i).0 ∷ (inner i).1))
 
-pub names_told : (c : Chronicle) → AreKnown c.accesses → names_of (text_of c) ≡ names_in 1 c.accesses (length c.letters)
-unfolding names_of text_of lines_of
-names_told c k =
+pub names_told : (v : Version) (c : Chronicle) → AreKnown c.accesses → names_of (text_in v c) ≡ names_in 1 c.accesses (length c.letters)
+unfolding names_of text_in lines_in
+names_told v c k =
     let s = c.scenario in
     let ds = decision_lines s (lieutenants s) c.decisions in
     let end : List Line = verdict_line c.verdict ∷ [] in
     let tail : List Line = ([] ∷ []) ∷ [] in
     let behind : named ((ds ++ end) ++ tail) ≡ ([], []) =
     ap named (append_assoc ds end tail) ∙ silent-front ds (end ++ tail) (decisions_silent s (lieutenants s) c.decisions) in
-    ap (λ ls. (named ls).1) (text-split (lines_of c) (chronicle_plain c))
+    ap (λ ls. (named ls).1) (text-split (lines_in v c) (chronicle_plain v c))
     ∙ ap (λ ls. (named ls).1) (append_assoc (round_lines 1 c.accesses c.letters) (ds ++ end) tail)
     ∙ ap (λ p. p.1) (rounds-named 1 c.accesses c.letters ((ds ++ end) ++ tail) k behind)
 
-known_all : (xs : List Access) → All (λ a. a.general < 13) xs → AreKnown xs
+pub known_all : (xs : List Access) → All (λ a. a.general < 13) xs → AreKnown xs
 known_all [] h = tt
 known_all (a ∷ xs) h = (h 0 a (omega arith), known_all xs (λ k d lt. h (suc k) d (omega arith)))
 
-pub proved_names_are_told : (c : Chronicle) → All (λ a. a.general < 13) c.accesses → names_of (text_of c) ≡ names_in 1 c.accesses (length c.letters)
-proved_names_are_told c known = names_told c (known_all c.accesses known)
+pub proved_names_are_told : (v : Version) (c : Chronicle) → All (λ a. a.general < 13) c.accesses → names_of (text_in v c) ≡ names_in 1 c.accesses (length c.letters)
+proved_names_are_told v c known = names_told v c (known_all c.accesses known)

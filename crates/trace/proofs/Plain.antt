@@ -12,7 +12,7 @@ use Rattle.board.specs.Board.{Access}
 use Rattle.world.specs.Scenario.{Scenario, is_traitor}
 use Rattle.world.specs.Letters.{Letter}
 use Rattle.world.specs.Chronicle.{Chronicle, lieutenants}
-use Rattle.trace.specs.Text.{Word, Line, asked, access_line, place, row_lines, yes_no, yes_no_none, letter_line, letter_lines, round_lines, decision_line, decision_lines, is_plain, rule_word, further_words, lines_of}
+use Rattle.trace.specs.Text.{Word, Line, asked, access_line, place, row_lines, yes_no, yes_no_none, letter_line, letter_lines, round_lines, decision_line, decision_lines, Version, First, Second, version_word, rule_word, further_words, lines_in}
 use Rattle.trace.proofs.Splitting.{IsPlain, ArePlain, IsLine, AreLines, decimal_plain}
 
 by_test : (w : Word) → list_all (λ c. nat_lt 32 c) w ≡ true → IsPlain w
@@ -94,29 +94,25 @@ decisions_plain s [] ds = tt
 decisions_plain s (g ∷ gs) [] = tt
 decisions_plain s (g ∷ gs) (d ∷ ds) = (decision_plain g (is_traitor s g) d, decisions_plain s gs ds)
 
-version_plain : (b : Bool) → IsPlain (cond b (codes "1") (codes "2"))
-version_plain true = by_test (codes "1") refl
-version_plain false = by_test (codes "2") refl
+version_plain : (v : Version) → IsPlain (version_word v)
+version_plain First = by_test (codes "1") refl
+version_plain Second = by_test (codes "2") refl
 
 rule_plain : (r : Rule) → IsPlain (rule_word r)
 rule_plain Majority = by_test (codes "majority") refl
 rule_plain Median = by_test (codes "median") refl
 
-either_plain : (b : Bool) (ws : List Word) → ArePlain ws → ArePlain (cond b [] ws)
-either_plain true ws p = tt
-either_plain false ws p = p
+head_plain : (v : Version) (s : Scenario) → ArePlain (further_words v s)
+head_plain First s = tt
+head_plain Second s = (by_test (codes "patience") refl, (place_plain s.patience, (by_test (codes "rule") refl, (rule_plain s.rule, tt))))
 
-head_plain : (s : Scenario) → ArePlain (further_words s)
-head_plain s = either_plain (is_plain s.patience s.rule) (codes "patience" ∷ place s.patience ∷ codes "rule" ∷ rule_word s.rule ∷ [])
-    (by_test (codes "patience") refl, (place_plain s.patience, (by_test (codes "rule") refl, (rule_plain s.rule, tt))))
-
-pub chronicle_plain : (c : Chronicle) → AreLines (lines_of c)
-unfolding lines_of
-chronicle_plain c =
+pub chronicle_plain : (v : Version) (c : Chronicle) → AreLines (lines_in v c)
+unfolding lines_in
+chronicle_plain v c =
     let s = c.scenario in (
-      (by_test (codes "chronicle") refl, (version_plain (is_plain s.patience s.rule), tt)),
+      (by_test (codes "chronicle") refl, (version_plain v, tt)),
       (
-        (by_test (codes "generals") refl, (decimal_plain s.generals, (by_test (codes "bound") refl, (decimal_plain s.bound, (by_test (codes "commander") refl, (decimal_plain s.commander, (by_test (codes "order") refl, (decimal_plain s.order, head_plain s)))))))),
+        (by_test (codes "generals") refl, (decimal_plain s.generals, (by_test (codes "bound") refl, (decimal_plain s.bound, (by_test (codes "commander") refl, (decimal_plain s.commander, (by_test (codes "order") refl, (decimal_plain s.order, head_plain v s)))))))),
         lines-append (round_lines 1 c.accesses c.letters) _ (rounds_plain 1 c.accesses c.letters)
             (lines-append (decision_lines s (lieutenants s) c.decisions) _ (decisions_plain s (lieutenants s) c.decisions)
             ((by_test (codes "verdict") refl, (by_test (codes "alike") refl, (yes_no_plain c.verdict.alike, (by_test (codes "obeyed") refl, (yes_no_none_plain c.verdict.obeyed, (by_test (codes "bound") refl, (yes_no_plain c.verdict.bound, tt))))))), tt)),

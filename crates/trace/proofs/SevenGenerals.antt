@@ -17,7 +17,7 @@ use Rattle.world.specs.World.{opening, run}
 use Rattle.world.specs.declared.event.Event.TheVariants.{Close}
 use Rattle.world.specs.Lists.{listed_rounds}
 use Rattle.world.specs.Chronicle.{decisions}
-use Rattle.trace.specs.Text.{lines_of, text_of}
+use Rattle.trace.specs.Text.{lines_in, text_in, text_of}
 use Rattle.trace.proofs.Printed.{printed, lines}
 
 -- he adds 1 to a word of the board, and tells generals 1, 2 and 3 the lowest bit of what it was
@@ -123,7 +123,7 @@ seven_generals : printed seven ([]) ≡ lines (
     ∷ codes "decision 6 0"
     ∷ codes "verdict alike yes obeyed - bound yes"
     ∷ [])
-unfolding seven counter labels om majority context_bytes messages decisions lines_of text_of step digits
+unfolding seven counter labels om majority context_bytes messages decisions lines_in text_in step digits
 seven_generals = refl
 
 -- a line for the first round puts general 4 in front there
@@ -205,7 +205,7 @@ first_round : printed seven (replicate 15 4 ∷ []) ≡ lines (
     ∷ codes "decision 6 1"
     ∷ codes "verdict alike yes obeyed - bound yes"
     ∷ [])
-unfolding seven counter labels om majority context_bytes messages decisions lines_of text_of step digits
+unfolding seven counter labels om majority context_bytes messages decisions lines_in text_in step digits
 first_round = refl
 
 -- and one for the second there too
@@ -287,7 +287,7 @@ two_rounds : printed seven (replicate 15 4 ∷ replicate 15 4 ∷ []) ≡ lines 
     ∷ codes "decision 6 0"
     ∷ codes "verdict alike yes obeyed - bound yes"
     ∷ [])
-unfolding seven counter labels om majority context_bytes messages decisions lines_of text_of step digits
+unfolding seven counter labels om majority context_bytes messages decisions lines_in text_in step digits
 two_rounds = refl
 
 -- where a round is closed at once, not all loyal generals had posted

@@ -14,7 +14,7 @@ use Rattle.semantics.specs.Execution.{step}
 use Rattle.world.specs.Scenario.{Scenario}
 use Rattle.world.specs.Letters.{context_bytes, messages}
 use Rattle.world.specs.Chronicle.{decisions}
-use Rattle.trace.specs.Text.{lines_of, text_of}
+use Rattle.trace.specs.Text.{lines_in, text_in, text_of}
 use Rattle.trace.proofs.Printed.{printed, lines}
 
 -- he tells general 1 the order 0
@@ -49,7 +49,7 @@ three_generals : printed three ([]) ≡ lines (
     ∷ codes "decision 2 traitor 1"
     ∷ codes "verdict alike yes obeyed no bound no"
     ∷ [])
-unfolding three liar labels om majority context_bytes messages decisions lines_of text_of step digits
+unfolding three liar labels om majority context_bytes messages decisions lines_in text_in step digits
 three_generals = refl
 
 -- he says nothing
@@ -82,5 +82,5 @@ three_mute_generals : printed three_mute ([]) ≡ lines (
     ∷ codes "decision 2 traitor 1"
     ∷ codes "verdict alike yes obeyed no bound no"
     ∷ [])
-unfolding three_mute mute labels om majority context_bytes messages decisions lines_of text_of step digits
+unfolding three_mute mute labels om majority context_bytes messages decisions lines_in text_in step digits
 three_mute_generals = refl

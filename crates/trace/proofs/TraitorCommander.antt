@@ -14,7 +14,7 @@ use Rattle.semantics.specs.Execution.{step}
 use Rattle.world.specs.Scenario.{Scenario}
 use Rattle.world.specs.Letters.{context_bytes, messages}
 use Rattle.world.specs.Chronicle.{decisions}
-use Rattle.trace.specs.Text.{lines_of, text_of}
+use Rattle.trace.specs.Text.{lines_in, text_in, text_of}
 use Rattle.trace.proofs.Printed.{printed, lines}
 
 -- a commander who tells the orders 1, 0 and 1
@@ -59,7 +59,7 @@ commander_split : printed under_split ([]) ≡ lines (
     ∷ codes "decision 3 1"
     ∷ codes "verdict alike yes obeyed - bound yes"
     ∷ [])
-unfolding under_split split labels om majority context_bytes messages decisions lines_of text_of step digits
+unfolding under_split split labels om majority context_bytes messages decisions lines_in text_in step digits
 commander_split = refl
 
 -- a commander who tells nothing to general 3
@@ -101,7 +101,7 @@ commander_silent : printed under_silent ([]) ≡ lines (
     ∷ codes "decision 3 0"
     ∷ codes "verdict alike yes obeyed - bound yes"
     ∷ [])
-unfolding under_silent silent labels om majority context_bytes messages decisions lines_of text_of step digits
+unfolding under_silent silent labels om majority context_bytes messages decisions lines_in text_in step digits
 commander_silent = refl
 
 -- a commander who tells three orders
@@ -146,5 +146,5 @@ commander_three_ways : printed under_three_ways ([]) ≡ lines (
     ∷ codes "decision 3 0"
     ∷ codes "verdict alike yes obeyed - bound yes"
     ∷ [])
-unfolding under_three_ways three_ways labels om majority context_bytes messages decisions lines_of text_of step digits
+unfolding under_three_ways three_ways labels om majority context_bytes messages decisions lines_in text_in step digits
 commander_three_ways = refl

@@ -17,7 +17,7 @@ use Rattle.world.specs.World.{NotOpen, NoGeneral, opening, run, refusal}
 use Rattle.world.specs.declared.event.Event.TheVariants.{Tick, Post, Close}
 use Rattle.world.specs.Lists.{listed_rounds, listed}
 use Rattle.world.specs.Chronicle.{decisions, chronicle_of}
-use Rattle.trace.specs.Text.{lines_of, text_of}
+use Rattle.trace.specs.Text.{lines_in, text_in, text_of}
 use Rattle.trace.proofs.Printed.{printed, lines}
 
 -- he tells generals 1 and 2 the order 0
@@ -59,7 +59,7 @@ traitor_lieutenant : printed four ([]) ≡ lines (
     ∷ codes "decision 3 traitor 1"
     ∷ codes "verdict alike yes obeyed yes bound yes"
     ∷ [])
-unfolding four turncoat labels om majority context_bytes messages decisions lines_of text_of step digits
+unfolding four turncoat labels om majority context_bytes messages decisions lines_in text_in step digits
 traitor_lieutenant = refl
 
 -- entries of a schedule past his end and of no general are skipped
@@ -85,7 +85,7 @@ skipped_entries : printed four ((replicate 9 3 ++ 3 ∷ 12 ∷ []) ∷ []) ≡ l
     ∷ codes "decision 3 traitor 1"
     ∷ codes "verdict alike yes obeyed yes bound yes"
     ∷ [])
-unfolding four turncoat labels om majority context_bytes messages decisions lines_of text_of step digits
+unfolding four turncoat labels om majority context_bytes messages decisions lines_in text_in step digits
 skipped_entries = refl
 
 -- a traitor is cut off before his first step, and behind his fourth
@@ -111,7 +111,7 @@ cut_off : text_of (chronicle_of (run (opening four) (Post 0 ∷ Post 1 ∷ Post 
     ∷ codes "decision 3 traitor 1"
     ∷ codes "verdict alike yes obeyed yes bound yes"
     ∷ [])
-unfolding four turncoat labels om majority context_bytes messages decisions lines_of text_of step digits
+unfolding four turncoat labels om majority context_bytes messages decisions lines_in text_in step digits
 cut_off = refl
 
 -- what general 2 of the four is told in round 2, in bytes

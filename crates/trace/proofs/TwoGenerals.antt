@@ -9,7 +9,7 @@ use Rattle.semantics.specs.Execution.{step}
 use Rattle.world.specs.Scenario.{Scenario}
 use Rattle.world.specs.Letters.{context_bytes, messages}
 use Rattle.world.specs.Chronicle.{decisions}
-use Rattle.trace.specs.Text.{lines_of, text_of}
+use Rattle.trace.specs.Text.{lines_in, text_in, text_of}
 use Rattle.trace.proofs.Printed.{printed, lines}
 
 -- two generals, no traitor
@@ -27,5 +27,5 @@ two_generals : printed two ([]) ≡ lines (
     ∷ codes "decision 1 7"
     ∷ codes "verdict alike yes obeyed yes bound yes"
     ∷ [])
-unfolding two labels om majority context_bytes messages decisions lines_of text_of step digits
+unfolding two labels om majority context_bytes messages decisions lines_in text_in step digits
 two_generals = refl

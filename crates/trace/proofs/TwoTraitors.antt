@@ -14,7 +14,7 @@ use Rattle.semantics.specs.Execution.{step}
 use Rattle.world.specs.Scenario.{Scenario}
 use Rattle.world.specs.Letters.{context_bytes, messages}
 use Rattle.world.specs.Chronicle.{decisions}
-use Rattle.trace.specs.Text.{lines_of, text_of}
+use Rattle.trace.specs.Text.{lines_in, text_in, text_of}
 use Rattle.trace.proofs.Printed.{printed, lines}
 
 -- he tells general 0 the order 1, and general 1 the order 0
@@ -55,5 +55,5 @@ two_traitors : printed divided ([]) ≡ lines (
     ∷ codes "decision 3 traitor 0"
     ∷ codes "verdict alike no obeyed - bound no"
     ∷ [])
-unfolding divided divider labels om majority context_bytes messages decisions lines_of text_of step digits
+unfolding divided divider labels om majority context_bytes messages decisions lines_in text_in step digits
 two_traitors = refl

@@ -85,30 +85,47 @@ yes_no_none (Some b) = yes_no b
 abbrev pub verdict_line : Verdict → Line
 verdict_line v = codes "verdict" ∷ codes "alike" ∷ yes_no v.alike ∷ codes "obeyed" ∷ yes_no_none v.obeyed ∷ codes "bound" ∷ yes_no v.bound ∷ []
 
--- a campaign without a patience, by the majority, is told in version 1, any other in version 2
-abbrev pub is_plain : Option ℕ → Rule → Bool
-is_plain None Majority = true
-is_plain None Median = false
-is_plain (Some patience) rule = false
+-- the two versions of a chronicle: the second tells the patience and the rule
+pub data Version : Type 0 where
+  First : Version
+  Second : Version
+
+-- a campaign without a patience, by the majority, is told in the first version, any other in the second
+abbrev pub version_by : Option ℕ → Rule → Version
+version_by None Majority = First
+version_by None Median = Second
+version_by (Some patience) rule = Second
+
+abbrev pub version_of : Scenario → Version
+version_of s = version_by s.patience s.rule
 
 abbrev pub rule_word : Rule → Word
 rule_word Majority = codes "majority"
 rule_word Median = codes "median"
 
--- what version 2 tells behind the order
-abbrev pub further_words : Scenario → List Word
-further_words s = cond (is_plain s.patience s.rule) [] (codes "patience" ∷ place s.patience ∷ codes "rule" ∷ rule_word s.rule ∷ [])
+abbrev pub version_word : Version → Word
+version_word First = codes "1"
+version_word Second = codes "2"
 
-abbrev pub head_lines : Scenario → List Line
-head_lines s =
-    (codes "chronicle" ∷ cond (is_plain s.patience s.rule) (codes "1") (codes "2") ∷ [])
-    ∷ (codes "generals" ∷ decimal s.generals ∷ codes "bound" ∷ decimal s.bound ∷ codes "commander" ∷ decimal s.commander ∷ codes "order" ∷ decimal s.order ∷ further_words s)
+-- what a version tells behind the order
+abbrev pub further_words : Version → Scenario → List Word
+further_words First s = []
+further_words Second s = codes "patience" ∷ place s.patience ∷ codes "rule" ∷ rule_word s.rule ∷ []
+
+abbrev pub head_lines : Version → Scenario → List Line
+head_lines v s =
+    (codes "chronicle" ∷ version_word v ∷ [])
+    ∷ (codes "generals" ∷ decimal s.generals ∷ codes "bound" ∷ decimal s.bound ∷ codes "commander" ∷ decimal s.commander ∷ codes "order" ∷ decimal s.order ∷ further_words v s)
     ∷ []
 
-unfoldable pub lines_of : Chronicle → List Line
-lines_of c =
-    head_lines c.scenario
+unfoldable pub lines_in : Version → Chronicle → List Line
+lines_in v c =
+    head_lines v c.scenario
     ++ (round_lines 1 c.accesses c.letters ++ (decision_lines c.scenario (lieutenants c.scenario) c.decisions ++ verdict_line c.verdict ∷ []))
 
-unfoldable pub text_of : Chronicle → List ℕ
-text_of c = text (lines_of c)
+unfoldable pub text_in : Version → Chronicle → List ℕ
+text_in v c = text (lines_in v c)
+
+-- the text of a chronicle: that of its campaign's version
+abbrev pub text_of : Chronicle → List ℕ
+text_of c = text_in (version_of c.scenario) c

@@ -8,6 +8,6 @@ mod sink;
 mod writing;
 
 pub use fault::TraceError;
-pub use laws::names_are_told;
+pub use laws::{names_are_told, sound_texts_are_runs};
 pub use scheduling::read_schedule;
 pub use sink::{Latch, Sink};
