@@ -6,8 +6,9 @@ use Rattle.combine.specs.declared.chosen.Rule.TheVariants.{Majority, Median}
 use Rattle.label.specs.Labels.{labels}
 use Rattle.label.specs.Oral.{om}
 use Rattle.semantics.specs.Execution.{step}
-use Rattle.world.specs.Scenario.{Scenario}
-use Rattle.world.specs.Letters.{context_bytes, messages}
+use Rattle.round.specs.Scenario.{Scenario}
+use Rattle.round.specs.Contexts.{context_bytes}
+use Rattle.round.specs.Letters.{messages}
 use Rattle.world.specs.Chronicle.{decisions}
 use Rattle.trace.specs.Text.{lines_in, text_in, text_of}
 use Rattle.trace.proofs.Printed.{printed, lines}

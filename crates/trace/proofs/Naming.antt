@@ -11,10 +11,11 @@ use Rattle.std.proofs.Common.{⊎_elim}
 use Rattle.insn.specs.declared.insn.Insn.{Insn}
 use Rattle.label.specs.Labels.{generals}
 use Rattle.board.specs.Board.{Access}
-use Rattle.world.specs.Scenario.{Scenario, is_traitor}
-use Rattle.world.specs.Letters.{Letter}
+use Rattle.round.specs.Scenario.{Scenario, is_traitor}
+use Rattle.round.specs.Letters.{Letter}
 use Rattle.world.specs.Lists.{names_in}
-use Rattle.world.specs.Chronicle.{Chronicle, lieutenants}
+use Rattle.world.specs.Chronicle.{Chronicle}
+use Rattle.label.specs.Lieutenants.{lieutenants}
 use Rattle.trace.specs.Text.{Line, access_line, row_lines, letter_line, letter_lines, round_lines, decision_line, decision_lines, verdict_line, Version, lines_in, text_in}
 use Rattle.trace.specs.Names.{general_of, Named, with_line, named, names_of}
 use Rattle.trace.proofs.Splitting.{text-split}
@@ -86,7 +87,7 @@ decision_silent g true d = λ rest. refl
 decision_silent g false d = λ rest. refl
 
 letter_silent : (l : Letter) → AreSilent (letter_lines l)
-letter_silent l = (letter_line_silent l.general l.program l.steps, rows_silent 0 l.outbox)
+letter_silent l = (letter_line_silent l.general l.program l.steps, rows_silent 0 l.outbox.rows)
 
 letters_silent : (ls : List Letter) → AreSilent (flat_map letter_lines ls)
 letters_silent [] = tt
@@ -117,11 +118,11 @@ pub names_told : (v : Version) (c : Chronicle) → AreKnown c.accesses → names
 unfolding names_of text_in lines_in
 names_told v c k =
     let s = c.scenario in
-    let ds = decision_lines s (lieutenants s) c.decisions in
+    let ds = decision_lines s (lieutenants s.generals s.commander) c.decisions in
     let end : List Line = verdict_line c.verdict ∷ [] in
     let tail : List Line = ([] ∷ []) ∷ [] in
     let behind : named ((ds ++ end) ++ tail) ≡ ([], []) =
-    ap named (append_assoc ds end tail) ∙ silent-front ds (end ++ tail) (decisions_silent s (lieutenants s) c.decisions) in
+    ap named (append_assoc ds end tail) ∙ silent-front ds (end ++ tail) (decisions_silent s (lieutenants s.generals s.commander) c.decisions) in
     ap (λ ls. (named ls).1) (text-split (lines_in v c) (chronicle_plain v c))
     ∙ ap (λ ls. (named ls).1) (append_assoc (round_lines 1 c.accesses c.letters) (ds ++ end) tail)
     ∙ ap (λ p. p.1) (rounds-named 1 c.accesses c.letters ((ds ++ end) ++ tail) k behind)

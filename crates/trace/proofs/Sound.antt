@@ -4,10 +4,10 @@ use Rattle.std.specs.Prelude.{All, ◌↔◌, sum_by}
 use Rattle.std.proofs.lemmas.List.{take-append-drop}
 use Rattle.board.specs.Board.{Access}
 use Rattle.world.specs.declared.event.Event.{Event}
-use Rattle.world.specs.Scenario.{Scenario, IsScenario}
-use Rattle.world.specs.Letters.{Letter}
+use Rattle.round.specs.Scenario.{Scenario, IsScenario}
+use Rattle.round.specs.Letters.{Letter}
 use Rattle.world.specs.World.{opening, run}
-use Rattle.world.specs.Runs.{AreAccounted}
+use Rattle.world.specs.Accounted.{AreAccounted}
 use Rattle.world.specs.Lists.{IsComplete, names_in, replayed}
 use Rattle.world.specs.Chronicle.{chronicle_of}
 use Rattle.world.specs.Laws.{replay_of}

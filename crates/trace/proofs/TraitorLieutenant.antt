@@ -11,9 +11,11 @@ use Rattle.combine.specs.declared.chosen.Rule.TheVariants.{Majority}
 use Rattle.label.specs.Labels.{labels}
 use Rattle.label.specs.Oral.{om}
 use Rattle.semantics.specs.Execution.{step}
-use Rattle.world.specs.Scenario.{Scenario}
-use Rattle.world.specs.Letters.{context_bytes, context_of, messages}
-use Rattle.world.specs.World.{NotOpen, NoGeneral, opening, run, refusal}
+use Rattle.round.specs.Scenario.{Scenario}
+use Rattle.round.specs.Contexts.{context_bytes, context_of}
+use Rattle.round.specs.Letters.{messages}
+use Rattle.world.specs.declared.event.EventError.TheVariants.{NotOpen, NoGeneral}
+use Rattle.world.specs.World.{opening, run, refusal}
 use Rattle.world.specs.declared.event.Event.TheVariants.{Tick, Post, Close}
 use Rattle.world.specs.Lists.{listed_rounds, listed}
 use Rattle.world.specs.Chronicle.{decisions, chronicle_of}

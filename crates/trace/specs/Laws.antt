@@ -3,7 +3,7 @@ use Rattle.std.specs.Prelude.{ℕ, ◌≡◌, ◌<◌, ◌↔◌, All, List, len
 use Rattle.combine.specs.declared.chosen.Rule.{Rule}
 use Rattle.combine.specs.declared.chosen.Rule.TheVariants.{Majority, Median}
 use Rattle.world.specs.declared.event.Event.{Event}
-use Rattle.world.specs.Scenario.{Scenario, IsScenario}
+use Rattle.round.specs.Scenario.{Scenario, IsScenario}
 use Rattle.world.specs.World.{opening, run}
 use Rattle.world.specs.Lists.{IsComplete, names_in, replayed}
 use Rattle.world.specs.Chronicle.{Chronicle, chronicle_of}

@@ -6,9 +6,11 @@ use Rattle.combine.specs.declared.chosen.Rule.TheVariants.{Majority, Median}
 use Rattle.semantics.specs.declared.request.Request.{Request}
 use Rattle.semantics.specs.declared.request.Request.TheVariants.{Get, Swap, Add, Cas, Copy}
 use Rattle.board.specs.Board.{Access}
-use Rattle.world.specs.Scenario.{Scenario, is_traitor}
-use Rattle.world.specs.Letters.{Letter}
-use Rattle.world.specs.Chronicle.{Verdict, Chronicle, lieutenants}
+use Rattle.round.specs.Scenario.{Scenario, is_traitor}
+use Rattle.round.specs.Letters.{Letter}
+use Rattle.world.specs.declared.verdict.Verdict.{Verdict}
+use Rattle.world.specs.Chronicle.{Chronicle}
+use Rattle.label.specs.Lieutenants.{lieutenants}
 
 abbrev pub Word : Type 0
 Word = List ℕ
@@ -57,7 +59,7 @@ letter_line g None steps = codes "letter" ∷ decimal g ∷ codes "loyal" ∷ []
 letter_line g (Some program) steps = codes "letter" ∷ decimal g ∷ codes "steps" ∷ decimal steps ∷ []
 
 abbrev pub letter_lines : Letter → List Line
-letter_lines l = letter_line l.general l.program l.steps ∷ row_lines 0 l.outbox
+letter_lines l = letter_line l.general l.program l.steps ∷ row_lines 0 l.outbox.rows
 
 -- round by round: its line, its accesses, its letters
 abbrev pub round_lines : ℕ → List Access → List (List Letter) → List Line
@@ -121,7 +123,7 @@ head_lines v s =
 unfoldable pub lines_in : Version → Chronicle → List Line
 lines_in v c =
     head_lines v c.scenario
-    ++ (round_lines 1 c.accesses c.letters ++ (decision_lines c.scenario (lieutenants c.scenario) c.decisions ++ verdict_line c.verdict ∷ []))
+    ++ (round_lines 1 c.accesses c.letters ++ (decision_lines c.scenario (lieutenants c.scenario.generals c.scenario.commander) c.decisions ++ verdict_line c.verdict ∷ []))
 
 unfoldable pub text_in : Version → Chronicle → List ℕ
 text_in v c = text (lines_in v c)
