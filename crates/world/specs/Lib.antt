@@ -2,6 +2,7 @@ pub mod Part
 pub mod World
 pub mod Reached
 pub mod Lists
+pub mod Schedules
 pub mod Accounted
 pub mod Chronicle
 pub mod Agreement

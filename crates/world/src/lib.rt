@@ -3,6 +3,7 @@
 
 mod event;
 mod laws;
+mod schedule;
 mod verdict;
 
 pub use event::{Event, EventError};
@@ -11,4 +12,5 @@ pub use laws::{
     idle_events_change_nothing, ledgers_decide, lists_are_complete, parts_are_placed,
     refusals_change_nothing, runs_are_accounted, runs_are_replays, verdicts_mean, worlds_agree,
 };
+pub use schedule::{Entries, Repeat, Schedule};
 pub use verdict::Verdict;
