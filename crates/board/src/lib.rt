@@ -4,6 +4,7 @@
 mod access;
 mod laws;
 mod object;
+mod same;
 mod words;
 
 pub use access::Access;

@@ -1,4 +1,4 @@
-ghost use Rattle.std.specs.Prelude.{◌≡◌, ◌+◌, ◌≤◌, Ok, Err, OnOk, IfErr};
+ghost use Rattle.std.specs.Prelude.{◌≡◌, ◌+◌, ◌≤◌, Ok, Err, OnOk, IfErr, IsOk};
 ghost use Rattle.insn.specs.Insn.{bytes_of, part_bytes};
 ghost use Rattle.semantics.specs.Memory.{loaded, loaded_signed, stored, value_in};
 ghost use Rattle.mem.specs.Answers.{IsAnswer, cause_of};
@@ -8,7 +8,7 @@ ghost use Rattle.mem.specs.Reading.{number_in};
 use crate::context::Context;
 use crate::fault::MemoryFault;
 use crate::stack::Stack;
-use crate::window::{place_at, stack_place};
+use crate::window::{known_place, place_at, stack_place};
 use insn::Size;
 use semantics::{Region, Value};
 use word::arithmetic::sign_extend;
@@ -116,4 +116,66 @@ pub fn store(
             _ => Err(MemoryFault::PointerUse),
         },
     }
+}
+
+/// What [`load`] answers at a pointer, where it is known that it does.
+#[inline(always)]
+pub fn read(
+    stack: &Stack,
+    context: &Context,
+    size: Size,
+    region: Region,
+    offset: i64,
+    distance: i16,
+) -> Value
+    requires { IsOk (loaded context.now stack.now (bytes_of size) (Value.Pointer region offset) distance) }
+    ensures { loaded context.now stack.now (bytes_of size) (Value.Pointer region offset) distance ≡ Ok result }
+{
+    let place = known_place(region, offset, distance, size);
+    match region {
+        Region::Stack => stack.known_value(place, size),
+        Region::Context => Value::Number(context.number(place, size)),
+    }
+}
+
+/// What [`load_signed`] answers at a pointer, where it is known that it does.
+#[inline(always)]
+pub fn read_signed(
+    stack: &Stack,
+    context: &Context,
+    part: Narrow,
+    region: Region,
+    offset: i64,
+    distance: i16,
+) -> u64
+    requires { IsOk (loaded_signed context.now stack.now part (Value.Pointer region offset) distance) }
+    ensures { loaded_signed context.now stack.now part (Value.Pointer region offset) distance ≡ Ok (Value.Number result) }
+{
+    let size = size_of(part);
+    let place = known_place(region, offset, distance, size);
+    let number = match region {
+        Region::Stack => stack.known_number(place, size),
+        Region::Context => context.number(place, size),
+    };
+    sign_extend(Width::W64, part, number)
+}
+
+/// [`store`] of a number at a pointer into the stack, where it is known that it is done.
+#[inline(always)]
+pub fn write_number(stack: &mut Stack, size: Size, offset: i64, distance: i16, number: u64)
+    requires { IsOk (stored stack.old (bytes_of size) (Value.Pointer Region.Stack offset) distance (Value.Number number)) }
+    ensures { stored stack.old (bytes_of size) (Value.Pointer Region.Stack offset) distance (Value.Number number) ≡ Ok stack.new }
+{
+    let place = known_place(Region::Stack, offset, distance, size);
+    stack.put_number(place, size, number);
+}
+
+/// [`store`] of a pointer at a pointer into the stack, where it is known that it is done.
+#[inline(always)]
+pub fn write_pointer(stack: &mut Stack, offset: i64, distance: i16, region: Region, at: i32)
+    requires { IsOk (stored stack.old 8 (Value.Pointer Region.Stack offset) distance (Value.Pointer region at)) }
+    ensures { stored stack.old 8 (Value.Pointer Region.Stack offset) distance (Value.Pointer region at) ≡ Ok stack.new }
+{
+    let place = known_place(Region::Stack, offset, distance, Size::Double);
+    stack.put_pointer(place, region, at);
 }
