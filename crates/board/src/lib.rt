@@ -4,8 +4,7 @@
 mod access;
 mod laws;
 mod object;
-#[cfg(test)]
-mod tests;
+mod same;
 mod words;
 
 pub use access::Access;

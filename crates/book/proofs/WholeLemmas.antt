@@ -4,6 +4,7 @@ use Rattle.std.specs.Prelude.{Result, Ok, Err, nat_lt, nat_le, bytes_eq, if◌th
 use Rattle.std.specs.List.{list_all, list_any, AllByRecursion}
 use Rattle.std.proofs.lemmas.Bool.{and_parts, not-true, leb-true, ltb-true, or_from, or_parts}
 use Rattle.std.proofs.lemmas.Bool.Decides.{nat_tests}
+use Rattle.combine.specs.declared.chosen.Rule.{Rule}
 use Rattle.text.specs.Options.{◌>>=◌}
 use Rattle.text.specs.Stop.{space, dot}
 use Rattle.text.specs.Parts.{pieces, lines_of}
@@ -33,16 +34,16 @@ limits n m c e =
 ok_same : (x y : MessageTable) → ◌≡◌ {A = Result MessageTable TableError} (Ok x) (Ok y) → x ≡ y
 ok_same x y e = cc
 
-head_whole : (n m c : ℕ) (t : MessageTable) (b : Bool) → is_within n m c ≡ b → (if b then Ok (record { generals = n; bound = m; commander = c; messages = [] }) else Err (Range 1)) ≡ Ok t → IsWhole t
-head_whole n m c t true h e =
-    let empty : MessageTable = record { generals = n; bound = m; commander = c; messages = [] } in
+head_whole : (n m c : ℕ) (rule : Rule) (t : MessageTable) (b : Bool) → is_within n m c ≡ b → (if b then Ok (record { generals = n; bound = m; commander = c; rule = rule; messages = [] }) else Err (Range 1)) ≡ Ok t → IsWhole t
+head_whole n m c rule t true h e =
+    let empty : MessageTable = record { generals = n; bound = m; commander = c; rule = rule; messages = [] } in
     let made : IsWhole empty = record { within = limits n m c h; messages = tt; once = tt } in
     subst IsWhole (ok_same empty t e) made
-head_whole n m c t false h e = cc
+head_whole n m c rule t false h e = cc
 
-opened_whole : (head : Option (ℕ × ℕ × ℕ)) (t : MessageTable) → opened head ≡ Ok t → IsWhole t
+opened_whole : (head : Option (ℕ × ℕ × ℕ × Rule)) (t : MessageTable) → opened head ≡ Ok t → IsWhole t
 opened_whole None t e = cc
-opened_whole (Some h) t e = head_whole h.0 h.1 h.2 t (is_within h.0 h.1 h.2) refl e
+opened_whole (Some h) t e = head_whole h.0 h.1 h.2 h.3 t (is_within h.0 h.1 h.2) refl e
 
 picked : (said x : Message) (number : ℕ) (place again : Bool) → (if place then (if again then Err (Twice number) else Ok said) else Err (Place number)) ≡ Ok x → (said ≡ x) × (place ≡ true) × (again ≡ false)
 picked said x number true true e = cc

@@ -1,5 +1,4 @@
 ghost use Rattle.std.specs.Prelude.{◌≡◌, ◌≢◌, ◌<◌, ◌≤◌, ◌+◌, ◌∷◌, ◌++◌, [], length, find, option_map};
-ghost use Rattle.combine.specs.Rule.{majority};
 ghost use Rattle.label.specs.Oral.{om, taken};
 ghost use Rattle.book.specs.Decisions.{decision_of, decisions_of, TableAgrees};
 ghost use Rattle.book.specs.Table.{told, is_about};
@@ -8,7 +7,7 @@ use crate::message::Message;
 use crate::table::Table;
 use crate::theorem::agreement;
 use arrayvec::ArrayVec;
-use combine::{Combine, Majority};
+use combine::Combine;
 use label::Label;
 
 /// What a lieutenant decides, by the recursion of OM(m) over the table's messages (TOPLAS 1982). Slow and plain.
@@ -21,7 +20,7 @@ pub fn decision(table: &Table, general: u8) -> u32
     let generals = table.generals();
     let label = Label::of(table.commander());
     decide(
-        &Majority,
+        &table.rule(),
         generals,
         table.messages(),
         table.bound(),

@@ -2,15 +2,17 @@ ghost use Rattle.std.specs.Prelude.{◌≡◌, ◌<◌, ◌≤◌, [], ◌∷◌
 ghost use Rattle.book.specs.Table.{MessageTable, IsWithin};
 
 use crate::message::Message;
+use combine::Rule;
 use std::alloc::{AllocError, Global};
 use std::marker::Model;
 
-/// A message table: a campaign's numbers, and its messages.
+/// A message table: a campaign's numbers, its rule of combination, and its messages.
 #[derive(Drop)]
 pub struct Table {
     generals: u8,
     bound: u8,
     commander: u8,
+    rule: Rule,
     messages: Vec<Message>,
 }
 
@@ -19,21 +21,28 @@ impl Model for Table {
 
     ghost Value = { MessageTable };
 
-    ghost view = { λ t. record { generals = t.generals; bound = t.bound; commander = t.commander; messages = t.messages.items } };
+    ghost view = { λ t. record { generals = t.generals; bound = t.bound; commander = t.commander; rule = t.rule; messages = t.messages.items } };
 
     ghost invariant = { λ t. IsWithin t.generals t.bound t.commander };
 }
 
 impl Table {
     /// The table of a campaign, without messages.
-    pub(crate) fn open(alloc: Global, generals: u8, bound: u8, commander: u8) -> Table
+    pub(crate) fn open(
+        alloc: Global,
+        generals: u8,
+        bound: u8,
+        commander: u8,
+        rule: Rule,
+    ) -> Table
         requires { IsWithin generals bound commander }
-        ensures { result ≡ record { generals = generals; bound = bound; commander = commander; messages = [] } }
+        ensures { result ≡ record { generals = generals; bound = bound; commander = commander; rule = rule; messages = [] } }
     {
         Table {
             generals,
             bound,
             commander,
+            rule,
             messages: Vec::new(alloc),
         }
     }
@@ -68,6 +77,13 @@ impl Table {
         ensures within { IsWithin self.now.generals self.now.bound self.now.commander }
     {
         self.commander
+    }
+
+    /// The rule by which orders are combined.
+    pub fn rule(&self) -> Rule
+        ensures { result ≡ self.now.rule }
+    {
+        self.rule
     }
 
     /// The messages, in the order of the text.

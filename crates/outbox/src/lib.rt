@@ -2,11 +2,12 @@
 #![tactic(auto)]
 
 mod context;
+mod laws;
 mod orders;
 mod relays;
 mod row;
-#[cfg(test)]
-mod tests;
+mod rows;
 
 pub use label::Shape;
+pub use laws::last_orders_are_given;
 pub use orders::Outbox;

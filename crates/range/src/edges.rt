@@ -196,22 +196,3 @@ fn where_at_least(a: Range, b: Range) -> Option<(Range, Range)>
     };
     Some((first, second))
 }
-
-#[cfg(test)]
-mod tests {
-    use super::*;
-
-    #[test]
-    fn refines(rt: HostRuntime) {
-        let all = Range::full();
-        let limit = Range::exactly(63);
-        let low = Range { lo: 0, hi: 63 };
-        assert!(rt; refine(Width::W64, Condition::Above, false, all, limit) == Some((low, limit)));
-        assert!(rt; refine(Width::W32, Condition::Above, false, all, limit) == Some((all, limit)));
-        assert!(rt; refine(Width::W64, Condition::Above, true, low, limit).is_none());
-        assert!(rt;
-            refine(Width::W64, Condition::Different, true, low, limit)
-                == Some((Range { lo: 0, hi: 62 }, limit))
-        );
-    }
-}

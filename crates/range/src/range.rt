@@ -72,18 +72,3 @@ impl Range {
         }
     }
 }
-
-#[cfg(test)]
-mod tests {
-    use super::*;
-
-    #[test]
-    fn joins(rt: HostRuntime) {
-        let both = Range { lo: 3, hi: 5 }.join(Range { lo: 9, hi: 12 });
-        assert_eq!(rt; both, Range { lo: 3, hi: 12 });
-        assert!(rt; both.contains(7));
-        assert!(rt; !both.contains(13));
-        assert!(rt; Range::exactly(7).is_single());
-        assert!(rt; Range::full().contains(u64::MAX));
-    }
-}

@@ -2,7 +2,7 @@
 use Rattle.std.proofs.Common.{ℕ, zero, suc, ◌≤◌, List, [], refl, true, false, arith}
 use Rattle.std.specs.Prelude.{Bool, cond, ◌∷◌, pos}
 use Rattle.insn.specs.declared.insn.Insn.TheVariants as i
-use Rattle.label.specs.declared.shape.Shape.{Shape}
+use Rattle.semantics.specs.Relay.{Relay}
 use Rattle.semantics.specs.Execution.{step}
 use Rattle.semantics.specs.declared.request.Request.{Request}
 use Rattle.semantics.specs.State.{State}
@@ -22,21 +22,21 @@ over : (b : Bool) (n : ℕ) (s t : State) (r : Request) → IsOver (cond b (Exit
 over true n s t r = tt
 over false n s t r = tt
 
-pub asks_never_traps : (context : List ℕ) (shape : Shape) (answers : List (List ℕ)) (k : ℕ) → IsTrapped (after asks context shape answers k) → ⊥
+pub asks_never_traps : (context : List ℕ) (relay : Relay) (answers : List (List ℕ)) (k : ℕ) → IsTrapped (after asks context relay answers k) → ⊥
 unfolding onwards step
-asks_never_traps context shape answers zero trapped = trapped
-asks_never_traps context shape answers (suc zero) trapped = trapped
-asks_never_traps context shape [] (suc (suc k)) trapped = trapped
-asks_never_traps context shape (words ∷ answers) (suc (suc zero)) trapped = running_or_waiting _ _ _ _ trapped
-asks_never_traps context shape (words ∷ answers) (suc (suc (suc k))) trapped = exited_or_waiting _ _ _ _ _ trapped
+asks_never_traps context relay answers zero trapped = trapped
+asks_never_traps context relay answers (suc zero) trapped = trapped
+asks_never_traps context relay [] (suc (suc k)) trapped = trapped
+asks_never_traps context relay (words ∷ answers) (suc (suc zero)) trapped = running_or_waiting _ _ _ _ trapped
+asks_never_traps context relay (words ∷ answers) (suc (suc (suc k))) trapped = exited_or_waiting _ _ _ _ _ trapped
 
-pub asks_ends : (context : List ℕ) (shape : Shape) (answers : List (List ℕ)) (k : ℕ) → 3 ≤ k → IsOver (after asks context shape answers k)
+pub asks_ends : (context : List ℕ) (relay : Relay) (answers : List (List ℕ)) (k : ℕ) → 3 ≤ k → IsOver (after asks context relay answers k)
 unfolding onwards step
-asks_ends context shape answers zero le = absurd (omega arith)
-asks_ends context shape answers (suc zero) le = absurd (omega arith)
-asks_ends context shape answers (suc (suc zero)) le = absurd (omega arith)
-asks_ends context shape [] (suc (suc (suc k))) le = tt
-asks_ends context shape (words ∷ answers) (suc (suc (suc k))) le = over _ _ _ _ _
+asks_ends context relay answers zero le = absurd (omega arith)
+asks_ends context relay answers (suc zero) le = absurd (omega arith)
+asks_ends context relay answers (suc (suc zero)) le = absurd (omega arith)
+asks_ends context relay [] (suc (suc (suc k))) le = tt
+asks_ends context relay (words ∷ answers) (suc (suc (suc k))) le = over _ _ _ _ _
 
 pub asks_not_plain : IsPlain asks → ⊥
 asks_not_plain plain = plain.numbers 1 (i.Call (pos 1)) refl

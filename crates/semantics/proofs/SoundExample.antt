@@ -8,28 +8,28 @@ use Rattle.insn.specs.declared.insn.Insn.{Insn}
 use Rattle.insn.specs.declared.insn.Insn.TheVariants as i
 use Rattle.insn.specs.declared.insn.Operand.TheVariants.{Immediate}
 use Rattle.insn.specs.Program.{instruction_at}
-use Rattle.label.specs.declared.shape.Shape.{Shape}
+use Rattle.semantics.specs.Relay.{Relay}
 use Rattle.semantics.specs.Execution.{step}
 use Rattle.semantics.specs.Run.{onwards, after, IsOver, IsTrapped}
 use Rattle.semantics.specs.Plain.{IsIn, IsOfNumbers, IsStart, reads, writes, leads_to, Unwritten, at_entry, along}
 use Rattle.semantics.specs.Examples.{answer, bare_exit, SomeArePlainAndSound}
 use Rattle.semantics.proofs.AskingExample.{asks_never_traps, asks_ends, asks_not_plain}
 
-never_traps : (context : List ℕ) (shape : Shape) (answers : List (List ℕ)) (k : ℕ) → IsTrapped (after answer context shape answers k) → ⊥
+never_traps : (context : List ℕ) (relay : Relay) (answers : List (List ℕ)) (k : ℕ) → IsTrapped (after answer context relay answers k) → ⊥
 unfolding onwards step
-never_traps context shape answers zero trapped = trapped
-never_traps context shape answers (suc zero) trapped = trapped
-never_traps context shape answers (suc (suc k)) trapped = trapped
+never_traps context relay answers zero trapped = trapped
+never_traps context relay answers (suc zero) trapped = trapped
+never_traps context relay answers (suc (suc k)) trapped = trapped
 
-ends : (context : List ℕ) (shape : Shape) (answers : List (List ℕ)) (k : ℕ) → 2 ≤ k → IsOver (after answer context shape answers k)
+ends : (context : List ℕ) (relay : Relay) (answers : List (List ℕ)) (k : ℕ) → 2 ≤ k → IsOver (after answer context relay answers k)
 unfolding onwards step
-ends context shape answers zero le = absurd (omega arith)
-ends context shape answers (suc zero) le = absurd (omega arith)
-ends context shape answers (suc (suc k)) le = tt
+ends context relay answers zero le = absurd (omega arith)
+ends context relay answers (suc zero) le = absurd (omega arith)
+ends context relay answers (suc (suc k)) le = tt
 
-trapped : (context : List ℕ) (shape : Shape) (answers : List (List ℕ)) → IsTrapped (after bare_exit context shape answers 1)
+trapped : (context : List ℕ) (relay : Relay) (answers : List (List ℕ)) → IsTrapped (after bare_exit context relay answers 1)
 unfolding onwards step
-trapped context shape answers = tt
+trapped context relay answers = tt
 
 zeros_small : (n : ℕ) → All (λ b. b < 256) (replicate n 0)
 zeros_small n = All-replicate (λ b. b < 256) n 0 (omega arith)
@@ -88,13 +88,13 @@ pub some_are : SomeArePlainAndSound
 some_are = record {
   plain = record { exit_last = refl; numbers = numbers; forward = forward; written_before = written_before; frame_kept = frame_kept };
   sound = record {
-    never_traps = λ context shape answers k c h t. never_traps context shape answers k t;
-    ends = λ context shape answers k c h le. ends context shape answers k le;
+    never_traps = λ context relay answers k c h t. never_traps context relay answers k t;
+    ends = λ context relay answers k c h le. ends context relay answers k le;
   };
   asks_not_plain = asks_not_plain;
   asks_sound = record {
-    never_traps = λ context shape answers k c h t. asks_never_traps context shape answers k t;
-    ends = λ context shape answers k c h le. asks_ends context shape answers k le;
+    never_traps = λ context relay answers k c h t. asks_never_traps context relay answers k t;
+    ends = λ context relay answers k c h le. asks_ends context relay answers k le;
   };
   not_plain = λ plain. plain.written_before 0 0 i.Exit refl (inl refl) at_entry;
   not_sound = λ sound. sound.never_traps (replicate 4096 0) (record { generals = 4; commander = 0; general = 3; round = 1 }) [] 1

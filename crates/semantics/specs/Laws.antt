@@ -1,49 +1,48 @@
 -- What holds of every step and run. Each statement is the contract of a function of this crate.
 use Rattle.std.specs.Prelude.{ℕ, ◌+◌, ◌-◌, ◌<◌, ◌≡◌, List, length}
 use Rattle.insn.specs.declared.insn.Insn.{Insn}
-use Rattle.label.specs.declared.shape.Shape.{Shape}
-use Rattle.label.specs.Relay.{IsShape}
+use Rattle.semantics.specs.Relay.{IsContext, IsRelay, Relay}
 use Rattle.semantics.specs.declared.request.Request.{Request}
 use Rattle.semantics.specs.State.{State, entry}
 use Rattle.semantics.specs.Outbox.{empty_outbox}
 use Rattle.semantics.specs.Call.{resumed}
 use Rattle.semantics.specs.Execution.{step}
-use Rattle.semantics.specs.Run.{Running, IsFinal, IsContext, IsSound, onwards, after}
+use Rattle.semantics.specs.Run.{Running, IsFinal, IsSound, onwards, after}
 use Rattle.semantics.specs.Safety.{IsSafe}
 use Rattle.semantics.specs.Reached.{Reached}
 use Rattle.semantics.specs.Whole.{IsWhole, Each, CountsOnce}
 
 -- each step is counted once
 abbrev pub StepsAreCounted : Type 0
-StepsAreCounted = (program : List Insn) (context : List ℕ) (shape : Shape) (s : State) → CountsOnce s (step program context shape s)
+StepsAreCounted = (program : List Insn) (context : List ℕ) (relay : Relay) (s : State) → CountsOnce s (step program context relay s)
 
 -- entry, step and answer leave a state whole
 pub record StatesStayWhole : Type 0 where
-  pub at_entry : (shape : Shape) → IsWhole (entry (empty_outbox shape))
-  pub stepped : (program : List Insn) (context : List ℕ) (shape : Shape) (s : State) → IsWhole s → Each IsWhole (step program context shape s)
+  pub at_entry : (relay : Relay) → IsWhole (entry (empty_outbox relay))
+  pub stepped : (program : List Insn) (context : List ℕ) (relay : Relay) (s : State) → IsWhole s → Each IsWhole (step program context relay s)
   pub answered : (request : Request) (words : List ℕ) (s : State) → IsWhole s → IsWhole (resumed request words s)
 
 -- what has exited, trapped or waits stays so under any further steps
 abbrev pub RunsStayOver : Type 0
-RunsStayOver = (program : List Insn) (context : List ℕ) (shape : Shape) (k j : ℕ) (answers : List (List ℕ)) (s : State) →
-    IsFinal (onwards program context shape k answers s) → onwards program context shape (k + j) answers s ≡ onwards program context shape k answers s
+RunsStayOver = (program : List Insn) (context : List ℕ) (relay : Relay) (k j : ℕ) (answers : List (List ℕ)) (s : State) →
+    IsFinal (onwards program context relay k answers s) → onwards program context relay (k + j) answers s ≡ onwards program context relay k answers s
 
 -- a state that is reached is where the run of its answers stands after its steps
 abbrev pub ReachedIsRun : Type 0
-ReachedIsRun = (program : List Insn) (context : List ℕ) (shape : Shape) (answers : List (List ℕ)) (s : State) →
-    Reached program context shape answers s → after program context shape answers s.steps ≡ Running s
+ReachedIsRun = (program : List Insn) (context : List ℕ) (relay : Relay) (answers : List (List ℕ)) (s : State) →
+    Reached program context relay answers s → after program context relay answers s.steps ≡ Running s
 
 -- a program is sound exactly where its entry is safe for as many steps as it has instructions
 pub record SoundIsSafeAtEntry : Type 0 where
   pub sound : (program : List Insn) →
-      ((context : List ℕ) (shape : Shape) → IsContext context → IsShape shape → IsSafe program context shape (length program) (entry (empty_outbox shape))) →
+      ((context : List ℕ) (relay : Relay) → IsContext context → IsRelay relay → IsSafe program context relay (length program) (entry (empty_outbox relay))) →
       IsSound program
-  pub safe : (program : List Insn) (context : List ℕ) (shape : Shape) → IsSound program → IsContext context → IsShape shape →
-      IsSafe program context shape (length program) (entry (empty_outbox shape))
+  pub safe : (program : List Insn) (context : List ℕ) (relay : Relay) → IsSound program → IsContext context → IsRelay relay →
+      IsSafe program context relay (length program) (entry (empty_outbox relay))
 
 -- every state that a sound program reaches is safe for the steps that are left, and has taken fewer steps than the program has instructions
 pub record ReachedIsSafe : Type 0 where
-  pub safe : (program : List Insn) (context : List ℕ) (shape : Shape) (answers : List (List ℕ)) (s : State) → IsSound program → IsContext context → IsShape shape →
-      Reached program context shape answers s → IsSafe program context shape (length program - s.steps) s
-  pub fewer : (program : List Insn) (context : List ℕ) (shape : Shape) (answers : List (List ℕ)) (s : State) → IsSound program → IsContext context → IsShape shape →
-      Reached program context shape answers s → s.steps < length program
+  pub safe : (program : List Insn) (context : List ℕ) (relay : Relay) (answers : List (List ℕ)) (s : State) → IsSound program → IsContext context → IsRelay relay →
+      Reached program context relay answers s → IsSafe program context relay (length program - s.steps) s
+  pub fewer : (program : List Insn) (context : List ℕ) (relay : Relay) (answers : List (List ℕ)) (s : State) → IsSound program → IsContext context → IsRelay relay →
+      Reached program context relay answers s → s.steps < length program

@@ -1,3 +1,4 @@
+pub mod Relay
 pub mod State
 pub mod Memory
 pub mod Outbox

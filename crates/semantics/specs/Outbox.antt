@@ -2,7 +2,7 @@
 use Rattle.std.specs.Prelude.{ℕ, ◌+◌, ◌*◌, ◌==◌, ◌&&◌, if◌then◌else◌, List, map, zip, sum_by, count_by, Option, Some, None, is_some, slice_get, slice_range}
 use Rattle.std.specs.List.{enumerate_from}
 use Rattle.word.specs.Bytes.{little_number}
-use Rattle.label.specs.declared.shape.Shape.{Shape}
+use Rattle.semantics.specs.Relay.{Relay}
 use Rattle.label.specs.Relay.{relay, receivers}
 use Rattle.semantics.specs.State.{Outbox}
 
@@ -13,13 +13,13 @@ pub record Place : Type 0 where
   pub receiver : ℕ
 
 -- the places, in rows: a row for each label relayed, in it the receivers in ascending order
-abbrev pub places : Shape → List (List Place)
+abbrev pub places : Relay → List (List Place)
 places s =
     map (λ label. map (λ p. record { rank = label.0; number = p.0; receiver = p.1 }) (enumerate_from 0 (receivers s label.1)))
     (enumerate_from 0 (relay s))
 
 -- the outbox in which nothing has been put
-abbrev pub empty_outbox : Shape → Outbox
+abbrev pub empty_outbox : Relay → Outbox
 empty_outbox s = map (λ row. map (λ place. None) row) (places s)
 
 -- a helper puts an order at some places, and nothing at the others
@@ -31,12 +31,12 @@ newer (Some order) old = Some order
 newer None old = old
 
 -- the outbox after it: a later order replaces the earlier one
-abbrev pub written : Shape → Choice → Outbox → Outbox
+abbrev pub written : Relay → Choice → Outbox → Outbox
 written s choice outbox =
     map (λ row. map (λ p. newer (choice p.0) p.1) (zip row.0 row.1)) (zip (places s) outbox)
 
 -- how many places it sets
-abbrev pub places_set : Shape → Choice → ℕ
+abbrev pub places_set : Relay → Choice → ℕ
 places_set s choice = sum_by (λ row. count_by (λ place. is_some (choice place)) row) (places s)
 
 -- send: the place of one label and receiver

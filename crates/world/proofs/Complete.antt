@@ -9,15 +9,17 @@ use Rattle.board.specs.Board.{IsBoard, reply}
 use Rattle.board.proofs.Serving.{reply_fits, next_board}
 use Rattle.world.specs.declared.event.Event.{Event}
 use Rattle.world.specs.declared.event.Event.TheVariants.{Tick, Post, Close}
-use Rattle.world.specs.Scenario.{Scenario, program_of}
-use Rattle.world.specs.World.{Activation, Turn, Goes, Asks, Ended, turn, Part, Acting, Silent, Posted, has_posted, World, happen, run, each, ticked, served, posting}
-use Rattle.world.specs.Lists.{Throughout, AtClose, HasPosted, HasEnded, post_of, ticks_of}
+use Rattle.round.specs.Scenario.{Scenario, program_of}
+use Rattle.round.specs.Activation.{Activation, Turn, Goes, Asks, Ended, turn, has_ended}
+use Rattle.world.specs.Part.{Part, Acting, Silent, Posted, has_posted}
+use Rattle.world.specs.World.{World, happen, run, each, ticked, served, posting}
+use Rattle.world.specs.Lists.{Throughout, AtClose, HasPosted, HasEnded, post_of, ticks_of, IsMove, AreMoves, IsRipe}
 use Rattle.world.proofs.Kept.{Fits, IsKept}
 use Rattle.world.proofs.Listing.{set-here}
-use Rattle.world.specs.Laws.{IsMove, AreMoves, IsRipe}
-use Rattle.world.proofs.Moves.{moves-append, moves_same, moves_board, run-append, turn_within, AllParts, IsLasting, moves_keep}
+use Rattle.world.proofs.Moves.{moves-append, moves_same, moves_board, run-append, AllParts, IsLasting, moves_keep}
+use Rattle.round.proofs.Going.{turn_within, IsGoing, TurnsTo, turn_safe, going_zero, over_ended, ended_over}
 use Rattle.world.proofs.Rounds.{run_kept}
-use Rattle.world.proofs.Due.{IsGoing, TurnsTo, turn_safe, going_zero, over_ended, ended_over, IsDue, Due, due_lasts}
+use Rattle.world.proofs.Due.{IsDue, Due, due_lasts}
 
 pub throughout-append : (Q : World → Event → Type 0) (es fs : List Event) (w : World) → Throughout Q w es → Throughout Q (run w es) fs → Throughout Q w (es ++ fs)
 throughout-append Q [] fs w a b = b
@@ -41,7 +43,7 @@ WithinAfter k (Goes b) = Within k b
 WithinAfter k (Asks q f) = (r : List ℕ) → fits q r ≡ true → Within k (f r)
 WithinAfter k Ended = Unit {0}
 
-over_within : (k : ℕ) (a : Activation) → a.over ≡ true → Within k a
+over_within : (k : ℕ) (a : Activation) → has_ended a ≡ true → Within k a
 unfolding Within
 over_within k a e = (0, omega arith, λ on. absurd (let f : true ≡ false = sym e ∙ on in cc))
 
@@ -71,7 +73,7 @@ posted_lasts n = record { goes = λ g a b h e lt. refl; asks = λ g a q f r h e 
 
 -- ticks bring an activation to its end
 Arrives : ℕ → World → ℕ → Type 0
-Arrives k v g = (b : Activation) × (slice_get (run v (replicate k (Tick g))).parts g ≡ Some (Acting b)) × (b.over ≡ true)
+Arrives k v g = (b : Activation) × (slice_get (run v (replicate k (Tick g))).parts g ≡ Some (Acting b)) × (has_ended b ≡ true)
 
 tick_end : (k : ℕ) (w : World) (g : ℕ) (a : Activation) → slice_get w.parts g ≡ Some (Acting a) → IsBoard w.words
     → ((v : World) (b : Activation) → slice_get v.parts g ≡ Some (Acting b) → IsBoard v.words → Within k b → Arrives k v g)
@@ -86,7 +88,7 @@ ticks_end : (k : ℕ) (w : World) (g : ℕ) (a : Activation) → slice_get w.par
 unfolding Arrives Within
 ticks_end zero w g a at board h = (a, at, by h.0 h.1 h.2)
   where
-    by : (n : ℕ) → n ≤ 0 → IsGoing n a → a.over ≡ true
+    by : (n : ℕ) → n ≤ 0 → IsGoing n a → has_ended a ≡ true
     by zero le going = going_zero a going
     by (suc n) le going = absurd (omega arith)
 ticks_end (suc k) w g a at board h =

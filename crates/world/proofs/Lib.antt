@@ -5,15 +5,13 @@ pub mod Faithful
 pub mod Rounds
 pub mod Punctual
 pub mod Agreeing
-pub mod Contexts
 pub mod Due
 pub mod Complete
 pub mod Lasting
 pub mod Untrapped
-pub mod Runnings
+pub mod Accesses
 pub mod Ways
 pub mod Deciding
-pub mod Stepping
 pub mod Replays
 pub mod Following
 pub mod Cutting
@@ -21,7 +19,9 @@ pub mod Again
 pub mod Accounting
 pub mod Made
 pub mod Converse
+pub mod Arranged
 pub mod Replaying
 pub mod Refusing
-mod Example
-pub mod Telling
+pub mod Example
+pub mod Standing
+pub mod Verdicts

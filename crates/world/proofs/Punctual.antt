@@ -4,8 +4,9 @@ use Rattle.std.specs.Prelude.{slice_get, ◌&&◌}
 use Rattle.std.specs.List.{list_all}
 use Rattle.world.specs.declared.event.Event.{Event}
 use Rattle.world.specs.declared.event.Event.TheVariants.{Tick, Post, Close}
-use Rattle.world.specs.Scenario.{Scenario}
-use Rattle.world.specs.World.{Part, has_posted, World, opening, round_open, closing, happen, run}
+use Rattle.round.specs.Scenario.{Scenario}
+use Rattle.world.specs.Part.{Part, has_posted}
+use Rattle.world.specs.World.{World, opening, round_open, closing, happen, run}
 use Rattle.world.specs.Lists.{Throughout, AtClose, HasPosted, IsPunctual}
 use Rattle.world.proofs.Moves.{move_same}
 
@@ -29,7 +30,7 @@ events_full (e ∷ es) w full q = events_full es (happen w e) (event_full w e fu
 pub punctual_full : (s : Scenario) (es : List Event) → IsPunctual s es → (run (opening s) es).full ≡ true
 punctual_full s es q = events_full es (opening s) refl q
 
-event_scenario : (w : World) (e : Event) → (happen w e).scenario ≡ w.scenario
+pub event_scenario : (w : World) (e : Event) → (happen w e).scenario ≡ w.scenario
 event_scenario w (Tick g) = (move_same w (Tick g) tt).scenario
 event_scenario w (Post g) = (move_same w (Post g) tt).scenario
 event_scenario w Close = by (round_open w.scenario w.closed)

@@ -3,12 +3,14 @@ use Rattle.std.proofs.Common.{◌≡◌, ◌≢◌, ℕ, zero, suc, ◌≤◌, L
 use Rattle.std.specs.Prelude.{slice_get, replicate}
 use Rattle.board.specs.Board.{IsBoard, Access, reply, next}
 use Rattle.world.specs.declared.event.Event.TheVariants.{Tick}
-use Rattle.world.specs.Letters.{Letter}
-use Rattle.world.specs.World.{Activation, Turn, Goes, Asks, Ended, turn, Part, Acting, World, served, ticked, happen, run}
-use Rattle.world.specs.Runs.{Onward, Runs}
+use Rattle.round.specs.Letters.{Letter}
+use Rattle.round.specs.Activation.{Activation, Turn, Goes, Asks, Ended, turn, has_ended}
+use Rattle.world.specs.Part.{Part, Acting}
+use Rattle.world.specs.World.{World, served, ticked, happen, run}
+use Rattle.round.specs.Runs.{Onward, Runs}
 use Rattle.world.specs.Lists.{further_turns, until_access}
 use Rattle.world.proofs.Listing.{set-here, set-other}
-use Rattle.world.proofs.Due.{IsGoing, going_zero, over_ended}
+use Rattle.round.proofs.Going.{IsGoing, going_zero, over_ended}
 use Rattle.world.proofs.Complete.{Within, WithinAfter, turn_left}
 use Rattle.world.proofs.Ways.{access}
 
@@ -63,15 +65,15 @@ reach_by fuel w g a x t end at board by in_round legal again (Asks q f) e within
     subst A (sym (tick_is w g a (Asks q f) at e)) here
 reach_by fuel w g a x t end at board by in_round legal again Ended e within k way = absurd way
 
-no_access : (k : ℕ) (a : Activation) (x : Access) (t : List Access) (end : Activation) → a.over ≡ true → Runs k a (x ∷ t) end → ⊥
+no_access : (k : ℕ) (a : Activation) (x : Access) (t : List Access) (end : Activation) → has_ended a ≡ true → Runs k a (x ∷ t) end → ⊥
 no_access zero a x t end over way = (let e = way.0 in cc)
 no_access (suc k) a x t end over way = (let A : Turn → Type 0 = λ o. Onward (Runs k) o (x ∷ t) end in subst A (over_ended a over) way)
 
-within_none : (a : Activation) → Within 0 a → a.over ≡ true
+within_none : (a : Activation) → Within 0 a → has_ended a ≡ true
 unfolding Within
 within_none a h = by h.0 h.1 h.2
   where
-    by : (n : ℕ) → n ≤ 0 → IsGoing n a → a.over ≡ true
+    by : (n : ℕ) → n ≤ 0 → IsGoing n a → has_ended a ≡ true
     by zero le going = going_zero a going
     by (suc n) le going = absurd (omega arith)
 

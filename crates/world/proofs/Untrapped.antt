@@ -8,10 +8,13 @@ use Rattle.semantics.specs.Safety.{LeadsTo}
 use Rattle.semantics.proofs.SafetyLaws.{IsSafe-no_trap}
 use Rattle.world.specs.declared.event.Event.{Event}
 use Rattle.world.specs.declared.event.Event.TheVariants.{Tick, Post, Close}
-use Rattle.world.specs.Scenario.{Scenario, IsScenario, program_of}
-use Rattle.world.specs.Letters.{Letter, loyal_letter}
-use Rattle.world.specs.World.{Activation, Part, Acting, Silent, Posted, World, each, begun, opening, round_open, letters_at, round_letters, closing, happen, run}
-use Rattle.world.specs.Laws.{IsShort}
+use Rattle.round.specs.Scenario.{Scenario, IsScenario, program_of}
+use Rattle.round.specs.Letters.{Letter}
+use Rattle.round.specs.Contexts.{loyal_letter}
+use Rattle.round.specs.Activation.{Activation, has_ended}
+use Rattle.world.specs.Part.{Part, Acting, Silent, Posted}
+use Rattle.world.specs.World.{World, each, begun, opening, round_open, letters_at, round_letters, closing, happen, run}
+use Rattle.world.specs.Safety.{IsShort}
 use Rattle.world.proofs.Moves.{AllParts, move_same}
 use Rattle.world.proofs.Rounds.{closing_kept}
 use Rattle.world.proofs.Due.{IsDue, Due, due_parts}
@@ -85,7 +88,7 @@ run_held s (e ∷ es) w is h = run_held s es (happen w e) is (event_held s w e i
 pub held : (s : Scenario) (es : List Event) → IsScenario s → IsHeld s (run (opening s) es)
 held s es is = run_held s es (opening s) is (record { timely = opening_due s is; short = λ k d lt. absurd (omega arith) })
 
-pub untrapped : (s : Scenario) (g : ℕ) (a : Activation) (cause : Cause) → IsDue s g a → a.over ≡ false → step a.program a.context a.shape a.state ≢ Trap cause
+pub untrapped : (s : Scenario) (g : ℕ) (a : Activation) (cause : Cause) → IsDue s g a → has_ended a ≡ false → step a.program a.context a.shape a.state ≢ Trap cause
 untrapped s g a cause d on e =
     let h = IsSafe-no_trap a.program a.context a.shape d.left a.state (d.going on) in
     (let A : Outcome → Type 0 = λ o. LeadsTo (λ next. Unit {0}) o in subst A e h)

@@ -4,8 +4,10 @@ use Rattle.insn.specs.declared.insn.Insn.{Insn}
 use Rattle.board.specs.Board.{Access}
 use Rattle.world.specs.declared.event.Event.{Event}
 use Rattle.world.specs.declared.event.Event.TheVariants.{Tick, Post, Close}
-use Rattle.world.specs.Scenario.{Scenario, program_of}
-use Rattle.world.specs.World.{Activation, Turn, Goes, Asks, Ended, turn, Part, Acting, has_posted, World, each, opening, happen, run}
+use Rattle.round.specs.Scenario.{Scenario, program_of}
+use Rattle.round.specs.Activation.{Activation, Turn, Goes, Asks, Ended, turn, has_ended}
+use Rattle.world.specs.Part.{Part, Acting, has_posted}
+use Rattle.world.specs.World.{World, each, opening, happen, run}
 
 -- a property of the world before each event
 abbrev pub Throughout : (World → Event → Type 0) → World → List Event → Type 0
@@ -21,7 +23,7 @@ abbrev pub HasPosted : Part → Type 0
 HasPosted part = has_posted part ≡ true
 
 abbrev pub HasEnded : Part → Type 0
-HasEnded (Acting a) = a.over ≡ true
+HasEnded (Acting a) = has_ended a ≡ true
 HasEnded _ = Unit {0}
 
 -- before each close every loyal general has posted
@@ -33,6 +35,21 @@ pub record IsComplete (s : Scenario) (events : List Event) : Type 0 where
   pub punctual : IsPunctual s events
   pub ended : Throughout (AtClose HasEnded) (opening s) events
   pub closed : length (run (opening s) events).closed ≡ suc s.bound
+
+-- a move: no round is closed
+abbrev pub IsMove : Event → Type 0
+IsMove (Tick g) = Unit {0}
+IsMove (Post g) = Unit {0}
+IsMove Close = ⊥
+
+abbrev pub AreMoves : List Event → Type 0
+AreMoves [] = Unit {0}
+AreMoves (e ∷ events) = IsMove e × AreMoves events
+
+-- every loyal general has posted, and every activation has ended
+pub record IsRipe (w : World) : Type 0 where
+  pub posted_all : (g : ℕ) (part : Part) → slice_get w.parts g ≡ Some part → HasPosted part
+  pub ended_all : (g : ℕ) (part : Part) → slice_get w.parts g ≡ Some part → HasEnded part
 
 -- the first of some lists, where there is one, and the others
 abbrev pub first_line : List (List ℕ) → List ℕ

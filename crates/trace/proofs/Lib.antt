@@ -1,0 +1,19 @@
+pub mod EntryLemmas
+pub mod WrittenLemmas
+pub mod Splitting
+pub mod Plain
+pub mod Naming
+pub mod Sound
+mod Printed
+mod TwoGenerals
+mod TraitorLieutenant
+mod TraitorCommander
+mod ThreeGenerals
+mod EachAccess
+mod HonestToOne
+mod TwoTraitors
+mod Absent
+mod SevenGenerals
+mod CutOff
+mod Medians
+mod ScheduleTexts

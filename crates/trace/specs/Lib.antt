@@ -1,0 +1,6 @@
+pub mod Text
+pub mod Names
+pub mod Laws
+pub mod Schedules
+pub mod Left
+pub mod Sinks

@@ -1,0 +1,13 @@
+//! The texts of campaigns: chronicles and schedules.
+#![tactic(auto)]
+
+mod fault;
+mod laws;
+mod scheduling;
+mod sink;
+mod writing;
+
+pub use fault::TraceError;
+pub use laws::{names_are_told, sound_texts_are_runs};
+pub use scheduling::read_schedule;
+pub use sink::{Latch, Sink};
