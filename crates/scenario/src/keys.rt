@@ -1,6 +1,6 @@
 //! The values of single keys, each the value or the first fault of its checks.
 
-ghost use Rattle.std.specs.Prelude.{◌≡◌, ℕ, ◌≤◌, ◌<◌, ◌^◌, option_map};
+ghost use Rattle.std.specs.Prelude.{◌≡◌, ℕ, ◌≤◌, ◌<◌, ◌^◌, option_map, IfOk};
 ghost use Rattle.toml.specs.Data.{get_member};
 ghost use Rattle.toml.specs.View.{view, table_view, array_view, items_view};
 ghost use Rattle.scenario.specs.Names.{is_top_key, is_entry_key, text_of};
@@ -153,7 +153,8 @@ pub fn optional_number(place: Place, least: u32, most: u32, value: Option<&Value
 /// One of the generals.
 #[tactic(auto, unfolding(crate::specs::Checks::general))]
 pub fn general(place: Place, low: Fault, generals: u32, value: Option<&Value>) -> Result<u32, ScenarioError>
-    ensures { Gives (λ n. n) result (general place (faulty low) generals (option_map (λ v. view v.now) value.entry)) }
+    ensures value { Gives (λ n. n) result (general place (faulty low) generals (option_map (λ v. view v.now) value.entry)) }
+    ensures small { IfOk result (λ g. g < generals) }
 {
     let value = required(place, value)?;
     let integer = whole(place, value)?;
