@@ -15,7 +15,7 @@ use Rattle.scenario.specs.declared.fault.Cause.{Cause}
 use Rattle.scenario.specs.declared.fault.Cause.TheVariants as causes
 use Rattle.scenario.specs.declared.fault.ScenarioError.{ScenarioError}
 use Rattle.scenario.specs.declared.fault.ScenarioError.TheVariants as errors
-use Rattle.scenario.specs.Flaws.{Flaw, ◌>>=◌, Fails}
+use Rattle.scenario.specs.Flaws.{Flaw, Fails}
 use Rattle.scenario.specs.Checks.{Head, head, tables}
 use Rattle.scenario.specs.Tables.{Source, Assembly, Hex, Table, Seats, table}
 

@@ -60,12 +60,30 @@ fn head(alloc: Global, table: &Table) -> Result<Head, ScenarioError>
     let most = most_traitors(generals);
     let bound = number(Place::Key(Name::Bound), 0, most, at(table, Name::Bound))?;
     let place = Place::Key(Name::Commander);
-    let commander = general(place, Fault::Range(place), generals, at(table, Name::Commander))?;
+    let commander = general(
+        place,
+        Fault::Range(place),
+        generals,
+        at(table, Name::Commander),
+    )?;
     let order = number(Place::Key(Name::Order), 0, u32::MAX, at(table, Name::Order))?;
     let board = board(at(table, Name::Board))?;
-    let patience = optional_number(Place::Key(Name::Patience), 1, 4096, at(table, Name::Patience))?;
+    let patience = optional_number(
+        Place::Key(Name::Patience),
+        1,
+        4096,
+        at(table, Name::Patience),
+    )?;
     let rule = rule(at(table, Name::Rule))?;
-    Ok(Head { generals, bound, commander, order, board, patience, rule })
+    Ok(Head {
+        generals,
+        bound,
+        commander,
+        order,
+        board,
+        patience,
+        rule,
+    })
 }
 
 /// The traitors' tables, none where the key is absent.
@@ -84,7 +102,7 @@ fn unseated(alloc: Global, generals: u32) -> Result<Vec<Seat>, AllocError>
     ensures { IfOk result (λ seats. seats.items ≡ replicate generals None) }
 {
     let mut seats = Vec::with_capacity(alloc, generals as usize)?;
-    for _ in 0..generals {
+    for _general in 0..generals {
         seats.push(Seat { program: None })?;
     }
     Ok(seats)
@@ -94,13 +112,32 @@ fn unseated(alloc: Global, generals: u32) -> Result<Vec<Seat>, AllocError>
 fn seated(alloc: Global, head: Head, values: &[Value]) -> Result<Campaign, ScenarioError>
     ensures { Answers (scenario_of head) head.generals 0 (unseated head) (items_view values.now) result }
 {
-    let Head { generals, bound, commander, order, board, patience, rule } = head;
+    let Head {
+        generals,
+        bound,
+        commander,
+        order,
+        board,
+        patience,
+        rule,
+    } = head;
     let mut seats = unseated(alloc, generals)?;
     for index in 0..values.len() {
         let (general, program) = traitor(alloc, generals, seats.as_slice(), index, &values[index])?;
-        seats[general as usize] = Seat { program: Some(program) };
+        seats[general as usize] = Seat {
+            program: Some(program),
+        };
     }
-    Ok(Campaign { generals, bound, commander, order, board, seats, patience, rule })
+    Ok(Campaign {
+        generals,
+        bound,
+        commander,
+        order,
+        board,
+        seats,
+        patience,
+        rule,
+    })
 }
 
 /// The scenario of a table.

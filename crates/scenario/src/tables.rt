@@ -63,7 +63,12 @@ fn in_table<'a>(
 {
     entry_is_known(alloc, index, table)?;
     let place = Place::Entry(index, Name::General);
-    let general = general(place, Fault::General(place), generals, at(table, Name::General))?;
+    let general = general(
+        place,
+        Fault::General(place),
+        generals,
+        at(table, Name::General),
+    )?;
     if is_seated(seats, general) {
         return Err(ScenarioError::Fault(Fault::Twice(place)));
     }
