@@ -1,6 +1,6 @@
 -- The texts that an audit finds sound are those of complete runs.
-use Rattle.std.proofs.Common.{◌≡◌, ℕ, suc, ◌<◌, ◌≤◌, List, [], ◌∷◌, ◌++◌, length, take, drop, subst, sym, ap, ◌∙◌, arith}
-use Rattle.std.specs.Prelude.{All, ◌↔◌, sum_by}
+use Rattle.std.proofs.Common.{◌≡◌, ℕ, suc, List, [], ◌∷◌, ◌++◌, length, take, drop, subst, sym, ap, ◌∙◌, arith}
+use Rattle.std.specs.Prelude.{sum_by}
 use Rattle.std.proofs.lemmas.List.{take-append-drop}
 use Rattle.board.specs.Board.{Access}
 use Rattle.world.specs.declared.event.Event.{Event}
@@ -10,7 +10,6 @@ use Rattle.world.specs.World.{opening, run}
 use Rattle.world.specs.Accounted.{AreAccounted}
 use Rattle.world.specs.Lists.{IsComplete, names_in, replayed}
 use Rattle.world.specs.Chronicle.{chronicle_of}
-use Rattle.world.specs.Laws.{replay_of}
 use Rattle.world.proofs.Lasting.{replayed_complete}
 use Rattle.world.proofs.Replaying.{proved_runs_are_replays, proved_accounts_are_runs}
 use Rattle.trace.specs.Text.{Version, text_in}
@@ -51,8 +50,7 @@ run_sound s t is h =
     }
 
 pub proved_sound_texts_are_runs : SoundTextsAreRuns
-proved_sound_texts_are_runs s t is =
-    (
-      (λ h. record { version = h.version; admitted = h.admitted; events = replayed s (names_of t); complete = replayed_complete s is (names_of t); same = h.same }),
-      run_sound s t is,
-    )
+proved_sound_texts_are_runs s t is = (
+  (λ h. record { version = h.version; admitted = h.admitted; events = replayed s (names_of t); complete = replayed_complete s is (names_of t); same = h.same }),
+  run_sound s t is,
+)

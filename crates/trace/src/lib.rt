@@ -3,6 +3,7 @@
 
 mod fault;
 mod laws;
+mod lines;
 mod scheduling;
 mod sink;
 mod writing;
