@@ -1,5 +1,5 @@
 //! The lines of a chronicle, written to a sink.
-ghost use Rattle.std.specs.Prelude.{◌≡◌, ◌++◌, ◌∷◌, [], ℕ, decimal, codes, map, Option};
+ghost use Rattle.std.specs.Prelude.{◌≡◌, ◌==◌, ◌++◌, ◌∷◌, [], ℕ, decimal, codes, map, filter, Option};
 ghost use Rattle.semantics.specs.Replies.{words_in};
 ghost use Rattle.trace.specs.Sinks.{Wrote};
 ghost use Rattle.trace.specs.Text.{further, text, access_line, place, yes_no, yes_no_none, verdict_line, decision_line};
@@ -71,6 +71,24 @@ pub fn put_access<S: Sink>(sink: &mut S, access: &Access)
     put_all(sink, b"\n");
 }
 
+/// The line of an access, where it is one of this round.
+fn put_access_in<S: Sink>(sink: &mut S, round: u32, access: &Access)
+    ensures { Wrote (S.contents sink.old) (S.has_failed sink.old) (text (map access_line (filter (λ a. a.round == round) (access.now ∷ [])))) (S.contents sink.new) (S.has_failed sink.new) }
+{
+    if access.round == round {
+        put_access(sink, access);
+    }
+}
+
+/// The lines of the accesses of a round, in their order.
+pub fn put_accesses<S: Sink>(sink: &mut S, round: u32, accesses: &[Access])
+    ensures { Wrote (S.contents sink.old) (S.has_failed sink.old) (text (map access_line (filter (λ a. a.round == round) accesses.now))) (S.contents sink.new) (S.has_failed sink.new) }
+{
+    for access in accesses {
+        put_access_in(sink, round, access);
+    }
+}
+
 /// The line of a round.
 pub fn put_round<S: Sink>(sink: &mut S, round: u32)
     ensures { Wrote (S.contents sink.old) (S.has_failed sink.old) (text (round_line round ∷ [])) (S.contents sink.new) (S.has_failed sink.new) }
@@ -80,7 +98,7 @@ pub fn put_round<S: Sink>(sink: &mut S, round: u32)
 }
 
 /// An order, or a dash for nothing, behind a space.
-fn put_order<S: Sink>(sink: &mut S, order: Option<u32>)
+pub fn put_order<S: Sink>(sink: &mut S, order: Option<u32>)
     ensures { Wrote (S.contents sink.old) (S.has_failed sink.old) (32 ∷ place order) (S.contents sink.new) (S.has_failed sink.new) }
 {
     match order {
