@@ -12,7 +12,8 @@ use Rattle.world.specs.Lists.{IsComplete, names_in, replayed}
 use Rattle.world.specs.Chronicle.{chronicle_of}
 use Rattle.world.proofs.Lasting.{replayed_complete}
 use Rattle.world.proofs.Replaying.{proved_runs_are_replays, proved_runs_are_accounted}
-use Rattle.trace.specs.Text.{Version, text_in}
+use Rattle.trace.specs.Text.{text_in}
+use Rattle.trace.specs.declared.version.Version.{Version}
 use Rattle.trace.specs.Names.{names_of}
 use Rattle.trace.specs.Laws.{IsSoundText, IsRunText, SoundTextsAreRuns}
 use Rattle.trace.proofs.Naming.{AreKnown, known_all, names_told}
