@@ -8,3 +8,8 @@ pub mod Runnings
 pub mod Going
 pub mod Programs
 pub mod Turning
+pub mod Spelling
+pub mod Fresh
+pub mod Senders
+pub mod Delivering
+pub mod Values

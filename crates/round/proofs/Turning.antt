@@ -214,11 +214,11 @@ pub went_under : (p : Option ℕ) (program code : List Insn) (context bytes : Li
 went_under p program code context bytes limit most old new was over a same_code same_bytes is view going few within went pauses =
     let closed : was ≡ false = or_first was (is_reached p old.state.steps) (subst (λ (x : Activation). has_ended x ≡ false) (sym view) going) in
     let went' : Silently (activation_of None program context old false) (activation_of None program context new over) =
-        subst (λ (c : List Insn). Silently (activation_of None c context old false) (activation_of None c context new over)) same_code
-        (subst (λ (l : List ℕ). Silently (activation_of None code l old false) (activation_of None code l new over)) same_bytes went) in
+    subst (λ (c : List Insn). Silently (activation_of None c context old false) (activation_of None c context new over)) same_code
+    (subst (λ (l : List ℕ). Silently (activation_of None code l old false) (activation_of None code l new over)) same_bytes went) in
     let pauses' : Pauses (lesser p limit) (activation_of None program context new over) (turn (activation_of None program context new over)) =
-        subst (λ (c : List Insn). Pauses (lesser p limit) (activation_of None c context new over) (turn (activation_of None c context new over))) same_code
-        (subst (λ (l : List ℕ). Pauses (lesser p limit) (activation_of None code l new over) (turn (activation_of None code l new over))) same_bytes
-        (subst (λ (n : ℕ). Pauses n (activation_of None code bytes new over) (turn (activation_of None code bytes new over))) is pauses)) in
+    subst (λ (c : List Insn). Pauses (lesser p limit) (activation_of None c context new over) (turn (activation_of None c context new over))) same_code
+    (subst (λ (l : List ℕ). Pauses (lesser p limit) (activation_of None code l new over) (turn (activation_of None code l new over))) same_bytes
+    (subst (λ (n : ℕ). Pauses n (activation_of None code bytes new over) (turn (activation_of None code bytes new over))) is pauses)) in
     let both = ahead_under p program context limit old new over (lesser_within p limit most old.state.steps new.state.steps is few within) went' pauses' in
     (subst (λ (x : Activation). Silently x (activation_of p program context new over)) (ap (λ (b : Bool). activation_of p program context old b) (sym closed) ∙ view) both.0, both.1)

@@ -5,3 +5,5 @@ pub mod Activation
 pub mod Runs
 pub mod Laws
 pub mod Running
+pub mod Told
+pub mod Delivery

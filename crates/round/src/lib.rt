@@ -3,6 +3,8 @@
 
 mod accesses;
 mod code;
+mod context;
+mod delivery;
 mod laws;
 mod letter;
 mod round;
@@ -10,12 +12,15 @@ mod running;
 mod scenario;
 mod seat;
 mod seats;
+mod told;
 mod turns;
 mod words;
 
+pub use delivery::deliver;
 pub use laws::contexts_tell;
 pub use letter::Letter;
 pub use round::Round;
 pub use running::Running;
 pub use scenario::Scenario;
 pub use seat::Seat;
+pub use told::Told;

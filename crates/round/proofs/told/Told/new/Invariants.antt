@@ -1,0 +1,4 @@
+use Rattle.round.proofs.told.Told.new.Given as goal
+
+abbrev pub invariant-loop-place : goal.invariant-loop-place
+invariant-loop-place l = ?
