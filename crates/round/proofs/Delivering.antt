@@ -27,11 +27,11 @@ levels-same n c p M N k (suc l) h =
     (λ i. same_map (λ w. M w p) (λ w. N w p) (labels n c p k) (λ j w at. h k j w (omega arith) at) i ∷ levels-same n c p M N (suc k) l (λ j m w le at. h j m w (omega arith) at) i)
 
 -- the labels of that round
-heard_here : (M : Messages) (row : List Letter) (w : List ℕ) (p : ℕ) → length w ≡ round_of row → heard_also M row w p ≡ told_now row w p
+pub heard_here : (M : Messages) (row : List Letter) (w : List ℕ) (p : ℕ) → length w ≡ round_of row → heard_also M row w p ≡ told_now row w p
 unfolding heard_also
 heard_here M row w p e = rw (eq-eqb (length w) (round_of row) e) refl
 
-heard_other : (M : Messages) (row : List Letter) (w : List ℕ) (p : ℕ) → (length w ≡ round_of row → ⊥) → heard_also M row w p ≡ M w p
+pub heard_other : (M : Messages) (row : List Letter) (w : List ℕ) (p : ℕ) → (length w ≡ round_of row → ⊥) → heard_also M row w p ≡ M w p
 unfolding heard_also
 heard_other M row w p ne = rw (ne_eqb (length w) (round_of row) ne) refl
 

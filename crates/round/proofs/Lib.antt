@@ -12,4 +12,6 @@ pub mod Spelling
 pub mod Fresh
 pub mod Senders
 pub mod Delivering
+pub mod Filling
 pub mod Values
+pub mod Loyal

@@ -1,6 +1,6 @@
 -- The values that a lieutenant took are a level of his tree.
-use Rattle.std.proofs.Common.{◌≡◌, ◌≢◌, ℕ, zero, suc, ◌+◌, ◌-◌, ◌<◌, ◌≤◌, List, [], ◌∷◌, length, map, Bool, true, false, cond, refl, sym, ap, ◌∙◌, Some, Option, arith, ⊎_elim, ◌⊎◌}
-use Rattle.std.specs.Prelude.{slice_get, ◌==◌}
+use Rattle.std.proofs.Common.{◌≡◌, ◌≢◌, ℕ, zero, suc, ◌+◌, ◌-◌, ◌<◌, ◌≤◌, List, [], ◌∷◌, length, map, Bool, true, false, cond, refl, sym, ap, ◌∙◌, Some, Option, arith, ⊎_elim, ◌⊎◌, inl, inr, get_or, Result, Ok, Err}
+use Rattle.std.specs.Prelude.{slice_get, IfOk, Vec, ◌==◌}
 use Rattle.std.proofs.lemmas.Bool.Decides.{eqb_tells}
 use Rattle.label.specs.declared.shape.Shape.{Shape}
 use Rattle.label.specs.Labels.{labels}
@@ -11,9 +11,11 @@ use Rattle.tree.specs.Kept.{Kept, IsFilled, level_told}
 use Rattle.round.specs.Scenario.{Scenario, IsScenario, shape_of}
 use Rattle.round.specs.Letters.{Letter, messages}
 use Rattle.round.specs.Contexts.{value_of, context_bytes, context_numbers, context_of}
-use Rattle.round.specs.Told.{IsTreeOf}
+use Rattle.std.specs.declared.alloc.Global.{Global}
+use Rattle.round.specs.Told.{IsTreeOf, Heard, WasTold, lieutenant_at}
 use Rattle.round.proofs.Telling.{few_labels}
 use Rattle.round.proofs.Delivering.{same_map}
+use Rattle.round.proofs.Filling.{own_tree}
 
 map_twice : {B C : Type 0} (F : B → C) (G : List ℕ → B) (ws : List (List ℕ)) → map (λ w. F (G w)) ws ≡ map F (map G ws)
 map_twice F G [] = refl
@@ -81,3 +83,35 @@ first_is s before g k bound shape ek es eb first other =
     let values : [] ≡ map (value_of s before g) (relay (shape_of s g (suc (length before)))) =
     sym (ap (map (value_of s before g)) (ap (λ (j : ℕ). relay (shape_of s g j)) (sym size) ∙ none)) in
     (λ i. context_bytes (context_numbers (there i) (eb i) (values i)))
+
+nothing_before : (before : List (List Letter)) → length before ≡ 0 → before ≡ []
+nothing_before [] e = refl
+nothing_before (x ∷ before) e = cc
+
+-- in the first round
+pub first_told : {E : Type 0} (r : Result (Vec ℕ Global) E) (s : Scenario) (h : Heard) (g : ℕ) → h.rounds ≡ 0 → IfOk r (λ v. v.items ≡ context_of s [] g) →
+    IfOk r (λ v. (before : List (List Letter)) → WasTold s before h → v.items ≡ context_of s before g)
+first_told (Ok v) s h g none is = λ before told. is ∙ ap (λ (b : List (List Letter)). context_of s b g) (sym (nothing_before before (sym told.rounds ∙ none)))
+first_told (Err e) s h g none is = tt
+
+-- the commander later on
+pub commander_told : {E : Type 0} (r : Result (Vec ℕ Global) E) (s : Scenario) (h : Heard) (g bound k : ℕ) (shape : Shape) → k ≡ h.rounds → (k ≡ 0 → ⊥) → g ≡ s.commander → shape ≡ shape_of s g (k + 1) → bound ≡ s.bound →
+    IfOk r (λ v. v.items ≡ context_bytes (context_numbers shape bound [])) → IfOk r (λ v. (before : List (List Letter)) → WasTold s before h → v.items ≡ context_of s before g)
+commander_told (Ok v) s h g bound k shape ek some eg es eb is =
+    λ before told. is ∙ first_is s before g k bound shape (ek ∙ told.rounds) es eb (λ ne. absurd (ne eg)) (inl (ap (λ (x : Shape). x.general) es ∙ (eg ∙ sym (ap (λ (x : Shape). x.commander) es)), λ e. some (omega arith)))
+commander_told (Err e) s h g bound k shape ek some eg es eb is = tt
+
+-- a lieutenant later on
+pub later_told : {E : Type 0} (r : Result (Vec ℕ Global) E) (s : Scenario) (h : Heard) (g bound k i : ℕ) (t : Kept) (shape : Shape) (level : List (Option ℕ)) → IsScenario s → k ≡ h.rounds → (k ≡ 0 → ⊥) → lieutenant_at s.commander i ≡ g → i < length h.trees → t ≡ get_or h.trees i t →
+    shape ≡ shape_of s g (k + 1) → bound ≡ s.bound → ((M : Messages) → IsFilled t M → level ≡ level_told t.generals t.commander t.general M k) →
+    IfOk r (λ v. v.items ≡ context_bytes (context_numbers shape bound (map order_of level))) → IfOk r (λ v. (before : List (List Letter)) → WasTold s before h → v.items ≡ context_of s before g)
+later_told (Ok v) s h g bound k i t shape level is ek some there lt at es eb told_level bytes =
+    λ before told. bytes ∙ later_is s before g k bound t shape level is (own_tree s before h i g t told lt at there) (ek ∙ told.rounds) (omega arith) es eb told_level
+later_told (Err e) s h g bound k i t shape level is ek some there lt at es eb told_level bytes = tt
+
+-- a lieutenant in the first round
+pub opening_told : {E : Type 0} (r : Result (Vec ℕ Global) E) (s : Scenario) (g bound : ℕ) (shape : Shape) → g ≢ s.commander → shape ≡ shape_of s g 1 → bound ≡ s.bound →
+    IfOk r (λ v. v.items ≡ context_bytes (context_numbers shape bound [])) → IfOk r (λ v. v.items ≡ context_of s [] g)
+opening_told (Ok v) s g bound shape ne es eb is =
+    is ∙ first_is s [] g 0 bound shape refl es eb (λ h. refl) (inr (λ e. ne (sym (ap (λ (x : Shape). x.general) es) ∙ (e ∙ ap (λ (x : Shape). x.commander) es))))
+opening_told (Err e) s g bound shape ne es eb is = tt

@@ -91,18 +91,31 @@ impl Told {
         requires general { general < scenario.now.generals }
         ensures { IfOk result (λ bytes. (before : List (List Written)) → WasTold scenario.now before self.now → bytes.items ≡ context_of scenario.now before general) }
     {
+        if self.rounds == 0 {
+            return first_context(alloc, scenario, general);
+        }
         let bound = scenario.bound();
         let commander = scenario.commander();
         let shape = scenario.shape(general, self.rounds + 1);
-        if general == commander && self.rounds == 0 {
-            return context_with(alloc, shape, bound, &[Some(scenario.order())]);
-        }
-        if general == commander || self.rounds == 0 {
+        if general == commander {
             return context_with(alloc, shape, bound, &[]);
         }
         let tree = &self.trees[usize::from(place_of(commander, general))];
         context_with(alloc, shape, bound, tree.level(self.rounds))
     }
+}
+
+/// What a general is told as the first round begins: the commander his order, the others nothing.
+fn first_context(alloc: Global, scenario: &Scenario, general: u8) -> Result<Vec<u8>, AllocError>
+    requires { general < scenario.now.generals }
+    ensures { IfOk result (λ bytes. bytes.items ≡ context_of scenario.now [] general) }
+{
+    let bound = scenario.bound();
+    let shape = scenario.shape(general, 1);
+    if general == scenario.commander() {
+        return context_with(alloc, shape, bound, &[Some(scenario.order())]);
+    }
+    context_with(alloc, shape, bound, &[])
 }
 
 /// The lieutenant at a place, from 0, among those under the commander.
