@@ -14,9 +14,10 @@ use word::{Operation, Width};
 /// The range of what an operation makes of a number of `a` and one of `b`: where each is one number,
 /// their result alone.
 pub fn operate(width: Width, operation: Operation, a: Range, b: Range) -> Range
-    ensures exact { (result.lo, result.hi) ≡ table width operation a.lo a.hi b.lo b.hi }
-    ensures holds { (x y : ℕ) → IsIn a.lo a.hi x → IsIn b.lo b.hi y
-        → IsIn result.lo result.hi (arithmetic width operation x y) }
+    ensures exact { result ≡ table width operation a.0 a.1 b.0 b.1 }
+    ensures holds { (x y : ℕ) → IsIn a.0 a.1 x → IsIn b.0 b.1 y
+        → IsIn result.0 result.1 (arithmetic width operation x y) }
+    ensures below { result.1 < 2 ^ bits_of width }
 {
     let a = used(width, a);
     let b = used(width, b);
@@ -28,7 +29,8 @@ pub fn operate(width: Width, operation: Operation, a: Range, b: Range) -> Range
 
 /// The result of an operation on two words.
 fn computed(width: Width, operation: Operation, a: u64, b: u64) -> u64
-    ensures { result ≡ arithmetic width operation a b }
+    ensures exact { result ≡ arithmetic width operation a b }
+    ensures below { result < 2 ^ bits_of width }
 {
     match width {
         Width::W64 => alu64(operation, a, b),
@@ -38,11 +40,12 @@ fn computed(width: Width, operation: Operation, a: u64, b: u64) -> u64
 
 /// The operation's row of the table.
 fn by_row(width: Width, operation: Operation, a: Range, b: Range) -> Range
-    requires left { a.hi < 2 ^ bits_of width }
-    requires right { b.hi < 2 ^ bits_of width }
-    ensures exact { (result.lo, result.hi) ≡ row width operation a.lo a.hi b.lo b.hi }
-    ensures holds { (x y : ℕ) → IsIn a.lo a.hi x → IsIn b.lo b.hi y
-        → IsIn result.lo result.hi (operated width operation x y) }
+    requires left { a.1 < 2 ^ bits_of width }
+    requires right { b.1 < 2 ^ bits_of width }
+    ensures exact { result ≡ row width operation a.0 a.1 b.0 b.1 }
+    ensures holds { (x y : ℕ) → IsIn a.0 a.1 x → IsIn b.0 b.1 y
+        → IsIn result.0 result.1 (operated width operation x y) }
+    ensures below { result.1 < 2 ^ bits_of width }
 {
     match operation {
         Operation::Add => sums::add(width, a, b),

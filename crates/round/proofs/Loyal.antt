@@ -10,6 +10,7 @@ use Rattle.outbox.specs.Contents.{Contents}
 use Rattle.round.specs.Scenario.{Scenario, IsScenario, shape_of}
 use Rattle.round.specs.Letters.{Letter, telling}
 use Rattle.round.specs.Contexts.{AreWords, value_of, context_numbers, context_of, shape_told, outbox_told, letter_told, loyal_letter}
+use Rattle.round.specs.Laws.{LoyalLettersFollow}
 use Rattle.round.proofs.Telling.{number_at, proved_contexts_tell}
 
 -- the numbers of his campaign
@@ -50,3 +51,9 @@ pub letter_is : (s : Scenario) (before : List (List Letter)) (g : ℕ) → IsSce
 letter_is s before g is within le small =
     ap (λ (shape : Shape). record (loyal_letter s before g) { outbox = outbox_told shape (context_of s before g) }) (shape_is_told s before g (suc (length before)) is)
     ∙ ap (λ (o : Contents). record (loyal_letter s before g) { outbox = o }) (told_is s before g is within le small)
+
+pub proved_loyal_letters_follow : LoyalLettersFollow
+proved_loyal_letters_follow = record {
+  letter = letter_is;
+  kept = λ g round context is. record { context = is; shape = refl; run = (refl, refl, refl, refl) };
+}

@@ -1,13 +1,12 @@
 -- Items of an array, one after the other, beside a loop over the values.
-use Rattle.std.proofs.Common.{◌≡◌, ℕ, zero, suc, ◌+◌, ◌<◌, ◌≤◌, List, [], ◌∷◌, ◌++◌, length, drop, get_or, Result, Ok, Err, Some, refl, ap, sym, ◌∙◌, arith}
-use Rattle.std.proofs.lemmas.List.{drop_more}
+use Rattle.std.proofs.Common.{◌≡◌, ℕ, zero, suc, ◌+◌, ◌<◌, ◌≤◌, List, [], ◌∷◌, length, drop, get_or, Result, Ok, Err, Some, refl, ap, sym, ◌∙◌, arith}
 use Rattle.toml.proofs.Views.{items_view-drop}
-use Rattle.toml.specs.Data.{Data, Items, no_items, item, get_item}
+use Rattle.toml.specs.Data.{Data, no_items, get_item}
 use Rattle.toml.specs.View.{view, items_view}
 use Rattle.toml.specs.declared.value.Value.{Value}
 use Rattle.scenario.specs.declared.fault.ScenarioError.{ScenarioError}
 use Rattle.scenario.specs.declared.fault.ScenarioError.TheVariants as errors
-use Rattle.scenario.specs.Flaws.{Flaw, unknown, ◌>>=◌, Fails}
+use Rattle.scenario.specs.Flaws.{Flaw, ◌>>=◌, Fails}
 use Rattle.scenario.specs.Checks.{items_length, over}
 
 pub items_length_view : (vs : List Value) → items_length (items_view vs) ≡ length vs
@@ -40,7 +39,7 @@ pub over_fails : {A : Type 0} (step : ℕ → A → Data → Result A Flaw) (i :
 over_fails step i x vs v total err l e s so_far =
     fails_same err (step i x (view v) >>= λ y. over step (i + 1) y (items_view (drop (i + 1) vs))) total (sym (over_item step i x vs v l e) ∙ so_far) (fails_on err (step i x (view v)) (λ y. over step (i + 1) y (items_view (drop (i + 1) vs))) s)
 
-drop_all : (i : ℕ) (vs : List Value) → length vs ≤ i → items_view (drop i vs) ≡ no_items
+pub drop_all : (i : ℕ) (vs : List Value) → length vs ≤ i → items_view (drop i vs) ≡ no_items
 drop_all zero [] l = refl
 drop_all zero (v ∷ vs) l = absurd (omega arith)
 drop_all (suc i) [] l = refl

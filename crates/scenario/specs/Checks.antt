@@ -1,5 +1,5 @@
 -- The checks of a scenario's keys, in order: the value, or the first fault (own; TOML 1.0 for the text).
-use Rattle.std.specs.Prelude.{◌≡◌, ℕ, zero, suc, ℤ, pos, negsuc, Bool, ◌+◌, ◌-◌, min, nat_lt, nat_le, ◌&&◌, cond, if◌then◌else◌, List, [], ◌∷◌, length, slice_set, replicate, Option, Some, None, Result, Ok, Err, codes, bytes_eq}
+use Rattle.std.specs.Prelude.{ℕ, suc, ℤ, pos, negsuc, Bool, ◌+◌, ◌-◌, min, nat_lt, nat_le, ◌&&◌, cond, if◌then◌else◌, List, slice_set, replicate, Option, Some, None, Result, Ok, Err, codes, bytes_eq}
 use Rattle.std.specs.Option.{ok_or}
 use Rattle.toml.specs.Data.{Data, Items, Members, no_items, item, no_members, member, get_member, as_integer, as_str, as_array}
 use Rattle.combine.specs.declared.chosen.Rule.{Rule}

@@ -1,3 +1,6 @@
 pub mod Names
 pub mod Flaws
 pub mod Checks
+pub mod Tables
+pub mod Told
+pub mod Seen

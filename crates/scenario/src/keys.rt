@@ -1,6 +1,6 @@
 //! The values of single keys, each the value or the first fault of its checks.
 
-ghost use Rattle.std.specs.Prelude.{◌≡◌, ℕ, ◌≤◌, ◌<◌, ◌^◌, option_map};
+ghost use Rattle.std.specs.Prelude.{◌≡◌, ℕ, ◌≤◌, ◌<◌, ◌^◌, option_map, IfOk};
 ghost use Rattle.toml.specs.Data.{get_member};
 ghost use Rattle.toml.specs.View.{view, table_view, array_view, items_view};
 ghost use Rattle.scenario.specs.Names.{is_top_key, is_entry_key, text_of};
@@ -55,7 +55,11 @@ fn first_unknown_in_entry(table: &Table) -> Option<&str>
     None
 }
 
-fn refuse_unknown(alloc: Global, at: Option<usize>, unknown: Option<&str>) -> Result<(), ScenarioError>
+fn refuse_unknown(
+    alloc: Global,
+    at: Option<usize>,
+    unknown: Option<&str>,
+) -> Result<(), ScenarioError>
     ensures { Gives (λ _. tt) result (known at (option_map (λ k. k.now) unknown.entry)) }
 {
     match unknown {
@@ -127,7 +131,12 @@ pub fn natural(fault: Fault, integer: i64) -> Result<u64, ScenarioError>
 
 /// A number between two others.
 #[tactic(auto, unfolding(crate::specs::Checks::number))]
-pub fn number(place: Place, least: u32, most: u32, value: Option<&Value>) -> Result<u32, ScenarioError>
+pub fn number(
+    place: Place,
+    least: u32,
+    most: u32,
+    value: Option<&Value>,
+) -> Result<u32, ScenarioError>
     ensures { Gives (λ n. n) result (number place least most (option_map (λ v. view v.now) value.entry)) }
 {
     let value = required(place, value)?;
@@ -141,7 +150,12 @@ pub fn number(place: Place, least: u32, most: u32, value: Option<&Value>) -> Res
 
 /// A number between two others, if there is one.
 #[tactic(auto, unfolding(crate::specs::Checks::optional_number))]
-pub fn optional_number(place: Place, least: u32, most: u32, value: Option<&Value>) -> Result<Option<u32>, ScenarioError>
+pub fn optional_number(
+    place: Place,
+    least: u32,
+    most: u32,
+    value: Option<&Value>,
+) -> Result<Option<u32>, ScenarioError>
     ensures { Gives (λ n. n) result (optional_number place least most (option_map (λ v. view v.now) value.entry)) }
 {
     match value {
@@ -152,8 +166,14 @@ pub fn optional_number(place: Place, least: u32, most: u32, value: Option<&Value
 
 /// One of the generals.
 #[tactic(auto, unfolding(crate::specs::Checks::general))]
-pub fn general(place: Place, low: Fault, generals: u32, value: Option<&Value>) -> Result<u32, ScenarioError>
-    ensures { Gives (λ n. n) result (general place (faulty low) generals (option_map (λ v. view v.now) value.entry)) }
+pub fn general(
+    place: Place,
+    low: Fault,
+    generals: u32,
+    value: Option<&Value>,
+) -> Result<u32, ScenarioError>
+    ensures value { Gives (λ n. n) result (general place (faulty low) generals (option_map (λ v. view v.now) value.entry)) }
+    ensures small { IfOk result (λ g. g < generals) }
 {
     let value = required(place, value)?;
     let integer = whole(place, value)?;

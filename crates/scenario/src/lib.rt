@@ -4,11 +4,13 @@
 mod fault;
 mod keys;
 mod place;
+mod programs;
+mod reader;
+mod tables;
 mod told;
 mod words;
 
 pub use fault::{Cause, Fault, ScenarioError};
-pub use keys::{at, top_is_known};
 pub use place::{Name, Place};
+pub use reader::read;
 pub use told::{Campaign, Seat};
-pub use words::board;

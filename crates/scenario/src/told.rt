@@ -18,12 +18,32 @@ impl Model for Seat {
     ghost view = { λ s. s.program };
 }
 
+/// A campaign's numbers and rule, without its traitors.
+#[derive(Debug, Drop)]
+pub struct Head {
+    pub generals: u32,
+    pub bound: u32,
+    pub commander: u32,
+    pub order: u32,
+    pub board: [u64; 64],
+    pub patience: Option<u32>,
+    pub rule: Rule,
+}
+
+impl Model for Head {
+    ghost use Rattle.scenario.specs.Checks.{Head as Numbers};
+
+    ghost Value = { Numbers };
+
+    ghost view = { λ h. record { generals = h.generals; bound = h.bound; commander = h.commander; order = h.order; board = h.board; patience = h.patience; rule = h.rule } };
+}
+
 /// A campaign's numbers, rule and seats.
 #[derive(Debug, Drop)]
 pub struct Campaign {
-    pub generals: u8,
-    pub bound: u8,
-    pub commander: u8,
+    pub generals: u32,
+    pub bound: u32,
+    pub commander: u32,
     pub order: u32,
     pub board: [u64; 64],
     /// By general.

@@ -1,8 +1,8 @@
 -- Traitors that are cut off by a patience, from the scenario to the chronicle's text. The right sides come from a model of its own.
-use Rattle.std.specs.Prelude.{◌≡◌, ◌++◌, ℕ, pos, map, true, false, List, [], ◌∷◌, replicate, codes, None, Some, refl}
+use Rattle.std.specs.Prelude.{◌≡◌, [], ◌∷◌, replicate, codes, None, Some, refl}
 use Rattle.std.specs.Fmt.{digits}
-use Rattle.combine.specs.Rule.{majority, median, is_middle}
-use Rattle.combine.specs.declared.chosen.Rule.TheVariants.{Majority, Median}
+use Rattle.combine.specs.Rule.{majority}
+use Rattle.combine.specs.declared.chosen.Rule.TheVariants.{Majority}
 use Rattle.label.specs.Labels.{labels}
 use Rattle.label.specs.Oral.{om}
 use Rattle.semantics.specs.Execution.{step}
@@ -10,7 +10,7 @@ use Rattle.round.specs.Scenario.{Scenario}
 use Rattle.round.specs.Contexts.{context_bytes}
 use Rattle.round.specs.Letters.{messages}
 use Rattle.world.specs.Chronicle.{decisions}
-use Rattle.trace.specs.Text.{lines_in, text_in, text_of}
+use Rattle.trace.specs.Text.{lines_in, text_in}
 use Rattle.trace.proofs.Printed.{printed, lines}
 use Rattle.trace.proofs.TraitorLieutenant.{turncoat}
 use Rattle.trace.proofs.SevenGenerals.{counter}

@@ -1,5 +1,6 @@
 pub mod EntryLemmas
 pub mod WrittenLemmas
+pub mod LineLemmas
 pub mod Splitting
 pub mod Plain
 pub mod Naming

@@ -16,7 +16,8 @@ use Rattle.round.specs.Letters.{Letter}
 use Rattle.world.specs.Lists.{names_in}
 use Rattle.world.specs.Chronicle.{Chronicle}
 use Rattle.label.specs.Lieutenants.{lieutenants}
-use Rattle.trace.specs.Text.{Line, access_line, row_lines, letter_line, letter_lines, round_lines, decision_line, decision_lines, verdict_line, Version, lines_in, text_in}
+use Rattle.trace.specs.Text.{Line, access_line, row_lines, letter_line, letter_lines, round_lines, decision_line, decision_lines, verdict_line, lines_in, text_in}
+use Rattle.trace.specs.declared.version.Version.{Version}
 use Rattle.trace.specs.Names.{general_of, Named, with_line, named, names_of}
 use Rattle.trace.proofs.Splitting.{text-split}
 use Rattle.trace.proofs.Plain.{chronicle_plain}

@@ -1,5 +1,5 @@
 -- The lines of a chronicle are lines of plain words.
-use Rattle.std.proofs.Common.{◌≡◌, ℕ, suc, List, [], ◌∷◌, ◌++◌, map, flat_map, Bool, true, false, cond, refl, Option, None, Some}
+use Rattle.std.proofs.Common.{◌≡◌, ℕ, suc, List, [], ◌∷◌, ◌++◌, map, flat_map, Bool, true, false, refl, Option, None, Some}
 use Rattle.std.specs.Prelude.{decimal, codes, nat_lt, filter, ◌==◌}
 use Rattle.std.specs.List.{list_all}
 use Rattle.std.proofs.lemmas.Bool.{and_parts, ltb-true}
@@ -13,7 +13,9 @@ use Rattle.round.specs.Scenario.{Scenario, is_traitor}
 use Rattle.round.specs.Letters.{Letter}
 use Rattle.world.specs.Chronicle.{Chronicle}
 use Rattle.label.specs.Lieutenants.{lieutenants}
-use Rattle.trace.specs.Text.{Word, Line, asked, access_line, place, row_lines, yes_no, yes_no_none, letter_line, letter_lines, round_lines, decision_line, decision_lines, Version, First, Second, version_word, rule_word, further_words, lines_in}
+use Rattle.trace.specs.Text.{Word, Line, asked, access_line, place, row_lines, yes_no, yes_no_none, letter_line, letter_lines, round_lines, decision_line, decision_lines, version_word, rule_word, further_words, lines_in}
+use Rattle.trace.specs.declared.version.Version.{Version}
+use Rattle.trace.specs.declared.version.Version.TheVariants.{First, Second}
 use Rattle.trace.proofs.Splitting.{IsPlain, ArePlain, IsLine, AreLines, decimal_plain}
 
 by_test : (w : Word) → list_all (λ c. nat_lt 32 c) w ≡ true → IsPlain w
@@ -103,9 +105,9 @@ rule_plain : (r : Rule) → IsPlain (rule_word r)
 rule_plain Majority = by_test (codes "majority") refl
 rule_plain Median = by_test (codes "median") refl
 
-head_plain : (v : Version) (s : Scenario) → ArePlain (further_words v s)
-head_plain First s = tt
-head_plain Second s = (by_test (codes "patience") refl, (place_plain s.patience, (by_test (codes "rule") refl, (rule_plain s.rule, tt))))
+head_plain : (v : Version) (patience : Option ℕ) (rule : Rule) → ArePlain (further_words v patience rule)
+head_plain First patience rule = tt
+head_plain Second patience rule = (by_test (codes "patience") refl, (place_plain patience, (by_test (codes "rule") refl, (rule_plain rule, tt))))
 
 pub chronicle_plain : (v : Version) (c : Chronicle) → AreLines (lines_in v c)
 unfolding lines_in
@@ -113,7 +115,7 @@ chronicle_plain v c =
     let s = c.scenario in (
       (by_test (codes "chronicle") refl, (version_plain v, tt)),
       (
-        (by_test (codes "generals") refl, (decimal_plain s.generals, (by_test (codes "bound") refl, (decimal_plain s.bound, (by_test (codes "commander") refl, (decimal_plain s.commander, (by_test (codes "order") refl, (decimal_plain s.order, head_plain v s)))))))),
+        (by_test (codes "generals") refl, (decimal_plain s.generals, (by_test (codes "bound") refl, (decimal_plain s.bound, (by_test (codes "commander") refl, (decimal_plain s.commander, (by_test (codes "order") refl, (decimal_plain s.order, head_plain v s.patience s.rule)))))))),
         lines-append (round_lines 1 c.accesses c.letters) _ (rounds_plain 1 c.accesses c.letters)
             (lines-append (decision_lines s (lieutenants s.generals s.commander) c.decisions) _ (decisions_plain s (lieutenants s.generals s.commander) c.decisions)
             ((by_test (codes "verdict") refl, (by_test (codes "alike") refl, (yes_no_plain c.verdict.alike, (by_test (codes "obeyed") refl, (yes_no_none_plain c.verdict.obeyed, (by_test (codes "bound") refl, (yes_no_plain c.verdict.bound, tt))))))), tt)),

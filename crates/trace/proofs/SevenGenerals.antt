@@ -18,7 +18,7 @@ use Rattle.world.specs.World.{opening, run}
 use Rattle.world.specs.declared.event.Event.TheVariants.{Close}
 use Rattle.world.specs.Lists.{listed_rounds}
 use Rattle.world.specs.Chronicle.{decisions}
-use Rattle.trace.specs.Text.{lines_in, text_in, text_of}
+use Rattle.trace.specs.Text.{lines_in, text_in}
 use Rattle.trace.proofs.Printed.{printed, lines}
 
 -- he adds 1 to a word of the board, and tells generals 1, 2 and 3 the lowest bit of what it was

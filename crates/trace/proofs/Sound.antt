@@ -1,6 +1,6 @@
 -- The texts that an audit finds sound are those of complete runs.
-use Rattle.std.proofs.Common.{◌≡◌, ℕ, suc, ◌<◌, ◌≤◌, List, [], ◌∷◌, ◌++◌, length, take, drop, subst, sym, ap, ◌∙◌, arith}
-use Rattle.std.specs.Prelude.{All, ◌↔◌, sum_by}
+use Rattle.std.proofs.Common.{◌≡◌, ℕ, suc, List, [], ◌∷◌, ◌++◌, length, take, drop, subst, sym, ap, ◌∙◌, arith}
+use Rattle.std.specs.Prelude.{sum_by}
 use Rattle.std.proofs.lemmas.List.{take-append-drop}
 use Rattle.board.specs.Board.{Access}
 use Rattle.world.specs.declared.event.Event.{Event}
@@ -10,10 +10,10 @@ use Rattle.world.specs.World.{opening, run}
 use Rattle.world.specs.Accounted.{AreAccounted}
 use Rattle.world.specs.Lists.{IsComplete, names_in, replayed}
 use Rattle.world.specs.Chronicle.{chronicle_of}
-use Rattle.world.specs.Laws.{replay_of}
 use Rattle.world.proofs.Lasting.{replayed_complete}
-use Rattle.world.proofs.Replaying.{proved_runs_are_replays, proved_accounts_are_runs}
-use Rattle.trace.specs.Text.{Version, text_in}
+use Rattle.world.proofs.Replaying.{proved_runs_are_replays, proved_runs_are_accounted}
+use Rattle.trace.specs.Text.{text_in}
+use Rattle.trace.specs.declared.version.Version.{Version}
 use Rattle.trace.specs.Names.{names_of}
 use Rattle.trace.specs.Laws.{IsSoundText, IsRunText, SoundTextsAreRuns}
 use Rattle.trace.proofs.Naming.{AreKnown, known_all, names_told}
@@ -37,7 +37,7 @@ names_replay : (v : Version) (s : Scenario) (events : List Event) → IsScenario
     → names_of (text_in v (chronicle_of (run (opening s) events))) ≡ names_in 1 (run (opening s) events).ledger (suc s.bound)
 names_replay v s events is complete =
     let w = run (opening s) events in
-    let accounts = (proved_accounts_are_runs.own s events is complete).1 in
+    let accounts = (proved_runs_are_accounted.rounds s events is complete).1 in
     names_told v (chronicle_of w) (known_accounted s is [] w.ledger w.closed accounts) ∙ ap (names_in 1 w.ledger) complete.closed
 
 run_sound : (s : Scenario) (t : List ℕ) → IsScenario s → IsRunText s t → IsSoundText s t
@@ -51,8 +51,7 @@ run_sound s t is h =
     }
 
 pub proved_sound_texts_are_runs : SoundTextsAreRuns
-proved_sound_texts_are_runs s t is =
-    (
-      (λ h. record { version = h.version; admitted = h.admitted; events = replayed s (names_of t); complete = replayed_complete s is (names_of t); same = h.same }),
-      run_sound s t is,
-    )
+proved_sound_texts_are_runs s t is = (
+  (λ h. record { version = h.version; admitted = h.admitted; events = replayed s (names_of t); complete = replayed_complete s is (names_of t); same = h.same }),
+  run_sound s t is,
+)

@@ -15,7 +15,7 @@ use Rattle.round.specs.Scenario.{Scenario}
 use Rattle.round.specs.Contexts.{context_bytes}
 use Rattle.round.specs.Letters.{messages}
 use Rattle.world.specs.Chronicle.{decisions}
-use Rattle.trace.specs.Text.{lines_in, text_in, text_of}
+use Rattle.trace.specs.Text.{lines_in, text_in}
 use Rattle.trace.proofs.Printed.{printed, lines}
 
 -- a commander who tells the orders 1, 0 and 1

@@ -1,11 +1,12 @@
 -- One text after another, and a piece in several calls.
-use Rattle.std.proofs.Common.{◌≡◌, ℕ, zero, suc, ◌+◌, ◌-◌, ◌<◌, ◌≤◌, arith, List, [], ◌∷◌, ◌++◌, length, take, drop, Bool, true, false, refl, sym, ap, subst, ◌∙◌, append_assoc, append-nil, Option, None, Some}
+use Rattle.std.proofs.Common.{◌≡◌, ℕ, zero, suc, ◌+◌, ◌-◌, ◌<◌, ◌≤◌, arith, List, [], ◌∷◌, ◌++◌, length, map, take, drop, get_or, Bool, true, false, refl, sym, ap, subst, ◌∙◌, append_assoc, append-nil, Option, None, Some}
 use Rattle.std.specs.Prelude.{decimal}
 use Rattle.std.proofs.Math.ListN.{set, length-set}
-use Rattle.std.proofs.lemmas.List.{take-append-drop, take_all, drop-set, drop_all}
+use Rattle.std.proofs.lemmas.List.{take-append-drop, take_all, drop-set, drop_all, take_more, map-append}
 use Rattle.std.specs.Io.KnownBytes.{Appends, Keeps}
 use Rattle.std.proofs.KnownBytes.{Appends-nil, Appends-trans}
 use Rattle.trace.specs.Sinks.{Wrote}
+use Rattle.trace.specs.Text.{Word, further}
 
 either : (b : Bool) (A : Type 0) → (b ≡ true → A) → (b ≡ false → A) → A
 either true A x y = x refl
@@ -138,3 +139,18 @@ next_digits n s old new e le long short w =
     ∙ drop-set new k 32 room
     ∙ ap (λ j. 32 ∷ drop j new) sk
     ∙ ap (λ t. 32 ∷ t) (w ∙ ap (λ t. decimal n ++ t) (drop_all 21 old (omega arith)) ∙ append-nil (decimal n))
+
+-- words behind words
+pub further-append : (vs ws : List Word) → further (vs ++ ws) ≡ further vs ++ further ws
+further-append [] ws = refl
+further-append (v ∷ vs) ws = ap (λ t. 32 ∷ v ++ t) (further-append vs ws) ∙ sym (append_assoc (32 ∷ v) (further vs) (further ws))
+
+pub further-one : (w : Word) → further (w ∷ []) ≡ 32 ∷ w
+further-one w = append-nil (32 ∷ w)
+
+-- one word more of a list
+pub one_further : {X : Type 0} {a b c : Option (List ℕ)} {f g h : Bool} (word : X → Word) (xs : List X) (i : ℕ) (d : X) → i < length xs
+    → Wrote a f (further (map word (take i xs))) b g → Wrote b g (32 ∷ word (get_or xs i d)) c h → Wrote a f (further (map word (take (i + 1) xs))) c h
+one_further {X} {a} {b} {c} {f} {g} {h} word xs i d lt so then =
+    let x : X = get_or xs i d in
+    wrote-same _ _ (sym (ap (λ t. further (map word t)) (take_more xs i d lt) ∙ ap further (map-append word (take i xs) (x ∷ [])) ∙ further-append (map word (take i xs)) (word x ∷ []) ∙ ap (λ t. further (map word (take i xs)) ++ t) (further-one (word x)))) (then_wrote so then)

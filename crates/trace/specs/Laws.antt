@@ -7,7 +7,9 @@ use Rattle.round.specs.Scenario.{Scenario, IsScenario}
 use Rattle.world.specs.World.{opening, run}
 use Rattle.world.specs.Lists.{IsComplete, names_in, replayed}
 use Rattle.world.specs.Chronicle.{Chronicle, chronicle_of}
-use Rattle.trace.specs.Text.{Version, First, Second, text_in}
+use Rattle.trace.specs.Text.{text_in}
+use Rattle.trace.specs.declared.version.Version.{Version}
+use Rattle.trace.specs.declared.version.Version.TheVariants.{First, Second}
 use Rattle.trace.specs.Names.{names_of}
 
 -- the names that the text tells are those of its accesses, round by round

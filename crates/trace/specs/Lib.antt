@@ -4,3 +4,4 @@ pub mod Laws
 pub mod Schedules
 pub mod Left
 pub mod Sinks
+pub mod Lines

@@ -1,5 +1,5 @@
 -- The text of a chronicle, line by line (own).
-use Rattle.std.specs.Prelude.{ℕ, suc, ◌==◌, Bool, true, false, cond, List, [], ◌∷◌, ◌++◌, map, flat_map, filter, decimal, codes, Option, None, Some}
+use Rattle.std.specs.Prelude.{ℕ, suc, ◌==◌, Bool, true, false, List, [], ◌∷◌, ◌++◌, map, flat_map, filter, decimal, codes, Option, None, Some}
 use Rattle.insn.specs.declared.insn.Insn.{Insn}
 use Rattle.combine.specs.declared.chosen.Rule.{Rule}
 use Rattle.combine.specs.declared.chosen.Rule.TheVariants.{Majority, Median}
@@ -11,6 +11,8 @@ use Rattle.round.specs.Letters.{Letter}
 use Rattle.world.specs.declared.verdict.Verdict.{Verdict}
 use Rattle.world.specs.Chronicle.{Chronicle}
 use Rattle.label.specs.Lieutenants.{lieutenants}
+use Rattle.trace.specs.declared.version.Version.{Version}
+use Rattle.trace.specs.declared.version.Version.TheVariants.{First, Second}
 
 abbrev pub Word : Type 0
 Word = List ℕ
@@ -87,11 +89,6 @@ yes_no_none (Some b) = yes_no b
 abbrev pub verdict_line : Verdict → Line
 verdict_line v = codes "verdict" ∷ codes "alike" ∷ yes_no v.alike ∷ codes "obeyed" ∷ yes_no_none v.obeyed ∷ codes "bound" ∷ yes_no v.bound ∷ []
 
--- the two versions of a chronicle: the second tells the patience and the rule
-pub data Version : Type 0 where
-  First : Version
-  Second : Version
-
 -- a campaign without a patience, by the majority, is told in the first version, any other in the second
 abbrev pub version_by : Option ℕ → Rule → Version
 version_by None Majority = First
@@ -109,16 +106,19 @@ abbrev pub version_word : Version → Word
 version_word First = codes "1"
 version_word Second = codes "2"
 
+abbrev pub version_line : Version → Line
+version_line v = codes "chronicle" ∷ version_word v ∷ []
+
+abbrev pub campaign_words : ℕ → ℕ → ℕ → ℕ → Line
+campaign_words n m c order = codes "generals" ∷ decimal n ∷ codes "bound" ∷ decimal m ∷ codes "commander" ∷ decimal c ∷ codes "order" ∷ decimal order ∷ []
+
 -- what a version tells behind the order
-abbrev pub further_words : Version → Scenario → List Word
-further_words First s = []
-further_words Second s = codes "patience" ∷ place s.patience ∷ codes "rule" ∷ rule_word s.rule ∷ []
+abbrev pub further_words : Version → Option ℕ → Rule → List Word
+further_words First patience rule = []
+further_words Second patience rule = codes "patience" ∷ place patience ∷ codes "rule" ∷ rule_word rule ∷ []
 
 abbrev pub head_lines : Version → Scenario → List Line
-head_lines v s =
-    (codes "chronicle" ∷ version_word v ∷ [])
-    ∷ (codes "generals" ∷ decimal s.generals ∷ codes "bound" ∷ decimal s.bound ∷ codes "commander" ∷ decimal s.commander ∷ codes "order" ∷ decimal s.order ∷ further_words v s)
-    ∷ []
+head_lines v s = version_line v ∷ (campaign_words s.generals s.bound s.commander s.order ++ further_words v s.patience s.rule) ∷ []
 
 unfoldable pub lines_in : Version → Chronicle → List Line
 lines_in v c =

@@ -2,12 +2,16 @@
 #![tactic(auto)]
 
 mod fault;
+mod heading;
 mod laws;
+mod lines;
 mod scheduling;
 mod sink;
+mod version;
 mod writing;
 
 pub use fault::TraceError;
 pub use laws::{names_are_told, sound_texts_are_runs};
 pub use scheduling::read_schedule;
+pub use version::{Version, version_by};
 pub use sink::{Latch, Sink};

@@ -1,4 +1,4 @@
-use Rattle.std.proofs.Common.{◌≡◌, sym, refl, ◌∙◌, false, arith}
+use Rattle.std.proofs.Common.{sym, ◌∙◌}
 use Rattle.trace.proofs.WrittenLemmas.{put_more, put_none, some_left}
 use Rattle.trace.proofs.writing.put_all.Goals as goal
 

@@ -1,6 +1,5 @@
-use Rattle.std.proofs.Common.{rules, arith, refl, ap, ◌∙◌, replicate}
-use Rattle.std.proofs.lemmas.Fmt.{length-decimal-le, decimal_nonempty}
-use Rattle.std.specs.Prelude.{decimal, ◌∷◌}
+use Rattle.std.proofs.Common.{rules, arith, refl, replicate}
+use Rattle.std.proofs.lemmas.Fmt.{length-decimal-le}
 use Rattle.trace.proofs.WrittenLemmas.{next_digits, wrote-same}
 use Rattle.trace.proofs.writing.put_next.Goals as goal
 
