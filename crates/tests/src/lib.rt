@@ -24,6 +24,8 @@ mod serving;
 #[cfg(test)]
 mod tables;
 #[cfg(test)]
+mod tasks;
+#[cfg(test)]
 mod verdicts;
 #[cfg(test)]
 mod words;

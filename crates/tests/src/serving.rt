@@ -156,6 +156,17 @@ fn refusals_name_their_place(rt: HostRuntime) -> Result<(), Fail> {
         ),
         ("b700000000000000", "refused V4 unit 0\n"),
         ("", "refused C8 unit 0\n"),
+        // a cut wide instruction: its first half is looked at first
+        ("181b000000000000", "refused C5 unit 0\n"),
+        ("18b1000000000000", "refused C6 unit 0\n"),
+        ("1801010000000000", "refused C3 unit 0\n"),
+        // an offset that chooses nothing, one that is unused, and a field behind a wide instruction
+        ("bf21010000000000", "refused C7 unit 0\n"),
+        ("b701080000000000", "refused C3 unit 0\n"),
+        (
+            "180100000000000000000000000000008701010000000000",
+            "refused C3 unit 2\n",
+        ),
         ("000000000000000000000000", "refused C1 unit 1\n"),
         ("b70000002a00000095000000", "refused C1 unit 1\n"),
         ("1801000000000000", "refused C4 unit 0\n"),
@@ -278,6 +289,7 @@ fn texts_and_bytes_say_each_other(rt: HostRuntime) -> Result<(), Fail> {
             "18010000887766550000000044332211\n",
         ),
         ("call board_get", "8500000001000000\n"),
+        ("call honest", "8500000009000000\n"),
     ] {
         row(&rt, alloc, &assemble, text.as_bytes(), (0, code, ""))?;
     }

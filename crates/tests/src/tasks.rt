@@ -1,5 +1,7 @@
-use crate::{Task, TaskError, task};
+//! The task that the words name.
+
 use clap::error::ErrorKind;
+use command_line::{Task, TaskError, task};
 use std::alloc::{AllocError, Global};
 use std::process::Abort;
 use std::test::Fail;
