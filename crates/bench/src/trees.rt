@@ -23,7 +23,9 @@ const SPACE: Space = Space {
 
 /// Measures ranks and trees. What was measured is printed on standard output, the figures on standard
 /// error. Each call is timed by itself, and the trees differ.
-pub fn report_trees<R: Print + Eprint + Clock + Threads + Sync + AllocGlobal>(rt: &R) -> Result<()> {
+pub fn report_trees<R: Print + Eprint + Clock + Threads + Sync + AllocGlobal>(
+    rt: &R,
+) -> Result<()> {
     let alloc = rt.alloc();
     let mut sum = 0;
     let labels = labels(alloc)?;
@@ -76,7 +78,9 @@ fn fill(tree: &mut Tree, state: &mut u64) {
     for size in 1..6 {
         for place in 0..7920 {
             if let Ok(label) = unrank(space, size, place) {
-                *state = state.wrapping_mul(6364136223846793005).wrapping_add(1442695040888963407);
+                *state = state
+                    .wrapping_mul(6364136223846793005)
+                    .wrapping_add(1442695040888963407);
                 tree.fill(&label, Some((*state >> 63) as u32));
             }
         }

@@ -15,6 +15,8 @@ mod serving;
 mod streams;
 #[cfg(test)]
 mod tests;
+#[cfg(test)]
+mod tree_tests;
 
 pub use answering::answer;
 pub use assembling::{assembled, disassembled};
