@@ -28,6 +28,8 @@ mod tables;
 #[cfg(test)]
 mod tasks;
 #[cfg(test)]
+mod trees;
+#[cfg(test)]
 mod verdicts;
 #[cfg(test)]
 mod words;
