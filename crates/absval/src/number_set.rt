@@ -63,7 +63,7 @@ impl NumberSet {
     }
 
     /// The range that they lie in.
-    pub fn range(self) -> Range
+    pub(crate) fn range(self) -> Range
         ensures exact { result ≡ self.range }
         ensures holds { (x : ℕ) → Has self x → IsIn result.0 result.1 x }
     {

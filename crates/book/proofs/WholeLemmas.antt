@@ -51,7 +51,7 @@ picked said x number true false e = (cc, refl, refl)
 picked said x number false again e = cc
 
 -- a message that passes says a place that no earlier one is about
-checked_parts : (t : MessageTable) (number : ℕ) (o : Option Message) (x : Message) → checked t number o ≡ Ok x
+pub checked_parts : (t : MessageTable) (number : ℕ) (o : Option Message) (x : Message) → checked t number o ≡ Ok x
     → (o ≡ Some x) × (is_place t x.label x.receiver ≡ true) × (list_any (is_about x.label x.receiver) t.messages ≡ false)
 checked_parts t number None x e = cc
 checked_parts t number (Some said) x e =
@@ -86,7 +86,7 @@ message_small line x e =
     let P : Message → Type 0 = λ v. v.order < 2 ^ 32 in
     subst P same (order_small a.0.2 d.0 d.1)
 
-place_message : (t : MessageTable) (x : Message) → is_place t x.label x.receiver ≡ true → x.order < 2 ^ 32 → IsMessage t.generals t.bound t.commander x
+pub place_message : (t : MessageTable) (x : Message) → is_place t x.label x.receiver ≡ true → x.order < 2 ^ 32 → IsMessage t.generals t.bound t.commander x
 place_message t x e l =
     let off = and_parts (is_distinct x.label && begins_with t.commander x.label && list_all (λ y. nat_lt y t.generals) x.label && nat_le (length x.label) (t.bound + 1) && nat_lt x.receiver t.generals) (not (on x.label x.receiver)) e in
     let general = and_parts (is_distinct x.label && begins_with t.commander x.label && list_all (λ y. nat_lt y t.generals) x.label && nat_le (length x.label) (t.bound + 1)) (nat_lt x.receiver t.generals) off.0 in
@@ -109,7 +109,7 @@ any-push : (t : Message → Bool) (xs : List Message) (y : Message) → list_any
 any-push t [] y a p = or_from (t y) false p refl
 any-push t (x ∷ xs) y a p = let both = or_parts (t x) (list_any t xs) a in or_from (t x) (list_any t (xs ++ y ∷ [])) both.0 (any-push t xs y both.1 p)
 
-bytes_sym : (xs ys : List ℕ) → bytes_eq xs ys ≡ bytes_eq ys xs
+pub bytes_sym : (xs ys : List ℕ) → bytes_eq xs ys ≡ bytes_eq ys xs
 bytes_sym [] [] = refl
 bytes_sym [] (y ∷ ys) = refl
 bytes_sym (x ∷ xs) [] = refl

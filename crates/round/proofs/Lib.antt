@@ -9,3 +9,12 @@ pub mod Going
 pub mod Loyal
 pub mod Settled
 pub mod Ends
+pub mod Programs
+pub mod Turning
+pub mod Spelling
+pub mod Fresh
+pub mod Senders
+pub mod Delivering
+pub mod Filling
+pub mod Values
+pub mod ToldRows

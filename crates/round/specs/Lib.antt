@@ -4,3 +4,6 @@ pub mod Contexts
 pub mod Activation
 pub mod Runs
 pub mod Laws
+pub mod Running
+pub mod Told
+pub mod Delivery

@@ -10,6 +10,8 @@ mod bytecode;
 #[cfg(test)]
 mod cells;
 #[cfg(test)]
+mod known_bits;
+#[cfg(test)]
 mod labels;
 #[cfg(test)]
 mod outboxes;
@@ -25,6 +27,8 @@ mod serving;
 mod tables;
 #[cfg(test)]
 mod tasks;
+#[cfg(test)]
+mod trees;
 #[cfg(test)]
 mod verdicts;
 #[cfg(test)]

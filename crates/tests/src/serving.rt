@@ -202,20 +202,32 @@ fn refusals_name_their_place(rt: HostRuntime) -> Result<(), Fail> {
             "refused V11 unit 1\n",
         ),
         (
-            "79122000000000005702000008000000a702000008000000bfa300000000000007030000f7ffffff0f230000000000007203000001000000b7000000000000009500000000000000",
-            "refused V8 unit 6\n",
-        ),
-        (
-            "79122000000000005702000008000000a702000008000000b7000000000000002502010008000000950000000000000079a0f8ff000000009500000000000000",
-            "refused V9 unit 6\n",
-        ),
-        (
             "b701000001000000b702000002000000850000000a0000009500000000000000",
             "refused V11 unit 2\n",
         ),
     ] {
         let bytes = hex::decode(alloc, code)?;
         row(&rt, alloc, &task, bytes.as_slice(), (1, "", line))?;
+    }
+    Ok(())
+}
+
+#[test]
+fn known_bits_are_taken_into_account(rt: HostRuntime) -> Result<(), Fail> {
+    let alloc = rt.alloc();
+    let task = Task::Check(String::from_str(alloc, "p.bin")?);
+    for (code, lines) in [
+        (
+            "79122000000000005702000008000000a702000008000000bfa300000000000007030000f7ffffff0f230000000000007203000001000000b7000000000000009500000000000000",
+            "accepted 9 instructions 9 units\nr0 0 steps 9\n",
+        ),
+        (
+            "79122000000000005702000008000000a702000008000000b7000000000000002502010008000000950000000000000079a0f8ff000000009500000000000000",
+            "accepted 8 instructions 8 units\nr0 0 steps 6\n",
+        ),
+    ] {
+        let bytes = hex::decode(alloc, code)?;
+        row(&rt, alloc, &task, bytes.as_slice(), (0, lines, ""))?;
     }
     Ok(())
 }

@@ -1,7 +1,7 @@
-use Rattle.std.proofs.Common.{◌≡◌, ◌<◌, ◌==◌, ◌∙◌, ◌+◌, [], ◌∷◌, ℕ, List, get_or, false, true, ap, arith, refl, sym, length}
+use Rattle.std.proofs.Common.{◌≡◌, ◌==◌, ◌∙◌, [], ◌∷◌, ℕ, List, get_or, false, true, ap, arith, refl, sym, length}
 use Rattle.std.proofs.lemmas.Bool.{or_from, or_left, ne_eqb, eq-eqb}
 use Rattle.std.specs.List.{flat_map}
-use Rattle.label.specs.Labels.{on, others}
+use Rattle.label.specs.Labels.{on}
 use Rattle.book.proofs.Steps.{others-more_no}
 use Rattle.book.specs.Decisions.{decision_of}
 use Rattle.lab.specs.Lines.{decision_line}

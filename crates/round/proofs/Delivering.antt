@@ -1,0 +1,136 @@
+-- The letters of one round fill one level.
+use Rattle.std.proofs.Common.{◌≡◌, ◌≢◌, ℕ, zero, suc, ◌+◌, ◌-◌, ◌<◌, ◌≤◌, List, [], ◌∷◌, length, map, get_or, Bool, true, false, refl, sym, ap, subst, ◌∙◌, Some, Option, arith, ⊎_elim}
+use Rattle.std.specs.Prelude.{slice_get, slice_index, ◌==◌}
+use Rattle.std.proofs.lemmas.Bool.{eq-eqb, ne_eqb}
+use Rattle.std.proofs.lemmas.Bool.Decides.{eqb_tells}
+use Rattle.std.proofs.lemmas.Option.{slice_get_within, slice_get_read}
+use Rattle.label.specs.Labels.{on, labels}
+use Rattle.label.specs.Oral.{Messages, IsLabel}
+use Rattle.label.specs.declared.shape.Shape.{Shape}
+use Rattle.label.specs.declared.space.Space.{Space}
+use Rattle.label.specs.Space.{labels_of}
+use Rattle.label.proofs.Listing.{proved_labels_are_exact, proved_labels_differ}
+use Rattle.tree.specs.Kept.{Kept, IsCampaign, IsFilled, SameCampaign, levels_from, told_also}
+use Rattle.tree.proofs.Also.{also-here, also-other}
+use Rattle.round.specs.Letters.{Letter}
+use Rattle.round.specs.Told.{AreDue, told_now, heard_also, round_of}
+use Rattle.round.specs.Delivery.{IsLastOf, IsFor, AreFor}
+
+pub same_map : {B : Type 0} (F G : List ℕ → B) (ws : List (List ℕ)) → ((i : ℕ) (w : List ℕ) → slice_get ws i ≡ Some w → F w ≡ G w) → map F ws ≡ map G ws
+same_map F G [] h = refl
+same_map F G (w ∷ ws) h = (λ i. h 0 w refl i ∷ same_map F G ws (λ j u e. h (suc j) u e) i)
+
+pub levels-same : (n c p : ℕ) (M N : Messages) (k l : ℕ) → ((j i : ℕ) (w : List ℕ) → k ≤ j → slice_get (labels n c p j) i ≡ Some w → M w p ≡ N w p) → levels_from n c p M k l ≡ levels_from n c p N k l
+unfolding levels_from
+levels-same n c p M N k zero h = refl
+levels-same n c p M N k (suc l) h =
+    (λ i. same_map (λ w. M w p) (λ w. N w p) (labels n c p k) (λ j w at. h k j w (omega arith) at) i ∷ levels-same n c p M N (suc k) l (λ j m w le at. h j m w (omega arith) at) i)
+
+-- the labels of that round
+pub heard_here : (M : Messages) (row : List Letter) (w : List ℕ) (p : ℕ) → length w ≡ round_of row → heard_also M row w p ≡ told_now row w p
+unfolding heard_also
+heard_here M row w p e = rw (eq-eqb (length w) (round_of row) e) refl
+
+pub heard_other : (M : Messages) (row : List Letter) (w : List ℕ) (p : ℕ) → (length w ≡ round_of row → ⊥) → heard_also M row w p ≡ M w p
+unfolding heard_also
+heard_other M row w p ne = rw (ne_eqb (length w) (round_of row) ne) refl
+
+-- without letters nothing is told
+pub none_heard : (t : Kept) (row : List Letter) (M : Messages) → IsCampaign t → row ≡ [] → IsFilled t M → IsFilled t (heard_also M row)
+none_heard t row M c none filled =
+    filled ∙ levels-same t.generals t.commander t.general M (heard_also M row) 1 (t.bound + 1) (λ j i w le at.
+    let long : length w ≡ j = (proved_labels_are_exact.only t.generals t.commander t.general j i w c.commander c.general c.lieutenant at).2 in
+    let zero_round : round_of row ≡ 0 = ap round_of none in
+    sym (heard_other M row w t.general (λ e. absurd (omega arith))))
+
+-- filled up to a rank of the level
+pub record IsPartly (M : Messages) (row : List Letter) (n c p k i : ℕ) (t : Kept) : Type 0 where
+  pub N : Messages
+  pub filled : IsFilled t N
+  pub others : (w : List ℕ) → (length w ≡ k → ⊥) → N w p ≡ M w p
+  pub done : (j : ℕ) (w : List ℕ) → j < i → slice_get (labels n c p k) j ≡ Some w → N w p ≡ told_now row w p
+
+-- so many labels are filled in
+pub record IsFilledTo (t : Kept) (row : List Letter) (k i : ℕ) (u : Kept) : Type 0 where
+  pub same : SameCampaign t u
+  pub partly : (M : Messages) → IsFilled t M → IsPartly M row t.generals t.commander t.general k i u
+
+pub filled_none : (t : Kept) (row : List Letter) (k : ℕ) → IsFilledTo t row k 0 t
+filled_none t row k = record {
+  same = record { generals = refl; bound = refl; commander = refl; general = refl };
+  partly = λ M filled. record { N = M; filled = filled; others = λ w ne. refl; done = λ j w lt at. absurd (omega arith) };
+}
+
+pub filled_more : (t : Kept) (row : List Letter) (k i : ℕ) (u v : Kept) (w : List ℕ) (value : Option ℕ) → IsCampaign t → IsFilledTo t row k i u → SameCampaign u v →
+    slice_get (labels t.generals t.commander t.general k) i ≡ Some w → value ≡ told_now row w t.general →
+    ((M : Messages) (x : List ℕ) → IsFilled u M → slice_get (labels u.generals u.commander u.general k) i ≡ Some x → IsFilled v (told_also M x value)) → IsFilledTo t row k (i + 1) v
+filled_more t row k i u v w value c h same at is fill = record {
+  same = record { generals = same.generals ∙ h.same.generals; bound = same.bound ∙ h.same.bound; commander = same.commander ∙ h.same.commander; general = same.general ∙ h.same.general };
+  partly = λ M filled.
+      let p = h.partly M filled in
+      let long : length w ≡ k = (proved_labels_are_exact.only t.generals t.commander t.general k i w c.commander c.general c.lieutenant at).2 in
+      record {
+        N = told_also p.N w value;
+        filled = fill p.N w p.filled (rw (h.same.generals, h.same.commander, h.same.general) at);
+        others = λ x far. also-other p.N w value x t.general (λ e. far (ap length e ∙ long)) ∙ p.others x far;
+        done = λ j x lt there. ⊎_elim
+            (λ (q : (j == i ≡ true) × (j ≡ i)).
+            let here : x ≡ w = some_same (sym there ∙ (ap (λ (m : ℕ). slice_get (labels t.generals t.commander t.general k) m) q.1 ∙ at)) in
+            rw here (also-here p.N w value t.general ∙ is))
+            (λ (q : (j == i ≡ false) × (j ≢ i)).
+            also-other p.N w value x t.general (λ e. q.1 (proved_labels_differ t.generals t.commander t.general k j i w c.commander c.general c.lieutenant (there ∙ ap Some e) at))
+            ∙ p.done j x (let n = q.1 in omega arith) there)
+            (eqb_tells j i);
+      };
+}
+  where
+    some_same : {A : Type 0} {a b : A} → Some a ≡ Some b → a ≡ b
+    some_same e = cc
+
+each_same : (t : Kept) (row : List Letter) (k i : ℕ) (u : Kept) (M : Messages) → IsCampaign t → k ≡ round_of row → length (labels t.generals t.commander t.general k) ≤ i → (p : IsPartly M row t.generals t.commander t.general k i u) →
+    (j m : ℕ) (w : List ℕ) → 1 ≤ j → slice_get (labels t.generals t.commander t.general j) m ≡ Some w → p.N w t.general ≡ heard_also M row w t.general
+each_same t row k i u M c ek all p j m w le at =
+    let long : length w ≡ j = (proved_labels_are_exact.only t.generals t.commander t.general j m w c.commander c.general c.lieutenant at).2 in
+    ⊎_elim
+    (λ (q : (j == k ≡ true) × (j ≡ k)).
+    p.done m w (let lt = slice_get_within (labels t.generals t.commander t.general j) m w at in let same : length (labels t.generals t.commander t.general j) ≡ length (labels t.generals t.commander t.general k) = ap (λ (x : ℕ). length (labels t.generals t.commander t.general x)) q.1 in omega arith)
+    (ap (λ (x : ℕ). slice_get (labels t.generals t.commander t.general x) m) (sym q.1) ∙ at)
+    ∙ sym (heard_here M row w t.general (long ∙ (q.1 ∙ ek))))
+    (λ (q : (j == k ≡ false) × (j ≢ k)).
+    p.others w (λ e. q.1 (sym long ∙ e)) ∙ sym (heard_other M row w t.general (λ e. q.1 (sym long ∙ (e ∙ sym ek)))))
+    (eqb_tells j k)
+
+pub filled_all : (t : Kept) (row : List Letter) (k i : ℕ) (u : Kept) → IsCampaign t → k ≡ round_of row → IsFilledTo t row k i u → length (labels t.generals t.commander t.general k) ≤ i → (M : Messages) → IsFilled t M → IsFilled u (heard_also M row)
+filled_all t row k i u c ek h all M filled =
+    let p = h.partly M filled in
+    p.filled ∙ (rw (h.same.generals, h.same.commander, h.same.general) (levels-same t.generals t.commander t.general p.N (heard_also M row) 1 (u.bound + 1) (each_same t row k i u M c ek all p)))
+
+-- the letters of the tree's campaign are for its labels of that length
+pub due_for : (t : Kept) (row : List Letter) (w : List ℕ) (p : ℕ) → AreDue t row → IsLabel t.generals t.commander w → length w ≡ round_of row → p < t.generals → on w p ≡ false → AreFor row w p
+due_for t row w p due label long within without i l at last =
+    let s = due.letters i l at in
+    record {
+      last = record {
+        label = (let P : ℕ → ℕ → Type 0 = λ n c. IsLabel n c w in subst (λ (g : ℕ). P g l.outbox.shape.commander) (sym (ap (λ x. x.generals) s)) (subst (λ (c : ℕ). P t.generals c) (sym (ap (λ x. x.commander) s)) label));
+        sender = ap (λ x. x.general) s ∙ last;
+        round = ap (λ x. x.round) s ∙ sym long;
+      };
+      within = (let e = ap (λ x. x.generals) s in omega arith);
+      without = without;
+    }
+
+-- as it is called
+pub due_round : (t : Kept) (row : List Letter) (shape : Shape) (inside item : Letter) → AreDue t row → inside ≡ item → item ≡ get_or row 0 item → 0 < length row → shape ≡ inside.outbox.shape → shape.round ≡ round_of row
+due_round t row shape inside item due view at some same =
+    let there : slice_get row 0 ≡ Some item = slice_get_read row (length row) 0 item refl some at in
+    ap (λ (s : Shape). s.round) (same ∙ (ap (λ (l : Letter). l.outbox.shape) view ∙ due.letters 0 item there))
+
+pub same_labels : (sp : Space) (t : Kept) (k : ℕ) → sp.generals ≡ t.generals → sp.commander ≡ t.commander → sp.general ≡ t.general → labels_of sp k ≡ labels t.generals t.commander t.general k
+same_labels sp t k en ec eg = (λ i. labels (en i) (ec i) (eg i) k)
+
+pub label_told : (t : Kept) (k i : ℕ) (w : List ℕ) → IsCampaign t → slice_get (labels t.generals t.commander t.general k) i ≡ Some w → IsLabel t.generals t.commander w × (on w t.general ≡ false) × (length w ≡ k)
+label_told t k i w c at = let h = proved_labels_are_exact.only t.generals t.commander t.general k i w c.commander c.general c.lieutenant at in (h.0, h.1, h.2)
+
+pub no_letters : (row : List Letter) → length row ≡ 0 → row ≡ []
+no_letters [] e = refl
+no_letters (l ∷ row) e = cc

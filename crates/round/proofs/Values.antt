@@ -1,0 +1,117 @@
+-- The values that a lieutenant took are a level of his tree.
+use Rattle.std.proofs.Common.{◌≡◌, ◌≢◌, ℕ, zero, suc, ◌+◌, ◌-◌, ◌<◌, ◌≤◌, List, [], ◌∷◌, length, map, Bool, true, false, cond, refl, sym, ap, ◌∙◌, Some, Option, arith, ⊎_elim, ◌⊎◌, inl, inr, get_or, Result, Ok, Err}
+use Rattle.std.specs.Prelude.{slice_get, IfOk, Vec, ◌==◌}
+use Rattle.std.proofs.lemmas.Bool.Decides.{eqb_tells}
+use Rattle.label.specs.declared.shape.Shape.{Shape}
+use Rattle.label.specs.Labels.{labels}
+use Rattle.label.specs.Relay.{relay}
+use Rattle.label.specs.Oral.{Messages, order_of, heard}
+use Rattle.label.proofs.Listing.{proved_labels_are_exact}
+use Rattle.tree.specs.Kept.{Kept, IsFilled, level_told}
+use Rattle.round.specs.Scenario.{Scenario, IsScenario, shape_of}
+use Rattle.round.specs.Letters.{Letter, messages}
+use Rattle.round.specs.Contexts.{value_of, context_bytes, context_numbers, context_of}
+use Rattle.std.specs.declared.alloc.Global.{Global}
+use Rattle.round.specs.Told.{IsTreeOf, Heard, WasTold, lieutenant_at}
+use Rattle.round.proofs.Telling.{few_labels}
+use Rattle.round.proofs.Delivering.{same_map}
+use Rattle.round.proofs.Filling.{own_tree}
+
+map_twice : {B C : Type 0} (F : B → C) (G : List ℕ → B) (ws : List (List ℕ)) → map (λ w. F (G w)) ws ≡ map F (map G ws)
+map_twice F G [] = refl
+map_twice F G (w ∷ ws) = ap (λ l. F (G w) ∷ l) (map_twice F G ws)
+
+heard_taken : (M : Messages) (order g : ℕ) (w : List ℕ) → 0 < length w → heard M order w g ≡ order_of (M w g)
+heard_taken M order g [] s = absurd (omega arith)
+heard_taken M order g (x ∷ w) s = refl
+
+relay_lieutenant : (s : Scenario) (g k : ℕ) → g ≢ s.commander → relay (shape_of s g (suc k)) ≡ labels s.generals s.commander g k
+relay_lieutenant s g k ne = ⊎_elim
+    (λ (q : (g == s.commander ≡ true) × (g ≡ s.commander)). absurd (ne q.1))
+    (λ (q : (g == s.commander ≡ false) × (g ≢ s.commander)). rw q.0 (let e : suc k - 1 ≡ k = omega arith in ap (λ (j : ℕ). labels s.generals s.commander g j) e))
+    (eqb_tells g s.commander)
+
+-- what a lieutenant took is the level of the labels of the round before, nothing as RETREAT
+pub values_level : (s : Scenario) (before : List (List Letter)) (g k : ℕ) → s.commander < s.generals → g < s.generals → g ≢ s.commander → 0 < k →
+    map (value_of s before g) (relay (shape_of s g (suc k))) ≡ map order_of (level_told s.generals s.commander g (messages before) k)
+values_level s before g k commander general ne some =
+    ap (map (value_of s before g)) (relay_lieutenant s g k ne)
+    ∙ (same_map (value_of s before g) (λ w. order_of (messages before w g)) (labels s.generals s.commander g k)
+    (λ i w at. heard_taken (messages before) s.order g w (let e = (proved_labels_are_exact.only s.generals s.commander g k i w commander general ne at).2 in omega arith))
+    ∙ map_twice order_of (λ w. messages before w g) (labels s.generals s.commander g k))
+
+-- the numbers of a later context, from the tree's level
+pub later_is : (s : Scenario) (before : List (List Letter)) (g k bound : ℕ) (t : Kept) (shape : Shape) (level : List (Option ℕ)) → IsScenario s → IsTreeOf s before g t → k ≡ length before → 0 < k → shape ≡ shape_of s g (k + 1) → bound ≡ s.bound →
+    ((M : Messages) → IsFilled t M → level ≡ level_told t.generals t.commander t.general M k) → context_bytes (context_numbers shape bound (map order_of level)) ≡ context_of s before g
+later_is s before g k bound t shape level is h ek some es eb told =
+    let round : k + 1 ≡ suc (length before) = omega arith in
+    let size : suc k ≡ suc (length before) = omega arith in
+    let own : level ≡ level_told s.generals s.commander g (messages before) k =
+    told (messages before) h.filled ∙ (λ i. level_told (h.generals i) (h.commander i) (h.general i) (messages before) k) in
+    let values : map order_of level ≡ map (value_of s before g) (relay (shape_of s g (suc (length before)))) =
+    ap (map order_of) own ∙ (sym (values_level s before g k is.commander h.within h.lieutenant some) ∙ ap (λ (j : ℕ). map (value_of s before g) (relay (shape_of s g j))) size) in
+    let there : shape ≡ shape_of s g (suc (length before)) = es ∙ ap (λ (j : ℕ). shape_of s g j) round in
+    (λ i. context_bytes (context_numbers (there i) (eb i) (values i)))
+
+pub few_values : (s : Scenario) (before : List (List Letter)) (g k : ℕ) (t : Kept) (level : List (Option ℕ)) → IsScenario s → IsTreeOf s before g t → k ≤ s.bound → length level ≡ length (labels t.generals t.commander t.general k) → length level ≤ 1000
+few_values s before g k t level is h le long =
+    let same : length (labels t.generals t.commander t.general k) ≡ length (labels s.generals s.commander g k) = (λ i. length (labels (h.generals i) (h.commander i) (h.general i) k)) in
+    let few : length (labels s.generals s.commander g k) ≤ 1000 = (let l = few_labels s.generals s.commander g k is.few is.commander h.within h.lieutenant (let r = is.rounds in omega arith) in omega arith) in
+    omega arith
+
+none_relayed : (s : Scenario) (g k : ℕ) → (g ≢ s.commander → k ≡ 0) → (((g ≡ s.commander) × (k + 1 ≢ 1)) ⊎ (g ≢ s.commander)) → relay (shape_of s g (suc k)) ≡ []
+unfolding labels
+none_relayed s g k first other = ⊎_elim
+    (λ (q : (g == s.commander ≡ true) × (g ≡ s.commander)). rw q.0 (⊎_elim
+    (λ (h : (g ≡ s.commander) × (k + 1 ≢ 1)). ⊎_elim
+    (λ (r : (suc k == 1 ≡ true) × (suc k ≡ 1)). absurd (h.1 (let e = r.1 in omega arith)))
+    (λ (r : (suc k == 1 ≡ false) × (suc k ≢ 1)). rw r.0 refl)
+    (eqb_tells (suc k) 1))
+    (λ (h : g ≢ s.commander). absurd (h q.1))
+    other))
+    (λ (q : (g == s.commander ≡ false) × (g ≢ s.commander)). rw q.0 (let e : suc k - 1 ≡ 0 = (let z = first q.1 in omega arith) in ap (λ (j : ℕ). labels s.generals s.commander g j) e))
+    (eqb_tells g s.commander)
+
+-- the numbers of a context without values
+pub first_is : (s : Scenario) (before : List (List Letter)) (g k bound : ℕ) (shape : Shape) → k ≡ length before → shape ≡ shape_of s g (k + 1) → bound ≡ s.bound → (g ≢ s.commander → k ≡ 0) → (((shape.general ≡ shape.commander) × (k + 1 ≢ 1)) ⊎ (shape.general ≢ shape.commander)) →
+    context_bytes (context_numbers shape bound []) ≡ context_of s before g
+first_is s before g k bound shape ek es eb first other =
+    let round : k + 1 ≡ suc (length before) = omega arith in
+    let there : shape ≡ shape_of s g (suc (length before)) = es ∙ ap (λ (j : ℕ). shape_of s g j) round in
+    let size : suc k ≡ suc (length before) = omega arith in
+    let none : relay (shape_of s g (suc k)) ≡ [] = none_relayed s g k first (rw es at other) in
+    let values : [] ≡ map (value_of s before g) (relay (shape_of s g (suc (length before)))) =
+    sym (ap (map (value_of s before g)) (ap (λ (j : ℕ). relay (shape_of s g j)) (sym size) ∙ none)) in
+    (λ i. context_bytes (context_numbers (there i) (eb i) (values i)))
+
+nothing_before : (before : List (List Letter)) → length before ≡ 0 → before ≡ []
+nothing_before [] e = refl
+nothing_before (x ∷ before) e = cc
+
+-- in the first round
+pub first_told : {E : Type 0} (r : Result (Vec ℕ Global) E) (s : Scenario) (h : Heard) (g : ℕ) → h.rounds ≡ 0 → IfOk r (λ v. v.items ≡ context_of s [] g) →
+    IfOk r (λ v. (before : List (List Letter)) → WasTold s before h → v.items ≡ context_of s before g)
+first_told (Ok v) s h g none is = λ before told. is ∙ ap (λ (b : List (List Letter)). context_of s b g) (sym (nothing_before before (sym told.rounds ∙ none)))
+first_told (Err e) s h g none is = tt
+
+-- the commander later on
+pub commander_told : {E : Type 0} (r : Result (Vec ℕ Global) E) (s : Scenario) (h : Heard) (g bound k : ℕ) (shape : Shape) → k ≡ h.rounds → (k ≡ 0 → ⊥) → g ≡ s.commander → shape ≡ shape_of s g (k + 1) → bound ≡ s.bound →
+    IfOk r (λ v. v.items ≡ context_bytes (context_numbers shape bound [])) → IfOk r (λ v. (before : List (List Letter)) → WasTold s before h → v.items ≡ context_of s before g)
+commander_told (Ok v) s h g bound k shape ek some eg es eb is =
+    λ before told. is ∙ first_is s before g k bound shape (ek ∙ told.rounds) es eb (λ ne. absurd (ne eg)) (inl (ap (λ (x : Shape). x.general) es ∙ (eg ∙ sym (ap (λ (x : Shape). x.commander) es)), λ e. some (omega arith)))
+commander_told (Err e) s h g bound k shape ek some eg es eb is = tt
+
+-- a lieutenant later on
+pub later_told : {E : Type 0} (r : Result (Vec ℕ Global) E) (s : Scenario) (h : Heard) (g bound k i : ℕ) (t : Kept) (shape : Shape) (level : List (Option ℕ)) → IsScenario s → k ≡ h.rounds → (k ≡ 0 → ⊥) → lieutenant_at s.commander i ≡ g → i < length h.trees → t ≡ get_or h.trees i t →
+    shape ≡ shape_of s g (k + 1) → bound ≡ s.bound → ((M : Messages) → IsFilled t M → level ≡ level_told t.generals t.commander t.general M k) →
+    IfOk r (λ v. v.items ≡ context_bytes (context_numbers shape bound (map order_of level))) → IfOk r (λ v. (before : List (List Letter)) → WasTold s before h → v.items ≡ context_of s before g)
+later_told (Ok v) s h g bound k i t shape level is ek some there lt at es eb told_level bytes =
+    λ before told. bytes ∙ later_is s before g k bound t shape level is (own_tree s before h i g t told lt at there) (ek ∙ told.rounds) (omega arith) es eb told_level
+later_told (Err e) s h g bound k i t shape level is ek some there lt at es eb told_level bytes = tt
+
+-- a lieutenant in the first round
+pub opening_told : {E : Type 0} (r : Result (Vec ℕ Global) E) (s : Scenario) (g bound : ℕ) (shape : Shape) → g ≢ s.commander → shape ≡ shape_of s g 1 → bound ≡ s.bound →
+    IfOk r (λ v. v.items ≡ context_bytes (context_numbers shape bound [])) → IfOk r (λ v. v.items ≡ context_of s [] g)
+opening_told (Ok v) s g bound shape ne es eb is =
+    is ∙ first_is s [] g 0 bound shape refl es eb (λ h. refl) (inr (λ e. ne (sym (ap (λ (x : Shape). x.general) es) ∙ (e ∙ ap (λ (x : Shape). x.commander) es))))
+opening_told (Err e) s g bound shape ne es eb is = tt

@@ -1,0 +1,82 @@
+//! The letters of loyal generals.
+ghost use Rattle.std.specs.Prelude.{◌≡◌, ◌*◌, ◌+◌, ◌≤◌, length, take, drop, IfOk};
+ghost use Rattle.word.specs.Bytes.{little_number};
+ghost use Rattle.label.specs.Relay.{IsShape};
+ghost use Rattle.round.specs.Contexts.{shape_told, outbox_told, letter_told, number_told};
+
+use crate::letter::Letter;
+use crate::seat::Seat;
+use label::Shape;
+use outbox::Outbox;
+use std::alloc::{AllocError, Global};
+
+/// A loyal general's letter of a round: he tells each receiver of each label what his context says that he took.
+///
+/// # Errors
+///
+/// `AllocError` where the memory for the outbox is refused.
+pub fn loyal_letter(
+    alloc: Global,
+    general: u32,
+    round: u32,
+    context: Vec<u8>,
+) -> Result<Letter, AllocError>
+    requires context { length context.items ≡ 4096 }
+    requires shape { IsShape (shape_told general round context.items) }
+    ensures { IfOk result (λ letter. letter ≡ letter_told general round context.items) }
+{
+    let shape = Shape {
+        generals: number_told(context.as_slice(), 0),
+        commander: number_told(context.as_slice(), 3),
+        general,
+        round,
+    };
+    let outbox = faithful(alloc, shape, context.as_slice())?;
+    Ok(Letter {
+        general,
+        round,
+        context,
+        program: Seat::new(None),
+        transcript: Vec::new(alloc),
+        steps: 0,
+        outbox,
+        exited: true,
+    })
+}
+
+/// The outbox that tells each receiver what was taken.
+fn faithful(alloc: Global, shape: Shape, context: &[u8]) -> Result<Outbox, AllocError>
+    requires shape { IsShape shape }
+    requires context { length context.now ≡ 4096 }
+    ensures { IfOk result (λ outbox. outbox ≡ outbox_told shape context.now) }
+{
+    let mut outbox = Outbox::new(alloc, shape)?;
+    for receiver in 0..shape.generals {
+        let _set = outbox.honest(context, receiver);
+    }
+    Ok(outbox)
+}
+
+/// The number at this place of a context.
+fn number_told(context: &[u8], place: usize) -> u32
+    requires { 4 * place + 4 ≤ length context.now }
+    ensures { result ≡ number_told context.now place }
+{
+    word_at(context, 4 * place)
+}
+
+/// The number in 2 bytes.
+fn half_at(bytes: &[u8], place: usize) -> u16
+    requires { place + 2 ≤ length bytes.now }
+    ensures { result ≡ little_number (take 2 (drop place bytes.now)) }
+{
+    u16::from(bytes[place]) + 256 * u16::from(bytes[place + 1])
+}
+
+/// The number in 4 bytes.
+fn word_at(bytes: &[u8], place: usize) -> u32
+    requires { place + 4 ≤ length bytes.now }
+    ensures { result ≡ little_number (take 4 (drop place bytes.now)) }
+{
+    u32::from(half_at(bytes, place)) + 0x1_0000 * u32::from(half_at(bytes, place + 2))
+}

@@ -1,0 +1,141 @@
+ghost use Rattle.std.specs.Prelude.{◌≡◌, ◌≢◌, ◌<◌, ◌≤◌, ◌++◌, ◌∷◌, [], suc, List, IfOk};
+ghost use Rattle.round.specs.Letters.{Letter as Written};
+ghost use Rattle.round.specs.Contexts.{context_of};
+ghost use Rattle.round.specs.Told.{WasTold, AreLettersOf, lieutenant_at};
+
+use crate::context::context_with;
+use crate::delivery::deliver;
+use crate::letter::Letter;
+use crate::scenario::Scenario;
+use std::alloc::{AllocError, Global};
+use std::marker::Model;
+use tree::Tree;
+
+/// What the letters of closed rounds have told the lieutenants: a tree for each, ascending, filled round by round.
+#[derive(Drop)]
+pub struct Told {
+    /// How many rounds were told.
+    rounds: u8,
+    trees: Vec<Tree>,
+}
+
+impl Model for Told {
+    ghost use Rattle.round.specs.Told.{Heard};
+
+    ghost Value = { Heard };
+
+    ghost view = { λ t. record { rounds = t.rounds; trees = t.trees.items } };
+}
+
+impl Told {
+    /// Nothing is told yet. Nothing that is told later takes memory.
+    ///
+    /// # Errors
+    ///
+    /// `AllocError` where the memory for a tree is refused.
+    pub fn new(alloc: Global, scenario: &Scenario) -> Result<Told, AllocError>
+        ensures { IfOk result (WasTold scenario.now []) }
+    {
+        let generals = scenario.generals();
+        let bound = scenario.bound();
+        let commander = scenario.commander();
+        let mut trees = Vec::with_capacity(alloc, 12)?;
+        for place in 0..generals - 1 {
+            let general = lieutenant_at(commander, place);
+            trees.push(Tree::new(alloc, generals, bound, commander, general)?)?;
+        }
+        Ok(Told { rounds: 0, trees })
+    }
+
+    /// How many rounds were told.
+    pub fn rounds(&self) -> u8
+        ensures { result ≡ self.now.rounds }
+    {
+        self.rounds
+    }
+
+    /// The lieutenants' trees, ascending.
+    pub fn trees(&self) -> &[Tree]
+        ensures { result.now ≡ self.now.trees }
+    {
+        self.trees.as_slice()
+    }
+
+    /// Takes in the letters of one round more.
+    pub fn deliver(&mut self, scenario: &Scenario, row: &[Letter])
+        requires told { (before : List (List Written)) × WasTold scenario.now before self.old }
+        requires left { self.old.rounds ≤ scenario.now.bound }
+        requires letters { AreLettersOf scenario.now (suc self.old.rounds) row.now }
+        ensures { (before : List (List Written)) → WasTold scenario.now before self.old → WasTold scenario.now (before ++ row.now ∷ []) self.new }
+    {
+        let _bound = scenario.bound();
+        for place in 0..self.trees.len() {
+            deliver(row, &mut self.trees[place]);
+        }
+        self.rounds += 1;
+    }
+
+    /// What a general is told as the next round begins.
+    ///
+    /// # Errors
+    ///
+    /// `AllocError` where the memory for the 4,096 bytes is refused.
+    pub fn context(
+        &self,
+        alloc: Global,
+        scenario: &Scenario,
+        general: u8,
+    ) -> Result<Vec<u8>, AllocError>
+        requires told { (before : List (List Written)) × WasTold scenario.now before self.now }
+        requires left { self.now.rounds ≤ scenario.now.bound }
+        requires general { general < scenario.now.generals }
+        ensures { IfOk result (λ bytes. (before : List (List Written)) → WasTold scenario.now before self.now → bytes.items ≡ context_of scenario.now before general) }
+    {
+        if self.rounds == 0 {
+            return first_context(alloc, scenario, general);
+        }
+        let bound = scenario.bound();
+        let commander = scenario.commander();
+        let shape = scenario.shape(general, self.rounds + 1);
+        if general == commander {
+            return context_with(alloc, shape, bound, &[]);
+        }
+        let tree = &self.trees[usize::from(place_of(commander, general))];
+        context_with(alloc, shape, bound, tree.level(self.rounds))
+    }
+}
+
+/// What a general is told as the first round begins: the commander his order, the others nothing.
+fn first_context(alloc: Global, scenario: &Scenario, general: u8) -> Result<Vec<u8>, AllocError>
+    requires { general < scenario.now.generals }
+    ensures { IfOk result (λ bytes. bytes.items ≡ context_of scenario.now [] general) }
+{
+    let bound = scenario.bound();
+    let shape = scenario.shape(general, 1);
+    if general == scenario.commander() {
+        return context_with(alloc, shape, bound, &[Some(scenario.order())]);
+    }
+    context_with(alloc, shape, bound, &[])
+}
+
+/// The lieutenant at a place, from 0, among those under the commander.
+fn lieutenant_at(commander: u8, place: u8) -> u8
+    requires { place < 255 }
+    ensures { result ≡ lieutenant_at commander place }
+{
+    if place < commander { place } else { place + 1 }
+}
+
+/// The place of a lieutenant.
+fn place_of(commander: u8, general: u8) -> u8
+    requires { general ≢ commander }
+    ensures there { lieutenant_at commander result ≡ general }
+    ensures low { result ≤ general }
+    ensures past { commander < general → result < general }
+{
+    if general < commander {
+        general
+    } else {
+        general - 1
+    }
+}
