@@ -15,3 +15,4 @@ pub mod Delivering
 pub mod Filling
 pub mod Values
 pub mod Loyal
+pub mod Onwards
