@@ -32,7 +32,6 @@ pub struct Head {
 
 impl Model for Head {
     ghost use Rattle.scenario.specs.Checks.{Head as Numbers};
-
     ghost use Rattle.scenario.specs.Limits.{IsWithin};
 
     ghost Value = { Numbers };
@@ -59,7 +58,6 @@ pub struct Campaign {
 
 impl Model for Campaign {
     ghost use Rattle.round.specs.Scenario.{Scenario};
-
     ghost use Rattle.std.specs.Prelude.{◌≡◌, length};
     ghost use Rattle.scenario.specs.Limits.{IsWithin};
 
