@@ -22,6 +22,7 @@ pub fn number_of(value: Value) -> u64
 }
 
 /// The result of an operation on two numbers.
+#[inline(always)]
 fn arithmetic(width: Width, operation: Operation, a: u64, b: u64) -> u64
     ensures { result ≡ arithmetic width operation a b }
 {
@@ -77,6 +78,7 @@ fn copied(width: Width, operation: Operation, region: Region, offset: i32) -> Va
 }
 
 /// The result of an operation on two values.
+#[inline(always)]
 fn combined(width: Width, operation: Operation, a: Value, b: Value) -> Value
     requires { IsOk (combined width operation a b) }
     ensures { combined width operation a b ≡ Ok result }

@@ -18,3 +18,4 @@ pub mod Delivering
 pub mod Filling
 pub mod Values
 pub mod ToldRows
+pub mod Onwards

@@ -1,5 +1,5 @@
 -- How an activation is held, and what a turn leaves of it and of the board (own).
-use Rattle.std.specs.Prelude.{ℕ, ◌≡◌, ◌≤◌, Bool, false, Option, Some, None, min, List, [], ◌∷◌, ◌++◌}
+use Rattle.std.specs.Prelude.{ℕ, ◌≡◌, ◌≤◌, Bool, true, false, ◌||◌, Option, Some, None, min, All, List, [], ◌∷◌, ◌++◌}
 use Rattle.semantics.specs.declared.request.Request.{Request}
 use Rattle.semantics.specs.State.{State, Outcome, Next, Ask, Exit, Trap}
 use Rattle.semantics.specs.Relay.{IsContext}
@@ -10,8 +10,10 @@ use Rattle.machine.specs.Advance.{IsOfRun}
 use Rattle.machine.specs.declared.pause.Stop.{Stop}
 use Rattle.machine.specs.declared.pause.Stop.TheVariants.{Asked, Exited, Limit}
 use Rattle.insn.specs.declared.insn.Insn.{Insn}
-use Rattle.round.specs.Runs.{Runs, IsWithin}
-use Rattle.round.specs.Activation.{Activation, Turn, Goes, Asks, Ended}
+use Rattle.round.specs.Letters.{Letter}
+use Rattle.round.specs.Contexts.{shape_told}
+use Rattle.round.specs.Runs.{Runs, IsRunOf, IsWithin}
+use Rattle.round.specs.Activation.{Activation, Turn, Goes, Asks, Ended, is_reached}
 
 abbrev pub standing : Activation → Standing
 standing a = record { shape = a.shape; state = a.state }
@@ -66,3 +68,52 @@ Pauses limit a Ended = Unit {0}
 abbrev pub lesser : Option ℕ → ℕ → ℕ
 lesser None limit = limit
 lesser (Some patience) limit = min patience limit
+
+-- it takes this turn, with the access that it made, or none
+abbrev pub TakesTurn : Turn → Option Access → Activation → Type 0
+TakesTurn (Goes b) None new = new ≡ b
+TakesTurn (Asks request answered) (Some access) new = (access.request ≡ request) × (new ≡ answered access.reply)
+TakesTurn _ _ new = ⊥
+
+-- it runs the same program in the same context and relay, with the same patience
+pub record IsSameRun (a b : Activation) : Type 0 where
+  pub program : b.program ≡ a.program
+  pub context : b.context ≡ a.context
+  pub shape : b.shape ≡ a.shape
+  pub patience : b.patience ≡ a.patience
+
+-- the general's accesses of this round
+abbrev pub AreAccessesOf : ℕ → ℕ → List Access → Type 0
+AreAccessesOf general round accesses = All (λ a. (a.general ≡ general) × (a.round ≡ round)) accesses
+
+-- from its start it has come here with just these accesses
+pub record IsOnWay (general round : ℕ) (start a : Activation) (transcript : List Access) : Type 0 where
+  pub same : IsSameRun start a
+  pub run : (k : ℕ) × Runs k start transcript a
+  pub own : AreAccessesOf general round transcript
+
+-- the letter of an activation that was run to its end, or to its patience: its program, run in this context with just the accesses of its transcript, has come to its outbox
+pub record IsLived (general round : ℕ) (program : List Insn) (context : List ℕ) (patience : Option ℕ) (l : Letter) : Type 0 where
+  pub own_general : l.general ≡ general
+  pub own_round : l.round ≡ round
+  pub own_context : l.context ≡ context
+  pub own_program : l.program ≡ Some program
+  pub shape : l.outbox.shape ≡ shape_told general round context
+  pub run : IsRunOf l (Some program)
+  pub accesses : AreAccessesOf general round l.transcript
+  pub within : IsWithin patience l.steps
+  pub ended : (l.exited || is_reached patience l.steps) ≡ true
+
+-- the letter of an activation as it stands, with these accesses
+abbrev pub letter_left : ℕ → ℕ → List Access → Activation → Letter
+letter_left general round transcript a =
+    record {
+      general = general;
+      round = round;
+      context = a.context;
+      program = Some a.program;
+      transcript = transcript;
+      steps = a.state.steps;
+      outbox = record { shape = a.shape; rows = a.state.outbox };
+      exited = a.over;
+    }

@@ -7,12 +7,14 @@ mod context;
 mod delivery;
 mod laws;
 mod letter;
+mod living;
 mod loyalty;
 mod round;
 mod running;
 mod scenario;
 mod seat;
 mod seats;
+mod server;
 mod told;
 mod turns;
 mod words;
@@ -22,9 +24,11 @@ pub use laws::{
     contexts_tell, loyal_letters_follow, patience_is_kept, runs_are_safe, runs_have_one_end,
 };
 pub use letter::Letter;
+pub use living::live;
 pub use loyalty::loyal_letter;
 pub use round::Round;
 pub use running::Running;
 pub use scenario::Scenario;
 pub use seat::Seat;
+pub use server::Server;
 pub use told::Told;

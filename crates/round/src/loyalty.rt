@@ -58,7 +58,7 @@ fn faithful(alloc: Global, shape: Shape, context: &[u8]) -> Result<Outbox, Alloc
 }
 
 /// The number at this place of a context.
-fn number_told(context: &[u8], place: usize) -> u32
+pub(crate) fn number_told(context: &[u8], place: usize) -> u32
     requires { 4 * place + 4 ≤ length context.now }
     ensures { result ≡ number_told context.now place }
 {

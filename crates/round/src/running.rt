@@ -3,6 +3,7 @@ ghost use Rattle.std.specs.Prelude.{◌≡◌, length};
 ghost use Rattle.std.specs.Arc.{arc_value};
 ghost use Rattle.semantics.specs.Outbox.{empty_outbox};
 ghost use Rattle.round.specs.Activation.{started, has_ended, is_reached};
+ghost use Rattle.round.specs.Runs.{IsWithin};
 
 use machine::Activation;
 use mem::Context;
@@ -82,7 +83,8 @@ impl Running {
 
     /// Whether it has exited, or its patience is at an end.
     pub fn has_ended(&self) -> bool
-        ensures { result ≡ has_ended self.now }
+        ensures ended { result ≡ has_ended self.now }
+        ensures within { IsWithin self.now.patience self.now.state.steps }
     {
         self.over || is_reached(self.patience, self.activation.steps())
     }

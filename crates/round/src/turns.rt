@@ -8,7 +8,7 @@ ghost use Rattle.board.specs.Board.{reply};
 ghost use Rattle.machine.specs.Standing.{HasAsked, before};
 ghost use Rattle.machine.specs.Advance.{IsOfRun, IsAskOfRun, IsPauseOfRun, IsCounted, paused};
 ghost use Rattle.round.specs.Activation.{turn};
-ghost use Rattle.round.specs.Running.{Stopped, IsBack, entered, moved, activation_of, Silently, Pauses, lesser};
+ghost use Rattle.round.specs.Running.{Stopped, IsBack, entered, moved, activation_of, Silently, Pauses, IsSameRun, lesser};
 
 use crate::running::Running;
 use board::Board;
@@ -41,6 +41,7 @@ impl Running {
     pub fn ahead(&mut self, limit: u32)
         ensures went { Silently self.old self.new }
         ensures pauses { Pauses limit self.new (turn self.new) }
+        ensures same { IsSameRun self.old self.new }
     {
         if self.has_ended() {
             return;
@@ -79,7 +80,7 @@ fn many(activation: &mut Activation, verified: &Verified, bytes: &[u8], limit: u
 }
 
 /// One step.
-fn one(activation: &mut Activation, verified: &Verified, bytes: &[u8]) -> Stop
+pub(crate) fn one(activation: &mut Activation, verified: &Verified, bytes: &[u8]) -> Stop
     requires context { IsContext bytes.now }
     requires of_run { IsOfRun verified.now bytes.now activation.old }
     ensures shape { activation.new.shape ≡ activation.old.shape }
@@ -87,6 +88,7 @@ fn one(activation: &mut Activation, verified: &Verified, bytes: &[u8]) -> Stop
     ensures back { IsBack result activation.old.state activation.new.state }
     ensures counted { IsCounted result activation.new.state }
     ensures one { activation.new.state.steps ≡ activation.old.state.steps + 1 }
+    ensures few { activation.new.state.steps ≤ 4096 }
     ensures of_run { IsPauseOfRun verified.now bytes.now (paused activation.new result) }
 {
     let Some(context) = Context::new(bytes) else {

@@ -1,6 +1,6 @@
 //! The values of single keys, each the value or the first fault of its checks.
 
-ghost use Rattle.std.specs.Prelude.{◌≡◌, ℕ, ◌≤◌, ◌<◌, ◌^◌, option_map, IfOk};
+ghost use Rattle.std.specs.Prelude.{◌≡◌, ℕ, ◌≤◌, ◌<◌, ◌^◌, option_map, IfOk, IfSome};
 ghost use Rattle.toml.specs.Data.{get_member};
 ghost use Rattle.toml.specs.View.{view, table_view, array_view, items_view};
 ghost use Rattle.scenario.specs.Names.{is_top_key, is_entry_key, text_of};
@@ -137,7 +137,8 @@ pub fn number(
     most: u32,
     value: Option<&Value>,
 ) -> Result<u32, ScenarioError>
-    ensures { Gives (λ n. n) result (number place least most (option_map (λ v. view v.now) value.entry)) }
+    ensures value { Gives (λ n. n) result (number place least most (option_map (λ v. view v.now) value.entry)) }
+    ensures within { IfOk result (λ n. (least ≤ n) × (n ≤ most)) }
 {
     let value = required(place, value)?;
     let integer = whole(place, value)?;
@@ -156,7 +157,8 @@ pub fn optional_number(
     most: u32,
     value: Option<&Value>,
 ) -> Result<Option<u32>, ScenarioError>
-    ensures { Gives (λ n. n) result (optional_number place least most (option_map (λ v. view v.now) value.entry)) }
+    ensures value { Gives (λ n. n) result (optional_number place least most (option_map (λ v. view v.now) value.entry)) }
+    ensures within { IfOk result (λ o. IfSome o (λ n. (least ≤ n) × (n ≤ most))) }
 {
     match value {
         None => Ok(None),

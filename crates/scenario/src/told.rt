@@ -32,10 +32,13 @@ pub struct Head {
 
 impl Model for Head {
     ghost use Rattle.scenario.specs.Checks.{Head as Numbers};
+    ghost use Rattle.scenario.specs.Limits.{IsWithin};
 
     ghost Value = { Numbers };
 
     ghost view = { λ h. record { generals = h.generals; bound = h.bound; commander = h.commander; order = h.order; board = h.board; patience = h.patience; rule = h.rule } };
+
+    ghost invariant = { λ h. IsWithin h.generals h.bound h.commander h.patience };
 }
 
 /// A campaign's numbers, rule and seats.
@@ -55,8 +58,12 @@ pub struct Campaign {
 
 impl Model for Campaign {
     ghost use Rattle.round.specs.Scenario.{Scenario};
+    ghost use Rattle.std.specs.Prelude.{◌≡◌, length};
+    ghost use Rattle.scenario.specs.Limits.{IsWithin};
 
     ghost Value = { Scenario };
 
     ghost view = { λ c. record { generals = c.generals; bound = c.bound; commander = c.commander; order = c.order; board = c.board; programs = c.seats.items; patience = c.patience; rule = c.rule } };
+
+    ghost invariant = { λ c. IsWithin c.generals c.bound c.commander c.patience × (length c.seats.items ≡ c.generals) };
 }

@@ -13,5 +13,5 @@ mod writing;
 pub use fault::TraceError;
 pub use laws::{names_are_told, sound_texts_are_runs};
 pub use scheduling::read_schedule;
-pub use version::{Version, version_by};
 pub use sink::{Latch, Sink};
+pub use version::{Version, version_by};

@@ -31,3 +31,14 @@ returns-clause-one c =
     let h = both c in
     stopped_counts (step c.args.verified.now c.args.bytes.now c.args.activation.now.shape c.args.activation.now.state) c.run.result c.args.activation.now.state c.run.new.self.state
     (step_counts c.args.verified.now c.args.bytes.now c.args.activation.now.shape c.args.activation.now.state) h.0
+
+pub returns-clause-few : goal.returns-clause-few
+returns-clause-few c =
+    let less : c.args.activation.now.state.steps < length c.args.verified.now = fewer c.args.verified.now c.args.bytes.now c.args.activation.now c.program.ensures.sound c.requires.of_run in
+    let most : c.len-most.result ≡ length c.args.verified.now = c.len-most.ensures.len ∙ ap length c.program.ensures.same in
+    let bound : c.len-most.result ≤ 4096 = c.len-most.ensures.bound in
+    let h = both c in
+    let one : c.run.new.self.state.steps ≡ c.args.activation.now.state.steps + 1 =
+    stopped_counts (step c.args.verified.now c.args.bytes.now c.args.activation.now.shape c.args.activation.now.state) c.run.result c.args.activation.now.state c.run.new.self.state
+    (step_counts c.args.verified.now c.args.bytes.now c.args.activation.now.shape c.args.activation.now.state) h.0 in
+    omega arith

@@ -1,0 +1,48 @@
+-- From the start to the end.
+use Rattle.std.proofs.Common.{◌≡◌, ◌<◌, ◌∙◌, ℕ, List, ap, sym, subst, arith, refl}
+use Rattle.std.specs.Arc.{arc_value}
+use Rattle.label.specs.declared.shape.Shape.{Shape}
+use Rattle.round.specs.Activation.{Activation, started}
+use Rattle.round.specs.Contexts.{shape_told, number_told}
+use Rattle.round.specs.Running.{IsOnWay}
+use Rattle.round.proofs.Onwards.{way_begins, own_run, lived}
+use Rattle.round.proofs.living.live.Goals as goal
+
+pub loop-running-init : goal.loop-running-init
+loop-running-init g c =
+    let context = c.args.context.items in
+    let shape : c.in_ok-new.field-0.shape ≡ shape_told c.args.general c.args.round context =
+    c.in_ok-new.ensures.shape
+    ∙ (λ i. record {
+      generals = (c.number_told.ensures ∙ ap (λ (l : List ℕ). number_told l 0) c.as_slice.ensures.value) i;
+      commander = (c.number_told-2.ensures ∙ ap (λ (l : List ℕ). number_told l 3) c.as_slice-2.ensures.value) i;
+      general = c.args.general;
+      round = c.args.round;
+    }) in
+    let begun = c.start-running.ensures ∙ ap (λ (s : Shape). started c.args.patience (arc_value c.args.program) context s) shape in
+    let start = started c.args.patience (arc_value c.args.program) context (shape_told c.args.general c.args.round context) in
+    subst (λ (a : Activation). IsOnWay c.args.general c.args.round start a c.new-transcript.result.items) (sym begun)
+    (way_begins c.args.general c.args.round start c.new-transcript.result.items c.new-transcript.ensures.items)
+
+pub loop-running-preserved : goal.loop-running-preserved
+loop-running-preserved g c = c.in_ok-go_on.ensures.way _ c.loop-running.invariant
+
+pub loop-running-smaller : goal.loop-running-smaller
+loop-running-smaller g c =
+    let later = c.in_ok-go_on.ensures.later in
+    let few = c.in_ok-go_on.ensures.few in
+    omega arith
+
+pub into_letter-requires-clause-shape : goal.into_letter-requires-clause-shape
+into_letter-requires-clause-shape g c =
+    let s = c.loop-running.invariant.same in
+    s.shape ∙ ap (λ (l : List ℕ). shape_told c.args.general c.args.round l) (sym s.context)
+
+pub into_letter-requires-clause-run : goal.into_letter-requires-clause-run
+into_letter-requires-clause-run g c =
+    own_run c.args.general c.args.round (arc_value c.args.program) c.args.context.items c.args.patience (shape_told c.args.general c.args.round c.args.context.items) c.loop-running.transcript.items c.loop-running.running c.loop-running.invariant
+
+pub returns : goal.returns
+returns g c =
+    lived c.args.general c.args.round (arc_value c.args.program) c.args.context.items c.args.patience (shape_told c.args.general c.args.round c.args.context.items) c.loop-running.transcript.items c.loop-running.running c.into_letter.result
+    refl c.has_ended.ensures.within c.loop-running.invariant (sym c.has_ended.ensures.ended ∙ c.loop-running-test.false) c.into_letter.ensures
