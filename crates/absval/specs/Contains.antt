@@ -1,16 +1,18 @@
 -- Which values an abstract value stands for.
-use Rattle.std.specs.Prelude.{ℕ, ℤ, ◌≡◌, ◌≤◌, ◌≤ℤ◌, Bool, true, false, Result, Ok, Err}
+use Rattle.std.specs.Prelude.{ℤ, ◌≡◌, ◌≤ℤ◌, Bool, true, false, Result, Ok, Err}
 use Rattle.semantics.specs.declared.value.Region.{Region}
 use Rattle.semantics.specs.declared.value.Value.{Value}
 use Rattle.semantics.specs.declared.value.Value.TheVariants as value
 use Rattle.semantics.specs.State.{Cause}
+use Rattle.absval.specs.declared.number_set.NumberSet.{NumberSet}
+use Rattle.absval.specs.NumberSets.{Has}
 use Rattle.absval.specs.declared.value.AbsVal.{AbsVal}
 use Rattle.absval.specs.declared.value.AbsVal.TheVariants.{Unset, Number, Pointer}
 
-abbrev pub IsNumberIn : ℕ → ℕ → Value → Type 0
-IsNumberIn lo hi value.Unset = ⊥
-IsNumberIn lo hi (value.Number n) = (lo ≤ n) × (n ≤ hi)
-IsNumberIn lo hi (value.Pointer region offset) = ⊥
+abbrev pub IsNumberOf : NumberSet → Value → Type 0
+IsNumberOf numbers value.Unset = ⊥
+IsNumberOf numbers (value.Number n) = Has numbers n
+IsNumberOf numbers (value.Pointer region offset) = ⊥
 
 abbrev pub IsPointerIn : Region → ℤ → ℤ → Value → Type 0
 IsPointerIn region low high value.Unset = ⊥
@@ -20,7 +22,7 @@ IsPointerIn region low high (value.Pointer other offset) = (other ≡ region) ×
 -- the value is one of those
 abbrev pub Contains : AbsVal → Value → Type 0
 Contains Unset v = Unit {0}
-Contains (Number r) v = IsNumberIn r.lo r.hi v
+Contains (Number numbers) v = IsNumberOf numbers v
 Contains (Pointer region offsets) v = IsPointerIn region offsets.low offsets.high v
 
 -- there is a result, and it is one of those

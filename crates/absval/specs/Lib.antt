@@ -1,3 +1,5 @@
+pub mod Numbers
+pub mod NumberSets
 pub mod Contains
 pub mod Windows
 pub mod Table

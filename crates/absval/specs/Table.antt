@@ -8,7 +8,8 @@ use Rattle.word.specs.declared.Operation.TheVariants.{Add, Sub, Move}
 use Rattle.word.specs.declared.Narrow.{Narrow}
 use Rattle.word.specs.declared.SwapSize.{SwapSize}
 use Rattle.word.specs.declared.ByteOrder.{ByteOrder}
-use Rattle.range.specs.Table.{single, low, table, joined as joined_ends, negations, extensions, swaps}
+use Rattle.absval.specs.declared.number_set.NumberSet.{NumberSet}
+use Rattle.absval.specs.NumberSets.{single, within, table, copies, joined as joined_sets, negations, extensions, swaps}
 use Rattle.insn.specs.declared.insn.Size.{Size}
 use Rattle.insn.specs.Insn.{bytes_of}
 use Rattle.semantics.specs.declared.value.Region.{Region}
@@ -17,10 +18,10 @@ use Rattle.absval.specs.declared.value.Offsets.{Offsets}
 use Rattle.absval.specs.declared.value.AbsVal.{AbsVal}
 use Rattle.absval.specs.declared.value.AbsVal.TheVariants.{Unset, Number, Pointer}
 
--- what is known of a value, its ranges by their ends: nothing, a number of these, a pointer into the region at one of these offsets
+-- what is known of a value: nothing, a number of these, a pointer into the region at one of these offsets
 pub data Ends : Type 0 where
   Nothing : Ends
-  Numbers : ℕ × ℕ → Ends
+  Numbers : NumberSet → Ends
   Pointers : Region → ℤ × ℤ → Ends
 
 abbrev pub offset_ends : Offsets → ℤ × ℤ
@@ -28,7 +29,7 @@ offset_ends offsets = (offsets.low, offsets.high)
 
 abbrev pub ends_of : AbsVal → Ends
 ends_of Unset = Nothing
-ends_of (Number n) = Numbers (n.lo, n.hi)
+ends_of (Number n) = Numbers n
 ends_of (Pointer region offsets) = Pointers region (offset_ends offsets)
 
 -- ---- where two paths meet
@@ -36,9 +37,9 @@ ends_of (Pointer region offsets) = Pointers region (offset_ends offsets)
 abbrev pub joined_offsets : ℤ × ℤ → ℤ × ℤ → ℤ × ℤ
 joined_offsets m n = (int_min m.0 n.0, int_max m.1 n.1)
 
--- numbers with numbers, pointers with pointers of their region: from the least to the greatest
+-- numbers with numbers, pointers with pointers of their region
 abbrev pub joined : Ends → Ends → Ends
-joined (Numbers m) (Numbers n) = Numbers (joined_ends m.0 m.1 n.0 n.1)
+joined (Numbers m) (Numbers n) = Numbers (joined_sets m n)
 joined (Pointers region m) (Pointers other n) = if is_same_region region other then Pointers region (joined_offsets m n) else Nothing
 joined _ _ = Nothing
 
@@ -69,20 +70,20 @@ displaced W64 Add o by = raised o by
 displaced W64 Sub o by = lowered o by
 displaced _ _ o by = None
 
-abbrev pub shifted : Width → Operation → Region → ℤ × ℤ → ℕ × ℕ → Option Ends
-shifted w operation region o n = option_map (Pointers region) (option_and_then (displaced w operation o) (in_a_row n))
+abbrev pub shifted : Width → Operation → Region → ℤ × ℤ → NumberSet → Option Ends
+shifted w operation region o n = option_map (Pointers region) (option_and_then (displaced w operation o) (in_a_row n.range))
 
 -- ---- operations
 
 -- a move of a number uses its low bits; a pointer is moved whole
 abbrev pub moved : Width → Ends → Option Ends
 moved w Nothing = None
-moved w (Numbers n) = Some (Numbers (low w n.0 n.1))
+moved w (Numbers n) = Some (Numbers (copies w n))
 moved W64 (Pointers region o) = Some (Pointers region o)
 moved _ (Pointers region o) = None
 
 abbrev pub combined : Width → Operation → Ends → Ends → Option Ends
-combined w operation (Numbers m) (Numbers n) = Some (Numbers (table w operation m.0 m.1 n.0 n.1))
+combined w operation (Numbers m) (Numbers n) = Some (Numbers (table w operation m n))
 combined w operation (Pointers region o) (Numbers n) = shifted w operation region o n
 combined w operation _ _ = None
 
@@ -92,8 +93,8 @@ computed w Move a b = moved w b
 computed w operation a b = combined w operation a b
 
 -- what turns one number into another gives nothing of a pointer
-abbrev pub mapped : (ℕ → ℕ → ℕ × ℕ) → Ends → Option Ends
-mapped f (Numbers n) = Some (Numbers (f n.0 n.1))
+abbrev pub mapped : (NumberSet → NumberSet) → Ends → Option Ends
+mapped f (Numbers n) = Some (Numbers (f n))
 mapped f _ = None
 
 abbrev pub negated_known : Width → Ends → Option Ends
@@ -113,4 +114,4 @@ immediate_known n = Numbers (single (cast_unsigned w64 n))
 
 -- any number of so many bytes
 abbrev pub loaded_known : Size → Ends
-loaded_known size = Numbers (0, 256 ^ bytes_of size - 1)
+loaded_known size = Numbers (within (0, 256 ^ bytes_of size - 1))

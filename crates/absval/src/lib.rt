@@ -1,12 +1,14 @@
 //! What the verifier knows of a value: nothing, a number in a range, or a pointer with its offsets in a range.
 #![tactic(auto)]
 
+mod number_set;
 mod operations;
 mod pointer;
 mod value;
 mod values;
 mod windows;
 
+pub use number_set::NumberSet;
 pub use operations::{arithmetic, negate, sign_extend, swap};
 pub use value::{AbsVal, Offsets};
 pub use values::{immediate, join, loaded};

@@ -1,15 +1,14 @@
 ghost use Rattle.std.specs.Prelude.{◌≡◌, ◌≢◌, ◌≤ℤ◌, ◌↔◌, ℕ, ℤ, true, IfSome, IsSome, IsSomeAnd, option_map};
 ghost use Rattle.word.specs.Arithmetic.{arithmetic as computed, negated, sign_extended, swapped};
-ghost use Rattle.range.specs.Interval.{IsIn};
 ghost use Rattle.semantics.specs.declared.value.Value.{Value};
 ghost use Rattle.semantics.specs.Step.{result_of, mapped};
-ghost use Rattle.range.specs.Table.{low};
+ghost use Rattle.absval.specs.NumberSets.{Has};
 ghost use Rattle.absval.specs.Contains.{Contains, Gives, is_number};
 ghost use Rattle.absval.specs.Table.{ends_of, computed as known, moved as known_moved, combined as known_combined, shifted as known_shifted, negated_known, extended_known, swapped_known};
 
+use crate::number_set::NumberSet;
 use crate::pointer::{as_signed, lowered, raised};
 use crate::value::{AbsVal, Offsets};
-use range::{Range, operate, unary};
 use semantics::Region;
 use word::{ByteOrder, Narrow, Operation, SwapSize, Width};
 
@@ -34,20 +33,12 @@ fn moved(width: Width, b: AbsVal) -> Option<AbsVal>
 {
     match b {
         AbsVal::Unset => None,
-        AbsVal::Number(n) => Some(AbsVal::Number(copied(width, n))),
+        AbsVal::Number(n) => Some(AbsVal::Number(n.low_bits(width))),
         AbsVal::Pointer(..) => match width {
             Width::W64 => Some(b),
             Width::W32 => None,
         },
     }
-}
-
-/// The numbers that moves of these give.
-fn copied(width: Width, n: Range) -> Range
-    ensures holds { (y : ℕ) → IsIn n.lo n.hi y → IsIn result.lo result.hi (computed width Operation.Move 0 y) }
-    ensures exact { (result.lo, result.hi) ≡ low width n.lo n.hi }
-{
-    operate::operate(width, Operation::Move, Range::exactly(0), n)
 }
 
 /// What an operation that reads both values gives.
@@ -57,14 +48,13 @@ fn combined(width: Width, operation: Operation, a: AbsVal, b: AbsVal) -> Option<
     ensures numbers { is_number a ≡ true → is_number b ≡ true → IsSomeAnd result (λ r. is_number r ≡ true) }
     ensures exact { option_map ends_of result ≡ known_combined width operation (ends_of a) (ends_of b) }
 {
-    match (a, b) {
-        (AbsVal::Number(m), AbsVal::Number(n)) => Some(AbsVal::Number(operate::operate(
-            width, operation, m, n,
-        ))),
-        (AbsVal::Pointer(region, offsets), AbsVal::Number(n)) => shifted(
-            width, operation, region, offsets, n,
-        ),
-        _ => None,
+    let AbsVal::Number(n) = b else {
+        return None;
+    };
+    match a {
+        AbsVal::Unset => None,
+        AbsVal::Number(m) => { Some(AbsVal::Number(NumberSet::operate(width, operation, m, n))) }
+        AbsVal::Pointer(region, offsets) => shifted(width, operation, region, offsets, n),
     }
 }
 
@@ -74,17 +64,17 @@ fn shifted(
     operation: Operation,
     region: Region,
     offsets: Offsets,
-    n: Range,
+    n: NumberSet,
 ) -> Option<AbsVal>
     requires { operation ≢ Operation.Move }
-    ensures holds { IfSome result (λ r. (o : ℤ) (y : ℕ) → offsets.low ≤ℤ o → o ≤ℤ offsets.high → IsIn n.lo n.hi y →
+    ensures holds { IfSome result (λ r. (o : ℤ) (y : ℕ) → offsets.low ≤ℤ o → o ≤ℤ offsets.high → Has n y →
         Gives r (result_of width operation (Value.Pointer region o) (Value.Number y))) }
-    ensures exact { option_map ends_of result ≡ known_shifted width operation region (offsets.low, offsets.high) (n.lo, n.hi) }
+    ensures exact { option_map ends_of result ≡ known_shifted width operation region (offsets.low, offsets.high) n }
 {
     let Width::W64 = width else {
         return None;
     };
-    let by = as_signed(n)?;
+    let by = as_signed(n.range())?;
     match operation {
         Operation::Add => Some(AbsVal::Pointer(region, raised(offsets, by)?)),
         Operation::Sub => Some(AbsVal::Pointer(region, lowered(offsets, by)?)),
@@ -100,7 +90,7 @@ pub fn negate(width: Width, a: AbsVal) -> Option<AbsVal>
     ensures exact { option_map ends_of result ≡ negated_known width (ends_of a) }
 {
     match a {
-        AbsVal::Number(n) => Some(AbsVal::Number(unary::negate(width, n))),
+        AbsVal::Number(n) => Some(AbsVal::Number(n.negate(width))),
         AbsVal::Unset | AbsVal::Pointer(..) => None,
     }
 }
@@ -113,7 +103,7 @@ pub fn sign_extend(width: Width, part: Narrow, a: AbsVal) -> Option<AbsVal>
     ensures exact { option_map ends_of result ≡ extended_known width part (ends_of a) }
 {
     match a {
-        AbsVal::Number(n) => Some(AbsVal::Number(unary::sign_extend(width, part, n))),
+        AbsVal::Number(n) => Some(AbsVal::Number(n.sign_extend(width, part))),
         AbsVal::Unset | AbsVal::Pointer(..) => None,
     }
 }
@@ -126,7 +116,7 @@ pub fn swap(order: ByteOrder, size: SwapSize, a: AbsVal) -> Option<AbsVal>
     ensures exact { option_map ends_of result ≡ swapped_known order size (ends_of a) }
 {
     match a {
-        AbsVal::Number(n) => Some(AbsVal::Number(unary::swap(order, size, n))),
+        AbsVal::Number(n) => Some(AbsVal::Number(n.swap(order, size))),
         AbsVal::Unset | AbsVal::Pointer(..) => None,
     }
 }

@@ -18,8 +18,8 @@ pub(crate) struct SignedRange {
 
 /// The numbers of the range as signed, where they are in a row.
 pub(crate) fn as_signed(range: Range) -> Option<SignedRange>
-    ensures holds { IfSome result (λ s. (n : ℕ) → range.lo ≤ n → n ≤ range.hi → (s.low ≤ℤ cast_signed w64 n) × (cast_signed w64 n ≤ℤ s.high)) }
-    ensures exact { option_map (λ s. (s.low, s.high)) result ≡ in_a_row (range.lo, range.hi) }
+    ensures holds { IfSome result (λ s. (n : ℕ) → range.0 ≤ n → n ≤ range.1 → (s.low ≤ℤ cast_signed w64 n) × (cast_signed w64 n ≤ℤ s.high)) }
+    ensures exact { option_map (λ s. (s.low, s.high)) result ≡ in_a_row range }
 {
     let low = range.lo.cast_signed();
     let high = range.hi.cast_signed();

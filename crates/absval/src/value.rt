@@ -1,4 +1,4 @@
-use range::Range;
+use crate::number_set::NumberSet;
 use semantics::Region;
 
 /// From which to which offset a pointer may point, both among them.
@@ -13,8 +13,8 @@ pub struct Offsets {
 pub enum AbsVal {
     /// Nothing: it may be unset.
     Unset,
-    /// It is a number of the range.
-    Number(Range),
+    /// It is a number of the set.
+    Number(NumberSet),
     /// It is a pointer into the region, at one of the offsets.
     Pointer(Region, Offsets),
 }

@@ -1,10 +1,11 @@
-ghost use Rattle.std.specs.Prelude.{◌≡◌, ◌≤◌, ◌<◌, ◌^◌, ◌-◌, ◌*◌, ◌&&◌, ◌≤ℤ◌, ℕ, true};
+ghost use Rattle.std.specs.Prelude.{◌≡◌, ◌≤◌, ◌<◌, ◌^◌, ◌-◌, ◌*◌, ◌&&◌, ◌≤ℤ◌, ℕ, true, false};
 ghost use Rattle.std.specs.Int.{w64, cast_unsigned};
 ghost use Rattle.insn.specs.Insn.{bytes_of};
 ghost use Rattle.semantics.specs.declared.value.Value.{Value};
-ghost use Rattle.absval.specs.Contains.{Contains, is_number};
-ghost use Rattle.absval.specs.Table.{ends_of, immediate_known, loaded_known, joined as known_joined, joined_offsets};
+ghost use Rattle.absval.specs.Contains.{Contains, IsNumberOf, IsPointerIn, is_number};
+ghost use Rattle.absval.specs.Table.{Numbers, Pointers, ends_of, immediate_known, loaded_known, joined as known_joined, joined_offsets};
 
+use crate::number_set::NumberSet;
 use crate::value::{AbsVal, Offsets};
 use insn::Size;
 use range::Range;
@@ -16,7 +17,7 @@ pub fn immediate(n: i32) -> AbsVal
     ensures holds { Contains result (Value.Number (cast_unsigned w64 n)) }
     ensures exact { ends_of result ≡ immediate_known n }
 {
-    AbsVal::Number(Range::exactly(i64::from(n).cast_unsigned()))
+    AbsVal::Number(NumberSet::exactly(i64::from(n).cast_unsigned()))
 }
 
 /// What a load of so many bytes may give.
@@ -25,14 +26,14 @@ pub fn loaded(size: Size) -> AbsVal
     ensures holds { (n : ℕ) → n < 256 ^ bytes_of size → Contains result (Value.Number n) }
     ensures exact { ends_of result ≡ loaded_known size }
 {
-    AbsVal::Number(numbers_of(size))
+    AbsVal::Number(NumberSet::within(numbers_of(size)))
 }
 
 /// The numbers of so many bytes.
 fn numbers_of(size: Size) -> Range
-    ensures high { (n : ℕ) → n < 256 ^ bytes_of size → n ≤ result.hi }
-    ensures low { result.lo ≡ 0 }
-    ensures exact { result.hi ≡ 256 ^ bytes_of size - 1 }
+    ensures high { (n : ℕ) → n < 256 ^ bytes_of size → n ≤ result.1 }
+    ensures low { result.0 ≡ 0 }
+    ensures exact { result.1 ≡ 256 ^ bytes_of size - 1 }
 {
     let hi = match size {
         Size::Byte => 0xff,
@@ -50,15 +51,40 @@ pub fn join(a: AbsVal, b: AbsVal) -> AbsVal
     ensures number { is_number result ≡ (is_number a && is_number b) }
     ensures exact { ends_of result ≡ known_joined (ends_of a) (ends_of b) }
 {
-    match (a, b) {
-        (AbsVal::Number(m), AbsVal::Number(n)) => AbsVal::Number(m.join(n)),
-        (AbsVal::Pointer(Region::Stack, m), AbsVal::Pointer(Region::Stack, n)) => AbsVal::Pointer(
-            Region::Stack,
-            joined(m, n),
-        ),
-        (AbsVal::Pointer(Region::Context, m), AbsVal::Pointer(Region::Context, n)) =>
-            AbsVal::Pointer(Region::Context, joined(m, n)),
-        _ => AbsVal::Unset,
+    match a {
+        AbsVal::Unset => AbsVal::Unset,
+        AbsVal::Number(m) => join_number(m, b),
+        AbsVal::Pointer(region, m) => join_pointer(region, m, b),
+    }
+}
+
+/// What holds each of the numbers and each value of the other.
+fn join_number(m: NumberSet, b: AbsVal) -> AbsVal
+    ensures left { (v : Value) → IsNumberOf m v → Contains result v }
+    ensures right { (v : Value) → Contains b v → Contains result v }
+    ensures number { is_number result ≡ is_number b }
+    ensures exact { ends_of result ≡ known_joined (Numbers m) (ends_of b) }
+{
+    match b {
+        AbsVal::Number(n) => AbsVal::Number(m.join(n)),
+        AbsVal::Unset | AbsVal::Pointer(..) => AbsVal::Unset,
+    }
+}
+
+/// What holds each of the pointers and each value of the other.
+fn join_pointer(region: Region, m: Offsets, b: AbsVal) -> AbsVal
+    ensures left { (v : Value) → IsPointerIn region m.low m.high v → Contains result v }
+    ensures right { (v : Value) → Contains b v → Contains result v }
+    ensures number { is_number result ≡ false }
+    ensures exact { ends_of result ≡ known_joined (Pointers region (m.low, m.high)) (ends_of b) }
+{
+    match b {
+        AbsVal::Pointer(other, n) => match (region, other) {
+            (Region::Stack, Region::Stack) => AbsVal::Pointer(region, joined(m, n)),
+            (Region::Context, Region::Context) => AbsVal::Pointer(region, joined(m, n)),
+            _ => AbsVal::Unset,
+        },
+        AbsVal::Unset | AbsVal::Number(_) => AbsVal::Unset,
     }
 }
 

@@ -21,6 +21,3 @@ pub use assembler::assemble;
 pub use disassembler::disassemble;
 pub use fault::{AsmError, Fault};
 pub use laws::{mnemonics_are_named, registers_are_numbered};
-
-#[cfg(test)]
-mod tests;

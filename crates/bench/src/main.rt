@@ -1,4 +1,4 @@
-//! `bench`, which times the codec, the verifier and the machine: what it measures goes to standard
+//! `bench`, which times the codec, the verifier, the machine and trees: what it measures goes to standard
 //! output, which is the same at every run, and the times go to standard error.
 #![tactic(auto)]
 
@@ -8,10 +8,12 @@ mod median;
 mod plain;
 mod report;
 mod shape;
+mod trees;
 mod work;
 
 use anyhow::Result;
 
 fn main(rt: HostRuntime) -> Result<()> {
-    report::report(&rt)
+    report::report(&rt)?;
+    trees::report_trees(&rt)
 }

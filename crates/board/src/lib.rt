@@ -5,8 +5,6 @@ mod access;
 mod laws;
 mod object;
 mod same;
-#[cfg(test)]
-mod tests;
 mod words;
 
 pub use access::Access;

@@ -4,5 +4,6 @@ pub mod Listed
 pub mod PartLemmas
 pub mod LabelLemmas
 pub mod ReadingLemmas
-pub mod PlaceLemmas
+pub mod ToldLemmas
+pub mod TreeLemmas
 pub mod WholeLemmas

@@ -3,7 +3,8 @@ use Rattle.std.proofs.Common.{ℕ, zero, suc, ◌+◌, ◌<◌, ◌≤◌, ◌�
 use Rattle.std.specs.Prelude.{◌==◌, slice_index}
 use Rattle.std.proofs.lemmas.Bool.{or_left, or_right, or_parts, eq-eqb, eqb-false, cases_lt}
 use Rattle.std.proofs.lemmas.List.{length-map}
-use Rattle.combine.specs.Rule.{IsMajorityRule, majority}
+use Rattle.combine.specs.Rule.{IsMajorityRule}
+use Rattle.combine.specs.Chosen.{combined_by, chosen_is_rule}
 use Rattle.label.specs.Labels.{on, others}
 use Rattle.label.specs.Oral.{om, Messages, Agree, IsLoyalLieutenant}
 use Rattle.label.proofs.Counting.{others-on}
@@ -39,9 +40,9 @@ listed f law holds n c m M inside order traitor bound faithful =
     }
 
 -- those of a table too
-pub table_agrees : IsMajorityRule majority → AgreementHolds → (t : MessageTable) → t.commander < t.generals → AgreesIfBound t.generals t.commander t.bound (told t.messages) (decisions_of t)
+pub table_agrees : AgreementHolds → (t : MessageTable) → t.commander < t.generals → AgreesIfBound t.generals t.commander t.bound (told t.messages) (decisions_of t)
 unfolding decisions_of decision_of
-table_agrees law holds t inside = listed majority law holds t.generals t.commander t.bound (told t.messages) inside
+table_agrees holds t inside = listed (combined_by t.rule) (chosen_is_rule t.rule) holds t.generals t.commander t.bound (told t.messages) inside
 
 -- a list that has come to the last general is whole
 pub listed_all : (t : MessageTable) (decisions : List ℕ) (k : ℕ) → t.generals ≤ k → k ≤ t.generals → decisions ≡ map (decision_of t) (others k (t.commander ∷ [])) → decisions ≡ decisions_of t

@@ -3,12 +3,12 @@ use Rattle.std.proofs.Common.{◌≡◌, List, ℕ, ◌∷◌, None, refl}
 use Rattle.text.specs.Stop.{space}
 use Rattle.text.specs.Parts.{pieces}
 use Rattle.text.proofs.PartsLemmas.{pieces_is}
-use Rattle.book.specs.Grammar.{head_parts, tell_parts}
+use Rattle.book.specs.Grammar.{rule_parts, tell_parts}
 
 -- more than four parts
 pub tell_too_long : (a b c d rest : List ℕ) → None ≡ tell_parts (a ∷ b ∷ c ∷ d ∷ pieces space rest)
 tell_too_long a b c d rest = rw (pieces_is space rest) refl
 
--- more than six parts
-pub head_too_long : (a b c d e f rest : List ℕ) → None ≡ head_parts (a ∷ b ∷ c ∷ d ∷ e ∷ f ∷ pieces space rest)
-head_too_long a b c d e f rest = rw (pieces_is space rest) refl
+-- more than two parts
+pub rule_too_long : (a b rest : List ℕ) → None ≡ rule_parts (a ∷ b ∷ pieces space rest)
+rule_too_long a b rest = rw (pieces_is space rest) refl

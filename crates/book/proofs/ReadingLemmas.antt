@@ -41,3 +41,9 @@ told_once t number label p v said w s inside e once =
     let good = some_is (is_place t s.w p) s.w w (e ∙ placed_label-is t (pieces dot label) s.w p inside s.numbers) in
     let any : list_any (is_about s.w p) t.messages ≡ false = rw good.1 once in
     rw (s.is, good.0, any, good.1) refl
+
+-- a label that is placed is a place
+pub placed_there : (t : MessageTable) (label : List ℕ) (p v : ℕ) (said : Option Message) (w : List ℕ) → IsShape label p v said → t.commander < t.generals → Some w ≡ placed_label t (pieces dot label) p → is_place t w p ≡ true
+placed_there t label p v said w s inside e =
+    let good = some_is (is_place t s.w p) s.w w (e ∙ placed_label-is t (pieces dot label) s.w p inside s.numbers) in
+    rw good.1 at good.0

@@ -4,6 +4,7 @@ use Rattle.std.specs.Prelude.{Result, Ok, Err, nat_lt, nat_le, bytes_eq, if◌th
 use Rattle.std.specs.List.{list_all, list_any, AllByRecursion}
 use Rattle.std.proofs.lemmas.Bool.{and_parts, not-true, leb-true, ltb-true, or_from, or_parts}
 use Rattle.std.proofs.lemmas.Bool.Decides.{nat_tests}
+use Rattle.combine.specs.declared.chosen.Rule.{Rule}
 use Rattle.text.specs.Options.{◌>>=◌}
 use Rattle.text.specs.Stop.{space, dot}
 use Rattle.text.specs.Parts.{pieces, lines_of}
@@ -33,16 +34,16 @@ limits n m c e =
 ok_same : (x y : MessageTable) → ◌≡◌ {A = Result MessageTable TableError} (Ok x) (Ok y) → x ≡ y
 ok_same x y e = cc
 
-head_whole : (n m c : ℕ) (t : MessageTable) (b : Bool) → is_within n m c ≡ b → (if b then Ok (record { generals = n; bound = m; commander = c; messages = [] }) else Err (Range 1)) ≡ Ok t → IsWhole t
-head_whole n m c t true h e =
-    let empty : MessageTable = record { generals = n; bound = m; commander = c; messages = [] } in
+head_whole : (n m c : ℕ) (rule : Rule) (t : MessageTable) (b : Bool) → is_within n m c ≡ b → (if b then Ok (record { generals = n; bound = m; commander = c; rule = rule; messages = [] }) else Err (Range 1)) ≡ Ok t → IsWhole t
+head_whole n m c rule t true h e =
+    let empty : MessageTable = record { generals = n; bound = m; commander = c; rule = rule; messages = [] } in
     let made : IsWhole empty = record { within = limits n m c h; messages = tt; once = tt } in
     subst IsWhole (ok_same empty t e) made
-head_whole n m c t false h e = cc
+head_whole n m c rule t false h e = cc
 
-opened_whole : (head : Option (ℕ × ℕ × ℕ)) (t : MessageTable) → opened head ≡ Ok t → IsWhole t
+opened_whole : (head : Option (ℕ × ℕ × ℕ × Rule)) (t : MessageTable) → opened head ≡ Ok t → IsWhole t
 opened_whole None t e = cc
-opened_whole (Some h) t e = head_whole h.0 h.1 h.2 t (is_within h.0 h.1 h.2) refl e
+opened_whole (Some h) t e = head_whole h.0 h.1 h.2 h.3 t (is_within h.0 h.1 h.2) refl e
 
 picked : (said x : Message) (number : ℕ) (place again : Bool) → (if place then (if again then Err (Twice number) else Ok said) else Err (Place number)) ≡ Ok x → (said ≡ x) × (place ≡ true) × (again ≡ false)
 picked said x number true true e = cc
@@ -50,7 +51,7 @@ picked said x number true false e = (cc, refl, refl)
 picked said x number false again e = cc
 
 -- a message that passes says a place that no earlier one is about
-checked_parts : (t : MessageTable) (number : ℕ) (o : Option Message) (x : Message) → checked t number o ≡ Ok x
+pub checked_parts : (t : MessageTable) (number : ℕ) (o : Option Message) (x : Message) → checked t number o ≡ Ok x
     → (o ≡ Some x) × (is_place t x.label x.receiver ≡ true) × (list_any (is_about x.label x.receiver) t.messages ≡ false)
 checked_parts t number None x e = cc
 checked_parts t number (Some said) x e =
@@ -85,7 +86,7 @@ message_small line x e =
     let P : Message → Type 0 = λ v. v.order < 2 ^ 32 in
     subst P same (order_small a.0.2 d.0 d.1)
 
-place_message : (t : MessageTable) (x : Message) → is_place t x.label x.receiver ≡ true → x.order < 2 ^ 32 → IsMessage t.generals t.bound t.commander x
+pub place_message : (t : MessageTable) (x : Message) → is_place t x.label x.receiver ≡ true → x.order < 2 ^ 32 → IsMessage t.generals t.bound t.commander x
 place_message t x e l =
     let off = and_parts (is_distinct x.label && begins_with t.commander x.label && list_all (λ y. nat_lt y t.generals) x.label && nat_le (length x.label) (t.bound + 1) && nat_lt x.receiver t.generals) (not (on x.label x.receiver)) e in
     let general = and_parts (is_distinct x.label && begins_with t.commander x.label && list_all (λ y. nat_lt y t.generals) x.label && nat_le (length x.label) (t.bound + 1)) (nat_lt x.receiver t.generals) off.0 in
@@ -108,7 +109,7 @@ any-push : (t : Message → Bool) (xs : List Message) (y : Message) → list_any
 any-push t [] y a p = or_from (t y) false p refl
 any-push t (x ∷ xs) y a p = let both = or_parts (t x) (list_any t xs) a in or_from (t x) (list_any t (xs ++ y ∷ [])) both.0 (any-push t xs y both.1 p)
 
-bytes_sym : (xs ys : List ℕ) → bytes_eq xs ys ≡ bytes_eq ys xs
+pub bytes_sym : (xs ys : List ℕ) → bytes_eq xs ys ≡ bytes_eq ys xs
 bytes_sym [] [] = refl
 bytes_sym [] (y ∷ ys) = refl
 bytes_sym (x ∷ xs) [] = refl

@@ -1,13 +1,13 @@
 -- What the lieutenants of a table decide, and when they agree.
 use Rattle.std.specs.Prelude.{ℕ, ◌≡◌, ◌<◌, Bool, false, List, [], ◌∷◌, map}
-use Rattle.combine.specs.Rule.{majority}
-use Rattle.label.specs.Lieutenants.{lieutenants, AgreeInList}
+use Rattle.combine.specs.Chosen.{combined_by}
+pub use Rattle.label.specs.Lieutenants.{lieutenants, IsLoyalAt, AgreeInList}
 use Rattle.label.specs.Oral.{Messages, om, IsBound, IsFaithful}
 use Rattle.book.specs.Table.{MessageTable, told}
 
--- what a lieutenant decides by the majority of the messages that the table tells
+-- what a lieutenant decides by the table's rule of the messages that it tells
 unfoldable pub decision_of : MessageTable → ℕ → ℕ
-decision_of t p = om majority t.generals (told t.messages) t.bound (t.commander ∷ []) p
+decision_of t p = om (combined_by t.rule) t.generals (told t.messages) t.bound (t.commander ∷ []) p
 
 -- the decisions of the lieutenants, ascending
 unfoldable pub decisions_of : MessageTable → List ℕ

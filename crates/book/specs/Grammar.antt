@@ -1,6 +1,8 @@
--- The text of a message table: a line of the campaign's numbers, then a line for each message.
+-- The text of a message table: a line of the campaign's numbers and its rule, then a line for each message.
 use Rattle.std.specs.Prelude.{ℕ, suc, ◌+◌, ◌^◌, ◌&&◌, not, nat_lt, nat_le, Bool, if◌then◌else◌, List, [], ◌∷◌, ◌++◌, length, bytes_eq, codes, Option, Some, None, Result, Ok, Err}
 use Rattle.std.specs.List.{list_all, list_any}
+use Rattle.combine.specs.declared.chosen.Rule.{Rule}
+use Rattle.combine.specs.declared.chosen.Rule.TheVariants.{Majority, Median}
 use Rattle.text.specs.Options.{◌>>=◌}
 use Rattle.text.specs.Stop.{space, dot}
 use Rattle.text.specs.Parts.{pieces, lines_of}
@@ -12,24 +14,35 @@ use Rattle.book.specs.declared.fault.TableError.{TableError}
 use Rattle.book.specs.declared.fault.TableError.TheVariants.{Line, Range, Place, Twice}
 use Rattle.book.specs.Table.{MessageTable, is_about}
 
--- the numbers of `generals N bound M commander C`
-abbrev pub head_parts : List (List ℕ) → Option (List ℕ × List ℕ × List ℕ)
-head_parts (first ∷ n ∷ second ∷ m ∷ third ∷ c ∷ []) = if bytes_eq first (codes "generals") && bytes_eq second (codes "bound") && bytes_eq third (codes "commander") then Some (n, m, c) else None
+-- the rule of a name
+abbrev pub rule_named : List ℕ → Option Rule
+rule_named name = if bytes_eq name (codes "majority") then Some Majority else (if bytes_eq name (codes "median") then Some Median else None)
+
+-- the rule that a first line ends in, the majority where it names none
+abbrev pub rule_parts : List (List ℕ) → Option Rule
+rule_parts [] = Some Majority
+rule_parts (word ∷ name ∷ []) = if bytes_eq word (codes "rule") then rule_named name else None
+rule_parts _ = None
+
+-- the numbers of `generals N bound M commander C`, and the rule of ` rule NAME` behind it
+abbrev pub head_parts : List (List ℕ) → Option (List ℕ × List ℕ × List ℕ × Rule)
+head_parts (first ∷ n ∷ second ∷ m ∷ third ∷ c ∷ rest) =
+    if bytes_eq first (codes "generals") && bytes_eq second (codes "bound") && bytes_eq third (codes "commander") then (rule_parts rest >>= λ rule. Some (n, m, c, rule)) else None
 head_parts _ = None
 
--- the three numbers of a first line of that shape
-unfoldable pub head_of : List ℕ → Option (ℕ × ℕ × ℕ)
-head_of line = head_parts (pieces space line) >>= λ parts. decimal_of parts.0 >>= λ n. decimal_of parts.1 >>= λ m. decimal_of parts.2 >>= λ c. Some (n, m, c)
+-- the three numbers of a first line of that shape, and its rule
+unfoldable pub head_of : List ℕ → Option (ℕ × ℕ × ℕ × Rule)
+head_of line = head_parts (pieces space line) >>= λ parts. decimal_of parts.0 >>= λ n. decimal_of parts.1 >>= λ m. decimal_of parts.2 >>= λ c. Some (n, m, c, parts.3)
 
 -- the numbers are within their limits: 2 to 13 generals, a bound of 0 to 4 and at most all generals but 2, the commander a general
 abbrev pub is_within : ℕ → ℕ → ℕ → Bool
 is_within n m c = nat_le n 13 && nat_le m 4 && nat_le (m + 2) n && nat_lt c n
 
 -- the first line: a table without messages, or its fault
-abbrev pub opened : Option (ℕ × ℕ × ℕ) → Result MessageTable TableError
+abbrev pub opened : Option (ℕ × ℕ × ℕ × Rule) → Result MessageTable TableError
 opened None = Err (Line 1)
 opened (Some head) =
-    if is_within head.0 head.1 head.2 then Ok (record { generals = head.0; bound = head.1; commander = head.2; messages = [] }) else Err (Range 1)
+    if is_within head.0 head.1 head.2 then Ok (record { generals = head.0; bound = head.1; commander = head.2; rule = head.3; messages = [] }) else Err (Range 1)
 
 -- the parts of `tell LABEL RECEIVER V` behind its word
 abbrev pub tell_parts : List (List ℕ) → Option (List ℕ × List ℕ × List ℕ)

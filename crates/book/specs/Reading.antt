@@ -2,7 +2,7 @@
 use Rattle.std.specs.Prelude.{ℕ, ◌≡◌, ◌+◌, ◌==◌, ◌&&◌, not, nat_lt, nat_le, if◌then◌else◌, List, [], ◌∷◌, ◌++◌, length, Option, Some, None}
 use Rattle.std.proofs.Common.{Bor}
 use Rattle.text.specs.Options.{◌>>=◌}
-use Rattle.text.specs.Stop.{dot}
+use Rattle.text.specs.Stop.{space, dot}
 use Rattle.text.specs.Parts.{pieces}
 use Rattle.text.specs.Number.{decimal_of}
 use Rattle.label.specs.Labels.{on}
@@ -14,6 +14,11 @@ use Rattle.book.specs.Grammar.{numbers_of}
 abbrev pub left : Option (Bor (List ℕ)) → List (List ℕ)
 left None = []
 left (Some rest) = pieces dot rest.now
+
+-- the words that are left
+abbrev pub words_left : Option (Bor (List ℕ)) → List (List ℕ)
+words_left None = []
+words_left (Some rest) = pieces space rest.now
 
 -- how much is left of the text
 abbrev pub left_len : Option (Bor (List ℕ)) → ℕ

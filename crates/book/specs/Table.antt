@@ -1,5 +1,6 @@
 -- A message table as a value, and the messages that it tells.
 use Rattle.std.specs.Prelude.{ℕ, ◌+◌, ◌<◌, ◌≤◌, ◌==◌, ◌&&◌, Bool, List, option_map, find, bytes_eq}
+use Rattle.combine.specs.declared.chosen.Rule.{Rule}
 use Rattle.label.specs.Oral.{Messages}
 use Rattle.book.specs.declared.message.Message.{Message}
 
@@ -10,11 +11,12 @@ pub record IsWithin (generals bound commander : ℕ) : Type 0 where
   pub relays : bound + 2 ≤ generals
   pub present : commander < generals
 
--- a table: the campaign's numbers, and its messages
+-- a table: the campaign's numbers, its rule of combination, and its messages
 pub record MessageTable : Type 0 where
   pub generals : ℕ
   pub bound : ℕ
   pub commander : ℕ
+  pub rule : Rule
   pub messages : List Message
 
 -- the message is of this label and receiver

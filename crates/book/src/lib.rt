@@ -4,7 +4,6 @@
 mod fault;
 mod message;
 mod parts;
-mod places;
 mod placing;
 mod reader;
 mod recursion;

@@ -2,32 +2,32 @@
 ghost use Rattle.std.specs.Prelude.{◌≡◌, ◌≤◌, ◌<◌, ◌^◌, ◌↔◌, IsTrue, IfSome, option_map, is_some};
 ghost use Rattle.text.specs.Stop.{space, dot};
 ghost use Rattle.text.specs.Parts.{pieces};
-ghost use Rattle.book.specs.Grammar.{head_parts, head_of, tell_parts, numbers_of, order_in, message_of};
-ghost use Rattle.book.specs.Reading.{GivesShape};
+ghost use Rattle.book.specs.Grammar.{head_parts, head_of, rule_named, rule_parts, tell_parts, numbers_of, order_in, message_of};
+ghost use Rattle.book.specs.Reading.{GivesShape, words_left};
 
+use combine::Rule;
 use text::{Stop, decimal, piece};
 
 const SPACE: Stop = Stop::Byte(b' ');
 
 const DOT: Stop = Stop::Byte(b'.');
 
-/// The three numbers of the first line.
+/// The three numbers of the first line, and its rule.
 #[tactic(auto, unfolding(crate::specs::Grammar::head_of))]
-pub fn head(line: &[u8]) -> Option<(u128, u128, u128)>
+pub fn head(line: &[u8]) -> Option<(u128, u128, u128, Rule)>
     ensures value { result ≡ head_of line.now }
     ensures small { IfSome result (λ h. (h.0 ≤ 2 ^ 64) × (h.1 ≤ 2 ^ 64) × (h.2 ≤ 2 ^ 64)) }
 {
-    let (generals, bound, commander) = cut_head(line)?;
+    let (generals, bound, commander, rule) = cut_head(line)?;
     let generals = decimal(generals)?;
     let bound = decimal(bound)?;
     let commander = decimal(commander)?;
-    Some((generals, bound, commander))
+    Some((generals, bound, commander, rule))
 }
 
-/// The parts of `generals N bound M commander C` that are numbers.
-#[tactic(auto, using(crate::proofs::PartLemmas::head_too_long))]
-fn cut_head(line: &[u8]) -> Option<(&[u8], &[u8], &[u8])>
-    ensures { option_map (λ p. (p.0.now, p.1.now, p.2.now)) result ≡ head_parts (pieces space line.now) }
+/// The parts of `generals N bound M commander C` that are numbers, and the rule that may follow.
+fn cut_head(line: &[u8]) -> Option<(&[u8], &[u8], &[u8], Rule)>
+    ensures { option_map (λ p. (p.0.now, p.1.now, p.2.now, p.3)) result ≡ head_parts (pieces space line.now) }
 {
     let (first, Some(rest)) = piece(SPACE, line) else {
         return None;
@@ -44,14 +44,46 @@ fn cut_head(line: &[u8]) -> Option<(&[u8], &[u8], &[u8])>
     let (third, Some(rest)) = piece(SPACE, rest) else {
         return None;
     };
-    let (commander, None) = piece(SPACE, rest) else {
-        return None;
-    };
+    let (commander, rest) = piece(SPACE, rest);
     if first == b"generals".as_slice()
         && second == b"bound".as_slice()
         && third == b"commander".as_slice()
     {
-        Some((generals, bound, commander))
+        Some((generals, bound, commander, rule(rest)?))
+    } else {
+        None
+    }
+}
+
+/// The rule of ` rule NAME`, the majority where nothing is left of the line.
+#[tactic(auto, using(crate::proofs::PartLemmas::rule_too_long))]
+fn rule(rest: Option<&[u8]>) -> Option<Rule>
+    ensures { result ≡ rule_parts (words_left rest.entry) }
+{
+    let Some(rest) = rest else {
+        return Some(Rule::Majority);
+    };
+    let (word, Some(rest)) = piece(SPACE, rest) else {
+        return None;
+    };
+    let (name, None) = piece(SPACE, rest) else {
+        return None;
+    };
+    if word == b"rule".as_slice() {
+        rule_named(name)
+    } else {
+        None
+    }
+}
+
+/// The rule of a name.
+fn rule_named(name: &[u8]) -> Option<Rule>
+    ensures { result ≡ rule_named name.now }
+{
+    if name == b"majority".as_slice() {
+        Some(Rule::Majority)
+    } else if name == b"median".as_slice() {
+        Some(Rule::Median)
     } else {
         None
     }

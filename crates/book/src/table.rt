@@ -1,49 +1,110 @@
-ghost use Rattle.std.specs.Prelude.{◌≡◌, ◌<◌, ◌≤◌, [], ◌∷◌, ◌++◌, OnOk, OnErr};
-ghost use Rattle.book.specs.Table.{MessageTable, IsWithin};
+ghost use Rattle.std.specs.Prelude.{◌≡◌, ◌≢◌, ◌<◌, ◌≤◌, [], ◌∷◌, true, false, length, IfOk};
+ghost use Rattle.std.specs.List.{list_any};
+ghost use Rattle.label.specs.Labels.{others};
+ghost use Rattle.book.specs.Table.{IsWithin, is_about, told};
+ghost use Rattle.book.specs.Grammar.{is_place, with_message};
+ghost use Rattle.book.specs.Trees.{tree_of};
 
 use crate::message::Message;
+use combine::Rule;
+use label::Label;
 use std::alloc::{AllocError, Global};
 use std::marker::Model;
+use tree::Tree;
 
-/// A message table: a campaign's numbers, and its messages.
+/// A message table: a campaign's numbers, its rule of combination, and its messages.
+///
+/// Beside the messages stands a tree for each lieutenant, filled from them: what the table tells of a
+/// label is read there, at its rank.
 #[derive(Drop)]
 pub struct Table {
     generals: u8,
     bound: u8,
     commander: u8,
+    rule: Rule,
     messages: Vec<Message>,
+    trees: Vec<Tree>,
 }
 
 impl Model for Table {
-    ghost use Rattle.book.specs.Table.{MessageTable, IsWithin};
+    ghost use Rattle.book.specs.Table.{MessageTable};
 
     ghost Value = { MessageTable };
 
-    ghost view = { λ t. record { generals = t.generals; bound = t.bound; commander = t.commander; messages = t.messages.items } };
+    ghost use Rattle.book.specs.Trees.{IsKept};
 
-    ghost invariant = { λ t. IsWithin t.generals t.bound t.commander };
+    ghost view = { λ t. record { generals = t.generals; bound = t.bound; commander = t.commander; rule = t.rule; messages = t.messages.items } };
+
+    ghost invariant = { λ t. IsKept t.generals t.bound t.commander t.messages.items t.trees.items };
+}
+
+/// The place of a lieutenant among the lieutenants, ascending.
+fn place(commander: u8, general: u8) -> usize
+    requires { general ≢ commander }
+    ensures { result ≡ length (others general (commander ∷ [])) }
+{
+    if commander < general {
+        usize::from(general - 1)
+    } else {
+        usize::from(general)
+    }
 }
 
 impl Table {
     /// The table of a campaign, without messages.
-    pub(crate) fn open(alloc: Global, generals: u8, bound: u8, commander: u8) -> Table
+    pub(crate) fn open(
+        alloc: Global,
+        generals: u8,
+        bound: u8,
+        commander: u8,
+        rule: Rule,
+    ) -> Result<Table, AllocError>
         requires { IsWithin generals bound commander }
-        ensures { result ≡ record { generals = generals; bound = bound; commander = commander; messages = [] } }
+        ensures { IfOk result (λ t. t ≡ record { generals = generals; bound = bound; commander = commander; rule = rule; messages = [] }) }
     {
-        Table {
+        let mut trees = Vec::with_capacity(alloc, generals as usize)?;
+        for general in 0..generals {
+            if general != commander {
+                trees.push(Tree::new(alloc, generals, bound, commander, general)?)?;
+            }
+        }
+        Ok(Table {
             generals,
             bound,
             commander,
+            rule,
             messages: Vec::new(alloc),
-        }
+            trees,
+        })
     }
 
-    /// One message more.
-    pub(crate) fn push(&mut self, message: Message) -> Result<(), AllocError>
-        ensures ok { OnOk result (self.new ≡ record self.old { messages = self.old.messages ++ message ∷ [] }) }
+    /// The table with one message more, of a place that was not told before.
+    pub(crate) fn with(mut self, message: Message) -> Result<Table, AllocError>
+        requires place { is_place self message.label message.receiver ≡ true }
+        requires fresh { list_any (is_about message.label message.receiver) self.messages ≡ false }
+        ensures { IfOk result (λ t. t ≡ with_message self message) }
     {
+        let place = place(self.commander, message.receiver);
+        self.trees[place].fill(&message.label, Some(message.order));
         self.messages.push(message)?;
-        Ok(())
+        Ok(self)
+    }
+
+    /// The tree of a lieutenant, filled from the messages.
+    pub(crate) fn tree(&self, general: u8) -> &Tree
+        requires general { general < self.now.generals }
+        requires lieutenant { general ≢ self.now.commander }
+        ensures { result.now ≡ tree_of self.now.generals self.now.bound self.now.commander (told self.now.messages) general }
+    {
+        &self.trees[place(self.commander, general)]
+    }
+
+    /// What is told of a label to a receiver, who does not stand on it.
+    pub(crate) fn told(&self, label: &Label, receiver: u8) -> Option<u32>
+        requires { is_place self.now label.now receiver ≡ true }
+        ensures { result ≡ told self.now.messages label.now receiver }
+    {
+        self.tree(receiver).value(label)
     }
 
     /// How many generals there are, 2 to 13.
@@ -68,6 +129,13 @@ impl Table {
         ensures within { IsWithin self.now.generals self.now.bound self.now.commander }
     {
         self.commander
+    }
+
+    /// The rule by which orders are combined.
+    pub fn rule(&self) -> Rule
+        ensures { result ≡ self.now.rule }
+    {
+        self.rule
     }
 
     /// The messages, in the order of the text.

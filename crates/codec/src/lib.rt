@@ -12,8 +12,6 @@ mod laws;
 mod memory;
 mod register;
 mod spelling;
-#[cfg(test)]
-mod tests;
 
 pub use decoder::decode;
 pub use encoder::encode;

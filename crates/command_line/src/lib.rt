@@ -4,8 +4,6 @@
 mod lab;
 mod reading;
 mod tasks;
-#[cfg(test)]
-mod tests;
 
 pub use reading::task;
 pub use tasks::{Task, TaskError};

@@ -27,38 +27,38 @@ clash b cause r e q = cc
 get_accepts : (s : State) (cause : Cause) → refused (arguments_of BoardGet) 1 s.registers ≡ None → given (slot_in s) (λ slot. Ok (Get slot)) ≡ Err cause → ⊥
 get_accepts s cause e q =
     let a = back (slot_in s) (λ slot. Ok (Get slot)) None cause e q in
-    clash (Get a.0) cause (Ok (Get a.0)) refl a.2
+    clash (Get a.0) cause (Ok (Get a.0)) (refl {a = Ok (Get a.0)}) a.2
 
 swap_accepts : (s : State) (make : ℕ → ℕ → Request) (cause : Cause) → refused (arguments_of BoardSwap) 1 s.registers ≡ None → given (slot_in s) (λ slot. given (word_in s 2) (λ value. Ok (make slot value))) ≡ Err cause → ⊥
 swap_accepts s make cause e q =
     let a = back (slot_in s) (λ slot. given (word_in s 2) (λ value. Ok (make slot value))) (or_else (refusal (word_in s 2)) None) cause e q in
     let b = back (word_in s 2) (λ value. Ok (make a.0 value)) None cause a.1 a.2 in
-    clash (make a.0 b.0) cause (Ok (make a.0 b.0)) refl b.2
+    clash (make a.0 b.0) cause (Ok (make a.0 b.0)) (refl {a = Ok (make a.0 b.0)}) b.2
 
 cas_accepts : (s : State) (cause : Cause) → refused (arguments_of BoardCas) 1 s.registers ≡ None → given (slot_in s) (λ slot. given (word_in s 2) (λ expected. given (word_in s 3) (λ new. Ok (Cas slot expected new)))) ≡ Err cause → ⊥
 cas_accepts s cause e q =
     let a = back (slot_in s) (λ slot. given (word_in s 2) (λ expected. given (word_in s 3) (λ new. Ok (Cas slot expected new)))) (or_else (refusal (word_in s 2)) (or_else (refusal (word_in s 3)) None)) cause e q in
     let b = back (word_in s 2) (λ expected. given (word_in s 3) (λ new. Ok (Cas a.0 expected new))) (or_else (refusal (word_in s 3)) None) cause a.1 a.2 in
     let d = back (word_in s 3) (λ new. Ok (Cas a.0 b.0 new)) None cause b.1 b.2 in
-    clash (Cas a.0 b.0 d.0) cause (Ok (Cas a.0 b.0 d.0)) refl d.2
+    clash (Cas a.0 b.0 d.0) cause (Ok (Cas a.0 b.0 d.0)) (refl {a = Ok (Cas a.0 b.0 d.0)}) d.2
 
 place_accepts : (s : State) (cause : Cause) → refused (arguments_of Send) 1 s.registers ≡ None → place_in s ≡ Err cause → ⊥
 place_accepts s cause e q =
     let a = back (argument s 1 1016) (λ label. given (argument s 2 13) (λ receiver. given (order_in s 3) (λ order. Ok (at_place label receiver order)))) (or_else (refusal (argument s 2 13)) (or_else (refusal (word_in s 3)) None)) cause e q in
     let b = back (argument s 2 13) (λ receiver. given (order_in s 3) (λ order. Ok (at_place a.0 receiver order))) (or_else (refusal (word_in s 3)) None) cause a.1 a.2 in
     let d = back_last (word_in s 3) (λ word. word % 2 ^ 32) (λ order. Ok (at_place a.0 b.0 order)) cause b.1 b.2 in
-    clash (at_place a.0 b.0 d.0) cause (Ok (at_place a.0 b.0 d.0)) refl d.1
+    clash (at_place a.0 b.0 d.0) cause (Ok (at_place a.0 b.0 d.0)) (refl {a = Ok (at_place a.0 b.0 d.0)}) d.1
 
 sway_accepts : (s : State) (cause : Cause) → refused (arguments_of Sway) 1 s.registers ≡ None → sway_in s ≡ Err cause → ⊥
 sway_accepts s cause e q =
     let a = back (argument s 1 13) (λ receiver. given (order_in s 2) (λ order. Ok (at_receiver receiver order))) (or_else (refusal (word_in s 2)) None) cause e q in
     let d = back_last (word_in s 2) (λ word. word % 2 ^ 32) (λ order. Ok (at_receiver a.0 order)) cause a.1 a.2 in
-    clash (at_receiver a.0 d.0) cause (Ok (at_receiver a.0 d.0)) refl d.1
+    clash (at_receiver a.0 d.0) cause (Ok (at_receiver a.0 d.0)) (refl {a = Ok (at_receiver a.0 d.0)}) d.1
 
 honest_accepts : (context : List ℕ) (s : State) (cause : Cause) → refused (arguments_of Honest) 1 s.registers ≡ None → given (argument s 1 13) (λ receiver. Ok (as_taken context receiver)) ≡ Err cause → ⊥
 honest_accepts context s cause e q =
     let a = back (argument s 1 13) (λ receiver. Ok (as_taken context receiver)) None cause e q in
-    clash (as_taken context a.0) cause (Ok (as_taken context a.0)) refl a.2
+    clash (as_taken context a.0) cause (Ok (as_taken context a.0)) (refl {a = Ok (as_taken context a.0)}) a.2
 
 pub calls_accept : (h : Helper) → AcceptsThese h (arguments_of h)
 calls_accept BoardGet context shape s cause e q = get_accepts s cause e (asked_trap s (given (slot_in s) (λ slot. Ok (Get slot))) cause q)

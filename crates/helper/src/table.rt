@@ -58,7 +58,7 @@ pub fn arguments(helper: Helper) -> [Option<Argument>; 3]
 
 /// What the helper returns in r0.
 pub fn result(helper: Helper) -> Range
-    ensures exact { (result.lo, result.hi) ≡ result_of helper }
+    ensures exact { result ≡ result_of helper }
     ensures holds { Returns helper (result_of helper).0 (result_of helper).1 }
 {
     let hi = match helper {

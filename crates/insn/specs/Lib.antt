@@ -1,3 +1,4 @@
 pub mod Insn
 pub mod Program
 pub mod Layout
+pub mod Code

@@ -1,6 +1,7 @@
 //! Instructions and programs (RFC 9669, section 3).
 #![tactic(auto)]
 
+mod code;
 mod insn;
 mod program;
 mod reg;
@@ -8,6 +9,7 @@ mod reg;
 mod tests;
 mod well;
 
+pub use code::Code;
 pub use insn::{Insn, Operand, Size};
 pub use program::Program;
 pub use reg::Reg;

@@ -6,6 +6,7 @@ use Rattle.semantics.specs.Run.{IsSound}
 use Rattle.codec.specs.Program.{SpellsProgram}
 use Rattle.asm.specs.Program.{program_of}
 use Rattle.asm.specs.Printing.{text_of}
+use Rattle.book.specs.Decisions.{decisions_of, TableAgrees}
 use Rattle.book.specs.Grammar.{table_told}
 use Rattle.book.specs.Table.{MessageTable}
 use Rattle.command_line.specs.declared.tasks.Task.{Task}
@@ -36,10 +37,11 @@ abbrev pub Disassembles : List ℕ → List ℕ → Type 0
 Disassembles bytes text =
     (program : List Insn) × SpellsProgram bytes program × (text ≡ text_of program)
 
--- the text tells a table, and these are its decisions
+-- the text tells a table, and these are its decisions, which agree where the bound holds
 abbrev pub Decides : List ℕ → List ℕ → Type 0
 Decides text lines =
     (table : MessageTable) × (table_told text ≡ Ok table) × (lines ≡ decision_lines table)
+    × TableAgrees table (decisions_of table)
 
 -- the task prints this text on a file of these bytes
 abbrev pub Prints : Task → List ℕ → List ℕ → Type 0

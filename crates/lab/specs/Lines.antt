@@ -21,12 +21,10 @@ checked_lines checked =
 abbrev pub hex_line : List Insn → List ℕ
 hex_line program = encode_lower (program_bytes program) ++ codes "\n"
 
--- what a lieutenant decides
-abbrev pub decision_line : MessageTable → ℕ → List ℕ
-decision_line table general =
-    codes "decision " ++ decimal general ++ codes " " ++ decimal (decision_of table general)
-    ++ codes "\n"
+-- the line of a lieutenant and his decision
+abbrev pub decision_line : ℕ → ℕ → List ℕ
+decision_line general order = codes "decision " ++ decimal general ++ codes " " ++ decimal order ++ codes "\n"
 
 -- a line for each lieutenant, ascending
 unfoldable pub decision_lines : MessageTable → List ℕ
-decision_lines table = flat_map (decision_line table) (lieutenants table.generals table.commander)
+decision_lines table = flat_map (λ general. decision_line general (decision_of table general)) (lieutenants table.generals table.commander)

@@ -1,11 +1,12 @@
 ghost use Rattle.std.specs.Prelude.{◌≡◌, ◌≢◌, ◌<◌, ◌++◌, IfOk, IfErr, OnOk, string_bytes};
+ghost use Rattle.book.specs.Decisions.{decisions_of, TableAgrees};
 ghost use Rattle.book.specs.Grammar.{table_told};
 ghost use Rattle.lab.specs.Answers.{Decides};
 ghost use Rattle.lab.specs.Lines.{decision_line, decision_lines};
 ghost use Rattle.lab.specs.Refusals.{RefusesTable};
 
 use crate::refusal::Refusal;
-use book::{Table, decision, read_table};
+use book::{Table, decisions, read_table};
 use std::alloc::{AllocError, Global};
 
 /// What the lieutenants of the message table decide.
@@ -23,12 +24,17 @@ pub fn decided(alloc: Global, text: &str) -> Result<String, Refusal>
 
 /// A line for each lieutenant, ascending: his number and what he decides.
 fn decisions_text(alloc: Global, table: &Table) -> Result<String, AllocError>
-    ensures { IfOk result (λ lines. string_bytes lines ≡ decision_lines table.now) }
+    ensures lines { IfOk result (λ lines. string_bytes lines ≡ decision_lines table.now) }
+    ensures agree { IfOk result (λ _. TableAgrees table.now (decisions_of table.now)) }
 {
+    let decisions = decisions(table);
+    let orders = decisions.as_slice();
     let mut lines = String::new(alloc);
+    let mut place = 0;
     for general in 0..table.generals() {
         if general != table.commander() {
-            push_decision(alloc, &mut lines, table, general)?;
+            push_decision(alloc, &mut lines, general, orders[place])?;
+            place += 1;
         }
     }
     Ok(lines)
@@ -38,14 +44,11 @@ fn decisions_text(alloc: Global, table: &Table) -> Result<String, AllocError>
 fn push_decision(
     alloc: Global,
     lines: &mut String,
-    table: &Table,
     general: u8,
+    order: u32,
 ) -> Result<(), AllocError>
-    requires general { general < table.now.generals }
-    requires lieutenant { general ≢ table.now.commander }
-    ensures { OnOk result (string_bytes lines.new ≡ string_bytes lines.old ++ decision_line table.now general) }
+    ensures { OnOk result (string_bytes lines.new ≡ string_bytes lines.old ++ decision_line general order) }
 {
-    let order = decision(table, general);
     let line = format!(in alloc; "decision {general} {order}\n")?;
     lines.push_str(line.as_str())
 }

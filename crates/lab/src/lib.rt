@@ -7,14 +7,8 @@ mod bench;
 mod checking;
 mod deciding;
 mod refusal;
-#[cfg(test)]
-mod sandbox_call_tests;
-#[cfg(test)]
-mod sandbox_tests;
 mod serving;
 mod streams;
-#[cfg(test)]
-mod tests;
 
 pub use answering::answer;
 pub use assembling::{assembled, disassembled};

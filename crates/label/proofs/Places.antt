@@ -146,7 +146,7 @@ pub born : (n c p k : ℕ) → c < n → p < n → p ≢ c → (i : ℕ) (w : Li
 born n c p k inside within ne i w e =
     let cut : Piece (children n p) (n - 2 - k) (labels n c p (suc k)) i w = piece-of (children n p) (n - 2 - k) (labels n c p (suc k)) (same_size n c p k inside within ne) i w (sym (ap (λ xs. slice_get xs i) (labels-next n c p k)) ∙ e) in
     let last = mapped (λ j. cut.x ++ j ∷ []) (slice_get (others n (p ∷ cut.x)) cut.t) w (sym (slice_get-map (λ j. cut.x ++ j ∷ []) (others n (p ∷ cut.x)) cut.t) ∙ cut.here) in
-    record { q = cut.q; parent = cut.x; j = last.0; stands = cut.parent; place = cut.place ∙ ap (λ t. cut.q * (n - 2 - k) + t) (others-place n (p ∷ cut.x) cut.t last.0 last.1); small = (let h = others-place n (p ∷ cut.x) cut.t last.0 last.1 in let l = cut.small in omega arith); is = last.2 }
+    record { q = cut.q; parent = cut.x; j = last.0; stands = cut.parent; place = cut.place ∙ ap (λ t. cut.q * (n - 2 - k) + t) {y = length (others last.0 (p ∷ cut.x))} (others-place n (p ∷ cut.x) cut.t last.0 last.1); small = (let h = others-place n (p ∷ cut.x) cut.t last.0 last.1 in let l = cut.small in omega arith); is = last.2 }
 
 -- no label stands twice
 pub places_differ : (n c p k : ℕ) → c < n → p < n → p ≢ c → (i i' : ℕ) (w : List ℕ) → slice_get (labels n c p (suc k)) i ≡ Some w → slice_get (labels n c p (suc k)) i' ≡ Some w → i ≡ i'

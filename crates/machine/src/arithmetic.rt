@@ -2,11 +2,12 @@
 ghost use Rattle.std.specs.Prelude.{◌≡◌, ◌+ℤ◌, ◌-ℤ◌, IsOk, Ok};
 ghost use Rattle.std.specs.Int.{w64, cast_signed};
 ghost use Rattle.word.specs.Arithmetic.{arithmetic, compared};
-ghost use Rattle.semantics.specs.Step.{number_of, pointed, moved, copied, combined, first_operand, result_of, condition_of};
+ghost use Rattle.semantics.specs.Step.{number_of, pointed, moved, copied, combined, result_of, condition_of};
 
 use semantics::{Region, Value};
 use word::arithmetic::{alu32, alu64};
 use word::compare::{compare32, compare64};
+use word::low::low_word;
 use word::{Condition, Operation, Width};
 
 /// The number of a value that is one.
@@ -20,17 +21,8 @@ pub fn number_of(value: Value) -> u64
     }
 }
 
-/// What an operation reads of dst.
-fn first_operand(operation: Operation, value: Value) -> Value
-    ensures { result ≡ first_operand operation value }
-{
-    match operation {
-        Operation::Move => Value::Number(0),
-        _ => value,
-    }
-}
-
 /// The result of an operation on two numbers.
+#[inline(always)]
 fn arithmetic(width: Width, operation: Operation, a: u64, b: u64) -> u64
     ensures { result ≡ arithmetic width operation a b }
 {
@@ -86,6 +78,7 @@ fn copied(width: Width, operation: Operation, region: Region, offset: i32) -> Va
 }
 
 /// The result of an operation on two values.
+#[inline(always)]
 fn combined(width: Width, operation: Operation, a: Value, b: Value) -> Value
     requires { IsOk (combined width operation a b) }
     ensures { combined width operation a b ≡ Ok result }
@@ -106,11 +99,28 @@ fn combined(width: Width, operation: Operation, a: Value, b: Value) -> Value
 }
 
 /// The result of an arithmetic instruction.
+#[inline(always)]
 pub fn result_of(width: Width, operation: Operation, a: Value, b: Value) -> Value
     requires { IsOk (result_of width operation a b) }
     ensures { result_of width operation a b ≡ Ok result }
 {
-    combined(width, operation, first_operand(operation, a), b)
+    match operation {
+        Operation::Move => taken(width, b),
+        _ => combined(width, operation, a, b),
+    }
+}
+
+/// What is moved, whatever stood there.
+#[inline(always)]
+fn taken(width: Width, b: Value) -> Value
+    requires { IsOk (combined width Operation.Move (Value.Number 0) b) }
+    ensures { combined width Operation.Move (Value.Number 0) b ≡ Ok result }
+{
+    match (width, b) {
+        (Width::W64, _) => b,
+        (Width::W32, Value::Number(number)) => Value::Number(u64::from(low_word(number))),
+        _ => unreachable!(),
+    }
 }
 
 /// Whether the condition of a jump holds.

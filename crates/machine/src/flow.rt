@@ -10,3 +10,14 @@ pub(crate) enum Flow {
     /// It has exited with r0.
     Exited(u64),
 }
+
+/// How a program goes on after an instruction.
+#[derive(Clone, Copy, Debug, PartialEq, Eq)]
+pub(crate) enum Stride {
+    /// It goes on at the unit.
+    Onward(usize),
+    /// It calls the helper of this number.
+    Call(i32),
+    /// It exits.
+    Exit,
+}

@@ -4,3 +4,7 @@ pub mod Writing
 pub mod StoredPointers
 pub mod Loading
 pub mod InARow
+pub mod Kept
+pub mod FirstCell
+pub mod KnownCells
+pub mod LittleWrites

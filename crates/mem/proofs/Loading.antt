@@ -1,6 +1,8 @@
 -- Loads by places.
-use Rattle.std.proofs.Common.{◌≡◌, ℕ, ℤ, ◌+◌, ◌+ℤ◌, List, [], ◌∷◌, take, drop, map, refl, sym, ap, subst, ◌∙◌}
-use Rattle.std.specs.Prelude.{Result, Ok, Err, slice_range}
+use Rattle.std.proofs.Common.{FitsSigned, to_z, of_z, ◌≡◌, ℕ, ℤ, ◌+◌, ◌+ℤ◌, List, [], ◌∷◌, take, drop, map, refl, sym, ap, subst, ◌∙◌}
+use Rattle.std.specs.Prelude.{Result, Ok, Err, slice_range, IsOk}
+use Rattle.std.specs.Int.{w16, w64}
+use Rattle.std.proofs.lemmas.Int.{to_z-of_z}
 use Rattle.std.proofs.lemmas.List.{take-map, drop-map}
 use Rattle.word.specs.Bytes.{little_number}
 use Rattle.word.specs.declared.Width.TheVariants.{W64}
@@ -98,3 +100,28 @@ loads_signed context stack size part base distance p r same e answer =
     loaded_signed_at context stack part base distance
     ∙ (ap (λ (n : ℕ). given (place_at base distance n) (λ p. extended part (number_in (part_at context stack n p)))) (sym same)
     ∙ (ap (λ (q : Result (Region × ℕ) Cause). given q (λ p. extended part (number_in (part_at context stack size p)))) e ∙ ap (extended part) answer))
+
+-- a load at a pointer, by its place
+pub read_at : (context : List ℕ) (stack : List Cell) (size : ℕ) (region : Region) (offset distance : ℤ) (place : ℕ) → window region (offset +ℤ distance) size ≡ Ok place →
+    loaded context stack size (Pointer region offset) distance ≡ value_in (part_at context stack size (region, place))
+read_at context stack size region offset distance place e =
+    loaded_at context stack size (Pointer region offset) distance
+    ∙ ap (λ (r : Result ℕ Cause). given (given r (λ place. Ok (region, place))) (λ p. value_in (part_at context stack size p))) e
+
+pub read_signed_at : (context : List ℕ) (stack : List Cell) (part : Narrow) (size : ℕ) (region : Region) (offset distance : ℤ) (place : ℕ) → size ≡ part_bytes part → window region (offset +ℤ distance) size ≡ Ok place →
+    loaded_signed context stack part (Pointer region offset) distance ≡ extended part (number_in (part_at context stack size (region, place)))
+read_signed_at context stack part size region offset distance place same e =
+    loaded_signed_at context stack part (Pointer region offset) distance
+    ∙ (ap (λ (n : ℕ). given (place_at (Pointer region offset) distance n) (λ p. extended part (number_in (part_at context stack n p)))) (sym same)
+    ∙ ap (λ (r : Result ℕ Cause). given (given r (λ place. Ok (region, place))) (λ p. extended part (number_in (part_at context stack size p)))) e)
+
+pub ok_extended : (part : Narrow) (r : Result ℕ Cause) → IsOk (extended part r) → IsOk r
+ok_extended part (Ok n) h = refl
+ok_extended part (Err cause) h = h
+
+-- an offset and a distance as they were passed
+pub as_passed : (region : Region) (offset distance : ℤ) (size place : ℕ) → FitsSigned w64 offset → FitsSigned w16 distance →
+    window region (to_z w64 (of_z w64 offset) +ℤ to_z w16 (of_z w16 distance)) size ≡ Ok place → window region (offset +ℤ distance) size ≡ Ok place
+as_passed region offset distance size place f g e =
+    ap (λ (o : ℤ). window region (o +ℤ distance) size) (sym (to_z-of_z w64 offset f))
+    ∙ (ap (λ (d : ℤ). window region (to_z w64 (of_z w64 offset) +ℤ d) size) (sym (to_z-of_z w16 distance g)) ∙ e)

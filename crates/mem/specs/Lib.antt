@@ -2,3 +2,4 @@ pub mod Answers
 pub mod Places
 pub mod Reading
 pub mod Rows
+pub mod Layout

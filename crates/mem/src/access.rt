@@ -1,4 +1,4 @@
-ghost use Rattle.std.specs.Prelude.{◌≡◌, ◌+◌, ◌≤◌, Ok, Err, OnOk, IfErr};
+ghost use Rattle.std.specs.Prelude.{◌≡◌, ◌+◌, ◌≤◌, Ok, Err, OnOk, IfErr, IsOk};
 ghost use Rattle.insn.specs.Insn.{bytes_of, part_bytes};
 ghost use Rattle.semantics.specs.Memory.{loaded, loaded_signed, stored, value_in};
 ghost use Rattle.mem.specs.Answers.{IsAnswer, cause_of};
@@ -8,7 +8,7 @@ ghost use Rattle.mem.specs.Reading.{number_in};
 use crate::context::Context;
 use crate::fault::MemoryFault;
 use crate::stack::Stack;
-use crate::window::{place_at, stack_place};
+use crate::window::{known_place, place_at, stack_place};
 use insn::Size;
 use semantics::{Region, Value};
 use word::arithmetic::sign_extend;
@@ -118,48 +118,64 @@ pub fn store(
     }
 }
 
-#[cfg(test)]
-mod tests {
-    use crate::{Context, MemoryFault, Stack, load, load_signed, store};
-    use insn::Size;
-    use semantics::{Region, Value};
-    use word::Narrow;
-
-    const FRAME: Value = Value::Pointer(Region::Stack, 0);
-
-    #[test]
-    fn stores_and_loads(rt: HostRuntime) {
-        let bytes = [0x81; Context::BYTES];
-        let context = Context::new(&bytes).expect(&rt, "4,096 bytes");
-        let mut stack = Stack::new();
-        let number = Value::Number(0xfedc_ba98_7654_3210);
-        assert_eq!(rt; store(&mut stack, Size::Double, FRAME, -8, number), Ok(()));
-        assert_eq!(rt;
-            load(&stack, &context, Size::Half, FRAME, -6),
-            Ok(Value::Number(0x7654))
-        );
-        assert_eq!(rt;
-            load_signed(&stack, &context, Narrow::Byte, FRAME, -1),
-            Ok(Value::Number(0xffff_ffff_ffff_fffe))
-        );
-        assert_eq!(rt; store(&mut stack, Size::Double, FRAME, -16, FRAME), Ok(()));
-        assert_eq!(rt; load(&stack, &context, Size::Double, FRAME, -16), Ok(FRAME));
-        assert_eq!(rt;
-            load(&stack, &context, Size::Word, FRAME, -16),
-            Err(MemoryFault::NoBytes)
-        );
-        let start = Value::Pointer(Region::Context, 0);
-        assert_eq!(rt;
-            load(&stack, &context, Size::Word, start, 4092),
-            Ok(Value::Number(0x8181_8181))
-        );
-        assert_eq!(rt;
-            load(&stack, &context, Size::Word, start, 4093),
-            Err(MemoryFault::OutOfBounds)
-        );
-        assert_eq!(rt;
-            store(&mut stack, Size::Byte, start, 0, number),
-            Err(MemoryFault::ContextWrite)
-        );
+/// What [`load`] answers at a pointer, where it is known that it does.
+#[inline(always)]
+pub fn read(
+    stack: &Stack,
+    context: &Context,
+    size: Size,
+    region: Region,
+    offset: i64,
+    distance: i16,
+) -> Value
+    requires { IsOk (loaded context.now stack.now (bytes_of size) (Value.Pointer region offset) distance) }
+    ensures { loaded context.now stack.now (bytes_of size) (Value.Pointer region offset) distance ≡ Ok result }
+{
+    let place = known_place(region, offset, distance, size);
+    match region {
+        Region::Stack => stack.known_value(place, size),
+        Region::Context => Value::Number(context.number(place, size)),
     }
+}
+
+/// What [`load_signed`] answers at a pointer, where it is known that it does.
+#[inline(always)]
+pub fn read_signed(
+    stack: &Stack,
+    context: &Context,
+    part: Narrow,
+    region: Region,
+    offset: i64,
+    distance: i16,
+) -> u64
+    requires { IsOk (loaded_signed context.now stack.now part (Value.Pointer region offset) distance) }
+    ensures { loaded_signed context.now stack.now part (Value.Pointer region offset) distance ≡ Ok (Value.Number result) }
+{
+    let size = size_of(part);
+    let place = known_place(region, offset, distance, size);
+    let number = match region {
+        Region::Stack => stack.known_number(place, size),
+        Region::Context => context.number(place, size),
+    };
+    sign_extend(Width::W64, part, number)
+}
+
+/// [`store`] of a number at a pointer into the stack, where it is known that it is done.
+#[inline(always)]
+pub fn write_number(stack: &mut Stack, size: Size, offset: i64, distance: i16, number: u64)
+    requires { IsOk (stored stack.old (bytes_of size) (Value.Pointer Region.Stack offset) distance (Value.Number number)) }
+    ensures { stored stack.old (bytes_of size) (Value.Pointer Region.Stack offset) distance (Value.Number number) ≡ Ok stack.new }
+{
+    let place = known_place(Region::Stack, offset, distance, size);
+    stack.put_number(place, size, number);
+}
+
+/// [`store`] of a pointer at a pointer into the stack, where it is known that it is done.
+#[inline(always)]
+pub fn write_pointer(stack: &mut Stack, offset: i64, distance: i16, region: Region, at: i32)
+    requires { IsOk (stored stack.old 8 (Value.Pointer Region.Stack offset) distance (Value.Pointer region at)) }
+    ensures { stored stack.old 8 (Value.Pointer Region.Stack offset) distance (Value.Pointer region at) ≡ Ok stack.new }
+{
+    let place = known_place(Region::Stack, offset, distance, Size::Double);
+    stack.put_pointer(place, region, at);
 }

@@ -3,6 +3,8 @@ ghost use Rattle.word.specs.Bytes.{little_number};
 ghost use Rattle.insn.specs.Insn.{bytes_of};
 ghost use Rattle.semantics.specs.Run.{IsContext};
 
+use crate::little::number_at;
+use byteorder::{ByteOrder, LittleEndian};
 use insn::Size;
 use std::marker::Model;
 
@@ -52,12 +54,7 @@ impl<'a> Context<'a> {
         requires { place + bytes_of size ≤ 4096 }
         ensures { result ≡ little_number (take (bytes_of size) (drop place self.now)) }
     {
-        match size {
-            Size::Byte => u64::from(self.bytes[place]),
-            Size::Half => u64::from(half_at(self.bytes, place)),
-            Size::Word => u64::from(word_at(self.bytes, place)),
-            Size::Double => double_at(self.bytes, place),
-        }
+        number_at(self.bytes, place, size)
     }
 
     /// The number that 4 bytes spell, the lowest first.
@@ -65,30 +62,6 @@ impl<'a> Context<'a> {
         requires { place + 4 ≤ 4096 }
         ensures { result ≡ little_number (take 4 (drop place self.now)) }
     {
-        word_at(self.bytes, place)
+        LittleEndian::read_u32(&self.bytes[place..])
     }
-}
-
-/// The number in 2 bytes.
-fn half_at(bytes: &[u8], place: usize) -> u16
-    requires { place + 2 ≤ length bytes.now }
-    ensures { result ≡ little_number (take 2 (drop place bytes.now)) }
-{
-    u16::from(bytes[place]) + 256 * u16::from(bytes[place + 1])
-}
-
-/// The number in 4 bytes.
-fn word_at(bytes: &[u8], place: usize) -> u32
-    requires { place + 4 ≤ length bytes.now }
-    ensures { result ≡ little_number (take 4 (drop place bytes.now)) }
-{
-    u32::from(half_at(bytes, place)) + 0x1_0000 * u32::from(half_at(bytes, place + 2))
-}
-
-/// The number in 8 bytes.
-fn double_at(bytes: &[u8], place: usize) -> u64
-    requires { place + 8 ≤ length bytes.now }
-    ensures { result ≡ little_number (take 8 (drop place bytes.now)) }
-{
-    u64::from(word_at(bytes, place)) + 0x1_0000_0000 * u64::from(word_at(bytes, place + 4))
 }

@@ -5,12 +5,12 @@ mod access;
 mod cells;
 mod context;
 mod fault;
-mod pieces;
+mod little;
 mod rows;
 mod stack;
 mod window;
 
-pub use access::{load, load_signed, store};
+pub use access::{load, load_signed, read, read_signed, store, write_number, write_pointer};
 pub use context::Context;
 pub use fault::MemoryFault;
 pub use rows::{load_row, store_words};

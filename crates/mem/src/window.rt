@@ -1,5 +1,5 @@
 //! Where windows lie.
-ghost use Rattle.std.specs.Prelude.{◌≡◌, ◌+◌, ◌+ℤ◌, ◌≤◌, IfOk};
+ghost use Rattle.std.specs.Prelude.{◌≡◌, ◌+◌, ◌+ℤ◌, ◌≤◌, IfOk, IsOk, Ok};
 ghost use Rattle.insn.specs.Insn.{bytes_of};
 ghost use Rattle.semantics.specs.Memory.{inside, window, stack_place};
 ghost use Rattle.mem.specs.Answers.{IsAnswer};
@@ -96,4 +96,30 @@ pub fn stack_place(base: Value, distance: i16, size: Size) -> Result<usize, Memo
     ensures fits { IfOk result (λ p. p + bytes_of size ≤ 512) }
 {
     stack_part(base, distance, bytes_of(size))
+}
+
+/// The place of a window that is known to lie in a room of so many bytes.
+#[inline(always)]
+fn known_inside(room: usize, size: Size, place: i64) -> usize
+    requires { IsOk (inside room (bytes_of size) place) }
+    ensures place { inside room (bytes_of size) place ≡ Ok result }
+    ensures fits { result + bytes_of size ≤ room }
+{
+    let _ = room;
+    let _ = size;
+    place as usize
+}
+
+/// The place of a window that is known to lie in its region.
+#[inline(always)]
+pub fn known_place(region: Region, offset: i64, distance: i16, size: Size) -> usize
+    requires { IsOk (window region (offset +ℤ distance) (bytes_of size)) }
+    ensures place { window region (offset +ℤ distance) (bytes_of size) ≡ Ok result }
+    ensures fits { result + bytes_of size ≤ room_of region }
+{
+    let offset = offset + i64::from(distance);
+    match region {
+        Region::Stack => known_inside(512, size, offset + 512),
+        Region::Context => known_inside(4096, size, offset),
+    }
 }

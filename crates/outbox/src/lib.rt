@@ -7,8 +7,6 @@ mod orders;
 mod relays;
 mod row;
 mod rows;
-#[cfg(test)]
-mod tests;
 
 pub use label::Shape;
 pub use laws::last_orders_are_given;

@@ -4,7 +4,6 @@ use Rattle.word.specs.Arithmetic.{bits_of}
 use Rattle.word.specs.declared.Width.{Width}
 use Rattle.word.specs.declared.Condition.{Condition}
 use Rattle.word.specs.declared.Condition.TheVariants.{Equal, Above, AtLeast, AnyBit, Different, SignedAbove, SignedAtLeast, Below, AtMost, SignedBelow, SignedAtMost}
-use Rattle.range.specs.declared.range.Range.{Range}
 use Rattle.range.specs.Interval.{IsIn}
 use Rattle.range.specs.Table.{sign_limit}
 
@@ -100,6 +99,24 @@ abbrev pub edge_taken : Condition → Bool → ℕ × ℕ → ℕ × ℕ → Opt
 edge_taken condition true p q = edge condition p q
 edge_taken condition false p q = edge (opposite condition) p q
 
+-- whether the numbers share a bit tells nothing of them
+abbrev pub tells : Condition → Bool
+tells AnyBit = false
+tells Equal = true
+tells Different = true
+tells Above = true
+tells AtLeast = true
+tells Below = true
+tells AtMost = true
+tells SignedAbove = true
+tells SignedAtLeast = true
+tells SignedBelow = true
+tells SignedAtMost = true
+
+-- whether a condition tells anything of two intervals
+abbrev pub is_refined : Width → Condition → ℕ × ℕ → ℕ × ℕ → Bool
+is_refined w condition p q = (nat_lt p.1 (edge_limit w condition) && nat_lt q.1 (edge_limit w condition)) && tells condition
+
 -- what is left of two intervals where a jump on a condition is taken, or is not
 unfoldable pub refined : Width → Condition → Bool → ℕ × ℕ → ℕ × ℕ → Option Pair
 refined w condition taken p q =
@@ -107,12 +124,7 @@ refined w condition taken p q =
     then edge_taken condition taken p q
     else Some (p, q)
 
--- the ends of two ranges
-abbrev pub ends_of : Option (Range × Range) → Option Pair
-ends_of None = None
-ends_of (Some e) = Some ((e.0.lo, e.0.hi), (e.1.lo, e.1.hi))
-
 -- there are two ranges, and they hold the two numbers
-abbrev pub HoldBoth : Option (Range × Range) → ℕ → ℕ → Type 0
+abbrev pub HoldBoth : Option Pair → ℕ → ℕ → Type 0
 HoldBoth None x y = ⊥
-HoldBoth (Some e) x y = IsIn e.0.lo e.0.hi x × IsIn e.1.lo e.1.hi y
+HoldBoth (Some e) x y = IsIn e.0.0 e.0.1 x × IsIn e.1.0 e.1.1 y

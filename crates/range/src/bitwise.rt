@@ -9,8 +9,9 @@ use crate::range::Range;
 /// The range of the bits that both numbers have.
 #[tactic(auto, using(std::proofs::lemmas::Nat::and_le_l, std::proofs::lemmas::Nat::and_le_r))]
 pub(crate) fn and(a: Range, b: Range) -> Range
-    ensures exact { (result.lo, result.hi) ≡ common_bits a.lo a.hi b.lo b.hi }
-    ensures holds { (x y : ℕ) → IsIn a.lo a.hi x → IsIn b.lo b.hi y → IsIn result.lo result.hi (bit_and x y) }
+    ensures exact { result ≡ common_bits a.0 a.1 b.0 b.1 }
+    ensures holds { (x y : ℕ) → IsIn a.0 a.1 x → IsIn b.0 b.1 y → IsIn result.0 result.1 (bit_and x y) }
+    ensures below { result.1 ≤ a.1 }
 {
     Range {
         lo: 0,
@@ -33,8 +34,9 @@ pub(crate) fn ones_over(x: u64) -> u64
 
 /// The range of the bits that one number has or the other.
 pub(crate) fn or(a: Range, b: Range) -> Range
-    ensures exact { (result.lo, result.hi) ≡ joined_bits a.lo a.hi b.lo b.hi }
-    ensures holds { (x y : ℕ) → IsIn a.lo a.hi x → IsIn b.lo b.hi y → IsIn result.lo result.hi (bit_or x y) }
+    ensures exact { result ≡ joined_bits a.0 a.1 b.0 b.1 }
+    ensures holds { (x y : ℕ) → IsIn a.0 a.1 x → IsIn b.0 b.1 y → IsIn result.0 result.1 (bit_or x y) }
+    ensures below { (k : ℕ) → a.1 < 2 ^ k → b.1 < 2 ^ k → result.1 < 2 ^ k }
 {
     Range {
         lo: a.lo.max(b.lo),
@@ -44,8 +46,9 @@ pub(crate) fn or(a: Range, b: Range) -> Range
 
 /// The range of the bits that one number has and the other has not.
 pub(crate) fn xor(a: Range, b: Range) -> Range
-    ensures exact { (result.lo, result.hi) ≡ differing_bits a.lo a.hi b.lo b.hi }
-    ensures holds { (x y : ℕ) → IsIn a.lo a.hi x → IsIn b.lo b.hi y → IsIn result.lo result.hi (bit_xor x y) }
+    ensures exact { result ≡ differing_bits a.0 a.1 b.0 b.1 }
+    ensures holds { (x y : ℕ) → IsIn a.0 a.1 x → IsIn b.0 b.1 y → IsIn result.0 result.1 (bit_xor x y) }
+    ensures below { (k : ℕ) → a.1 < 2 ^ k → b.1 < 2 ^ k → result.1 < 2 ^ k }
 {
     Range {
         lo: 0,

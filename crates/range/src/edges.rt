@@ -3,7 +3,7 @@
 ghost use Rattle.std.specs.Prelude.{◌≡◌, ◌≢◌, ◌<◌, ◌≤◌, ◌+◌, ℕ, IsTrue, true};
 ghost use Rattle.word.specs.Arithmetic.{compared};
 ghost use Rattle.range.specs.Interval.{IsIn};
-ghost use Rattle.range.specs.Edges.{equal, different, above, at_least, exchanged, edge, opposite, edge_limit, refined, ends_of, HoldBoth, without, meets};
+ghost use Rattle.range.specs.Edges.{equal, different, above, at_least, exchanged, edge, opposite, edge_limit, refined, is_refined, HoldBoth, without, meets};
 
 use crate::range::Range;
 use crate::used::{greatest, least_negative};
@@ -18,8 +18,8 @@ pub fn refine(
     a: Range,
     b: Range,
 ) -> Option<(Range, Range)>
-    ensures exact { ends_of result ≡ refined width condition taken (a.lo, a.hi) (b.lo, b.hi) }
-    ensures holds { (x y : ℕ) → IsIn a.lo a.hi x → IsIn b.lo b.hi y → compared width condition x y ≡ taken
+    ensures exact { result ≡ refined width condition taken a b }
+    ensures holds { (x y : ℕ) → IsIn a.0 a.1 x → IsIn b.0 b.1 y → compared width condition x y ≡ taken
         → HoldBoth result x y }
 {
     let top = greatest_refined(width, condition);
@@ -30,6 +30,14 @@ pub fn refine(
         return edge_where(condition, a, b);
     }
     edge_where(other_edge(condition), a, b)
+}
+
+/// Whether anything is told of two ranges on an edge of a jump on the condition.
+pub fn tells(width: Width, condition: Condition, a: Range, b: Range) -> bool
+    ensures { result ≡ is_refined width condition a b }
+{
+    let limit = greatest_refined(width, condition);
+    a.hi <= limit && b.hi <= limit && condition != Condition::AnyBit
 }
 
 /// The greatest number that is refined: of a signed condition the greatest that is not negative.
@@ -72,8 +80,8 @@ fn other_edge(condition: Condition) -> Condition
 
 /// What is left where a condition holds of numbers that are the same as signed.
 fn edge_where(condition: Condition, a: Range, b: Range) -> Option<(Range, Range)>
-    ensures exact { ends_of result ≡ edge condition (a.lo, a.hi) (b.lo, b.hi) }
-    ensures holds { (x y : ℕ) → IsIn a.lo a.hi x → IsIn b.lo b.hi y → meets condition x y ≡ true
+    ensures exact { result ≡ edge condition a b }
+    ensures holds { (x y : ℕ) → IsIn a.0 a.1 x → IsIn b.0 b.1 y → meets condition x y ≡ true
         → HoldBoth result x y }
 {
     match condition {
@@ -93,7 +101,7 @@ fn edge_where(condition: Condition, a: Range, b: Range) -> Option<(Range, Range)
 
 /// The two ranges the other way round.
 fn turned(pair: Option<(Range, Range)>) -> Option<(Range, Range)>
-    ensures exact { ends_of result ≡ exchanged (ends_of pair) }
+    ensures exact { result ≡ exchanged pair }
     ensures holds { (x y : ℕ) → HoldBoth pair y x → HoldBoth result x y }
 {
     match pair {
@@ -104,8 +112,8 @@ fn turned(pair: Option<(Range, Range)>) -> Option<(Range, Range)>
 
 /// What is left where both numbers are the same.
 fn where_equal(a: Range, b: Range) -> Option<(Range, Range)>
-    ensures exact { ends_of result ≡ equal (a.lo, a.hi) (b.lo, b.hi) }
-    ensures holds { (x y : ℕ) → IsIn a.lo a.hi x → IsIn b.lo b.hi y → x ≡ y → HoldBoth result x y }
+    ensures exact { result ≡ equal a b }
+    ensures holds { (x y : ℕ) → IsIn a.0 a.1 x → IsIn b.0 b.1 y → x ≡ y → HoldBoth result x y }
 {
     let lo = a.lo.max(b.lo);
     let hi = a.hi.min(b.hi);
@@ -118,8 +126,8 @@ fn where_equal(a: Range, b: Range) -> Option<(Range, Range)>
 
 /// What is left where the numbers differ.
 fn where_different(a: Range, b: Range) -> Option<(Range, Range)>
-    ensures exact { ends_of result ≡ different (a.lo, a.hi) (b.lo, b.hi) }
-    ensures holds { (x y : ℕ) → IsIn a.lo a.hi x → IsIn b.lo b.hi y → x ≢ y → HoldBoth result x y }
+    ensures exact { result ≡ different a b }
+    ensures holds { (x y : ℕ) → IsIn a.0 a.1 x → IsIn b.0 b.1 y → x ≢ y → HoldBoth result x y }
 {
     if a.lo == b.hi && b.lo == a.hi {
         return None;
@@ -129,9 +137,9 @@ fn where_different(a: Range, b: Range) -> Option<(Range, Range)>
 
 /// A range less the other's only number, where that is one of its ends.
 fn less_number(a: Range, b: Range) -> Range
-    requires { a.lo ≡ b.hi → b.lo ≢ a.hi }
-    ensures exact { (result.lo, result.hi) ≡ without (a.lo, a.hi) (b.lo, b.hi) }
-    ensures holds { (x y : ℕ) → IsIn a.lo a.hi x → IsIn b.lo b.hi y → x ≢ y → IsIn result.lo result.hi x }
+    requires { a.0 ≡ b.1 → b.0 ≢ a.1 }
+    ensures exact { result ≡ without a b }
+    ensures holds { (x y : ℕ) → IsIn a.0 a.1 x → IsIn b.0 b.1 y → x ≢ y → IsIn result.0 result.1 x }
 {
     if b.lo != b.hi {
         return a;
@@ -153,8 +161,8 @@ fn less_number(a: Range, b: Range) -> Range
 
 /// What is left where the first number is above the second.
 fn where_above(a: Range, b: Range) -> Option<(Range, Range)>
-    ensures exact { ends_of result ≡ above (a.lo, a.hi) (b.lo, b.hi) }
-    ensures holds { (x y : ℕ) → IsIn a.lo a.hi x → IsIn b.lo b.hi y → y < x → HoldBoth result x y }
+    ensures exact { result ≡ above a b }
+    ensures holds { (x y : ℕ) → IsIn a.0 a.1 x → IsIn b.0 b.1 y → y < x → HoldBoth result x y }
 {
     if a.hi <= b.lo {
         return None;
@@ -172,8 +180,8 @@ fn where_above(a: Range, b: Range) -> Option<(Range, Range)>
 
 /// What is left where the first number is at least the second.
 fn where_at_least(a: Range, b: Range) -> Option<(Range, Range)>
-    ensures exact { ends_of result ≡ at_least (a.lo, a.hi) (b.lo, b.hi) }
-    ensures holds { (x y : ℕ) → IsIn a.lo a.hi x → IsIn b.lo b.hi y → y ≤ x → HoldBoth result x y }
+    ensures exact { result ≡ at_least a b }
+    ensures holds { (x y : ℕ) → IsIn a.0 a.1 x → IsIn b.0 b.1 y → y ≤ x → HoldBoth result x y }
 {
     if a.hi < b.lo {
         return None;
@@ -187,23 +195,4 @@ fn where_at_least(a: Range, b: Range) -> Option<(Range, Range)>
         hi: b.hi.min(a.hi),
     };
     Some((first, second))
-}
-
-#[cfg(test)]
-mod tests {
-    use super::*;
-
-    #[test]
-    fn refines(rt: HostRuntime) {
-        let all = Range::full();
-        let limit = Range::exactly(63);
-        let low = Range { lo: 0, hi: 63 };
-        assert!(rt; refine(Width::W64, Condition::Above, false, all, limit) == Some((low, limit)));
-        assert!(rt; refine(Width::W32, Condition::Above, false, all, limit) == Some((all, limit)));
-        assert!(rt; refine(Width::W64, Condition::Above, true, low, limit).is_none());
-        assert!(rt;
-            refine(Width::W64, Condition::Different, true, low, limit)
-                == Some((Range { lo: 0, hi: 62 }, limit))
-        );
-    }
 }

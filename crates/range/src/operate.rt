@@ -14,9 +14,10 @@ use word::{Operation, Width};
 /// The range of what an operation makes of a number of `a` and one of `b`: where each is one number,
 /// their result alone.
 pub fn operate(width: Width, operation: Operation, a: Range, b: Range) -> Range
-    ensures exact { (result.lo, result.hi) ≡ table width operation a.lo a.hi b.lo b.hi }
-    ensures holds { (x y : ℕ) → IsIn a.lo a.hi x → IsIn b.lo b.hi y
-        → IsIn result.lo result.hi (arithmetic width operation x y) }
+    ensures exact { result ≡ table width operation a.0 a.1 b.0 b.1 }
+    ensures holds { (x y : ℕ) → IsIn a.0 a.1 x → IsIn b.0 b.1 y
+        → IsIn result.0 result.1 (arithmetic width operation x y) }
+    ensures below { result.1 < 2 ^ bits_of width }
 {
     let a = used(width, a);
     let b = used(width, b);
@@ -28,7 +29,8 @@ pub fn operate(width: Width, operation: Operation, a: Range, b: Range) -> Range
 
 /// The result of an operation on two words.
 fn computed(width: Width, operation: Operation, a: u64, b: u64) -> u64
-    ensures { result ≡ arithmetic width operation a b }
+    ensures exact { result ≡ arithmetic width operation a b }
+    ensures below { result < 2 ^ bits_of width }
 {
     match width {
         Width::W64 => alu64(operation, a, b),
@@ -38,11 +40,12 @@ fn computed(width: Width, operation: Operation, a: u64, b: u64) -> u64
 
 /// The operation's row of the table.
 fn by_row(width: Width, operation: Operation, a: Range, b: Range) -> Range
-    requires left { a.hi < 2 ^ bits_of width }
-    requires right { b.hi < 2 ^ bits_of width }
-    ensures exact { (result.lo, result.hi) ≡ row width operation a.lo a.hi b.lo b.hi }
-    ensures holds { (x y : ℕ) → IsIn a.lo a.hi x → IsIn b.lo b.hi y
-        → IsIn result.lo result.hi (operated width operation x y) }
+    requires left { a.1 < 2 ^ bits_of width }
+    requires right { b.1 < 2 ^ bits_of width }
+    ensures exact { result ≡ row width operation a.0 a.1 b.0 b.1 }
+    ensures holds { (x y : ℕ) → IsIn a.0 a.1 x → IsIn b.0 b.1 y
+        → IsIn result.0 result.1 (operated width operation x y) }
+    ensures below { result.1 < 2 ^ bits_of width }
 {
     match operation {
         Operation::Add => sums::add(width, a, b),
@@ -59,102 +62,5 @@ fn by_row(width: Width, operation: Operation, a: Range, b: Range) -> Range
         Operation::Xor => bitwise::xor(a, b),
         Operation::Move => b,
         Operation::ShiftSigned => shifts::shift_signed(width, a, b),
-    }
-}
-
-#[cfg(test)]
-mod tests {
-    use super::*;
-    use crate::unary::{negate, sign_extend, swap};
-    use crate::used::of_width;
-    use word::{ByteOrder, Narrow, SwapSize};
-
-    #[test]
-    fn operates(rt: HostRuntime) {
-        let byte = Range { lo: 0, hi: 255 };
-        let seven = Range::exactly(7);
-        assert_eq!(rt;
-            operate(Width::W64, Operation::And, byte, seven),
-            Range { lo: 0, hi: 7 }
-        );
-        assert_eq!(rt;
-            operate(Width::W64, Operation::Or, byte, Range { lo: 5, hi: 300 }),
-            Range { lo: 5, hi: 511 }
-        );
-        assert_eq!(rt;
-            operate(Width::W64, Operation::Mod, byte, Range { lo: 1, hi: 64 }),
-            Range { lo: 0, hi: 63 }
-        );
-        assert_eq!(rt;
-            operate(Width::W64, Operation::Sub, seven, Range { lo: 8, hi: 9 }),
-            Range {
-                lo: u64::MAX - 1,
-                hi: u64::MAX
-            }
-        );
-        assert_eq!(rt;
-            operate(
-                Width::W32,
-                Operation::Add,
-                Range {
-                    lo: 0x1_0000_0001,
-                    hi: 0x1_0000_0002
-                },
-                seven
-            ),
-            Range { lo: 8, hi: 9 }
-        );
-        assert_eq!(rt;
-            operate(
-                Width::W64,
-                Operation::ShiftLeft,
-                Range::exactly(1),
-                Range::exactly(65)
-            ),
-            Range::exactly(2)
-        );
-        assert_eq!(rt;
-            operate(
-                Width::W32,
-                Operation::Mul,
-                byte,
-                Range {
-                    lo: 0,
-                    hi: 0x100_0000
-                }
-            ),
-            Range {
-                lo: 0,
-                hi: 255 * 0x100_0000
-            }
-        );
-        assert_eq!(rt;
-            operate(
-                Width::W32,
-                Operation::Mul,
-                byte,
-                Range {
-                    lo: 0,
-                    hi: 0x200_0000
-                }
-            ),
-            of_width(Width::W32)
-        );
-    }
-
-    #[test]
-    fn operates_on_one(rt: HostRuntime) {
-        let small = Range { lo: 1, hi: 127 };
-        assert_eq!(rt;
-            negate(Width::W64, Range::exactly(1)),
-            Range::exactly(u64::MAX)
-        );
-        assert_eq!(rt; negate(Width::W32, small), of_width(Width::W32));
-        assert_eq!(rt; sign_extend(Width::W64, Narrow::Byte, small), small);
-        assert_eq!(rt;
-            swap(ByteOrder::Big, SwapSize::Half, small),
-            Range { lo: 0, hi: 0xffff }
-        );
-        assert_eq!(rt; swap(ByteOrder::Little, SwapSize::Half, small), small);
     }
 }

@@ -1,6 +1,6 @@
 //! Quotients and remainders of ranges of one width.
 
-ghost use Rattle.std.specs.Prelude.{◌≡◌, ◌<◌, ◌^◌, ℕ};
+ghost use Rattle.std.specs.Prelude.{◌≡◌, ◌≤◌, ◌<◌, ◌^◌, ℕ};
 ghost use Rattle.word.specs.Arithmetic.{bits_of, operated};
 ghost use Rattle.range.specs.Interval.{IsIn};
 ghost use Rattle.range.specs.Table.{quotients, remainders, signed_quotients, signed_remainders};
@@ -11,9 +11,10 @@ use word::{Operation, Width};
 
 /// The range of the quotients, 0 where the divisor is.
 pub(crate) fn divide(width: Width, a: Range, b: Range) -> Range
-    ensures exact { (result.lo, result.hi) ≡ quotients a.lo a.hi b.lo b.hi }
-    ensures holds { (x y : ℕ) → IsIn a.lo a.hi x → IsIn b.lo b.hi y
-        → IsIn result.lo result.hi (operated width Operation.Div x y) }
+    ensures exact { result ≡ quotients a.0 a.1 b.0 b.1 }
+    ensures holds { (x y : ℕ) → IsIn a.0 a.1 x → IsIn b.0 b.1 y
+        → IsIn result.0 result.1 (operated width Operation.Div x y) }
+    ensures below { result.1 ≤ a.1 }
 {
     let _ = width;
     if b.lo >= 1 {
@@ -30,9 +31,10 @@ pub(crate) fn divide(width: Width, a: Range, b: Range) -> Range
 
 /// The range of what is left, the first number where the divisor is 0.
 pub(crate) fn remain(width: Width, a: Range, b: Range) -> Range
-    ensures exact { (result.lo, result.hi) ≡ remainders a.lo a.hi b.lo b.hi }
-    ensures holds { (x y : ℕ) → IsIn a.lo a.hi x → IsIn b.lo b.hi y
-        → IsIn result.lo result.hi (operated width Operation.Mod x y) }
+    ensures exact { result ≡ remainders a.0 a.1 b.0 b.1 }
+    ensures holds { (x y : ℕ) → IsIn a.0 a.1 x → IsIn b.0 b.1 y
+        → IsIn result.0 result.1 (operated width Operation.Mod x y) }
+    ensures below { result.1 ≤ a.1 }
 {
     let _ = width;
     if b.lo >= 1 {
@@ -52,11 +54,12 @@ pub(crate) fn remain(width: Width, a: Range, b: Range) -> Range
 
 /// The range of the signed quotients.
 pub(crate) fn divide_signed(width: Width, a: Range, b: Range) -> Range
-    requires left { a.hi < 2 ^ bits_of width }
-    requires right { b.hi < 2 ^ bits_of width }
-    ensures exact { (result.lo, result.hi) ≡ signed_quotients width a.lo a.hi b.lo b.hi }
-    ensures holds { (x y : ℕ) → IsIn a.lo a.hi x → IsIn b.lo b.hi y
-        → IsIn result.lo result.hi (operated width Operation.SignedDiv x y) }
+    requires left { a.1 < 2 ^ bits_of width }
+    requires right { b.1 < 2 ^ bits_of width }
+    ensures exact { result ≡ signed_quotients width a.0 a.1 b.0 b.1 }
+    ensures holds { (x y : ℕ) → IsIn a.0 a.1 x → IsIn b.0 b.1 y
+        → IsIn result.0 result.1 (operated width Operation.SignedDiv x y) }
+    ensures below { result.1 < 2 ^ bits_of width }
 {
     let limit = least_negative(width);
     if a.hi < limit && b.hi < limit {
@@ -67,11 +70,12 @@ pub(crate) fn divide_signed(width: Width, a: Range, b: Range) -> Range
 
 /// The range of what signed division leaves.
 pub(crate) fn remain_signed(width: Width, a: Range, b: Range) -> Range
-    requires left { a.hi < 2 ^ bits_of width }
-    requires right { b.hi < 2 ^ bits_of width }
-    ensures exact { (result.lo, result.hi) ≡ signed_remainders width a.lo a.hi b.lo b.hi }
-    ensures holds { (x y : ℕ) → IsIn a.lo a.hi x → IsIn b.lo b.hi y
-        → IsIn result.lo result.hi (operated width Operation.SignedMod x y) }
+    requires left { a.1 < 2 ^ bits_of width }
+    requires right { b.1 < 2 ^ bits_of width }
+    ensures exact { result ≡ signed_remainders width a.0 a.1 b.0 b.1 }
+    ensures holds { (x y : ℕ) → IsIn a.0 a.1 x → IsIn b.0 b.1 y
+        → IsIn result.0 result.1 (operated width Operation.SignedMod x y) }
+    ensures below { result.1 < 2 ^ bits_of width }
 {
     let limit = least_negative(width);
     if a.hi < limit && b.hi < limit {

@@ -4,6 +4,7 @@ ghost use Rattle.std.specs.Prelude.{◌≡◌, ◌↔◌, ◌≤◌, ◌<◌, �
 ghost use Rattle.range.specs.Interval.{IsIn};
 ghost use Rattle.range.specs.Table.{single, whole, joined};
 
+use std::marker::Model;
 use word::Width;
 
 /// The words from `lo` to `hi`, both among them.
@@ -11,14 +12,25 @@ use word::Width;
 pub struct Range {
     pub lo: u64,
     pub hi: u64,
-    ghost ordered: { lo ≤ hi },
+}
+
+impl Model for Range {
+    ghost use Rattle.std.specs.Prelude.{ℕ, ◌≤◌};
+
+    ghost Value = { ℕ × ℕ };
+
+    ghost view = { λ r. (r.lo, r.hi) };
+
+    ghost invariant = { λ r. r.lo ≤ r.hi };
+
+    ghost inverse = { λ v. record { lo = v.0; hi = v.1 } };
 }
 
 impl Range {
     /// All words.
     pub fn full() -> Range
-        ensures exact { (result.lo, result.hi) ≡ whole Width.W64 }
-        ensures holds { (x : ℕ) → x < 2 ^ 64 → IsIn result.lo result.hi x }
+        ensures exact { result ≡ whole Width.W64 }
+        ensures holds { (x : ℕ) → x < 2 ^ 64 → IsIn result.0 result.1 x }
     {
         Range {
             lo: 0,
@@ -28,50 +40,35 @@ impl Range {
 
     /// One number.
     pub fn exactly(n: u64) -> Range
-        ensures exact { (result.lo, result.hi) ≡ single n }
-        ensures holds { IsIn result.lo result.hi n }
+        ensures exact { result ≡ single n }
+        ensures holds { IsIn result.0 result.1 n }
     {
         Range { lo: n, hi: n }
     }
 
     /// Whether it holds a number.
     pub fn contains(self, x: u64) -> bool
-        ensures { IsTrue result ↔ IsIn self.lo self.hi x }
+        ensures { IsTrue result ↔ IsIn self.0 self.1 x }
     {
         self.lo <= x && x <= self.hi
     }
 
     /// Whether it holds one number only.
     pub fn is_single(self) -> bool
-        ensures { IsTrue result ↔ (self.lo ≡ self.hi) }
+        ensures { IsTrue result ↔ (self.0 ≡ self.1) }
     {
         self.lo == self.hi
     }
 
     /// From the least of both to the greatest of both.
     pub fn join(self, other: Range) -> Range
-        ensures exact { (result.lo, result.hi) ≡ joined self.lo self.hi other.lo other.hi }
-        ensures left { (x : ℕ) → IsIn self.lo self.hi x → IsIn result.lo result.hi x }
-        ensures right { (x : ℕ) → IsIn other.lo other.hi x → IsIn result.lo result.hi x }
+        ensures exact { result ≡ joined self.0 self.1 other.0 other.1 }
+        ensures left { (x : ℕ) → IsIn self.0 self.1 x → IsIn result.0 result.1 x }
+        ensures right { (x : ℕ) → IsIn other.0 other.1 x → IsIn result.0 result.1 x }
     {
         Range {
             lo: self.lo.min(other.lo),
             hi: self.hi.max(other.hi),
         }
-    }
-}
-
-#[cfg(test)]
-mod tests {
-    use super::*;
-
-    #[test]
-    fn joins(rt: HostRuntime) {
-        let both = Range { lo: 3, hi: 5 }.join(Range { lo: 9, hi: 12 });
-        assert_eq!(rt; both, Range { lo: 3, hi: 12 });
-        assert!(rt; both.contains(7));
-        assert!(rt; !both.contains(13));
-        assert!(rt; Range::exactly(7).is_single());
-        assert!(rt; Range::full().contains(u64::MAX));
     }
 }

@@ -1,6 +1,6 @@
 //! Shifts of ranges of one width.
 
-ghost use Rattle.std.specs.Prelude.{◌≡◌, ◌<◌, ◌^◌, ℕ};
+ghost use Rattle.std.specs.Prelude.{◌≡◌, ◌≤◌, ◌<◌, ◌^◌, ℕ};
 ghost use Rattle.word.specs.Arithmetic.{bits_of, operated};
 ghost use Rattle.range.specs.Interval.{IsIn};
 ghost use Rattle.range.specs.Table.{left_shifts, right_shifts, signed_shifts};
@@ -11,10 +11,11 @@ use word::{Operation, Width};
 
 /// The range of the numbers shifted left.
 pub(crate) fn shift_left(width: Width, a: Range, b: Range) -> Range
-    requires left { a.hi < 2 ^ bits_of width }
-    ensures exact { (result.lo, result.hi) ≡ left_shifts width a.lo a.hi b.lo b.hi }
-    ensures holds { (x y : ℕ) → IsIn a.lo a.hi x → IsIn b.lo b.hi y
-        → IsIn result.lo result.hi (operated width Operation.ShiftLeft x y) }
+    requires left { a.1 < 2 ^ bits_of width }
+    ensures exact { result ≡ left_shifts width a.0 a.1 b.0 b.1 }
+    ensures holds { (x y : ℕ) → IsIn a.0 a.1 x → IsIn b.0 b.1 y
+        → IsIn result.0 result.1 (operated width Operation.ShiftLeft x y) }
+    ensures below { result.1 < 2 ^ bits_of width }
 {
     if b.lo != b.hi {
         return of_width(width);
@@ -31,9 +32,10 @@ pub(crate) fn shift_left(width: Width, a: Range, b: Range) -> Range
 
 /// The range of the numbers shifted right.
 pub(crate) fn shift_right(width: Width, a: Range, b: Range) -> Range
-    ensures exact { (result.lo, result.hi) ≡ right_shifts width a.lo a.hi b.lo b.hi }
-    ensures holds { (x y : ℕ) → IsIn a.lo a.hi x → IsIn b.lo b.hi y
-        → IsIn result.lo result.hi (operated width Operation.ShiftRight x y) }
+    ensures exact { result ≡ right_shifts width a.0 a.1 b.0 b.1 }
+    ensures holds { (x y : ℕ) → IsIn a.0 a.1 x → IsIn b.0 b.1 y
+        → IsIn result.0 result.1 (operated width Operation.ShiftRight x y) }
+    ensures below { result.1 ≤ a.1 }
 {
     if b.lo != b.hi {
         return Range { lo: 0, hi: a.hi };
@@ -47,10 +49,11 @@ pub(crate) fn shift_right(width: Width, a: Range, b: Range) -> Range
 
 /// The range of the numbers shifted right, their sign coming in from above.
 pub(crate) fn shift_signed(width: Width, a: Range, b: Range) -> Range
-    requires left { a.hi < 2 ^ bits_of width }
-    ensures exact { (result.lo, result.hi) ≡ signed_shifts width a.lo a.hi b.lo b.hi }
-    ensures holds { (x y : ℕ) → IsIn a.lo a.hi x → IsIn b.lo b.hi y
-        → IsIn result.lo result.hi (operated width Operation.ShiftSigned x y) }
+    requires left { a.1 < 2 ^ bits_of width }
+    ensures exact { result ≡ signed_shifts width a.0 a.1 b.0 b.1 }
+    ensures holds { (x y : ℕ) → IsIn a.0 a.1 x → IsIn b.0 b.1 y
+        → IsIn result.0 result.1 (operated width Operation.ShiftSigned x y) }
+    ensures below { result.1 < 2 ^ bits_of width }
 {
     if a.hi < least_negative(width) {
         return shift_right(width, a, b);

@@ -11,11 +11,12 @@ use word::{Operation, Width};
 
 /// The range of the wrapping sums.
 pub(crate) fn add(width: Width, a: Range, b: Range) -> Range
-    requires left { a.hi < 2 ^ bits_of width }
-    requires right { b.hi < 2 ^ bits_of width }
-    ensures exact { (result.lo, result.hi) ≡ sums width a.lo a.hi b.lo b.hi }
-    ensures holds { (x y : ℕ) → IsIn a.lo a.hi x → IsIn b.lo b.hi y
-        → IsIn result.lo result.hi (operated width Operation.Add x y) }
+    requires left { a.1 < 2 ^ bits_of width }
+    requires right { b.1 < 2 ^ bits_of width }
+    ensures exact { result ≡ sums width a.0 a.1 b.0 b.1 }
+    ensures holds { (x y : ℕ) → IsIn a.0 a.1 x → IsIn b.0 b.1 y
+        → IsIn result.0 result.1 (operated width Operation.Add x y) }
+    ensures below { result.1 < 2 ^ bits_of width }
 {
     let top = greatest(width);
     if a.hi <= top - b.hi {
@@ -35,11 +36,12 @@ pub(crate) fn add(width: Width, a: Range, b: Range) -> Range
 
 /// The range of the wrapping differences.
 pub(crate) fn subtract(width: Width, a: Range, b: Range) -> Range
-    requires left { a.hi < 2 ^ bits_of width }
-    requires right { b.hi < 2 ^ bits_of width }
-    ensures exact { (result.lo, result.hi) ≡ differences width a.lo a.hi b.lo b.hi }
-    ensures holds { (x y : ℕ) → IsIn a.lo a.hi x → IsIn b.lo b.hi y
-        → IsIn result.lo result.hi (operated width Operation.Sub x y) }
+    requires left { a.1 < 2 ^ bits_of width }
+    requires right { b.1 < 2 ^ bits_of width }
+    ensures exact { result ≡ differences width a.0 a.1 b.0 b.1 }
+    ensures holds { (x y : ℕ) → IsIn a.0 a.1 x → IsIn b.0 b.1 y
+        → IsIn result.0 result.1 (operated width Operation.Sub x y) }
+    ensures below { result.1 < 2 ^ bits_of width }
 {
     if a.lo >= b.hi {
         return Range {
@@ -59,11 +61,12 @@ pub(crate) fn subtract(width: Width, a: Range, b: Range) -> Range
 
 /// The range of the wrapping products.
 pub(crate) fn multiply(width: Width, a: Range, b: Range) -> Range
-    requires left { a.hi < 2 ^ bits_of width }
-    requires right { b.hi < 2 ^ bits_of width }
-    ensures exact { (result.lo, result.hi) ≡ products width a.lo a.hi b.lo b.hi }
-    ensures holds { (x y : ℕ) → IsIn a.lo a.hi x → IsIn b.lo b.hi y
-        → IsIn result.lo result.hi (operated width Operation.Mul x y) }
+    requires left { a.1 < 2 ^ bits_of width }
+    requires right { b.1 < 2 ^ bits_of width }
+    ensures exact { result ≡ products width a.0 a.1 b.0 b.1 }
+    ensures holds { (x y : ℕ) → IsIn a.0 a.1 x → IsIn b.0 b.1 y
+        → IsIn result.0 result.1 (operated width Operation.Mul x y) }
+    ensures below { result.1 < 2 ^ bits_of width }
 {
     let Some(hi) = a.hi.checked_mul(b.hi) else {
         return of_width(width);

@@ -1,7 +1,7 @@
 //! Operations on one range.
 
 ghost use Rattle.std.specs.Prelude.{◌≡◌, ◌+◌, ◌<◌, ◌^◌, ◌-◌, ℕ};
-ghost use Rattle.word.specs.Arithmetic.{negated, sign_extended, swapped, swapped_bytes};
+ghost use Rattle.word.specs.Arithmetic.{bits_of, negated, sign_extended, swapped, swapped_bytes};
 ghost use Rattle.range.specs.Interval.{IsIn};
 ghost use Rattle.range.specs.Table.{negations, extensions, swaps, part_bits};
 
@@ -11,8 +11,9 @@ use word::{ByteOrder, Narrow, SwapSize, Width, arithmetic, swap};
 
 /// The range of the negated numbers.
 pub fn negate(width: Width, a: Range) -> Range
-    ensures exact { (result.lo, result.hi) ≡ negations width a.lo a.hi }
-    ensures holds { (x : ℕ) → IsIn a.lo a.hi x → IsIn result.lo result.hi (negated width x) }
+    ensures exact { result ≡ negations width a.0 a.1 }
+    ensures holds { (x : ℕ) → IsIn a.0 a.1 x → IsIn result.0 result.1 (negated width x) }
+    ensures below { result.1 < 2 ^ bits_of width }
 {
     let a = used(width, a);
     if a.is_single() {
@@ -23,8 +24,9 @@ pub fn negate(width: Width, a: Range) -> Range
 
 /// The range of the numbers whose low bits are extended by their sign.
 pub fn sign_extend(width: Width, part: Narrow, a: Range) -> Range
-    ensures exact { (result.lo, result.hi) ≡ extensions width part a.lo a.hi }
-    ensures holds { (x : ℕ) → IsIn a.lo a.hi x → IsIn result.lo result.hi (sign_extended width part x) }
+    ensures exact { result ≡ extensions width part a.0 a.1 }
+    ensures holds { (x : ℕ) → IsIn a.0 a.1 x → IsIn result.0 result.1 (sign_extended width part x) }
+    ensures below { result.1 < 2 ^ bits_of width }
 {
     let a = used(width, a);
     if a.is_single() {
@@ -49,8 +51,9 @@ fn least_negative_part(part: Narrow) -> u64
 
 /// The range of the numbers whose low bytes are put in an order.
 pub fn swap(order: ByteOrder, size: SwapSize, a: Range) -> Range
-    ensures exact { (result.lo, result.hi) ≡ swaps order size a.lo a.hi }
-    ensures holds { (x : ℕ) → IsIn a.lo a.hi x → IsIn result.lo result.hi (swapped order size x) }
+    ensures exact { result ≡ swaps order size a.0 a.1 }
+    ensures holds { (x : ℕ) → IsIn a.0 a.1 x → IsIn result.0 result.1 (swapped order size x) }
+    ensures below { result.1 < 2 ^ 64 }
 {
     if a.is_single() {
         return Range::exactly(swap::swap(order, size, a.lo));

@@ -40,8 +40,9 @@ pub(crate) fn bit_count(width: Width) -> u64
 
 /// All numbers of a width.
 pub fn of_width(width: Width) -> Range
-    ensures exact { (result.lo, result.hi) ≡ whole width }
-    ensures holds { (x : ℕ) → x < 2 ^ bits_of width → IsIn result.lo result.hi x }
+    ensures exact { result ≡ whole width }
+    ensures holds { (x : ℕ) → x < 2 ^ bits_of width → IsIn result.0 result.1 x }
+    ensures below { result.1 < 2 ^ bits_of width }
 {
     Range {
         lo: 0,
@@ -51,9 +52,9 @@ pub fn of_width(width: Width) -> Range
 
 /// The range of what operations of a width use of the numbers: their low bits.
 pub fn used(width: Width, a: Range) -> Range
-    ensures exact { (result.lo, result.hi) ≡ low width a.lo a.hi }
-    ensures holds { (x : ℕ) → IsIn a.lo a.hi x → IsIn result.lo result.hi (taken width x) }
-    ensures below { result.hi < 2 ^ bits_of width }
+    ensures exact { result ≡ low width a.0 a.1 }
+    ensures holds { (x : ℕ) → IsIn a.0 a.1 x → IsIn result.0 result.1 (taken width x) }
+    ensures below { result.1 < 2 ^ bits_of width }
 {
     match width {
         Width::W64 => a,
@@ -63,9 +64,9 @@ pub fn used(width: Width, a: Range) -> Range
 
 /// The range of the numbers' low 32 bits.
 fn low_word(a: Range) -> Range
-    ensures exact { (result.lo, result.hi) ≡ low Width.W32 a.lo a.hi }
-    ensures holds { (x : ℕ) → IsIn a.lo a.hi x → IsIn result.lo result.hi (taken Width.W32 x) }
-    ensures below { result.hi < 2 ^ 32 }
+    ensures exact { result ≡ low Width.W32 a.0 a.1 }
+    ensures holds { (x : ℕ) → IsIn a.0 a.1 x → IsIn result.0 result.1 (taken Width.W32 x) }
+    ensures below { result.1 < 2 ^ 32 }
 {
     if a.hi < 0x1_0000_0000 {
         return a;

@@ -64,14 +64,14 @@ decided-om f t M is full (suc k) size rank place w short at e =
     step f t M k size rank place w is full short at e (λ i j stands here. decided-om f t M is full k (suc size) (rank * (t.generals - 1 - suc size) + i) (child_place place i) (w ++ j ∷ []) (omega arith) stands here)
 
 -- the commander alone: of those below the lieutenant he may be one
-pub first-place : (t : Kept) → IsCampaign t → (place : ℕ) → (t.commander < t.general → place ≡ t.general - 1) → (t.general ≤ t.commander → place ≡ t.general) → place ≡ length (others t.general (t.commander ∷ []))
-first-place t is place below behind =
-    elim (cases_lt t.commander t.general) [
+pub first-place : (c p place : ℕ) → (c < p → place ≡ p - 1) → (p ≤ c → place ≡ p) → place ≡ length (others p (c ∷ []))
+first-place c p place below behind =
+    elim (cases_lt c p) [
       | inl less ↦
-          let count : length (others t.general (t.commander ∷ [])) + 1 ≡ t.general = others-count t.general (t.commander ∷ []) refl (less, tt) in
-          let e : place ≡ t.general - 1 = below less in
+          let count : length (others p (c ∷ [])) + 1 ≡ p = others-count p (c ∷ []) refl (less, tt) in
+          let e : place ≡ p - 1 = below less in
           omega arith
-      | inr more ↦ behind more ∙ sym (absent t.general [] t.commander more ∙ (ap length (none_out (range_with_len 0 t.general)) ∙ length-range_with_len 0 t.general))
+      | inr more ↦ behind more ∙ sym (absent p [] c more ∙ (ap length (none_out (range_with_len 0 p)) ∙ length-range_with_len 0 p))
     ]
   where
     none_out : (xs : List ℕ) → filter (λ j. not (on [] j)) xs ≡ xs

@@ -6,6 +6,9 @@ pub mod Stepping
 pub mod Patience
 pub mod Runnings
 pub mod Going
+pub mod Loyal
+pub mod Settled
+pub mod Ends
 pub mod Programs
 pub mod Turning
 pub mod Spelling
@@ -14,5 +17,5 @@ pub mod Senders
 pub mod Delivering
 pub mod Filling
 pub mod Values
-pub mod Loyal
+pub mod ToldRows
 pub mod Onwards

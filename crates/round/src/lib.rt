@@ -20,7 +20,9 @@ mod turns;
 mod words;
 
 pub use delivery::deliver;
-pub use laws::contexts_tell;
+pub use laws::{
+    contexts_tell, loyal_letters_follow, patience_is_kept, runs_are_safe, runs_have_one_end,
+};
 pub use letter::Letter;
 pub use living::live;
 pub use loyalty::loyal_letter;

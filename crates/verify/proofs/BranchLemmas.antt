@@ -5,9 +5,8 @@ use Rattle.word.specs.declared.Width.{Width}
 use Rattle.word.specs.declared.Width.TheVariants.{W32, W64}
 use Rattle.word.specs.declared.Condition.{Condition}
 use Rattle.word.specs.Arithmetic.{taken, related, compared}
-use Rattle.range.specs.declared.range.Range.{Range}
-use Rattle.range.specs.Interval.{IsIn}
-use Rattle.range.specs.Edges.{HoldBoth as HoldNumbers}
+use Rattle.absval.specs.declared.number_set.NumberSet.{NumberSet}
+use Rattle.absval.specs.NumberSets.{Has, HaveBoth as HoldNumbers}
 use Rattle.label.specs.declared.shape.Shape.{Shape}
 use Rattle.semantics.specs.declared.value.Value.{Value}
 use Rattle.semantics.specs.declared.value.Value.TheVariants as value
@@ -15,7 +14,7 @@ use Rattle.semantics.specs.State.{Cause, State}
 use Rattle.semantics.specs.Step.{condition_of, arrived, branched}
 use Rattle.semantics.specs.Execution.{executed}
 use Rattle.absval.specs.declared.value.AbsVal.{AbsVal}
-use Rattle.absval.specs.Contains.{IsNumberIn}
+use Rattle.absval.specs.Contains.{IsNumberOf}
 use Rattle.verify.specs.declared.comparison.Comparison.{Comparison}
 use Rattle.verify.specs.declared.state.AbsState.{AbsState}
 use Rattle.verify.specs.Gamma.{Describes}
@@ -24,22 +23,22 @@ use Rattle.verify.specs.Outcomes.{IsTest}
 use Rattle.verify.specs.Slots.{Slot, IsAt, Arrives, BlanksComeTo}
 
 -- the two numbers lie in what is left
-abbrev pub HoldValues : Option (Range × Range) → Value → Value → Type 0
+abbrev pub HoldValues : Option (NumberSet × NumberSet) → Value → Value → Type 0
 HoldValues None x y = ⊥
-HoldValues (Some e) x y = IsNumberIn e.0.lo e.0.hi x × IsNumberIn e.1.lo e.1.hi y
+HoldValues (Some e) x y = IsNumberOf e.0 x × IsNumberOf e.1 y
 
-as_values : (pair : Option (Range × Range)) (m n : ℕ) → HoldNumbers pair m n → HoldValues pair (value.Number m) (value.Number n)
+as_values : (pair : Option (NumberSet × NumberSet)) (m n : ℕ) → HoldNumbers pair m n → HoldValues pair (value.Number m) (value.Number n)
 as_values None m n h = h
 as_values (Some e) m n h = h
 
-pub holds_values : (pair : Option (Range × Range)) (w : Width) (c : Condition) (t : Bool) (alo ahi blo bhi : ℕ) (x y : Value) →
-    ((m n : ℕ) → IsIn alo ahi m → IsIn blo bhi n → compared w c m n ≡ t → HoldNumbers pair m n) →
-    IsNumberIn alo ahi x → IsNumberIn blo bhi y → condition_of w c x y ≡ Ok t → HoldValues pair x y
-holds_values pair w c t alo ahi blo bhi value.Unset y holds p q e = absurd p
-holds_values pair w c t alo ahi blo bhi (value.Pointer region offset) y holds p q e = absurd p
-holds_values pair w c t alo ahi blo bhi (value.Number m) value.Unset holds p q e = absurd q
-holds_values pair w c t alo ahi blo bhi (value.Number m) (value.Pointer region offset) holds p q e = absurd q
-holds_values pair w c t alo ahi blo bhi (value.Number m) (value.Number n) holds p q e =
+pub holds_values : (pair : Option (NumberSet × NumberSet)) (w : Width) (c : Condition) (t : Bool) (a b : NumberSet) (x y : Value) →
+    ((m n : ℕ) → Has a m → Has b n → compared w c m n ≡ t → HoldNumbers pair m n) →
+    IsNumberOf a x → IsNumberOf b y → condition_of w c x y ≡ Ok t → HoldValues pair x y
+holds_values pair w c t a b value.Unset y holds p q e = absurd p
+holds_values pair w c t a b (value.Pointer region offset) y holds p q e = absurd p
+holds_values pair w c t a b (value.Number m) value.Unset holds p q e = absurd q
+holds_values pair w c t a b (value.Number m) (value.Pointer region offset) holds p q e = absurd q
+holds_values pair w c t a b (value.Number m) (value.Number n) holds p q e =
     as_values pair m n (holds m n p q (let same : compared w c m n ≡ t = cc in same))
 
 -- what is used of a number is used of that

@@ -9,6 +9,7 @@ use Rattle.semantics.specs.State.{Cause, Argument as ArgumentCause, value_at}
 use Rattle.semantics.specs.Call.{below}
 use Rattle.absval.specs.declared.value.AbsVal.{AbsVal}
 use Rattle.absval.specs.declared.value.AbsVal.TheVariants.{Unset, Number, Pointer}
+use Rattle.absval.specs.NumberSets.{greatest}
 use Rattle.absval.specs.Contains.{Contains}
 use Rattle.helper.specs.declared.argument.Argument.{Argument}
 use Rattle.helper.specs.Table.{bound_of, arguments_of, refusal, test_of, or_else, refused}
@@ -38,13 +39,13 @@ below_fine bound n l = below_if (nat_lt n bound) n (lt-ltb n bound l)
 
 argument_fine : (bound : Option ℕ) (a : AbsVal) (v : Value) → argument_reason bound a ≡ None → Contains a v → test_of bound v ≡ None
 argument_fine bound Unset v e c = cc
-argument_fine (Some bound) (Number range) value.Unset e c = absurd c
-argument_fine (Some bound) (Number range) (value.Number n) e c =
-    let less : range.hi < bound = ltb-true range.hi bound (no_reason (nat_lt range.hi bound) _ e) in
-    let small : n ≤ range.hi = c.1 in
+argument_fine (Some bound) (Number numbers) value.Unset e c = absurd c
+argument_fine (Some bound) (Number numbers) (value.Number n) e c =
+    let less : greatest numbers < bound = ltb-true (greatest numbers) bound (no_reason (nat_lt (greatest numbers) bound) _ e) in
+    let small : n ≤ greatest numbers = c.range.1 in
     below_fine bound n (omega arith)
-argument_fine (Some bound) (Number range) (value.Pointer region offset) e c = absurd c
-argument_fine None (Number range) v e c = cc
+argument_fine (Some bound) (Number numbers) (value.Pointer region offset) e c = absurd c
+argument_fine None (Number numbers) v e c = cc
 argument_fine (Some bound) (Pointer region offsets) v e c = cc
 argument_fine None (Pointer region offsets) value.Unset e c = absurd c
 argument_fine None (Pointer region offsets) (value.Number n) e c = absurd c
@@ -62,12 +63,12 @@ arguments_fine (Some argument ∷ arguments) r known vs d e =
 
 below_of : (bound : ℕ) (a : AbsVal) → argument_reason (Some bound) a ≡ None → IsBelow bound a
 below_of bound Unset e = cc
-below_of bound (Number range) e = ltb-true range.hi bound (no_reason (nat_lt range.hi bound) _ e)
+below_of bound (Number numbers) e = ltb-true (greatest numbers) bound (no_reason (nat_lt (greatest numbers) bound) _ e)
 below_of bound (Pointer region offsets) e = cc
 
 pointer_of : (a : AbsVal) → argument_reason None a ≡ None → IsPointer a
 pointer_of Unset e = cc
-pointer_of (Number range) e = cc
+pointer_of (Number numbers) e = cc
 pointer_of (Pointer region offsets) e = tt
 
 -- what is known of the arguments of the helpers that take a pointer

@@ -5,31 +5,26 @@ use Rattle.std.proofs.lemmas.List.{length-drop, get_or-drop}
 use Rattle.range.specs.Interval.{IsIn}
 use Rattle.semantics.specs.declared.value.Value.{Value}
 use Rattle.semantics.specs.declared.value.Value.TheVariants as value
+use Rattle.absval.specs.declared.number_set.NumberSet.{NumberSet}
+use Rattle.absval.specs.NumberSets.{Has, within}
 use Rattle.absval.specs.declared.value.AbsVal.{AbsVal}
 use Rattle.absval.specs.declared.value.AbsVal.TheVariants.{Unset, Number, Pointer}
 use Rattle.absval.specs.Contains.{Contains}
 use Rattle.verify.specs.declared.reason.Reason.{Reason}
 use Rattle.verify.specs.Gamma.{RegistersDescribe}
-use Rattle.verify.specs.Calls.{answer_of, or_reason, known_at, IsNumberOf, IsBehind}
+use Rattle.verify.specs.Calls.{answer_of, or_reason, known_at, IsBehind}
 use Rattle.verify.specs.CallStates.{values_behind, Puts}
 use Rattle.verify.proofs.Zips.{AllZip-by_index, AllZip-at, AllZip-length}
 
--- a number of the ends is one of the interval
-number_between : (lo hi n : ℕ) (a : AbsVal) → IsNumberOf (lo, hi) a → IsIn lo hi n → Contains a (value.Number n)
-number_between lo hi n Unset is within = absurd is
-number_between lo hi n (Number range) is within =
-    let low : range.lo ≡ lo = ap (λ (p : ℕ × ℕ). p.0) is in
-    let high : range.hi ≡ hi = ap (λ (p : ℕ × ℕ). p.1) is in
-    let least : lo ≤ n = within.0 in
-    let most : n ≤ hi = within.1 in
-    (omega arith, omega arith)
-number_between lo hi n (Pointer region offsets) is within = absurd is
+-- a register that is known to be one of the numbers may be any of them
+number_is : (numbers : NumberSet) (n : ℕ) (a : AbsVal) → a ≡ Number numbers → Has numbers n → Contains a (value.Number n)
+number_is numbers n a e h = subst (λ (b : AbsVal). Contains b (value.Number n)) (sym e) h
 
 unset_is : (a : AbsVal) (v : Value) → a ≡ Unset → Contains a v
 unset_is a v e = subst (λ (b : AbsVal). Contains b v) (sym e) tt
 
-pub behind_puts : (lo hi : ℕ) (old new : List AbsVal) (vs : List Value) → length old ≡ 11 → length new ≡ 11 → IsBehind (lo, hi) old new → RegistersDescribe old vs → Puts lo hi new vs
-behind_puts lo hi old new vs before after behind d n within = AllZip-by_index Contains new (values_behind n vs) Unset value.Unset same (λ k l. at k)
+pub behind_puts : (lo hi : ℕ) (old new : List AbsVal) (vs : List Value) → length old ≡ 11 → length new ≡ 11 → ((n : ℕ) → IsIn lo hi n → Has (within (lo, hi)) n) → IsBehind (within (lo, hi)) old new → RegistersDescribe old vs → Puts lo hi new vs
+behind_puts lo hi old new vs before after fits behind d n inside = AllZip-by_index Contains new (values_behind n vs) Unset value.Unset same (λ k l. at k)
   where
     long : length vs ≡ 11
     long = sym (AllZip-length Contains old vs d) ∙ before
@@ -38,7 +33,7 @@ behind_puts lo hi old new vs before after behind d n within = AllZip-by_index Co
     same = let rest = length-drop 6 vs in omega (arith, long, rest, after)
 
     at : (k : ℕ) → Contains (get_or new k Unset) (get_or (values_behind n vs) k value.Unset)
-    at zero = number_between lo hi n (known_at new 0) behind.first within
+    at zero = number_is (within (lo, hi)) n (known_at new 0) behind.first (fits n inside)
     at (suc zero) = unset_is (known_at new 1) value.Unset (behind.unset 1 (omega arith) (omega arith))
     at (suc (suc zero)) = unset_is (known_at new 2) value.Unset (behind.unset 2 (omega arith) (omega arith))
     at (suc (suc (suc zero))) = unset_is (known_at new 3) value.Unset (behind.unset 3 (omega arith) (omega arith))

@@ -5,18 +5,19 @@ use Rattle.std.proofs.lemmas.Bool.{false≢true}
 use Rattle.word.specs.declared.Width.{Width}
 use Rattle.word.specs.declared.Condition.{Condition}
 use Rattle.word.specs.Arithmetic.{taken}
-use Rattle.range.specs.Table.{single}
+use Rattle.absval.specs.declared.number_set.NumberSet.{NumberSet}
+use Rattle.absval.specs.NumberSets.{single}
 use Rattle.absval.specs.declared.value.AbsVal.{AbsVal}
 use Rattle.absval.specs.Table.{Ends, Numbers, ends_of}
 use Rattle.verify.specs.Registers.{seen, known_at, refined_known, number_edge, register_edge}
 use Rattle.verify.proofs.Seen.{seen_set}
 
-pub number_left : (w : Width) (c : Condition) (way : Bool) (old new : List AbsVal) (dst n u lo hi : ℕ) (a x y : AbsVal) →
-    Some (ends_of x, ends_of y) ≡ refined_known w c way (ends_of a) (Numbers (lo, hi)) → ends_of a ≡ known_at (seen old) dst → (lo, hi) ≡ single u → u ≡ taken w n →
+pub number_left : (w : Width) (c : Condition) (way : Bool) (old new : List AbsVal) (dst n u : ℕ) (b : NumberSet) (a x y : AbsVal) →
+    Some (ends_of x, ends_of y) ≡ refined_known w c way (ends_of a) (Numbers b) → ends_of a ≡ known_at (seen old) dst → b ≡ single u → u ≡ taken w n →
     new ≡ set old dst x → seen new ≡ unwrap_or (number_edge w c way (seen old) dst n) (seen old)
-number_left w c way old new dst n u lo hi a x y e f g h s =
+number_left w c way old new dst n u b a x y e f g h s =
     let same : Some (ends_of x, ends_of y) ≡ refined_known w c way (known_at (seen old) dst) (Numbers (single (taken w n))) =
-    e ∙ ap₂ (λ (p : Ends) (q : ℕ × ℕ). refined_known w c way p (Numbers q)) f (g ∙ ap single h) in
+    e ∙ ap₂ (λ (p : Ends) (q : NumberSet). refined_known w c way p (Numbers q)) f (g ∙ ap single h) in
     subst (λ (o : Option (Ends × Ends)). seen new ≡ unwrap_or (option_map (λ p. set (seen old) dst p.0) o) (seen old)) same (seen_set old new dst x s)
 
 register_edge_other : (t : Bool) (known : List Ends) (o : Option (List Ends)) → t ≡ false → cond t (Some known) o ≡ o

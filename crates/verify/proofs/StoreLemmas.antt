@@ -13,7 +13,8 @@ use Rattle.semantics.specs.declared.value.Cell.TheVariants.{Byte}
 use Rattle.semantics.specs.State.{Cause, State, given}
 use Rattle.semantics.specs.Step.{changed}
 use Rattle.semantics.specs.Memory.{window, cells_of, overwritten, pieces_of, stored}
-use Rattle.absval.specs.Contains.{IsNumberIn, IsPointerIn}
+use Rattle.absval.specs.Contains.{IsNumberOf, IsPointerIn}
+use Rattle.absval.specs.declared.number_set.NumberSet.{NumberSet}
 use Rattle.absval.specs.Windows.{LiesIn}
 use Rattle.absmem.specs.Known.{Known}
 use Rattle.absmem.specs.Describes.{Describes as StackDescribes, AreBytes}
@@ -76,11 +77,11 @@ pieces_lead known cells at region low high (value.Pointer other o) e long fits p
     (subst (λ (z : ℤ). StackDescribes known (overwritten cells at (pieces_of region z))) same holds, length-overwritten cells (pieces_of region o) at room ∙ long)
 
 -- where a number is stored, its range does not matter
-pub number_lead : (known : Known) (lo hi : ℕ) (cells : List Cell) (size : ℕ) (p v : Value) (distance : ℤ) → IsNumberIn lo hi v → ((n : ℕ) → Leads known (stored cells size p distance (value.Number n))) →
+pub number_lead : (known : Known) (numbers : NumberSet) (cells : List Cell) (size : ℕ) (p v : Value) (distance : ℤ) → IsNumberOf numbers v → ((n : ℕ) → Leads known (stored cells size p distance (value.Number n))) →
     Leads known (stored cells size p distance v)
-number_lead known lo hi cells size p value.Unset distance h leads = absurd h
-number_lead known lo hi cells size p (value.Number n) distance h leads = leads n
-number_lead known lo hi cells size p (value.Pointer region o) distance h leads = absurd h
+number_lead known numbers cells size p value.Unset distance h leads = absurd h
+number_lead known numbers cells size p (value.Number n) distance h leads = leads n
+number_lead known numbers cells size p (value.Pointer region o) distance h leads = absurd h
 
 -- the program goes on behind a store
 pub store_goes : (a : AbsState) (s : State) (r : Result (List Cell) Cause) → RegistersDescribe a.registers s.registers → Leads a.stack r → GoesOn a (s.unit + 1) (changed s r)

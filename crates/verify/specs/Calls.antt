@@ -1,5 +1,5 @@
 -- Calls of helpers, on what is known (own).
-use Rattle.std.specs.Prelude.{ℕ, ℤ, pos, ◌≡◌, ◌+◌, ◌*◌, ◌≤◌, ◌<◌, ◌&&◌, ◌==◌, not, nat_lt, Bool, true, false, List, [], ◌∷◌, Option, Some, None, Result, Ok, Err, slice_index_or}
+use Rattle.std.specs.Prelude.{ℕ, ℤ, pos, ◌≡◌, ◌+◌, ◌*◌, ◌≤◌, ◌<◌, ◌&&◌, not, nat_lt, Bool, true, false, List, [], ◌∷◌, Option, Some, None, Result, Ok, Err, slice_index_or}
 use Rattle.std.specs.Ordering.{int_eq}
 use Rattle.semantics.specs.declared.value.Region.{Region}
 use Rattle.semantics.specs.declared.value.Region.TheVariants.{Stack, Context}
@@ -7,6 +7,8 @@ use Rattle.semantics.specs.declared.request.Helper.{Helper}
 use Rattle.semantics.specs.declared.request.Helper.TheVariants.{BoardCopy, SendRow}
 use Rattle.semantics.specs.Call.{helper_of}
 use Rattle.absval.specs.declared.value.Offsets.{Offsets}
+use Rattle.absval.specs.declared.number_set.NumberSet.{NumberSet}
+use Rattle.absval.specs.NumberSets.{greatest, is_one}
 use Rattle.absval.specs.declared.value.AbsVal.{AbsVal}
 use Rattle.absval.specs.declared.value.AbsVal.TheVariants.{Unset, Number, Pointer}
 use Rattle.absval.specs.declared.windows.Window.{Window}
@@ -42,9 +44,9 @@ known_at known r = slice_index_or known r Unset
 -- an argument is a number whose greatest value is below the bound, or a pointer where there is no bound
 abbrev pub argument_reason : Option ℕ → AbsVal → Option Reason
 argument_reason bound Unset = Some reason.Unset
-argument_reason (Some bound) (Number range) = reason_if (not (nat_lt range.hi bound)) reason.Argument
+argument_reason (Some bound) (Number numbers) = reason_if (not (nat_lt (greatest numbers) bound)) reason.Argument
 argument_reason (Some bound) (Pointer region offsets) = Some reason.Argument
-argument_reason None (Number range) = Some reason.Argument
+argument_reason None (Number numbers) = Some reason.Argument
 argument_reason None (Pointer region offsets) = None
 
 -- a register that the helper does not take is not looked at
@@ -60,12 +62,12 @@ arguments_reason (argument ∷ arguments) r known = or_reason (taken_reason argu
 -- it is a number below the bound
 abbrev pub IsBelow : ℕ → AbsVal → Type 0
 IsBelow bound Unset = ⊥
-IsBelow bound (Number range) = range.hi < bound
+IsBelow bound (Number numbers) = greatest numbers < bound
 IsBelow bound (Pointer region offsets) = ⊥
 
 abbrev pub IsPointer : AbsVal → Type 0
 IsPointer Unset = ⊥
-IsPointer (Number range) = ⊥
+IsPointer (Number numbers) = ⊥
 IsPointer (Pointer region offsets) = Unit {0}
 
 -- ---- windows
@@ -89,12 +91,12 @@ source_reason known Stack (Some window) = reason_if (not (all_bytes known.bytes 
 -- the words that are copied stand on the board, and find room on the stack
 abbrev pub copy_reason : AbsVal → AbsVal → AbsVal → Option Reason
 copy_reason (Number slots) (Pointer region offsets) (Number counts) =
-    or_reason (reason_if (nat_lt 64 (slots.hi + counts.hi)) reason.Argument) (target_reason region (window_from region offsets (8 * counts.hi)))
+    or_reason (reason_if (nat_lt 64 (greatest slots + greatest counts)) reason.Argument) (target_reason region (window_from region offsets (8 * greatest counts)))
 copy_reason _ _ _ = None
 
 -- the orders that are sent are there
 abbrev pub row_reason : Known → AbsVal → AbsVal → Option Reason
-row_reason known (Pointer region offsets) (Number counts) = source_reason known region (window_from region offsets (4 * counts.hi))
+row_reason known (Pointer region offsets) (Number counts) = source_reason known region (window_from region offsets (4 * greatest counts))
 row_reason known _ _ = None
 
 abbrev pub window_reason : Helper → AbsState → Option Reason
@@ -114,14 +116,10 @@ call_reason a number = helper_reason (helper_of number) a
 
 -- ---- what is left
 
-abbrev pub IsNumberOf : ℕ × ℕ → AbsVal → Type 0
-IsNumberOf ends Unset = ⊥
-IsNumberOf ends (Number range) = (range.lo, range.hi) ≡ ends
-IsNumberOf ends (Pointer region offsets) = ⊥
 
--- r0 is a number between these, r1 to r5 are unset, and the others are as before
-pub record IsBehind (ends : ℕ × ℕ) (old new : List AbsVal) : Type 0 where
-  pub first : IsNumberOf ends (known_at new 0)
+-- r0 is a number of these, r1 to r5 are unset, and the others are as before
+pub record IsBehind (numbers : NumberSet) (old new : List AbsVal) : Type 0 where
+  pub first : known_at new 0 ≡ Number numbers
   pub unset : (r : ℕ) → 1 ≤ r → r ≤ 5 → known_at new r ≡ Unset
   pub others : (r : ℕ) → 6 ≤ r → known_at new r ≡ known_at old r
 
@@ -140,11 +138,11 @@ IsWrittenTo certain None old new = Unit {0}
 IsWrittenTo certain (Some window) old new = IsWritten certain window old new
 
 -- pointer and count are one number each
-abbrev pub is_certain : Offsets → ℕ → ℕ → Bool
-is_certain offsets lo hi = int_eq offsets.low offsets.high && (lo == hi)
+abbrev pub is_certain : Offsets → NumberSet → Bool
+is_certain offsets counts = int_eq offsets.low offsets.high && is_one counts
 
 abbrev pub IsCopied : AbsVal → AbsVal → Known → Known → Type 0
-IsCopied (Pointer region offsets) (Number counts) old new = IsWrittenTo (is_certain offsets counts.lo counts.hi) (window_from region offsets (8 * counts.hi)) old new
+IsCopied (Pointer region offsets) (Number counts) old new = IsWrittenTo (is_certain offsets counts) (window_from region offsets (8 * greatest counts)) old new
 IsCopied _ _ old new = Unit {0}
 
 -- what a call leaves of the stack

@@ -1,7 +1,7 @@
 -- What the pass does at an instruction: why it may not run, and what it leaves (own).
 use Rattle.std.specs.Prelude.{ℕ, ◌+◌, ◌≡◌, List, slice_set, Option, Some, None, Result, IsOk, IfSome}
 use Rattle.std.specs.Result.{result_ok}
-use Rattle.range.specs.Table.{single}
+use Rattle.absval.specs.NumberSets.{single, within}
 use Rattle.insn.specs.declared.insn.Insn.{Insn}
 use Rattle.insn.specs.declared.insn.Insn.TheVariants.{Arithmetic, Negate, SignExtend, Swap, LoadNumber, Load, LoadSigned, Store, Call, Jump, LongJump, Branch, Exit}
 use Rattle.insn.specs.Insn.{units_of}
@@ -49,7 +49,7 @@ Becomes old (LoadSigned part dst base offset) new = Assigns old dst (result_ok (
 Becomes old (Store size base offset source) new =
     (new.registers ≡ old.registers) × Stores old.stack size (known_at (seen old.registers) base) offset (operand_known (seen old.registers) source) new.stack
 Becomes old (Call number) new =
-    IfSome (helper_of number) (λ h. IsBehind (result_of h) old.registers new.registers) × IfSome (helper_of number) (λ h. StackBehind h old new.stack)
+    IfSome (helper_of number) (λ h. IsBehind (within (result_of h)) old.registers new.registers) × IfSome (helper_of number) (λ h. StackBehind h old new.stack)
 Becomes old _ new = ⊥
 
 -- what the pass answers at a unit: where no instruction starts or no state comes, nothing is wrong

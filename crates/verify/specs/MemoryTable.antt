@@ -3,9 +3,8 @@ use Rattle.std.specs.Prelude.{ℕ, ℤ, zero, suc, ◌+◌, ◌/◌, ◌%◌, �
 use Rattle.std.specs.Bool.{MatchBool}
 use Rattle.std.specs.Ordering.{int_eq}
 use Rattle.std.specs.Result.{result_err}
-use Rattle.word.specs.declared.Width.TheVariants.{W64}
 use Rattle.word.specs.declared.Narrow.{Narrow}
-use Rattle.range.specs.Table.{whole}
+use Rattle.absval.specs.NumberSets.{any}
 use Rattle.insn.specs.declared.insn.Size.{Size}
 use Rattle.insn.specs.declared.insn.Size.TheVariants.{Byte, Half, Word, Double}
 use Rattle.insn.specs.Insn.{bytes_of, part_bytes}
@@ -82,7 +81,7 @@ load_given known size (Pointers region at) distance =
 
 -- all numbers
 abbrev pub all_numbers : Ends
-all_numbers = Numbers (whole W64)
+all_numbers = Numbers any
 
 abbrev pub signed_from : Known → Region → Option Window → Result Ends Reason
 signed_from known region None = Err Bounds

@@ -6,8 +6,7 @@ use Rattle.word.specs.declared.Operation.{Operation}
 use Rattle.word.specs.declared.Operation.TheVariants.{Move}
 use Rattle.word.specs.declared.Condition.{Condition}
 use Rattle.word.specs.Arithmetic.{taken}
-use Rattle.range.specs.Edges.{refined}
-use Rattle.range.specs.Table.{single}
+use Rattle.absval.specs.NumberSets.{single, refined}
 use Rattle.insn.specs.declared.insn.Operand.{Operand}
 use Rattle.insn.specs.declared.insn.Operand.TheVariants.{Register, Immediate}
 use Rattle.semantics.specs.declared.value.Region.TheVariants.{Stack, Context}
@@ -43,7 +42,7 @@ Joins old other new n = (r : ℕ) → r < n → known_at (seen new) r ≡ joined
 
 -- ---- the edges of a conditional jump: nothing where the edge is not followed
 
--- numbers are refined by their ranges, others stay
+-- numbers are refined, others stay
 abbrev pub refined_known : Width → Condition → Bool → Ends → Ends → Option (Ends × Ends)
 refined_known w condition way (Numbers m) (Numbers n) = option_map (λ e. (Numbers e.0, Numbers e.1)) (refined w condition way m n)
 refined_known w condition way a b = Some (a, b)

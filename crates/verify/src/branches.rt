@@ -13,9 +13,8 @@ ghost use Rattle.verify.specs.Branches.{decided_by, HoldBoth, StayNumbers};
 
 use crate::comparison::Comparison;
 use crate::registers::{narrow, read};
-use absval::AbsVal;
+use absval::{AbsVal, NumberSet};
 use insn::{Operand, Reg};
-use range::{Range, edges};
 use word::{Condition, Width};
 
 /// What is left of two values where a condition on them goes one way; None where no two of theirs do so.
@@ -37,7 +36,7 @@ fn refine_values(
     let AbsVal::Number(n) = b else {
         return Some((a, b));
     };
-    let (m, n) = edges::refine(width, condition, taken, m, n)?;
+    let (m, n) = NumberSet::refine(width, condition, taken, m, n)?;
     Some((AbsVal::Number(m), AbsVal::Number(n)))
 }
 
@@ -67,7 +66,7 @@ fn refine_by_number(
     ensures left { seen registers.new ≡ unwrap_or (number_edge compared.0 compared.1 taken (seen registers.old) dst (cast_unsigned w64 number)) (seen registers.old) }
 {
     let first = read(registers, dst);
-    let second = AbsVal::Number(Range::exactly(used_number(compared.0, number)));
+    let second = AbsVal::Number(NumberSet::exactly(used_number(compared.0, number)));
     let Some((first, _)) = refine_values(compared.0, compared.1, taken, first, second) else {
         return false;
     };

@@ -1,6 +1,6 @@
 //! What a call of a helper does to what is known.
 ghost use Rattle.std.specs.Prelude.{pos, ◌≡◌, ◌+◌, ◌*◌, ◌≤◌, ◌<◌, ℕ, true, List, [], ◌∷◌, None, Some, length, slice_range, IsOk, IfSome, OnOk, OnErr};
-ghost use Rattle.range.specs.Interval.{IsIn};
+ghost use Rattle.absval.specs.NumberSets.{Has, within, greatest};
 ghost use Rattle.semantics.specs.declared.value.Value.{Value};
 ghost use Rattle.semantics.specs.declared.value.Cell.{Cell};
 ghost use Rattle.semantics.specs.Call.{helper_of};
@@ -17,7 +17,7 @@ ghost use Rattle.verify.specs.CallStates.{Puts, WordsStand, CopyStands, RowStand
 use crate::reason::Reason;
 use crate::state::AbsState;
 use absmem::AbsStack;
-use absval::{AbsVal, Offsets, Window, window_of};
+use absval::{AbsVal, NumberSet, Offsets, Window, window_of};
 use helper::{Argument, Helper};
 use insn::Insn;
 use range::Range;
@@ -27,10 +27,22 @@ use semantics::Region;
 fn check_argument(argument: Argument, value: AbsVal) -> Result<(), Reason>
     ensures { result ≡ answer_of (argument_reason (bound_of argument) value) }
 {
-    match (value, argument.greatest()) {
-        (AbsVal::Unset, _) => Err(Reason::Unset),
-        (AbsVal::Number(range), Some(greatest)) if range.hi <= greatest => Ok(()),
-        (AbsVal::Pointer(..), None) => Ok(()),
+    match value {
+        AbsVal::Unset => Err(Reason::Unset),
+        AbsVal::Number(numbers) => check_number(argument, numbers),
+        AbsVal::Pointer(..) => match argument.greatest() {
+            None => Ok(()),
+            Some(_) => Err(Reason::Argument),
+        },
+    }
+}
+
+/// A number that is an argument is not above the argument's greatest.
+fn check_number(argument: Argument, numbers: NumberSet) -> Result<(), Reason>
+    ensures { result ≡ answer_of (argument_reason (bound_of argument) (AbsVal.Number numbers)) }
+{
+    match argument.greatest() {
+        Some(greatest) if numbers.greatest() <= greatest => Ok(()),
         _ => Err(Reason::Argument),
     }
 }
@@ -67,13 +79,13 @@ fn check_arguments(
     check_taken(third, known(registers, 3))
 }
 
-/// The range of an argument that is a number.
-fn number(value: AbsVal) -> Range
+/// The numbers of an argument that is one.
+fn number(value: AbsVal) -> NumberSet
     requires { is_number value ≡ true }
     ensures { value ≡ AbsVal.Number result }
 {
     match value {
-        AbsVal::Number(range) => range,
+        AbsVal::Number(numbers) => numbers,
         AbsVal::Unset | AbsVal::Pointer(..) => unreachable!(),
     }
 }
@@ -90,22 +102,22 @@ fn pointer(value: AbsVal) -> (Region, Offsets)
 }
 
 /// Whether words are written to one place: pointer and count are one number each.
-fn is_certain(offsets: Offsets, counts: Range) -> bool
-    ensures { result ≡ is_certain offsets counts.lo counts.hi }
+fn is_certain(offsets: Offsets, counts: NumberSet) -> bool
+    ensures { result ≡ is_certain offsets counts }
 {
-    offsets.low == offsets.high && counts.is_single()
+    offsets.low == offsets.high && counts.is_one()
 }
 
 /// Words are written at an offset of the stack, so many of 8 bytes each.
-fn write_words(stack: &mut AbsStack, offsets: Offsets, counts: Range) -> Result<(), Reason>
-    requires { counts.hi ≤ 64 }
-    ensures refused { result ≡ answer_of (target_reason Region.Stack (window_from Region.Stack offsets (8 * counts.hi))) }
-    ensures left { OnOk result (IsWrittenTo (is_certain offsets counts.lo counts.hi) (window_from Region.Stack offsets (8 * counts.hi)) stack.old stack.new) }
+fn write_words(stack: &mut AbsStack, offsets: Offsets, counts: NumberSet) -> Result<(), Reason>
+    requires { greatest counts ≤ 64 }
+    ensures refused { result ≡ answer_of (target_reason Region.Stack (window_from Region.Stack offsets (8 * greatest counts))) }
+    ensures left { OnOk result (IsWrittenTo (is_certain offsets counts) (window_from Region.Stack offsets (8 * greatest counts)) stack.old stack.new) }
     ensures kept { OnErr result (stack.new ≡ stack.old) }
     ensures holds { OnOk result ((cells : List Cell) (p : Value) (words : List ℕ) → StackDescribes stack.old cells → length cells ≡ 512 →
-        IsPointerIn Region.Stack offsets.low offsets.high p → IsIn counts.lo counts.hi (length words) → WordsStand stack.new cells p words) }
+        IsPointerIn Region.Stack offsets.low offsets.high p → Has counts (length words) → WordsStand stack.new cells p words) }
 {
-    let Some(window) = window_of(Region::Stack, offsets, 0, 8 * counts.hi as usize) else {
+    let Some(window) = window_of(Region::Stack, offsets, 0, 8 * counts.greatest() as usize) else {
         return Err(Reason::Bounds);
     };
     if is_certain(offsets, counts) {
@@ -129,7 +141,7 @@ fn copy(stack: &mut AbsStack, slots: AbsVal, target: AbsVal, counts: AbsVal) -> 
     let slots = number(slots);
     let (region, offsets) = pointer(target);
     let counts = number(counts);
-    if slots.hi + counts.hi > 64 {
+    if slots.greatest() + counts.greatest() > 64 {
         return Err(Reason::Argument);
     }
     match region {
@@ -165,7 +177,7 @@ fn check_row(stack: &AbsStack, source: AbsVal, counts: AbsVal) -> Result<(), Rea
 {
     let (region, offsets) = pointer(source);
     let counts = number(counts);
-    let Some(window) = window_of(region, offsets, 0, 4 * counts.hi as usize) else {
+    let Some(window) = window_of(region, offsets, 0, 4 * counts.greatest() as usize) else {
         return Err(Reason::Bounds);
     };
     check_bytes(stack, region, window)
@@ -192,10 +204,10 @@ fn pass_window(state: &mut AbsState, helper: Helper) -> Result<(), Reason>
 
 /// Behind a call r0 has the result, and r1 to r5 are unset.
 fn put_result(registers: &mut [AbsVal; 11], range: Range)
-    ensures behind { IsBehind (range.lo, range.hi) registers.old registers.new }
-    ensures puts { (vs : List Value) → RegistersDescribe registers.old vs → Puts range.lo range.hi registers.new vs }
+    ensures behind { IsBehind (within range) registers.old registers.new }
+    ensures puts { (vs : List Value) → RegistersDescribe registers.old vs → Puts range.0 range.1 registers.new vs }
 {
-    registers[0] = AbsVal::Number(range);
+    registers[0] = AbsVal::Number(NumberSet::within(range));
     for r in 1..6 {
         registers[r] = AbsVal::Unset;
     }
@@ -205,7 +217,7 @@ fn put_result(registers: &mut [AbsVal; 11], range: Range)
 pub fn call(state: &mut AbsState, number: i32) -> Result<(), Reason>
     ensures holds { OnOk result (Follows state.old (Insn.Call number) state.new) }
     ensures refused { result ≡ answer_of (call_reason state.old number) }
-    ensures registers { OnOk result (IfSome (helper_of number) (λ h. IsBehind (result_of h) state.old.registers state.new.registers)) }
+    ensures registers { OnOk result (IfSome (helper_of number) (λ h. IsBehind (within (result_of h)) state.old.registers state.new.registers)) }
     ensures stack { OnOk result (IfSome (helper_of number) (λ h. StackBehind h state.old state.new.stack)) }
     ensures kept { OnErr result (state.new ≡ state.old) }
 {

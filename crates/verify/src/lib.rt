@@ -13,8 +13,6 @@ mod registers;
 mod state;
 mod steps;
 mod structure;
-#[cfg(test)]
-mod tests;
 mod verified;
 mod verifier;
 

@@ -17,9 +17,8 @@ ghost use Rattle.verify.specs.MemoryTable.{pointer_in, ends_given, unset_in, spi
 
 use crate::reason::Reason;
 use absmem::AbsStack;
-use absval::{AbsVal, Offsets, Window, loaded, window_of};
+use absval::{AbsVal, NumberSet, Offsets, Window, loaded, window_of};
 use insn::Size;
-use range::{Range, unary};
 use semantics::Region;
 use word::{Narrow, Width};
 
@@ -130,7 +129,7 @@ fn extended(part: Narrow) -> AbsVal
     ensures exact { ends_of result ≡ all_numbers }
     ensures holds { (n : ℕ) → n < 2 ^ 64 → Contains result (Value.Number (sign_extended Width.W64 part n)) }
 {
-    AbsVal::Number(unary::sign_extend(Width::W64, part, Range::full()))
+    AbsVal::Number(NumberSet::any().sign_extend(Width::W64, part))
 }
 
 /// The cells of the window are bytes: those of the context are.

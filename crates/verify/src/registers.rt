@@ -14,9 +14,8 @@ ghost use Rattle.verify.specs.Reads.{AllNumbers, LeavesBut, JoinsNumbers};
 
 use crate::state::AbsState;
 use absmem::AbsStack;
-use absval::{AbsVal, Offsets};
+use absval::{AbsVal, NumberSet, Offsets};
 use insn::{Operand, Reg};
-use range::Range;
 use semantics::Region;
 use word::Operation;
 
@@ -68,7 +67,7 @@ pub fn first(registers: &[AbsVal; 11], operation: Operation, dst: Reg) -> AbsVal
     ensures seen { ends_of result ≡ first_known (seen registers.now) operation dst }
 {
     match operation {
-        Operation::Move => AbsVal::Number(Range::exactly(0)),
+        Operation::Move => AbsVal::Number(NumberSet::exactly(0)),
         _ => read(registers, dst),
     }
 }

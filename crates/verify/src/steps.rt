@@ -1,7 +1,7 @@
 //! What one instruction does to what is known.
 ghost use Rattle.std.specs.Prelude.{◌≡◌, ◌≢◌, ℕ, ◌+◌, ◌++◌, true, List, [], ◌∷◌, IfSome, IsSome, IsOk, OnOk, OnErr, Result, Some, None, option_map, if◌then◌else◌};
 ghost use Rattle.std.specs.Result.{result_ok, result_err};
-ghost use Rattle.range.specs.Table.{single};
+ghost use Rattle.absval.specs.NumberSets.{single};
 ghost use Rattle.word.specs.declared.Width.{Width};
 ghost use Rattle.label.specs.declared.shape.Shape.{Shape};
 ghost use Rattle.semantics.specs.declared.value.Value.{Value};
@@ -24,15 +24,14 @@ use crate::comparison::Comparison;
 use crate::reason::Reason;
 use crate::state::AbsState;
 use crate::{calls, memory, registers};
-use absval::AbsVal;
+use absval::{AbsVal, NumberSet};
 use insn::{Insn, Operand, Reg, Size};
-use range::Range;
 use word::{ByteOrder, Narrow, Operation, SwapSize, Width};
 
 /// A register that is read is set.
-fn check_set(value: AbsVal) -> Result<(), Reason>
-    ensures plain { is_number value ≡ true → IsOk result }
-    ensures refused { result_err result ≡ first_reason ((is_unset (ends_of value), Reason.Unset) ∷ []) }
+fn check_set(value: &AbsVal) -> Result<(), Reason>
+    ensures plain { is_number value.now ≡ true → IsOk result }
+    ensures refused { result_err result ≡ first_reason ((is_unset (ends_of value.now), Reason.Unset) ∷ []) }
 {
     match value {
         AbsVal::Unset => Err(Reason::Unset),
@@ -79,14 +78,14 @@ fn put(state: &mut AbsState, dst: Reg, value: AbsVal)
 fn put_made(
     state: &mut AbsState,
     dst: Reg,
-    value: AbsVal,
+    value: &AbsVal,
     made: Option<AbsVal>,
 ) -> Result<(), Reason>
     ensures holds { OnOk result ((s : State) (r : Result Value Cause) →
         Describes state.old s → IfSome made (λ m. Gives m r) → GoesOn state.new (s.unit + 1) (assigned s dst 1 r)) }
-    ensures plain { dst ≢ 10 → is_number value ≡ true → IsSome made → IsOk result }
+    ensures plain { dst ≢ 10 → is_number value.now ≡ true → IsSome made → IsOk result }
     ensures leaves { OnOk result (IfSome made (λ m. is_number m ≡ true) → LeavesBut (dst ∷ []) state.old.registers state.new.registers) }
-    ensures refused { result_err result ≡ first_reason (made_checks dst (ends_of value) (option_map ends_of made)) }
+    ensures refused { result_err result ≡ first_reason (made_checks dst (ends_of value.now) (option_map ends_of made)) }
     ensures left { OnOk result (Assigns state.old dst (option_map ends_of made) state.new) }
     ensures kept { OnErr result (state.new ≡ state.old) }
 {
@@ -116,9 +115,9 @@ fn arithmetic(
 {
     let first = registers::first(&state.registers, operation, dst);
     let second = registers::operand(&state.registers, operand);
-    check_set(first)?;
+    check_set(&first)?;
     let made = absval::arithmetic(width, operation, first, second);
-    put_made(state, dst, second, made)
+    put_made(state, dst, &second, made)
 }
 
 fn negate(state: &mut AbsState, width: Width, dst: Reg) -> Result<(), Reason>
@@ -130,7 +129,8 @@ fn negate(state: &mut AbsState, width: Width, dst: Reg) -> Result<(), Reason>
     ensures kept { OnErr result (state.new ≡ state.old) }
 {
     let value = registers::read(&state.registers, dst);
-    put_made(state, dst, value, absval::negate(width, value))
+    let made = absval::negate(width, value);
+    put_made(state, dst, &value, made)
 }
 
 fn sign_extend(
@@ -148,7 +148,8 @@ fn sign_extend(
     ensures kept { OnErr result (state.new ≡ state.old) }
 {
     let value = registers::read(&state.registers, src);
-    put_made(state, dst, value, absval::sign_extend(width, part, value))
+    let made = absval::sign_extend(width, part, value);
+    put_made(state, dst, &value, made)
 }
 
 fn swap(state: &mut AbsState, order: ByteOrder, size: SwapSize, dst: Reg) -> Result<(), Reason>
@@ -160,7 +161,8 @@ fn swap(state: &mut AbsState, order: ByteOrder, size: SwapSize, dst: Reg) -> Res
     ensures kept { OnErr result (state.new ≡ state.old) }
 {
     let value = registers::read(&state.registers, dst);
-    put_made(state, dst, value, absval::swap(order, size, value))
+    let made = absval::swap(order, size, value);
+    put_made(state, dst, &value, made)
 }
 
 fn load_number(state: &mut AbsState, dst: Reg, number: u64) -> Result<(), Reason>
@@ -172,7 +174,7 @@ fn load_number(state: &mut AbsState, dst: Reg, number: u64) -> Result<(), Reason
     ensures kept { OnErr result (state.new ≡ state.old) }
 {
     check_writable(dst)?;
-    put(state, dst, AbsVal::Number(Range::exactly(number)));
+    put(state, dst, AbsVal::Number(NumberSet::exactly(number)));
     Ok(())
 }
 
@@ -183,7 +185,7 @@ fn load(state: &mut AbsState, size: Size, dst: Reg, base: Reg, offset: i16) -> R
     ensures holds { OnOk result (Follows state.old (Insn.Load size dst base offset) state.new) }
 {
     let pointer = registers::read(&state.registers, base);
-    check_set(pointer)?;
+    check_set(&pointer)?;
     check_writable(dst)?;
     let value = memory::load(&state.stack, size, pointer, offset)?;
     put(state, dst, value);
@@ -203,7 +205,7 @@ fn load_signed(
     ensures holds { OnOk result (Follows state.old (Insn.LoadSigned part dst base offset) state.new) }
 {
     let pointer = registers::read(&state.registers, base);
-    check_set(pointer)?;
+    check_set(&pointer)?;
     check_writable(dst)?;
     let value = memory::load_signed(&state.stack, part, pointer, offset)?;
     put(state, dst, value);
@@ -225,8 +227,8 @@ fn store(
 {
     let pointer = registers::read(&state.registers, base);
     let value = registers::operand(&state.registers, source);
-    check_set(pointer)?;
-    check_set(value)?;
+    check_set(&pointer)?;
+    check_set(&value)?;
     memory::store(&mut state.stack, size, pointer, offset, value)
 }
 
@@ -289,8 +291,8 @@ pub fn compare(state: &AbsState, compared: &Comparison) -> Result<(), Reason>
 {
     let first = registers::read(&state.registers, compared.dst);
     let second = registers::operand(&state.registers, compared.operand);
-    check_set(first)?;
-    check_set(second)?;
+    check_set(&first)?;
+    check_set(&second)?;
     check_number(first)?;
     check_number(second)
 }

@@ -50,18 +50,3 @@ fn related32(condition: Condition, x: u32, y: u32) -> bool
         Condition::SignedAtMost => x.cast_signed() <= y.cast_signed(),
     }
 }
-
-#[cfg(test)]
-mod tests {
-    use super::*;
-
-    #[test]
-    fn compares(rt: HostRuntime) {
-        assert!(rt; compare64(Condition::SignedAbove, 1, u64::MAX));
-        assert!(rt; !compare64(Condition::Above, 1, u64::MAX));
-        assert!(rt; compare32(Condition::Equal, 0x1_0000_0000, 0));
-        assert!(rt; compare32(Condition::SignedBelow, 0x8000_0000, 0));
-        assert!(rt; compare64(Condition::AnyBit, 6, 10));
-        assert!(rt; !compare64(Condition::AnyBit, 6, 9));
-    }
-}

@@ -38,24 +38,3 @@ fn reversed_bytes(size: SwapSize, a: u64) -> u64
         SwapSize::Double => a.swap_bytes(),
     }
 }
-
-#[cfg(test)]
-mod tests {
-    use super::*;
-
-    #[test]
-    fn puts_bytes_in_order(rt: HostRuntime) {
-        let word = 0x1122_3344_5566_7788;
-        assert_eq!(rt; swap(ByteOrder::Big, SwapSize::Half, word), 34935);
-        assert_eq!(rt; swap(ByteOrder::Little, SwapSize::Word, word), 0x5566_7788);
-        assert_eq!(rt;
-            swap(ByteOrder::Reversed, SwapSize::Word, word),
-            0x8877_6655
-        );
-        assert_eq!(rt;
-            swap(ByteOrder::Big, SwapSize::Double, word),
-            0x8877_6655_4433_2211
-        );
-        assert_eq!(rt; swap(ByteOrder::Little, SwapSize::Double, word), word);
-    }
-}

@@ -23,3 +23,5 @@ pub mod Arranged
 pub mod Replaying
 pub mod Refusing
 pub mod Example
+pub mod Standing
+pub mod Verdicts

@@ -1,6 +1,11 @@
 pub mod Part
 pub mod World
+pub mod Reached
 pub mod Lists
+pub mod Schedules
 pub mod Accounted
 pub mod Chronicle
-pub mod Laws
+pub mod Agreement
+pub mod Safety
+pub mod Replay
+pub mod Refusals

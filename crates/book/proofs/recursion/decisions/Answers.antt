@@ -1,7 +1,6 @@
 use Rattle.std.proofs.Common.{◌≡◌, ◌<◌, [], ◌∷◌, false, length, ℕ, List, sym, ◌∙◌, arith, lit<, subst, refl}
 use Rattle.std.proofs.lemmas.Bool.{or_from, or_left, ne_eqb, eq-eqb}
 use Rattle.std.specs.Prelude.{◌==◌}
-use Rattle.combine.specs.Laws.{majority_is_rule}
 use Rattle.label.specs.Labels.{on}
 use Rattle.book.specs.Table.{told}
 use Rattle.book.specs.Decisions.{decision_of, AgreesIfBound}
@@ -34,4 +33,4 @@ returns-clause-values c =
 pub returns-clause-agree : goal.returns-clause-agree
 returns-clause-agree c =
     let P : List ℕ → Type 0 = AgreesIfBound c.args.table.now.generals c.args.table.now.commander c.args.table.now.bound (told c.args.table.now.messages) in
-    subst P (sym (returns-clause-values c)) (table_agrees majority_is_rule c.agreement.ensures c.args.table.now c.generals-generals.ensures.within.present)
+    subst P (sym (returns-clause-values c)) (table_agrees c.agreement.ensures c.args.table.now c.generals-generals.ensures.within.present)

@@ -6,11 +6,11 @@ use Rattle.mem.proofs.cells.word_at.Goals as goal
 
 pub returns-in_err-high : goal.returns-in_err-high
 returns-in_err-high c =
-    let h : Reads c.args.cells.now c.args.place 4 None = reads_high c.args.cells.now c.args.place 2 2 c.in_ok-low.low (omega arith) c.in_ok-low.ensures c.in_err-high.ensures in
+    let h : Reads c.args.stack.now c.args.place 4 None = reads_high c.args.stack.now c.args.place 2 2 c.in_ok-low.low (omega arith) c.in_ok-low.ensures c.in_err-high.ensures in
     search rules
 
 pub returns : goal.returns
 returns c =
-    let h : number_in (take 4 (drop c.args.place c.args.cells.now)) ≡ Ok (c.in_ok-low.low + 65536 * c.in_ok-high.high) =
-    reads_number c.args.cells.now c.args.place 2 2 c.in_ok-low.low c.in_ok-high.high (omega arith) c.in_ok-low.ensures c.in_ok-high.ensures in
+    let h : number_in (take 4 (drop c.args.place c.args.stack.now)) ≡ Ok (c.in_ok-low.low + 65536 * c.in_ok-high.high) =
+    reads_number c.args.stack.now c.args.place 2 2 c.in_ok-low.low c.in_ok-high.high (omega arith) c.in_ok-low.ensures c.in_ok-high.ensures in
     cc

@@ -10,14 +10,14 @@ returns-then-space t c =
     let commander = c.space-space.ensures.commander in
     let general = c.space-space.ensures.general in
     place-one c.args.tree.now c.args.size c.args.rank (c.space-space.result.general - 1) c.space-space.ensures.kind c.if-size-eq1.true c.requires.within
-    (first-place c.args.tree.now c.space-space.ensures.kind (c.space-space.result.general - 1) (λ l. omega arith) (λ l. absurd (let h = c.if-space.true in omega arith)))
+    (first-place c.args.tree.now.commander c.args.tree.now.general (c.space-space.result.general - 1) (λ l. omega arith) (λ l. absurd (let h = c.if-space.true in omega arith)))
 
 pub returns-else-space : goal.returns-else-space
 returns-else-space t c =
     let commander = c.space-space.ensures.commander in
     let general = c.space-space.ensures.general in
     place-one c.args.tree.now c.args.size c.args.rank c.space-space.result.general c.space-space.ensures.kind c.if-size-eq1.true c.requires.within
-    (first-place c.args.tree.now c.space-space.ensures.kind c.space-space.result.general (λ l. absurd (let h = c.if-space.false in omega arith)) (λ l. omega arith))
+    (first-place c.args.tree.now.commander c.args.tree.now.general c.space-space.result.general (λ l. absurd (let h = c.if-space.false in omega arith)) (λ l. omega arith))
 
 pub nonzero_div-rank : goal.nonzero_div-rank
 nonzero_div-rank t c =

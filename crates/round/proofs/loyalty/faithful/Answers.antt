@@ -2,7 +2,7 @@
 use Rattle.std.proofs.Common.{◌≡◌, ◌∙◌, ap}
 use Rattle.label.specs.declared.shape.Shape.{Shape}
 use Rattle.semantics.specs.Outbox.{written, as_taken}
-use Rattle.round.proofs.Loyal.{more_told, none_told, all_told}
+use Rattle.round.proofs.ToldRows.{more_told, none_told, all_told}
 use Rattle.round.proofs.loyalty.faithful.Goals as goal
 
 pub loop-receiver-init : goal.loop-receiver-init

@@ -1,5 +1,5 @@
 use Rattle.std.proofs.Common.{◌≡◌}
-use Rattle.round.proofs.Loyal.{told_below}
+use Rattle.round.proofs.ToldRows.{told_below}
 use Rattle.round.proofs.loyalty.faithful.Given as goal
 
 abbrev pub invariant-loop-receiver : goal.invariant-loop-receiver

@@ -24,6 +24,6 @@ returns-clause-numbers c = c.narrow.ensures.numbers c.args.registers.now (λ r l
 
 pub returns-clause-left : goal.returns-clause-left
 returns-clause-left c =
-    number_left c.args.compared.0 c.args.compared.1 c.args.taken c.args.registers.now c.narrow.new.registers c.args.dst (of_z w64 c.args.number) c.used_number.result c.exactly.result.lo c.exactly.result.hi
+    number_left c.args.compared.0 c.args.compared.1 c.args.taken c.args.registers.now c.narrow.new.registers c.args.dst (of_z w64 c.args.number) c.used_number.result c.exactly.result
     c.read-first.result c.in-Some.first c.in-Some.field-0-1 c.in-Some.ensures.exact c.read-first.ensures.seen c.exactly.ensures.exact
     (subst (λ (z : ℤ). c.used_number.result ≡ taken c.args.compared.0 (of_z w64 z)) (to_z-of_z w32 c.args.number c.ranges.number) c.used_number.ensures) c.narrow.ensures.exact

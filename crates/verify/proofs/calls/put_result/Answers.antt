@@ -1,7 +1,8 @@
-use Rattle.std.proofs.Common.{arith, ◌≡◌, ◌≢◌, ◌<◌, ◌∙◌, refl, length, length-set, get_or-set_other}
+use Rattle.std.proofs.Common.{arith, ◌≡◌, ◌≢◌, ◌<◌, ◌∙◌, refl, ap, subst, length, length-set, get_or-set_other}
 use Rattle.absval.specs.declared.value.AbsVal.{AbsVal}
 use Rattle.absval.specs.declared.value.AbsVal.TheVariants.{Unset, Number}
-use Rattle.verify.specs.Calls.{IsNumberOf}
+use Rattle.absval.specs.declared.number_set.NumberSet.{NumberSet}
+use Rattle.absval.specs.NumberSets.{Has, within}
 use Rattle.verify.proofs.Zips.{at_set}
 use Rattle.verify.proofs.CallRegisters.{behind_puts}
 use Rattle.verify.proofs.calls.put_result.Goals as goal
@@ -9,11 +10,11 @@ use Rattle.verify.proofs.calls.put_result.Goals as goal
 pub loop-r-init : goal.loop-r-init
 loop-r-init c =
     let xs = c.args.registers.now in
-    let x = Number c.args.range in
+    let x = Number c.within.result in
     let l : 0 < length xs = omega (arith, c.told-registers) in
     record {
       size = length-set xs 0 x ∙ c.told-registers;
-      first = at_set (λ (a : AbsVal). IsNumberOf (c.args.range.lo, c.args.range.hi) a) xs 0 0 x Unset l (λ e. refl) (λ n. absurd (n refl));
+      first = at_set (λ (a : AbsVal). a ≡ Number (within c.args.range)) xs 0 0 x Unset l (λ e. ap Number c.within.ensures.exact) (λ n. absurd (n refl));
       unset = λ k ge lt. absurd (omega arith);
       others = λ k ge le. let n : k ≢ 0 = omega arith in get_or-set_other xs 0 k x Unset n;
     }
@@ -25,7 +26,7 @@ loop-r-preserved c =
     let l : i < length xs = omega arith in
     record {
       size = rw (length-set xs i Unset) c.loop-r.invariant.size;
-      first = at_set (λ (a : AbsVal). IsNumberOf (c.args.range.lo, c.args.range.hi) a) xs i 0 Unset Unset l (λ e. absurd (omega arith)) (λ n. c.loop-r.invariant.first);
+      first = at_set (λ (a : AbsVal). a ≡ Number (within c.args.range)) xs i 0 Unset Unset l (λ e. absurd (omega arith)) (λ n. c.loop-r.invariant.first);
       unset = λ k ge lt. at_set (λ (a : AbsVal). a ≡ Unset) xs i k Unset Unset l (λ e. refl) (λ n. c.loop-r.invariant.unset k ge (omega arith));
       others = λ k ge le. let n : k ≢ i = omega arith in rw (get_or-set_other xs i k Unset Unset n) (c.loop-r.invariant.others k ge (omega arith));
     }
@@ -39,4 +40,4 @@ returns-clause-behind c = record {
 
 pub returns-clause-puts : goal.returns-clause-puts
 returns-clause-puts c = λ vs d.
-    behind_puts c.args.range.lo c.args.range.hi c.args.registers.now c.loop-r.registers vs c.told-registers c.loop-r.invariant.size (returns-clause-behind c) d
+    behind_puts c.args.range.0 c.args.range.1 c.args.registers.now c.loop-r.registers vs c.told-registers c.loop-r.invariant.size (λ n inside. subst (λ (numbers : NumberSet). Has numbers n) c.within.ensures.exact (c.within.ensures.holds n inside)) (returns-clause-behind c) d

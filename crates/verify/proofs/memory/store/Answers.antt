@@ -12,7 +12,7 @@ use Rattle.verify.proofs.memory.store.Goals as goal
 
 pub returns-in-Number-clause-holds : goal.returns-in-Number-clause-holds
 returns-in-Number-clause-holds c = OnOk-map c.store_number.result _ _ (λ leads cells p v d long inside held.
-    number_lead c.store_number.new.stack c.in-Number.field-0.lo c.in-Number.field-0.hi cells (bytes_of c.args.size) p v c.args.distance
+    number_lead c.store_number.new.stack c.in-Number.field-0 cells (bytes_of c.args.size) p v c.args.distance
     (subst (λ (a : AbsVal). Contains a v) c.in-Number.is held)
     (λ n. subst (λ (x : ℤ). Leads c.store_number.new.stack (stored cells (bytes_of c.args.size) p x (value.Number n))) (to_z-of_z w16 c.args.distance c.ranges.distance)
     (leads cells p n d long (subst (λ (a : AbsVal). Contains a p) c.in_ok-base.ensures.holds inside))))

@@ -1,0 +1,216 @@
+//! What is known of a number: the range that it lies in, and bits that it has.
+ghost use Rattle.std.specs.Prelude.{◌≡◌, ◌≤◌, ◌<◌, ◌^◌, ℕ, IsTrue, IsSomeAnd};
+ghost use Rattle.word.specs.Arithmetic.{arithmetic, taken, negated, sign_extended, swapped, compared};
+ghost use Rattle.range.specs.Interval.{IsIn};
+ghost use Rattle.bits.specs.Known.{HasBits};
+ghost use Rattle.absval.specs.NumberSets.{Has, HaveBoth, single, within, any, greatest, is_one, joined, copies, reduced, settled, table, negations, extensions, swaps, refined};
+
+use bits::{Bits, operate as bitwise};
+use range::{Range, edges, operate as ranges, unary, used};
+use std::marker::Model;
+use word::{ByteOrder, Condition, Narrow, Operation, SwapSize, Width};
+
+/// The numbers of a range that have these bits.
+#[derive(Clone, Copy, Debug, PartialEq, Eq)]
+pub struct NumberSet {
+    range: Range,
+    bits: Bits,
+}
+
+impl Model for NumberSet {
+    ghost use Rattle.absval.specs.Numbers.{Numbers};
+
+    ghost Value = { Numbers };
+
+    ghost view = { λ n. record { range = n.range; bits = n.bits } };
+
+    ghost inverse = { λ v. record { range = v.range; bits = v.bits } };
+}
+
+impl NumberSet {
+    /// One number.
+    pub fn exactly(n: u64) -> NumberSet
+        ensures exact { result ≡ single n }
+        ensures holds { Has result n }
+    {
+        NumberSet {
+            range: Range::exactly(n),
+            bits: Bits::exactly(n),
+        }
+    }
+
+    /// The numbers of a range, whatever their bits.
+    pub fn within(range: Range) -> NumberSet
+        ensures exact { result ≡ within range }
+        ensures holds { (x : ℕ) → IsIn range.0 range.1 x → Has result x }
+    {
+        let _greatest = range.hi;
+        NumberSet {
+            range,
+            bits: Bits::unknown(Width::W64),
+        }
+    }
+
+    /// All words.
+    pub fn any() -> NumberSet
+        ensures exact { result ≡ any }
+        ensures holds { (x : ℕ) → x < 2 ^ 64 → Has result x }
+    {
+        NumberSet {
+            range: Range::full(),
+            bits: Bits::unknown(Width::W64),
+        }
+    }
+
+    /// The range that they lie in.
+    pub(crate) fn range(self) -> Range
+        ensures exact { result ≡ self.range }
+        ensures holds { (x : ℕ) → Has self x → IsIn result.0 result.1 x }
+    {
+        self.range
+    }
+
+    /// The greatest number of its range.
+    pub fn greatest(self) -> u64
+        ensures exact { result ≡ greatest self }
+        ensures holds { (x : ℕ) → Has self x → x ≤ result }
+    {
+        self.range.hi
+    }
+
+    /// Whether its range is one number.
+    pub fn is_one(self) -> bool
+        ensures exact { result ≡ is_one self }
+        ensures holds { (x : ℕ) → IsTrue result → Has self x → x ≡ greatest self }
+    {
+        self.range.is_single()
+    }
+
+    /// The numbers of either, and those that look like them.
+    pub fn join(self, other: NumberSet) -> NumberSet
+        ensures exact { result ≡ joined self other }
+        ensures left { (x : ℕ) → Has self x → Has result x }
+        ensures right { (x : ℕ) → Has other x → Has result x }
+    {
+        NumberSet {
+            range: self.range.join(other.range),
+            bits: self.bits.join(other.bits),
+        }
+    }
+
+    /// What an operation makes of a number of these and one of those.
+    pub fn operate(width: Width, operation: Operation, a: NumberSet, b: NumberSet) -> NumberSet
+        ensures exact { result ≡ table width operation a b }
+        ensures holds { (x y : ℕ) → Has a x → Has b y → Has result (arithmetic width operation x y) }
+    {
+        let range = ranges::operate(width, operation, a.range, b.range);
+        let bits = bitwise::operate(width, operation, a.bits, b.bits);
+        settle(range, bits)
+    }
+
+    /// The numbers' low bits.
+    pub fn low_bits(self, width: Width) -> NumberSet
+        ensures exact { result ≡ copies width self }
+        ensures holds { (x : ℕ) → Has self x → Has result (taken width x) }
+    {
+        settle(
+            used::used(width, self.range),
+            bitwise::used(width, self.bits),
+        )
+    }
+
+    /// The negated numbers.
+    pub fn negate(self, width: Width) -> NumberSet
+        ensures exact { result ≡ negations width self }
+        ensures holds { (x : ℕ) → Has self x → Has result (negated width x) }
+    {
+        let range = unary::negate(width, self.range);
+        settle(range, Bits::unknown(width))
+    }
+
+    /// The numbers whose low bits are extended by their sign.
+    pub fn sign_extend(self, width: Width, part: Narrow) -> NumberSet
+        ensures exact { result ≡ extensions width part self }
+        ensures holds { (x : ℕ) → Has self x → Has result (sign_extended width part x) }
+    {
+        let range = unary::sign_extend(width, part, self.range);
+        settle(range, Bits::unknown(width))
+    }
+
+    /// The numbers whose low bytes are put in an order.
+    pub fn swap(self, order: ByteOrder, size: SwapSize) -> NumberSet
+        ensures exact { result ≡ swaps order size self }
+        ensures holds { (x : ℕ) → Has self x → Has result (swapped order size x) }
+    {
+        let range = unary::swap(order, size, self.range);
+        settle(range, Bits::unknown(Width::W64))
+    }
+
+    /// What is left of two sets where a jump on a condition is taken, or is not taken; None where no pair of
+    /// their numbers goes that way.
+    pub fn refine(
+        width: Width,
+        condition: Condition,
+        taken: bool,
+        a: NumberSet,
+        b: NumberSet,
+    ) -> Option<(NumberSet, NumberSet)>
+        ensures exact { result ≡ refined width condition taken a b }
+        ensures holds { (x y : ℕ) → Has a x → Has b y → compared width condition x y ≡ taken → HaveBoth result x y }
+    {
+        if !edges::tells(width, condition, a.range, b.range) {
+            return Some((a, b));
+        }
+        let (first, second) = edges::refine(width, condition, taken, a.range, b.range)?;
+        let first = reduce(first, a.bits)?;
+        let second = reduce(second, b.bits)?;
+        Some((first, second))
+    }
+}
+
+/// The numbers of a range that have these bits, once: the bits of one number are known, and the ends lie
+/// within what the bits allow. None where there is no such number.
+fn reduce(range: Range, bits: Bits) -> Option<NumberSet>
+    ensures exact { result ≡ reduced range bits }
+    ensures holds { (x : ℕ) → IsIn range.0 range.1 x → HasBits bits x → IsSomeAnd result (λ n. Has n x) }
+{
+    if range.is_single() {
+        return single_with(range, bits);
+    }
+    let lo = range.lo.max(bits.least());
+    let hi = range.hi.min(bits.greatest());
+    if hi < lo {
+        return None;
+    }
+    Some(NumberSet {
+        range: Range { lo, hi },
+        bits,
+    })
+}
+
+/// The only number of a range, if it has these bits.
+fn single_with(range: Range, bits: Bits) -> Option<NumberSet>
+    requires { range.0 ≡ range.1 }
+    ensures exact { result ≡ reduced range bits }
+    ensures holds { (x : ℕ) → IsIn range.0 range.1 x → HasBits bits x → IsSomeAnd result (λ n. Has n x) }
+{
+    if !bits.contains(range.lo) {
+        return None;
+    }
+    Some(NumberSet {
+        range,
+        bits: Bits::exactly(range.lo),
+    })
+}
+
+/// The same of an operation's results, of which there is one: where range and bits contradict each other,
+/// the range alone.
+fn settle(range: Range, bits: Bits) -> NumberSet
+    ensures exact { result ≡ settled range bits }
+    ensures holds { (x : ℕ) → IsIn range.0 range.1 x → HasBits bits x → Has result x }
+{
+    let Some(numbers) = reduce(range, bits) else {
+        return NumberSet::within(range);
+    };
+    numbers
+}

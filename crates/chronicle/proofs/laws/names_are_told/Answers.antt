@@ -1,5 +1,0 @@
-use Rattle.chronicle.proofs.Naming.{proved_names_are_told}
-use Rattle.chronicle.proofs.laws.names_are_told.Goals as goal
-
-pub returns : goal.returns
-returns c = proved_names_are_told

@@ -1,7 +1,0 @@
--- The low part is written, and then the high one.
-use Rattle.std.proofs.Common.{arith}
-use Rattle.mem.proofs.Writing.{written_both}
-use Rattle.mem.proofs.cells.put_half.Goals as goal
-
-pub returns : goal.returns
-returns c = rw (c.put_byte-2.ensures, c.put_byte.ensures) (written_both c.args.cells.now c.args.place 1 1 c.args.number (omega arith))

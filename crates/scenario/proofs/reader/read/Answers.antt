@@ -1,0 +1,6 @@
+use Rattle.toml.specs.Parse.{parse_document}
+use Rattle.scenario.proofs.Answering.{reads_memory}
+use Rattle.scenario.proofs.reader.read.Goals as goal
+
+pub returns-then-is_memory : goal.returns-then-is_memory
+returns-then-is_memory c = reads_memory (parse_document c.args.text.now)

@@ -1,0 +1,139 @@
+-- The checks of a scenario's keys, in order: the value, or the first fault (own; TOML 1.0 for the text).
+use Rattle.std.specs.Prelude.{ℕ, suc, ℤ, pos, negsuc, Bool, ◌+◌, ◌-◌, min, nat_lt, nat_le, ◌&&◌, cond, if◌then◌else◌, List, slice_set, replicate, Option, Some, None, Result, Ok, Err, codes, bytes_eq}
+use Rattle.std.specs.Option.{ok_or}
+use Rattle.toml.specs.Data.{Data, Items, Members, no_items, item, no_members, member, get_member, as_integer, as_str, as_array}
+use Rattle.combine.specs.declared.chosen.Rule.{Rule}
+use Rattle.combine.specs.declared.chosen.Rule.TheVariants.{Majority, Median}
+use Rattle.scenario.specs.declared.place.Name.TheVariants as names
+use Rattle.scenario.specs.declared.place.Place.{Place}
+use Rattle.scenario.specs.declared.place.Place.TheVariants as places
+use Rattle.scenario.specs.declared.fault.Fault.{Fault}
+use Rattle.scenario.specs.declared.fault.Fault.TheVariants as faults
+use Rattle.scenario.specs.Names.{is_top_key}
+use Rattle.scenario.specs.Flaws.{Flaw, unknown, faulty, ◌>>=◌}
+
+-- the least key by bytes that is none of these, since members ascend
+abbrev pub first_unknown : (List ℕ → Bool) → Members → Option (List ℕ)
+first_unknown is_key no_members = None
+first_unknown is_key (member k d ms) = cond (is_key k) (first_unknown is_key ms) (Some k)
+
+abbrev pub known : Option ℕ → Option (List ℕ) → Result (Unit {0}) Flaw
+known at None = Ok tt
+known at (Some k) = Err (unknown at k)
+
+abbrev pub required : Place → Option Data → Result Data Flaw
+required s None = Err (faulty (faults.Key s))
+required s (Some d) = Ok d
+
+abbrev pub whole : Place → Data → Result ℤ Flaw
+whole s d = ok_or (as_integer d) (faulty (faults.Kind s))
+
+abbrev pub natural : Flaw → ℤ → Result ℕ Flaw
+natural f (pos n) = Ok n
+natural f (negsuc n) = Err f
+
+abbrev pub test : Bool → Fault → Result (Unit {0}) Flaw
+test b f = cond b (Ok tt) (Err (faulty f))
+
+-- a number between two others
+unfoldable pub number : Place → ℕ → ℕ → Option Data → Result ℕ Flaw
+number s least most o = do
+  d ← required s o
+  z ← whole s d
+  n ← natural (faulty (faults.Range s)) z
+  within ← test (nat_le least n && nat_le n most) (faults.Range s)
+  Ok n
+
+unfoldable pub optional_number : Place → ℕ → ℕ → Option Data → Result (Option ℕ) Flaw
+optional_number s least most None = Ok None
+optional_number s least most (Some d) = do
+  n ← number s least most (Some d)
+  Ok (Some n)
+
+-- one of n generals; low is the fault of a number below 0
+unfoldable pub general : Place → Flaw → ℕ → Option Data → Result ℕ Flaw
+general s low n o = do
+  d ← required s o
+  z ← whole s d
+  g ← natural low z
+  within ← test (nat_lt g n) (faults.General s)
+  Ok g
+
+-- one item after the other, from place i on
+unfoldable pub over : {A : Type 0} → (ℕ → A → Data → Result A Flaw) → ℕ → A → Items → Result A Flaw
+over step i x no_items = Ok x
+over step i x (item d ds) = step i x d >>= λ y. over step (i + 1) y ds
+
+-- the words of the board
+unfoldable pub word : ℕ → Data → Result ℕ Flaw
+word i d = do
+  z ← whole (places.Word i) d
+  natural (faulty (faults.Range (places.Word i))) z
+
+abbrev pub is_integer : ℕ → Unit {0} → Data → Result (Unit {0}) Flaw
+is_integer i u d = whole (places.Word i) d >>= λ z. Ok tt
+
+abbrev pub set_word : ℕ → List ℕ → Data → Result (List ℕ) Flaw
+set_word i ws d = word i d >>= λ w. Ok (slice_set ws i w)
+
+abbrev pub items_length : Items → ℕ
+items_length no_items = 0
+items_length (item d ds) = suc (items_length ds)
+
+-- the items of an array
+abbrev pub elements : Place → Data → Result Items Flaw
+elements s d = ok_or (as_array d) (faulty (faults.Kind s))
+
+unfoldable pub board_words : Items → Result (List ℕ) Flaw
+board_words ds = do
+  all ← over is_integer 0 tt ds
+  few ← test (nat_le (items_length ds) 64) (faults.Range (places.Key names.Board))
+  over set_word 0 (replicate 64 0) ds
+
+unfoldable pub board : Option Data → Result (List ℕ) Flaw
+board None = Ok (replicate 64 0)
+board (Some d) = do
+  ds ← elements (places.Key names.Board) d
+  board_words ds
+
+-- the rule that a text names
+abbrev pub rule_named : List ℕ → Result Rule Flaw
+rule_named t =
+    if bytes_eq t (codes "majority") then Ok Majority
+    else if bytes_eq t (codes "median") then Ok Median
+    else Err (faulty (faults.Range (places.Key names.Rule)))
+
+-- the rule, the majority where there is no key
+unfoldable pub rule : Option Data → Result Rule Flaw
+rule None = Ok Majority
+rule (Some d) = do
+  t ← ok_or (as_str d) (faulty (faults.Kind (places.Key names.Rule)))
+  rule_named t
+
+-- a campaign's numbers and rule
+pub record Head : Type 0 where
+  pub generals : ℕ
+  pub bound : ℕ
+  pub commander : ℕ
+  pub order : ℕ
+  pub board : List ℕ
+  pub patience : Option ℕ
+  pub rule : Rule
+
+-- all but the traitors
+unfoldable pub head : Members → Result Head Flaw
+head ms = do
+  none ← known None (first_unknown is_top_key ms)
+  n ← number (places.Key names.Generals) 2 13 (get_member (codes "generals") ms)
+  m ← number (places.Key names.Bound) 0 (min 4 (n - 2)) (get_member (codes "bound") ms)
+  c ← general (places.Key names.Commander) (faulty (faults.Range (places.Key names.Commander))) n (get_member (codes "commander") ms)
+  o ← number (places.Key names.Order) 0 4294967295 (get_member (codes "order") ms)
+  b ← board (get_member (codes "board") ms)
+  p ← optional_number (places.Key names.Patience) 1 4096 (get_member (codes "patience") ms)
+  r ← rule (get_member (codes "rule") ms)
+  Ok (record { generals = n; bound = m; commander = c; order = o; board = b; patience = p; rule = r })
+
+-- the traitors' tables, not yet looked at
+unfoldable pub tables : Option Data → Result Items Flaw
+tables None = Ok no_items
+tables (Some d) = elements (places.Key names.Traitor) d

@@ -1,0 +1,28 @@
+-- The first fault of a scenario's keys, and how an answer tells it (own).
+use Rattle.std.specs.Prelude.{◌≡◌, ℕ, List, Option, Result, Ok, Err, string_bytes}
+use Rattle.scenario.specs.declared.fault.Fault.{Fault}
+use Rattle.scenario.specs.declared.fault.ScenarioError.{ScenarioError}
+use Rattle.scenario.specs.declared.fault.ScenarioError.TheVariants as errors
+
+-- an unknown key, at the top or of a traitor's table, or a fault at a place
+pub data Flaw : Type 0 where
+  unknown : Option ℕ → List ℕ → Flaw
+  faulty : Fault → Flaw
+
+-- one check behind another that found no fault
+infixl 10 ◌>>=◌
+abbrev pub ◌>>=◌ : {A B : Type 0} → Result A Flaw → (A → Result B Flaw) → Result B Flaw
+(Ok x) >>= f = f x
+(Err e) >>= f = Err e
+
+-- an error tells what the checks found, unless memory ran out
+abbrev pub Fails : {Y : Type 0} → ScenarioError → Result Y Flaw → Type 0
+Fails errors.Memory read = Unit {0}
+Fails (errors.Unknown at key) read = read ≡ Err (unknown at (string_bytes key))
+Fails (errors.Fault fault) read = read ≡ Err (faulty fault)
+Fails _ read = ⊥
+
+-- the answer, seen by view, is what the checks give
+abbrev pub Gives : {X Y : Type 0} → (X → Y) → Result X ScenarioError → Result Y Flaw → Type 0
+Gives view (Ok x) read = read ≡ Ok (view x)
+Gives view (Err e) read = Fails e read

@@ -1,0 +1,7 @@
+pub mod Names
+pub mod Flaws
+pub mod Checks
+pub mod Tables
+pub mod Told
+pub mod Limits
+pub mod Seen

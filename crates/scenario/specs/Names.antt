@@ -1,0 +1,25 @@
+-- The keys of a scenario, as they are written (own).
+use Rattle.std.specs.Prelude.{ℕ, Bool, ◌||◌, List, codes}
+use Rattle.std.specs.Str.{bytes_eq}
+use Rattle.scenario.specs.declared.place.Name.{Name}
+use Rattle.scenario.specs.declared.place.Name.TheVariants.{Generals, Bound, Commander, Order, Board, Patience, Rule, Traitor, General, Asm, Code}
+
+abbrev pub text_of : Name → List ℕ
+text_of Generals = codes "generals"
+text_of Bound = codes "bound"
+text_of Commander = codes "commander"
+text_of Order = codes "order"
+text_of Board = codes "board"
+text_of Patience = codes "patience"
+text_of Rule = codes "rule"
+text_of Traitor = codes "traitor"
+text_of General = codes "general"
+text_of Asm = codes "asm"
+text_of Code = codes "code"
+
+-- the keys at the top, and those of a traitor's table
+abbrev pub is_top_key : List ℕ → Bool
+is_top_key k = bytes_eq k (codes "generals") || (bytes_eq k (codes "bound") || (bytes_eq k (codes "commander") || (bytes_eq k (codes "order") || (bytes_eq k (codes "board") || (bytes_eq k (codes "patience") || (bytes_eq k (codes "rule") || bytes_eq k (codes "traitor")))))))
+
+abbrev pub is_entry_key : List ℕ → Bool
+is_entry_key k = bytes_eq k (codes "general") || (bytes_eq k (codes "asm") || bytes_eq k (codes "code"))

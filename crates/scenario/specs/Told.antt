@@ -1,0 +1,89 @@
+-- The scenario that a text tells (own).
+use Rattle.std.specs.Prelude.{◌≡◌, ℕ, ◌+◌, ◌⊎◌, List, replicate, slice_set, Option, Some, None, Result, Ok, Err, IsErr, IfSome, codes}
+use Rattle.toml.specs.Data.{Items, Members, no_items, item, get_member}
+use Rattle.toml.specs.Parse.{parse_document}
+use Rattle.hex.specs.Hex.{decode_of}
+use Rattle.insn.specs.declared.insn.Insn.{Insn}
+use Rattle.asm.specs.Program.{program_of}
+use Rattle.codec.specs.Program.{SpellsProgram, IsFirstFault}
+use Rattle.semantics.specs.Plain.{IsPlain}
+use Rattle.verify.specs.declared.fault.Fault.{Fault}
+use Rattle.verify.specs.Structure.{structural_fault}
+use Rattle.verify.specs.Passes.{IsFirstFault as IsFirstOnPass}
+use Rattle.round.specs.Scenario.{Scenario}
+use Rattle.scenario.specs.declared.fault.Cause.{Cause}
+use Rattle.scenario.specs.declared.fault.Cause.TheVariants as causes
+use Rattle.scenario.specs.declared.fault.ScenarioError.{ScenarioError}
+use Rattle.scenario.specs.declared.fault.ScenarioError.TheVariants as errors
+use Rattle.scenario.specs.Flaws.{Flaw, Fails}
+use Rattle.scenario.specs.Checks.{Head, head, tables}
+use Rattle.scenario.specs.Tables.{Source, Assembly, Hex, Table, Seats, table}
+
+-- the assembly says the program, or the bytes spell it
+abbrev pub IsProgramOf : Source → List Insn → Type 0
+IsProgramOf (Assembly text) program = program_of text ≡ Some program
+IsProgramOf (Hex text) program = (bytes : List ℕ) × (decode_of text ≡ Ok bytes) × SpellsProgram bytes program
+
+-- why it says or spells none: the decoder's first fault, any fault of the assembler
+abbrev pub IsCauseOf : Source → Cause → Type 0
+IsCauseOf (Assembly text) (causes.Asm fault line) = program_of text ≡ None
+IsCauseOf (Hex text) causes.Hex = IsErr (decode_of text)
+IsCauseOf (Hex text) (causes.Code fault unit) = (bytes : List ℕ) × (decode_of text ≡ Ok bytes) × IsFirstFault bytes fault unit
+IsCauseOf _ _ = ⊥
+
+-- why a program is not accepted: it is not plain, and the fault is its structural one, or else the first on the verifier's pass
+pub record IsRefused (program : List Insn) (fault : Fault) : Type 0 where
+  pub plain : ¬ IsPlain program
+  pub structural : IfSome (structural_fault program) (λ f. fault ≡ f)
+  pub behind : structural_fault program ≡ None → IsFirstOnPass program fault
+
+-- the answer to one table: the general and his program, or its first fault
+abbrev pub Judged : Result Table Flaw → Result (ℕ × List Insn) ScenarioError → Type 0
+Judged (Ok t) (Ok seated) = (seated.0 ≡ t.general) × IsProgramOf t.source seated.1
+Judged (Ok t) (Err (errors.Program g cause)) = (g ≡ t.general) × IsCauseOf t.source cause
+Judged (Ok t) (Err (errors.Verifier g fault)) = (g ≡ t.general) × ((program : List Insn) × IsProgramOf t.source program × IsRefused program fault)
+Judged (Ok t) (Err errors.Memory) = Unit {0}
+Judged (Ok t) (Err _) = ⊥
+Judged (Err flaw) (Ok seated) = ⊥
+Judged (Err flaw) (Err e) = Fails {Y = Table} e (Err flaw)
+
+-- an error tells what was found, unless memory ran out
+abbrev pub Stopped : {X : Type 0} → Result Table Flaw → Result X ScenarioError → Type 0
+Stopped read (Ok x) = ⊥
+Stopped read (Err e) = Judged read (Err e)
+
+-- the tables from this one on: one of them stops, or each seats its general, and then the answer is what is made of the seats
+abbrev pub Answers : {X : Type 0} → (Seats → X) → ℕ → ℕ → Seats → Items → Result X ScenarioError → Type 0
+Answers made n i seats no_items (Ok x) = x ≡ made seats
+Answers made n i seats no_items (Err e) = e ≡ errors.Memory
+Answers made n i seats (item d ds) r =
+    Stopped (table n seats i d) r ⊎ ((seated : ℕ × List Insn) × Judged (table n seats i d) (Ok seated) × Answers made n (i + 1) (slice_set seats seated.0 (Some seated.1)) ds r)
+
+-- the scenario of a campaign's numbers and seats
+abbrev pub scenario_of : Head → Seats → Scenario
+scenario_of h seats = record { generals = h.generals; bound = h.bound; commander = h.commander; order = h.order; board = h.board; programs = seats; patience = h.patience; rule = h.rule }
+
+-- nobody is seated yet
+abbrev pub unseated : Head → Seats
+unseated h = replicate h.generals None
+
+abbrev pub Begun : Head → Result Items Flaw → Result Scenario ScenarioError → Type 0
+Begun h (Ok ds) r = Answers (scenario_of h) h.generals 0 (unseated h) ds r
+Begun h (Err flaw) (Ok s) = ⊥
+Begun h (Err flaw) (Err e) = Fails {Y = Items} e (Err flaw)
+
+abbrev pub Headed : Result Head Flaw → Members → Result Scenario ScenarioError → Type 0
+Headed (Ok h) ms r = Begun h (tables (get_member (codes "traitor") ms)) r
+Headed (Err flaw) ms (Ok s) = ⊥
+Headed (Err flaw) ms (Err e) = Fails {Y = Head} e (Err flaw)
+
+-- the answer to a text: the scenario that its table tells, or the first fault, in the table's order; no other answer but want of memory
+abbrev pub Reads : Option Members → Result Scenario ScenarioError → Type 0
+Reads None (Err errors.Toml) = Unit {0}
+Reads None (Err errors.Memory) = Unit {0}
+Reads None _ = ⊥
+Reads (Some ms) r = Headed (head ms) ms r
+
+-- the text tells the scenario
+abbrev pub Tells : List ℕ → Scenario → Type 0
+Tells text s = Reads (parse_document text) (Ok s)

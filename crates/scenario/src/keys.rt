@@ -1,0 +1,187 @@
+//! The values of single keys, each the value or the first fault of its checks.
+
+ghost use Rattle.std.specs.Prelude.{◌≡◌, ℕ, ◌≤◌, ◌<◌, ◌^◌, option_map, IfOk, IfSome};
+ghost use Rattle.toml.specs.Data.{get_member};
+ghost use Rattle.toml.specs.View.{view, table_view, array_view, items_view};
+ghost use Rattle.scenario.specs.Names.{is_top_key, is_entry_key, text_of};
+ghost use Rattle.scenario.specs.Checks.{first_unknown, known, required, whole, elements, natural, number, optional_number, general};
+ghost use Rattle.scenario.specs.Flaws.{Gives, faulty};
+
+use crate::fault::{Fault, ScenarioError};
+use crate::place::{Name, Place};
+use std::alloc::Global;
+use toml::{Table, Value};
+
+/// Whether the top of a scenario has the key.
+pub fn is_top_key(key: &str) -> bool
+    ensures { result ≡ is_top_key key.now }
+{
+    key == "generals"
+        || key == "bound"
+        || key == "commander"
+        || key == "order"
+        || key == "board"
+        || key == "patience"
+        || key == "rule"
+        || key == "traitor"
+}
+
+/// Whether a traitor's table has the key.
+pub fn is_entry_key(key: &str) -> bool
+    ensures { result ≡ is_entry_key key.now }
+{
+    key == "general" || key == "asm" || key == "code"
+}
+
+fn first_unknown_at_top(table: &Table) -> Option<&str>
+    ensures { option_map (λ k. k.now) result ≡ first_unknown is_top_key (table_view table.now) }
+{
+    for (key, _) in table {
+        if !is_top_key(key.as_str()) {
+            return Some(key.as_str());
+        }
+    }
+    None
+}
+
+fn first_unknown_in_entry(table: &Table) -> Option<&str>
+    ensures { option_map (λ k. k.now) result ≡ first_unknown is_entry_key (table_view table.now) }
+{
+    for (key, _) in table {
+        if !is_entry_key(key.as_str()) {
+            return Some(key.as_str());
+        }
+    }
+    None
+}
+
+fn refuse_unknown(
+    alloc: Global,
+    at: Option<usize>,
+    unknown: Option<&str>,
+) -> Result<(), ScenarioError>
+    ensures { Gives (λ _. tt) result (known at (option_map (λ k. k.now) unknown.entry)) }
+{
+    match unknown {
+        None => Ok(()),
+        Some(key) => Err(ScenarioError::Unknown(at, String::from_str(alloc, key)?)),
+    }
+}
+
+/// All keys at the top are known.
+pub fn top_is_known(alloc: Global, table: &Table) -> Result<(), ScenarioError>
+    ensures { Gives (λ _. tt) result (known None (first_unknown is_top_key (table_view table.now))) }
+{
+    refuse_unknown(alloc, None, first_unknown_at_top(table))
+}
+
+/// All keys of the traitor's table are known.
+pub fn entry_is_known(alloc: Global, index: usize, table: &Table) -> Result<(), ScenarioError>
+    ensures { Gives (λ _. tt) result (known (Some index) (first_unknown is_entry_key (table_view table.now))) }
+{
+    refuse_unknown(alloc, Some(index), first_unknown_in_entry(table))
+}
+
+/// The value at a key.
+pub fn at<'a>(table: &'a Table, name: Name) -> Option<&'a Value>
+    ensures { option_map (λ v. view v.now) result ≡ get_member (text_of name) (table_view table.now) }
+{
+    table.get(name.text())
+}
+
+/// The value of a required key.
+fn required(place: Place, value: Option<&Value>) -> Result<&Value, ScenarioError>
+    ensures { Gives (λ v. view v.now) result (required place (option_map (λ v. view v.now) value.entry)) }
+{
+    match value {
+        Some(value) => Ok(value),
+        None => Err(ScenarioError::Fault(Fault::Key(place))),
+    }
+}
+
+/// An integer.
+pub fn whole(place: Place, value: &Value) -> Result<i64, ScenarioError>
+    ensures { Gives (λ z. z) result (whole place (view value.now)) }
+{
+    match value.as_integer() {
+        Some(integer) => Ok(integer),
+        None => Err(ScenarioError::Fault(Fault::Kind(place))),
+    }
+}
+
+/// The elements of an array.
+pub fn elements(place: Place, value: &Value) -> Result<&[Value], ScenarioError>
+    ensures { Gives (λ a. items_view a.now) result (elements place (view value.now)) }
+{
+    match value.as_array() {
+        Some(array) => Ok(array.as_slice()),
+        None => Err(ScenarioError::Fault(Fault::Kind(place))),
+    }
+}
+
+/// An integer that is not below 0.
+pub fn natural(fault: Fault, integer: i64) -> Result<u64, ScenarioError>
+    ensures { Gives (λ n. n) result (natural (faulty fault) integer) }
+{
+    match u64::try_from(integer) {
+        Ok(number) => Ok(number),
+        Err(_) => Err(ScenarioError::Fault(fault)),
+    }
+}
+
+/// A number between two others.
+#[tactic(auto, unfolding(crate::specs::Checks::number))]
+pub fn number(
+    place: Place,
+    least: u32,
+    most: u32,
+    value: Option<&Value>,
+) -> Result<u32, ScenarioError>
+    ensures value { Gives (λ n. n) result (number place least most (option_map (λ v. view v.now) value.entry)) }
+    ensures within { IfOk result (λ n. (least ≤ n) × (n ≤ most)) }
+{
+    let value = required(place, value)?;
+    let integer = whole(place, value)?;
+    let number = natural(Fault::Range(place), integer)?;
+    if u64::from(least) <= number && number <= u64::from(most) {
+        return Ok(number as u32);
+    }
+    Err(ScenarioError::Fault(Fault::Range(place)))
+}
+
+/// A number between two others, if there is one.
+#[tactic(auto, unfolding(crate::specs::Checks::optional_number))]
+pub fn optional_number(
+    place: Place,
+    least: u32,
+    most: u32,
+    value: Option<&Value>,
+) -> Result<Option<u32>, ScenarioError>
+    ensures value { Gives (λ n. n) result (optional_number place least most (option_map (λ v. view v.now) value.entry)) }
+    ensures within { IfOk result (λ o. IfSome o (λ n. (least ≤ n) × (n ≤ most))) }
+{
+    match value {
+        None => Ok(None),
+        Some(value) => Ok(Some(number(place, least, most, Some(value))?)),
+    }
+}
+
+/// One of the generals.
+#[tactic(auto, unfolding(crate::specs::Checks::general))]
+pub fn general(
+    place: Place,
+    low: Fault,
+    generals: u32,
+    value: Option<&Value>,
+) -> Result<u32, ScenarioError>
+    ensures value { Gives (λ n. n) result (general place (faulty low) generals (option_map (λ v. view v.now) value.entry)) }
+    ensures small { IfOk result (λ g. g < generals) }
+{
+    let value = required(place, value)?;
+    let integer = whole(place, value)?;
+    let number = natural(low, integer)?;
+    if number < u64::from(generals) {
+        return Ok(number as u32);
+    }
+    Err(ScenarioError::Fault(Fault::General(place)))
+}

@@ -1,0 +1,170 @@
+//! Scenarios, read from their text.
+ghost use Rattle.std.specs.Prelude.{◌≡◌, ◌-◌, ◌≤◌, min, length, replicate, option_map, None, Some, IfOk, OnOk};
+ghost use Rattle.toml.specs.Parse.{parse_document};
+ghost use Rattle.toml.specs.View.{view, table_view, items_view};
+ghost use Rattle.scenario.specs.Flaws.{Gives};
+ghost use Rattle.scenario.specs.Checks.{head, rule_named, rule, tables};
+ghost use Rattle.scenario.specs.Told.{Answers, scenario_of, unseated, Reads};
+
+use crate::fault::{Fault, ScenarioError};
+use crate::keys::{at, elements, general, number, optional_number, top_is_known};
+use crate::place::{Name, Place};
+use crate::tables::traitor;
+use crate::told::{Campaign, Head, Seat};
+use crate::words::board;
+use combine::Rule;
+use std::alloc::{AllocError, Global};
+use toml::{Table, Value};
+
+/// The rule that a text names.
+fn rule_named(text: &str) -> Result<Rule, ScenarioError>
+    ensures { Gives (λ r. r) result (rule_named text.now) }
+{
+    if text == "majority" {
+        return Ok(Rule::Majority);
+    }
+    if text == "median" {
+        return Ok(Rule::Median);
+    }
+    Err(ScenarioError::Fault(Fault::Range(Place::Key(Name::Rule))))
+}
+
+/// The rule, the majority where there is no key.
+#[tactic(auto, unfolding(crate::specs::Checks::rule))]
+fn rule(value: Option<&Value>) -> Result<Rule, ScenarioError>
+    ensures { Gives (λ r. r) result (rule (option_map (λ v. view v.now) value.entry)) }
+{
+    let Some(value) = value else {
+        return Ok(Rule::Majority);
+    };
+    match value.as_str() {
+        Some(text) => rule_named(text),
+        None => Err(ScenarioError::Fault(Fault::Kind(Place::Key(Name::Rule)))),
+    }
+}
+
+/// The greatest bound that so many generals may have.
+fn most_traitors(generals: u32) -> u32
+    ensures { result ≡ min 4 (generals - 2) }
+{
+    generals.saturating_sub(2).min(4)
+}
+
+/// All but the traitors.
+#[tactic(auto, unfolding(crate::specs::Checks::head))]
+fn head(alloc: Global, table: &Table) -> Result<Head, ScenarioError>
+    ensures { Gives (λ h. h) result (head (table_view table.now)) }
+{
+    top_is_known(alloc, table)?;
+    let generals = number(Place::Key(Name::Generals), 2, 13, at(table, Name::Generals))?;
+    let most = most_traitors(generals);
+    let bound = number(Place::Key(Name::Bound), 0, most, at(table, Name::Bound))?;
+    let place = Place::Key(Name::Commander);
+    let commander = general(
+        place,
+        Fault::Range(place),
+        generals,
+        at(table, Name::Commander),
+    )?;
+    let order = number(Place::Key(Name::Order), 0, u32::MAX, at(table, Name::Order))?;
+    let board = board(at(table, Name::Board))?;
+    let patience = optional_number(
+        Place::Key(Name::Patience),
+        1,
+        4096,
+        at(table, Name::Patience),
+    )?;
+    let rule = rule(at(table, Name::Rule))?;
+    Ok(Head {
+        generals,
+        bound,
+        commander,
+        order,
+        board,
+        patience,
+        rule,
+    })
+}
+
+/// The traitors' tables, none where the key is absent.
+#[tactic(auto, unfolding(crate::specs::Checks::tables))]
+fn tables(value: Option<&Value>) -> Result<&[Value], ScenarioError>
+    ensures { Gives (λ t. items_view t.now) result (tables (option_map (λ v. view v.now) value.entry)) }
+{
+    match value {
+        None => Ok(&[]),
+        Some(value) => elements(Place::Key(Name::Traitor), value),
+    }
+}
+
+/// A seat for each general, nobody's yet.
+fn unseated(alloc: Global, generals: u32) -> Result<Vec<Seat>, AllocError>
+    ensures { IfOk result (λ seats. seats.items ≡ replicate generals None) }
+{
+    let mut seats = Vec::with_capacity(alloc, generals as usize)?;
+    for _general in 0..generals {
+        seats.push(Seat { program: None })?;
+    }
+    Ok(seats)
+}
+
+/// The campaign with the tables' traitors in their seats.
+fn seated(alloc: Global, head: Head, values: &[Value]) -> Result<Campaign, ScenarioError>
+    ensures { Answers (scenario_of head) head.generals 0 (unseated head) (items_view values.now) result }
+{
+    let Head {
+        generals,
+        bound,
+        commander,
+        order,
+        board,
+        patience,
+        rule,
+    } = head;
+    let mut seats = unseated(alloc, generals)?;
+    for index in 0..values.len() {
+        let (general, program) = traitor(alloc, generals, seats.as_slice(), index, &values[index])?;
+        seats[general as usize] = Seat {
+            program: Some(program),
+        };
+    }
+    Ok(Campaign {
+        generals,
+        bound,
+        commander,
+        order,
+        board,
+        seats,
+        patience,
+        rule,
+    })
+}
+
+/// The scenario of a table.
+fn campaign(alloc: Global, table: &Table) -> Result<Campaign, ScenarioError>
+    ensures { Reads (Some (table_view table.now)) result }
+{
+    let head = head(alloc, table)?;
+    let values = tables(at(table, Name::Traitor))?;
+    seated(alloc, head, values)
+}
+
+/// The scenario that a text tells.
+///
+/// # Errors
+///
+/// The first fault, with its place: that the text is no TOML, then an unknown key at the top (the least by bytes), then
+/// `generals`, `bound`, `commander`, `order`, `board`, `patience`, `rule`, the list `traitor`, and its tables in order.
+pub fn read(alloc: Global, text: &str) -> Result<Campaign, ScenarioError>
+    ensures { Reads (parse_document text.now) result }
+{
+    match toml::table_from_str(alloc, text) {
+        Ok(table) => campaign(alloc, &table),
+        Err(error) => {
+            if error.is_memory() {
+                return Err(ScenarioError::Memory);
+            }
+            Err(ScenarioError::Toml)
+        }
+    }
+}

@@ -1,0 +1,114 @@
+//! The traitors' tables, one after the other.
+ghost use Rattle.std.specs.Prelude.{◌≡◌, ◌≢◌, ◌<◌, ◌≤◌, ℕ, None, Some, Ok, option_map, IfOk, length, replicate};
+ghost use Rattle.toml.specs.View.{view, items_view, table_view};
+ghost use Rattle.scenario.specs.Flaws.{Gives};
+ghost use Rattle.scenario.specs.Tables.{is_seated, source, table_in, table};
+ghost use Rattle.scenario.specs.Told.{Judged};
+ghost use Rattle.scenario.specs.Seen.{source_of};
+
+use crate::fault::{Fault, ScenarioError};
+use crate::keys::{at, entry_is_known, general};
+use crate::place::{Name, Place};
+use crate::programs::{Written, accepted, program};
+use crate::told::Seat;
+use std::alloc::Global;
+use toml::{Table, Value};
+use verify::Verified;
+
+/// The program as it is written: exactly one of the two keys, and a text there.
+#[tactic(auto, unfolding(crate::specs::Tables::source))]
+fn written<'a>(
+    index: usize,
+    asm: Option<&'a Value>,
+    code: Option<&'a Value>,
+) -> Result<Written<'a>, ScenarioError>
+    ensures { Gives source_of result (source index (option_map (λ v. view v.now) asm.entry) (option_map (λ v. view v.now) code.entry)) }
+{
+    match (asm, code) {
+        (Some(asm), None) => match asm.as_str() {
+            Some(text) => Ok(Written::Asm(text)),
+            None => Err(ScenarioError::Fault(Fault::Kind(Place::Entry(index, Name::Asm)))),
+        },
+        (None, Some(code)) => match code.as_str() {
+            Some(text) => Ok(Written::Code(text)),
+            None => Err(ScenarioError::Fault(Fault::Kind(Place::Entry(index, Name::Code)))),
+        },
+        (Some(_), Some(_)) | (None, None) => {
+            Err(ScenarioError::Fault(Fault::Key(Place::Entry(index, Name::Asm))))
+        }
+    }
+}
+
+/// Whether a table before seated the general.
+fn is_seated(seats: &[Seat], general: u32) -> bool
+    requires { general < length seats.now }
+    ensures { result ≡ is_seated seats.now general }
+{
+    let seat = &seats[general as usize];
+    seat.program.is_some()
+}
+
+/// The general of a table, and his program as it is written.
+#[tactic(auto, unfolding(crate::specs::Tables::table_in))]
+fn in_table<'a>(
+    alloc: Global,
+    generals: u32,
+    seats: &[Seat],
+    index: usize,
+    table: &'a Table,
+) -> Result<(u32, Written<'a>), ScenarioError>
+    requires { length seats.now ≡ generals }
+    ensures gives { Gives (λ t. record { general = t.0; source = source_of t.1 }) result (table_in generals seats.now index (table_view table.now)) }
+    ensures small { IfOk result (λ t. t.0 < generals) }
+{
+    entry_is_known(alloc, index, table)?;
+    let place = Place::Entry(index, Name::General);
+    let general = general(
+        place,
+        Fault::General(place),
+        generals,
+        at(table, Name::General),
+    )?;
+    if is_seated(seats, general) {
+        return Err(ScenarioError::Fault(Fault::Twice(place)));
+    }
+    let written = written(index, at(table, Name::Asm), at(table, Name::Code))?;
+    Ok((general, written))
+}
+
+/// The general of an element of the list, and his program as it is written.
+#[tactic(auto, unfolding(crate::specs::Tables::table))]
+fn table<'a>(
+    alloc: Global,
+    generals: u32,
+    seats: &[Seat],
+    index: usize,
+    value: &'a Value,
+) -> Result<(u32, Written<'a>), ScenarioError>
+    requires { length seats.now ≡ generals }
+    ensures gives { Gives (λ t. record { general = t.0; source = source_of t.1 }) result (table generals seats.now index (view value.now)) }
+    ensures small { IfOk result (λ t. t.0 < generals) }
+{
+    match value.as_table() {
+        Some(table) => in_table(alloc, generals, seats, index, table),
+        None => Err(ScenarioError::Fault(Fault::Kind(Place::Table(index)))),
+    }
+}
+
+/// The general of a table, and his verified program.
+pub fn traitor(
+    alloc: Global,
+    generals: u32,
+    seats: &[Seat],
+    index: usize,
+    value: &Value,
+) -> Result<(u32, Verified), ScenarioError>
+    requires { length seats.now ≡ generals }
+    ensures judged { Judged (table generals seats.now index (view value.now)) result }
+    ensures small { IfOk result (λ t. t.0 < generals) }
+{
+    let (general, written) = table(alloc, generals, seats, index, value)?;
+    let program = program(alloc, general, written)?;
+    let verified = accepted(alloc, general, program)?;
+    Ok((general, verified))
+}

@@ -1,0 +1,35 @@
+//! Tests of the layers and of the whole, by values from outside: a crate with tests of its own is proved twice.
+#![tactic(auto)]
+
+#[cfg(test)]
+mod assembly;
+#[cfg(test)]
+mod boards;
+#[cfg(test)]
+mod bytecode;
+#[cfg(test)]
+mod cells;
+#[cfg(test)]
+mod known_bits;
+#[cfg(test)]
+mod labels;
+#[cfg(test)]
+mod outboxes;
+#[cfg(test)]
+mod ranges;
+#[cfg(test)]
+mod sandbox;
+#[cfg(test)]
+mod sandbox_calls;
+#[cfg(test)]
+mod serving;
+#[cfg(test)]
+mod tables;
+#[cfg(test)]
+mod tasks;
+#[cfg(test)]
+mod trees;
+#[cfg(test)]
+mod verdicts;
+#[cfg(test)]
+mod words;

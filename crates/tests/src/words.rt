@@ -1,0 +1,87 @@
+//! Arithmetic, comparisons and swaps of words.
+
+use word::arithmetic::{alu32, alu64, negate, sign_extend};
+use word::compare::{compare32, compare64};
+use word::swap::swap;
+use word::{ByteOrder, Condition, Narrow, Operation, SwapSize, Width};
+
+const MINUS_ONE: u64 = u64::MAX;
+
+const LEAST: u64 = 0x8000_0000_0000_0000;
+
+#[test]
+fn divides(rt: HostRuntime) {
+    assert_eq!(rt; alu64(Operation::Div, 5, 0), 0);
+    assert_eq!(rt; alu64(Operation::Mod, 0x1_0000_0005, 0), 0x1_0000_0005);
+    assert_eq!(rt; alu32(Operation::Div, 5, 0), 0);
+    assert_eq!(rt; alu32(Operation::Mod, 0x1_0000_0005, 0), 5);
+    assert_eq!(rt; alu64(Operation::SignedDiv, LEAST, MINUS_ONE), LEAST);
+    assert_eq!(rt; alu64(Operation::SignedMod, LEAST, MINUS_ONE), 0);
+    assert_eq!(rt;
+        alu32(Operation::SignedDiv, 0x8000_0000, MINUS_ONE),
+        0x8000_0000
+    );
+    assert_eq!(rt; alu32(Operation::SignedMod, 0x8000_0000, MINUS_ONE), 0);
+    // -13 by 3: -4, and -1 is left
+    assert_eq!(rt;
+        alu64(Operation::SignedDiv, MINUS_ONE - 12, 3),
+        MINUS_ONE - 3
+    );
+    assert_eq!(rt; alu64(Operation::SignedMod, MINUS_ONE - 12, 3), MINUS_ONE);
+}
+
+#[test]
+fn shifts(rt: HostRuntime) {
+    assert_eq!(rt; alu64(Operation::ShiftLeft, 1, 65), 2);
+    assert_eq!(rt; alu64(Operation::ShiftRight, 8, 65), 4);
+    assert_eq!(rt;
+        alu64(Operation::ShiftSigned, MINUS_ONE - 7, 65),
+        MINUS_ONE - 3
+    );
+    assert_eq!(rt; alu32(Operation::ShiftLeft, 0x8000_0001, 33), 2);
+    assert_eq!(rt; alu32(Operation::ShiftSigned, 0x8000_0000, 31), 0xffff_ffff);
+}
+
+#[test]
+fn extends_signs(rt: HostRuntime) {
+    assert_eq!(rt;
+        sign_extend(Width::W64, Narrow::Byte, 0x80),
+        18_446_744_073_709_551_488
+    );
+    assert_eq!(rt;
+        sign_extend(Width::W32, Narrow::Half, 0x1_8000),
+        0xffff_8000
+    );
+    assert_eq!(rt;
+        sign_extend(Width::W64, Narrow::Word, 0x1_7fff_ffff),
+        0x7fff_ffff
+    );
+    assert_eq!(rt; negate(Width::W64, 1), MINUS_ONE);
+    assert_eq!(rt; negate(Width::W32, 0x1_0000_0000), 0);
+}
+
+#[test]
+fn compares(rt: HostRuntime) {
+    assert!(rt; compare64(Condition::SignedAbove, 1, u64::MAX));
+    assert!(rt; !compare64(Condition::Above, 1, u64::MAX));
+    assert!(rt; compare32(Condition::Equal, 0x1_0000_0000, 0));
+    assert!(rt; compare32(Condition::SignedBelow, 0x8000_0000, 0));
+    assert!(rt; compare64(Condition::AnyBit, 6, 10));
+    assert!(rt; !compare64(Condition::AnyBit, 6, 9));
+}
+
+#[test]
+fn puts_bytes_in_order(rt: HostRuntime) {
+    let word = 0x1122_3344_5566_7788;
+    assert_eq!(rt; swap(ByteOrder::Big, SwapSize::Half, word), 34935);
+    assert_eq!(rt; swap(ByteOrder::Little, SwapSize::Word, word), 0x5566_7788);
+    assert_eq!(rt;
+        swap(ByteOrder::Reversed, SwapSize::Word, word),
+        0x8877_6655
+    );
+    assert_eq!(rt;
+        swap(ByteOrder::Big, SwapSize::Double, word),
+        0x8877_6655_4433_2211
+    );
+    assert_eq!(rt; swap(ByteOrder::Little, SwapSize::Double, word), word);
+}

@@ -1,0 +1,20 @@
+pub mod EntryLemmas
+pub mod WrittenLemmas
+pub mod LineLemmas
+pub mod Splitting
+pub mod Plain
+pub mod Naming
+pub mod Sound
+mod Printed
+mod TwoGenerals
+mod TraitorLieutenant
+mod TraitorCommander
+mod ThreeGenerals
+mod EachAccess
+mod HonestToOne
+mod TwoTraitors
+mod Absent
+mod SevenGenerals
+mod CutOff
+mod Medians
+mod ScheduleTexts

@@ -1,0 +1,123 @@
+-- The lines of a chronicle are lines of plain words.
+use Rattle.std.proofs.Common.{◌≡◌, ℕ, suc, List, [], ◌∷◌, ◌++◌, map, flat_map, Bool, true, false, refl, Option, None, Some}
+use Rattle.std.specs.Prelude.{decimal, codes, nat_lt, filter, ◌==◌}
+use Rattle.std.specs.List.{list_all}
+use Rattle.std.proofs.lemmas.Bool.{and_parts, ltb-true}
+use Rattle.insn.specs.declared.insn.Insn.{Insn}
+use Rattle.combine.specs.declared.chosen.Rule.{Rule}
+use Rattle.combine.specs.declared.chosen.Rule.TheVariants.{Majority, Median}
+use Rattle.semantics.specs.declared.request.Request.{Request}
+use Rattle.semantics.specs.declared.request.Request.TheVariants.{Get, Swap, Add, Cas, Copy}
+use Rattle.board.specs.Board.{Access}
+use Rattle.round.specs.Scenario.{Scenario, is_traitor}
+use Rattle.round.specs.Letters.{Letter}
+use Rattle.world.specs.Chronicle.{Chronicle}
+use Rattle.label.specs.Lieutenants.{lieutenants}
+use Rattle.trace.specs.Text.{Word, Line, asked, access_line, place, row_lines, yes_no, yes_no_none, letter_line, letter_lines, round_lines, decision_line, decision_lines, version_word, rule_word, further_words, lines_in}
+use Rattle.trace.specs.declared.version.Version.{Version}
+use Rattle.trace.specs.declared.version.Version.TheVariants.{First, Second}
+use Rattle.trace.proofs.Splitting.{IsPlain, ArePlain, IsLine, AreLines, decimal_plain}
+
+by_test : (w : Word) → list_all (λ c. nat_lt 32 c) w ≡ true → IsPlain w
+by_test [] h = tt
+by_test (c ∷ cs) h = let b = and_parts (nat_lt 32 c) (list_all (λ c. nat_lt 32 c) cs) h in (ltb-true 32 c b.0, by_test cs b.1)
+
+pub lines-append : (ls ks : List Line) → AreLines ls → AreLines ks → AreLines (ls ++ ks)
+lines-append [] ks p q = q
+lines-append (l ∷ ls) ks p q = (p.0, lines-append ls ks p.1 q)
+
+plain-append : (vs ws : List Word) → ArePlain vs → ArePlain ws → ArePlain (vs ++ ws)
+plain-append [] ws p q = q
+plain-append (v ∷ vs) ws p q = (p.0, plain-append vs ws p.1 q)
+
+decimals_plain : (ns : List ℕ) → ArePlain (map decimal ns)
+decimals_plain [] = tt
+decimals_plain (n ∷ ns) = (decimal_plain n, decimals_plain ns)
+
+-- words of numbers behind one another
+numbers_plain : (ns : List ℕ) (ws : List Word) → ArePlain ws → ArePlain (map decimal ns ++ ws)
+numbers_plain ns ws p = plain-append (map decimal ns) ws (decimals_plain ns) p
+
+asked_plain : (q : Request) → ArePlain (asked q)
+asked_plain (Get slot) = (by_test (codes "get") refl, numbers_plain (slot ∷ []) (codes "=" ∷ []) (by_test (codes "=") refl, tt))
+asked_plain (Swap slot value) = (by_test (codes "swap") refl, numbers_plain (slot ∷ value ∷ []) (codes "=" ∷ []) (by_test (codes "=") refl, tt))
+asked_plain (Add slot value) = (by_test (codes "add") refl, numbers_plain (slot ∷ value ∷ []) (codes "=" ∷ []) (by_test (codes "=") refl, tt))
+asked_plain (Cas slot expected new) = (by_test (codes "cas") refl, numbers_plain (slot ∷ expected ∷ new ∷ []) (codes "=" ∷ []) (by_test (codes "=") refl, tt))
+asked_plain (Copy span) = (by_test (codes "copy") refl, numbers_plain (span.0 ∷ span.1 ∷ []) (codes "=" ∷ []) (by_test (codes "=") refl, tt))
+
+access_plain : (a : Access) → IsLine (access_line a)
+access_plain a = (by_test (codes "access") refl, (decimal_plain a.general, plain-append (asked a.request) (map decimal a.reply) (asked_plain a.request) (decimals_plain a.reply)))
+
+accesses_plain : (xs : List Access) → AreLines (map access_line xs)
+accesses_plain [] = tt
+accesses_plain (a ∷ rest) = (access_plain a, accesses_plain rest)
+
+place_plain : (o : Option ℕ) → IsPlain (place o)
+place_plain None = by_test (codes "-") refl
+place_plain (Some v) = decimal_plain v
+
+places_plain : (row : List (Option ℕ)) → ArePlain (map place row)
+places_plain [] = tt
+places_plain (o ∷ row) = (place_plain o, places_plain row)
+
+rows_plain : (rank : ℕ) (rows : List (List (Option ℕ))) → AreLines (row_lines rank rows)
+rows_plain rank [] = tt
+rows_plain rank (row ∷ rows) = ((by_test (codes "row") refl, (decimal_plain rank, places_plain row)), rows_plain (suc rank) rows)
+
+yes_no_plain : (b : Bool) → IsPlain (yes_no b)
+yes_no_plain true = by_test (codes "yes") refl
+yes_no_plain false = by_test (codes "no") refl
+
+yes_no_none_plain : (o : Option Bool) → IsPlain (yes_no_none o)
+yes_no_none_plain None = by_test (codes "-") refl
+yes_no_none_plain (Some b) = yes_no_plain b
+
+decision_plain : (g : ℕ) (b : Bool) (d : ℕ) → IsLine (decision_line g b d)
+decision_plain g true d = (by_test (codes "decision") refl, (decimal_plain g, (by_test (codes "traitor") refl, (decimal_plain d, tt))))
+decision_plain g false d = (by_test (codes "decision") refl, (decimal_plain g, (decimal_plain d, tt)))
+
+letter_plain : (g : ℕ) (o : Option (List Insn)) (steps : ℕ) → IsLine (letter_line g o steps)
+letter_plain g None steps = (by_test (codes "letter") refl, (decimal_plain g, (by_test (codes "loyal") refl, tt)))
+letter_plain g (Some p) steps = (by_test (codes "letter") refl, (decimal_plain g, (by_test (codes "steps") refl, (decimal_plain steps, tt))))
+
+letters_plain : (ls : List Letter) → AreLines (flat_map letter_lines ls)
+letters_plain [] = tt
+letters_plain (l ∷ ls) = lines-append (letter_lines l) (flat_map letter_lines ls) (letter_plain l.general l.program l.steps, rows_plain 0 l.outbox.rows) (letters_plain ls)
+
+rounds_plain : (r : ℕ) (xs : List Access) (rounds : List (List Letter)) → AreLines (round_lines r xs rounds)
+rounds_plain r xs [] = tt
+rounds_plain r xs (ls ∷ rest) = (
+  (by_test (codes "round") refl, (decimal_plain r, tt)),
+  lines-append (map access_line (filter (λ a. a.round == r) xs)) (flat_map letter_lines ls ++ round_lines (suc r) xs rest) (accesses_plain (filter (λ a. a.round == r) xs))
+      (lines-append (flat_map letter_lines ls) (round_lines (suc r) xs rest) (letters_plain ls) (rounds_plain (suc r) xs rest)),
+)
+
+decisions_plain : (s : Scenario) (gs ds : List ℕ) → AreLines (decision_lines s gs ds)
+decisions_plain s [] ds = tt
+decisions_plain s (g ∷ gs) [] = tt
+decisions_plain s (g ∷ gs) (d ∷ ds) = (decision_plain g (is_traitor s g) d, decisions_plain s gs ds)
+
+version_plain : (v : Version) → IsPlain (version_word v)
+version_plain First = by_test (codes "1") refl
+version_plain Second = by_test (codes "2") refl
+
+rule_plain : (r : Rule) → IsPlain (rule_word r)
+rule_plain Majority = by_test (codes "majority") refl
+rule_plain Median = by_test (codes "median") refl
+
+head_plain : (v : Version) (patience : Option ℕ) (rule : Rule) → ArePlain (further_words v patience rule)
+head_plain First patience rule = tt
+head_plain Second patience rule = (by_test (codes "patience") refl, (place_plain patience, (by_test (codes "rule") refl, (rule_plain rule, tt))))
+
+pub chronicle_plain : (v : Version) (c : Chronicle) → AreLines (lines_in v c)
+unfolding lines_in
+chronicle_plain v c =
+    let s = c.scenario in (
+      (by_test (codes "chronicle") refl, (version_plain v, tt)),
+      (
+        (by_test (codes "generals") refl, (decimal_plain s.generals, (by_test (codes "bound") refl, (decimal_plain s.bound, (by_test (codes "commander") refl, (decimal_plain s.commander, (by_test (codes "order") refl, (decimal_plain s.order, head_plain v s.patience s.rule)))))))),
+        lines-append (round_lines 1 c.accesses c.letters) _ (rounds_plain 1 c.accesses c.letters)
+            (lines-append (decision_lines s (lieutenants s.generals s.commander) c.decisions) _ (decisions_plain s (lieutenants s.generals s.commander) c.decisions)
+            ((by_test (codes "verdict") refl, (by_test (codes "alike") refl, (yes_no_plain c.verdict.alike, (by_test (codes "obeyed") refl, (yes_no_none_plain c.verdict.obeyed, (by_test (codes "bound") refl, (yes_no_plain c.verdict.bound, tt))))))), tt)),
+      ),
+    )

@@ -1,0 +1,6 @@
+use Rattle.std.proofs.Common.{append_assoc, append-nil}
+use Rattle.trace.proofs.WrittenLemmas.{then_wrote, wrote-same}
+use Rattle.trace.proofs.lines.put_round.Goals as goal
+
+pub returns : goal.returns
+returns g c = wrote-same _ _ (simp (append_assoc, append-nil)) (then_wrote c.put_headed.ensures c.put_all.ensures)

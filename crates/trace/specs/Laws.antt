@@ -1,0 +1,41 @@
+-- What holds of every chronicle's text. Each statement is the contract of a function of this crate.
+use Rattle.std.specs.Prelude.{ℕ, ◌≡◌, ◌<◌, ◌↔◌, All, List, length}
+use Rattle.combine.specs.declared.chosen.Rule.{Rule}
+use Rattle.combine.specs.declared.chosen.Rule.TheVariants.{Majority, Median}
+use Rattle.world.specs.declared.event.Event.{Event}
+use Rattle.round.specs.Scenario.{Scenario, IsScenario}
+use Rattle.world.specs.World.{opening, run}
+use Rattle.world.specs.Lists.{IsComplete, names_in, replayed}
+use Rattle.world.specs.Chronicle.{Chronicle, chronicle_of}
+use Rattle.trace.specs.Text.{text_in}
+use Rattle.trace.specs.declared.version.Version.{Version}
+use Rattle.trace.specs.declared.version.Version.TheVariants.{First, Second}
+use Rattle.trace.specs.Names.{names_of}
+
+-- the names that the text tells are those of its accesses, round by round
+abbrev pub NamesAreTold : Type 0
+NamesAreTold = (v : Version) (c : Chronicle) → All (λ a. a.general < 13) c.accesses → names_of (text_in v c) ≡ names_in 1 c.accesses (length c.letters)
+
+-- the versions in which a campaign may be told: the second always, the first where the rule is the majority
+abbrev pub Admits : Rule → Version → Type 0
+Admits rule Second = Unit {0}
+Admits Majority First = Unit {0}
+Admits Median First = ⊥
+
+-- an audit replays the accesses in the order that the text tells, and compares the texts
+pub record IsSoundText (s : Scenario) (t : List ℕ) : Type 0 where
+  pub version : Version
+  pub admitted : Admits s.rule version
+  pub same : t ≡ text_in version (chronicle_of (run (opening s) (replayed s (names_of t))))
+
+-- the text of a complete run
+pub record IsRunText (s : Scenario) (t : List ℕ) : Type 0 where
+  pub version : Version
+  pub admitted : Admits s.rule version
+  pub events : List Event
+  pub complete : IsComplete s events
+  pub same : t ≡ text_in version (chronicle_of (run (opening s) events))
+
+-- the texts that an audit finds sound are exactly those of complete runs
+abbrev pub SoundTextsAreRuns : Type 0
+SoundTextsAreRuns = (s : Scenario) (t : List ℕ) → IsScenario s → IsSoundText s t ↔ IsRunText s t

@@ -1,0 +1,7 @@
+pub mod Text
+pub mod Names
+pub mod Laws
+pub mod Schedules
+pub mod Left
+pub mod Sinks
+pub mod Lines

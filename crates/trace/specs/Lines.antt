@@ -1,0 +1,32 @@
+-- Single lines of a chronicle, by the numbers that they tell, and parts of them.
+use Rattle.std.specs.Prelude.{ℕ, Bool, true, false, List, [], ◌∷◌, map, decimal, codes, Option, None, Some}
+use Rattle.semantics.specs.declared.request.Request.{Request}
+use Rattle.semantics.specs.declared.request.Request.TheVariants.{Get, Swap, Add, Cas, Copy}
+use Rattle.trace.specs.Text.{Word, Line, place}
+
+-- what was asked, before the equals sign
+abbrev pub question : Request → List Word
+question (Get slot) = codes "get" ∷ decimal slot ∷ []
+question (Swap slot value) = codes "swap" ∷ decimal slot ∷ decimal value ∷ []
+question (Add slot value) = codes "add" ∷ decimal slot ∷ decimal value ∷ []
+question (Cas slot expected new) = codes "cas" ∷ decimal slot ∷ decimal expected ∷ decimal new ∷ []
+question (Copy span) = codes "copy" ∷ decimal span.0 ∷ decimal span.1 ∷ []
+
+abbrev pub round_line : ℕ → Line
+round_line round = codes "round" ∷ decimal round ∷ []
+
+abbrev pub row_line : ℕ → List (Option ℕ) → Line
+row_line rank row = codes "row" ∷ decimal rank ∷ map place row
+
+-- whose a letter is: a loyal general's, or a traitor's with his steps
+abbrev pub kind : Option ℕ → List Word
+kind None = codes "loyal" ∷ []
+kind (Some steps) = codes "steps" ∷ decimal steps ∷ []
+
+abbrev pub author_line : ℕ → Option ℕ → Line
+author_line g steps = codes "letter" ∷ decimal g ∷ kind steps
+
+-- what marks a traitor's decision
+abbrev pub mark : Bool → List Word
+mark true = codes "traitor" ∷ []
+mark false = []

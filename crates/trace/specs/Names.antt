@@ -1,0 +1,28 @@
+-- Who makes the accesses of each round, as a text tells it (own).
+use Rattle.std.specs.Prelude.{ℕ, cond, List, [], ◌∷◌, ◌++◌, map, filter, decimal, codes, bytes_eq}
+use Rattle.text.specs.Stop.{space, feed}
+use Rattle.text.specs.Parts.{pieces}
+use Rattle.label.specs.Labels.{generals}
+use Rattle.trace.specs.Text.{Word, Line}
+
+-- the general of this number, if he is one
+abbrev pub general_of : Word → List ℕ
+general_of w = filter (λ g. bytes_eq (decimal g) w) (generals 13)
+
+-- the names before the first line of a round, and those of each round
+abbrev pub Named : Type 0
+Named = List ℕ × List (List ℕ)
+
+abbrev pub with_line : Line → Named → Named
+with_line (w ∷ v ∷ vs) rest =
+    cond (bytes_eq w (codes "round")) ([], rest.0 ∷ rest.1)
+    (cond (bytes_eq w (codes "access")) (general_of v ++ rest.0, rest.1) rest)
+with_line _ rest = rest
+
+abbrev pub named : List Line → Named
+named [] = ([], [])
+named (l ∷ ls) = with_line l (named ls)
+
+-- for each round line of a text, the names of the access lines behind it
+unfoldable pub names_of : List ℕ → List (List ℕ)
+names_of t = (named (map (pieces space) (pieces feed t))).1

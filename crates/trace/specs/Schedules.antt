@@ -1,0 +1,47 @@
+-- The text of a schedule: a line for each round, its entries with a space between them (own).
+use Rattle.std.specs.Prelude.{ℕ, suc, ◌&&◌, nat_lt, nat_le, if◌then◌else◌, List, [], ◌∷◌, ◌++◌, length, Option, Some, None, Result, Ok, Err}
+use Rattle.text.specs.declared.stop.Stop.{Stop}
+use Rattle.text.specs.declared.stop.Stop.TheVariants.{Byte}
+use Rattle.text.specs.Options.{◌>>=◌}
+use Rattle.text.specs.Stop.{space}
+use Rattle.text.specs.Parts.{pieces, lines_of}
+use Rattle.text.specs.Number.{decimal_of}
+use Rattle.world.specs.declared.schedule.Repeat.{Repeat}
+use Rattle.trace.specs.declared.fault.TraceError.{TraceError}
+use Rattle.trace.specs.declared.fault.TraceError.TheVariants.{Line}
+
+abbrev pub star : Stop
+star = Byte 42
+
+-- a decimal number without leading zeros, between two others
+unfoldable pub number_within : ℕ → ℕ → List ℕ → Option ℕ
+number_within least most part = decimal_of part >>= λ n. if nat_le least n && nat_le n most then Some n else None
+
+-- an entry: `G`, or `G*K` for K entries of general G
+abbrev pub entry_of : List (List ℕ) → Option Repeat
+entry_of (g ∷ []) = number_within 0 12 g >>= λ general. Some (record { general = general; times = 1 })
+entry_of (g ∷ k ∷ []) = number_within 0 12 g >>= λ general. number_within 1 4096 k >>= λ times. Some (record { general = general; times = times })
+entry_of _ = None
+
+-- the entries of some parts
+abbrev pub entries_told : List Repeat → List (List ℕ) → Option (List Repeat)
+entries_told before [] = Some before
+entries_told before (part ∷ parts) = entry_of (pieces star part) >>= λ entry. entries_told (before ++ entry ∷ []) parts
+
+-- the entries of a line, which may be empty
+abbrev pub line_told : List ℕ → Option (List Repeat)
+line_told [] = Some []
+line_told (c ∷ cs) = entries_told [] (pieces space (c ∷ cs))
+
+-- the lines from this one on, behind those before, or the first that is none: a sixth one is none
+abbrev pub with_line_told : ℕ → Option (List Repeat) → (List Repeat → Result (List (List Repeat)) TraceError) → Result (List (List Repeat)) TraceError
+with_line_told number None rest = Err (Line number)
+with_line_told number (Some entries) rest = if nat_lt 5 number then Err (Line number) else rest entries
+
+abbrev pub lines_told : List (List Repeat) → ℕ → List (List ℕ) → Result (List (List Repeat)) TraceError
+lines_told before number [] = Ok before
+lines_told before number (line ∷ lines) = with_line_told number (line_told line) (λ entries. lines_told (before ++ entries ∷ []) (suc number) lines)
+
+-- the schedule that a text of at most 1,048,576 bytes tells, or the first line that tells none
+unfoldable pub schedule_told : List ℕ → Result (List (List Repeat)) TraceError
+schedule_told text = if nat_le (length text) 1048576 then lines_told [] 1 (lines_of text) else Err (Line 1)

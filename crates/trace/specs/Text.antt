@@ -1,0 +1,133 @@
+-- The text of a chronicle, line by line (own).
+use Rattle.std.specs.Prelude.{ℕ, suc, ◌==◌, Bool, true, false, List, [], ◌∷◌, ◌++◌, map, flat_map, filter, decimal, codes, Option, None, Some}
+use Rattle.insn.specs.declared.insn.Insn.{Insn}
+use Rattle.combine.specs.declared.chosen.Rule.{Rule}
+use Rattle.combine.specs.declared.chosen.Rule.TheVariants.{Majority, Median}
+use Rattle.semantics.specs.declared.request.Request.{Request}
+use Rattle.semantics.specs.declared.request.Request.TheVariants.{Get, Swap, Add, Cas, Copy}
+use Rattle.board.specs.Board.{Access}
+use Rattle.round.specs.Scenario.{Scenario, is_traitor}
+use Rattle.round.specs.Letters.{Letter}
+use Rattle.world.specs.declared.verdict.Verdict.{Verdict}
+use Rattle.world.specs.Chronicle.{Chronicle}
+use Rattle.label.specs.Lieutenants.{lieutenants}
+use Rattle.trace.specs.declared.version.Version.{Version}
+use Rattle.trace.specs.declared.version.Version.TheVariants.{First, Second}
+
+abbrev pub Word : Type 0
+Word = List ℕ
+
+abbrev pub Line : Type 0
+Line = List Word
+
+-- words with a space before each
+abbrev pub further : List Word → List ℕ
+further [] = []
+further (w ∷ ws) = 32 ∷ w ++ further ws
+
+-- words with a space between them
+abbrev pub spaced : Line → List ℕ
+spaced [] = []
+spaced (w ∷ ws) = w ++ further ws
+
+-- lines, each with its LF
+abbrev pub text : List Line → List ℕ
+text [] = []
+text (l ∷ ls) = spaced l ++ 10 ∷ text ls
+
+-- what was asked
+abbrev pub asked : Request → Line
+asked (Get slot) = codes "get" ∷ decimal slot ∷ codes "=" ∷ []
+asked (Swap slot value) = codes "swap" ∷ decimal slot ∷ decimal value ∷ codes "=" ∷ []
+asked (Add slot value) = codes "add" ∷ decimal slot ∷ decimal value ∷ codes "=" ∷ []
+asked (Cas slot expected new) = codes "cas" ∷ decimal slot ∷ decimal expected ∷ decimal new ∷ codes "=" ∷ []
+asked (Copy span) = codes "copy" ∷ decimal span.0 ∷ decimal span.1 ∷ codes "=" ∷ []
+
+abbrev pub access_line : Access → Line
+access_line a = codes "access" ∷ decimal a.general ∷ (asked a.request ++ map decimal a.reply)
+
+-- a number, or - for nothing
+abbrev pub place : Option ℕ → Word
+place None = codes "-"
+place (Some number) = decimal number
+
+-- a line for each label, by its rank
+abbrev pub row_lines : ℕ → List (List (Option ℕ)) → List Line
+row_lines rank [] = []
+row_lines rank (row ∷ rows) = (codes "row" ∷ decimal rank ∷ map place row) ∷ row_lines (suc rank) rows
+
+abbrev pub letter_line : ℕ → Option (List Insn) → ℕ → Line
+letter_line g None steps = codes "letter" ∷ decimal g ∷ codes "loyal" ∷ []
+letter_line g (Some program) steps = codes "letter" ∷ decimal g ∷ codes "steps" ∷ decimal steps ∷ []
+
+abbrev pub letter_lines : Letter → List Line
+letter_lines l = letter_line l.general l.program l.steps ∷ row_lines 0 l.outbox.rows
+
+-- round by round: its line, its accesses, its letters
+abbrev pub round_lines : ℕ → List Access → List (List Letter) → List Line
+round_lines round accesses [] = []
+round_lines round accesses (letters ∷ rounds) =
+    (codes "round" ∷ decimal round ∷ [])
+    ∷ (map access_line (filter (λ a. a.round == round) accesses) ++ (flat_map letter_lines letters ++ round_lines (suc round) accesses rounds))
+
+abbrev pub decision_line : ℕ → Bool → ℕ → Line
+decision_line g true d = codes "decision" ∷ decimal g ∷ codes "traitor" ∷ decimal d ∷ []
+decision_line g false d = codes "decision" ∷ decimal g ∷ decimal d ∷ []
+
+abbrev pub decision_lines : Scenario → List ℕ → List ℕ → List Line
+decision_lines s (g ∷ gs) (d ∷ ds) = decision_line g (is_traitor s g) d ∷ decision_lines s gs ds
+decision_lines s _ _ = []
+
+abbrev pub yes_no : Bool → Word
+yes_no true = codes "yes"
+yes_no false = codes "no"
+
+abbrev pub yes_no_none : Option Bool → Word
+yes_no_none None = codes "-"
+yes_no_none (Some b) = yes_no b
+
+abbrev pub verdict_line : Verdict → Line
+verdict_line v = codes "verdict" ∷ codes "alike" ∷ yes_no v.alike ∷ codes "obeyed" ∷ yes_no_none v.obeyed ∷ codes "bound" ∷ yes_no v.bound ∷ []
+
+-- a campaign without a patience, by the majority, is told in the first version, any other in the second
+abbrev pub version_by : Option ℕ → Rule → Version
+version_by None Majority = First
+version_by None Median = Second
+version_by (Some patience) rule = Second
+
+abbrev pub version_of : Scenario → Version
+version_of s = version_by s.patience s.rule
+
+abbrev pub rule_word : Rule → Word
+rule_word Majority = codes "majority"
+rule_word Median = codes "median"
+
+abbrev pub version_word : Version → Word
+version_word First = codes "1"
+version_word Second = codes "2"
+
+abbrev pub version_line : Version → Line
+version_line v = codes "chronicle" ∷ version_word v ∷ []
+
+abbrev pub campaign_words : ℕ → ℕ → ℕ → ℕ → Line
+campaign_words n m c order = codes "generals" ∷ decimal n ∷ codes "bound" ∷ decimal m ∷ codes "commander" ∷ decimal c ∷ codes "order" ∷ decimal order ∷ []
+
+-- what a version tells behind the order
+abbrev pub further_words : Version → Option ℕ → Rule → List Word
+further_words First patience rule = []
+further_words Second patience rule = codes "patience" ∷ place patience ∷ codes "rule" ∷ rule_word rule ∷ []
+
+abbrev pub head_lines : Version → Scenario → List Line
+head_lines v s = version_line v ∷ (campaign_words s.generals s.bound s.commander s.order ++ further_words v s.patience s.rule) ∷ []
+
+unfoldable pub lines_in : Version → Chronicle → List Line
+lines_in v c =
+    head_lines v c.scenario
+    ++ (round_lines 1 c.accesses c.letters ++ (decision_lines c.scenario (lieutenants c.scenario.generals c.scenario.commander) c.decisions ++ verdict_line c.verdict ∷ []))
+
+unfoldable pub text_in : Version → Chronicle → List ℕ
+text_in v c = text (lines_in v c)
+
+-- the text of a chronicle: that of its campaign's version
+abbrev pub text_of : Chronicle → List ℕ
+text_of c = text_in (version_of c.scenario) c

@@ -1,0 +1,60 @@
+//! The first two lines of a chronicle, written to a sink.
+ghost use Rattle.std.specs.Prelude.{◌≡◌, ◌∷◌, [], Option};
+ghost use Rattle.trace.specs.Sinks.{Wrote};
+ghost use Rattle.trace.specs.Text.{spaced, further, text, rule_word, version_line, campaign_words, further_words};
+
+use crate::lines::put_order;
+use crate::sink::Sink;
+use crate::version::Version;
+use crate::writing::{put_all, put_headed};
+use combine::Rule;
+
+/// The line of the version.
+pub fn put_version<S: Sink>(sink: &mut S, version: Version)
+    ensures { Wrote (S.contents sink.old) (S.has_failed sink.old) (text (version_line version ∷ [])) (S.contents sink.new) (S.has_failed sink.new) }
+{
+    match version {
+        Version::First => put_all(sink, b"chronicle 1\n"),
+        Version::Second => put_all(sink, b"chronicle 2\n"),
+    }
+}
+
+/// The campaign's numbers, which begin the second line.
+pub fn put_campaign<S: Sink>(sink: &mut S, generals: u32, bound: u32, commander: u32, order: u32)
+    ensures { Wrote (S.contents sink.old) (S.has_failed sink.old) (spaced (campaign_words generals bound commander order)) (S.contents sink.new) (S.has_failed sink.new) }
+{
+    put_headed(sink, b"generals", generals as u64);
+    put_headed(sink, b" bound", bound as u64);
+    put_headed(sink, b" commander", commander as u64);
+    put_headed(sink, b" order", order as u64);
+}
+
+/// The rule's word, behind a space.
+fn put_rule<S: Sink>(sink: &mut S, rule: Rule)
+    ensures { Wrote (S.contents sink.old) (S.has_failed sink.old) (32 ∷ rule_word rule) (S.contents sink.new) (S.has_failed sink.new) }
+{
+    match rule {
+        Rule::Majority => put_all(sink, b" majority"),
+        Rule::Median => put_all(sink, b" median"),
+    }
+}
+
+/// The patience and the rule.
+fn put_conditions<S: Sink>(sink: &mut S, patience: Option<u32>, rule: Rule)
+    ensures { Wrote (S.contents sink.old) (S.has_failed sink.old) (further (further_words Version.Second patience rule)) (S.contents sink.new) (S.has_failed sink.new) }
+{
+    put_all(sink, b" patience");
+    put_order(sink, patience);
+    put_all(sink, b" rule");
+    put_rule(sink, rule);
+}
+
+/// What a version tells behind the numbers.
+pub fn put_further<S: Sink>(sink: &mut S, version: Version, patience: Option<u32>, rule: Rule)
+    ensures { Wrote (S.contents sink.old) (S.has_failed sink.old) (further (further_words version patience rule)) (S.contents sink.new) (S.has_failed sink.new) }
+{
+    match version {
+        Version::First => {}
+        Version::Second => put_conditions(sink, patience, rule),
+    }
+}

@@ -1,0 +1,12 @@
+//! Laws of a chronicle's text: each function does nothing, and its contract is the law.
+ghost use Rattle.trace.specs.Laws.{NamesAreTold, SoundTextsAreRuns};
+
+/// The names that a chronicle's text tells are those of its accesses, round by round.
+pub fn names_are_told()
+    ensures { NamesAreTold }
+{}
+
+/// The texts that an audit finds sound, by a replay of the accesses that they tell, are exactly the texts of complete runs.
+pub fn sound_texts_are_runs()
+    ensures { SoundTextsAreRuns }
+{}

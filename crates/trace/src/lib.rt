@@ -1,0 +1,17 @@
+//! The texts of campaigns: chronicles and schedules.
+#![tactic(auto)]
+
+mod fault;
+mod heading;
+mod laws;
+mod lines;
+mod scheduling;
+mod sink;
+mod version;
+mod writing;
+
+pub use fault::TraceError;
+pub use laws::{names_are_told, sound_texts_are_runs};
+pub use scheduling::read_schedule;
+pub use sink::{Latch, Sink};
+pub use version::{Version, version_by};

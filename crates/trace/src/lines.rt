@@ -1,0 +1,198 @@
+//! The lines of a chronicle, written to a sink.
+ghost use Rattle.std.specs.Prelude.{◌≡◌, ◌==◌, ◌++◌, ◌∷◌, [], ℕ, decimal, codes, map, filter, Option};
+ghost use Rattle.semantics.specs.Replies.{words_in};
+ghost use Rattle.trace.specs.Sinks.{Wrote};
+ghost use Rattle.trace.specs.Text.{further, text, access_line, place, yes_no, yes_no_none, verdict_line, decision_line};
+ghost use Rattle.trace.specs.Lines.{question, kind, mark, round_line, row_line, author_line};
+
+use crate::sink::Sink;
+use crate::writing::{put_all, put_headed, put_next};
+use board::Access;
+use semantics::{Reply, Request};
+use world::Verdict;
+
+/// Numbers, each behind a space.
+fn put_numbers<S: Sink>(sink: &mut S, numbers: &[u64])
+    ensures { Wrote (S.contents sink.old) (S.has_failed sink.old) (further (map decimal numbers.now)) (S.contents sink.new) (S.has_failed sink.new) }
+{
+    for number in numbers {
+        put_next(sink, *number);
+    }
+}
+
+/// A word and numbers, each behind a space.
+fn put_words<S: Sink>(sink: &mut S, word: &[u8], numbers: &[u64])
+    ensures { Wrote (S.contents sink.old) (S.has_failed sink.old) (further (word.now ∷ map decimal numbers.now)) (S.contents sink.new) (S.has_failed sink.new) }
+{
+    put_all(sink, b" ");
+    put_all(sink, word);
+    put_numbers(sink, numbers);
+}
+
+/// What was asked.
+fn put_question<S: Sink>(sink: &mut S, request: &Request)
+    ensures { Wrote (S.contents sink.old) (S.has_failed sink.old) (further (question request.now)) (S.contents sink.new) (S.has_failed sink.new) }
+{
+    match *request {
+        Request::Get { slot } => put_words(sink, b"get", &[slot.number() as u64]),
+        Request::Swap { slot, value } => put_words(sink, b"swap", &[slot.number() as u64, value]),
+        Request::Add { slot, value } => put_words(sink, b"add", &[slot.number() as u64, value]),
+        Request::Cas {
+            slot,
+            expected,
+            new,
+        } => {
+            put_words(sink, b"cas", &[slot.number() as u64, expected, new]);
+        }
+        Request::Copy { span } => {
+            put_words(sink, b"copy", &[span.slot() as u64, span.count() as u64]);
+        }
+    }
+}
+
+/// The words of a reply, each behind a space.
+fn put_reply<S: Sink>(sink: &mut S, reply: &Reply)
+    ensures { Wrote (S.contents sink.old) (S.has_failed sink.old) (further (map decimal (words_in reply.now))) (S.contents sink.new) (S.has_failed sink.new) }
+{
+    match reply {
+        Reply::Word(word) => put_next(sink, *word),
+        Reply::Words(copied) => put_numbers(sink, copied.as_slice()),
+    }
+}
+
+/// The line of an access.
+pub fn put_access<S: Sink>(sink: &mut S, access: &Access)
+    ensures { Wrote (S.contents sink.old) (S.has_failed sink.old) (text (access_line access.now ∷ [])) (S.contents sink.new) (S.has_failed sink.new) }
+{
+    put_headed(sink, b"access", access.general as u64);
+    put_question(sink, &access.request);
+    put_all(sink, b" =");
+    put_reply(sink, &access.reply);
+    put_all(sink, b"\n");
+}
+
+/// The line of an access, where it is one of this round.
+fn put_access_in<S: Sink>(sink: &mut S, round: u32, access: &Access)
+    ensures { Wrote (S.contents sink.old) (S.has_failed sink.old) (text (map access_line (filter (λ a. a.round == round) (access.now ∷ [])))) (S.contents sink.new) (S.has_failed sink.new) }
+{
+    if access.round == round {
+        put_access(sink, access);
+    }
+}
+
+/// The lines of the accesses of a round, in their order.
+pub fn put_accesses<S: Sink>(sink: &mut S, round: u32, accesses: &[Access])
+    ensures { Wrote (S.contents sink.old) (S.has_failed sink.old) (text (map access_line (filter (λ a. a.round == round) accesses.now))) (S.contents sink.new) (S.has_failed sink.new) }
+{
+    for access in accesses {
+        put_access_in(sink, round, access);
+    }
+}
+
+/// The line of a round.
+pub fn put_round<S: Sink>(sink: &mut S, round: u32)
+    ensures { Wrote (S.contents sink.old) (S.has_failed sink.old) (text (round_line round ∷ [])) (S.contents sink.new) (S.has_failed sink.new) }
+{
+    put_headed(sink, b"round", round as u64);
+    put_all(sink, b"\n");
+}
+
+/// An order, or a dash for nothing, behind a space.
+pub fn put_order<S: Sink>(sink: &mut S, order: Option<u32>)
+    ensures { Wrote (S.contents sink.old) (S.has_failed sink.old) (32 ∷ place order) (S.contents sink.new) (S.has_failed sink.new) }
+{
+    match order {
+        Some(order) => put_next(sink, order as u64),
+        None => put_all(sink, b" -"),
+    }
+}
+
+/// Orders, or dashes for nothing, each behind a space.
+fn put_orders<S: Sink>(sink: &mut S, orders: &[Option<u32>])
+    ensures { Wrote (S.contents sink.old) (S.has_failed sink.old) (further (map place orders.now)) (S.contents sink.new) (S.has_failed sink.new) }
+{
+    for order in orders {
+        put_order(sink, *order);
+    }
+}
+
+/// The line of a label's row: its rank, and what its receivers were told.
+pub fn put_row<S: Sink>(sink: &mut S, rank: u32, orders: &[Option<u32>])
+    ensures { Wrote (S.contents sink.old) (S.has_failed sink.old) (text (row_line rank orders.now ∷ [])) (S.contents sink.new) (S.has_failed sink.new) }
+{
+    put_headed(sink, b"row", rank as u64);
+    put_orders(sink, orders);
+    put_all(sink, b"\n");
+}
+
+/// That a letter is a loyal general's, or the steps that its traitor took.
+fn put_kind<S: Sink>(sink: &mut S, steps: Option<u32>)
+    ensures { Wrote (S.contents sink.old) (S.has_failed sink.old) (further (kind steps)) (S.contents sink.new) (S.has_failed sink.new) }
+{
+    match steps {
+        None => put_all(sink, b" loyal"),
+        Some(steps) => put_headed(sink, b" steps", steps as u64),
+    }
+}
+
+/// The first line of a letter: a loyal general's, or a traitor's with the steps that he took.
+pub fn put_author<S: Sink>(sink: &mut S, general: u32, steps: Option<u32>)
+    ensures { Wrote (S.contents sink.old) (S.has_failed sink.old) (text (author_line general steps ∷ [])) (S.contents sink.new) (S.has_failed sink.new) }
+{
+    put_headed(sink, b"letter", general as u64);
+    put_kind(sink, steps);
+    put_all(sink, b"\n");
+}
+
+/// What marks a traitor's decision.
+fn put_mark<S: Sink>(sink: &mut S, is_traitor: bool)
+    ensures { Wrote (S.contents sink.old) (S.has_failed sink.old) (further (mark is_traitor)) (S.contents sink.new) (S.has_failed sink.new) }
+{
+    if is_traitor {
+        put_all(sink, b" traitor");
+    }
+}
+
+/// The line of a lieutenant's decision.
+pub fn put_decision<S: Sink>(sink: &mut S, general: u32, is_traitor: bool, decision: u32)
+    ensures { Wrote (S.contents sink.old) (S.has_failed sink.old) (text (decision_line general is_traitor decision ∷ [])) (S.contents sink.new) (S.has_failed sink.new) }
+{
+    put_headed(sink, b"decision", general as u64);
+    put_mark(sink, is_traitor);
+    put_next(sink, decision as u64);
+    put_all(sink, b"\n");
+}
+
+/// Yes or no, behind a space.
+fn put_yes_no<S: Sink>(sink: &mut S, is_so: bool)
+    ensures { Wrote (S.contents sink.old) (S.has_failed sink.old) (32 ∷ yes_no is_so) (S.contents sink.new) (S.has_failed sink.new) }
+{
+    if is_so {
+        put_all(sink, b" yes");
+    } else {
+        put_all(sink, b" no");
+    }
+}
+
+/// Yes, no, or a dash, behind a space.
+fn put_yes_no_none<S: Sink>(sink: &mut S, is_so: Option<bool>)
+    ensures { Wrote (S.contents sink.old) (S.has_failed sink.old) (32 ∷ yes_no_none is_so) (S.contents sink.new) (S.has_failed sink.new) }
+{
+    match is_so {
+        Some(is_so) => put_yes_no(sink, is_so),
+        None => put_all(sink, b" -"),
+    }
+}
+
+/// The line of the verdict.
+pub fn put_verdict<S: Sink>(sink: &mut S, verdict: Verdict)
+    ensures { Wrote (S.contents sink.old) (S.has_failed sink.old) (text (verdict_line verdict ∷ [])) (S.contents sink.new) (S.has_failed sink.new) }
+{
+    put_all(sink, b"verdict alike");
+    put_yes_no(sink, verdict.alike);
+    put_all(sink, b" obeyed");
+    put_yes_no_none(sink, verdict.obeyed);
+    put_all(sink, b" bound");
+    put_yes_no(sink, verdict.bound);
+    put_all(sink, b"\n");
+}

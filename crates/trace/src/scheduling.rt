@@ -1,0 +1,103 @@
+//! Schedules, read from their text.
+ghost use Rattle.std.specs.Prelude.{◌≡◌, ◌≢◌, ◌≤◌, ◌<◌, ◌^◌, ◌++◌, ◌∷◌, [], IfOk, IfErr, IfSome, Ok, Err, None, Some};
+ghost use Rattle.text.specs.Parts.{pieces, lines_of};
+ghost use Rattle.trace.specs.declared.fault.TraceError.TheVariants.{Memory};
+ghost use Rattle.trace.specs.Schedules.{star, number_within, entry_of, entries_told, line_told, lines_told, schedule_told};
+
+use crate::fault::TraceError;
+use std::alloc::{AllocError, Global};
+use text::{Stop, decimal, line, piece};
+use world::{Entries, Repeat, Schedule};
+
+const SPACE: Stop = Stop::Byte(b' ');
+
+const STAR: Stop = Stop::Byte(b'*');
+
+/// The most bytes of a schedule.
+const MOST_BYTES: usize = 1_048_576;
+
+/// The most lines of a schedule: one for each round.
+const MOST_LINES: u64 = 5;
+
+/// A decimal number between two others.
+#[tactic(auto, unfolding(crate::specs::Schedules::number_within))]
+fn number_within(least: u16, most: u16, part: &[u8]) -> Option<u16>
+    ensures value { result ≡ number_within least most part.now }
+    ensures bound { IfSome result (λ n. n ≤ most) }
+{
+    let number = decimal(part)?;
+    if (least as u128) <= number && number <= (most as u128) {
+        Some(number as u16)
+    } else {
+        None
+    }
+}
+
+/// An entry, `G` or `G*K`.
+#[tactic(auto, using(crate::proofs::EntryLemmas::entry_too_long))]
+fn entry(part: &[u8]) -> Option<Repeat>
+    ensures { result ≡ entry_of (pieces star part.now) }
+{
+    let (general, rest) = piece(STAR, part);
+    let Some(rest) = rest else {
+        let general = number_within(0, 12, general)? as u8;
+        return Some(Repeat { general, times: 1 });
+    };
+    let (times, None) = piece(STAR, rest) else {
+        return None;
+    };
+    let general = number_within(0, 12, general)? as u8;
+    let times = number_within(1, 4096, times)?;
+    Some(Repeat { general, times })
+}
+
+/// The entries of a line; none where a part of it is no entry.
+fn entries(alloc: Global, line: &[u8]) -> Result<Option<Entries>, AllocError>
+    ensures { IfOk result (λ told. told ≡ line_told line.now) }
+{
+    let mut repeats = Vec::new(alloc);
+    if line.is_empty() {
+        return Ok(Some(Entries { repeats }));
+    }
+    let mut rest = Some(line);
+    while let Some(parts) = rest {
+        let (part, behind) = piece(SPACE, parts);
+        let Some(repeat) = entry(part) else {
+            return Ok(None);
+        };
+        repeats.push(repeat)?;
+        rest = behind;
+    }
+    Ok(Some(Entries { repeats }))
+}
+
+/// The schedule that a text tells.
+///
+/// # Errors
+///
+/// `Line` with the first line that tells no entries; a text above 1,048,576 bytes has its fault at line 1, and a sixth
+/// line is one. `Memory` where there is none for a further entry.
+#[tactic(auto, unfolding(crate::specs::Schedules::schedule_told))]
+pub fn read_schedule(alloc: Global, text: &str) -> Result<Schedule, TraceError>
+    ensures told { IfOk result (λ s. schedule_told text.now ≡ Ok s) }
+    ensures fault { IfErr result (λ e. e ≢ Memory → schedule_told text.now ≡ Err e) }
+{
+    if text.len() > MOST_BYTES {
+        return Err(TraceError::Line(1));
+    }
+    let mut lines = Vec::new(alloc);
+    let mut rest = text.as_bytes();
+    let mut number = 1;
+    while let Some((next, behind)) = line(rest) {
+        let Some(entries) = entries(alloc, next)? else {
+            return Err(TraceError::Line(number));
+        };
+        if number > MOST_LINES {
+            return Err(TraceError::Line(number));
+        }
+        lines.push(entries)?;
+        rest = behind;
+        number += 1;
+    }
+    Ok(Schedule { lines })
+}

@@ -1,0 +1,83 @@
+//! Where texts go.
+ghost use Rattle.std.specs.Prelude.{◌≡◌, false};
+
+use std::io::Write;
+
+/// A stream of bytes that remembers a failure.
+pub trait Sink {
+    ghost use Rattle.std.specs.Prelude.{◌≡◌, ◌<◌, ◌≤◌, ℕ, Bool, true, List, Option, Some, IfSome, IfNone, is_none, length, take};
+    ghost use Rattle.std.specs.Io.KnownBytes.{Appends, Keeps};
+
+    // The bytes that it has taken, where they are known.
+    ghost contents: { Self → Option (List ℕ) };
+
+    // Whether it has failed.
+    ghost has_failed: { Self → Bool };
+
+    /// Takes a beginning of the piece, at least one byte, and says how many; or takes none, and has failed.
+    /// An empty piece changes nothing. What has failed has failed for good.
+    fn put(&mut self, piece: &[u8]) -> Option<usize>
+        ensures taken { IfSome result (λ n. (n ≤ length piece.now) × Appends (contents self.old) (contents self.new) (take n piece.now)) }
+        ensures kept { IfNone result (Keeps (contents self.old) (contents self.new)) }
+        ensures some { 0 < length piece.now → IfSome result (λ n. 0 < n) }
+        ensures failed { 0 < length piece.now → has_failed self.new ≡ is_none result }
+        ensures empty { length piece.now ≡ 0 → (result ≡ Some 0) × (self.new ≡ self.old) }
+        ensures lasting { has_failed self.old ≡ true → has_failed self.new ≡ true };
+
+    /// Whether it has failed.
+    fn failed(&self) -> bool
+        ensures { result ≡ has_failed self.now };
+}
+
+/// A sink over a writer: an error, or no byte taken of a piece that has some, is its failure.
+#[derive(Drop)]
+pub struct Latch<W> {
+    writer: W,
+    failed: bool,
+}
+
+impl<W: Write> Latch<W> {
+    /// A sink that has not failed.
+    pub fn new(writer: W) -> Latch<W>
+        ensures { result ≡ record { writer = writer; failed = false } }
+    {
+        Latch {
+            writer,
+            failed: false,
+        }
+    }
+
+    /// The writer again.
+    pub fn into_writer(self) -> W
+        ensures { result ≡ self.writer }
+    {
+        let Latch { writer, failed: _ } = self;
+        writer
+    }
+}
+
+impl<W: Write> Sink for Latch<W> {
+    ghost contents = { λ latch. W.contents latch.writer };
+
+    ghost has_failed = { λ latch. latch.failed };
+
+    fn put(&mut self, piece: &[u8]) -> Option<usize> {
+        if piece.is_empty() {
+            return Some(0);
+        }
+        if self.failed {
+            return None;
+        }
+        match self.writer.write(piece) {
+            Ok(0) | Err(_) => {
+                self.failed = true;
+                None
+            }
+            Ok(taken) => Some(taken),
+        }
+    }
+
+    fn failed(&self) -> bool {
+        self.failed
+    }
+}

@@ -1,0 +1,41 @@
+//! Pieces, words and numbers, written to a sink. What was written is a beginning of the text, the whole exactly where the
+//! sink has not failed: so each function writes on, and nothing goes out behind a failure.
+ghost use Rattle.std.specs.Prelude.{◌≡◌, ◌++◌, ◌∷◌, [], decimal};
+ghost use Rattle.trace.specs.Sinks.{Wrote};
+
+use crate::sink::Sink;
+use itoa::write_digits;
+
+/// Writes a piece.
+pub fn put_all<S: Sink>(sink: &mut S, piece: &[u8])
+    ensures { Wrote (S.contents sink.old) (S.has_failed sink.old) piece.now (S.contents sink.new) (S.has_failed sink.new) }
+{
+    if sink.failed() {
+        return;
+    }
+    let mut from = 0;
+    while from < piece.len() {
+        match sink.put(&piece[from..]) {
+            Some(taken) => from += taken,
+            None => return,
+        }
+    }
+}
+
+/// Writes a space and a number.
+pub fn put_next<S: Sink>(sink: &mut S, number: u64)
+    ensures { Wrote (S.contents sink.old) (S.has_failed sink.old) (32 ∷ decimal number) (S.contents sink.new) (S.has_failed sink.new) }
+{
+    let mut digits = [b' '; 21];
+    let start = write_digits(number, &mut digits, 21);
+    digits[start - 1] = b' ';
+    put_all(sink, &digits[start - 1..]);
+}
+
+/// Writes a line's beginning and a number.
+pub fn put_headed<S: Sink>(sink: &mut S, head: &[u8], number: u64)
+    ensures { Wrote (S.contents sink.old) (S.has_failed sink.old) (head.now ++ 32 ∷ decimal number) (S.contents sink.new) (S.has_failed sink.new) }
+{
+    put_all(sink, head);
+    put_next(sink, number);
+}

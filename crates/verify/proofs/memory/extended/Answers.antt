@@ -1,0 +1,20 @@
+use Rattle.std.proofs.Common.{◌≡◌, ◌∙◌, refl, ap}
+use Rattle.word.specs.declared.Width.TheVariants.{W64}
+use Rattle.word.specs.declared.Narrow.{Narrow}
+use Rattle.word.specs.declared.Narrow.TheVariants as narrow
+use Rattle.range.specs.Table.{low, extended_used}
+use Rattle.absval.specs.NumberSets.{any, extensions, settled}
+use Rattle.absval.specs.Table.{Numbers}
+use Rattle.verify.proofs.memory.extended.Goals as goal
+
+extended_any : (part : Narrow) → extensions W64 part any ≡ any
+unfolding low extended_used settled
+extended_any narrow.Byte = refl
+extended_any narrow.Half = refl
+extended_any narrow.Word = refl
+
+pub returns-clause-exact : goal.returns-clause-exact
+returns-clause-exact c = ap Numbers (c.sign_extend.ensures.exact ∙ (ap (extensions W64 c.args.part) c.any.ensures.exact ∙ extended_any c.args.part))
+
+pub returns-clause-holds : goal.returns-clause-holds
+returns-clause-holds c = λ n h. c.sign_extend.ensures.holds n (c.any.ensures.holds n h)
