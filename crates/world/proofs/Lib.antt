@@ -27,3 +27,5 @@ pub mod Replaying
 pub mod Refusing
 pub mod Example
 pub mod Telling
+pub mod Ticking
+pub mod Listed

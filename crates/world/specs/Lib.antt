@@ -5,3 +5,5 @@ pub mod Runs
 pub mod Lists
 pub mod Chronicle
 pub mod Laws
+pub mod Schedules
+pub mod Playing

@@ -3,9 +3,11 @@
 
 mod event;
 mod laws;
+mod schedule;
 
 pub use event::Event;
 pub use laws::{
     accounts_are_runs, activations_are_safe, contexts_tell, ledgers_decide, lists_are_complete,
     refusals_change_nothing, runs_are_replays, worlds_agree,
 };
+pub use schedule::{Entries, Repeat, Schedule};

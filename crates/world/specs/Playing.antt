@@ -1,0 +1,28 @@
+-- How a world is played on (own).
+use Rattle.std.specs.Prelude.{ℕ, ◌≡◌, ◌≤◌, nat_lt, true, List, map, filter, Option, None, Some, []}
+use Rattle.world.specs.declared.event.Event.{Event}
+use Rattle.world.specs.Scenario.{Scenario, program_of}
+use Rattle.world.specs.Lists.{event_of}
+use Rattle.std.proofs.Common.{Vec}
+use Rattle.std.specs.Global.{Global}
+use Rattle.world.specs.World.{Activation, Turn, Goes, Asks, Ended, turn, has_ended, Part, Acting, Silent, Posted}
+use Rattle.world.specs.Runs.{Runs}
+
+-- nobody acts there, or his activation has ended
+abbrev pub IsStill : Option Part → Type 0
+IsStill (Some (Acting a)) = has_ended a ≡ true
+IsStill _ = Unit {0}
+
+-- it has ended, asks next, or has taken as many turns as it may
+abbrev pub Paused : ℕ → ℕ → Turn → Type 0
+Paused most taken (Goes a) = most ≤ taken
+Paused most taken (Asks request answered) = Unit {0}
+Paused most taken Ended = Unit {0}
+
+-- what the entries of a line say
+abbrev pub line_events : Scenario → List ℕ → List Event
+line_events s line = map (λ g. event_of g (program_of s g)) (filter (λ g. nat_lt g s.generals) line)
+
+-- the lists of some vectors
+abbrev pub lists_in : List (Vec ℕ Global) → List (List ℕ)
+lists_in vectors = map (λ v. v.items) vectors

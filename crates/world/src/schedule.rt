@@ -1,0 +1,41 @@
+//! Schedules: in which order the generals act in each round.
+use std::marker::Model;
+
+/// Entries of one general, one behind the other.
+#[derive(Clone, Copy, Debug, PartialEq, Eq)]
+pub struct Repeat {
+    /// The general's number.
+    pub general: u8,
+    /// How many entries.
+    pub times: u16,
+}
+
+/// The entries for one round, in their order.
+#[derive(Debug, Drop)]
+pub struct Entries {
+    pub repeats: Vec<Repeat>,
+}
+
+impl Model for Entries {
+    ghost use Rattle.std.specs.Prelude.{List};
+    ghost use Rattle.world.specs.declared.schedule.Repeat.{Repeat};
+
+    ghost Value = { List Repeat };
+
+    ghost view = { λ e. e.repeats.items };
+}
+
+/// A line of entries for each round from the first on; rounds without a line have no entries.
+#[derive(Debug, Drop)]
+pub struct Schedule {
+    pub lines: Vec<Entries>,
+}
+
+impl Model for Schedule {
+    ghost use Rattle.std.specs.Prelude.{List};
+    ghost use Rattle.world.specs.declared.schedule.Repeat.{Repeat};
+
+    ghost Value = { List (List Repeat) };
+
+    ghost view = { λ s. s.lines.items };
+}
