@@ -10,7 +10,8 @@ use Rattle.label.proofs.Counting.{others-on}
 use Rattle.label.proofs.Ranks.{others-count}
 use Rattle.book.specs.Theorem.{AgreementHolds}
 use Rattle.book.specs.Table.{MessageTable, told}
-use Rattle.book.specs.Decisions.{lieutenants, decision_of, decisions_of, IsLoyalAt, AgreesIfBound}
+use Rattle.label.specs.Lieutenants.{lieutenants, IsLoyalAt}
+use Rattle.book.specs.Decisions.{decision_of, decisions_of, AgreesIfBound}
 use Rattle.book.proofs.Steps.{entries_few}
 
 on-get_or : (xs : List ℕ) (i : ℕ) → i < length xs → on xs (get_or xs i 0) ≡ true

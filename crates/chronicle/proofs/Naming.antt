@@ -1,20 +1,19 @@
 -- The names of a chronicle's text are those of its accesses.
-use Rattle.std.proofs.Common.{◌≡◌, ◌≢◌, ℕ, zero, suc, ◌+◌, ◌<◌, List, [], ◌∷◌, ◌++◌, length, map, flat_map, Bool, true, false, cond, refl, ap, ◌∙◌, Option, None, Some, append_assoc, append-nil, arith}
+use Rattle.std.proofs.Common.{◌≡◌, ◌≢◌, ℕ, zero, suc, ◌+◌, ◌<◌, List, [], ◌∷◌, ◌++◌, length, map, flat_map, Bool, true, false, cond, refl, ap, ◌∙◌, Option, None, Some, append_assoc, append-nil, arith, ⊎_elim}
 use Rattle.std.specs.Prelude.{decimal, filter, bytes_eq, All, ◌==◌, ◌≤◌}
-use Rattle.std.specs.List.{list_all}
+use Rattle.std.specs.List.{list_all, range_with_len}
 use Rattle.std.proofs.lemmas.Slice.Eq.{bytes_eq-Decides}
 use Rattle.std.specs.Fmt.{digits}
-use Rattle.std.specs.List.{range_with_len}
 use Rattle.std.proofs.lemmas.Bool.{and_parts}
 use Rattle.std.proofs.lemmas.Bool.Decides.{eqb_tells}
-use Rattle.std.proofs.Common.{⊎_elim}
 use Rattle.insn.specs.declared.insn.Insn.{Insn}
 use Rattle.label.specs.Labels.{generals}
 use Rattle.board.specs.Board.{Access}
-use Rattle.world.specs.Scenario.{Scenario, is_traitor}
-use Rattle.world.specs.Letters.{Letter}
+use Rattle.round.specs.Scenario.{Scenario, is_traitor}
+use Rattle.round.specs.Letters.{Letter}
 use Rattle.world.specs.Lists.{names_in}
-use Rattle.world.specs.Chronicle.{Chronicle, lieutenants}
+use Rattle.world.specs.Chronicle.{Chronicle}
+use Rattle.label.specs.Lieutenants.{lieutenants}
 use Rattle.chronicle.specs.Text.{Line, access_line, row_lines, letter_line, letter_lines, round_lines, decision_line, decision_lines, verdict_line, lines_of, text_of}
 use Rattle.chronicle.specs.Names.{general_of, Named, with_line, named, names_of}
 use Rattle.chronicle.proofs.Splitting.{text-split}
@@ -86,7 +85,7 @@ decision_silent g true d = λ rest. refl
 decision_silent g false d = λ rest. refl
 
 letter_silent : (l : Letter) → AreSilent (letter_lines l)
-letter_silent l = (letter_line_silent l.general l.program l.steps, rows_silent 0 l.outbox)
+letter_silent l = (letter_line_silent l.general l.program l.steps, rows_silent 0 l.outbox.rows)
 
 letters_silent : (ls : List Letter) → AreSilent (flat_map letter_lines ls)
 letters_silent [] = tt
@@ -117,11 +116,11 @@ pub names_told : (c : Chronicle) → AreKnown c.accesses → names_of (text_of c
 unfolding names_of text_of lines_of
 names_told c k =
     let s = c.scenario in
-    let ds = decision_lines s (lieutenants s) c.decisions in
+    let ds = decision_lines s (lieutenants s.generals s.commander) c.decisions in
     let end : List Line = verdict_line c.verdict ∷ [] in
     let tail : List Line = ([] ∷ []) ∷ [] in
     let behind : named ((ds ++ end) ++ tail) ≡ ([], []) =
-    ap named (append_assoc ds end tail) ∙ silent-front ds (end ++ tail) (decisions_silent s (lieutenants s) c.decisions) in
+    ap named (append_assoc ds end tail) ∙ silent-front ds (end ++ tail) (decisions_silent s (lieutenants s.generals s.commander) c.decisions) in
     ap (λ ls. (named ls).1) (text-split (lines_of c) (chronicle_plain c))
     ∙ ap (λ ls. (named ls).1) (append_assoc (round_lines 1 c.accesses c.letters) (ds ++ end) tail)
     ∙ ap (λ p. p.1) (rounds-named 1 c.accesses c.letters ((ds ++ end) ++ tail) k behind)

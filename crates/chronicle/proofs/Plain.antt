@@ -7,9 +7,10 @@ use Rattle.insn.specs.declared.insn.Insn.{Insn}
 use Rattle.semantics.specs.declared.request.Request.{Request}
 use Rattle.semantics.specs.declared.request.Request.TheVariants.{Get, Swap, Add, Cas, Copy}
 use Rattle.board.specs.Board.{Access}
-use Rattle.world.specs.Scenario.{Scenario, is_traitor}
-use Rattle.world.specs.Letters.{Letter}
-use Rattle.world.specs.Chronicle.{Chronicle, lieutenants}
+use Rattle.round.specs.Scenario.{Scenario, is_traitor}
+use Rattle.round.specs.Letters.{Letter}
+use Rattle.world.specs.Chronicle.{Chronicle}
+use Rattle.label.specs.Lieutenants.{lieutenants}
 use Rattle.chronicle.specs.Text.{Word, Line, asked, access_line, place, row_lines, yes_no, yes_no_none, letter_line, letter_lines, round_lines, decision_line, decision_lines, lines_of}
 use Rattle.chronicle.proofs.Splitting.{IsPlain, ArePlain, IsLine, AreLines, decimal_plain}
 
@@ -77,7 +78,7 @@ letter_plain g (Some p) steps = (by_test (codes "letter") refl, (decimal_plain g
 
 letters_plain : (ls : List Letter) → AreLines (flat_map letter_lines ls)
 letters_plain [] = tt
-letters_plain (l ∷ ls) = lines-append (letter_lines l) (flat_map letter_lines ls) (letter_plain l.general l.program l.steps, rows_plain 0 l.outbox) (letters_plain ls)
+letters_plain (l ∷ ls) = lines-append (letter_lines l) (flat_map letter_lines ls) (letter_plain l.general l.program l.steps, rows_plain 0 l.outbox.rows) (letters_plain ls)
 
 rounds_plain : (r : ℕ) (xs : List Access) (rounds : List (List Letter)) → AreLines (round_lines r xs rounds)
 rounds_plain r xs [] = tt
@@ -100,7 +101,7 @@ chronicle_plain c =
       (
         (by_test (codes "generals") refl, (decimal_plain s.generals, (by_test (codes "bound") refl, (decimal_plain s.bound, (by_test (codes "commander") refl, (decimal_plain s.commander, (by_test (codes "order") refl, (decimal_plain s.order, tt)))))))),
         lines-append (round_lines 1 c.accesses c.letters) _ (rounds_plain 1 c.accesses c.letters)
-            (lines-append (decision_lines s (lieutenants s) c.decisions) _ (decisions_plain s (lieutenants s) c.decisions)
+            (lines-append (decision_lines s (lieutenants s.generals s.commander) c.decisions) _ (decisions_plain s (lieutenants s.generals s.commander) c.decisions)
             ((by_test (codes "verdict") refl, (by_test (codes "alike") refl, (yes_no_plain c.verdict.alike, (by_test (codes "obeyed") refl, (yes_no_none_plain c.verdict.obeyed, (by_test (codes "bound") refl, (yes_no_plain c.verdict.bound, tt))))))), tt)),
       ),
     )

@@ -11,13 +11,14 @@ use Rattle.combine.specs.declared.chosen.Rule.TheVariants.{Majority}
 use Rattle.label.specs.Labels.{labels}
 use Rattle.label.specs.Oral.{om}
 use Rattle.semantics.specs.Execution.{step}
-use Rattle.world.specs.Scenario.{Scenario}
-use Rattle.world.specs.Letters.{context_bytes, context_of, messages}
-use Rattle.world.specs.World.{NotOpen, NoGeneral, opening, run, refusal}
+use Rattle.round.specs.Scenario.{Scenario}
+use Rattle.round.specs.Contexts.{context_bytes, context_of}
+use Rattle.round.specs.Letters.{messages}
+use Rattle.world.specs.declared.event.EventError.TheVariants.{NotOpen, NoGeneral}
+use Rattle.world.specs.World.{opening, run, refusal, World}
 use Rattle.world.specs.declared.event.Event.TheVariants.{Tick, Post, Close}
 use Rattle.world.specs.Lists.{listed_rounds, listed}
 use Rattle.world.specs.Chronicle.{decisions, chronicle_of}
-use Rattle.world.specs.World.{World}
 use Rattle.chronicle.specs.Text.{lines_of, text_of}
 
 -- the text that a campaign prints under a schedule
@@ -509,7 +510,7 @@ four_divided : Scenario
 four_divided = record { generals = 4; bound = 1; commander = 0; order = 1; board = replicate 64 0; programs = None ∷ None ∷ None ∷ Some divider_later ∷ []; patience = None; rule = Majority }
 
 deciding : World → List ℕ
-deciding w = decisions w.scenario (messages w.scenario w.closed)
+deciding w = decisions w.scenario (messages w.closed)
 
 absent : map (λ w. deciding w) (run (opening four_divided) (Post 0 ∷ Post 1 ∷ Post 2 ∷ Close ∷ replicate 7 (Tick 3) ++ Close ∷ []) ∷ run (opening four_divided) (Post 0 ∷ Post 1 ∷ Post 2 ∷ Close ∷ replicate 7 (Tick 3) ++ Post 0 ∷ Post 1 ∷ Post 2 ∷ Close ∷ []) ∷ [])
     ≡ (1 ∷ 0 ∷ 0 ∷ []) ∷ (1 ∷ 1 ∷ 1 ∷ []) ∷ []

@@ -4,9 +4,11 @@ use Rattle.insn.specs.declared.insn.Insn.{Insn}
 use Rattle.semantics.specs.declared.request.Request.{Request}
 use Rattle.semantics.specs.declared.request.Request.TheVariants.{Get, Swap, Add, Cas, Copy}
 use Rattle.board.specs.Board.{Access}
-use Rattle.world.specs.Scenario.{Scenario, is_traitor}
-use Rattle.world.specs.Letters.{Letter}
-use Rattle.world.specs.Chronicle.{Verdict, Chronicle, lieutenants}
+use Rattle.round.specs.Scenario.{Scenario, is_traitor}
+use Rattle.round.specs.Letters.{Letter}
+use Rattle.world.specs.declared.verdict.Verdict.{Verdict}
+use Rattle.world.specs.Chronicle.{Chronicle}
+use Rattle.label.specs.Lieutenants.{lieutenants}
 
 abbrev pub Word : Type 0
 Word = List ℕ
@@ -55,7 +57,7 @@ letter_line g None steps = codes "letter" ∷ decimal g ∷ codes "loyal" ∷ []
 letter_line g (Some program) steps = codes "letter" ∷ decimal g ∷ codes "steps" ∷ decimal steps ∷ []
 
 abbrev pub letter_lines : Letter → List Line
-letter_lines l = letter_line l.general l.program l.steps ∷ row_lines 0 l.outbox
+letter_lines l = letter_line l.general l.program l.steps ∷ row_lines 0 l.outbox.rows
 
 -- round by round: its line, its accesses, its letters
 abbrev pub round_lines : ℕ → List Access → List (List Letter) → List Line
@@ -92,7 +94,7 @@ head_lines s =
 unfoldable pub lines_of : Chronicle → List Line
 lines_of c =
     head_lines c.scenario
-    ++ (round_lines 1 c.accesses c.letters ++ (decision_lines c.scenario (lieutenants c.scenario) c.decisions ++ verdict_line c.verdict ∷ []))
+    ++ (round_lines 1 c.accesses c.letters ++ (decision_lines c.scenario (lieutenants c.scenario.generals c.scenario.commander) c.decisions ++ verdict_line c.verdict ∷ []))
 
 unfoldable pub text_of : Chronicle → List ℕ
 text_of c = text (lines_of c)

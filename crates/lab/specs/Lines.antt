@@ -5,7 +5,8 @@ use Rattle.std.specs.List.{flat_map}
 use Rattle.hex.specs.Hex.{encode_lower}
 use Rattle.insn.specs.declared.insn.Insn.{Insn}
 use Rattle.codec.specs.Spelling.{program_bytes}
-use Rattle.book.specs.Decisions.{decision_of, lieutenants}
+use Rattle.label.specs.Lieutenants.{lieutenants}
+use Rattle.book.specs.Decisions.{decision_of}
 use Rattle.book.specs.Table.{MessageTable}
 use Rattle.lab.specs.declared.checking.Checked.{Checked}
 

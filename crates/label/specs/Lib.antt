@@ -4,3 +4,4 @@ pub mod Oral
 pub mod Laws
 pub mod Generals
 pub mod Space
+pub mod Lieutenants

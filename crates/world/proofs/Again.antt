@@ -9,10 +9,14 @@ use Rattle.std.proofs.Math.Seq.{drop-append_seam}
 use Rattle.insn.specs.declared.insn.Insn.{Insn}
 use Rattle.board.specs.Board.{Access, words_after, IsLegal}
 use Rattle.world.specs.declared.event.Event.TheVariants.{Close}
-use Rattle.world.specs.Scenario.{Scenario, IsScenario, program_of, shape_of}
-use Rattle.world.specs.Letters.{Letter, context_of, loyal_letter}
-use Rattle.world.specs.World.{Activation, started, is_reached, Part, Acting, Silent, Posted, has_posted, World, each, round_open, begins, begun, of, letters_at, round_letters, happen, run}
-use Rattle.world.specs.Runs.{Runs, IsWithin, IsLetterOf, IsAccountedRound}
+use Rattle.round.specs.Scenario.{Scenario, IsScenario, program_of, shape_of}
+use Rattle.round.specs.Letters.{Letter}
+use Rattle.round.specs.Contexts.{context_of, loyal_letter}
+use Rattle.round.specs.Activation.{Activation, started, is_reached}
+use Rattle.world.specs.Part.{Part, Acting, Silent, Posted, has_posted}
+use Rattle.world.specs.World.{World, each, round_open, begins, begun, accesses_of, letters_at, round_letters, happen, run}
+use Rattle.round.specs.Runs.{Runs, IsWithin}
+use Rattle.world.specs.Accounted.{IsLetterOf, IsAccountedRound}
 use Rattle.world.specs.Lists.{names_events, wound_up}
 use Rattle.world.specs.Laws.{IsRipe}
 use Rattle.world.proofs.Kept.{Fits, IsKept}
@@ -21,8 +25,8 @@ use Rattle.world.proofs.Moves.{moves_same, then_same, moves_keep, run-append, Al
 use Rattle.world.proofs.Punctual.{all_posted}
 use Rattle.world.proofs.Complete.{posts, ends, posts_moves, ends_moves, ripens, part_within}
 use Rattle.world.proofs.Lasting.{IsOnTime, moves_due, close_open, names_moves}
-use Rattle.world.proofs.Stepping.{runs_steps}
-use Rattle.world.proofs.Patience.{under, runs_under}
+use Rattle.round.proofs.Stepping.{runs_steps}
+use Rattle.round.proofs.Patience.{under, runs_under}
 use Rattle.world.proofs.Following.{Act, of_first, Ways, Followed, follow, ways_last, moves_still, way_ended}
 use Rattle.world.proofs.Cutting.{entries_of, entries_below, AreBelow}
 
@@ -33,7 +37,7 @@ take-snoc (x ∷ ls) (suc n) l e = ap (λ ys. x ∷ ys) (take-snoc ls n l e)
 
 -- an activation's end is the one that a general's letter tells of
 abbrev pub Tells : List Letter → ℕ → Activation → Type 0
-Tells letters g end = (l : Letter) → slice_get letters g ≡ Some l → (l.steps ≡ end.state.steps) × (l.outbox ≡ end.state.outbox) × (l.exited ≡ end.over)
+Tells letters g end = (l : Letter) → slice_get letters g ≡ Some l → (l.steps ≡ end.state.steps) × (l.outbox.rows ≡ end.state.outbox) × (l.exited ≡ end.over)
 
 letter_within : (ls : List Letter) (g : ℕ) → g < length ls → (l : Letter) × (slice_get ls g ≡ Some l)
 letter_within [] g lt = absurd (omega arith)
@@ -64,7 +68,7 @@ module _ (s : Scenario) (closed : List (List Letter)) (piece : List Access) (let
         over = (λ i. sym ended i || is_reached s.patience (sym steps i)) ∙ is.4;
         is = λ m there.
             let same : l ≡ m = (let f = sym at ∙ there in cc) in
-            (ap (λ (x : Letter). x.steps) (sym same) ∙ steps, ap (λ (x : Letter). x.outbox) (sym same) ∙ ap (λ (x : Letter). x.outbox) is.2, ap (λ (x : Letter). x.exited) (sym same) ∙ ended);
+            (ap (λ (x : Letter). x.steps) (sym same) ∙ steps, ap (λ (x : Letter). x.outbox.rows) (sym same) ∙ ap (λ (x : Letter). x.outbox.rows) is.2, ap (λ (x : Letter). x.exited) (sym same) ∙ ended);
       }
 
   pub ways_begin : (b : Bool) → AllParts (Ways (Tells letters) piece) (cond b (each s.generals (λ g. begins s closed g (program_of s g) ∷ [])) [])
@@ -73,11 +77,11 @@ module _ (s : Scenario) (closed : List (List Letter)) (piece : List Access) (let
       (let A : Part → Type 0 = λ p. Ways (Tells letters) piece g p in subst A (sym h.1) (way_begins g (program_of s g) refl h.0))
   ways_begin false g part e = cc
 
-  of_has : (front rest : List Access) (x : Access) → of x.general (front ++ x ∷ rest) ≡ [] → ⊥
+  of_has : (front rest : List Access) (x : Access) → accesses_of x.general (front ++ x ∷ rest) ≡ [] → ⊥
   of_has [] rest x e = (let f = sym (of_first x.general x rest refl) ∙ e in cc)
   of_has (y ∷ front) rest x e = by (y.general == x.general) (of_has front rest x) e
     where
-      by : (b : Bool) → (of x.general (front ++ x ∷ rest) ≡ [] → ⊥) → cond b (y ∷ of x.general (front ++ x ∷ rest)) (of x.general (front ++ x ∷ rest)) ≡ [] → ⊥
+      by : (b : Bool) → (accesses_of x.general (front ++ x ∷ rest) ≡ [] → ⊥) → cond b (y ∷ accesses_of x.general (front ++ x ∷ rest)) (accesses_of x.general (front ++ x ∷ rest)) ≡ [] → ⊥
       by true again h = cc
       by false again h = again h
 
@@ -89,8 +93,8 @@ module _ (s : Scenario) (closed : List (List Letter)) (piece : List Access) (let
       let both = round.each x.general l (his x.general lt).1 in
       let A : Option (List Insn) → Type 0 = λ o. IsLetterOf s closed x.general o l in
       let loyal : l ≡ loyal_letter s closed x.general = subst A is both.0 in
-      let none : of x.general piece ≡ [] = both.1 ∙ ap (λ (m : Letter). m.transcript) loyal in
-      absurd (of_has front rest x (ap (of x.general) (sym e) ∙ none))
+      let none : accesses_of x.general piece ≡ [] = both.1 ∙ ap (λ (m : Letter). m.transcript) loyal in
+      absurd (of_has front rest x (ap (accesses_of x.general) (sym e) ∙ none))
   acts_one front rest x e lt (Some program) is = (started s.patience program (context_of s closed x.general) (shape_of s x.general (suc (length closed))), refl)
 
   acts_from : (parts : List Part) → ((g : ℕ) → g < s.generals → slice_get parts g ≡ Some (begins s closed g (program_of s g)))
@@ -115,22 +119,21 @@ each_is letters f h (suc n) le =
 
 -- the letter of an activation that has come to its end, and of a loyal general
 letter_acting : (s : Scenario) (closed : List (List Letter)) (piece ledger : List Access) (w : World) (g : ℕ) (l : Letter) (a : Activation) (o : Option (List Insn)) → program_of s g ≡ o → Fits o (Acting a)
-    → w.scenario ≡ s → w.closed ≡ closed → drop w.opened w.ledger ≡ piece → IsLetterOf s closed g o l → of g piece ≡ l.transcript → (l.steps ≡ a.state.steps) × (l.outbox ≡ a.state.outbox) × (l.exited ≡ a.over)
+    → w.scenario ≡ s → w.closed ≡ closed → drop w.opened w.ledger ≡ piece → IsLetterOf s closed g o l → accesses_of g piece ≡ l.transcript → (l.steps ≡ a.state.steps) × (l.outbox.rows ≡ a.state.outbox) × (l.exited ≡ a.over)
     → letters_at w g (Some (Acting a)) ≡ l ∷ []
 letter_acting s closed piece ledger w g l a None is fits sc cl op letter tr end = absurd fits
 letter_acting s closed piece ledger w g l a (Some program) is fits sc cl op letter tr end =
-    let made : l ≡ record { general = g; round = suc (length closed); context = context_of s closed g; shape = shape_of s g (suc (length closed)); program = Some program; transcript = l.transcript; steps = l.steps; outbox = letter.0.state.outbox; exited = letter.0.over } = letter.2 in
-    let outbox : a.state.outbox ≡ letter.0.state.outbox = sym end.1 ∙ ap (λ (m : Letter). m.outbox) made in
+    let made : l ≡ record { general = g; round = suc (length closed); context = context_of s closed g; program = Some program; transcript = l.transcript; steps = l.steps; outbox = record { shape = shape_of s g (suc (length closed)); rows = letter.0.state.outbox }; exited = letter.0.over } = letter.2 in
+    let outbox : a.state.outbox ≡ letter.0.state.outbox = sym end.1 ∙ ap (λ (m : Letter). m.outbox.rows) made in
     let program_is : program_of w.scenario g ≡ Some program = ap (λ (v : Scenario). program_of v g) sc ∙ is in
     (λ i. record {
       general = g;
       round = suc (length (cl i));
       context = context_of (sc i) (cl i) g;
-      shape = shape_of (sc i) g (suc (length (cl i)));
       program = program_is i;
-      transcript = (ap (of g) op ∙ tr) i;
+      transcript = (ap (accesses_of g) op ∙ tr) i;
       steps = (sym end.0) i;
-      outbox = outbox i;
+      outbox = record { shape = shape_of (sc i) g (suc (length (cl i))); rows = outbox i };
       exited = (sym end.2 ∙ ap (λ (m : Letter). m.exited) made) i;
     } ∷ []) ∙ ap (λ (m : Letter). m ∷ []) (sym made)
 

@@ -7,10 +7,10 @@ use Rattle.std.proofs.lemmas.Bool.Decides.{eqb_tells}
 use Rattle.std.proofs.lemmas.List.{take_all}
 use Rattle.insn.specs.declared.insn.Insn.{Insn}
 use Rattle.board.specs.Board.{Access}
-use Rattle.world.specs.Scenario.{Scenario, program_of}
-use Rattle.world.specs.Letters.{Letter}
+use Rattle.round.specs.Scenario.{Scenario, program_of}
+use Rattle.round.specs.Letters.{Letter}
 use Rattle.world.specs.World.{each}
-use Rattle.world.specs.Runs.{IsLetterOf, AreAccounted, letter_by, alone, row_of, rounds_of, IsAccounted}
+use Rattle.world.specs.Accounted.{IsLetterOf, AreAccounted, letter_by, alone, row_of, rounds_of, IsAccounted}
 use Rattle.world.proofs.Accounting.{accounted_count}
 
 abbrev is_by : ℕ → ℕ → Letter → Bool

@@ -9,15 +9,18 @@ use Rattle.board.specs.Board.{IsBoard, reply}
 use Rattle.board.proofs.Serving.{reply_fits, next_board}
 use Rattle.world.specs.declared.event.Event.{Event}
 use Rattle.world.specs.declared.event.Event.TheVariants.{Tick, Post, Close}
-use Rattle.world.specs.Scenario.{Scenario, program_of}
-use Rattle.world.specs.World.{Activation, Turn, Goes, Asks, Ended, turn, Part, Acting, Silent, Posted, has_posted, World, happen, run, each, ticked, served, posting, has_ended}
+use Rattle.round.specs.Scenario.{Scenario, program_of}
+use Rattle.round.specs.Activation.{Activation, Turn, Goes, Asks, Ended, turn, has_ended}
+use Rattle.world.specs.Part.{Part, Acting, Silent, Posted, has_posted}
+use Rattle.world.specs.World.{World, happen, run, each, ticked, served, posting}
 use Rattle.world.specs.Lists.{Throughout, AtClose, HasPosted, HasEnded, post_of, ticks_of}
 use Rattle.world.proofs.Kept.{Fits, IsKept}
 use Rattle.world.proofs.Listing.{set-here}
 use Rattle.world.specs.Laws.{IsMove, AreMoves, IsRipe}
-use Rattle.world.proofs.Moves.{moves-append, moves_same, moves_board, run-append, turn_within, AllParts, IsLasting, moves_keep}
+use Rattle.world.proofs.Moves.{moves-append, moves_same, moves_board, run-append, AllParts, IsLasting, moves_keep}
+use Rattle.round.proofs.Going.{turn_within, IsGoing, TurnsTo, turn_safe, going_zero, over_ended, ended_over}
 use Rattle.world.proofs.Rounds.{run_kept}
-use Rattle.world.proofs.Due.{IsGoing, TurnsTo, turn_safe, going_zero, over_ended, ended_over, IsDue, Due, due_lasts}
+use Rattle.world.proofs.Due.{IsDue, Due, due_lasts}
 
 pub throughout-append : (Q : World → Event → Type 0) (es fs : List Event) (w : World) → Throughout Q w es → Throughout Q (run w es) fs → Throughout Q w (es ++ fs)
 throughout-append Q [] fs w a b = b

@@ -2,80 +2,18 @@
 use Rattle.std.proofs.Common.{◌≡◌, ℕ, zero, suc, ◌+◌, ◌<◌, ◌≤◌, List, [], ◌∷◌, length, Bool, true, false, cond, refl, sym, ap, subst, ◌∙◌, Option, Some, None, arith}
 use Rattle.insn.specs.declared.insn.Insn.{Insn}
 use Rattle.semantics.specs.declared.request.Request.{Request}
-use Rattle.semantics.specs.State.{Outcome, Next, Ask, Exit, Trap}
 use Rattle.semantics.specs.Call.{fits}
-use Rattle.semantics.specs.Execution.{step}
-use Rattle.semantics.specs.Safety.{LeadsTo, IsSafe}
-use Rattle.semantics.specs.Whole.{CountsOnce}
-use Rattle.semantics.proofs.StepLaws.{step_counts, resumed_counts}
 use Rattle.semantics.proofs.SafetyLaws.{safe_of_sound}
-use Rattle.world.specs.Scenario.{Scenario, IsScenario, program_of, shape_of}
-use Rattle.world.specs.Letters.{Letter, context_of}
-use Rattle.world.specs.World.{Activation, Turn, Goes, Asks, Ended, turned, turn, Part, Acting, Silent, Posted, begins, each, has_ended}
+use Rattle.round.specs.Scenario.{Scenario, IsScenario, program_of, shape_of}
+use Rattle.round.specs.Letters.{Letter}
+use Rattle.round.specs.Contexts.{context_of}
+use Rattle.round.specs.Activation.{Activation, Turn, Goes, Asks, Ended, turn}
+use Rattle.world.specs.Part.{Part, Acting, Silent, Posted}
+use Rattle.world.specs.World.{begins, each}
 use Rattle.world.proofs.Listing.{each-get_only}
 use Rattle.world.proofs.Moves.{AllParts, IsLasting}
-use Rattle.world.proofs.Contexts.{context_is, shape_is}
-
--- where it is not over it is safe for so many steps
-abbrev pub IsGoing : ℕ → Activation → Type 0
-IsGoing n a = has_ended a ≡ false → IsSafe a.program a.context a.shape n a.state
-
--- one turn later: the same program, context and shape, a step more, and safe for so many
-pub record IsAfter (n : ℕ) (a b : Activation) : Type 0 where
-  pub program : b.program ≡ a.program
-  pub context : b.context ≡ a.context
-  pub shape : b.shape ≡ a.shape
-  pub steps : b.state.steps ≡ a.state.steps + 1
-  pub going : IsGoing n b
-
-abbrev pub TurnsTo : ℕ → Activation → Turn → Type 0
-TurnsTo n a (Goes b) = IsAfter n a b
-TurnsTo n a (Asks q f) = (r : List ℕ) → fits q r ≡ true → IsAfter n a (f r)
-TurnsTo n a Ended = Unit {0}
-
-turned_safe : (n : ℕ) (a : Activation) (o : Outcome) → has_ended a ≡ false → CountsOnce a.state o → LeadsTo (λ next. IsSafe a.program a.context a.shape n next) o → TurnsTo n a (turned a o)
-turned_safe n a (Next s) on counts safe = record { program = refl; context = refl; shape = refl; steps = counts; going = λ e. safe }
-turned_safe n a (Ask q s) on counts safe = λ r fit. record { program = refl; context = refl; shape = refl; steps = resumed_counts q r s ∙ counts; going = λ e. safe r fit }
-turned_safe n a (Exit r0 s) on counts safe = record { program = refl; context = refl; shape = refl; steps = counts; going = λ e. absurd (let f : true ≡ false = e in cc) }
-turned_safe n a (Trap cause) on counts safe = absurd safe
-
-leads : (n : ℕ) (a : Activation) → IsSafe a.program a.context a.shape (suc n) a.state → LeadsTo (λ next. IsSafe a.program a.context a.shape n next) (step a.program a.context a.shape a.state)
-unfolding IsSafe
-leads n a h = h
-
--- an activation that is safe for a step more
-pub turn_safe : (n : ℕ) (a : Activation) → IsGoing (suc n) a → TurnsTo n a (turn a)
-turn_safe n a going = by (has_ended a) refl
-  where
-    by : (b : Bool) → has_ended a ≡ b → TurnsTo n a (cond b Ended (turned a (step a.program a.context a.shape a.state)))
-    by true e = tt
-    by false e = turned_safe n a (step a.program a.context a.shape a.state) e (step_counts a.program a.context a.shape a.state) (leads n a (going e))
-
--- what has no step left is over
-pub going_zero : (a : Activation) → IsGoing 0 a → has_ended a ≡ true
-unfolding IsSafe
-going_zero a going = by (has_ended a) refl
-  where
-    by : (b : Bool) → has_ended a ≡ b → b ≡ true
-    by true e = refl
-    by false e = absurd (going e)
-
--- what is over ends, and what ends is over
-pub over_ended : (a : Activation) → has_ended a ≡ true → turn a ≡ Ended
-over_ended a e = rw e refl
-
-not_ended : (a : Activation) (o : Outcome) → turned a o ≡ Ended → ⊥
-not_ended a (Next s) e = (let f : Goes (record a { state = s }) ≡ Ended = e in cc)
-not_ended a (Ask q s) e = (let f : Asks q _ ≡ Ended = e in cc)
-not_ended a (Exit r0 s) e = (let f : Goes (record a { state = s; over = true }) ≡ Ended = e in cc)
-not_ended a (Trap cause) e = (let f : Goes _ ≡ Ended = e in cc)
-
-pub ended_over : (a : Activation) → turn a ≡ Ended → has_ended a ≡ true
-ended_over a e = by (has_ended a) e
-  where
-    by : (b : Bool) → cond b Ended (turned a (step a.program a.context a.shape a.state)) ≡ Ended → b ≡ true
-    by true h = refl
-    by false h = absurd (not_ended a (step a.program a.context a.shape a.state) h)
+use Rattle.round.proofs.Contexts.{context_is, shape_is}
+use Rattle.round.proofs.Going.{IsGoing, IsAfter, TurnsTo, turn_safe, going_zero, over_ended}
 
 -- it runs its general's program, has some steps left at most, and is safe for these
 pub record IsDue (s : Scenario) (g : ℕ) (a : Activation) : Type 0 where

@@ -7,14 +7,17 @@ use Rattle.semantics.specs.declared.request.Request.{Request}
 use Rattle.board.specs.Board.{IsBoard, Access, words_after, IsLegal}
 use Rattle.world.specs.declared.event.Event.{Event}
 use Rattle.world.specs.declared.event.Event.TheVariants.{Tick, Post, Close}
-use Rattle.world.specs.Scenario.{Scenario}
-use Rattle.world.specs.Letters.{Letter}
-use Rattle.world.specs.World.{Activation, Turn, Goes, Asks, Ended, turn, Part, Acting, Silent, Posted, World, of, served, ticked, posting, happen, run, has_ended}
-use Rattle.world.specs.Runs.{Onward, Runs}
+use Rattle.round.specs.Scenario.{Scenario}
+use Rattle.round.specs.Letters.{Letter}
+use Rattle.round.specs.Activation.{Activation, Turn, Goes, Asks, Ended, turn, has_ended}
+use Rattle.world.specs.Part.{Part, Acting, Silent, Posted}
+use Rattle.world.specs.World.{World, accesses_of, served, ticked, posting, happen, run}
+use Rattle.round.specs.Runs.{Onward, Runs}
 use Rattle.world.specs.Lists.{ticks_named, names_events}
 use Rattle.world.specs.Laws.{IsMove, AreMoves}
 use Rattle.world.proofs.Moves.{moves_same, moves_board, move_board, moves_keep, move_keeps, run-append, AllParts, IsLasting}
-use Rattle.world.proofs.Due.{over_ended, Due, due_lasts}
+use Rattle.round.proofs.Going.{over_ended}
+use Rattle.world.proofs.Due.{Due, due_lasts}
 use Rattle.world.proofs.Complete.{due_within}
 use Rattle.world.proofs.Lasting.{named_moves}
 use Rattle.world.proofs.Replays.{Comes, reach}
@@ -38,10 +41,10 @@ act_moved parts later g now (x ∷ piece) at others acts = (
   act_moved parts later g now piece at others acts.1,
 )
 
-pub of_first : (g : ℕ) (x : Access) (piece : List Access) → x.general ≡ g → of g (x ∷ piece) ≡ x ∷ of g piece
+pub of_first : (g : ℕ) (x : Access) (piece : List Access) → x.general ≡ g → accesses_of g (x ∷ piece) ≡ x ∷ accesses_of g piece
 of_first g x piece e = rw (eq-eqb x.general g e) refl
 
-pub of_next : (g : ℕ) (x : Access) (piece : List Access) → x.general ≢ g → of g (x ∷ piece) ≡ of g piece
+pub of_next : (g : ℕ) (x : Access) (piece : List Access) → x.general ≢ g → accesses_of g (x ∷ piece) ≡ accesses_of g piece
 of_next g x piece ne = rw (ne_eqb x.general g ne) refl
 
 module _ (E : ℕ → Activation → Type 0) where
@@ -49,7 +52,7 @@ module _ (E : ℕ → Activation → Type 0) where
   pub record Way (piece : List Access) (h : ℕ) (a : Activation) : Type 0 where
     pub k : ℕ
     pub end : Activation
-    pub runs : Runs k a (of h piece) end
+    pub runs : Runs k a (accesses_of h piece) end
     pub over : has_ended end ≡ true
     pub is : E h end
 
@@ -78,11 +81,11 @@ module _ (E : ℕ → Activation → Type 0) where
       let at = acts.0.1 in
       let way = ways g (Acting a) at in
       let d = due g (Acting a) at in
-      let runs : Runs way.k a (x ∷ of g piece) way.end = (let A : List Access → Type 0 = λ t. Runs way.k a t way.end in subst A (of_first g x piece refl) way.runs) in
+      let runs : Runs way.k a (x ∷ accesses_of g piece) way.end = (let A : List Access → Type 0 = λ t. Runs way.k a t way.end in subst A (of_first g x piece refl) way.runs) in
       let ticks = ticks_named g (slice_get w.parts g) in
-      let c : Comes w (run w ticks) g x (of g piece) way.end =
-      (let A : Option Part → Type 0 = λ o. Comes w (run w (ticks_named g o)) g x (of g piece) way.end in
-      subst A (sym at) (reach (length a.program) way.k w g a x (of g piece) way.end at board refl in_round.0 legal.0 (due_within s g a.program a d.program d) runs)) in
+      let c : Comes w (run w ticks) g x (accesses_of g piece) way.end =
+      (let A : Option Part → Type 0 = λ o. Comes w (run w (ticks_named g o)) g x (accesses_of g piece) way.end in
+      subst A (sym at) (reach (length a.program) way.k w g a x (accesses_of g piece) way.end at board refl in_round.0 legal.0 (due_within s g a.program a d.program d) runs)) in
       let v = run w ticks in
       let moves = named_moves g (slice_get w.parts g) in
       let same = moves_same ticks w moves in

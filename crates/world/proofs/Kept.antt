@@ -2,9 +2,11 @@
 use Rattle.std.specs.Prelude.{ℕ, suc, ◌≡◌, ◌<◌, ◌≤◌, true, List, [], length, take, slice_index_or, slice_get, Option, None, Some}
 use Rattle.insn.specs.declared.insn.Insn.{Insn}
 use Rattle.board.specs.Board.{IsBoard}
-use Rattle.world.specs.Scenario.{Scenario, program_of}
-use Rattle.world.specs.Letters.{Letter, letter_of, loyal_letter}
-use Rattle.world.specs.World.{Part, Acting, Silent, Posted, World}
+use Rattle.round.specs.Scenario.{Scenario, program_of}
+use Rattle.round.specs.Letters.{Letter, letter_of}
+use Rattle.round.specs.Contexts.{loyal_letter}
+use Rattle.world.specs.Part.{Part, Acting, Silent, Posted}
+use Rattle.world.specs.World.{World}
 
 -- a traitor acts, a loyal general does not
 abbrev pub Fits : Option (List Insn) → Part → Type 0

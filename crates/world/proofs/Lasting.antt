@@ -5,8 +5,9 @@ use Rattle.std.proofs.lemmas.Bool.{lt-ltb, ltb-true}
 use Rattle.insn.specs.declared.insn.Insn.{Insn}
 use Rattle.world.specs.declared.event.Event.{Event}
 use Rattle.world.specs.declared.event.Event.TheVariants.{Close}
-use Rattle.world.specs.Scenario.{Scenario, IsScenario, program_of}
-use Rattle.world.specs.World.{Part, Acting, Silent, Posted, World, begun, opening, round_open, round_letters, closing, happen, run}
+use Rattle.round.specs.Scenario.{Scenario, IsScenario, program_of}
+use Rattle.world.specs.Part.{Part, Acting, Silent, Posted}
+use Rattle.world.specs.World.{World, begun, opening, round_open, round_letters, closing, happen, run}
 use Rattle.world.specs.Lists.{first_line, later_lines, Throughout, AtClose, HasPosted, HasEnded, IsComplete, wound_up, event_of, listed_rounds, listed, ticks_named, names_events, replayed_rounds, replayed}
 use Rattle.world.proofs.Kept.{IsKept}
 use Rattle.world.specs.Laws.{IsMove, AreMoves}

@@ -5,16 +5,13 @@ pub mod Faithful
 pub mod Rounds
 pub mod Punctual
 pub mod Agreeing
-pub mod Contexts
 pub mod Due
 pub mod Complete
 pub mod Lasting
 pub mod Untrapped
-pub mod Runnings
+pub mod Accesses
 pub mod Ways
 pub mod Deciding
-pub mod Stepping
-pub mod Patience
 pub mod Replays
 pub mod Following
 pub mod Cutting
@@ -26,6 +23,5 @@ pub mod Arranged
 pub mod Replaying
 pub mod Refusing
 pub mod Example
-pub mod Telling
 pub mod Ticking
 pub mod Listed

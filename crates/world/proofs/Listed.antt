@@ -6,8 +6,9 @@ use Rattle.insn.specs.declared.insn.Insn.{Insn}
 use Rattle.world.specs.declared.event.Event.{Event}
 use Rattle.world.specs.declared.event.Event.TheVariants.{Tick, Post, Close}
 use Rattle.world.specs.declared.schedule.Repeat.{Repeat}
-use Rattle.world.specs.Scenario.{Scenario, program_of}
-use Rattle.world.specs.World.{Part, Acting, Silent, Posted, World, each, posting, happen, run}
+use Rattle.round.specs.Scenario.{Scenario, program_of}
+use Rattle.world.specs.Part.{Part, Acting, Silent, Posted}
+use Rattle.world.specs.World.{World, each, posting, happen, run}
 use Rattle.world.specs.Lists.{first_line, later_lines, event_of, post_of, ticks_of, wound_up, listed_rounds, ticks_named, names_events, replayed_rounds}
 use Rattle.world.specs.Schedules.{entries_of, lines_by}
 use Rattle.world.specs.Playing.{line_events}

@@ -10,18 +10,22 @@ use Rattle.label.proofs.Ranks.{get_left, get_right}
 use Rattle.board.specs.Board.{Access, reply}
 use Rattle.world.specs.declared.event.Event.{Event}
 use Rattle.world.specs.declared.event.Event.TheVariants.{Tick, Post, Close}
-use Rattle.world.specs.Scenario.{Scenario, program_of, is_traitor, shape_of}
-use Rattle.world.specs.Letters.{Letter, context_of, loyal_letter}
-use Rattle.world.specs.World.{Activation, Turn, Goes, Asks, Ended, turn, started, is_reached, Part, Acting, Silent, Posted, World, each, round_open, begins, begun, of, letters_at, round_letters, served, ticked, posting, happen}
-use Rattle.world.specs.Runs.{Runs, IsLetterOf, IsAccountedRound}
+use Rattle.round.specs.Scenario.{Scenario, program_of, is_traitor, shape_of}
+use Rattle.round.specs.Letters.{Letter}
+use Rattle.round.specs.Contexts.{context_of, loyal_letter}
+use Rattle.round.specs.Activation.{Activation, Turn, Goes, Asks, Ended, turn, started, is_reached}
+use Rattle.world.specs.Part.{Part, Acting, Silent, Posted}
+use Rattle.world.specs.World.{World, each, round_open, begins, begun, accesses_of, letters_at, round_letters, served, ticked, posting, happen}
+use Rattle.round.specs.Runs.{Runs}
+use Rattle.world.specs.Accounted.{IsLetterOf, IsAccountedRound}
 use Rattle.world.specs.Laws.{IsMove, IsRipe}
 use Rattle.world.proofs.Kept.{Fits, IsKept}
 use Rattle.world.proofs.Listing.{each-get_only}
 use Rattle.world.proofs.Due.{IsDue}
 use Rattle.world.proofs.Complete.{part_within}
 use Rattle.world.proofs.Lasting.{IsOnTime}
-use Rattle.world.proofs.Stepping.{runs_steps}
-use Rattle.world.proofs.Patience.{under, runs_under, Kept, runs_kept, within_none}
+use Rattle.round.proofs.Stepping.{runs_steps}
+use Rattle.round.proofs.Patience.{under, runs_under, Kept, runs_kept, within_none}
 use Rattle.world.proofs.Ways.{access, Came}
 use Rattle.world.proofs.Cutting.{AreBelow}
 
@@ -44,7 +48,7 @@ made_below s r [] h = tt
 made_below s r (x ∷ piece) h = (h.0.0, made_below s r piece h.1)
 
 -- a loyal general has none
-made_none : (s : Scenario) (r g : ℕ) (piece : List Access) → AreMade s r piece → is_traitor s g ≡ false → of g piece ≡ []
+made_none : (s : Scenario) (r g : ℕ) (piece : List Access) → AreMade s r piece → is_traitor s g ≡ false → accesses_of g piece ≡ []
 made_none s r g [] h loyal = refl
 made_none s r g (x ∷ piece) h loyal =
     rw (ne_eqb x.general g (λ e. true≢false (sym h.0.2 ∙ (ap (is_traitor s) e ∙ loyal)))) (made_none s r g piece h.1 loyal)
@@ -122,7 +126,7 @@ singles_get (suc n) f h g l e =
 -- how many accesses the first generals have together
 abbrev total : ℕ → List Access → ℕ
 total zero piece = 0
-total (suc n) piece = total n piece + length (of n piece)
+total (suc n) piece = total n piece + length (accesses_of n piece)
 
 total_none : (n : ℕ) → total n [] ≡ 0
 total_none zero = refl
@@ -134,14 +138,14 @@ total_one (suc n) x piece =
     let before = total_one n x piece in (
       (λ lt. ⊎_elim
           (λ (q : (x.general == n ≡ true) × (x.general ≡ n)).
-          let here : length (of n (x ∷ piece)) ≡ suc (length (of n piece)) = rw q.0 refl in
+          let here : length (accesses_of n (x ∷ piece)) ≡ suc (length (accesses_of n piece)) = rw q.0 refl in
           let e = before.1 (let w = q.1 in omega arith) in omega arith)
           (λ (q : (x.general == n ≡ false) × (x.general ≢ n)).
-          let here : length (of n (x ∷ piece)) ≡ length (of n piece) = rw q.0 refl in
+          let here : length (accesses_of n (x ∷ piece)) ≡ length (accesses_of n piece) = rw q.0 refl in
           let e = before.0 (let w = q.1 in omega arith) in omega arith)
           (eqb_tells x.general n)),
       (λ le.
-          let here : length (of n (x ∷ piece)) ≡ length (of n piece) = rw (ne_eqb x.general n (λ w. let v = w in omega arith)) refl in
+          let here : length (accesses_of n (x ∷ piece)) ≡ length (accesses_of n piece) = rw (ne_eqb x.general n (λ w. let v = w in omega arith)) refl in
           let e = before.1 (omega arith) in omega arith),
     )
 
@@ -150,12 +154,12 @@ total_all : (n : ℕ) (piece : List Access) → AreBelow n piece → total n pie
 total_all n [] h = total_none n
 total_all n (x ∷ piece) h = (let e = total_all n piece h.1 in let f = (total_one n x piece).0 h.0 in omega arith)
 
-singles_sum : (piece : List Access) (n : ℕ) (f : ℕ → List Letter) → ((g : ℕ) → g < n → (l : Letter) × (f g ≡ l ∷ []) × (of g piece ≡ l.transcript)) → sum_by (λ l. length l.transcript) (each n f) ≡ total n piece
+singles_sum : (piece : List Access) (n : ℕ) (f : ℕ → List Letter) → ((g : ℕ) → g < n → (l : Letter) × (f g ≡ l ∷ []) × (accesses_of g piece ≡ l.transcript)) → sum_by (λ l. length l.transcript) (each n f) ≡ total n piece
 singles_sum piece zero f h = refl
 singles_sum piece (suc n) f h =
     let l = h n (omega arith) in
     let e = singles_sum piece n f (λ g lt. h g (omega arith)) in
-    let one : sum_by (λ l. length l.transcript) (f n) ≡ length (of n piece) = ap (sum_by (λ l. length l.transcript)) l.1 ∙ (let t : length (of n piece) ≡ length l.0.transcript = ap length l.2 in omega arith) in
+    let one : sum_by (λ l. length l.transcript) (f n) ≡ length (accesses_of n piece) = ap (sum_by (λ l. length l.transcript)) l.1 ∙ (let t : length (accesses_of n piece) ≡ length l.0.transcript = ap length l.2 in omega arith) in
     omega (arith, sum_by-append (λ l. length l.transcript) (each n f) (f n))
 
 module _ (s : Scenario) (closed : List (List Letter)) (words : List ℕ) (ledger : List Access) where
@@ -174,23 +178,23 @@ module _ (s : Scenario) (closed : List (List Letter)) (words : List ℕ) (ledger
   letter_made : (w : World) (piece : List Access) → w.scenario ≡ s → w.closed ≡ closed → drop w.opened w.ledger ≡ piece → AreMade s (suc (length closed)) piece → IsRipe w
       → ((g : ℕ) (a : Activation) → slice_get w.parts g ≡ Some (Acting a) → Came (begun s closed words ledger true) piece g a)
       → (g : ℕ) (part : Part) → slice_get w.parts g ≡ Some part → (o : Option (List Insn)) → program_of s g ≡ o → Fits o part
-      → (l : Letter) × (letters_at w g (Some part) ≡ l ∷ []) × IsLetterOf s closed g o l × (of g piece ≡ l.transcript)
+      → (l : Letter) × (letters_at w g (Some part) ≡ l ∷ []) × IsLetterOf s closed g o l × (accesses_of g piece ≡ l.transcript)
   letter_made w piece sc cl op made ripe came g (Acting a) at None is fits = absurd fits
   letter_made w piece sc cl op made ripe came g (Acting a) at (Some program) is fits =
       let c = came g a at in
       let from = starts (round_open s closed) g c.1 program is c.2 in
-      let runs : Runs c.0 (started s.patience program (context_of s closed g) (shape_of s g (suc (length closed)))) (of g piece) a = (let A : Activation → Type 0 = λ b. Runs c.0 b (of g piece) a in subst A (sym from) c.3) in
-      let steps = runs_steps c.0 (started s.patience program (context_of s closed g) (shape_of s g (suc (length closed)))) (of g piece) a runs in
+      let runs : Runs c.0 (started s.patience program (context_of s closed g) (shape_of s g (suc (length closed)))) (accesses_of g piece) a = (let A : Activation → Type 0 = λ b. Runs c.0 b (accesses_of g piece) a in subst A (sym from) c.3) in
+      let steps = runs_steps c.0 (started s.patience program (context_of s closed g) (shape_of s g (suc (length closed)))) (accesses_of g piece) a runs in
       let k : c.0 ≡ a.state.steps = omega arith in
-      let kept : Kept s.patience a = runs_kept s.patience c.0 (started s.patience program (context_of s closed g) (shape_of s g (suc (length closed)))) (of g piece) a (refl, within_none s.patience) runs in
-      let l : Letter = record { general = g; round = suc (length closed); context = context_of s closed g; shape = shape_of s g (suc (length closed)); program = Some program; transcript = of g piece; steps = a.state.steps; outbox = a.state.outbox; exited = a.over } in
+      let kept : Kept s.patience a = runs_kept s.patience c.0 (started s.patience program (context_of s closed g) (shape_of s g (suc (length closed)))) (accesses_of g piece) a (refl, within_none s.patience) runs in
+      let l : Letter = record { general = g; round = suc (length closed); context = context_of s closed g; program = Some program; transcript = accesses_of g piece; steps = a.state.steps; outbox = record { shape = shape_of s g (suc (length closed)); rows = a.state.outbox }; exited = a.over } in
       let program_is : program_of w.scenario g ≡ Some program = ap (λ (v : Scenario). program_of v g) sc ∙ is in (
         l,
-        (λ i. record { general = g; round = suc (length (cl i)); context = context_of (sc i) (cl i) g; shape = shape_of (sc i) g (suc (length (cl i))); program = program_is i; transcript = of g (op i); steps = a.state.steps; outbox = a.state.outbox; exited = a.over } ∷ []),
+        (λ i. record { general = g; round = suc (length (cl i)); context = context_of (sc i) (cl i) g; program = program_is i; transcript = accesses_of g (op i); steps = a.state.steps; outbox = record { shape = shape_of (sc i) g (suc (length (cl i))); rows = a.state.outbox }; exited = a.over } ∷ []),
         (
           under None a,
-          (let A : ℕ → Type 0 = λ n. Runs n (started None program (context_of s closed g) (shape_of s g (suc (length closed)))) (of g piece) (under None a) in
-              subst A k (runs_under None c.0 (started s.patience program (context_of s closed g) (shape_of s g (suc (length closed)))) (of g piece) a tt runs)),
+          (let A : ℕ → Type 0 = λ n. Runs n (started None program (context_of s closed g) (shape_of s g (suc (length closed)))) (accesses_of g piece) (under None a) in
+              subst A k (runs_under None c.0 (started s.patience program (context_of s closed g) (shape_of s g (suc (length closed)))) (accesses_of g piece) a tt runs)),
           refl,
           kept.1,
           (let A : Option ℕ → Type 0 = λ p. (a.over || is_reached p a.state.steps) ≡ true in subst A kept.0 (ripe.ended_all g (Acting a) at)),
@@ -211,7 +215,7 @@ module _ (s : Scenario) (closed : List (List Letter)) (words : List ℕ) (ledger
       → ((g : ℕ) (a : Activation) → slice_get w.parts g ≡ Some (Acting a) → Came (begun s closed words ledger true) piece g a) → Accounts w piece
   round_accounts w piece sc cl op made count k ripe came =
       let f : ℕ → List Letter = λ g. letters_at w g (slice_get w.parts g) in
-      let one : (g : ℕ) → g < s.generals → (l : Letter) × (f g ≡ l ∷ []) × IsLetterOf s closed g (program_of s g) l × (of g piece ≡ l.transcript) = (λ g lt.
+      let one : (g : ℕ) → g < s.generals → (l : Letter) × (f g ≡ l ∷ []) × IsLetterOf s closed g (program_of s g) l × (accesses_of g piece ≡ l.transcript) = (λ g lt.
       let p = part_within w.parts g (omega arith) in
       let A : Scenario → Type 0 = λ t. Fits (program_of t g) p.0 in
       let r = letter_made w piece sc cl op made ripe came g p.0 p.1 (program_of s g) refl (subst A sc (k.parts g p.0 p.1).1) in
@@ -225,7 +229,7 @@ module _ (s : Scenario) (closed : List (List Letter)) (words : List ℕ) (ledger
               let there = singles_get s.generals f singles g l at in
               let r = one g there.0 in
               let same : r.0 ≡ l = (let i : r.0 ∷ [] ≡ l ∷ [] = sym r.1 ∙ there.1 in cc) in
-              let C : Letter → Type 0 = λ m. IsLetterOf s closed g (program_of s g) m × (of g piece ≡ m.transcript) in
+              let C : Letter → Type 0 = λ m. IsLetterOf s closed g (program_of s g) m × (accesses_of g piece ≡ m.transcript) in
               subst C same (r.2, r.3);
           entries = made_all s (suc (length closed)) piece made;
         },

@@ -1,19 +1,18 @@
 -- What ticks and posts keep.
-use Rattle.std.proofs.Common.{◌≡◌, ◌≢◌, ℕ, zero, suc, List, [], ◌∷◌, ◌++◌, length, Bool, true, false, cond, refl, sym, ap, subst, ◌∙◌, ◌⊎◌, inl, inr, ⊎_elim, Option, Some, None, arith}
+use Rattle.std.proofs.Common.{◌≡◌, ◌≢◌, ℕ, zero, suc, List, [], ◌∷◌, ◌++◌, length, true, refl, sym, ap, subst, ◌∙◌, ◌⊎◌, inl, inr, ⊎_elim, Option, Some, None, arith}
 use Rattle.std.specs.Prelude.{slice_get, slice_set}
 use Rattle.world.specs.Laws.{IsMove, AreMoves}
 use Rattle.world.proofs.Listing.{set-length}
 use Rattle.semantics.specs.declared.request.Request.{Request}
-use Rattle.semantics.specs.State.{Outcome, Next, Ask, Exit, Trap}
 use Rattle.semantics.specs.Call.{fits}
-use Rattle.semantics.specs.Execution.{step}
 use Rattle.board.specs.Board.{IsBoard, reply}
-use Rattle.board.specs.Requests.{IsRequest}
-use Rattle.board.proofs.Asking.{asks_within}
 use Rattle.board.proofs.Serving.{reply_fits, next_board}
 use Rattle.world.specs.declared.event.Event.{Event}
 use Rattle.world.specs.declared.event.Event.TheVariants.{Tick, Post, Close}
-use Rattle.world.specs.World.{Activation, Turn, Goes, Asks, Ended, turned, turn, Part, Acting, Silent, Posted, World, ticked, served, posting, happen, run, has_ended}
+use Rattle.round.specs.Activation.{Activation, Turn, Goes, Asks, Ended, turn}
+use Rattle.world.specs.Part.{Part, Acting, Silent, Posted}
+use Rattle.world.specs.World.{World, ticked, served, posting, happen, run}
+use Rattle.round.proofs.Going.{turn_within}
 
 pub set-cases : {A : Type 0} (xs : List A) (i j : ℕ) (v x : A) → slice_get (slice_set xs i v) j ≡ Some x → ((j ≡ i) × (x ≡ v)) ⊎ ((j ≢ i) × (slice_get xs j ≡ Some x))
 set-cases [] i j v x e = absurd (let f : None ≡ Some x = e in cc)
@@ -69,22 +68,6 @@ moves_same (e ∷ es) w i = then_same w (happen w e) (run (happen w e) es) (move
 pub run-append : (es fs : List Event) (w : World) → run w (es ++ fs) ≡ run (run w es) fs
 run-append [] fs w = refl
 run-append (e ∷ es) fs w = run-append es fs (happen w e)
-
--- what an activation asks lies within the board
-turned_within : (a : Activation) (o : Outcome) → step a.program a.context a.shape a.state ≡ o → (q : Request) (f : List ℕ → Activation) → turned a o ≡ Asks q f → IsRequest q
-turned_within a (Next s) is q f e = absurd (let g : Goes (record a { state = s }) ≡ Asks q f = e in cc)
-turned_within a (Ask r s) is q f e =
-    let same : r ≡ q = (let g : Asks r _ ≡ Asks q f = e in cc) in
-    (let A : Request → Type 0 = λ x. IsRequest x in subst A same (asks_within a.program a.context a.shape a.state s r is))
-turned_within a (Exit r0 s) is q f e = absurd (let g : Goes (record a { state = s; over = true }) ≡ Asks q f = e in cc)
-turned_within a (Trap cause) is q f e = absurd (let g : Goes _ ≡ Asks q f = e in cc)
-
-pub turn_within : (a : Activation) (q : Request) (f : List ℕ → Activation) → turn a ≡ Asks q f → IsRequest q
-turn_within a q f e = by (has_ended a) e
-  where
-    by : (b : Bool) → cond b Ended (turned a (step a.program a.context a.shape a.state)) ≡ Asks q f → IsRequest q
-    by true h = absurd (let g : Ended ≡ Asks q f = h in cc)
-    by false h = turned_within a (step a.program a.context a.shape a.state) refl q f h
 
 served_board : (w : World) (g : ℕ) (a : Activation) (o : Turn) → turn a ≡ o → IsBoard w.words → IsBoard (served w g o).words
 served_board w g a (Goes b) e board = board

@@ -4,8 +4,9 @@ use Rattle.std.specs.Prelude.{slice_get, ◌&&◌}
 use Rattle.std.specs.List.{list_all}
 use Rattle.world.specs.declared.event.Event.{Event}
 use Rattle.world.specs.declared.event.Event.TheVariants.{Tick, Post, Close}
-use Rattle.world.specs.Scenario.{Scenario}
-use Rattle.world.specs.World.{Part, has_posted, World, opening, round_open, closing, happen, run}
+use Rattle.round.specs.Scenario.{Scenario}
+use Rattle.world.specs.Part.{Part, has_posted}
+use Rattle.world.specs.World.{World, opening, round_open, closing, happen, run}
 use Rattle.world.specs.Lists.{Throughout, AtClose, HasPosted, IsPunctual}
 use Rattle.world.proofs.Moves.{move_same}
 

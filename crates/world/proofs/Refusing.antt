@@ -3,9 +3,12 @@ use Rattle.std.proofs.Common.{◌≡◌, ℕ, List, [], ◌∷◌, length, Bool,
 use Rattle.std.specs.Prelude.{slice_get}
 use Rattle.world.specs.declared.event.Event.{Event}
 use Rattle.world.specs.declared.event.Event.TheVariants.{Tick, Post, Close}
-use Rattle.world.specs.Scenario.{Scenario, program_of}
-use Rattle.world.specs.Letters.{Letter}
-use Rattle.world.specs.World.{Part, Acting, Silent, Posted, World, each, begins, round_open, opening, ticked, posting, closing, happen, run, Refusal, NotOpen, unfit, named_by, refusal}
+use Rattle.round.specs.Scenario.{Scenario, program_of}
+use Rattle.round.specs.Letters.{Letter}
+use Rattle.world.specs.Part.{Part, Acting, Silent, Posted}
+use Rattle.world.specs.World.{World, each, begins, round_open, opening, ticked, posting, closing, happen, run, unfit, named_by, refusal}
+use Rattle.world.specs.declared.event.EventError.{EventError}
+use Rattle.world.specs.declared.event.EventError.TheVariants.{NotOpen}
 use Rattle.world.specs.Laws.{IsMove}
 use Rattle.world.proofs.Moves.{move_same}
 
@@ -45,30 +48,30 @@ closed_still w (Tick g) past none = ap (λ (ps : List Part). ticked w g (slice_g
 closed_still w (Post g) past none = ap (λ (ps : List Part). posting w g (slice_get ps g)) none
 closed_still w Close past none = ap (λ b. cond b (closing w) w) past
 
-tick_still : (w : World) (g : ℕ) (r : Refusal) (o : Option Part) → unfit (Tick g) o ≡ Some r → ticked w g o ≡ w
+tick_still : (w : World) (g : ℕ) (r : EventError) (o : Option Part) → unfit (Tick g) o ≡ Some r → ticked w g o ≡ w
 tick_still w g r None e = refl
 tick_still w g r (Some (Acting a)) e = absurd (let f : None ≡ Some r = e in cc)
 tick_still w g r (Some Silent) e = refl
 tick_still w g r (Some Posted) e = refl
 
-post_still : (w : World) (g : ℕ) (r : Refusal) (o : Option Part) → unfit (Post g) o ≡ Some r → posting w g o ≡ w
+post_still : (w : World) (g : ℕ) (r : EventError) (o : Option Part) → unfit (Post g) o ≡ Some r → posting w g o ≡ w
 post_still w g r None e = refl
 post_still w g r (Some (Acting a)) e = refl
 post_still w g r (Some Silent) e = absurd (let f : None ≡ Some r = e in cc)
 post_still w g r (Some Posted) e = refl
 
-open_still : (w : World) (e : Event) (r : Refusal) → unfit e (slice_get w.parts (named_by e)) ≡ Some r → happen w e ≡ w
+open_still : (w : World) (e : Event) (r : EventError) → unfit e (slice_get w.parts (named_by e)) ≡ Some r → happen w e ≡ w
 open_still w (Tick g) r h = tick_still w g r (slice_get w.parts g) h
 open_still w (Post g) r h = post_still w g r (slice_get w.parts g) h
 open_still w Close r h = absurd (let f : None ≡ Some r = h in cc)
 
-refused_still : (w : World) (e : Event) (r : Refusal) → IsClear w → refusal w e ≡ Some r → happen w e ≡ w
+refused_still : (w : World) (e : Event) (r : EventError) → IsClear w → refusal w e ≡ Some r → happen w e ≡ w
 refused_still w e r clear h = by (round_open w.scenario w.closed) refl h
   where
     by : (b : Bool) → round_open w.scenario w.closed ≡ b → cond b (unfit e (slice_get w.parts (named_by e))) (Some NotOpen) ≡ Some r → happen w e ≡ w
     by true open' h' = open_still w e r h'
     by false past h' = closed_still w e past (clear past)
 
-pub proved_refusals_change_nothing : (s : Scenario) (events : List Event) (e : Event) (r : Refusal) → refusal (run (opening s) events) e ≡ Some r → happen (run (opening s) events) e ≡ run (opening s) events
+pub proved_refusals_change_nothing : (s : Scenario) (events : List Event) (e : Event) (r : EventError) → refusal (run (opening s) events) e ≡ Some r → happen (run (opening s) events) e ≡ run (opening s) events
 proved_refusals_change_nothing s events e r h =
     refused_still (run (opening s) events) e r (run_clear events (opening s) (λ past. clear_begins s [] (round_open s []) past)) h

@@ -3,12 +3,14 @@ use Rattle.std.proofs.Common.{◌≡◌, ◌≢◌, ℕ, zero, suc, ◌≤◌, L
 use Rattle.std.specs.Prelude.{slice_get, replicate}
 use Rattle.board.specs.Board.{IsBoard, Access, reply, next}
 use Rattle.world.specs.declared.event.Event.TheVariants.{Tick}
-use Rattle.world.specs.Letters.{Letter}
-use Rattle.world.specs.World.{Activation, Turn, Goes, Asks, Ended, turn, Part, Acting, World, served, ticked, happen, run, has_ended}
-use Rattle.world.specs.Runs.{Onward, Runs}
+use Rattle.round.specs.Letters.{Letter}
+use Rattle.round.specs.Activation.{Activation, Turn, Goes, Asks, Ended, turn, has_ended}
+use Rattle.world.specs.Part.{Part, Acting}
+use Rattle.world.specs.World.{World, served, ticked, happen, run}
+use Rattle.round.specs.Runs.{Onward, Runs}
 use Rattle.world.specs.Lists.{further_turns, until_access}
 use Rattle.world.proofs.Listing.{set-here, set-other}
-use Rattle.world.proofs.Due.{IsGoing, going_zero, over_ended}
+use Rattle.round.proofs.Going.{IsGoing, going_zero, over_ended}
 use Rattle.world.proofs.Complete.{Within, WithinAfter, turn_left}
 use Rattle.world.proofs.Ways.{access}
 

@@ -11,12 +11,16 @@ use Rattle.insn.specs.declared.insn.Insn.{Insn}
 use Rattle.board.specs.Board.{IsBoard}
 use Rattle.world.specs.declared.event.Event.{Event}
 use Rattle.world.specs.declared.event.Event.TheVariants.{Tick, Post, Close}
-use Rattle.world.specs.Scenario.{Scenario, program_of, is_traitor}
-use Rattle.world.specs.Letters.{Letter, loyal_letter, letter_of, messages}
-use Rattle.world.specs.World.{Activation, Part, Acting, Silent, Posted, has_posted, World, begins, opening, round_open, letters_at, round_letters, closing, happen, run, each}
+use Rattle.round.specs.Scenario.{Scenario, program_of, is_traitor}
+use Rattle.round.specs.Letters.{Letter, letter_of, messages}
+use Rattle.round.specs.Contexts.{loyal_letter}
+use Rattle.round.specs.Activation.{Activation}
+use Rattle.world.specs.Part.{Part, Acting, Silent, Posted, has_posted}
+use Rattle.world.specs.World.{World, begins, opening, round_open, letters_at, round_letters, closing, happen, run, each}
 use Rattle.world.specs.Chronicle.{decision}
 use Rattle.world.proofs.Kept.{Fits, Tells, IsKept}
-use Rattle.world.proofs.Listing.{each-find, each-get_only, each-length, all-at, take-front, take-whole, get_or-left, get_or-seam, either_way}
+use Rattle.world.proofs.Listing.{each-find, each-get_only, each-length, all-at, take-front, take-whole, get_or-left, get_or-seam}
+use Rattle.round.proofs.Lists.{either_way}
 use Rattle.world.proofs.Faithful.{faithful}
 use Rattle.world.specs.Laws.{IsMove}
 use Rattle.world.proofs.Moves.{move_same, AllParts, IsLasting, move_keeps, move_board}
@@ -156,14 +160,14 @@ loyal_none (Some p) h = cc
 -- in a world with all rounds closed and full the loyal generals are faithful
 pub world_faithful : (w : World) → IsKept w → length w.closed ≡ suc w.scenario.bound → w.full ≡ true → w.scenario.commander < w.scenario.generals
     → (g : ℕ) → g < w.scenario.generals → is_traitor w.scenario g ≡ false
-    → IsFaithful w.scenario.generals w.scenario.commander w.scenario.bound w.scenario.order (messages w.scenario w.closed) g
+    → IsFaithful w.scenario.generals w.scenario.commander w.scenario.bound w.scenario.order (messages w.closed) g
 world_faithful w k all full inside g lt loyal =
     faithful w.scenario w.closed g inside all (k.told full g lt (loyal_none (program_of w.scenario g) loyal))
 
 -- and under the bound the decisions agree
 pub world_agrees : (w : World) → IsKept w → length w.closed ≡ suc w.scenario.bound → w.full ≡ true → w.scenario.commander < w.scenario.generals
     → IsBound w.scenario.generals w.scenario.bound (is_traitor w.scenario)
-    → Agree w.scenario.generals w.scenario.commander w.scenario.order (is_traitor w.scenario) (decision w.scenario (messages w.scenario w.closed))
+    → Agree w.scenario.generals w.scenario.commander w.scenario.order (is_traitor w.scenario) (decision w.scenario (messages w.closed))
 world_agrees w k all full inside bound =
-    holds (combined_by w.scenario.rule) (chosen_is_rule w.scenario.rule) w.scenario.generals w.scenario.commander w.scenario.bound w.scenario.order (is_traitor w.scenario) (messages w.scenario w.closed) inside bound
+    holds (combined_by w.scenario.rule) (chosen_is_rule w.scenario.rule) w.scenario.generals w.scenario.commander w.scenario.bound w.scenario.order (is_traitor w.scenario) (messages w.closed) inside bound
     (world_faithful w k all full inside)

@@ -7,13 +7,15 @@ use Rattle.board.specs.Board.{IsBoard, Access, reply}
 use Rattle.board.proofs.Serving.{reply_fits}
 use Rattle.world.specs.declared.event.Event.{Event}
 use Rattle.world.specs.declared.event.Event.TheVariants.{Tick}
-use Rattle.world.specs.Scenario.{Scenario}
-use Rattle.world.specs.World.{Activation, Turn, Goes, Asks, Ended, turn, has_ended, Part, Acting, Silent, Posted, World, served, ticked, happen, run}
-use Rattle.world.specs.Runs.{Onward, Runs}
+use Rattle.round.specs.Scenario.{Scenario}
+use Rattle.round.specs.Activation.{Activation, Turn, Goes, Asks, Ended, turn, has_ended}
+use Rattle.world.specs.Part.{Part, Acting, Silent, Posted}
+use Rattle.world.specs.World.{World, served, ticked, happen, run}
+use Rattle.round.specs.Runs.{Onward, Runs}
 use Rattle.world.specs.Lists.{further_turns, until_access, ticks_named}
 use Rattle.world.specs.Playing.{IsStill, Paused}
 use Rattle.world.proofs.Moves.{turn_within}
-use Rattle.world.proofs.Stepping.{runs_steps, turn_counts, CountsTurn}
+use Rattle.round.proofs.Stepping.{runs_steps, turn_counts, CountsTurn}
 use Rattle.world.proofs.Due.{IsDue, due_few, due_lasts, over_ended, ended_over}
 
 -- so many events of one kind, and so many more

@@ -8,9 +8,12 @@ use Rattle.semantics.specs.Safety.{LeadsTo}
 use Rattle.semantics.proofs.SafetyLaws.{IsSafe-no_trap}
 use Rattle.world.specs.declared.event.Event.{Event}
 use Rattle.world.specs.declared.event.Event.TheVariants.{Tick, Post, Close}
-use Rattle.world.specs.Scenario.{Scenario, IsScenario, program_of}
-use Rattle.world.specs.Letters.{Letter, loyal_letter}
-use Rattle.world.specs.World.{Activation, Part, Acting, Silent, Posted, World, each, begun, opening, round_open, letters_at, round_letters, closing, happen, run, has_ended}
+use Rattle.round.specs.Scenario.{Scenario, IsScenario, program_of}
+use Rattle.round.specs.Letters.{Letter}
+use Rattle.round.specs.Contexts.{loyal_letter}
+use Rattle.round.specs.Activation.{Activation, has_ended}
+use Rattle.world.specs.Part.{Part, Acting, Silent, Posted}
+use Rattle.world.specs.World.{World, each, begun, opening, round_open, letters_at, round_letters, closing, happen, run}
 use Rattle.world.specs.Laws.{IsShort}
 use Rattle.world.proofs.Moves.{AllParts, move_same}
 use Rattle.world.proofs.Rounds.{closing_kept}

@@ -7,15 +7,18 @@ use Rattle.board.specs.Board.{Access, reply, next, words_after, IsLegal}
 use Rattle.board.proofs.Histories.{words_after-snoc, IsLegal-snoc}
 use Rattle.world.specs.declared.event.Event.{Event}
 use Rattle.world.specs.declared.event.Event.TheVariants.{Tick, Post, Close}
-use Rattle.world.specs.Scenario.{program_of}
-use Rattle.world.specs.World.{Activation, Turn, Goes, Asks, Ended, turn, Part, Acting, Silent, Posted, World, of, served, ticked, posting, happen, run}
-use Rattle.world.specs.Runs.{Onward, Runs}
+use Rattle.round.specs.Scenario.{program_of}
+use Rattle.round.specs.Activation.{Activation, Turn, Goes, Asks, Ended, turn}
+use Rattle.world.specs.Part.{Part, Acting, Silent, Posted}
+use Rattle.world.specs.World.{World, accesses_of, served, ticked, posting, happen, run}
+use Rattle.round.specs.Runs.{Onward, Runs}
 use Rattle.world.specs.Lists.{HasPosted, HasEnded}
 use Rattle.world.proofs.Kept.{Fits}
 use Rattle.world.specs.Laws.{IsMove, AreMoves}
 use Rattle.world.proofs.Moves.{set-cases, SameRound}
-use Rattle.world.proofs.Due.{over_ended}
-use Rattle.world.proofs.Runnings.{StopsAt, Runs-snoc, Runs-same, of_mine, of_other}
+use Rattle.round.proofs.Going.{over_ended}
+use Rattle.round.proofs.Runnings.{StopsAt, Runs-snoc, Runs-same}
+use Rattle.world.proofs.Accesses.{of_mine, of_other}
 
 -- one access
 abbrev pub access : ℕ → ℕ → Request → List ℕ → Access
@@ -24,7 +27,7 @@ access g r q answer = record { general = g; round = r; request = q; reply = answ
 module _ (first : World) where
   -- g's activation has come from where it began, served by its part of the piece
   abbrev pub Came : List Access → ℕ → Activation → Type 0
-  Came piece g a = (k : ℕ) × (b : Activation) × (slice_get first.parts g ≡ Some (Acting b)) × Runs k b (of g piece) a
+  Came piece g a = (k : ℕ) × (b : Activation) × (slice_get first.parts g ≡ Some (Acting b)) × Runs k b (accesses_of g piece) a
 
   pub record Midst (w : World) : Type 0 where
     pub piece : List Access
@@ -36,9 +39,9 @@ module _ (first : World) where
   pub midst_first : Midst first
   midst_first = record { piece = []; ledger = sym (append-nil first.ledger); words_are = refl; legal = tt; ways = λ g a e. (0, a, e, (refl, refl)) }
 
-  further : (piece : List Access) (g : ℕ) (a b : Activation) (more : List Access) → Came piece g a → Onward (StopsAt) (turn a) more b → (piece' : List Access) → of g piece' ≡ of g piece ++ more → Came piece' g b
+  further : (piece : List Access) (g : ℕ) (a b : Activation) (more : List Access) → Came piece g a → Onward (StopsAt) (turn a) more b → (piece' : List Access) → accesses_of g piece' ≡ accesses_of g piece ++ more → Came piece' g b
   further piece g a b more c last piece' e =
-      (suc c.0, c.1, c.2, (let A : List Access → Type 0 = λ t. Runs (suc c.0) c.1 t b in subst A (sym e) (Runs-snoc c.0 c.1 (of g piece) more a b c.3 last)))
+      (suc c.0, c.1, c.2, (let A : List Access → Type 0 = λ t. Runs (suc c.0) c.1 t b in subst A (sym e) (Runs-snoc c.0 c.1 (accesses_of g piece) more a b c.3 last)))
 
   one : (g : ℕ) (w : World) (a : Activation) → slice_get w.parts g ≡ Some (Acting a) → Midst w → (o : Turn) → turn a ≡ o → Midst (served w g o)
   one g w a at d (Goes b) e = record {
@@ -51,7 +54,7 @@ module _ (first : World) where
         let r : b ≡ x = (let t = q.1 in cc) in
         let A : ℕ → Activation → Type 0 = λ j y. Came d.piece j y in
         subst (λ (j : ℕ). A j x) (sym q.0) (subst (λ (y : Activation). A g y) r
-        (further d.piece g a b [] (d.ways g a at) (let B : Turn → Type 0 = λ v. Onward (StopsAt) v [] b in subst B (sym e) (refl, refl)) d.piece (sym (append-nil (of g d.piece))))))
+        (further d.piece g a b [] (d.ways g a at) (let B : Turn → Type 0 = λ v. Onward (StopsAt) v [] b in subst B (sym e) (refl, refl)) d.piece (sym (append-nil (accesses_of g d.piece))))))
         (λ (q : (h ≢ g) × (slice_get w.parts h ≡ Some (Acting x))). d.ways h x q.1)
         (set-cases w.parts g h (Acting b) (Acting x) is);
   }
@@ -123,7 +126,7 @@ module _ (first : World) where
   came_same : (piece : List Access) (g : ℕ) (a b : Activation) → Came piece g a → Came piece g b → turn a ≡ Ended → turn b ≡ Ended → a ≡ b
   came_same piece g a b c d e f =
       let same : c.1 ≡ d.1 = (let h = sym c.2 ∙ d.2 in cc) in
-      Runs-same c.0 d.0 d.1 (of g piece) a b (let A : Activation → Type 0 = λ s. Runs c.0 s (of g piece) a in subst A same c.3) d.3 e f
+      Runs-same c.0 d.0 d.1 (accesses_of g piece) a b (let A : Activation → Type 0 = λ s. Runs c.0 s (accesses_of g piece) a in subst A same c.3) d.3 e f
 
   part_same : (piece : List Access) (g : ℕ) (o : Option (List Insn)) (x y : Part) → Fits o x → Fits o y → HasPosted x → HasPosted y → HasEnded x → HasEnded y
       → ((a : Activation) → x ≡ Acting a → Came piece g a) → ((a : Activation) → y ≡ Acting a → Came piece g a) → x ≡ y

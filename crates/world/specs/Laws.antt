@@ -1,34 +1,36 @@
 -- What holds of every world. Each statement is the contract of a function of this crate.
-use Rattle.std.specs.Prelude.{ℕ, suc, ◌^◌, ◌≡◌, ◌≢◌, ◌<◌, ◌≤◌, true, false, All, List, [], ◌∷◌, length, map, flat_map, slice_get, Some}
+use Rattle.std.specs.Prelude.{ℕ, suc, ◌≡◌, ◌≢◌, ◌<◌, ◌≤◌, true, false, All, List, [], ◌∷◌, length, map, flat_map, slice_get, Some}
 use Rattle.insn.specs.declared.insn.Insn.{Insn}
 use Rattle.label.specs.Oral.{IsFaithful, IsBound, Agree}
-use Rattle.label.specs.Relay.{relay}
-use Rattle.semantics.specs.Outbox.{taken_value}
 use Rattle.semantics.specs.State.{Cause, Trap}
 use Rattle.semantics.specs.Execution.{step}
 use Rattle.semantics.specs.declared.request.Request.{Request}
 use Rattle.board.specs.Board.{Access, IsLegal}
 use Rattle.world.specs.declared.event.Event.{Event}
 use Rattle.world.specs.declared.event.Event.TheVariants.{Tick, Post, Close}
-use Rattle.world.specs.Scenario.{Scenario, IsScenario, is_traitor, shape_of}
-use Rattle.world.specs.Letters.{Letter, messages, value_of, context_of}
-use Rattle.world.specs.World.{Activation, Asks, turn, has_ended, Part, Acting, World, opening, happen, run, Refusal, refusal}
-use Rattle.world.specs.Runs.{Runs, AreAccounted, rounds_of, IsAccounted}
+use Rattle.round.specs.Scenario.{Scenario, IsScenario, is_traitor}
+use Rattle.round.specs.Letters.{Letter, messages}
+use Rattle.round.specs.Activation.{Activation, Asks, turn, has_ended}
+use Rattle.world.specs.Part.{Part, Acting}
+use Rattle.world.specs.World.{World, opening, happen, run, refusal}
+use Rattle.world.specs.declared.event.EventError.{EventError}
+use Rattle.round.specs.Runs.{Runs}
+use Rattle.world.specs.Accounted.{AreAccounted, rounds_of, IsAccounted}
 use Rattle.world.specs.Lists.{HasPosted, HasEnded, IsPunctual, IsComplete, listed, replayed, names_in}
 use Rattle.world.specs.Chronicle.{decision, chronicle_of}
 
 -- all rounds are closed, and in each of them every loyal general had posted
-pub record IsWhole (w : World) : Type 0 where
+pub record IsFinished (w : World) : Type 0 where
   pub closed : length w.closed ≡ suc w.scenario.bound
   pub full : w.full ≡ true
 
 -- where the loyal generals posted in every round they are faithful, and under the bound the decisions agree
 pub record WorldsAgree : Type 0 where
   pub full : (s : Scenario) (events : List Event) → IsPunctual s events → (run (opening s) events).full ≡ true
-  pub faithful : (s : Scenario) (events : List Event) → IsScenario s → IsWhole (run (opening s) events) → (g : ℕ) → g < s.generals → is_traitor s g ≡ false →
-      IsFaithful s.generals s.commander s.bound s.order (messages s (run (opening s) events).closed) g
-  pub agree : (s : Scenario) (events : List Event) → IsScenario s → IsWhole (run (opening s) events) → IsBound s.generals s.bound (is_traitor s) →
-      Agree s.generals s.commander s.order (is_traitor s) (decision s (messages s (run (opening s) events).closed))
+  pub faithful : (s : Scenario) (events : List Event) → IsScenario s → IsFinished (run (opening s) events) → (g : ℕ) → g < s.generals → is_traitor s g ≡ false →
+      IsFaithful s.generals s.commander s.bound s.order (messages (run (opening s) events).closed) g
+  pub agree : (s : Scenario) (events : List Event) → IsScenario s → IsFinished (run (opening s) events) → IsBound s.generals s.bound (is_traitor s) →
+      Agree s.generals s.commander s.order (is_traitor s) (decision s (messages (run (opening s) events).closed))
 
 -- listed and replayed lists of events are complete
 pub record ListsAreComplete : Type 0 where
@@ -96,9 +98,4 @@ pub record AccountsAreRuns : Type 0 where
 
 -- a refused event leaves the world as it was
 abbrev pub RefusalsChangeNothing : Type 0
-RefusalsChangeNothing = (s : Scenario) (events : List Event) (e : Event) (r : Refusal) → refusal (run (opening s) events) e ≡ Some r → happen (run (opening s) events) e ≡ run (opening s) events
-
--- a context tells its general what he took for each label that he relays
-abbrev pub ContextsTell : Type 0
-ContextsTell = (s : Scenario) (before : List (List Letter)) (g rank : ℕ) (label : List ℕ) → IsScenario s → g < s.generals → length before ≤ s.bound →
-    slice_get (relay (shape_of s g (suc (length before)))) rank ≡ Some label → value_of s before g label < 2 ^ 32 → taken_value (context_of s before g) rank ≡ value_of s before g label
+RefusalsChangeNothing = (s : Scenario) (events : List Event) (e : Event) (r : EventError) → refusal (run (opening s) events) e ≡ Some r → happen (run (opening s) events) e ≡ run (opening s) events

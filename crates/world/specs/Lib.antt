@@ -1,8 +1,7 @@
-pub mod Scenario
-pub mod Letters
+pub mod Part
 pub mod World
-pub mod Runs
 pub mod Lists
+pub mod Accounted
 pub mod Chronicle
 pub mod Laws
 pub mod Schedules

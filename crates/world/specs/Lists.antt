@@ -4,8 +4,10 @@ use Rattle.insn.specs.declared.insn.Insn.{Insn}
 use Rattle.board.specs.Board.{Access}
 use Rattle.world.specs.declared.event.Event.{Event}
 use Rattle.world.specs.declared.event.Event.TheVariants.{Tick, Post, Close}
-use Rattle.world.specs.Scenario.{Scenario, program_of}
-use Rattle.world.specs.World.{Activation, Turn, Goes, Asks, Ended, turn, has_ended, Part, Acting, has_posted, World, each, opening, happen, run}
+use Rattle.round.specs.Scenario.{Scenario, program_of}
+use Rattle.round.specs.Activation.{Activation, Turn, Goes, Asks, Ended, turn, has_ended}
+use Rattle.world.specs.Part.{Part, Acting, has_posted}
+use Rattle.world.specs.World.{World, each, opening, happen, run}
 
 -- a property of the world before each event
 abbrev pub Throughout : (World → Event → Type 0) → World → List Event → Type 0

@@ -1,12 +1,13 @@
 -- How a world is played on (own).
 use Rattle.std.specs.Prelude.{ℕ, ◌≡◌, ◌≤◌, nat_lt, true, List, map, filter, Option, None, Some, []}
 use Rattle.world.specs.declared.event.Event.{Event}
-use Rattle.world.specs.Scenario.{Scenario, program_of}
+use Rattle.round.specs.Scenario.{Scenario, program_of}
 use Rattle.world.specs.Lists.{event_of}
 use Rattle.std.proofs.Common.{Vec}
 use Rattle.std.specs.Global.{Global}
-use Rattle.world.specs.World.{Activation, Turn, Goes, Asks, Ended, turn, has_ended, Part, Acting, Silent, Posted}
-use Rattle.world.specs.Runs.{Runs}
+use Rattle.round.specs.Activation.{Activation, Turn, Goes, Asks, Ended, turn, has_ended}
+use Rattle.world.specs.Part.{Part, Acting, Silent, Posted}
+use Rattle.round.specs.Runs.{Runs}
 
 -- nobody acts there, or his activation has ended
 abbrev pub IsStill : Option Part → Type 0

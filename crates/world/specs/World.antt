@@ -1,68 +1,20 @@
 -- The world of a campaign, as a fold of events (own).
-use Rattle.std.specs.Prelude.{ℕ, zero, suc, ◌+◌, nat_lt, nat_le, ◌==◌, ◌&&◌, ◌||◌, cond, Bool, true, false, List, [], ◌∷◌, ◌++◌, length, drop, filter, slice_get, slice_set, Option, None, Some}
+use Rattle.std.specs.Prelude.{ℕ, zero, suc, nat_lt, ◌==◌, ◌&&◌, cond, Bool, true, List, [], ◌∷◌, ◌++◌, length, drop, filter, slice_get, slice_set, Option, None, Some}
 use Rattle.std.specs.List.{list_all}
 use Rattle.insn.specs.declared.insn.Insn.{Insn}
-use Rattle.label.specs.declared.shape.Shape.{Shape}
-use Rattle.semantics.specs.declared.request.Request.{Request}
-use Rattle.semantics.specs.State.{State, Outcome, Next, Ask, Exit, Trap, entry}
-use Rattle.semantics.specs.Outbox.{empty_outbox}
-use Rattle.semantics.specs.Call.{resumed}
-use Rattle.semantics.specs.Execution.{step}
 use Rattle.board.specs.Board.{Access, reply, next}
+use Rattle.round.specs.Scenario.{Scenario, program_of, shape_of}
+use Rattle.round.specs.Letters.{Letter}
+use Rattle.round.specs.Contexts.{context_of, loyal_letter}
+use Rattle.round.specs.Activation.{started, Turn, Goes, Asks, Ended, turn}
 use Rattle.world.specs.declared.event.Event.{Event}
 use Rattle.world.specs.declared.event.Event.TheVariants.{Tick, Post, Close}
-use Rattle.world.specs.Scenario.{Scenario, program_of, shape_of}
-use Rattle.world.specs.Letters.{Letter, context_of, loyal_letter}
+use Rattle.world.specs.declared.event.EventError.{EventError}
+use Rattle.world.specs.declared.event.EventError.TheVariants.{NotOpen, NoGeneral}
+use Rattle.world.specs.Part.{Part, Acting, Silent, Posted, has_posted}
 
--- a traitor's activation: what is run, with which context and for which relay, how many steps it may take, where it stands, and whether it has exited
-pub record Activation : Type 0 where
-  pub program : List Insn
-  pub context : List ℕ
-  pub shape : Shape
-  pub patience : Option ℕ
-  pub state : State
-  pub over : Bool
-
-abbrev pub started : Option ℕ → List Insn → List ℕ → Shape → Activation
-started patience program context shape = record { program = program; context = context; shape = shape; patience = patience; state = entry (empty_outbox shape); over = false }
-
--- what an activation does next: it goes on, asks the board, or has ended
-pub data Turn : Type 0 where
-  Goes : Activation → Turn
-  Asks : Request → (List ℕ → Activation) → Turn
-  Ended : Turn
-
--- a trap would count its step, stay where it is and never end
-abbrev pub turned : Activation → Outcome → Turn
-turned a (Next s) = Goes (record a { state = s })
-turned a (Ask request s) = Asks request (λ answer. record a { state = resumed request answer s })
-turned a (Exit r0 s) = Goes (record a { state = s; over = true })
-turned a (Trap cause) = Goes (record a { state = record a.state { steps = a.state.steps + 1 } })
-
--- so many steps have reached a patience
-abbrev pub is_reached : Option ℕ → ℕ → Bool
-is_reached None steps = false
-is_reached (Some patience) steps = nat_le patience steps
-
--- it has exited, or its patience is at an end
-abbrev pub has_ended : Activation → Bool
-has_ended a = a.over || is_reached a.patience a.state.steps
-
-abbrev pub turn : Activation → Turn
-turn a = cond (has_ended a) Ended (turned a (step a.program a.context a.shape a.state))
-
--- where a general stands in the open round: a traitor in his activation, a loyal one before or behind his letter
-pub data Part : Type 0 where
-  Acting : Activation → Part
-  Silent : Part
-  Posted : Part
-
-abbrev pub has_posted : Part → Bool
-has_posted (Acting a) = true
-has_posted Silent = false
-has_posted Posted = true
-
--- the letters of the closed rounds, the board's words and ledger, where the open round's entries begin in it, by general the parts of the open round, and whether in each closed round all loyal generals had posted
+-- the letters of the closed rounds, the board's words and ledger, where the open round's entries begin in it,
+-- by general the parts of the open round, and whether in each closed round all loyal generals had posted
 pub record World : Type 0 where
   pub scenario : Scenario
   pub closed : List (List Letter)
@@ -101,8 +53,8 @@ abbrev pub opening : Scenario → World
 opening s = begun s [] s.board [] true
 
 -- the accesses of one general
-abbrev pub of : ℕ → List Access → List Access
-of g accesses = filter (λ a. a.general == g) accesses
+abbrev pub accesses_of : ℕ → List Access → List Access
+accesses_of g accesses = filter (λ a. a.general == g) accesses
 
 -- his letter as he stands: the outbox of an activation counts as it is
 abbrev pub letters_at : World → ℕ → Option Part → List Letter
@@ -111,11 +63,10 @@ letters_at w g (Some (Acting a)) =
       general = g;
       round = suc (length w.closed);
       context = context_of w.scenario w.closed g;
-      shape = shape_of w.scenario g (suc (length w.closed));
       program = program_of w.scenario g;
-      transcript = of g (drop w.opened w.ledger);
+      transcript = accesses_of g (drop w.opened w.ledger);
       steps = a.state.steps;
-      outbox = a.state.outbox;
+      outbox = record { shape = shape_of w.scenario g (suc (length w.closed)); rows = a.state.outbox };
       exited = a.over;
     } ∷ []
 letters_at w g (Some Silent) = []
@@ -159,11 +110,7 @@ run w [] = w
 run w (e ∷ events) = run (happen w e) events
 
 -- why an event is refused: all rounds are closed, or there is no such general, or he is not of that kind
-pub data Refusal : Type 0 where
-  NotOpen : Refusal
-  NoGeneral : Refusal
-
-abbrev pub unfit : Event → Option Part → Option Refusal
+abbrev pub unfit : Event → Option Part → Option EventError
 unfit (Tick g) (Some (Acting a)) = None
 unfit (Post g) (Some Silent) = None
 unfit (Post g) (Some Posted) = None
@@ -175,5 +122,5 @@ named_by (Tick g) = g
 named_by (Post g) = g
 named_by Close = 0
 
-abbrev pub refusal : World → Event → Option Refusal
+abbrev pub refusal : World → Event → Option EventError
 refusal w e = cond (round_open w.scenario w.closed) (unfit e (slice_get w.parts (named_by e))) (Some NotOpen)

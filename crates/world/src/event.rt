@@ -1,10 +1,26 @@
+use thiserror::Error;
+
 /// What happens in a campaign.
 #[derive(Clone, Copy, Debug, PartialEq, Eq)]
 pub enum Event {
     /// One instruction of this traitor's program.
-    Tick(u8),
+    Tick(u32),
     /// This loyal general's letter.
-    Post(u8),
+    Post(u32),
     /// The end of the round.
     Close,
+}
+
+/// Why an event does not happen.
+#[derive(Clone, Copy, Debug, PartialEq, Eq, Error)]
+pub enum EventError {
+    /// All rounds are closed.
+    #[error("E1")]
+    NotOpen,
+    /// There is no such general, or he is not of that kind: no traitor to tick, or no loyal general to post.
+    #[error("E2")]
+    NoGeneral,
+    /// The memory that it takes is refused.
+    #[error("out of memory")]
+    Memory,
 }

@@ -4,10 +4,12 @@
 mod event;
 mod laws;
 mod schedule;
+mod verdict;
 
-pub use event::Event;
+pub use event::{Event, EventError};
 pub use laws::{
-    accounts_are_runs, activations_are_safe, contexts_tell, ledgers_decide, lists_are_complete,
+    accounts_are_runs, activations_are_safe, ledgers_decide, lists_are_complete,
     refusals_change_nothing, runs_are_replays, worlds_agree,
 };
 pub use schedule::{Entries, Repeat, Schedule};
+pub use verdict::Verdict;

@@ -1,4 +1,4 @@
-use Rattle.world.specs.World.{Acting}
+use Rattle.world.specs.Part.{Acting}
 use Rattle.world.proofs.Untrapped.{held, untrapped}
 use Rattle.world.proofs.Due.{due_few}
 use Rattle.world.proofs.laws.activations_are_safe.Goals as goal

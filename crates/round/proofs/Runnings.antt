@@ -1,12 +1,10 @@
--- Runs of activations, and the accesses of one general.
-use Rattle.std.proofs.Common.{◌≡◌, ◌≢◌, ℕ, zero, suc, List, [], ◌∷◌, ◌++◌, true, false, refl, sym, ap, subst, ◌∙◌, ⊎_elim, append-nil}
-use Rattle.std.specs.Prelude.{◌==◌, map}
-use Rattle.std.proofs.lemmas.Bool.{eq-eqb, ne_eqb}
-use Rattle.std.proofs.lemmas.Bool.Decides.{eqb_tells}
+-- Runs of activations.
+use Rattle.std.proofs.Common.{◌≡◌, ℕ, zero, suc, List, [], ◌∷◌, ◌++◌, refl, sym, ap, subst, ◌∙◌}
+use Rattle.std.specs.Prelude.{map}
 use Rattle.semantics.specs.declared.request.Request.{Request}
 use Rattle.board.specs.Board.{Access}
-use Rattle.world.specs.World.{Activation, Turn, Goes, Asks, Ended, turn, of}
-use Rattle.world.specs.Runs.{Onward, Runs}
+use Rattle.round.specs.Activation.{Activation, Turn, Goes, Asks, Ended, turn}
+use Rattle.round.specs.Runs.{Onward, Runs}
 
 abbrev pub StopsAt : Activation → List Access → Activation → Type 0
 StopsAt s served end = (served ≡ []) × (s ≡ end)
@@ -87,13 +85,3 @@ pub request_same : (k j : ℕ) (s : Activation) (t t' : List Access) (u v : Acti
 request_same k j s t t' u v q r f h n a b e d =
     let same : u ≡ v = asking_same k j s t t' u v q r f h n a b e d in
     let both : Asks q f ≡ Asks r h = sym e ∙ (ap turn same ∙ d) in cc
-
-pub of_snoc : (g : ℕ) (piece : List Access) (a : Access) → of g (piece ++ a ∷ []) ≡ of g piece ++ of g (a ∷ [])
-of_snoc g [] a = refl
-of_snoc g (b ∷ piece) a = ⊎_elim (λ (x : (b.general == g ≡ true) × (b.general ≡ g)). rw (x.0, of_snoc g piece a)) (λ (x : (b.general == g ≡ false) × (b.general ≢ g)). rw (x.0, of_snoc g piece a)) (eqb_tells b.general g)
-
-pub of_mine : (g : ℕ) (piece : List Access) (a : Access) → a.general ≡ g → of g (piece ++ a ∷ []) ≡ of g piece ++ a ∷ []
-of_mine g piece a e = of_snoc g piece a ∙ ap (λ l. of g piece ++ l) (rw (eq-eqb a.general g e) refl)
-
-pub of_other : (g : ℕ) (piece : List Access) (a : Access) → a.general ≢ g → of g (piece ++ a ∷ []) ≡ of g piece
-of_other g piece a e = of_snoc g piece a ∙ ap (λ l. of g piece ++ l) (rw (ne_eqb a.general g e) refl) ∙ append-nil (of g piece)

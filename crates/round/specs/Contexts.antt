@@ -1,0 +1,74 @@
+-- What a general is told as a round begins, and what a loyal general tells then (own; TOPLAS 1982, algorithm OM).
+use Rattle.std.specs.Prelude.{ℕ, suc, ◌-◌, ◌+◌, ◌*◌, ◌<◌, ◌≡◌, ◌^◌, true, List, [], ◌∷◌, ◌++◌, length, take, map, flat_map, replicate, slice_get, slice_range, Some, None}
+use Rattle.word.specs.Bytes.{little_bytes, little_number}
+use Rattle.label.specs.declared.shape.Shape.{Shape}
+use Rattle.label.specs.Relay.{relay}
+use Rattle.label.specs.Oral.{heard}
+use Rattle.semantics.specs.Outbox.{places, taken_value}
+use Rattle.outbox.specs.Contents.{Contents}
+use Rattle.round.specs.Scenario.{Scenario, shape_of}
+use Rattle.round.specs.Letters.{Letter, messages, telling}
+
+-- what a general took for a label after these rounds
+abbrev pub value_of : Scenario → List (List Letter) → ℕ → List ℕ → ℕ
+value_of s before g u = heard (messages before) s.order u g
+
+-- a context: 4,096 bytes, in them 32-bit numbers from the front, then zeros
+unfoldable pub context_bytes : List ℕ → List ℕ
+context_bytes numbers = take 4096 (flat_map (little_bytes 4) numbers ++ replicate 4096 0)
+
+-- the numbers of a context: eight of the relay and its campaign, and the value taken for each label relayed
+abbrev pub context_numbers : Shape → ℕ → List ℕ → List ℕ
+context_numbers shape bound values =
+    shape.generals ∷ bound ∷ shape.general ∷ shape.commander ∷ shape.round ∷ length values ∷ (shape.generals - shape.round) ∷ 0 ∷ values
+
+-- what a general is told when the round behind these begins
+abbrev pub context_of : Scenario → List (List Letter) → ℕ → List ℕ
+context_of s before g =
+    let shape = shape_of s g (suc (length before)) in
+    context_bytes (context_numbers shape s.bound (map (value_of s before g) (relay shape)))
+
+-- what the general took has 32 bits
+abbrev pub AreWords : Scenario → List (List Letter) → ℕ → Type 0
+AreWords s before g = (rank : ℕ) (u : List ℕ) → slice_get (relay (shape_of s g (suc (length before)))) rank ≡ Some u → value_of s before g u < 2 ^ 32
+
+-- the number at this place of a context
+abbrev pub number_told : List ℕ → ℕ → ℕ
+number_told context place = little_number (slice_range context (4 * place) (4 * place + 4))
+
+-- the relay of a general in a round, in the campaign that his context tells
+abbrev pub shape_told : ℕ → ℕ → List ℕ → Shape
+shape_told g round context = record { generals = number_told context 0; commander = number_told context 3; general = g; round = round }
+
+-- the outbox that tells each receiver of each label the value that the context has
+abbrev pub outbox_told : Shape → List ℕ → Contents
+outbox_told shape context = record { shape = shape; rows = map (λ row. map (λ place. Some (taken_value context place.rank)) row) (places shape) }
+
+-- a loyal general's letter, from his context alone
+abbrev pub letter_told : ℕ → ℕ → List ℕ → Letter
+letter_told g round context =
+    record {
+      general = g;
+      round = round;
+      context = context;
+      program = None;
+      transcript = [];
+      steps = 0;
+      outbox = outbox_told (shape_told g round context) context;
+      exited = true;
+    }
+
+-- a loyal general's letter of the round behind these: he tells each receiver what he took
+abbrev pub loyal_letter : Scenario → List (List Letter) → ℕ → Letter
+loyal_letter s before g =
+    let round = suc (length before) in
+    record {
+      general = g;
+      round = round;
+      context = context_of s before g;
+      program = None;
+      transcript = [];
+      steps = 0;
+      outbox = telling (shape_of s g round) (value_of s before g);
+      exited = true;
+    }

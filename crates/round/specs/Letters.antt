@@ -1,0 +1,45 @@
+-- Letters, and the messages that they are (own; TOPLAS 1982, section 3, assumptions A1 to A3 and algorithm OM).
+use Rattle.std.specs.Prelude.{ℕ, ◌-◌, ◌==◌, Bool, cond, List, [], ◌∷◌, length, take, map, find, slice_index, slice_index_or, Option, None, Some, bytes_eq}
+use Rattle.insn.specs.declared.insn.Insn.{Insn}
+use Rattle.label.specs.declared.shape.Shape.{Shape}
+use Rattle.label.specs.Relay.{relay, receivers}
+use Rattle.label.specs.Oral.{Messages}
+use Rattle.outbox.specs.Contents.{Contents}
+use Rattle.board.specs.Board.{Access}
+
+-- what a general was told and did in a round, whom he told what, and whether his program had exited
+pub record Letter : Type 0 where
+  pub general : ℕ
+  pub round : ℕ
+  pub context : List ℕ
+  pub program : Option (List Insn)
+  pub transcript : List Access
+  pub steps : ℕ
+  pub outbox : Contents
+  pub exited : Bool
+
+-- what stands in the second list beside the first element of the first that passes
+abbrev pub beside : {A B : Type 0} → (A → Bool) → B → List A → List B → B
+beside is none (x ∷ xs) (y ∷ ys) = cond (is x) y (beside is none xs ys)
+beside is none _ _ = none
+
+-- what an outbox tells a receiver of a label
+abbrev pub tells : Contents → List ℕ → ℕ → Option ℕ
+tells outbox u p = beside (λ j. j == p) None (receivers outbox.shape u) (beside (λ v. bytes_eq v u) [] (relay outbox.shape) outbox.rows)
+
+-- the outbox that tells each receiver of each label that label's value
+abbrev pub telling : Shape → (List ℕ → ℕ) → Contents
+telling shape value = record { shape = shape; rows = map (λ u. map (λ p. Some (value u)) (receivers shape u)) (relay shape) }
+
+abbrev pub letter_of : List Letter → ℕ → Option Letter
+letter_of letters g = find (λ l. l.general == g) letters
+
+abbrev pub told_by : Option Letter → List ℕ → ℕ → Option ℕ
+told_by None u p = None
+told_by (Some l) u p = tells l.outbox u p
+
+-- who told whom what in these rounds: the last general of a label told it by his letter of the round of its length
+unfoldable pub messages : List (List Letter) → Messages
+messages closed w p =
+    let front = length w - 1 in
+    told_by (letter_of (slice_index_or closed front []) (slice_index w front)) (take front w) p

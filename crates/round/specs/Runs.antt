@@ -1,0 +1,37 @@
+-- What an activation has done in some steps, and what every letter keeps (own).
+use Rattle.std.specs.Prelude.{ℕ, zero, suc, ◌≡◌, ◌≤◌, true, List, [], ◌∷◌, Option, None, Some}
+use Rattle.insn.specs.declared.insn.Insn.{Insn}
+use Rattle.semantics.specs.Relay.{IsContext}
+use Rattle.board.specs.Board.{Access}
+use Rattle.round.specs.Letters.{Letter}
+use Rattle.round.specs.Contexts.{shape_told, outbox_told}
+use Rattle.round.specs.Activation.{Activation, started, Turn, Goes, Asks, Ended, turn}
+
+-- one turn, which the next of these accesses serves where it asks, and then what is said of the rest
+abbrev pub Onward : (Activation → List Access → Activation → Type 0) → Turn → List Access → Activation → Type 0
+Onward Rest (Goes a) transcript end = Rest a transcript end
+Onward Rest (Asks request answered) [] end = ⊥
+Onward Rest (Asks request answered) (x ∷ transcript) end = (x.request ≡ request) × Rest (answered x.reply) transcript end
+Onward Rest Ended transcript end = ⊥
+
+-- in so many steps it comes from the one to the other, and the board serves just these accesses
+abbrev pub Runs : ℕ → Activation → List Access → Activation → Type 0
+Runs zero a transcript end = (transcript ≡ []) × (a ≡ end)
+Runs (suc k) a transcript end = Onward (Runs k) (turn a) transcript end
+
+-- so many steps lie within a patience
+abbrev pub IsWithin : Option ℕ → ℕ → Type 0
+IsWithin None steps = Unit {0}
+IsWithin (Some patience) steps = steps ≤ patience
+
+-- a loyal general runs nothing and tells what his context has; a traitor's program, run on its context for so many steps with these accesses, has come to this outbox
+abbrev pub IsRunOf : Letter → Option (List Insn) → Type 0
+IsRunOf l None = (l.transcript ≡ []) × (l.steps ≡ 0) × (l.outbox ≡ outbox_told l.outbox.shape l.context) × (l.exited ≡ true)
+IsRunOf l (Some program) =
+    (end : Activation) × Runs l.steps (started None program l.context l.outbox.shape) l.transcript end × (l.outbox.rows ≡ end.state.outbox) × (l.exited ≡ end.over)
+
+-- what every letter keeps; an unfinished one too, and with no regard to a patience
+pub record IsLetter (l : Letter) : Type 0 where
+  pub context : IsContext l.context
+  pub shape : l.outbox.shape ≡ shape_told l.general l.round l.context
+  pub run : IsRunOf l l.program

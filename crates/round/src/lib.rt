@@ -1,0 +1,6 @@
+//! What the generals do in a round: scenarios, letters, contexts and activations. What is said of them stands in specs/.
+#![tactic(auto)]
+
+mod laws;
+
+pub use laws::contexts_tell;
