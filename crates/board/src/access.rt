@@ -1,7 +1,13 @@
-use semantics::{Reply, Request};
+ghost use Rattle.std.specs.Prelude.{◌≡◌, ◌↔◌, IfOk, IsTrue};
+ghost use Rattle.semantics.specs.Replies.{words_in};
+ghost use Rattle.board.specs.Requests.{IsReplyTo};
+
+use crate::same::{same_reply, same_request};
+use semantics::{Copied, Reply, Request};
+use std::alloc::{AllocError, Global};
 use std::marker::Model;
 
-/// One access: who asked what in which round, and what the board answered.
+/// One access: who asked what in which round, and what the board answered. The reply has the form that the request fixes.
 #[derive(Debug, Drop)]
 pub struct Access {
     /// The general's number.
@@ -10,15 +16,70 @@ pub struct Access {
     pub round: u32,
     /// What he asked.
     pub request: Request,
-    /// What the board answered.
+    /// What the board answered: the words of a copy, as many as were asked for, else one word.
     pub reply: Reply,
 }
 
 impl Model for Access {
     ghost use Rattle.board.specs.Board.{Access as Entry};
+    ghost use Rattle.board.specs.Requests.{IsReplyTo};
     ghost use Rattle.semantics.specs.Replies.{words_in};
 
     ghost Value = { Entry };
 
     ghost view = { λ a. record { general = a.general; round = a.round; request = a.request; reply = words_in a.reply } };
+
+    ghost invariant = { λ a. IsReplyTo a.request a.reply };
+}
+
+impl Access {
+    /// What the board answered.
+    pub fn reply(&self) -> &Reply
+        ensures words { words_in result.now ≡ self.now.reply }
+        ensures form { IsReplyTo self.now.request result.now }
+    {
+        &self.reply
+    }
+
+    /// The same access.
+    ///
+    /// # Errors
+    ///
+    /// `AllocError` where the memory for the words of a copy is refused.
+    pub fn copy(&self, alloc: Global) -> Result<Access, AllocError>
+        ensures { IfOk result (λ access. access ≡ self.now) }
+    {
+        Ok(Access {
+            general: self.general,
+            round: self.round,
+            request: self.request,
+            reply: copied(alloc, &self.reply)?,
+        })
+    }
+
+    /// Whether it is the same access.
+    pub fn same(&self, other: &Access) -> bool
+        ensures { IsTrue result ↔ (self.now ≡ other.now) }
+    {
+        self.general == other.general
+            && self.round == other.round
+            && same_request(&self.request, &other.request)
+            && same_reply(&self.reply, &other.reply)
+    }
+}
+
+/// The same reply.
+fn copied(alloc: Global, reply: &Reply) -> Result<Reply, AllocError>
+    ensures { IfOk result (λ copy. copy ≡ reply.now) }
+{
+    match reply {
+        Reply::Word(word) => Ok(Reply::Word(*word)),
+        Reply::Words(words) => {
+            let _few = words.as_slice();
+            let Some(copy) = Copied::new(Vec::from_slice(alloc, words.as_slice())?) else {
+                unreachable!()
+            };
+            Ok(Reply::Words(copy))
+        }
+    }
 }

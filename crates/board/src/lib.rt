@@ -4,6 +4,7 @@
 mod access;
 mod laws;
 mod object;
+mod same;
 #[cfg(test)]
 mod tests;
 mod words;

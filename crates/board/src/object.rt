@@ -2,6 +2,7 @@ ghost use Rattle.std.specs.Prelude.{◌≡◌, ◌++◌, ◌∷◌, [], true, Li
 ghost use Rattle.semantics.specs.Call.{fits};
 ghost use Rattle.semantics.specs.Replies.{words_in};
 ghost use Rattle.board.specs.Board.{reply, next, IsLegal, words_after};
+ghost use Rattle.board.specs.Requests.{IsReplyTo};
 
 use crate::access::Access;
 use crate::words;
@@ -48,6 +49,7 @@ impl Board {
     pub fn apply(&mut self, general: u32, round: u32, request: Request) -> Result<Reply, AllocError>
         ensures answer { IfOk result (λ r. words_in r ≡ reply self.old.words request) }
         ensures fits { IfOk result (λ r. fits request (words_in r) ≡ true) }
+        ensures form { IfOk result (λ r. IsReplyTo request r) }
         ensures words { OnOk result (self.new.words ≡ next self.old.words request) }
         ensures entered { OnOk result
             (self.new.ledger ≡ self.old.ledger ++ record { general = general; round = round; request = request; reply = reply self.old.words request } ∷ []) }

@@ -2,7 +2,7 @@
 ghost use Rattle.std.specs.Prelude.{◌≡◌, ◌+◌, ◌<◌, ◌≤◌, IfOk, take, drop, length};
 ghost use Rattle.semantics.specs.Replies.{words_in};
 ghost use Rattle.board.specs.Board.{IsBoard, reply, next};
-ghost use Rattle.board.specs.Requests.{IsRequest};
+ghost use Rattle.board.specs.Requests.{IsRequest, IsReplyTo};
 
 use semantics::{Copied, Reply, Request, Slot};
 use std::alloc::{AllocError, Global};
@@ -43,27 +43,33 @@ pub(crate) fn answer(
     words: &[u64; 64],
     request: Request,
 ) -> Result<Reply, AllocError>
-    ensures { IfOk result (λ r. words_in r ≡ reply words.now request) }
+    ensures words { IfOk result (λ r. words_in r ≡ reply words.now request) }
+    ensures form { IfOk result (λ r. IsReplyTo request r) }
 {
     match &request {
         Request::Get { slot } => Ok(Reply::Word(words[slot.number()])),
         Request::Swap { slot, .. } => Ok(Reply::Word(words[slot.number()])),
         Request::Add { slot, .. } => Ok(Reply::Word(words[slot.number()])),
         Request::Cas { slot, .. } => Ok(Reply::Word(words[slot.number()])),
-        Request::Copy { span } => copied(alloc, words, span.slot(), span.count()),
+        Request::Copy { span } => Ok(Reply::Words(copied(
+            alloc,
+            words,
+            span.slot(),
+            span.count(),
+        )?)),
     }
 }
 
 /// The words of a copy.
-fn copied(alloc: Global, words: &[u64; 64], slot: usize, count: usize) -> Result<Reply, AllocError>
+fn copied(alloc: Global, words: &[u64; 64], slot: usize, count: usize) -> Result<Copied, AllocError>
     requires { slot + count ≤ 64 }
-    ensures { IfOk result (λ r. words_in r ≡ take count (drop slot words.now)) }
+    ensures { IfOk result (λ c. c ≡ take count (drop slot words.now)) }
 {
     let copy = Vec::from_slice(alloc, &words[slot..slot + count])?;
     let Some(copy) = Copied::new(copy) else {
         unreachable!()
     };
-    Ok(Reply::Words(copy))
+    Ok(copy)
 }
 
 /// Leaves the words as the request has them.

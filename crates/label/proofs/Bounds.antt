@@ -49,7 +49,7 @@ pub others_here : (n : ℕ) (v : List ℕ) (t j : ℕ) → j < n → on v j ≡ 
 others_here n v t j l o e = rw e (others-at n v j l o)
 
 -- what is true at a place of a label
-below-at : (n : ℕ) (w : List ℕ) (i : ℕ) → AllBelow n w → i < length w → get_or w i 0 < n
+pub below-at : (n : ℕ) (w : List ℕ) (i : ℕ) → AllBelow n w → i < length w → get_or w i 0 < n
 below-at n [] i b l = absurd (omega arith)
 below-at n (x ∷ xs) zero b l = b.0
 below-at n (x ∷ xs) (suc i) b l = below-at n xs i b.1 (omega arith)

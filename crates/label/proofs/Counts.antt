@@ -131,7 +131,8 @@ rejoined s i (suc (suc k)) r j w l p e o =
     let o' : slice_get (others s.generals (s.general ∷ w)) (r % (s.generals - 2 - k)) ≡ Some j = rw width at o in
     ap (slice_get (labels_of s (suc (suc k)))) (sym whole) ∙ children_stand s.generals s.commander s.general k (r / (s.generals - 2 - k)) (r % (s.generals - 2 - k)) j w i.commander i.general i.lieutenant e' o'
 
-on-get : (xs : List ℕ) (t j : ℕ) → slice_get xs t ≡ Some j → on xs j ≡ true
+-- what is read stands on the list
+pub on-get : (xs : List ℕ) (t j : ℕ) → slice_get xs t ≡ Some j → on xs j ≡ true
 on-get [] t j e = cc
 on-get (x ∷ xs) zero j e = or_left (x == j) (on xs j) (eq-eqb x j cc)
 on-get (x ∷ xs) (suc t) j e = or_right (x == j) (on xs j) (on-get xs t j e)

@@ -3,6 +3,11 @@ pub mod Pushes
 pub mod Ranks
 pub mod Places
 pub mod Bounds
+pub mod Below
+pub mod Parts
+pub mod Masks
+pub mod Prefix
+pub mod Absent
 pub mod Order
 pub mod Same
 pub mod Own

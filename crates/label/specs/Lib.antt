@@ -5,3 +5,4 @@ pub mod Laws
 pub mod Generals
 pub mod Space
 pub mod Lieutenants
+pub mod Mask

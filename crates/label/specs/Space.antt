@@ -4,7 +4,13 @@ use Rattle.std.specs.List.{list_all}
 use Rattle.label.specs.Labels.{on, labels}
 use Rattle.label.specs.declared.space.Space.{Space}
 
--- a campaign's numbers, seen by one lieutenant
+-- a campaign's numbers, seen by one general, are within their limits
+pub record IsWithinLimits (s : Space) : Type 0 where
+  pub generals : s.generals ≤ 13
+  pub commander : s.commander < s.generals
+  pub general : s.general < s.generals
+
+-- and he is a lieutenant
 pub record IsSpace (s : Space) : Type 0 where
   pub generals : s.generals ≤ 13
   pub commander : s.commander < s.generals

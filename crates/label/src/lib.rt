@@ -3,6 +3,7 @@
 
 mod label;
 mod laws;
+mod mask;
 mod ranking;
 mod shape;
 mod space;

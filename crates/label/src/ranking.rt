@@ -2,14 +2,27 @@ ghost use Rattle.std.specs.Prelude.{◌≡◌, ◌<◌, ◌≤◌, ◌∷◌, fa
 ghost use Rattle.std.specs.List.{list_all};
 ghost use Rattle.label.specs.Labels.{on, others};
 ghost use Rattle.label.specs.Oral.{IsLabel};
-ghost use Rattle.label.specs.Space.{HasRank, IsSpace, labels_of, is_label_of, begins_with};
+ghost use Rattle.label.specs.Space.{HasRank, IsSpace, IsWithinLimits, labels_of, is_label_of, begins_with};
 ghost use Rattle.label.specs.declared.space.LabelError.TheVariants.{NotALabel, Rank};
 
 use crate::label::{Label, has_general};
+use crate::mask::{all_free, free_below, without};
 use crate::space::{LabelError, Space};
 
-/// How many labels of this length there are.
+/// How many labels of this length there are: 0 where they would be longer than there are generals to
+/// stand on them, and where the general is the commander, who stands on every label.
 pub fn count(space: Space, size: u8) -> u32
+    requires { IsWithinLimits space }
+    ensures { result ≡ length (labels_of space size) }
+{
+    if size == 0 || size >= space.generals || space.general == space.commander {
+        return 0;
+    }
+    product(space, size)
+}
+
+/// How many labels of this length there are, by one factor for each general behind the commander.
+fn product(space: Space, size: u8) -> u32
     requires space { IsSpace space }
     requires some { 0 < size }
     requires short { size ≤ 13 }
@@ -22,13 +35,13 @@ pub fn count(space: Space, size: u8) -> u32
     all
 }
 
-/// The place of the label in the list of those of its length.
+/// The place of the label in the list of those of its length, from 0.
 ///
 /// # Errors
 ///
 /// `NotALabel` exactly where it does not stand in that list.
 pub fn rank(space: Space, label: &Label) -> Result<u32, LabelError>
-    requires space { IsSpace space }
+    requires { IsWithinLimits space }
     ensures ok { IfOk result (HasRank space label.now) }
     ensures err { IfErr result (λ e. (e ≡ NotALabel) × ((r : ℕ) → ¬ HasRank space label.now r)) }
 {
@@ -39,15 +52,13 @@ pub fn rank(space: Space, label: &Label) -> Result<u32, LabelError>
     Ok(rank_of(space, generals))
 }
 
-/// The label at a place of the list of those of a length.
+/// The label at a place, from 0, of the list of those of a length.
 ///
 /// # Errors
 ///
 /// `Rank` exactly where the list has no such place.
 pub fn unrank(space: Space, size: u8, rank: u32) -> Result<Label, LabelError>
-    requires space { IsSpace space }
-    requires some { 0 < size }
-    requires short { size ≤ 13 }
+    requires { IsWithinLimits space }
     ensures ok { IfOk result (λ w. slice_get (labels_of space size) rank ≡ Some w) }
     ensures err { IfErr result (λ e. (e ≡ Rank) × (length (labels_of space size) ≤ rank)) }
 {
@@ -81,7 +92,8 @@ fn all_below(generals: &[u8], limit: u8) -> bool
     generals.iter().all(|x| *x < limit)
 }
 
-/// The rank, by one product for each general.
+/// The rank, by one product for each general behind the commander: so many of those that are free
+/// are below him.
 fn rank_of(space: Space, generals: &[u8]) -> u32
     requires space { IsSpace space }
     requires label { IsLabel space.generals space.commander generals.now }
@@ -90,9 +102,12 @@ fn rank_of(space: Space, generals: &[u8]) -> u32
     ensures { HasRank space generals.now result }
 {
     let mut rank: u32 = 0;
+    let mut free = without(without(all_free(), space.general), space.commander);
     for i in 1..generals.len() {
+        let general = generals[i];
         let width = u32::from((space.generals - 1).saturating_sub(i as u8));
-        rank = rank * width + place(&generals[..i], space.general, generals[i]);
+        rank = rank * width + free_below(free, general);
+        free = without(free, general);
     }
     rank
 }
@@ -118,21 +133,6 @@ fn label_at(space: Space, size: u8, rank: u32) -> Label
         rank % width,
     );
     parent.with(last)
-}
-
-/// How many generals below one are neither the lieutenant nor on the list.
-#[tactic(auto, using(crate::proofs::Bounds::others_length_more))]
-fn place(prefix: &[u8], receiver: u8, general: u8) -> u32
-    ensures value { result ≡ length (others general (receiver ∷ prefix.now)) }
-    ensures few { result ≤ general }
-{
-    let mut all: u32 = 0;
-    for x in 0..general {
-        if !is_out(prefix, receiver, x) {
-            all += 1;
-        }
-    }
-    all
 }
 
 /// The general at a place among those that are neither the lieutenant nor on the list.

@@ -4,7 +4,8 @@ ghost use Rattle.insn.specs.declared.insn.Insn.{Insn};
 ghost use Rattle.semantics.specs.State.{Ask};
 ghost use Rattle.semantics.specs.Execution.{step};
 ghost use Rattle.semantics.specs.Reached.{Reached};
-ghost use Rattle.machine.specs.Standing.{before};
+ghost use Rattle.semantics.specs.declared.request.Request.{Request as Asked};
+ghost use Rattle.machine.specs.Standing.{HasAsked, before};
 ghost use Rattle.machine.specs.Advance.{IsOfRun, IsAskOfRun};
 ghost use Rattle.semantics.specs.Call.{fits, returned, resumed};
 ghost use Rattle.semantics.specs.Replies.{words_in};
@@ -27,6 +28,18 @@ impl Activation {
             IsAskOfRun program context (record { shape = self.old.shape; request = request.now; last = before self.old.state; state = self.old.state }) → IsOfRun program context self.new }
     {
         self.replied(*request, reply);
+    }
+
+    /// Takes back what it asked, where it stands: [`crate::Waiting::cancel`] of an activation that is lent.
+    pub fn withdraw(&mut self)
+        requires { HasAsked self.old.state }
+        ensures shape { self.new.shape ≡ self.old.shape }
+        ensures state { self.new.state ≡ before self.old.state }
+        ensures of_run { (program : List Insn) (context : List ℕ) (request : Asked) →
+            IsAskOfRun program context (record { shape = self.old.shape; request = request; last = before self.old.state; state = self.old.state }) → IsOfRun program context self.new }
+    {
+        self.unit -= 1;
+        self.steps -= 1;
     }
 
     /// What the reply leaves.

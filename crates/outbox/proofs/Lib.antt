@@ -7,3 +7,6 @@ pub mod Outcomes
 pub mod Single
 pub mod Looks
 pub mod RowByRow
+pub mod Numbered
+pub mod LastOrders
+pub mod Alike

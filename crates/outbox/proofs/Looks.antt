@@ -23,7 +23,7 @@ none_among : (r : ℕ) (ps : List Place) → order_among r ps [] ≡ None
 none_among r [] = refl
 none_among r (p ∷ ps) = refl
 
-get_orders : (rows : List RowOrders) (i : ℕ) → get_or (map orders_in rows) i [] ≡ orders_in (get_or rows i [])
+pub get_orders : (rows : List RowOrders) (i : ℕ) → get_or (map orders_in rows) i [] ≡ orders_in (get_or rows i [])
 get_orders [] i = refl
 get_orders (row ∷ rows) zero = refl
 get_orders (row ∷ rows) (suc i) = get_orders rows i

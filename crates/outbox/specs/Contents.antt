@@ -1,5 +1,5 @@
 -- An outbox as its owner sees it.
-use Rattle.std.specs.Prelude.{ℕ, ◌≡◌, ◌==◌, if◌then◌else◌, List, [], ◌∷◌, map, Option, None, slice_index_or}
+use Rattle.std.specs.Prelude.{ℕ, ◌≡◌, ◌==◌, if◌then◌else◌, List, [], ◌∷◌, map, length, Option, None, slice_index_or}
 use Rattle.label.specs.declared.shape.Shape.{Shape}
 use Rattle.label.specs.Relay.{IsShape, relay, receivers}
 use Rattle.semantics.specs.State.{Outbox}
@@ -28,3 +28,7 @@ order_among receiver (p ∷ ps) (o ∷ orders) = if p.receiver == receiver then 
 -- the order at a label's place, or nothing where there is no such place
 abbrev pub order_at : Shape → Outbox → ℕ → ℕ → Option ℕ
 order_at s outbox label receiver = order_among receiver (slice_index_or (places s) label []) (slice_index_or outbox label [])
+
+-- the rows have as many orders as there are places
+abbrev pub HasPlaces : Shape → Outbox → Type 0
+HasPlaces s outbox = map length outbox ≡ map length (places s)

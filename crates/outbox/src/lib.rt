@@ -2,11 +2,14 @@
 #![tactic(auto)]
 
 mod context;
+mod laws;
 mod orders;
 mod relays;
 mod row;
+mod rows;
 #[cfg(test)]
 mod tests;
 
 pub use label::Shape;
+pub use laws::last_orders_are_given;
 pub use orders::Outbox;

@@ -1,11 +1,12 @@
-ghost use Rattle.std.specs.Prelude.{◌≡◌, ◌<◌, ◌↔◌, IfOk, IsTrue, Some, length};
-ghost use Rattle.label.specs.Relay.{IsShape};
+ghost use Rattle.std.specs.Prelude.{◌≡◌, ◌<◌, ◌≤◌, ◌↔◌, IfOk, IsTrue, Some, None, [], map, length, slice_get, slice_index_or};
+ghost use Rattle.label.specs.Relay.{IsShape, relay, receivers};
 ghost use Rattle.semantics.specs.Outbox.{empty_outbox, written, places_set, at_place, along_row, at_receiver, as_taken};
-ghost use Rattle.outbox.specs.Contents.{order_at};
+ghost use Rattle.outbox.specs.Contents.{HasPlaces, order_at};
 
 use crate::context::taken_value;
 use crate::relays::rows_of;
 use crate::row::Row;
+use crate::rows::{copied, same_orders};
 use label::Shape;
 use std::alloc::{AllocError, Global};
 use std::marker::Model;
@@ -112,6 +113,57 @@ impl Outbox {
             return None;
         }
         self.rows[rank].order(receiver)
+    }
+
+    /// How many labels it has a row for, at most 990.
+    pub fn labels(&self) -> u32
+        ensures rows { result ≡ length self.now.rows }
+        ensures relayed { result ≡ length (relay self.now.shape) }
+        ensures few { result ≤ 990 }
+        ensures places { HasPlaces self.now.shape self.now.rows }
+    {
+        self.rows.len() as u32
+    }
+
+    /// Who hears of the label of that rank, ascending.
+    pub fn receivers(&self, label: u32) -> &[u8]
+        requires { label < length self.now.rows }
+        ensures row { slice_get (map (receivers self.now.shape) (relay self.now.shape)) label ≡ Some result.now }
+        ensures long { length result.now ≡ length (slice_index_or self.now.rows label []) }
+    {
+        self.rows[label as usize].receivers()
+    }
+
+    /// The order for the receiver of that number among those of a label, from 0, where there is such a place and an order was put.
+    pub fn at(&self, label: u32, number: usize) -> Option<u32>
+        ensures { result ≡ slice_index_or (slice_index_or self.now.rows label []) number None }
+    {
+        let rank = label as usize;
+        if rank >= self.rows.len() {
+            return None;
+        }
+        self.rows[rank].at(number)
+    }
+
+    /// The same outbox.
+    ///
+    /// # Errors
+    ///
+    /// `AllocError` where the memory for the rows is refused.
+    pub fn copy(&self, alloc: Global) -> Result<Outbox, AllocError>
+        ensures { IfOk result (λ outbox. outbox ≡ self.now) }
+    {
+        Ok(Outbox {
+            shape: self.shape,
+            rows: copied(alloc, self.rows.as_slice())?,
+        })
+    }
+
+    /// Whether they are of one shape, and have the same order at each place.
+    pub fn same(&self, other: &Outbox) -> bool
+        ensures { IsTrue result ↔ (self.now ≡ other.now) }
+    {
+        other.shape == self.shape && same_orders(self.rows.as_slice(), other.rows.as_slice())
     }
 
     /// Whose relay it is.

@@ -1,6 +1,6 @@
-ghost use Rattle.std.specs.Prelude.{◌≡◌, ◌≤◌, ◌∷◌, ◌++◌, [], map, length, None, min, not, ◌||◌, ◌==◌};
+ghost use Rattle.std.specs.Prelude.{◌≡◌, ◌≤◌, ◌↔◌, ◌∷◌, ◌++◌, [], map, length, None, IsTrue, slice_index_or, min, not, ◌||◌, ◌==◌};
 ghost use Rattle.label.specs.Labels.{on, others};
-ghost use Rattle.outbox.specs.Rows.{empty_row, receivers_in, put_row, filled, order_in, row_of, IsRow};
+ghost use Rattle.outbox.specs.Rows.{empty_row, receivers_in, orders_in, put_row, filled, order_in, row_of, IsRow};
 
 use arrayvec::ArrayVec;
 use std::marker::Model;
@@ -71,6 +71,69 @@ impl Row {
             None
         }
     }
+
+    /// Who hears of the label, ascending.
+    pub fn receivers(&self) -> &[u8]
+        ensures { result.now ≡ receivers_in self.now }
+    {
+        self.receivers.as_slice()
+    }
+
+    /// The order for the receiver of that number among them, where there is one.
+    pub fn at(&self, number: usize) -> Option<u32>
+        ensures { result ≡ slice_index_or (orders_in self.now) number None }
+    {
+        numbered(self.receivers.as_slice(), &self.orders, number)
+    }
+
+    /// The same row.
+    pub fn copy(&self) -> Row
+        ensures { result ≡ self.now }
+    {
+        Row {
+            receivers: same(self.receivers.as_slice()),
+            orders: self.orders,
+        }
+    }
+
+    /// Whether its orders are those of the other, place by place.
+    pub fn has_orders_of(&self, other: &Row) -> bool
+        ensures { IsTrue result ↔ (orders_in self.now ≡ orders_in other.now) }
+    {
+        let count = self.receivers().len();
+        if count != other.receivers().len() {
+            return false;
+        }
+        for number in 0..count {
+            if self.at(number) != other.at(number) {
+                return false;
+            }
+        }
+        true
+    }
+}
+
+/// The order for the receiver of that number, where there is one.
+fn numbered(receivers: &[u8], kept: &[Option<u32>; 13], number: usize) -> Option<u32>
+    requires { IsRow kept.now receivers.now }
+    ensures { result ≡ slice_index_or (orders_in (row_of kept.now receivers.now)) number None }
+{
+    if number >= receivers.len() {
+        return None;
+    }
+    kept[usize::from(receivers[number])]
+}
+
+/// The same receivers.
+fn same(receivers: &[u8]) -> ArrayVec<u8, 13>
+    requires { length receivers.now ≤ 13 }
+    ensures { result.items ≡ receivers.now }
+{
+    let mut copy = ArrayVec::new();
+    for receiver in receivers {
+        copy.push(*receiver);
+    }
+    copy
 }
 
 /// Puts orders, by number, for the first of the receivers: how many.

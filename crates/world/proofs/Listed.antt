@@ -12,7 +12,8 @@ use Rattle.world.specs.World.{World, each, posting, happen, run}
 use Rattle.world.specs.Lists.{first_line, later_lines, event_of, post_of, ticks_of, wound_up, listed_rounds, ticks_named, names_events, replayed_rounds}
 use Rattle.world.specs.Schedules.{entries_of, lines_by}
 use Rattle.world.specs.Playing.{line_events}
-use Rattle.world.proofs.Listing.{either_way, set-here}
+use Rattle.world.proofs.Listing.{set-here}
+use Rattle.round.proofs.Lists.{either_way}
 use Rattle.world.proofs.Moves.{run-append}
 
 -- a second post changes nothing

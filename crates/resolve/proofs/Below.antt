@@ -1,0 +1,33 @@
+-- How many of the generals below the lieutenant are off a child.
+use Rattle.std.proofs.Common.{ℕ, ◌+◌, ◌-◌, ◌<◌, ◌≤◌, ◌≡◌, ◌≢◌, false, cond, List, [], ◌∷◌, ◌++◌, length, ap, ◌∙◌, arith, inl, inr, Some}
+use Rattle.std.specs.Prelude.{nat_lt, slice_get, ◌==◌, ◌||◌}
+use Rattle.std.proofs.lemmas.Bool.{cases_lt, lt-ltb, le-ltb, cond-true, cond-false, or_parts, eqb-false}
+use Rattle.std.proofs.lemmas.Option.{slice_get_within}
+use Rattle.label.specs.Labels.{on, others}
+use Rattle.label.proofs.Counting.{others-length}
+use Rattle.label.proofs.Below.{absent, turned}
+use Rattle.label.proofs.Ranks.{others-at, others-place}
+use Rattle.resolve.specs.Decided.{child_place}
+
+-- the place among the children of one who is not the lieutenant says on which side of him he is
+pub child-below : (n p : ℕ) (w : List ℕ) (i j place : ℕ) → p < n → on w p ≡ false → slice_get (others n (p ∷ w)) i ≡ Some j → on (p ∷ w) j ≡ false → place ≡ length (others p w) → child_place place i ≡ length (others p (w ++ j ∷ []))
+child-below n p w i j place l o at out e =
+    let off : on w j ≡ false = (or_parts (p == j) (on w j) out).1 in
+    let apart : p ≢ j = eqb-false p j (or_parts (p == j) (on w j) out).0 in
+    let here : i ≡ length (others j (p ∷ w)) = others-place n (p ∷ w) i j at in
+    let here' : length (others j (p ∷ w)) ≡ length (others j (w ++ p ∷ [])) = ap length (turned j w p) in
+    elim (cases_lt j p) [
+      | inl less ↦
+          let same : length (others j (w ++ p ∷ [])) ≡ length (others j w) = absent j w p (omega arith) in
+          let within : length (others j w) < length (others p w) = slice_get_within (others p w) (length (others j w)) j (others-at p w j less off) in
+          let fewer : length (others p w) ≡ 1 + length (others p (w ++ j ∷ [])) = others-length p w j less off in
+          let small : i < place = omega arith in
+          cond-true (nat_lt i place) (place - 1) place (lt-ltb i place small) ∙ (omega arith)
+      | inr more ↦
+          let same : length (others p (w ++ j ∷ [])) ≡ length (others p w) = absent p w j more in
+          let above : p < j = omega arith in
+          let within : length (others p w) < length (others j w) = slice_get_within (others j w) (length (others p w)) p (others-at j w p above o) in
+          let fewer : length (others j w) ≡ 1 + length (others j (w ++ p ∷ [])) = others-length j w p above o in
+          let big : place ≤ i = omega arith in
+          cond-false (nat_lt i place) (place - 1) place (le-ltb i place big) ∙ (omega arith)
+    ]

@@ -1,0 +1,95 @@
+ghost use Rattle.std.specs.Prelude.{◌≡◌, ◌<◌, ◌≤◌, ◌+◌, ◌-◌, ◌*◌, length, map, insert, slice_range, None, slice_index_or};
+ghost use Rattle.label.specs.Labels.{labels};
+ghost use Rattle.label.specs.Oral.{order_of};
+ghost use Rattle.resolve.specs.Decided.{Decides, decided};
+
+use arrayvec::ArrayVec;
+use combine::Combine;
+use tree::Tree;
+
+/// What the lieutenant of the tree decides by this rule: the decision of OM(m) of the messages that
+/// fill the tree, m its bound. Takes no memory and makes no label.
+pub fn resolve<C: Combine>(tree: &Tree, rule: &C) -> u32
+    ensures { Decides (C.combined rule.now) tree.now result }
+{
+    let space = tree.space();
+    let place = if space.commander < space.general {
+        space.general - 1
+    } else {
+        space.general
+    };
+    decide(tree, rule, tree.bound(), 1, 0, place)
+}
+
+/// What is decided about the label of this length and rank, with so many relays left.
+///
+/// `place` says how many of the generals below the lieutenant are off the label: so many of its
+/// children come before his own value in the list that is combined.
+fn decide<C: Combine>(tree: &Tree, rule: &C, relays: u8, size: u8, rank: usize, place: u8) -> u32
+    requires some { 0 < size }
+    requires short { size + relays ≤ tree.now.bound + 1 }
+    requires within { rank < length (labels tree.now.generals tree.now.commander tree.now.general size) }
+    requires place { place ≤ tree.now.generals - 1 - size }
+    ensures { result ≡ decided (C.combined rule.now) tree.now relays size rank place }
+{
+    let own = order_at(tree.level(size), rank);
+    if relays == 0 {
+        return own;
+    }
+    let width = (tree.space().generals - 1).saturating_sub(size);
+    if relays == 1 {
+        let children = children(tree.level(size + 1), width as usize, rank);
+        return lowest(rule, own, children, place as usize);
+    }
+    let first = rank * width as usize;
+    let mut orders: ArrayVec<u32, 13> = ArrayVec::new();
+    for i in 0..place {
+        orders.push(decide(
+            tree,
+            rule,
+            relays - 1,
+            size + 1,
+            first + i as usize,
+            place - 1,
+        ));
+    }
+    orders.push(own);
+    for j in place..width {
+        orders.push(decide(tree, rule, relays - 1, size + 1, first + j as usize, place));
+    }
+    rule.combine(orders.as_slice())
+}
+
+/// The part of a level that belongs to the children of a rank of the level above, `width` each.
+fn children(level: &[Option<u32>], width: usize, rank: usize) -> &[Option<u32>]
+    requires { rank * width + width ≤ length level.now }
+    ensures { result.now ≡ slice_range level.now (rank * width) (rank * width + width) }
+{
+    &level[rank * width..rank * width + width]
+}
+
+/// What is decided of a label whose children are longest labels: these relay nothing further, so
+/// their orders are combined as they are, the lieutenant's own at its place among them.
+fn lowest<C: Combine>(rule: &C, direct: u32, children: &[Option<u32>], place: usize) -> u32
+    requires place { place ≤ length children.now }
+    requires few { length children.now < 13 }
+    ensures { result ≡ C.combined rule.now (insert (map order_of children.now) place direct) }
+{
+    let mut orders: ArrayVec<u32, 13> = ArrayVec::new();
+    for x in &children[..place] {
+        orders.push(x.unwrap_or(0));
+    }
+    orders.push(direct);
+    for y in &children[place..] {
+        orders.push(y.unwrap_or(0));
+    }
+    rule.combine(orders.as_slice())
+}
+
+/// The order at a rank, RETREAT where nothing came.
+pub fn order_at(level: &[Option<u32>], rank: usize) -> u32
+    requires { rank < length level.now }
+    ensures { result ≡ order_of (slice_index_or level.now rank None) }
+{
+    level[rank].unwrap_or(0)
+}

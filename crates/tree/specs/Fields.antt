@@ -1,0 +1,18 @@
+-- What a tree's fields keep.
+use Rattle.std.specs.Prelude.{ℕ, ◌<◌, List, map, Option, Vec}
+use Rattle.std.specs.declared.alloc.Global.{Global}
+use Rattle.label.specs.Oral.{Messages}
+use Rattle.label.specs.Space.{IsSpace}
+use Rattle.label.specs.declared.space.Space.{Space}
+use Rattle.tree.specs.Kept.{Kept, IsFilled}
+
+-- the fields as a contract sees them
+abbrev pub kept : Space → ℕ → List (Vec (Option ℕ) Global) → Kept
+kept s m ls = record { generals = s.generals; bound = m; commander = s.commander; general = s.general; levels = map (λ l. l.items) ls }
+
+-- a campaign, and some messages that fill it
+pub record IsWhole (s : Space) (m : ℕ) (ls : List (Vec (Option ℕ) Global)) : Type 0 where
+  pub space : IsSpace s
+  pub small : m < 13
+  pub M : Messages
+  pub filled : IsFilled (kept s m ls) M

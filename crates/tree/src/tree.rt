@@ -1,0 +1,150 @@
+ghost use Rattle.std.specs.Prelude.{◌≡◌, ◌<◌, ◌≤◌, ◌≢◌, ◌+◌, ℕ, List, Option, Some, None, IfOk, length, slice_get, replicate};
+ghost use Rattle.label.specs.Labels.{labels};
+ghost use Rattle.label.specs.Oral.{Messages};
+ghost use Rattle.tree.specs.Kept.{IsCampaign, IsFilled, IsPlace, SameCampaign, level_told, level_of, silence, told_also};
+
+use label::{Label, Space, count, rank};
+use std::alloc::{AllocError, Global};
+use std::marker::Model;
+
+/// What one lieutenant was told, for each label that lacks him: an order, or nothing.
+///
+/// The labels have 1 to `bound + 1` generals. The values of a length stand in one array, a label's at
+/// its rank. No call after `new` takes memory.
+#[derive(Drop)]
+pub struct Tree {
+    space: Space,
+    bound: u8,
+    levels: Vec<Vec<Option<u32>>>,
+}
+
+impl Model for Tree {
+    ghost use Rattle.tree.specs.Kept.{Kept};
+
+    ghost Value = { Kept };
+
+    ghost use Rattle.tree.specs.Fields.{kept, IsWhole};
+
+    ghost view = { λ a. kept a.space a.bound a.levels.items };
+
+    ghost invariant = { λ a. IsWhole a.space a.bound a.levels.items };
+}
+
+impl Tree {
+    /// A tree in which nothing is told: of a campaign of 2 to 13 generals with this bound on the
+    /// traitors and this commander, for the lieutenant `general`.
+    ///
+    /// # Errors
+    ///
+    /// No memory for one of its `bound + 2` arrays.
+    pub fn new(
+        alloc: Global,
+        generals: u8,
+        bound: u8,
+        commander: u8,
+        general: u8,
+    ) -> Result<Tree, AllocError>
+        requires few { generals ≤ 13 }
+        requires commander { commander < generals }
+        requires general { general < generals }
+        requires lieutenant { general ≢ commander }
+        requires bound { bound < 13 }
+        ensures numbers { IfOk result (λ t. (t.generals ≡ generals) × (t.bound ≡ bound) × (t.commander ≡ commander) × (t.general ≡ general)) }
+        ensures silent { IfOk result (λ t. IsFilled t silence) }
+    {
+        let space = Space {
+            generals,
+            commander,
+            general,
+        };
+        let mut levels = Vec::with_capacity(alloc, bound as usize + 1)?;
+        for size in 0..bound + 1 {
+            levels.push(empty_level(alloc, count(space, size + 1))?)?;
+        }
+        Ok(Tree {
+            space,
+            bound,
+            levels,
+        })
+    }
+
+    /// The labels that it has values of: those of its campaign that lack its lieutenant. Some messages
+    /// fill the tree, whatever was done with it.
+    pub fn space(&self) -> Space
+        ensures generals { result.generals ≡ self.now.generals }
+        ensures commander { result.commander ≡ self.now.commander }
+        ensures general { result.general ≡ self.now.general }
+        ensures kind { IsCampaign self.now }
+        ensures filled { (M : Messages) × IsFilled self.now M }
+    {
+        self.space
+    }
+
+    /// The bound on the traitors, 0 to 12: its labels have up to one general more.
+    pub fn bound(&self) -> u8
+        ensures { result ≡ self.now.bound }
+    {
+        self.bound
+    }
+
+    /// What was filled in for the label; nothing for one that has no place in the tree.
+    pub fn value(&self, label: &Label) -> Option<u32>
+        ensures told { (M : Messages) → IsFilled self.now M → IsPlace self.now label.now → result ≡ M label.now self.now.general }
+        ensures strange { ¬ IsPlace self.now label.now → result ≡ None }
+    {
+        let size = label.len();
+        if size > self.levels.len() {
+            return None;
+        }
+        match rank(self.space, label) {
+            Ok(place) => self.levels[size - 1].as_slice()[place as usize],
+            Err(_) => None,
+        }
+    }
+
+    /// The values of the labels of this length, 1 to `bound + 1`, each at its label's rank.
+    pub fn level(&self, size: u8) -> &[Option<u32>]
+        requires some { 0 < size }
+        requires short { size ≤ self.now.bound + 1 }
+        ensures value { result.now ≡ level_of self.now size }
+        ensures told { (M : Messages) → IsFilled self.now M → result.now ≡ level_told self.now.generals self.now.commander self.now.general M size }
+        ensures long { length result.now ≡ length (labels self.now.generals self.now.commander self.now.general size) }
+    {
+        self.levels[(size - 1) as usize].as_slice()
+    }
+
+    /// Fills in what came for a label, in place of what was there. A label that has no place in the
+    /// tree changes nothing.
+    pub fn fill(&mut self, label: &Label, value: Option<u32>)
+        ensures filled { (M : Messages) → IsFilled self.old M → IsFilled self.new (told_also M label.now value) }
+        ensures same { SameCampaign self.old self.new }
+    {
+        let size = label.len();
+        if size > self.levels.len() {
+            return;
+        }
+        if let Ok(place) = rank(self.space, label) {
+            let row = self.levels[size - 1].as_mut_slice();
+            row[place as usize] = value;
+        }
+    }
+
+    /// Fills in what came for the label of this length, 1 to `bound + 1`, and this rank.
+    pub fn set(&mut self, size: u8, rank: u32, value: Option<u32>)
+        requires some { 0 < size }
+        requires short { size ≤ self.old.bound + 1 }
+        requires within { rank < length (labels self.old.generals self.old.commander self.old.general size) }
+        ensures filled { (M : Messages) (w : List ℕ) → IsFilled self.old M → slice_get (labels self.old.generals self.old.commander self.old.general size) rank ≡ Some w → IsFilled self.new (told_also M w value) }
+        ensures same { SameCampaign self.old self.new }
+    {
+        let row = self.levels[(size - 1) as usize].as_mut_slice();
+        row[rank as usize] = value;
+    }
+}
+
+/// A level in which nothing is told.
+fn empty_level(alloc: Global, places: u32) -> Result<Vec<Option<u32>>, AllocError>
+    ensures { IfOk result (λ v. v.items ≡ replicate places None) }
+{
+    vec![in alloc; None; places as usize]
+}
