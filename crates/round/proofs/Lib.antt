@@ -6,3 +6,5 @@ pub mod Stepping
 pub mod Patience
 pub mod Runnings
 pub mod Going
+pub mod Loyal
+pub mod Ends

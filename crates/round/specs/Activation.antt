@@ -21,6 +21,11 @@ abbrev pub started : Option ℕ → List Insn → List ℕ → Relay → Activat
 started patience program context shape =
     record { program = program; context = context; shape = shape; patience = patience; state = entry (empty_outbox shape); over = false }
 
+-- so many steps have reached a patience
+abbrev pub is_reached : Option ℕ → ℕ → Bool
+is_reached None steps = false
+is_reached (Some patience) steps = nat_le patience steps
+
 -- what an activation does next: it goes on, asks the board, or has ended
 pub data Turn : Type 0 where
   Goes : Activation → Turn
@@ -33,11 +38,6 @@ turned a (Next s) = Goes (record a { state = s })
 turned a (Ask request s) = Asks request (λ answer. record a { state = resumed request answer s })
 turned a (Exit r0 s) = Goes (record a { state = s; over = true })
 turned a (Trap cause) = Goes (record a { state = record a.state { steps = a.state.steps + 1 } })
-
--- so many steps have reached a patience
-abbrev pub is_reached : Option ℕ → ℕ → Bool
-is_reached None steps = false
-is_reached (Some patience) steps = nat_le patience steps
 
 -- it has exited, or its patience is at an end
 abbrev pub has_ended : Activation → Bool

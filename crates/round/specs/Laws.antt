@@ -1,12 +1,48 @@
 -- What holds of contexts, letters and activations. Each statement is the contract of a function of this crate.
-use Rattle.std.specs.Prelude.{ℕ, suc, ◌≡◌, ◌<◌, ◌≤◌, ◌^◌, List, length, slice_get, Some}
+use Rattle.std.specs.Prelude.{ℕ, suc, ◌≡◌, ◌≢◌, ◌<◌, ◌≤◌, ◌^◌, false, List, length, slice_get, Option, None, Some}
+use Rattle.insn.specs.declared.insn.Insn.{Insn}
 use Rattle.label.specs.Relay.{relay}
+use Rattle.semantics.specs.Relay.{Relay, IsRelay, IsContext}
+use Rattle.semantics.specs.State.{Cause, Trap}
 use Rattle.semantics.specs.Outbox.{taken_value}
+use Rattle.semantics.specs.Execution.{step}
+use Rattle.semantics.specs.Run.{IsSound}
+use Rattle.board.specs.Board.{Access}
 use Rattle.round.specs.Scenario.{Scenario, IsScenario, shape_of}
 use Rattle.round.specs.Letters.{Letter}
-use Rattle.round.specs.Contexts.{value_of, context_of}
+use Rattle.round.specs.Contexts.{AreWords, value_of, context_of, letter_told, loyal_letter}
+use Rattle.round.specs.Activation.{Activation, started, has_ended}
+use Rattle.round.specs.Runs.{Runs, IsWithin, AreFitting}
 
 -- a context tells its general what he took for each label that he relays
 abbrev pub ContextsTell : Type 0
 ContextsTell = (s : Scenario) (before : List (List Letter)) (g rank : ℕ) (label : List ℕ) → IsScenario s → g < s.generals → length before ≤ s.bound →
     slice_get (relay (shape_of s g (suc (length before)))) rank ≡ Some label → value_of s before g label < 2 ^ 32 → taken_value (context_of s before g) rank ≡ value_of s before g label
+
+-- a loyal general's letter follows from his context, where what he took has 32 bits
+abbrev pub LoyalLettersFollow : Type 0
+LoyalLettersFollow = (s : Scenario) (before : List (List Letter)) (g : ℕ) → IsScenario s → g < s.generals → length before ≤ s.bound → AreWords s before g →
+    letter_told g (suc (length before)) (context_of s before g) ≡ loyal_letter s before g
+
+-- runs of one beginning, in as many steps and with the same accesses, have one end, also an unfinished one
+abbrev pub RunsHaveOneEnd : Type 0
+RunsHaveOneEnd = (k : ℕ) (start : Activation) (transcript : List Access) (one two : Activation) → Runs k start transcript one → Runs k start transcript two → one ≡ two
+
+-- a run under a patience is the run without one, as far as the patience goes
+pub record PatienceIsKept : Type 0 where
+  pub steps : (patience : Option ℕ) (program : List Insn) (context : List ℕ) (relay : Relay) (k : ℕ) (transcript : List Access) (end : Activation) →
+      Runs k (started patience program context relay) transcript end → end.state.steps ≡ k
+  pub within : (patience : Option ℕ) (program : List Insn) (context : List ℕ) (relay : Relay) (k : ℕ) (transcript : List Access) (end : Activation) →
+      Runs k (started patience program context relay) transcript end → IsWithin patience k
+  pub without : (patience : Option ℕ) (program : List Insn) (context : List ℕ) (relay : Relay) (k : ℕ) (transcript : List Access) (end : Activation) →
+      Runs k (started patience program context relay) transcript end → Runs k (started None program context relay) transcript (record end { patience = None })
+  pub under : (patience : Option ℕ) (program : List Insn) (context : List ℕ) (relay : Relay) (k : ℕ) (transcript : List Access) (end : Activation) → IsWithin patience k →
+      Runs k (started None program context relay) transcript end → Runs k (started patience program context relay) transcript (record end { patience = patience })
+
+-- a sound program's run takes at most as many steps as it has instructions, and stands before no trap
+pub record RunsAreSafe : Type 0 where
+  pub fewer : (patience : Option ℕ) (program : List Insn) (context : List ℕ) (relay : Relay) (k : ℕ) (transcript : List Access) (end : Activation) →
+      IsSound program → IsContext context → IsRelay relay → AreFitting transcript → Runs k (started patience program context relay) transcript end → k ≤ length program
+  pub untrapped : (patience : Option ℕ) (program : List Insn) (context : List ℕ) (relay : Relay) (k : ℕ) (transcript : List Access) (end : Activation) (cause : Cause) →
+      IsSound program → IsContext context → IsRelay relay → AreFitting transcript → Runs k (started patience program context relay) transcript end →
+      has_ended end ≡ false → step end.program end.context end.shape end.state ≢ Trap cause

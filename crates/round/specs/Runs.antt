@@ -2,6 +2,7 @@
 use Rattle.std.specs.Prelude.{ℕ, zero, suc, ◌≡◌, ◌≤◌, true, List, [], ◌∷◌, Option, None, Some}
 use Rattle.insn.specs.declared.insn.Insn.{Insn}
 use Rattle.semantics.specs.Relay.{IsContext}
+use Rattle.semantics.specs.Call.{fits}
 use Rattle.board.specs.Board.{Access}
 use Rattle.round.specs.Letters.{Letter}
 use Rattle.round.specs.Contexts.{shape_told, outbox_told}
@@ -18,6 +19,11 @@ Onward Rest Ended transcript end = ⊥
 abbrev pub Runs : ℕ → Activation → List Access → Activation → Type 0
 Runs zero a transcript end = (transcript ≡ []) × (a ≡ end)
 Runs (suc k) a transcript end = Onward (Runs k) (turn a) transcript end
+
+-- each reply has as many words as its request wants, each of 64 bits
+abbrev pub AreFitting : List Access → Type 0
+AreFitting [] = Unit {0}
+AreFitting (x ∷ transcript) = (fits x.request x.reply ≡ true) × AreFitting transcript
 
 -- so many steps lie within a patience
 abbrev pub IsWithin : Option ℕ → ℕ → Type 0

@@ -3,4 +3,6 @@
 
 mod laws;
 
-pub use laws::contexts_tell;
+pub use laws::{
+    contexts_tell, loyal_letters_follow, patience_is_kept, runs_are_safe, runs_have_one_end,
+};

@@ -1,0 +1,52 @@
+-- A loyal general's letter follows from his context.
+use Rattle.std.proofs.Common.{◌≡◌, ℕ, zero, suc, ◌+◌, ◌<◌, ◌≤◌, ◌^◌, List, [], ◌∷◌, length, map, refl, ap, ◌∙◌, Option, Some, arith}
+use Rattle.std.specs.Prelude.{slice_get}
+use Rattle.std.specs.List.{enumerate_from}
+use Rattle.label.specs.declared.shape.Shape.{Shape}
+use Rattle.label.specs.Relay.{relay, receivers}
+use Rattle.semantics.specs.Outbox.{taken_value}
+use Rattle.semantics.proofs.PlacesLaws.{row_from}
+use Rattle.outbox.specs.Contents.{Contents}
+use Rattle.round.specs.Scenario.{Scenario, IsScenario, shape_of}
+use Rattle.round.specs.Letters.{Letter, telling}
+use Rattle.round.specs.Contexts.{AreWords, value_of, context_numbers, context_of, shape_told, outbox_told, letter_told, loyal_letter}
+use Rattle.round.proofs.Telling.{number_at, proved_contexts_tell}
+
+-- the numbers of his campaign
+pub shape_is_told : (s : Scenario) (before : List (List Letter)) (g round : ℕ) → IsScenario s → shape_told g round (context_of s before g) ≡ shape_of s g round
+shape_is_told s before g round is =
+    let shape = shape_of s g (suc (length before)) in
+    let numbers : List ℕ = context_numbers shape s.bound (map (value_of s before g) (relay shape)) in
+    let few = is.few in
+    let inside = is.commander in
+    let generals = number_at numbers 0 0 s.generals refl (omega arith) refl (omega arith) in
+    let commander = number_at numbers 3 12 s.commander refl (omega arith) refl (omega arith) in
+    (λ i. record { generals = generals i; commander = commander i; general = g; round = round })
+
+-- a list of numbers gives each place its label's value
+number_row : (F : ℕ → ℕ) (v k b : ℕ) (ns : List ℕ) → F k ≡ v → map (λ place. Some (F place.rank)) (row_from k b ns) ≡ map (λ p. Some v) ns
+number_row F v k b [] e = refl
+number_row F v k b (n ∷ ns) e = (λ i. Some (e i) ∷ number_row F v k (b + 1) ns e i)
+
+number_rows : (shape : Shape) (F : ℕ → ℕ) (G : List ℕ → ℕ) (a : ℕ) (ws : List (List ℕ)) → ((i : ℕ) (u : List ℕ) → slice_get ws i ≡ Some u → F (a + i) ≡ G u) →
+    map (λ row. map (λ place. Some (F place.rank)) row) (map (λ label. row_from label.0 0 (receivers shape label.1)) (enumerate_from a ws)) ≡ map (λ u. map (λ p. Some (G u)) (receivers shape u)) ws
+number_rows shape F G a [] h = refl
+number_rows shape F G a (w ∷ ws) h =
+    (λ i. number_row F (G w) a 0 (receivers shape w) (let z : a ≡ a + 0 = omega arith in ap F z ∙ h 0 w refl) i
+        ∷ number_rows shape F G (a + 1) ws (λ j u e. (let z : a + 1 + j ≡ a + suc j = omega arith in ap F z ∙ h (suc j) u e)) i)
+
+-- what his context has is what he took
+told_is : (s : Scenario) (before : List (List Letter)) (g : ℕ) → IsScenario s → g < s.generals → length before ≤ s.bound → AreWords s before g
+    → outbox_told (shape_of s g (suc (length before))) (context_of s before g) ≡ telling (shape_of s g (suc (length before))) (value_of s before g)
+told_is s before g is within le small =
+    let shape = shape_of s g (suc (length before)) in
+    let rows = number_rows shape (λ rank. taken_value (context_of s before g) rank) (value_of s before g) 0 (relay shape)
+    (λ rank u at. (let z : 0 + rank ≡ rank = omega arith in ap (λ (n : ℕ). taken_value (context_of s before g) n) z ∙ proved_contexts_tell s before g rank u is within le at (small rank u at))) in
+    (λ i. record { shape = shape; rows = rows i })
+
+-- so his letter is the loyal one
+pub letter_is : (s : Scenario) (before : List (List Letter)) (g : ℕ) → IsScenario s → g < s.generals → length before ≤ s.bound → AreWords s before g
+    → letter_told g (suc (length before)) (context_of s before g) ≡ loyal_letter s before g
+letter_is s before g is within le small =
+    ap (λ (shape : Shape). record (loyal_letter s before g) { outbox = outbox_told shape (context_of s before g) }) (shape_is_told s before g (suc (length before)) is)
+    ∙ ap (λ (o : Contents). record (loyal_letter s before g) { outbox = o }) (told_is s before g is within le small)
