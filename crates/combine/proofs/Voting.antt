@@ -1,10 +1,9 @@
 -- The vote of Boyer and Moore: what a candidate and its lead say of the list so far.
-use Rattle.std.proofs.Common.{ℕ, suc, ◌+◌, ◌-◌, ◌*◌, ◌<◌, ◌≤◌, ◌≡◌, ◌≢◌, Bool, true, false, cond, List, [], ◌∷◌, ◌++◌, length, get_or, take, refl, sym, ap, ◌∙◌, arith, inl, inr, Some, None, length-append, ◌⊎◌}
-use Rattle.std.specs.Prelude.{count_by, find, ◌==◌, nat_lt}
+use Rattle.std.proofs.Common.{ℕ, ◌+◌, ◌-◌, ◌*◌, ◌<◌, ◌≤◌, ◌≡◌, ◌≢◌, Bool, true, false, cond, List, [], ◌∷◌, ◌++◌, length, refl, sym, ap, ◌∙◌, arith, inl, inr, Some, None, length-append, ◌⊎◌}
+use Rattle.std.specs.Prelude.{count_by, find, ◌==◌}
 use Rattle.std.proofs.lemmas.Bool.{cases_Bool, cases_eq, cond-true, cond-false, eq-eqb, ne_eqb, ltb-true, true≢false}
-use Rattle.std.proofs.lemmas.List.{take_more}
 use Rattle.std.proofs.lemmas.List.Sums.{sum_by-append}
-use Rattle.combine.specs.Rule.{majority, is_most}
+use Rattle.combine.specs.Rule.{majority, is_most, NoMajorityIsRetreat}
 use Rattle.combine.specs.Laws.{majority_is_rule}
 
 -- no other can be in more places than its lead leaves, and it is in no more than that
@@ -94,3 +93,8 @@ unvoted xs candidate only fails =
   where
     refuted : (v : ℕ) → is_most xs v ≡ true → candidate ≡ v → ⊥
     refuted v it e = true≢false (sym it ∙ (ap (is_most xs) (sym e) ∙ fails))
+
+-- where no order is in more than half of the places, none is found
+pub retreat : NoMajorityIsRetreat
+unfolding majority
+retreat xs none = rw (none_found (is_most xs) xs (λ v it. let most : length xs < 2 * count_by (λ x. x == v) xs = ltb-true (length xs) (2 * count_by (λ x. x == v) xs) it in let few : 2 * count_by (λ x. x == v) xs ≤ length xs = none v in omega arith)) refl

@@ -1,5 +1,5 @@
 -- Rules of combination (TOPLAS 1982, section 3).
-use Rattle.std.specs.Prelude.{ℕ, ◌*◌, ◌/◌, ◌<◌, ◌≡◌, ◌==◌, nat_lt, nat_le, Bool, ◌&&◌, List, length, find, count_by, unwrap_or, slice_index}
+use Rattle.std.specs.Prelude.{ℕ, ◌*◌, ◌/◌, ◌<◌, ◌≤◌, ◌≡◌, ◌==◌, nat_lt, nat_le, Bool, ◌&&◌, List, length, find, count_by, unwrap_or, slice_index}
 use Rattle.std.specs.List.Sorted.{IsPermutation, IsNonDecreasing}
 
 -- the order stands in more than half of the places
@@ -21,6 +21,10 @@ median xs = unwrap_or (find (is_middle xs) xs) 0
 -- an order in more than half of the places is the result
 abbrev pub IsMajorityRule : (List ℕ → ℕ) → Type 0
 IsMajorityRule f = (xs : List ℕ) (v : ℕ) → length xs < 2 * count_by (λ x. x == v) xs → f xs ≡ v
+
+-- where no order stands in more than half of the places, the majority is RETREAT, which is 0
+abbrev pub NoMajorityIsRetreat : Type 0
+NoMajorityIsRetreat = (xs : List ℕ) → ((v : ℕ) → 2 * count_by (λ x. x == v) xs ≤ length xs) → majority xs ≡ 0
 
 -- the median is the middle of the sorted list
 abbrev pub MedianIsMiddle : Type 0

@@ -1,6 +1,14 @@
-ghost use Rattle.combine.specs.Rule.{MedianIsMiddle};
+//! Laws of the rules: each function does nothing, and its contract is the law.
+ghost use Rattle.combine.specs.Rule.{MedianIsMiddle, NoMajorityIsRetreat};
 
-/// The median is the element at half of the length of the sorted list.
+/// Where no order stands in more than half of the places, the majority is RETREAT, which is 0: a tie
+/// is no majority.
+pub fn no_majority_is_retreat()
+    ensures { NoMajorityIsRetreat }
+{}
+
+/// The median of a list that is not empty is the element at half of its length, from 0 and rounded
+/// down, of the sorted list.
 pub fn median_is_middle()
     ensures { MedianIsMiddle }
 {}

@@ -8,7 +8,7 @@ mod median;
 mod rule;
 
 pub use chosen::Rule;
-pub use laws::median_is_middle;
+pub use laws::{median_is_middle, no_majority_is_retreat};
 pub use majority::Majority;
 pub use median::Median;
 pub use rule::Combine;

@@ -1,9 +1,8 @@
 -- Lists of labels that are empty.
-use Rattle.std.proofs.Common.{ℕ, zero, suc, ◌+◌, ◌-◌, ◌*◌, ◌<◌, ◌≤◌, ◌≡◌, ◌≢◌, Bool, true, false, not, ◌&&◌, List, [], ◌∷◌, map, length, refl, sym, ap, ◌∙◌, arith, inl, inr, Some}
-use Rattle.std.specs.Prelude.{filter, slice_get, nat_lt, ◌==◌, ◌||◌, ◌⊎◌}
+use Rattle.std.proofs.Common.{ℕ, zero, suc, ◌-◌, ◌<◌, ◌≤◌, ◌≡◌, ◌≢◌, Bool, true, false, not, ◌&&◌, List, [], ◌∷◌, map, length, refl, sym, ap, ◌∙◌, arith, inl, inr}
+use Rattle.std.specs.Prelude.{filter, nat_lt, ◌==◌, ◌⊎◌}
 use Rattle.std.specs.List.{list_all}
 use Rattle.std.proofs.lemmas.Bool.{cond-false, cases_eq, or_left, or_parts, and_parts, eq-eqb, eqb-true, eqb-false, not-true, false≢true}
-use Rattle.std.proofs.lemmas.Option.{slice_get_within}
 use Rattle.label.specs.Labels.{on, is_distinct, sequences, lacks, labels}
 use Rattle.label.specs.declared.space.Space.{Space}
 use Rattle.label.specs.Space.{IsSpace, IsWithinLimits, labels_of, is_label_of, begins_with}

@@ -1,6 +1,6 @@
 -- How many of the generals below the lieutenant are off a child.
-use Rattle.std.proofs.Common.{ℕ, ◌+◌, ◌-◌, ◌<◌, ◌≤◌, ◌≡◌, ◌≢◌, false, cond, List, [], ◌∷◌, ◌++◌, length, ap, ◌∙◌, arith, inl, inr, Some}
-use Rattle.std.specs.Prelude.{nat_lt, slice_get, ◌==◌, ◌||◌}
+use Rattle.std.proofs.Common.{ℕ, ◌+◌, ◌-◌, ◌<◌, ◌≤◌, ◌≡◌, ◌≢◌, false, List, [], ◌∷◌, ◌++◌, length, ap, ◌∙◌, arith, inl, inr, Some}
+use Rattle.std.specs.Prelude.{nat_lt, slice_get, ◌==◌}
 use Rattle.std.proofs.lemmas.Bool.{cases_lt, lt-ltb, le-ltb, cond-true, cond-false, or_parts, eqb-false}
 use Rattle.std.proofs.lemmas.Option.{slice_get_within}
 use Rattle.label.specs.Labels.{on, others}

@@ -1,16 +1,15 @@
 -- The recursion over ranks is that over labels.
-use Rattle.std.proofs.Common.{ℕ, zero, suc, ◌+◌, ◌-◌, ◌*◌, ◌<◌, ◌≤◌, ◌≡◌, true, false, not, List, [], ◌∷◌, ◌++◌, map, length, refl, sym, ap, ◌∙◌, arith, inl, inr, Some, None}
-use Rattle.std.specs.Prelude.{insert, filter, slice_get, unwrap_or, ◌==◌}
+use Rattle.std.proofs.Common.{ℕ, zero, suc, ◌+◌, ◌-◌, ◌*◌, ◌<◌, ◌≤◌, ◌≡◌, false, not, List, [], ◌∷◌, ◌++◌, map, length, refl, sym, ap, ◌∙◌, arith, inl, inr, Some, None}
+use Rattle.std.specs.Prelude.{insert, filter, slice_get, unwrap_or}
 use Rattle.std.specs.List.{range_with_len}
-use Rattle.std.proofs.lemmas.Bool.{cases_lt, or_left, or_right, eq-eqb}
+use Rattle.std.proofs.lemmas.Bool.{cases_lt}
 use Rattle.label.specs.Labels.{on, others, labels}
 use Rattle.label.specs.Oral.{Messages, om, taken, order_of}
 use Rattle.label.proofs.Counting.{others-on}
 use Rattle.label.proofs.Listing.{proved_labels_are_exact}
 use Rattle.label.proofs.Own.{om-level}
-use Rattle.label.proofs.Places.{first_label, children_stand, few_children, IsOneOf, all-at, labels-are}
-use Rattle.label.proofs.Ranks.{others-count, children}
-use Rattle.std.proofs.lemmas.List.{length-map}
+use Rattle.label.proofs.Places.{first_label, children_stand}
+use Rattle.label.proofs.Ranks.{others-count}
 use Rattle.std.proofs.lemmas.List.FromFn.{length-range_with_len}
 use Rattle.tree.specs.Kept.{Kept, IsCampaign, IsFilled, level_of, level_told}
 use Rattle.tree.proofs.Levels.{levels-at, told-at, read-at}

@@ -1,14 +1,10 @@
 -- The longest labels: no recursion, but a part of their level.
-use Rattle.std.proofs.Common.{ℕ, zero, suc, ◌+◌, ◌-◌, ◌*◌, ◌<◌, ◌≤◌, ◌≡◌, List, [], ◌∷◌, ◌++◌, map, length, get_or, take, drop, refl, sym, ap, ◌∙◌, arith, Option, None}
+use Rattle.std.proofs.Common.{ℕ, zero, suc, ◌+◌, ◌-◌, ◌*◌, ◌≤◌, ◌≡◌, List, [], ◌∷◌, ◌++◌, map, length, get_or, take, drop, refl, sym, ap, ◌∙◌, arith, Option, None}
 use Rattle.std.specs.Prelude.{insert, slice_range, slice_index_or}
 use Rattle.std.specs.List.{range_with_len}
 use Rattle.std.proofs.lemmas.List.{take-map, take_all, drop_more}
-use Rattle.std.proofs.lemmas.List.Edits.{length-between}
-use Rattle.std.proofs.lemmas.Nat.{mul-le}
-use Rattle.label.specs.Labels.{labels}
 use Rattle.label.specs.Oral.{order_of}
-use Rattle.label.proofs.Places.{count_is_product}
-use Rattle.tree.specs.Kept.{Kept, IsCampaign, level_of}
+use Rattle.tree.specs.Kept.{Kept, level_of}
 use Rattle.resolve.specs.Decided.{decided, order_at}
 
 drop_map : {A B : Type 0} (g : A → B) (n : ℕ) (xs : List A) → drop n (map g xs) ≡ map g (drop n xs)

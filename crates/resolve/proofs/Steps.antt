@@ -7,7 +7,6 @@ use Rattle.std.proofs.lemmas.List.Edits.{insert_end, insert-append_left, length-
 use Rattle.std.proofs.lemmas.Bool.{cond-true, cond-false, lt-ltb, le-ltb}
 use Rattle.std.proofs.lemmas.Nat.{mul-le}
 use Rattle.label.specs.Labels.{labels}
-use Rattle.label.proofs.Places.{count_is_product}
 use Rattle.label.proofs.Bounds.{most, most-fits, labels-few}
 use Rattle.tree.specs.Kept.{Kept, IsCampaign}
 use Rattle.resolve.specs.Decided.{decided, child, order_at}

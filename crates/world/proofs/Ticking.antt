@@ -14,9 +14,9 @@ use Rattle.world.specs.World.{World, served, ticked, happen, run}
 use Rattle.round.specs.Runs.{Onward, Runs}
 use Rattle.world.specs.Lists.{further_turns, until_access, ticks_named}
 use Rattle.world.specs.Playing.{IsStill, Paused}
-use Rattle.world.proofs.Moves.{turn_within}
+use Rattle.round.proofs.Going.{turn_within, over_ended, ended_over}
 use Rattle.round.proofs.Stepping.{runs_steps, turn_counts, CountsTurn}
-use Rattle.world.proofs.Due.{IsDue, due_few, due_lasts, over_ended, ended_over}
+use Rattle.world.proofs.Due.{IsDue, due_few, due_lasts}
 
 -- so many events of one kind, and so many more
 pub events_add : (m n : ℕ) (w : World) (e : Event) → run w (replicate (m + n) e) ≡ run (run w (replicate m e)) (replicate n e)

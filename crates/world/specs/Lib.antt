@@ -6,3 +6,5 @@ pub mod Chronicle
 pub mod Laws
 pub mod Schedules
 pub mod Playing
+pub mod Stub
+pub mod Held

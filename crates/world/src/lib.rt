@@ -1,15 +1,21 @@
 //! The world of a campaign. What is said of it stands in specs/.
 #![tactic(auto)]
 
+mod campaign;
 mod event;
 mod laws;
+mod onward;
+mod part;
 mod schedule;
+mod stub;
 mod verdict;
 
+pub use campaign::World;
 pub use event::{Event, EventError};
 pub use laws::{
     accounts_are_runs, activations_are_safe, ledgers_decide, lists_are_complete,
     refusals_change_nothing, runs_are_replays, worlds_agree,
 };
+pub use part::Part;
 pub use schedule::{Entries, Repeat, Schedule};
 pub use verdict::Verdict;

@@ -1,6 +1,6 @@
-use Rattle.std.proofs.Common.{◌≡◌, ◌<◌, ◌*◌, length, take, get_or, arith, ◌∙◌, inl, inr}
+use Rattle.std.proofs.Common.{take, get_or, arith, inl, inr}
 use Rattle.std.proofs.lemmas.List.{take_more, take_all}
-use Rattle.combine.proofs.Voting.{Leads, Led, leads-up, leads-down, leads-only}
+use Rattle.combine.proofs.Voting.{Led, leads-up, leads-down, leads-only}
 use Rattle.combine.proofs.majority.candidate.Goals as goal
 use Rattle.combine.proofs.majority.candidate.Goals.{then-lead-eq0, else-lead-eq0, then-x-candidate, else-x-candidate}
 

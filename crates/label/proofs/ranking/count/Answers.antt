@@ -1,4 +1,4 @@
-use Rattle.std.proofs.Common.{◌≡◌, length, inl, inr}
+use Rattle.std.proofs.Common.{inl, inr}
 use Rattle.label.proofs.Absent.{none-listed}
 use Rattle.label.proofs.ranking.count.Goals as goal
 

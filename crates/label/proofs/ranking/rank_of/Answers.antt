@@ -1,4 +1,4 @@
-use Rattle.std.proofs.Common.{◌≡◌, ◌<◌, ◌≤◌, ◌-◌, ◌*◌, ◌+◌, ◌^◌, ℕ, List, length, take, get_or, ◌∷◌, [], Some, arith, ◌∙◌, refl}
+use Rattle.std.proofs.Common.{◌≡◌, ◌<◌, ◌-◌, ◌*◌, ◌+◌, ◌^◌, take, get_or, ◌∷◌, [], Some, arith, ◌∙◌, refl}
 use Rattle.std.specs.Prelude.{slice_get}
 use Rattle.label.specs.Space.{labels_of}
 use Rattle.label.proofs.Counts.{rank-fits, first-stands, whole-stands, row-fits, begun}

@@ -1,5 +1,4 @@
-use Rattle.std.proofs.Common.{◌≡◌, ◌<◌, length, arith}
-use Rattle.label.specs.Space.{labels_of}
+use Rattle.std.proofs.Common.{arith}
 use Rattle.label.proofs.Absent.{lieutenant-has}
 use Rattle.label.proofs.ranking.unrank.Goals as goal
 

@@ -1,4 +1,4 @@
-use Rattle.std.proofs.Common.{◌≡◌, sym, ◌∙◌}
+use Rattle.std.proofs.Common.{sym, ◌∙◌}
 use Rattle.combine.proofs.Voting.{voted, unvoted}
 use Rattle.combine.proofs.majority.MajorityCombine.combine.Goals as goal
 
