@@ -1,20 +1,19 @@
 -- Where runs of a program end.
-use Rattle.std.proofs.Common.{◌≡◌, ℕ, zero, suc, ◌+◌, ◌<◌, ◌≤◌, List, [], ◌∷◌, length, Bool, true, false, cond, refl, sym, ap, subst, ◌∙◌, Option, Some, None, arith}
+use Rattle.std.proofs.Common.{◌≡◌, ℕ, zero, suc, ◌+◌, ◌≤◌, List, [], ◌∷◌, length, true, refl, sym, ap, subst, ◌∙◌, Option, None, arith}
 use Rattle.insn.specs.declared.insn.Insn.{Insn}
 use Rattle.semantics.specs.Relay.{Relay, IsRelay, IsContext}
 use Rattle.semantics.specs.Run.{IsSound}
-use Rattle.semantics.specs.State.{Cause, Outcome, Trap}
+use Rattle.semantics.specs.State.{Outcome}
 use Rattle.semantics.specs.Call.{fits}
-use Rattle.semantics.specs.Execution.{step}
-use Rattle.semantics.specs.Safety.{LeadsTo, IsSafe}
+use Rattle.semantics.specs.Safety.{LeadsTo}
 use Rattle.semantics.proofs.SafetyLaws.{safe_of_sound, IsSafe-no_trap}
 use Rattle.board.specs.Board.{Access}
-use Rattle.round.specs.Activation.{Activation, started, Turn, Goes, Asks, Ended, turn, has_ended}
+use Rattle.round.specs.Activation.{Activation, started, Turn, Goes, Asks, Ended, turn}
 use Rattle.round.specs.Runs.{Onward, Runs, IsWithin, AreFitting}
 use Rattle.round.specs.Laws.{PatienceIsKept, RunsAreSafe}
 use Rattle.round.proofs.Stepping.{runs_steps}
-use Rattle.round.proofs.Patience.{under, runs_under, runs_kept, within_none}
-use Rattle.round.proofs.Going.{IsGoing, IsAfter, TurnsTo, turn_safe, going_zero, over_ended}
+use Rattle.round.proofs.Patience.{runs_under, runs_kept, within_none}
+use Rattle.round.proofs.Going.{IsGoing, TurnsTo, turn_safe, going_zero, over_ended}
 
 -- one after the other, with the same accesses
 one_end : (o : Turn) (k : ℕ) (t : List Access) (u v : Activation)
@@ -30,7 +29,7 @@ same_end zero a t u v h h' = sym h.1 ∙ h'.1
 same_end (suc k) a t u v h h' = one_end (turn a) k t u v (λ b t' r r'. same_end k b t' u v r r') h h'
 
 -- from the start
-steps_taken : (p : Option ℕ) (program : List Insn) (context : List ℕ) (relay : Relay) (k : ℕ) (t : List Access) (end : Activation) → Runs k (started p program context relay) t end → end.state.steps ≡ k
+pub steps_taken : (p : Option ℕ) (program : List Insn) (context : List ℕ) (relay : Relay) (k : ℕ) (t : List Access) (end : Activation) → Runs k (started p program context relay) t end → end.state.steps ≡ k
 steps_taken p program context relay k t end h = (let e : end.state.steps ≡ 0 + k = runs_steps k (started p program context relay) t end h in omega arith)
 
 pub proved_patience_is_kept : PatienceIsKept
@@ -42,7 +41,7 @@ proved_patience_is_kept = record {
   without = λ p program context relay k t end h. runs_under None k (started p program context relay) t end tt h;
   under = λ p program context relay k t end within h.
       (let A : ℕ → Type 0 = λ n. IsWithin p n in
-          runs_under p k (started None program context relay) t end (subst A (sym (steps_taken None program context relay k t end h)) within) h);
+      runs_under p k (started None program context relay) t end (subst A (sym (steps_taken None program context relay k t end h)) within) h);
 }
 
 -- from what is safe for so many steps a run takes no more, and stands before no trap

@@ -7,4 +7,5 @@ pub mod Patience
 pub mod Runnings
 pub mod Going
 pub mod Loyal
+pub mod Settled
 pub mod Ends

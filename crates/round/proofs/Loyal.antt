@@ -1,5 +1,5 @@
 -- A loyal general's letter follows from his context.
-use Rattle.std.proofs.Common.{◌≡◌, ℕ, zero, suc, ◌+◌, ◌<◌, ◌≤◌, ◌^◌, List, [], ◌∷◌, length, map, refl, ap, ◌∙◌, Option, Some, arith}
+use Rattle.std.proofs.Common.{◌≡◌, ℕ, suc, ◌+◌, ◌<◌, ◌≤◌, List, [], ◌∷◌, length, map, refl, ap, ◌∙◌, Some, arith}
 use Rattle.std.specs.Prelude.{slice_get}
 use Rattle.std.specs.List.{enumerate_from}
 use Rattle.label.specs.declared.shape.Shape.{Shape}
@@ -33,7 +33,7 @@ number_rows : (shape : Shape) (F : ℕ → ℕ) (G : List ℕ → ℕ) (a : ℕ)
 number_rows shape F G a [] h = refl
 number_rows shape F G a (w ∷ ws) h =
     (λ i. number_row F (G w) a 0 (receivers shape w) (let z : a ≡ a + 0 = omega arith in ap F z ∙ h 0 w refl) i
-        ∷ number_rows shape F G (a + 1) ws (λ j u e. (let z : a + 1 + j ≡ a + suc j = omega arith in ap F z ∙ h (suc j) u e)) i)
+    ∷ number_rows shape F G (a + 1) ws (λ j u e. (let z : a + 1 + j ≡ a + suc j = omega arith in ap F z ∙ h (suc j) u e)) i)
 
 -- what his context has is what he took
 told_is : (s : Scenario) (before : List (List Letter)) (g : ℕ) → IsScenario s → g < s.generals → length before ≤ s.bound → AreWords s before g

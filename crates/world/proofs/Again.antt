@@ -17,8 +17,7 @@ use Rattle.world.specs.Part.{Part, Acting, Silent, Posted, has_posted}
 use Rattle.world.specs.World.{World, each, round_open, begins, begun, accesses_of, letters_at, round_letters, happen, run}
 use Rattle.round.specs.Runs.{Runs, IsWithin}
 use Rattle.world.specs.Accounted.{IsLetterOf, IsAccountedRound}
-use Rattle.world.specs.Lists.{names_events, wound_up}
-use Rattle.world.specs.Laws.{IsRipe}
+use Rattle.world.specs.Lists.{names_events, wound_up, IsRipe}
 use Rattle.world.proofs.Kept.{Fits, IsKept}
 use Rattle.world.proofs.Listing.{each-get, each-get_only, each-length}
 use Rattle.world.proofs.Moves.{moves_same, then_same, moves_keep, run-append, AllParts}

@@ -13,10 +13,9 @@ use Rattle.round.specs.Scenario.{Scenario, program_of}
 use Rattle.round.specs.Activation.{Activation, Turn, Goes, Asks, Ended, turn, has_ended}
 use Rattle.world.specs.Part.{Part, Acting, Silent, Posted, has_posted}
 use Rattle.world.specs.World.{World, happen, run, each, ticked, served, posting}
-use Rattle.world.specs.Lists.{Throughout, AtClose, HasPosted, HasEnded, post_of, ticks_of}
+use Rattle.world.specs.Lists.{Throughout, AtClose, HasPosted, HasEnded, post_of, ticks_of, IsMove, AreMoves, IsRipe}
 use Rattle.world.proofs.Kept.{Fits, IsKept}
 use Rattle.world.proofs.Listing.{set-here}
-use Rattle.world.specs.Laws.{IsMove, AreMoves, IsRipe}
 use Rattle.world.proofs.Moves.{moves-append, moves_same, moves_board, run-append, AllParts, IsLasting, moves_keep}
 use Rattle.round.proofs.Going.{turn_within, IsGoing, TurnsTo, turn_safe, going_zero, over_ended, ended_over}
 use Rattle.world.proofs.Rounds.{run_kept}

@@ -13,8 +13,7 @@ use Rattle.round.specs.Activation.{Activation, Turn, Goes, Asks, Ended, turn, ha
 use Rattle.world.specs.Part.{Part, Acting, Silent, Posted}
 use Rattle.world.specs.World.{World, accesses_of, served, ticked, posting, happen, run}
 use Rattle.round.specs.Runs.{Onward, Runs}
-use Rattle.world.specs.Lists.{ticks_named, names_events}
-use Rattle.world.specs.Laws.{IsMove, AreMoves}
+use Rattle.world.specs.Lists.{ticks_named, names_events, IsMove, AreMoves}
 use Rattle.world.proofs.Moves.{moves_same, moves_board, move_board, moves_keep, move_keeps, run-append, AllParts, IsLasting}
 use Rattle.round.proofs.Going.{over_ended}
 use Rattle.world.proofs.Due.{Due, due_lasts}

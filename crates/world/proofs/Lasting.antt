@@ -8,9 +8,8 @@ use Rattle.world.specs.declared.event.Event.TheVariants.{Close}
 use Rattle.round.specs.Scenario.{Scenario, IsScenario, program_of}
 use Rattle.world.specs.Part.{Part, Acting, Silent, Posted}
 use Rattle.world.specs.World.{World, begun, opening, round_open, round_letters, closing, happen, run}
-use Rattle.world.specs.Lists.{first_line, later_lines, Throughout, AtClose, HasPosted, HasEnded, IsComplete, wound_up, event_of, listed_rounds, listed, ticks_named, names_events, replayed_rounds, replayed}
+use Rattle.world.specs.Lists.{first_line, later_lines, Throughout, AtClose, HasPosted, HasEnded, IsComplete, wound_up, event_of, listed_rounds, listed, ticks_named, names_events, replayed_rounds, replayed, IsMove, AreMoves}
 use Rattle.world.proofs.Kept.{IsKept}
-use Rattle.world.specs.Laws.{IsMove, AreMoves}
 use Rattle.world.proofs.Moves.{moves-append, moves_same, run-append, AllParts, moves_keep}
 use Rattle.world.proofs.Rounds.{run_kept, opening_kept, happen_kept}
 use Rattle.world.proofs.Due.{Due, due_lasts, due_parts}

@@ -23,5 +23,7 @@ pub mod Arranged
 pub mod Replaying
 pub mod Refusing
 pub mod Example
+pub mod Standing
+pub mod Verdicts
 pub mod Ticking
 pub mod Listed

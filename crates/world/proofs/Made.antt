@@ -18,7 +18,7 @@ use Rattle.world.specs.Part.{Part, Acting, Silent, Posted}
 use Rattle.world.specs.World.{World, each, round_open, begins, begun, accesses_of, letters_at, round_letters, served, ticked, posting, happen}
 use Rattle.round.specs.Runs.{Runs}
 use Rattle.world.specs.Accounted.{IsLetterOf, IsAccountedRound}
-use Rattle.world.specs.Laws.{IsMove, IsRipe}
+use Rattle.world.specs.Lists.{IsMove, IsRipe}
 use Rattle.world.proofs.Kept.{Fits, IsKept}
 use Rattle.world.proofs.Listing.{each-get_only}
 use Rattle.world.proofs.Due.{IsDue}

@@ -1,7 +1,7 @@
 -- What ticks and posts keep.
 use Rattle.std.proofs.Common.{◌≡◌, ◌≢◌, ℕ, zero, suc, List, [], ◌∷◌, ◌++◌, length, true, refl, sym, ap, subst, ◌∙◌, ◌⊎◌, inl, inr, ⊎_elim, Option, Some, None, arith}
 use Rattle.std.specs.Prelude.{slice_get, slice_set}
-use Rattle.world.specs.Laws.{IsMove, AreMoves}
+use Rattle.world.specs.Lists.{IsMove, AreMoves}
 use Rattle.world.proofs.Listing.{set-length}
 use Rattle.semantics.specs.declared.request.Request.{Request}
 use Rattle.semantics.specs.Call.{fits}

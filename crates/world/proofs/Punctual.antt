@@ -30,7 +30,7 @@ events_full (e ∷ es) w full q = events_full es (happen w e) (event_full w e fu
 pub punctual_full : (s : Scenario) (es : List Event) → IsPunctual s es → (run (opening s) es).full ≡ true
 punctual_full s es q = events_full es (opening s) refl q
 
-event_scenario : (w : World) (e : Event) → (happen w e).scenario ≡ w.scenario
+pub event_scenario : (w : World) (e : Event) → (happen w e).scenario ≡ w.scenario
 event_scenario w (Tick g) = (move_same w (Tick g) tt).scenario
 event_scenario w (Post g) = (move_same w (Post g) tt).scenario
 event_scenario w Close = by (round_open w.scenario w.closed)

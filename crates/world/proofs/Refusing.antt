@@ -6,10 +6,12 @@ use Rattle.world.specs.declared.event.Event.TheVariants.{Tick, Post, Close}
 use Rattle.round.specs.Scenario.{Scenario, program_of}
 use Rattle.round.specs.Letters.{Letter}
 use Rattle.world.specs.Part.{Part, Acting, Silent, Posted}
-use Rattle.world.specs.World.{World, each, begins, round_open, opening, ticked, posting, closing, happen, run, unfit, named_by, refusal}
+use Rattle.world.specs.Refusals.{IdleEventsChangeNothing}
+use Rattle.round.proofs.Going.{over_ended}
+use Rattle.world.specs.World.{World, each, begins, round_open, opening, served, ticked, posting, closing, happen, run, unfit, named_by, refusal}
 use Rattle.world.specs.declared.event.EventError.{EventError}
 use Rattle.world.specs.declared.event.EventError.TheVariants.{NotOpen}
-use Rattle.world.specs.Laws.{IsMove}
+use Rattle.world.specs.Lists.{IsMove}
 use Rattle.world.proofs.Moves.{move_same}
 
 -- behind the last round nobody has a part
@@ -75,3 +77,24 @@ refused_still w e r clear h = by (round_open w.scenario w.closed) refl h
 pub proved_refusals_change_nothing : (s : Scenario) (events : List Event) (e : Event) (r : EventError) → refusal (run (opening s) events) e ≡ Some r → happen (run (opening s) events) e ≡ run (opening s) events
 proved_refusals_change_nothing s events e r h =
     refused_still (run (opening s) events) e r (run_clear events (opening s) (λ past. clear_begins s [] (round_open s []) past)) h
+
+-- behind the last round nobody acts or has posted
+part_open : (w : World) → IsClear w → (g : ℕ) (part : Part) → slice_get w.parts g ≡ Some part → round_open w.scenario w.closed ≡ true
+part_open w clear g part at = by (round_open w.scenario w.closed) refl
+  where
+    by : (b : Bool) → round_open w.scenario w.closed ≡ b → b ≡ true
+    by true e = refl
+    by false e = absurd (let f : None ≡ Some part = ap (λ (ps : List Part). slice_get ps g) (sym (clear e)) ∙ at in cc)
+
+runs_clear : (s : Scenario) (events : List Event) → IsClear (run (opening s) events)
+runs_clear s events = run_clear events (opening s) (λ past. clear_begins s [] (round_open s []) past)
+
+pub proved_idle_events_change_nothing : IdleEventsChangeNothing
+proved_idle_events_change_nothing = record {
+  tick = λ s events g a at ended.
+      let w = run (opening s) events in
+      (rw (part_open w (runs_clear s events) g (Acting a) at, at) refl, ap (ticked w g) at ∙ ap (served w g) (over_ended a ended));
+  post = λ s events g at.
+      let w = run (opening s) events in
+      (rw (part_open w (runs_clear s events) g Posted at, at) refl, ap (posting w g) at);
+}

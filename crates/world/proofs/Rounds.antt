@@ -22,7 +22,7 @@ use Rattle.world.proofs.Kept.{Fits, Tells, IsKept}
 use Rattle.world.proofs.Listing.{each-find, each-get_only, each-length, all-at, take-front, take-whole, get_or-left, get_or-seam}
 use Rattle.round.proofs.Lists.{either_way}
 use Rattle.world.proofs.Faithful.{faithful}
-use Rattle.world.specs.Laws.{IsMove}
+use Rattle.world.specs.Lists.{IsMove}
 use Rattle.world.proofs.Moves.{move_same, AllParts, IsLasting, move_keeps, move_board}
 
 Suits : Scenario → ℕ → Part → Type 0

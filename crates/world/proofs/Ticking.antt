@@ -13,7 +13,8 @@ use Rattle.world.specs.Part.{Part, Acting, Silent, Posted}
 use Rattle.world.specs.World.{World, served, ticked, happen, run}
 use Rattle.round.specs.Runs.{Onward, Runs}
 use Rattle.world.specs.Lists.{further_turns, until_access, ticks_named}
-use Rattle.world.specs.Playing.{IsStill, Paused}
+use Rattle.round.specs.Running.{Pauses}
+use Rattle.world.specs.Playing.{IsStill}
 use Rattle.round.proofs.Going.{turn_within, over_ended, ended_over}
 use Rattle.round.proofs.Stepping.{runs_steps, turn_counts, CountsTurn}
 use Rattle.world.proofs.Due.{IsDue, due_few, due_lasts}
@@ -90,11 +91,18 @@ one_left s g n a b words board d way (Asks q f) e on =
     let few = few_in s g a (f r) d due in omega arith
 one_left s g n a b words board d way Ended e on = absurd (on refl)
 
+-- so it does not go on past its program
+over_past : (s : Scenario) (g n : ℕ) (a b c : Activation) → {words : List ℕ} → IsBoard words → IsDue s g a → Runs n a [] b → turn b ≡ Goes c → length a.program ≤ b.state.steps → ⊥
+over_past s g n a b c board d way e p =
+    let due = (due_lasts s).goes g b c (runs_due s g n a b d way) e in
+    let one : c.state.steps ≡ b.state.steps + 1 = (let A : Turn → Type 0 = λ o. CountsTurn b o in subst A e (turn_counts b)) in
+    let few = few_in s g a c d due in omega arith
+
 -- a last tick serves the request, or changes nothing
 last_by : (s : Scenario) (w : World) (g n fuel : ℕ) (a b : Activation) → IsBoard w.words → IsDue s g a → Runs n a [] b → n + fuel ≡ length a.program →
-    (v : World) → slice_get v.parts g ≡ Some (Acting b) → (o : Turn) → turn b ≡ o → Paused (length a.program) n o → run v (replicate (until_access fuel b) (Tick g)) ≡ happen v (Tick g)
-last_by s w g n zero a b board d way is v at (Goes c) e p = absurd (let l = one_left s g n a b w.words board d way (Goes c) e (λ f. cc) in omega arith)
-last_by s w g n (suc fuel) a b board d way is v at (Goes c) e p = absurd (let l = p in omega arith)
+    (v : World) → slice_get v.parts g ≡ Some (Acting b) → (o : Turn) → turn b ≡ o → Pauses (length a.program) b o → run v (replicate (until_access fuel b) (Tick g)) ≡ happen v (Tick g)
+last_by s w g n zero a b board d way is v at (Goes c) e p = absurd (over_past s g n a b c board d way e p)
+last_by s w g n (suc fuel) a b board d way is v at (Goes c) e p = absurd (over_past s g n a b c board d way e p)
 last_by s w g n zero a b board d way is v at (Asks q f) e p = absurd (let l = one_left s g n a b w.words board d way (Asks q f) e (λ h. cc) in omega arith)
 last_by s w g n (suc fuel) a b board d way is v at (Asks q f) e p = ap (λ (t : Turn). run v (replicate (further_turns (until_access fuel) t) (Tick g))) e
 last_by s w g n zero a b board d way is v at Ended e p =
@@ -104,7 +112,7 @@ last_by s w g n (suc fuel) a b board d way is v at Ended e p =
 
 -- the ticks of a name
 pub named_is : (s : Scenario) (w v : World) (g n : ℕ) (a b : Activation) → IsBoard w.words → IsDue s g a → slice_get w.parts g ≡ Some (Acting a) → slice_get v.parts g ≡ Some (Acting b) →
-    v ≡ run w (replicate n (Tick g)) → Runs n a [] b → n ≤ length a.program → Paused (length a.program) n (turn b) → happen v (Tick g) ≡ run w (ticks_named g (slice_get w.parts g))
+    v ≡ run w (replicate n (Tick g)) → Runs n a [] b → n ≤ length a.program → Pauses (length a.program) b (turn b) → happen v (Tick g) ≡ run w (ticks_named g (slice_get w.parts g))
 named_is s w v g n a b board d at here is way le pause =
     let m : (f : ℕ) × (n + f ≡ length a.program) = (length a.program - n, omega arith) in
     let all : until_access (length a.program) a ≡ n + until_access m.0 b = ap (λ (k : ℕ). until_access k a) (sym m.1) ∙ runs_until n a b m.0 way in

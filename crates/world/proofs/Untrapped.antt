@@ -14,7 +14,7 @@ use Rattle.round.specs.Contexts.{loyal_letter}
 use Rattle.round.specs.Activation.{Activation, has_ended}
 use Rattle.world.specs.Part.{Part, Acting, Silent, Posted}
 use Rattle.world.specs.World.{World, each, begun, opening, round_open, letters_at, round_letters, closing, happen, run}
-use Rattle.world.specs.Laws.{IsShort}
+use Rattle.world.specs.Safety.{IsShort}
 use Rattle.world.proofs.Moves.{AllParts, move_same}
 use Rattle.world.proofs.Rounds.{closing_kept}
 use Rattle.world.proofs.Due.{IsDue, Due, due_parts}

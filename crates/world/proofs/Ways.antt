@@ -12,9 +12,8 @@ use Rattle.round.specs.Activation.{Activation, Turn, Goes, Asks, Ended, turn}
 use Rattle.world.specs.Part.{Part, Acting, Silent, Posted}
 use Rattle.world.specs.World.{World, accesses_of, served, ticked, posting, happen, run}
 use Rattle.round.specs.Runs.{Onward, Runs}
-use Rattle.world.specs.Lists.{HasPosted, HasEnded}
+use Rattle.world.specs.Lists.{HasPosted, HasEnded, IsMove, AreMoves}
 use Rattle.world.proofs.Kept.{Fits}
-use Rattle.world.specs.Laws.{IsMove, AreMoves}
 use Rattle.world.proofs.Moves.{set-cases, SameRound}
 use Rattle.round.proofs.Going.{over_ended}
 use Rattle.round.proofs.Runnings.{StopsAt, Runs-snoc, Runs-same}

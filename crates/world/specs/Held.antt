@@ -8,12 +8,13 @@ use Rattle.round.specs.Letters.{Letter}
 use Rattle.round.specs.Contexts.{loyal_letter}
 use Rattle.round.specs.Activation.{Activation, turn, has_ended}
 use Rattle.round.specs.Runs.{Runs}
-use Rattle.world.specs.Stub.{moved, Pauses, IsTold}
-use Rattle.world.specs.declared.event.Event.{Event}
+use Rattle.round.specs.Running.{moved, Pauses}
+use Rattle.world.specs.Stub.{IsTold}
+use Rattle.world.specs.Reached.{IsHeld}
 use Rattle.world.specs.declared.event.EventError.{EventError}
 use Rattle.world.specs.declared.event.EventError.TheVariants.{Memory}
 use Rattle.world.specs.Part.{Part, Acting, Silent, Posted}
-use Rattle.world.specs.World.{World, each, accesses_of, begins, round_open, opening, run}
+use Rattle.world.specs.World.{each, accesses_of, begins, round_open}
 
 -- an error is the refusal, and where nothing is refused the want of memory
 abbrev pub IsAnswer : EventError → Option EventError → Type 0
@@ -42,20 +43,10 @@ abbrev pub steps_of : Option Part → ℕ
 steps_of (Some (Acting a)) = a.state.steps
 steps_of _ = 0
 
--- a world by what it is made of
-abbrev pub world_of : Scenario → List (List Letter) → Kept → ℕ → List Part → Bool → World
-world_of s closed board opened parts full =
-    record { scenario = s; closed = closed; words = board.words; ledger = board.ledger; opened = opened; parts = parts; full = full }
-
--- some list of events leads here from the opening
-abbrev pub IsReached : World → Type 0
-IsReached w = (events : List Event) × (run (opening w.scenario) events ≡ w)
-
--- what is kept of a world: some list of events leads here, its board opened as the scenario says, and its trees have what the closed rounds' letters told
-pub record IsHeld (s : Scenario) (closed : List (List Letter)) (told : List Filled) (board : Kept) (opened : ℕ) (parts : List Part) (full : Bool) : Type 0 where
-  pub reached : IsReached (world_of s closed board opened parts full)
-  pub opening : board.opening ≡ s.board
-  pub trees : IsTold s closed told
+-- what a world keeps: some list of events leads here, and its trees have what the letters of the closed rounds told
+pub record IsWorld (s : Scenario) (closed : List (List Letter)) (trees : List Filled) (board : Kept) (opened : ℕ) (parts : List Part) (full : Bool) : Type 0 where
+  pub held : IsHeld s closed board opened parts full
+  pub told : IsTold s closed trees
 
 -- a traitor's letter, as his activation stands
 abbrev pub acting_letter : ℕ → ℕ → List Access → Activation → Letter

@@ -1,9 +1,13 @@
 pub mod Part
 pub mod World
+pub mod Reached
 pub mod Lists
 pub mod Accounted
 pub mod Chronicle
-pub mod Laws
+pub mod Agreement
+pub mod Safety
+pub mod Replay
+pub mod Refusals
 pub mod Schedules
 pub mod Playing
 pub mod Stub

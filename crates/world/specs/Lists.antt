@@ -36,6 +36,21 @@ pub record IsComplete (s : Scenario) (events : List Event) : Type 0 where
   pub ended : Throughout (AtClose HasEnded) (opening s) events
   pub closed : length (run (opening s) events).closed ≡ suc s.bound
 
+-- a move: no round is closed
+abbrev pub IsMove : Event → Type 0
+IsMove (Tick g) = Unit {0}
+IsMove (Post g) = Unit {0}
+IsMove Close = ⊥
+
+abbrev pub AreMoves : List Event → Type 0
+AreMoves [] = Unit {0}
+AreMoves (e ∷ events) = IsMove e × AreMoves events
+
+-- every loyal general has posted, and every activation has ended
+pub record IsRipe (w : World) : Type 0 where
+  pub posted_all : (g : ℕ) (part : Part) → slice_get w.parts g ≡ Some part → HasPosted part
+  pub ended_all : (g : ℕ) (part : Part) → slice_get w.parts g ≡ Some part → HasEnded part
+
 -- the first of some lists, where there is one, and the others
 abbrev pub first_line : List (List ℕ) → List ℕ
 first_line [] = []

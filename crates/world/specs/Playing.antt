@@ -1,24 +1,17 @@
 -- How a world is played on (own).
-use Rattle.std.specs.Prelude.{ℕ, ◌≡◌, ◌≤◌, nat_lt, true, List, map, filter, Option, None, Some, []}
+use Rattle.std.specs.Prelude.{ℕ, ◌≡◌, nat_lt, true, List, map, filter, Option, Some}
 use Rattle.world.specs.declared.event.Event.{Event}
 use Rattle.round.specs.Scenario.{Scenario, program_of}
 use Rattle.world.specs.Lists.{event_of}
 use Rattle.std.proofs.Common.{Vec}
 use Rattle.std.specs.Global.{Global}
-use Rattle.round.specs.Activation.{Activation, Turn, Goes, Asks, Ended, turn, has_ended}
-use Rattle.world.specs.Part.{Part, Acting, Silent, Posted}
-use Rattle.round.specs.Runs.{Runs}
+use Rattle.round.specs.Activation.{has_ended}
+use Rattle.world.specs.Part.{Part, Acting}
 
 -- nobody acts there, or his activation has ended
 abbrev pub IsStill : Option Part → Type 0
 IsStill (Some (Acting a)) = has_ended a ≡ true
 IsStill _ = Unit {0}
-
--- it has ended, asks next, or has taken as many turns as it may
-abbrev pub Paused : ℕ → ℕ → Turn → Type 0
-Paused most taken (Goes a) = most ≤ taken
-Paused most taken (Asks request answered) = Unit {0}
-Paused most taken Ended = Unit {0}
 
 -- what the entries of a line say
 abbrev pub line_events : Scenario → List ℕ → List Event

@@ -1,7 +1,8 @@
 //! A campaign as it stands.
 use crate::part::Part;
-use crate::stub::{Round, Scenario, Told};
+use crate::stub::Told;
 use board::Board;
+use round::{Round, Scenario};
 use std::marker::Model;
 
 /// A scenario's campaign as events have left it.
@@ -21,9 +22,10 @@ impl Model for World {
 
     ghost Value = { Standing };
 
-    ghost use Rattle.world.specs.Held.{world_of, IsHeld};
+    ghost use Rattle.world.specs.Reached.{world_of};
+    ghost use Rattle.world.specs.Held.{IsWorld};
 
     ghost view = { λ w. world_of w.scenario w.closed.items w.board w.opened w.parts.items w.full };
 
-    ghost invariant = { λ w. IsHeld w.scenario w.closed.items w.told w.board w.opened w.parts.items w.full };
+    ghost invariant = { λ w. IsWorld w.scenario w.closed.items w.told w.board w.opened w.parts.items w.full };
 }

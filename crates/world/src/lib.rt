@@ -13,8 +13,9 @@ mod verdict;
 pub use campaign::World;
 pub use event::{Event, EventError};
 pub use laws::{
-    accounts_are_runs, activations_are_safe, ledgers_decide, lists_are_complete,
-    refusals_change_nothing, runs_are_replays, worlds_agree,
+    accounts_are_runs, activations_are_runs, activations_are_safe, decisions_agree,
+    idle_events_change_nothing, ledgers_decide, lists_are_complete, parts_are_placed,
+    refusals_change_nothing, runs_are_accounted, runs_are_replays, verdicts_mean, worlds_agree,
 };
 pub use part::Part;
 pub use schedule::{Entries, Repeat, Schedule};

@@ -1,7 +1,7 @@
 ghost use Rattle.std.specs.Prelude.{◌≡◌};
 ghost use Rattle.world.specs.Part.{has_posted};
 
-use crate::stub::Running;
+use round::Running;
 
 /// Where a general stands in the open round.
 #[derive(Drop)]
