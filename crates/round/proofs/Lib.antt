@@ -9,3 +9,5 @@ pub mod Going
 pub mod Loyal
 pub mod Settled
 pub mod Ends
+pub mod Programs
+pub mod Turning

@@ -4,3 +4,4 @@ pub mod Contexts
 pub mod Activation
 pub mod Runs
 pub mod Laws
+pub mod Running

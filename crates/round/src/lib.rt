@@ -1,8 +1,23 @@
 //! What the generals do in a round: scenarios, letters, contexts and activations. What is said of them stands in specs/.
 #![tactic(auto)]
 
+mod accesses;
+mod code;
 mod laws;
+mod letter;
+mod round;
+mod running;
+mod scenario;
+mod seat;
+mod seats;
+mod turns;
+mod words;
 
 pub use laws::{
     contexts_tell, loyal_letters_follow, patience_is_kept, runs_are_safe, runs_have_one_end,
 };
+pub use letter::Letter;
+pub use round::Round;
+pub use running::Running;
+pub use scenario::Scenario;
+pub use seat::Seat;

@@ -1,0 +1,114 @@
+//! A traitor's activation with what it runs on.
+ghost use Rattle.std.specs.Prelude.{◌≡◌, length};
+ghost use Rattle.std.specs.Arc.{arc_value};
+ghost use Rattle.semantics.specs.Outbox.{empty_outbox};
+ghost use Rattle.round.specs.Activation.{started, has_ended, is_reached};
+
+use machine::Activation;
+use mem::Context;
+use outbox::Outbox;
+use std::marker::Model;
+use std::sync::Arc;
+use verify::Verified;
+
+/// A running program with its context, seen as it stands and whether it has exited.
+#[derive(Drop)]
+pub struct Running {
+    pub(crate) program: Arc<Verified>,
+    pub(crate) context: Vec<u8>,
+    pub(crate) patience: Option<u32>,
+    pub(crate) activation: Activation,
+    pub(crate) over: bool,
+}
+
+impl Model for Running {
+    ghost use Rattle.std.specs.Arc.{arc_value};
+    ghost use Rattle.round.specs.Activation.{Activation as Activated};
+
+    ghost Value = { Activated };
+
+    ghost use Rattle.round.specs.Running.{IsLive};
+
+    ghost view = { λ r. record { program = arc_value r.program; context = r.context.items; shape = r.activation.shape; patience = r.patience; state = r.activation.state; over = r.over } };
+
+    ghost invariant = { λ r. IsLive (record { program = arc_value r.program; context = r.context.items; shape = r.activation.shape; patience = r.patience; state = r.activation.state; over = r.over }) };
+}
+
+impl Running {
+    /// The program at its start in the context, with an outbox in which nothing is put. It has so many steps, or as many as it needs.
+    pub fn start(
+        program: Arc<Verified>,
+        context: Vec<u8>,
+        patience: Option<u32>,
+        outbox: Outbox,
+    ) -> Running
+        requires context { length context.items ≡ 4096 }
+        requires empty { outbox.rows ≡ empty_outbox outbox.shape }
+        ensures { result ≡ started patience (arc_value program) context.items outbox.shape }
+    {
+        let Some(bytes) = Context::new(context.as_slice()) else {
+            unreachable!()
+        };
+        let activation = Activation::start(&program, &bytes, outbox);
+        Running {
+            program,
+            context,
+            patience,
+            activation,
+            over: false,
+        }
+    }
+
+    /// What it runs.
+    pub fn program(&self) -> &Arc<Verified>
+        ensures { arc_value result.now ≡ self.now.program }
+    {
+        &self.program
+    }
+
+    /// What it was told.
+    pub fn context(&self) -> &[u8]
+        ensures { result.now ≡ self.now.context }
+    {
+        self.context.as_slice()
+    }
+
+    /// How many steps it has taken.
+    pub fn steps(&self) -> u32
+        ensures { result ≡ self.now.state.steps }
+    {
+        self.activation.steps()
+    }
+
+    /// Whether it has exited, or its patience is at an end.
+    pub fn has_ended(&self) -> bool
+        ensures { result ≡ has_ended self.now }
+    {
+        self.over || is_reached(self.patience, self.activation.steps())
+    }
+
+    /// Whether it has exited.
+    pub fn has_exited(&self) -> bool
+        ensures { result ≡ self.now.over }
+    {
+        self.over
+    }
+
+    /// What it has put so far.
+    pub fn outbox(&self) -> &Outbox
+        ensures shape { result.now.shape ≡ self.now.shape }
+        ensures rows { result.now.rows ≡ self.now.state.outbox }
+    {
+        self.activation.outbox()
+    }
+}
+
+/// Whether so many steps have reached the patience.
+pub(crate) fn is_reached(patience: Option<u32>, steps: u32) -> bool
+    ensures { result ≡ is_reached patience steps }
+{
+    match patience {
+        Some(most) => most <= steps,
+        None => false,
+    }
+}

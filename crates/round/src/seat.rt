@@ -1,0 +1,82 @@
+ghost use Rattle.std.specs.Prelude.{◌≡◌, ◌↔◌, IfOk, IfSome, IsTrue};
+ghost use Rattle.std.specs.Option.{option_map};
+ghost use Rattle.std.specs.Arc.{arc_value};
+ghost use Rattle.semantics.specs.Run.{IsSound};
+
+use crate::code::same_code;
+use std::alloc::AllocError;
+use std::marker::Model;
+use std::sync::Arc;
+use verify::Verified;
+
+/// A general's program, or none where he is loyal, seen as its instructions.
+#[derive(Drop)]
+pub struct Seat {
+    program: Option<Arc<Verified>>,
+}
+
+impl Model for Seat {
+    ghost use Rattle.std.specs.Prelude.{List, Option};
+    ghost use Rattle.std.specs.Option.{option_map};
+    ghost use Rattle.std.specs.Arc.{arc_value};
+    ghost use Rattle.insn.specs.declared.insn.Insn.{Insn};
+
+    ghost Value = { Option (List Insn) };
+
+    ghost view = { λ s. option_map arc_value s.program };
+}
+
+impl Seat {
+    /// With this program, or none.
+    pub fn new(program: Option<Arc<Verified>>) -> Seat
+        ensures { result ≡ option_map arc_value program }
+    {
+        Seat { program }
+    }
+
+    /// The program, or none.
+    pub fn program(&self) -> &Option<Arc<Verified>>
+        ensures same { option_map arc_value result.now ≡ self.now }
+        ensures sound { IfSome self.now IsSound }
+    {
+        if let Some(program) = &self.program {
+            let _sound = program.program();
+        }
+        &self.program
+    }
+
+    /// The same program, or none.
+    ///
+    /// # Errors
+    ///
+    /// `AllocError` where the program cannot be shared once more.
+    pub fn copy(&self) -> Result<Seat, AllocError>
+        ensures { IfOk result (λ seat. seat ≡ self.now) }
+    {
+        match &self.program {
+            Some(program) => Ok(Seat {
+                program: Some(program.clone()?),
+            }),
+            None => Ok(Seat { program: None }),
+        }
+    }
+
+    /// Whether both have the same program, or none.
+    pub fn same(&self, other: &Seat) -> bool
+        ensures { IsTrue result ↔ (self.now ≡ other.now) }
+    {
+        match &self.program {
+            Some(program) => match &other.program {
+                Some(second) => same_code(
+                    program.program().instructions(),
+                    second.program().instructions(),
+                ),
+                None => false,
+            },
+            None => match &other.program {
+                Some(_) => false,
+                None => true,
+            },
+        }
+    }
+}

@@ -1,0 +1,136 @@
+//! The turns of an activation.
+ghost use Rattle.std.specs.Prelude.{◌≡◌, ◌≤◌, ◌+◌, false, ℕ, None, List, OnOk, OnErr};
+ghost use Rattle.insn.specs.declared.insn.Insn.{Insn};
+ghost use Rattle.semantics.specs.Call.{resumed};
+ghost use Rattle.semantics.specs.Execution.{step};
+ghost use Rattle.semantics.specs.Relay.{IsContext};
+ghost use Rattle.board.specs.Board.{reply};
+ghost use Rattle.machine.specs.Standing.{HasAsked, before};
+ghost use Rattle.machine.specs.Advance.{IsOfRun, IsAskOfRun, IsPauseOfRun, IsCounted, paused};
+ghost use Rattle.round.specs.Activation.{turn};
+ghost use Rattle.round.specs.Running.{Stopped, IsBack, entered, moved, activation_of, Silently, Pauses, lesser};
+
+use crate::running::Running;
+use board::Board;
+use machine::{Activation, Stop};
+use mem::Context;
+use semantics::Request;
+use std::alloc::AllocError;
+use verify::Verified;
+
+impl Running {
+    /// One turn. Its request is served by the board, in the general's name; without memory for that, nothing changes.
+    pub fn turn(&mut self, board: &mut Board, general: u32, round: u32) -> Result<(), AllocError>
+        ensures done { OnOk result ((self.new, board.new) ≡ moved general round self.old board.old (turn self.old)) }
+        ensures undone { OnErr result ((self.new ≡ self.old) × (board.new ≡ board.old)) }
+    {
+        if self.has_ended() {
+            return Ok(());
+        }
+        match one(&mut self.activation, &self.program, self.context.as_slice()) {
+            Stop::Limit => Ok(()),
+            Stop::Exited(_) => {
+                self.over = true;
+                Ok(())
+            }
+            Stop::Asked(request) => serve(&mut self.activation, board, general, round, request),
+        }
+    }
+
+    /// As many turns as it has before its next access or its end, to so many steps in all. The board is not asked.
+    pub fn ahead(&mut self, limit: u32)
+        ensures went { Silently self.old self.new }
+        ensures pauses { Pauses limit self.new (turn self.new) }
+    {
+        if self.has_ended() {
+            return;
+        }
+        let most = lesser(self.patience, limit);
+        self.over = many(
+            &mut self.activation,
+            &self.program,
+            self.context.as_slice(),
+            most,
+        );
+    }
+}
+
+/// As many steps as there are before the next access or the exit: whether it has exited.
+fn many(activation: &mut Activation, verified: &Verified, bytes: &[u8], limit: u32) -> bool
+    requires context { IsContext bytes.now }
+    requires of_run { IsOfRun verified.now bytes.now activation.old }
+    ensures shape { activation.new.shape ≡ activation.old.shape }
+    ensures went { Silently (activation_of None verified.now bytes.now activation.old false) (activation_of None verified.now bytes.now activation.new result) }
+    ensures pauses { Pauses limit (activation_of None verified.now bytes.now activation.new result) (turn (activation_of None verified.now bytes.now activation.new result)) }
+    ensures of_run { result ≡ false → IsOfRun verified.now bytes.now activation.new }
+    ensures within { (m : ℕ) → activation.old.state.steps ≤ m → limit ≤ m → activation.new.state.steps ≤ m }
+{
+    let Some(context) = Context::new(bytes) else {
+        unreachable!()
+    };
+    match activation.run(verified, &context, limit) {
+        Stop::Exited(_) => true,
+        Stop::Limit => false,
+        Stop::Asked(_) => {
+            activation.withdraw();
+            false
+        }
+    }
+}
+
+/// One step.
+fn one(activation: &mut Activation, verified: &Verified, bytes: &[u8]) -> Stop
+    requires context { IsContext bytes.now }
+    requires of_run { IsOfRun verified.now bytes.now activation.old }
+    ensures shape { activation.new.shape ≡ activation.old.shape }
+    ensures stops { Stopped (step verified.now bytes.now activation.old.shape activation.old.state) result activation.new.state }
+    ensures back { IsBack result activation.old.state activation.new.state }
+    ensures counted { IsCounted result activation.new.state }
+    ensures one { activation.new.state.steps ≡ activation.old.state.steps + 1 }
+    ensures of_run { IsPauseOfRun verified.now bytes.now (paused activation.new result) }
+{
+    let Some(context) = Context::new(bytes) else {
+        unreachable!()
+    };
+    let _most = verified.program().len();
+    let limit = activation.steps() + 1;
+    activation.run(verified, &context, limit)
+}
+
+/// The board serves what was asked; without memory it is taken back.
+fn serve(
+    activation: &mut Activation,
+    board: &mut Board,
+    general: u32,
+    round: u32,
+    request: Request,
+) -> Result<(), AllocError>
+    requires { HasAsked activation.old.state }
+    ensures shape { activation.new.shape ≡ activation.old.shape }
+    ensures done { OnOk result ((activation.new.state ≡ resumed request (reply board.old.words request) activation.old.state) × (board.new ≡ entered general round request board.old)) }
+    ensures steps { OnOk result (activation.new.state.steps ≡ activation.old.state.steps) }
+    ensures undone { OnErr result ((activation.new.state ≡ before activation.old.state) × (board.new ≡ board.old)) }
+    ensures of_run { (program : List Insn) (context : List ℕ) →
+        IsAskOfRun program context (record { shape = activation.old.shape; request = request; last = before activation.old.state; state = activation.old.state }) → IsOfRun program context activation.new }
+{
+    match board.apply(general, round, request) {
+        Ok(reply) => {
+            activation.resume(&request, &reply);
+            Ok(())
+        }
+        Err(error) => {
+            activation.withdraw();
+            Err(error)
+        }
+    }
+}
+
+/// The lesser of a limit and a patience.
+fn lesser(patience: Option<u32>, limit: u32) -> u32
+    ensures { result ≡ lesser patience limit }
+{
+    match patience {
+        Some(most) => most.min(limit),
+        None => limit,
+    }
+}
