@@ -41,6 +41,7 @@ impl Running {
     pub fn ahead(&mut self, limit: u32)
         ensures went { Silently self.old self.new }
         ensures pauses { Pauses limit self.new (turn self.new) }
+        ensures within { (m : ℕ) → self.old.state.steps ≤ m → limit ≤ m → self.new.state.steps ≤ m }
     {
         if self.has_ended() {
             return;

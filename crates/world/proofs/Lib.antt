@@ -27,3 +27,4 @@ pub mod Standing
 pub mod Verdicts
 pub mod Ticking
 pub mod Listed
+pub mod Holding

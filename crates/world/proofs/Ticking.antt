@@ -1,20 +1,28 @@
 -- Many ticks of one general, and those that replay a name.
-use Rattle.std.proofs.Common.{◌≡◌, ℕ, zero, suc, ◌+◌, ◌-◌, ◌<◌, ◌≤◌, List, [], ◌∷◌, ◌++◌, length, Bool, true, false, cond, refl, sym, ap, subst, ◌∙◌, Option, Some, None, arith, zero-add}
-use Rattle.std.specs.Prelude.{slice_get, slice_set, replicate}
-use Rattle.semantics.specs.declared.request.Request.{Request}
-use Rattle.semantics.specs.Call.{fits}
-use Rattle.board.specs.Board.{IsBoard, Access, reply}
+use Rattle.std.proofs.Common.{◌≡◌, ℕ, zero, suc, ◌+◌, ◌-◌, ◌≤◌, List, [], length, Bool, refl, sym, ap, subst, ◌∙◌, Option, Some, None, arith, zero-add}
+use Rattle.std.specs.Prelude.{slice_get, replicate}
+use Rattle.board.specs.Board.{IsBoard, reply}
 use Rattle.board.proofs.Serving.{reply_fits}
 use Rattle.world.specs.declared.event.Event.{Event}
 use Rattle.world.specs.declared.event.Event.TheVariants.{Tick}
 use Rattle.round.specs.Scenario.{Scenario}
-use Rattle.round.specs.Activation.{Activation, Turn, Goes, Asks, Ended, turn, has_ended}
+use Rattle.round.specs.Activation.{Activation, Turn, Goes, Asks, Ended, turn}
 use Rattle.world.specs.Part.{Part, Acting, Silent, Posted}
 use Rattle.world.specs.World.{World, served, ticked, happen, run}
 use Rattle.round.specs.Runs.{Onward, Runs}
 use Rattle.world.specs.Lists.{further_turns, until_access, ticks_named}
 use Rattle.round.specs.Running.{Pauses}
-use Rattle.world.specs.Playing.{IsStill}
+use Rattle.std.specs.Prelude.{OnOk}
+use Rattle.std.proofs.Common.{Result, Ok, Err}
+use Rattle.board.specs.Ledger.{Kept}
+use Rattle.round.specs.Letters.{Letter}
+use Rattle.round.specs.Scenario.{IsScenario}
+use Rattle.world.specs.Reached.{world_of, IsHeld}
+use Rattle.world.specs.Held.{AheadTo}
+use Rattle.world.proofs.Lasting.{IsOnTime}
+use Rattle.world.proofs.Untrapped.{held}
+use Rattle.world.proofs.Listing.{set-here}
+use Rattle.world.specs.Playing.{IsStill, program_length}
 use Rattle.round.proofs.Going.{turn_within, over_ended, ended_over}
 use Rattle.round.proofs.Stepping.{runs_steps, turn_counts, CountsTurn}
 use Rattle.world.proofs.Due.{IsDue, due_few, due_lasts}
@@ -121,3 +129,23 @@ named_is s w v g n a b board d at here is way le pause =
     ∙ (sym (events_add n (until_access m.0 b) w (Tick g))
     ∙ (ap (λ (k : ℕ). run w (replicate k (Tick g))) (sym all)
     ∙ ap (λ (o : Option Part). run w (ticks_named g o)) (sym at))))
+
+-- a name's ticks: ahead to the next request or the end, and one more
+named_by : (s : Scenario) (w v : World) (g most taken : ℕ) → IsOnTime s w → (o : Option Part) → slice_get w.parts g ≡ o → program_length o ≡ Some most → AheadTo most taken w.parts g o v.parts → v ≡ run w (replicate taken (Tick g)) →
+    happen v (Tick g) ≡ run w (ticks_named g (slice_get w.parts g))
+named_by s w v g most taken t None at is far ahead = absurd (let f : None ≡ Some most = is in cc)
+named_by s w v g most taken t (Some (Acting a)) at is (b, way, le, pause, new) ahead =
+    let same : length a.program ≡ most = (let f : Some (length a.program) ≡ Some most = is in cc) in
+    let here : slice_get v.parts g ≡ Some (Acting b) = ap (λ (l : List Part). slice_get l g) new ∙ set-here w.parts g (Acting b) (Acting a) at in
+    named_is s w v g taken a b t.kept.board (t.due g (Acting a) at) at here ahead way (omega arith) (subst (λ (n : ℕ). Pauses n b (turn b)) (sym same) pause)
+named_by s w v g most taken t (Some Silent) at is far ahead = absurd (let f : None ≡ Some most = is in cc)
+named_by s w v g most taken t (Some Posted) at is far ahead = absurd (let f : None ≡ Some most = is in cc)
+
+pub named_turn : {A E : Type 0} (result : Result A E) (s : Scenario) (closed : List (List Letter)) (k : Kept) (opened : ℕ) (ps ps' : List Part) (full : Bool) (w v u : World) (g most taken : ℕ) → IsScenario s → IsHeld s closed k opened ps full →
+    world_of s closed k opened ps full ≡ w → ps' ≡ ps → Some most ≡ program_length (slice_get ps' g) → AheadTo most taken w.parts g (slice_get w.parts g) v.parts → v ≡ run w (replicate taken (Tick g)) → OnOk result (u ≡ happen v (Tick g)) →
+    OnOk result (u ≡ run w (ticks_named g (slice_get w.parts g)))
+named_turn (Ok x) s closed k opened ps ps' full w v u g most taken is h view parts_are most_is far ahead done =
+    let timely : IsOnTime s w = subst (λ (x : World). IsOnTime s x) (h.reached.1 ∙ view) ((held s h.reached.0 is).timely) in
+    let parts : ps' ≡ w.parts = parts_are ∙ ap (λ (x : World). x.parts) view in
+    done ∙ named_by s w v g most taken timely (slice_get w.parts g) refl (ap (λ (l : List Part). program_length (slice_get l g)) (sym parts) ∙ sym most_is) far ahead
+named_turn (Err x) s closed k opened ps ps' full w v u g most taken is h view parts_are most_is far ahead done = tt

@@ -1,16 +1,13 @@
 -- How a world is held, and what one event leaves of its parts and its board (own).
-use Rattle.std.specs.Prelude.{ℕ, suc, ◌≡◌, ◌≤◌, ◌-◌, Bool, cond, List, [], ◌∷◌, length, slice_set, slice_get, Option, None, Some}
+use Rattle.std.specs.Prelude.{ℕ, suc, ◌≡◌, ◌≤◌, ◌-◌, cond, List, [], ◌∷◌, length, slice_set, slice_get, Option, None, Some}
 use Rattle.board.specs.Board.{Access}
 use Rattle.board.specs.Ledger.{Kept}
-use Rattle.tree.specs.Kept.{Kept as Filled}
 use Rattle.round.specs.Scenario.{Scenario, program_of}
 use Rattle.round.specs.Letters.{Letter}
 use Rattle.round.specs.Contexts.{loyal_letter}
-use Rattle.round.specs.Activation.{Activation, turn, has_ended}
-use Rattle.round.specs.Runs.{Runs}
+use Rattle.round.specs.Activation.{Activation, turn}
+use Rattle.round.specs.Runs.{Runs, IsLetter}
 use Rattle.round.specs.Running.{moved, Pauses}
-use Rattle.world.specs.Stub.{IsTold}
-use Rattle.world.specs.Reached.{IsHeld}
 use Rattle.world.specs.declared.event.EventError.{EventError}
 use Rattle.world.specs.declared.event.EventError.TheVariants.{Memory}
 use Rattle.world.specs.Part.{Part, Acting, Silent, Posted}
@@ -43,11 +40,6 @@ abbrev pub steps_of : Option Part → ℕ
 steps_of (Some (Acting a)) = a.state.steps
 steps_of _ = 0
 
--- what a world keeps: some list of events leads here, and its trees have what the letters of the closed rounds told
-pub record IsWorld (s : Scenario) (closed : List (List Letter)) (trees : List Filled) (board : Kept) (opened : ℕ) (parts : List Part) (full : Bool) : Type 0 where
-  pub held : IsHeld s closed board opened parts full
-  pub told : IsTold s closed trees
-
 -- a traitor's letter, as his activation stands
 abbrev pub acting_letter : ℕ → ℕ → List Access → Activation → Letter
 acting_letter general round transcript a = record {
@@ -75,3 +67,7 @@ row_of s closed accesses parts = each s.generals (λ g. written s closed accesse
 -- how the generals begin the round behind these
 abbrev pub beginnings : Scenario → List (List Letter) → List Part
 beginnings s closed = cond (round_open s closed) (each s.generals (λ g. begins s closed g (program_of s g) ∷ [])) []
+
+-- what each acting general has done is a letter's run
+abbrev pub AreLetters : ℕ → List Access → List Part → Type 0
+AreLetters round accesses parts = (g : ℕ) (a : Activation) → slice_get parts g ≡ Some (Acting a) → IsLetter (acting_letter g round (accesses_of g accesses) a)

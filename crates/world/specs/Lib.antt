@@ -10,5 +10,4 @@ pub mod Replay
 pub mod Refusals
 pub mod Schedules
 pub mod Playing
-pub mod Stub
 pub mod Held

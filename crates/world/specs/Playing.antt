@@ -1,5 +1,5 @@
 -- How a world is played on (own).
-use Rattle.std.specs.Prelude.{ℕ, ◌≡◌, nat_lt, true, List, map, filter, Option, Some}
+use Rattle.std.specs.Prelude.{ℕ, ◌≡◌, nat_lt, true, List, map, filter, Option, Some, None, length}
 use Rattle.world.specs.declared.event.Event.{Event}
 use Rattle.round.specs.Scenario.{Scenario, program_of}
 use Rattle.world.specs.Lists.{event_of}
@@ -12,6 +12,11 @@ use Rattle.world.specs.Part.{Part, Acting}
 abbrev pub IsStill : Option Part → Type 0
 IsStill (Some (Acting a)) = has_ended a ≡ true
 IsStill _ = Unit {0}
+
+-- how many instructions the program has that is acting there
+abbrev pub program_length : Option Part → Option ℕ
+program_length (Some (Acting a)) = Some (length a.program)
+program_length _ = None
 
 -- what the entries of a line say
 abbrev pub line_events : Scenario → List ℕ → List Event

@@ -1,13 +1,18 @@
 //! The world of a campaign. What is said of it stands in specs/.
 #![tactic(auto)]
 
+mod applying;
+mod beginnings;
 mod campaign;
 mod event;
+mod events;
 mod laws;
 mod onward;
 mod part;
+mod playing;
+mod rows;
 mod schedule;
-mod stub;
+mod teller;
 mod verdict;
 
 pub use campaign::World;
@@ -19,4 +24,5 @@ pub use laws::{
 };
 pub use part::Part;
 pub use schedule::{Entries, Repeat, Schedule};
+pub use teller::Teller;
 pub use verdict::Verdict;

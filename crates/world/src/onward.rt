@@ -2,7 +2,7 @@
 ghost use Rattle.std.specs.Prelude.{◌≡◌, OnOk, OnErr, slice_get, is_some, true};
 ghost use Rattle.world.specs.World.{unfit, named_by};
 ghost use Rattle.world.specs.Held.{ticked_of, posted_of, AheadTo, steps_of};
-ghost use Rattle.world.specs.Playing.{IsStill};
+ghost use Rattle.world.specs.Playing.{IsStill, program_length};
 
 use crate::event::Event;
 use crate::part::Part;
@@ -94,5 +94,17 @@ pub(crate) fn steps(parts: &[Part], general: u32) -> u32
         Some(Part::Silent) => 0,
         Some(Part::Posted) => 0,
         None => 0,
+    }
+}
+
+/// How many instructions the program of an acting general has; none where nobody acts.
+pub(crate) fn instructions(parts: &[Part], general: u32) -> Option<u32>
+    ensures { result ≡ program_length (slice_get parts.now general) }
+{
+    match parts.get(general as usize) {
+        Some(Part::Acting(running)) => Some(running.program().program().len() as u32),
+        Some(Part::Silent) => None,
+        Some(Part::Posted) => None,
+        None => None,
     }
 }
