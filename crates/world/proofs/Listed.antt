@@ -1,7 +1,7 @@
 -- Lists of events, entry by entry, name by name and round by round.
 use Rattle.std.proofs.Common.{◌≡◌, ℕ, zero, suc, ◌+◌, ◌-◌, ◌<◌, ◌≤◌, List, [], ◌∷◌, ◌++◌, length, map, drop, get_or, Bool, true, false, refl, sym, ap, ◌∙◌, ⊎_elim, Option, Some, None, arith}
 use Rattle.std.specs.Prelude.{slice_get, slice_index_or, replicate, nat_lt, filter, OnOk}
-use Rattle.std.proofs.Common.{Result, Ok, Err}
+use Rattle.std.proofs.Common.{Result, Ok, Err, subst}
 use Rattle.std.proofs.lemmas.Bool.{lt-ltb, le-ltb}
 use Rattle.world.specs.declared.event.Event.{Event}
 use Rattle.world.specs.declared.event.Event.TheVariants.{Post, Close}
@@ -14,6 +14,14 @@ use Rattle.world.specs.Schedules.{entries_of, lines_by}
 use Rattle.world.specs.Playing.{line_events}
 use Rattle.world.proofs.Listing.{set-here}
 use Rattle.round.proofs.Lists.{either_way}
+use Rattle.label.specs.Oral.{IsBound, Agree}
+use Rattle.round.specs.Letters.{messages}
+use Rattle.round.specs.Scenario.{IsScenario, is_traitor}
+use Rattle.world.specs.Agreement.{IsFinished}
+use Rattle.world.specs.Chronicle.{decision}
+use Rattle.world.proofs.Agreeing.{proved_worlds_agree}
+use Rattle.world.proofs.Lasting.{listed_complete}
+use Rattle.world.proofs.Punctual.{punctual_full}
 use Rattle.world.proofs.Moves.{run-append}
 use Rattle.world.proofs.Punctual.{run_scenario}
 
@@ -244,3 +252,22 @@ play_next s n i schedule line w u target lt same at is left =
 pub replay_next : (n i : ℕ) (names : List (List ℕ)) (line : List ℕ) (w u target : World) → i < n → line ≡ slice_index_or names i [] → u ≡ run (run w (names_events w line)) (wound_up w.scenario) → run w (replayed_rounds w (n - i) (drop i names)) ≡ target →
     run u (replayed_rounds u (n - (i + 1)) (drop (i + 1) names)) ≡ target
 replay_next n i names line w u target lt at is left = replay_more n i names w u target lt (is ∙ ap (λ (l : List ℕ). run (run w (names_events w l)) (wound_up w.scenario)) at) left
+
+-- what is listed comes to its end, and there the loyal decide alike
+pub listed_finished : (s : Scenario) (lines : List (List ℕ)) → IsScenario s → IsFinished (run (opening s) (listed s lines))
+listed_finished s lines is =
+    let complete = listed_complete s is lines in
+    let same = run_scenario (listed s lines) (opening s) in
+    record {
+      closed = complete.closed ∙ ap (λ (t : Scenario). suc t.bound) (sym same);
+      full = punctual_full s (listed s lines) complete.punctual;
+    }
+
+pub listed_agree : (s : Scenario) (lines : List (List ℕ)) (w : World) → IsScenario s → w ≡ run (opening s) (listed s lines) → IsBound s.generals s.bound (is_traitor s) →
+    Agree s.generals s.commander s.order (is_traitor s) (decision s (messages w.closed))
+listed_agree s lines w is same bound =
+    let A : World → Type 0 = λ v. Agree s.generals s.commander s.order (is_traitor s) (decision s (messages v.closed)) in
+    subst A (sym same) (proved_worlds_agree.agree s (listed s lines) is (listed_finished s lines is) bound)
+
+pub played_finished : (s : Scenario) (lines : List (List ℕ)) (w : World) → IsScenario s → w ≡ run (opening s) (listed s lines) → IsFinished w
+played_finished s lines w is same = subst (λ (v : World). IsFinished v) (sym same) (listed_finished s lines is)

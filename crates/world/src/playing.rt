@@ -1,7 +1,11 @@
 //! Campaigns from a scenario to their end.
 ghost use Rattle.std.specs.Prelude.{◌≡◌, ◌<◌, [], IfOk, OnOk, replicate, slice_get, slice_index_or};
 ghost use Rattle.world.specs.declared.event.Event.TheVariants.{Tick, Post, Close};
-ghost use Rattle.round.specs.Scenario.{program_of};
+ghost use Rattle.label.specs.Oral.{Agree, IsBound};
+ghost use Rattle.round.specs.Letters.{messages};
+ghost use Rattle.round.specs.Scenario.{is_traitor, program_of};
+ghost use Rattle.world.specs.Agreement.{IsFinished};
+ghost use Rattle.world.specs.Chronicle.{decision};
 ghost use Rattle.world.specs.World.{each, opening, happen, run};
 ghost use Rattle.world.specs.Lists.{event_of, post_of, ticks_of, wound_up, listed, replayed, ticks_named, names_events};
 ghost use Rattle.world.specs.Schedules.{entries_of, lines_by};
@@ -205,8 +209,12 @@ impl World {
         scenario: Scenario,
         schedule: &Schedule,
     ) -> Result<World, AllocError>
-        ensures { IfOk result (λ world. world ≡ run (opening scenario) (listed scenario (lines_by schedule.now))) }
+        ensures listed { IfOk result (λ world. world ≡ run (opening scenario) (listed scenario (lines_by schedule.now))) }
+        ensures finished { IfOk result IsFinished }
+        ensures agree { IfOk result (λ world. IsBound scenario.generals scenario.bound (is_traitor scenario) →
+            Agree scenario.generals scenario.commander scenario.order (is_traitor scenario) (decision scenario (messages world.closed))) }
     {
+        let _few = scenario.bound();
         let mut world = World::open(alloc, teller, scenario)?;
         let rounds = usize::from(world.scenario.bound()) + 1;
         for round in 0..rounds {
