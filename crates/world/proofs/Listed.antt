@@ -20,7 +20,7 @@ use Rattle.round.specs.Scenario.{IsScenario, is_traitor}
 use Rattle.world.specs.Agreement.{IsFinished}
 use Rattle.world.specs.Chronicle.{decision}
 use Rattle.world.proofs.Agreeing.{proved_worlds_agree}
-use Rattle.world.proofs.Lasting.{listed_complete}
+use Rattle.world.proofs.Lasting.{listed_complete, replayed_complete}
 use Rattle.world.proofs.Punctual.{punctual_full}
 use Rattle.world.proofs.Moves.{run-append}
 use Rattle.world.proofs.Punctual.{run_scenario}
@@ -271,3 +271,13 @@ listed_agree s lines w is same bound =
 
 pub played_finished : (s : Scenario) (lines : List (List ℕ)) (w : World) → IsScenario s → w ≡ run (opening s) (listed s lines) → IsFinished w
 played_finished s lines w is same = subst (λ (v : World). IsFinished v) (sym same) (listed_finished s lines is)
+
+-- so does what is replayed
+pub replayed_finished : (s : Scenario) (names : List (List ℕ)) (w : World) → IsScenario s → w ≡ run (opening s) (replayed s names) → IsFinished w
+replayed_finished s names w is same =
+    let complete = replayed_complete s is names in
+    let scenario = run_scenario (replayed s names) (opening s) in
+    subst (λ (v : World). IsFinished v) (sym same) (record {
+      closed = complete.closed ∙ ap (λ (t : Scenario). suc t.bound) (sym scenario);
+      full = punctual_full s (replayed s names) complete.punctual;
+    })

@@ -21,6 +21,13 @@ impl World {
         self.closed.len() as u32 + 1
     }
 
+    /// Whether in each closed round every loyal general had posted.
+    pub fn full(&self) -> bool
+        ensures { result ≡ self.now.full }
+    {
+        self.full
+    }
+
     /// One turn of a traitor's activation; nothing where nobody acts.
     pub(crate) fn turn(&mut self, general: u32) -> Result<(), AllocError>
         ensures done { OnOk result (self.new ≡ happen self.old (Tick general)) }

@@ -234,8 +234,10 @@ impl World {
         scenario: Scenario,
         names: &[Vec<u8>],
     ) -> Result<World, AllocError>
-        ensures { IfOk result (λ world. world ≡ run (opening scenario) (replayed scenario (lists_in names.now))) }
+        ensures replayed { IfOk result (λ world. world ≡ run (opening scenario) (replayed scenario (lists_in names.now))) }
+        ensures finished { IfOk result IsFinished }
     {
+        let _few = scenario.bound();
         let mut world = World::open(alloc, teller, scenario)?;
         let rounds = usize::from(world.scenario.bound()) + 1;
         for round in 0..rounds {
