@@ -4,5 +4,5 @@ pub mod Oral
 pub mod Laws
 pub mod Generals
 pub mod Space
-pub mod Mask
 pub mod Lieutenants
+pub mod Mask

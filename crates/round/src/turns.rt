@@ -42,6 +42,7 @@ impl Running {
         ensures went { Silently self.old self.new }
         ensures pauses { Pauses limit self.new (turn self.new) }
         ensures same { IsSameRun self.old self.new }
+        ensures within { (m : ℕ) → self.old.state.steps ≤ m → limit ≤ m → self.new.state.steps ≤ m }
     {
         if self.has_ended() {
             return;

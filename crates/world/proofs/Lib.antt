@@ -25,3 +25,6 @@ pub mod Refusing
 pub mod Example
 pub mod Standing
 pub mod Verdicts
+pub mod Ticking
+pub mod Listed
+pub mod Holding

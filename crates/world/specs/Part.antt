@@ -1,12 +1,7 @@
--- Where a general stands in the open round (own).
+-- Where a general stands in the open round: a traitor in his activation, a loyal general before or behind his letter (own).
 use Rattle.std.specs.Prelude.{Bool, true, false}
-use Rattle.round.specs.Activation.{Activation}
-
--- a traitor in his activation, a loyal general before or behind his letter
-pub data Part : Type 0 where
-  Acting : Activation → Part
-  Silent : Part
-  Posted : Part
+pub use Rattle.world.specs.declared.part.Part.{Part}
+pub use Rattle.world.specs.declared.part.Part.TheVariants.{Acting, Silent, Posted}
 
 abbrev pub has_posted : Part → Bool
 has_posted (Acting a) = true

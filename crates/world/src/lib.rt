@@ -1,16 +1,28 @@
 //! The world of a campaign. What is said of it stands in specs/.
 #![tactic(auto)]
 
+mod applying;
+mod beginnings;
+mod campaign;
 mod event;
+mod events;
 mod laws;
+mod onward;
+mod part;
+mod playing;
+mod rows;
 mod schedule;
+mod teller;
 mod verdict;
 
+pub use campaign::World;
 pub use event::{Event, EventError};
 pub use laws::{
     accounts_are_runs, activations_are_runs, activations_are_safe, decisions_agree,
     idle_events_change_nothing, ledgers_decide, lists_are_complete, parts_are_placed,
     refusals_change_nothing, runs_are_accounted, runs_are_replays, verdicts_mean, worlds_agree,
 };
+pub use part::Part;
 pub use schedule::{Entries, Repeat, Schedule};
+pub use teller::Teller;
 pub use verdict::Verdict;

@@ -1,0 +1,73 @@
+-- How a world is held, and what one event leaves of its parts and its board (own).
+use Rattle.std.specs.Prelude.{ℕ, suc, ◌≡◌, ◌≤◌, ◌-◌, cond, List, [], ◌∷◌, length, slice_set, slice_get, Option, None, Some}
+use Rattle.board.specs.Board.{Access}
+use Rattle.board.specs.Ledger.{Kept}
+use Rattle.round.specs.Scenario.{Scenario, program_of}
+use Rattle.round.specs.Letters.{Letter}
+use Rattle.round.specs.Contexts.{loyal_letter}
+use Rattle.round.specs.Activation.{Activation, turn}
+use Rattle.round.specs.Runs.{Runs, IsLetter}
+use Rattle.round.specs.Running.{moved, Pauses}
+use Rattle.world.specs.declared.event.EventError.{EventError}
+use Rattle.world.specs.declared.event.EventError.TheVariants.{Memory}
+use Rattle.world.specs.Part.{Part, Acting, Silent, Posted}
+use Rattle.world.specs.World.{each, accesses_of, begins, round_open}
+
+-- an error is the refusal, and where nothing is refused the want of memory
+abbrev pub IsAnswer : EventError → Option EventError → Type 0
+IsAnswer error (Some refused) = error ≡ refused
+IsAnswer error None = error ≡ Memory
+
+-- what a tick leaves
+abbrev pub ticked_of : ℕ → ℕ → List Part → Kept → Option Part → List Part × Kept
+ticked_of general round parts board (Some (Acting a)) =
+    (slice_set parts general (Acting (moved general round a board (turn a)).0), (moved general round a board (turn a)).1)
+ticked_of general round parts board _ = (parts, board)
+
+-- what a post leaves
+abbrev pub posted_of : ℕ → List Part → Option Part → List Part
+posted_of general parts (Some Silent) = slice_set parts general Posted
+posted_of general parts _ = parts
+
+-- what some turns of a general without an access leave, up to so many steps in all
+abbrev pub AheadTo : ℕ → ℕ → List Part → ℕ → Option Part → List Part → Type 0
+AheadTo limit taken parts g (Some (Acting a)) new =
+    (b : Activation) × Runs taken a [] b × (taken ≤ limit - a.state.steps) × Pauses limit b (turn b) × (new ≡ slice_set parts g (Acting b))
+AheadTo limit taken parts g _ new = (taken ≡ 0) × (new ≡ parts)
+
+-- how many steps a part has taken
+abbrev pub steps_of : Option Part → ℕ
+steps_of (Some (Acting a)) = a.state.steps
+steps_of _ = 0
+
+-- a traitor's letter, as his activation stands
+abbrev pub acting_letter : ℕ → ℕ → List Access → Activation → Letter
+acting_letter general round transcript a = record {
+  general = general;
+  round = round;
+  context = a.context;
+  program = Some a.program;
+  transcript = transcript;
+  steps = a.state.steps;
+  outbox = record { shape = a.shape; rows = a.state.outbox };
+  exited = a.over;
+}
+
+-- a general's letter, or none, from his part and the round's accesses
+abbrev pub written : Scenario → List (List Letter) → List Access → ℕ → Option Part → List Letter
+written s closed accesses g (Some (Acting a)) = acting_letter g (suc (length closed)) (accesses_of g accesses) a ∷ []
+written s closed accesses g (Some Silent) = []
+written s closed accesses g (Some Posted) = loyal_letter s closed g ∷ []
+written s closed accesses g None = []
+
+-- the letters of a round
+abbrev pub row_of : Scenario → List (List Letter) → List Access → List Part → List Letter
+row_of s closed accesses parts = each s.generals (λ g. written s closed accesses g (slice_get parts g))
+
+-- how the generals begin the round behind these
+abbrev pub beginnings : Scenario → List (List Letter) → List Part
+beginnings s closed = cond (round_open s closed) (each s.generals (λ g. begins s closed g (program_of s g) ∷ [])) []
+
+-- what each acting general has done is a letter's run
+abbrev pub AreLetters : ℕ → List Access → List Part → Type 0
+AreLetters round accesses parts = (g : ℕ) (a : Activation) → slice_get parts g ≡ Some (Acting a) → IsLetter (acting_letter g round (accesses_of g accesses) a)

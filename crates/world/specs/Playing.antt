@@ -1,0 +1,27 @@
+-- How a world is played on (own).
+use Rattle.std.specs.Prelude.{ℕ, ◌≡◌, nat_lt, true, List, map, filter, Option, Some, None, length}
+use Rattle.world.specs.declared.event.Event.{Event}
+use Rattle.round.specs.Scenario.{Scenario, program_of}
+use Rattle.world.specs.Lists.{event_of}
+use Rattle.std.proofs.Common.{Vec}
+use Rattle.std.specs.Global.{Global}
+use Rattle.round.specs.Activation.{has_ended}
+use Rattle.world.specs.Part.{Part, Acting}
+
+-- nobody acts there, or his activation has ended
+abbrev pub IsStill : Option Part → Type 0
+IsStill (Some (Acting a)) = has_ended a ≡ true
+IsStill _ = Unit {0}
+
+-- how many instructions the program has that is acting there
+abbrev pub program_length : Option Part → Option ℕ
+program_length (Some (Acting a)) = Some (length a.program)
+program_length _ = None
+
+-- what the entries of a line say
+abbrev pub line_events : Scenario → List ℕ → List Event
+line_events s line = map (λ g. event_of g (program_of s g)) (filter (λ g. nat_lt g s.generals) line)
+
+-- the lists of some vectors
+abbrev pub lists_in : List (Vec ℕ Global) → List (List ℕ)
+lists_in vectors = map (λ v. v.items) vectors

@@ -1,0 +1,85 @@
+//! Single events.
+ghost use Rattle.std.specs.Prelude.{◌≡◌, ◌≤◌, suc, length, OnOk, OnErr, slice_get, replicate};
+ghost use Rattle.world.specs.declared.event.Event.TheVariants.{Tick, Post, Close};
+ghost use Rattle.world.specs.World.{happen, run};
+ghost use Rattle.world.specs.Held.{AheadTo};
+
+use crate::beginnings::beginnings;
+use crate::campaign::World;
+use crate::onward;
+use crate::rows::{is_full, letters, since};
+use crate::teller::Teller;
+use round::Round;
+use std::alloc::{AllocError, Global};
+
+impl World {
+    /// The number of the open round.
+    fn round(&self) -> u32
+        ensures { result ≡ suc (length self.now.closed) }
+    {
+        let _few = self.scenario.bound();
+        self.closed.len() as u32 + 1
+    }
+
+    /// Whether in each closed round every loyal general had posted.
+    pub fn full(&self) -> bool
+        ensures { result ≡ self.now.full }
+    {
+        self.full
+    }
+
+    /// One turn of a traitor's activation; nothing where nobody acts.
+    pub(crate) fn turn(&mut self, general: u32) -> Result<(), AllocError>
+        ensures done { OnOk result (self.new ≡ happen self.old (Tick general)) }
+        ensures undone { OnErr result (self.new ≡ self.old) }
+    {
+        let round = self.round();
+        onward::turn(&mut self.parts, &mut self.board, general, round)
+    }
+
+    /// A traitor's turns up to so many steps in all, his next access or his end: how many there were.
+    pub(crate) fn ahead(&mut self, general: u32, limit: u32) -> u32
+        ensures same { self.new ≡ run self.old (replicate result (Tick general)) }
+        ensures far { AheadTo limit result self.old.parts general (slice_get self.old.parts general) self.new.parts }
+    {
+        onward::ahead(&mut self.parts, general, limit)
+    }
+
+    /// A loyal general's letter; nothing where none is awaited.
+    pub(crate) fn post(&mut self, general: u32)
+        ensures { self.new ≡ happen self.old (Post general) }
+    {
+        onward::post(&mut self.parts, general);
+    }
+
+    /// The end of the round: all letters, and all parts of the next one, are made before the world is written.
+    pub(crate) fn close<T: Teller>(&mut self, alloc: Global, teller: &T) -> Result<(), AllocError>
+        requires { length self.old.closed ≤ self.old.scenario.bound }
+        ensures done { OnOk result (self.new ≡ happen self.old Close) }
+        ensures undone { OnErr result (self.new ≡ self.old) }
+    {
+        let _few = self.scenario.bound();
+        let accesses = since(self.board.ledger(), self.opened);
+        let Ok(row) = letters(
+            alloc,
+            teller,
+            &self.scenario,
+            self.closed.as_slice(),
+            accesses,
+            self.parts.as_slice(),
+        ) else {
+            return Err(AllocError);
+        };
+        let Ok(()) = self.closed.push(Round { letters: row }) else {
+            return Err(AllocError);
+        };
+        let Ok(parts) = beginnings(alloc, teller, &self.scenario, self.closed.as_slice()) else {
+            let _ = self.closed.pop();
+            return Err(AllocError);
+        };
+        self.opened = self.board.ledger().len();
+        self.full = is_full(self.full, self.parts.as_slice());
+        self.parts = parts;
+        Ok(())
+    }
+}

@@ -1,0 +1,110 @@
+//! What one event leaves of the parts and the board.
+ghost use Rattle.std.specs.Prelude.{◌≡◌, OnOk, OnErr, slice_get, is_some, true};
+ghost use Rattle.world.specs.World.{unfit, named_by};
+ghost use Rattle.world.specs.Held.{ticked_of, posted_of, AheadTo, steps_of};
+ghost use Rattle.world.specs.Playing.{IsStill, program_length};
+
+use crate::event::Event;
+use crate::part::Part;
+use board::Board;
+use std::alloc::AllocError;
+
+/// Whether there is no such general, or he is not of the event's kind.
+pub(crate) fn is_unfit(parts: &[Part], event: Event) -> bool
+    ensures { result ≡ is_some (unfit event (slice_get parts.now (named_by event))) }
+{
+    match event {
+        Event::Tick(general) => !matches!(parts.get(general as usize), Some(Part::Acting(_))),
+        Event::Post(general) => !matches!(
+            parts.get(general as usize),
+            Some(Part::Silent | Part::Posted)
+        ),
+        Event::Close => false,
+    }
+}
+
+/// One turn of a traitor's activation; without memory, nothing changes.
+pub(crate) fn turn(
+    parts: &mut Vec<Part>,
+    board: &mut Board,
+    general: u32,
+    round: u32,
+) -> Result<(), AllocError>
+    ensures done { OnOk result ((parts.new.items, board.new) ≡ ticked_of general round parts.old.items board.old (slice_get parts.old.items general)) }
+    ensures undone { OnErr result ((parts.new.items ≡ parts.old.items) × (board.new ≡ board.old)) }
+{
+    let place = general as usize;
+    if place >= parts.len() {
+        return Ok(());
+    }
+    match &mut parts[place] {
+        Part::Acting(running) => running.turn(board, general, round),
+        Part::Silent => Ok(()),
+        Part::Posted => Ok(()),
+    }
+}
+
+/// A traitor's turns up to so many steps in all, his next access or his end: how many there were.
+pub(crate) fn ahead(parts: &mut Vec<Part>, general: u32, limit: u32) -> u32
+    ensures { AheadTo limit result parts.old.items general (slice_get parts.old.items general) parts.new.items }
+{
+    let place = general as usize;
+    if place >= parts.len() {
+        return 0;
+    }
+    match &mut parts[place] {
+        Part::Acting(running) => {
+            let before = running.steps();
+            running.ahead(limit);
+            running.steps() - before
+        }
+        Part::Silent => 0,
+        Part::Posted => 0,
+    }
+}
+
+/// A loyal general's letter; a second one changes nothing.
+pub(crate) fn post(parts: &mut Vec<Part>, general: u32)
+    ensures { parts.new.items ≡ posted_of general parts.old.items (slice_get parts.old.items general) }
+{
+    let place = general as usize;
+    if let Some(Part::Silent) = parts.get(place) {
+        parts[place] = Part::Posted;
+    }
+}
+
+/// Whether nobody acts there, or his activation has ended.
+pub(crate) fn is_still(parts: &[Part], general: u32) -> bool
+    ensures { result ≡ true → IsStill (slice_get parts.now general) }
+{
+    match parts.get(general as usize) {
+        Some(Part::Acting(running)) => running.has_ended(),
+        Some(Part::Silent) => true,
+        Some(Part::Posted) => true,
+        None => true,
+    }
+}
+
+/// How many steps a traitor's activation has taken.
+pub(crate) fn steps(parts: &[Part], general: u32) -> u32
+    ensures { result ≡ steps_of (slice_get parts.now general) }
+{
+    match parts.get(general as usize) {
+        Some(Part::Acting(running)) => running.steps(),
+        Some(Part::Silent) => 0,
+        Some(Part::Posted) => 0,
+        None => 0,
+    }
+}
+
+/// How many instructions the program of an acting general has; none where nobody acts.
+pub(crate) fn instructions(parts: &[Part], general: u32) -> Option<u32>
+    ensures { result ≡ program_length (slice_get parts.now general) }
+{
+    match parts.get(general as usize) {
+        Some(Part::Acting(running)) => Some(running.program().program().len() as u32),
+        Some(Part::Silent) => None,
+        Some(Part::Posted) => None,
+        None => None,
+    }
+}

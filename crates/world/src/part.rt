@@ -1,0 +1,27 @@
+ghost use Rattle.std.specs.Prelude.{◌≡◌};
+ghost use Rattle.world.specs.Part.{has_posted};
+
+use round::Running;
+
+/// Where a general stands in the open round.
+#[derive(Drop)]
+pub enum Part {
+    /// A traitor in his activation.
+    Acting(Running),
+    /// A loyal general before his letter.
+    Silent,
+    /// A loyal general behind it.
+    Posted,
+}
+
+impl Part {
+    /// Whether no letter is awaited of him.
+    pub fn has_posted(&self) -> bool
+        ensures { result ≡ has_posted self.now }
+    {
+        match self {
+            Part::Acting(_) | Part::Posted => true,
+            Part::Silent => false,
+        }
+    }
+}
