@@ -9,6 +9,5 @@ pub mod Agreement
 pub mod Safety
 pub mod Replay
 pub mod Refusals
-pub mod Schedules
 pub mod Playing
 pub mod Held

@@ -15,3 +15,8 @@ IsReached w = (events : List Event) × (run (opening w.scenario) events ≡ w)
 abbrev pub world_of : Scenario → List (List Letter) → Kept → ℕ → List Part → Bool → World
 world_of s closed board opened parts full =
     record { scenario = s; closed = closed; words = board.words; ledger = board.ledger; opened = opened; parts = parts; full = full }
+
+-- what is kept of a world: some list of events leads here, and its board opened as the scenario says
+pub record IsHeld (s : Scenario) (closed : List (List Letter)) (board : Kept) (opened : ℕ) (parts : List Part) (full : Bool) : Type 0 where
+  pub reached : IsReached (world_of s closed board opened parts full)
+  pub opening : board.opening ≡ s.board
