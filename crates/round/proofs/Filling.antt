@@ -1,14 +1,13 @@
 -- The trees of all lieutenants, round by round.
-use Rattle.std.proofs.Common.{◌≡◌, ◌≢◌, ℕ, zero, suc, ◌+◌, ◌-◌, ◌<◌, ◌≤◌, List, [], ◌∷◌, ◌++◌, length, take, get_or, set, Bool, true, false, refl, sym, ap, subst, ◌∙◌, Some, None, Option, arith, ⊎_elim, ◌⊎◌, inl, inr, length-append}
+use Rattle.std.proofs.Common.{◌≡◌, ◌≢◌, ℕ, zero, suc, ◌+◌, ◌-◌, ◌<◌, ◌≤◌, List, [], ◌∷◌, ◌++◌, length, take, get_or, set, Bool, true, false, refl, sym, ap, subst, ◌∙◌, Some, None, arith, ⊎_elim, ◌⊎◌, inl, inr, length-append}
 use Rattle.std.specs.Prelude.{slice_get, slice_index, ◌==◌, nat_lt, if◌then◌else◌}
 use Rattle.std.proofs.lemmas.Bool.{ltb-true, ltb-false}
 use Rattle.std.proofs.lemmas.Bool.Decides.{eqb_tells}
 use Rattle.std.proofs.lemmas.Option.{slice_get_within, slice_get_read, slice_get-get_or}
-use Rattle.label.specs.Labels.{labels}
 use Rattle.label.specs.Oral.{Messages}
 use Rattle.label.proofs.Listing.{proved_labels_are_exact}
 use Rattle.tree.specs.Kept.{Kept, IsFilled, SameCampaign, silence}
-use Rattle.round.specs.Scenario.{Scenario, IsScenario, shape_of}
+use Rattle.round.specs.Scenario.{Scenario, IsScenario}
 use Rattle.round.specs.Letters.{Letter, messages, told_by, letter_of}
 use Rattle.round.specs.Told.{IsTreeOf, AreDue, AreLettersOf, Heard, WasTold, told_now, heard_also, round_of, lieutenant_at}
 use Rattle.round.proofs.Delivering.{levels-same, heard_here, heard_other}

@@ -1,5 +1,5 @@
 -- An activation on its way, with the accesses that it has made.
-use Rattle.std.proofs.Common.{◌≡◌, ℕ, zero, suc, ◌+◌, ◌≤◌, List, [], ◌∷◌, ◌++◌, Bool, true, false, refl, sym, ap, subst, ◌∙◌, Option, Some, None, All, arith, append-nil}
+use Rattle.std.proofs.Common.{◌≡◌, ℕ, zero, suc, ◌≤◌, List, [], ◌∷◌, ◌++◌, true, refl, sym, ap, subst, ◌∙◌, Option, Some, None, arith, append-nil}
 use Rattle.std.specs.Option.{option_to_list}
 use Rattle.std.specs.Prelude.{◌||◌}
 use Rattle.insn.specs.declared.insn.Insn.{Insn}
@@ -9,7 +9,7 @@ use Rattle.board.specs.Board.{Access}
 use Rattle.round.specs.Activation.{Activation, Turn, Goes, Asks, Ended, turn, started, has_ended, is_reached}
 use Rattle.round.specs.Contexts.{shape_told}
 use Rattle.round.specs.Letters.{Letter}
-use Rattle.round.specs.Runs.{Onward, Runs, IsRunOf, IsWithin, IsLetter}
+use Rattle.round.specs.Runs.{Onward, Runs, IsWithin, IsLetter}
 use Rattle.round.specs.Running.{TakesTurn, IsSameRun, Silently, AreAccessesOf, IsOnWay, IsLived, letter_left}
 use Rattle.round.proofs.Patience.{under, runs_under}
 use Rattle.round.proofs.Stepping.{runs_steps}

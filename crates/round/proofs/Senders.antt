@@ -12,7 +12,7 @@ use Rattle.label.specs.Relay.{IsShape, relay, receivers}
 use Rattle.label.proofs.Ranks.{others-at, others-place}
 use Rattle.label.proofs.Listing.{proved_labels_differ}
 use Rattle.label.proofs.Same.{label_stands}
-use Rattle.round.specs.Letters.{Letter, beside, tells, told_by, letter_of}
+use Rattle.round.specs.Letters.{Letter, beside, tells, letter_of}
 use Rattle.round.specs.Delivery.{IsLastOf, IsFor}
 use Rattle.round.proofs.Fronts.{Front, front, apart}
 

@@ -1,11 +1,11 @@
 -- What a loyal general's outbox tells, receiver by receiver.
-use Rattle.std.proofs.Common.{◌≡◌, ◌≢◌, ℕ, zero, suc, ◌+◌, ◌<◌, ◌≤◌, ◌^◌, List, [], ◌∷◌, ◌++◌, length, map, Bool, true, false, cond, refl, sym, ap, subst, ◌∙◌, ⊎_elim, Option, Some, None, Result, Ok, Err, arith}
-use Rattle.std.specs.Prelude.{slice_get, IfOk, zip, nat_lt, ◌==◌, ◌||◌, if◌then◌else◌}
+use Rattle.std.proofs.Common.{◌≡◌, ◌≢◌, ℕ, ◌+◌, ◌<◌, ◌≤◌, List, [], ◌∷◌, ◌++◌, map, Bool, true, false, refl, ap, ◌∙◌, ⊎_elim, Option, Some, None, arith}
+use Rattle.std.specs.Prelude.{zip, nat_lt, ◌==◌, ◌||◌, if◌then◌else◌}
 use Rattle.std.specs.List.{enumerate_from}
 use Rattle.std.proofs.lemmas.Bool.{eq-eqb, lt-ltb, le-ltb, ltb-true, ltb-false}
 use Rattle.std.proofs.lemmas.Bool.Decides.{eqb_tells}
 use Rattle.label.specs.declared.shape.Shape.{Shape}
-use Rattle.label.specs.Labels.{on, others}
+use Rattle.label.specs.Labels.{on}
 use Rattle.label.specs.Oral.{AllBelow}
 use Rattle.label.specs.Relay.{relay, receivers}
 use Rattle.semantics.specs.State.{Outbox}

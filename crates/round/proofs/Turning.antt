@@ -1,22 +1,22 @@
 -- One step of the machine is one turn.
-use Rattle.std.proofs.Common.{◌≡◌, ℕ, zero, suc, ◌+◌, ◌<◌, ◌≤◌, List, [], Bool, true, false, cond, Some, None, Option, refl, sym, ap, subst, ◌∙◌, arith, ◌||◌, min}
+use Rattle.std.proofs.Common.{◌≡◌, ℕ, zero, suc, ◌+◌, ◌<◌, ◌≤◌, List, [], Bool, true, false, cond, Some, None, Option, refl, sym, ap, subst, ◌∙◌, arith, ◌||◌}
 use Rattle.std.proofs.lemmas.Bool.{leb-false}
 use Rattle.insn.specs.declared.insn.Insn.{Insn}
 use Rattle.label.specs.declared.shape.Shape.{Shape}
 use Rattle.semantics.specs.declared.request.Request.{Request}
 use Rattle.semantics.specs.State.{State, Outcome, Next, Ask, Exit, Trap}
 use Rattle.semantics.specs.Execution.{step}
-use Rattle.semantics.specs.Run.{Progress, Exited as Left, after}
+use Rattle.semantics.specs.Run.{Exited as Left}
 use Rattle.semantics.specs.Whole.{CountsOnce}
 use Rattle.semantics.proofs.StepLaws.{step_counts}
 use Rattle.machine.specs.Standing.{Standing, before}
 use Rattle.machine.specs.declared.pause.Stop.{Stop}
 use Rattle.machine.specs.declared.pause.Stop.TheVariants.{Asked, Exited, Limit}
 use Rattle.semantics.specs.Reached.{Reached}
-use Rattle.machine.specs.Advance.{IsOfRun, Leads, Requests, Exits, Stops, Advances, StandsAt, paused}
+use Rattle.machine.specs.Advance.{IsOfRun, Leads, Requests, Advances, StandsAt, paused}
 use Rattle.round.specs.Activation.{Activation, Turn, Goes, Asks, Ended, turned, turn, has_ended, is_reached}
 use Rattle.round.specs.Runs.{Onward, Runs, IsWithin}
-use Rattle.round.proofs.Patience.{under, runs_under}
+use Rattle.round.proofs.Patience.{runs_under}
 use Rattle.round.specs.Running.{Stopped, IsBack, activation_of, Silently, Pauses, lesser}
 
 -- so many steps are counted

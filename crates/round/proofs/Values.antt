@@ -1,7 +1,9 @@
 -- The values that a lieutenant took are a level of his tree.
-use Rattle.std.proofs.Common.{◌≡◌, ◌≢◌, ℕ, zero, suc, ◌+◌, ◌-◌, ◌<◌, ◌≤◌, List, [], ◌∷◌, length, map, Bool, true, false, cond, refl, sym, ap, ◌∙◌, Some, Option, arith, ⊎_elim, ◌⊎◌, inl, inr, get_or, Result, Ok, Err}
-use Rattle.std.specs.Prelude.{slice_get, IfOk, Vec, ◌==◌}
+use Rattle.std.proofs.Common.{◌≡◌, ◌≢◌, ℕ, zero, suc, ◌+◌, ◌-◌, ◌<◌, ◌≤◌, ◌^◌, List, [], ◌∷◌, length, map, All, subst, None, true, false, refl, sym, ap, ◌∙◌, Some, Option, arith, ⊎_elim, ◌⊎◌, inl, inr, get_or, Result, Ok, Err}
+use Rattle.std.specs.Prelude.{slice_get, IfOk, OnOk, Vec, ◌==◌}
 use Rattle.std.proofs.lemmas.Bool.Decides.{eqb_tells}
+use Rattle.std.proofs.lemmas.List.{length-map}
+use Rattle.std.proofs.lemmas.Option.{slice_get_within}
 use Rattle.label.specs.declared.shape.Shape.{Shape}
 use Rattle.label.specs.Labels.{labels}
 use Rattle.label.specs.Relay.{relay}
@@ -10,7 +12,7 @@ use Rattle.label.proofs.Listing.{proved_labels_are_exact}
 use Rattle.tree.specs.Kept.{Kept, IsFilled, level_told}
 use Rattle.round.specs.Scenario.{Scenario, IsScenario, shape_of}
 use Rattle.round.specs.Letters.{Letter, messages}
-use Rattle.round.specs.Contexts.{value_of, context_bytes, context_numbers, context_of}
+use Rattle.round.specs.Contexts.{value_of, context_bytes, context_numbers, context_of, AreWords}
 use Rattle.std.specs.declared.alloc.Global.{Global}
 use Rattle.round.specs.Told.{IsTreeOf, Heard, WasTold, lieutenant_at}
 use Rattle.round.proofs.Telling.{few_labels}
@@ -115,3 +117,66 @@ pub opening_told : {E : Type 0} (r : Result (Vec ℕ Global) E) (s : Scenario) (
 opening_told (Ok v) s g bound shape ne es eb is =
     is ∙ first_is s [] g 0 bound shape refl es eb (λ h. refl) (inr (λ e. ne (sym (ap (λ (x : Shape). x.general) es) ∙ (e ∙ ap (λ (x : Shape). x.commander) es))))
 opening_told (Err e) s g bound shape ne es eb is = tt
+
+get_map : {B : Type 0} (F : List ℕ → B) (ws : List (List ℕ)) (i : ℕ) (w : List ℕ) (d : B) → slice_get ws i ≡ Some w → get_or (map F ws) i d ≡ F w
+get_map F [] i w d e = cc
+get_map F (x ∷ ws) zero w d e = (let same : x ≡ w = cc in ap F same)
+get_map F (x ∷ ws) (suc i) w d e = get_map F ws i w d e
+
+-- what the level of a lieutenant's tree has are words
+pub words_told : (s : Scenario) (before : List (List Letter)) (h : Heard) (g k i : ℕ) (t : Kept) (level : List (Option ℕ)) → IsScenario s → WasTold s before h → k ≡ h.rounds → (k ≡ 0 → ⊥) → lieutenant_at s.commander i ≡ g → i < length h.trees → t ≡ get_or h.trees i t →
+    ((M : Messages) → IsFilled t M → level ≡ level_told t.generals t.commander t.general M k) → All (λ v. order_of v < 2 ^ 32) level → AreWords s before g
+words_told s before h g k i t level is told ek some there lt at told_level small rank u place =
+    let tree = own_tree s before h i g t told lt at there in
+    let round : suc k ≡ suc (length before) = ap suc (ek ∙ told.rounds) in
+    let own : level ≡ level_told s.generals s.commander g (messages before) k =
+    told_level (messages before) tree.filled ∙ (λ j. level_told (tree.generals j) (tree.commander j) (tree.general j) (messages before) k) in
+    let here : slice_get (labels s.generals s.commander g k) rank ≡ Some u =
+    ap (λ (ws : List (List ℕ)). slice_get ws rank) (sym (relay_lieutenant s g k tree.lieutenant) ∙ ap (λ (j : ℕ). relay (shape_of s g j)) round) ∙ place in
+    let inside : rank < length (labels s.generals s.commander g k) = slice_get_within (labels s.generals s.commander g k) rank u here in
+    let value : get_or level rank None ≡ messages before u g = ap (λ (l : List (Option ℕ)). get_or l rank None) own ∙ get_map (λ w. messages before w g) (labels s.generals s.commander g k) rank u None here in
+    let long : length level ≡ length (labels s.generals s.commander g k) = ap length own ∙ length-map (labels s.generals s.commander g k) (λ w. messages before w g) in
+    let few = small rank None (omega arith) in
+    let size = (proved_labels_are_exact.only s.generals s.commander g k rank u is.commander tree.within tree.lieutenant here).2 in
+    let heard_is : value_of s before g u ≡ order_of (messages before u g) = heard_taken (messages before) s.order g u (omega arith) in
+    (let P : ℕ → Type 0 = λ n. n < 2 ^ 32 in subst P (sym (heard_is ∙ ap order_of (sym value))) few)
+
+no_labels : (n c p : ℕ) → labels n c p 0 ≡ []
+unfolding labels
+no_labels n c p = refl
+
+none_there : (ws : List (List ℕ)) (rank : ℕ) (u : List ℕ) → ws ≡ [] → slice_get ws rank ≡ Some u → ⊥
+none_there ws rank u e at = by rank (ap (λ (l : List (List ℕ)). slice_get l rank) (sym e) ∙ at)
+  where
+    by : (rank : ℕ) → slice_get [] rank ≡ Some u → ⊥
+    by zero e = cc
+    by (suc rank) e = cc
+
+only_empty : (rank : ℕ) (u : List ℕ) → slice_get ([] ∷ []) rank ≡ Some u → u ≡ []
+only_empty zero u e = cc
+only_empty (suc rank) u e = cc
+
+-- in the first round the commander has his order, and the others nothing; later the commander has nothing
+pub words_first : (s : Scenario) (before : List (List Letter)) (h : Heard) (g : ℕ) → IsScenario s → WasTold s before h → ((h.rounds ≡ 0) ⊎ (g ≡ s.commander)) → AreWords s before g
+words_first s before h g is told first rank u place = ⊎_elim
+    (λ (q : (g == s.commander ≡ true) × (g ≡ s.commander)). ⊎_elim
+    (λ (r : (suc (length before) == 1 ≡ true) × (suc (length before) ≡ 1)).
+    let only : relay (shape_of s g (suc (length before))) ≡ [] ∷ [] = rw (q.0, r.0) refl in
+    let empty : u ≡ [] = only_empty rank u (ap (λ (ws : List (List ℕ)). slice_get ws rank) (sym only) ∙ place) in
+    (let P : List ℕ → Type 0 = λ w. value_of s before g w < 2 ^ 32 in subst P (sym empty) is.order))
+    (λ (r : (suc (length before) == 1 ≡ false) × (suc (length before) ≢ 1)).
+    absurd (none_there (relay (shape_of s g (suc (length before)))) rank u (rw (q.0, r.0) refl) place))
+    (eqb_tells (suc (length before)) 1))
+    (λ (q : (g == s.commander ≡ false) × (g ≢ s.commander)).
+    let none : length before ≡ 0 = ⊎_elim (λ (z : h.rounds ≡ 0). sym told.rounds ∙ z) (λ (z : g ≡ s.commander). absurd (q.1 z)) first in
+    absurd (none_there (relay (shape_of s g (suc (length before)))) rank u (relay_lieutenant s g (length before) q.1 ∙ (ap (labels s.generals s.commander g) none ∙ no_labels s.generals s.commander g)) place))
+    (eqb_tells g s.commander)
+
+-- from one fact on success to another
+pub on_ok : {A E : Type 0} (r : Result A E) (P Q : Type 0) → (P → Q) → OnOk r P → OnOk r Q
+on_ok (Ok a) P Q f h = f h
+on_ok (Err e) P Q f h = tt
+
+pub always_ok : {A E : Type 0} (r : Result A E) (Q : Type 0) → Q → OnOk r Q
+always_ok (Ok a) Q h = h
+always_ok (Err e) Q h = tt

@@ -1,7 +1,7 @@
 -- How an activation is held, and what a turn leaves of it and of the board (own).
 use Rattle.std.specs.Prelude.{ℕ, ◌≡◌, ◌≤◌, Bool, true, false, ◌||◌, Option, Some, None, min, All, List, [], ◌∷◌, ◌++◌}
 use Rattle.semantics.specs.declared.request.Request.{Request}
-use Rattle.semantics.specs.State.{State, Outcome, Next, Ask, Exit, Trap}
+use Rattle.semantics.specs.State.{State, Outcome, Next, Ask, Exit}
 use Rattle.semantics.specs.Relay.{IsContext}
 use Rattle.board.specs.Board.{Access, reply, next}
 use Rattle.board.specs.Ledger.{Kept}

@@ -37,6 +37,10 @@ pub record AreDue (t : Kept) (row : List Letter) : Type 0 where
 abbrev pub AreLettersOf : Scenario → ℕ → List Letter → Type 0
 AreLettersOf s round row = (i : ℕ) (l : Letter) → slice_get row i ≡ Some l → (l.round ≡ round) × (l.outbox.shape ≡ shape_of s l.general round)
 
+-- the letters of each of these rounds are of that round
+abbrev pub AreRoundsOf : Scenario → List (List Letter) → Type 0
+AreRoundsOf s before = (i : ℕ) (row : List Letter) → slice_get before i ≡ Some row → AreLettersOf s (suc i) row
+
 -- how many rounds were told, and each lieutenant's tree, ascending
 pub record Heard : Type 0 where
   pub rounds : ℕ

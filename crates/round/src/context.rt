@@ -1,5 +1,5 @@
 //! The bytes of a context.
-ghost use Rattle.std.specs.Prelude.{◌≡◌, ◌≤◌, ◌++◌, length, map, flat_map, IfOk, OnOk};
+ghost use Rattle.std.specs.Prelude.{◌≡◌, ◌<◌, ◌≤◌, ◌^◌, ◌++◌, All, length, map, flat_map, IfOk, OnOk};
 ghost use Rattle.word.specs.Bytes.{little_bytes};
 ghost use Rattle.label.specs.Oral.{order_of};
 ghost use Rattle.round.specs.Contexts.{context_bytes, context_numbers};
@@ -17,7 +17,8 @@ pub(crate) fn context_with(
 ) -> Result<Vec<u8>, AllocError>
     requires rounds { shape.round ≤ shape.generals }
     requires few { length values.now ≤ 1000 }
-    ensures { IfOk result (λ bytes. bytes.items ≡ context_bytes (context_numbers shape bound (map order_of values.now))) }
+    ensures bytes { IfOk result (λ bytes. bytes.items ≡ context_bytes (context_numbers shape bound (map order_of values.now))) }
+    ensures words { OnOk result (All (λ v. order_of v < 2 ^ 32) values.now) }
 {
     let mut bytes = Vec::with_capacity(alloc, 4096)?;
     let header = [
@@ -48,7 +49,8 @@ fn spell(bytes: &mut Vec<u8>, numbers: &[u32]) -> Result<(), AllocError>
 
 /// The values behind: nothing counts as 0.
 fn fill(bytes: &mut Vec<u8>, values: &[Option<u32>]) -> Result<(), AllocError>
-    ensures { OnOk result (bytes.new.items ≡ bytes.old.items ++ flat_map (little_bytes 4) (map order_of values.now)) }
+    ensures bytes { OnOk result (bytes.new.items ≡ bytes.old.items ++ flat_map (little_bytes 4) (map order_of values.now)) }
+    ensures words { OnOk result (All (λ v. order_of v < 2 ^ 32) values.now) }
 {
     for value in values {
         put(bytes, order(value))?;

@@ -31,4 +31,4 @@ pub use running::Running;
 pub use scenario::Scenario;
 pub use seat::Seat;
 pub use server::Server;
-pub use told::Told;
+pub use told::{Told, context_for};

@@ -1,11 +1,12 @@
-ghost use Rattle.std.specs.Prelude.{◌≡◌, ◌≢◌, ◌<◌, ◌≤◌, ◌++◌, ◌∷◌, [], suc, List, IfOk};
+ghost use Rattle.std.specs.Prelude.{◌≡◌, ◌≢◌, ◌<◌, ◌≤◌, ◌++◌, ◌∷◌, [], suc, List, IfOk, OnOk, length};
 ghost use Rattle.round.specs.Letters.{Letter as Written};
-ghost use Rattle.round.specs.Contexts.{context_of};
-ghost use Rattle.round.specs.Told.{WasTold, AreLettersOf, lieutenant_at};
+ghost use Rattle.round.specs.Contexts.{context_of, AreWords};
+ghost use Rattle.round.specs.Told.{WasTold, AreLettersOf, AreRoundsOf, lieutenant_at};
 
 use crate::context::context_with;
 use crate::delivery::deliver;
 use crate::letter::Letter;
+use crate::round::Round;
 use crate::scenario::Scenario;
 use std::alloc::{AllocError, Global};
 use std::marker::Model;
@@ -89,12 +90,13 @@ impl Told {
         requires told { (before : List (List Written)) × WasTold scenario.now before self.now }
         requires left { self.now.rounds ≤ scenario.now.bound }
         requires general { general < scenario.now.generals }
-        ensures { IfOk result (λ bytes. (before : List (List Written)) → WasTold scenario.now before self.now → bytes.items ≡ context_of scenario.now before general) }
+        ensures context { IfOk result (λ bytes. (before : List (List Written)) → WasTold scenario.now before self.now → bytes.items ≡ context_of scenario.now before general) }
+        ensures words { OnOk result ((before : List (List Written)) → WasTold scenario.now before self.now → AreWords scenario.now before general) }
     {
+        let bound = scenario.bound();
         if self.rounds == 0 {
             return first_context(alloc, scenario, general);
         }
-        let bound = scenario.bound();
         let commander = scenario.commander();
         let shape = scenario.shape(general, self.rounds + 1);
         if general == commander {
@@ -103,6 +105,29 @@ impl Told {
         let tree = &self.trees[usize::from(place_of(commander, general))];
         context_with(alloc, shape, bound, tree.level(self.rounds))
     }
+}
+
+/// What a general is told as the round behind these begins.
+///
+/// # Errors
+///
+/// `AllocError` where the memory for a tree or for the 4,096 bytes is refused.
+pub fn context_for(
+    alloc: Global,
+    scenario: &Scenario,
+    general: u8,
+    before: &[Round],
+) -> Result<Vec<u8>, AllocError>
+    requires left { length before.now ≤ scenario.now.bound }
+    requires general { general < scenario.now.generals }
+    requires letters { AreRoundsOf scenario.now before.now }
+    ensures { IfOk result (λ bytes. bytes.items ≡ context_of scenario.now before.now general) }
+{
+    let mut told = Told::new(alloc, scenario)?;
+    for row in before {
+        told.deliver(scenario, row.letters());
+    }
+    told.context(alloc, scenario, general)
 }
 
 /// What a general is told as the first round begins: the commander his order, the others nothing.

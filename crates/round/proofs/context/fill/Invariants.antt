@@ -1,7 +1,10 @@
-use Rattle.std.proofs.Common.{◌≡◌, ◌++◌, flat_map, map, take}
+use Rattle.std.proofs.Common.{◌≡◌, ◌<◌, ◌^◌, ◌++◌, ℕ, Option, flat_map, map, take, get_or}
 use Rattle.word.specs.Bytes.{little_bytes}
 use Rattle.label.specs.Oral.{order_of}
 use Rattle.round.proofs.context.fill.Given as goal
 
 abbrev pub invariant-loop-value : goal.invariant-loop-value
-invariant-loop-value l = l.bytes.items ≡ l.initial.bytes.items ++ flat_map (little_bytes 4) (map order_of (take l.value-index l.values))
+invariant-loop-value l = record {
+  bytes : l.bytes.items ≡ l.initial.bytes.items ++ flat_map (little_bytes 4) (map order_of (take l.value-index l.values));
+  words : (k : ℕ) → k < l.value-index → (d : Option ℕ) → order_of (get_or l.values k d) < 2 ^ 32;
+}

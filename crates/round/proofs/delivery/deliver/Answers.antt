@@ -1,9 +1,8 @@
 -- Label by label.
-use Rattle.std.proofs.Common.{◌≡◌, ◌<◌, ◌≤◌, ◌∙◌, ℕ, List, Some, length, arith, rules, ap, sym, subst}
-use Rattle.std.specs.Prelude.{slice_get}
+use Rattle.std.proofs.Common.{◌≡◌, ◌<◌, ◌∙◌, ℕ, length, arith, rules, ap, sym, subst}
 use Rattle.label.specs.Labels.{labels}
 use Rattle.round.specs.Told.{told_now, round_of}
-use Rattle.round.specs.Delivery.{IsFor, AreFor}
+use Rattle.round.specs.Delivery.{AreFor}
 use Rattle.round.proofs.Delivering.{none_heard, no_letters, due_for, filled_more, filled_all, due_round, same_labels, label_told}
 use Rattle.round.proofs.delivery.deliver.Goals as goal
 

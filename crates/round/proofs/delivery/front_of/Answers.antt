@@ -1,6 +1,5 @@
-use Rattle.std.proofs.Common.{◌≡◌, ◌<◌, ◌≤◌, ◌-◌, length, take, arith, ℕ}
+use Rattle.std.proofs.Common.{arith}
 use Rattle.std.proofs.lemmas.List.{length-take-le}
-use Rattle.label.specs.Generals.{IsGenerals}
 use Rattle.round.proofs.Fresh.{at_below, fresh}
 use Rattle.round.proofs.delivery.front_of.Goals as goal
 

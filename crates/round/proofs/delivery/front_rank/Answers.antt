@@ -1,7 +1,7 @@
 -- The front stands in the relay.
 use Rattle.std.proofs.Common.{ℕ, ◌<◌, List, length, arith, sym, subst}
 use Rattle.label.specs.Space.{HasRank}
-use Rattle.round.proofs.Senders.{front_stands, relay_front}
+use Rattle.round.proofs.Senders.{front_stands}
 use Rattle.round.proofs.delivery.front_rank.Goals as goal
 
 pub returns-in-Err : goal.returns-in-Err

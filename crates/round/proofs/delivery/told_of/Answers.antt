@@ -1,5 +1,5 @@
 -- By rank and number.
-use Rattle.std.proofs.Common.{◌≡◌, ◌-◌, ◌∙◌, [], List, None, Some, length, take, get_or, ap, subst}
+use Rattle.std.proofs.Common.{◌≡◌, ◌-◌, ◌∙◌, [], None, Some, length, take, get_or, ap, subst}
 use Rattle.std.specs.Prelude.{slice_get}
 use Rattle.label.specs.declared.shape.Shape.{Shape}
 use Rattle.label.specs.Relay.{IsShape, relay}

@@ -1,5 +1,5 @@
 -- One turn, and silently on.
-use Rattle.std.proofs.Common.{◌≡◌, ◌<◌, ◌≤◌, ◌++◌, ◌∷◌, [], ℕ, List, Option, Some, None, sym, subst, arith}
+use Rattle.std.proofs.Common.{◌≡◌, List, Option, sym, subst, arith}
 use Rattle.std.specs.Prelude.{IfSome}
 use Rattle.board.specs.Board.{Access}
 use Rattle.round.specs.Activation.{turn}

@@ -1,5 +1,5 @@
 -- One receiver more, and all.
-use Rattle.std.proofs.Common.{◌≡◌, ◌∙◌, ap}
+use Rattle.std.proofs.Common.{◌∙◌, ap}
 use Rattle.label.specs.declared.shape.Shape.{Shape}
 use Rattle.semantics.specs.Outbox.{written, as_taken}
 use Rattle.round.proofs.ToldRows.{more_told, none_told, all_told}

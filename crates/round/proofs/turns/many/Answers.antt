@@ -1,5 +1,5 @@
 -- The steps are turns.
-use Rattle.std.proofs.Common.{refl, sym, ◌∙◌}
+use Rattle.std.proofs.Common.{refl, ◌∙◌}
 use Rattle.machine.specs.declared.pause.Stop.TheVariants.{Asked, Exited, Limit}
 use Rattle.round.proofs.Turning.{ahead_with, within_with}
 use Rattle.round.proofs.turns.many.Goals as goal

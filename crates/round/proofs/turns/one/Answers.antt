@@ -1,5 +1,5 @@
 -- One step of the run.
-use Rattle.std.proofs.Common.{◌≡◌, ◌<◌, ◌≤◌, ◌+◌, ◌∙◌, arith, length, ap, subst}
+use Rattle.std.proofs.Common.{◌≡◌, ◌<◌, ◌≤◌, ◌+◌, ◌∙◌, arith, length, ap}
 use Rattle.semantics.specs.Execution.{step}
 use Rattle.machine.proofs.AdvanceLemmas.{fewer}
 use Rattle.round.specs.Running.{Stopped, IsBack}

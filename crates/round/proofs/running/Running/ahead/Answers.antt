@@ -2,8 +2,6 @@
 use Rattle.std.proofs.Common.{◌∙◌, sym}
 use Rattle.std.specs.Arc.{arc_value}
 use Rattle.round.proofs.Turning.{went_under}
-use Rattle.round.specs.Running.{Silently, Pauses}
-use Rattle.round.specs.Activation.{turn}
 use Rattle.round.proofs.running.Running.ahead.Goals as goal
 
 pub returns-clause-went : goal.returns-clause-went

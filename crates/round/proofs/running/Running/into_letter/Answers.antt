@@ -1,6 +1,5 @@
 -- What is left is a letter.
-use Rattle.std.proofs.Common.{◌∙◌, ℕ, List, Some, ap, sym, subst}
-use Rattle.machine.specs.declared.pause.Ended.{Ended}
+use Rattle.std.proofs.Common.{◌∙◌, ap, sym, subst}
 use Rattle.semantics.specs.Relay.{IsContext}
 use Rattle.round.specs.Activation.{Activation}
 use Rattle.round.specs.Letters.{Letter}

@@ -1,7 +1,6 @@
 -- It is within its limits.
-use Rattle.std.proofs.Common.{◌≡◌, ◌<◌, ◌∙◌, ap, Some, None, sym, subst, List, Option, length, arith}
-use Rattle.std.specs.Prelude.{slice_get, slice_index_or}
-use Rattle.std.proofs.lemmas.Option.{slice_get-get_or}
+use Rattle.std.proofs.Common.{◌∙◌, ap, List, Option}
+use Rattle.std.specs.Prelude.{slice_get}
 use Rattle.insn.specs.declared.insn.Insn.{Insn}
 use Rattle.round.proofs.Programs.{program_at}
 use Rattle.round.proofs.scenario.Scenario.new.Goals as goal

@@ -1,9 +1,6 @@
 -- Tree by tree.
-use Rattle.std.proofs.Common.{◌≡◌, ◌<◌, ◌≤◌, ◌+◌, ◌++◌, ◌∷◌, [], ◌∙◌, ℕ, suc, List, length, get_or, arith, sym, ap, subst}
-use Rattle.std.specs.Vec.{vec_len}
-use Rattle.tree.specs.Kept.{Kept}
-use Rattle.round.specs.Letters.{Letter}
-use Rattle.round.specs.Told.{Heard, WasTold, AreLettersOf, lieutenant_at}
+use Rattle.std.proofs.Common.{◌≤◌, ◌+◌, ◌++◌, ◌∷◌, [], ℕ, suc, arith, sym, subst}
+use Rattle.round.specs.Told.{Heard, WasTold, AreLettersOf}
 use Rattle.round.proofs.Filling.{told_due, told_more}
 use Rattle.round.proofs.told.Told.deliver.Goals as goal
 

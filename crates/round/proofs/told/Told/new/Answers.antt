@@ -1,5 +1,5 @@
 -- A tree for each lieutenant.
-use Rattle.std.proofs.Common.{◌≡◌, ◌≢◌, ◌<◌, ◌≤◌, ◌+◌, ◌-◌, ◌∙◌, ℕ, List, arith, sym, ap, subst, refl}
+use Rattle.std.proofs.Common.{◌≡◌, ◌<◌, ◌+◌, ◌∙◌, ℕ, List, arith, sym, ap, subst, refl}
 use Rattle.tree.specs.Kept.{Kept}
 use Rattle.round.specs.Told.{lieutenant_at}
 use Rattle.round.proofs.Filling.{AreSilent, silent_none, silent_more, told_none, tree_new, lieutenant_other, lieutenant_within}
