@@ -116,7 +116,6 @@ call_reason a number = helper_reason (helper_of number) a
 
 -- ---- what is left
 
-
 -- r0 is a number of these, r1 to r5 are unset, and the others are as before
 pub record IsBehind (numbers : NumberSet) (old new : List AbsVal) : Type 0 where
   pub first : known_at new 0 ≡ Number numbers
