@@ -64,9 +64,9 @@ pub enum ScenarioError {
     /// S2 to S6, at a place.
     Fault(Fault),
     /// S7: this general's program is none.
-    Program(u32, Cause),
+    Program(u8, Cause),
     /// S8: this general's program is not accepted.
-    Verifier(u32, verify::Fault),
+    Verifier(u8, verify::Fault),
     /// Memory was refused.
     Memory,
 }

@@ -171,9 +171,9 @@ pub fn optional_number(
 pub fn general(
     place: Place,
     low: Fault,
-    generals: u32,
+    generals: u8,
     value: Option<&Value>,
-) -> Result<u32, ScenarioError>
+) -> Result<u8, ScenarioError>
     ensures value { Gives (λ n. n) result (general place (faulty low) generals (option_map (λ v. view v.now) value.entry)) }
     ensures small { IfOk result (λ g. g < generals) }
 {
@@ -181,7 +181,7 @@ pub fn general(
     let integer = whole(place, value)?;
     let number = natural(low, integer)?;
     if number < u64::from(generals) {
-        return Ok(number as u32);
+        return Ok(number as u8);
     }
     Err(ScenarioError::Fault(Fault::General(place)))
 }

@@ -13,4 +13,3 @@ mod words;
 pub use fault::{Cause, Fault, ScenarioError};
 pub use place::{Name, Place};
 pub use reader::read;
-pub use told::{Campaign, Seat};

@@ -22,7 +22,7 @@ pub enum Written<'a> {
 }
 
 /// The program that assembly says.
-fn said(alloc: Global, general: u32, text: &str) -> Result<Program, ScenarioError>
+fn said(alloc: Global, general: u8, text: &str) -> Result<Program, ScenarioError>
     ensures { Makes general (Assembly text.now) result }
 {
     match assemble(alloc, text) {
@@ -35,7 +35,7 @@ fn said(alloc: Global, general: u32, text: &str) -> Result<Program, ScenarioErro
 }
 
 /// The program that bytes in hex spell.
-fn spelled(alloc: Global, general: u32, text: &str) -> Result<Program, ScenarioError>
+fn spelled(alloc: Global, general: u8, text: &str) -> Result<Program, ScenarioError>
     ensures { Makes general (Hex text.now) result }
 {
     let bytes = match hex::decode(alloc, text) {
@@ -53,7 +53,7 @@ fn spelled(alloc: Global, general: u32, text: &str) -> Result<Program, ScenarioE
 }
 
 /// The program of a table.
-pub fn program(alloc: Global, general: u32, written: Written<'_>) -> Result<Program, ScenarioError>
+pub fn program(alloc: Global, general: u8, written: Written<'_>) -> Result<Program, ScenarioError>
     ensures { Makes general (source_of written.entry) result }
 {
     match written {
@@ -63,7 +63,7 @@ pub fn program(alloc: Global, general: u32, written: Written<'_>) -> Result<Prog
 }
 
 /// The program, where the verifier accepts it.
-pub fn accepted(alloc: Global, general: u32, program: Program) -> Result<Verified, ScenarioError>
+pub fn accepted(alloc: Global, general: u8, program: Program) -> Result<Verified, ScenarioError>
     ensures { Accepts general program result }
 {
     match verify(alloc, program) {

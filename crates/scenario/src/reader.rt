@@ -1,20 +1,24 @@
 //! Scenarios, read from their text.
-ghost use Rattle.std.specs.Prelude.{◌≡◌, ◌-◌, ◌≤◌, min, length, replicate, option_map, None, Some, IfOk, OnOk};
+ghost use Rattle.std.specs.Prelude.{◌≡◌, ◌-◌, ◌≤◌, min, length, replicate, option_map, None, Some, IfOk, OnOk, MatchResult};
 ghost use Rattle.toml.specs.Parse.{parse_document};
 ghost use Rattle.toml.specs.View.{view, table_view, items_view};
 ghost use Rattle.scenario.specs.Flaws.{Gives};
 ghost use Rattle.scenario.specs.Checks.{head, rule_named, rule, tables};
 ghost use Rattle.scenario.specs.Told.{Answers, scenario_of, unseated, Reads};
+ghost use Rattle.scenario.specs.declared.fault.ScenarioError.TheVariants.{Memory};
 
 use crate::fault::{Fault, ScenarioError};
 use crate::keys::{at, elements, general, number, optional_number, top_is_known};
 use crate::place::{Name, Place};
 use crate::tables::traitor;
-use crate::told::{Campaign, Head, Seat};
+use crate::told::Head;
 use crate::words::board;
 use combine::Rule;
+use round::{Scenario, Seat};
 use std::alloc::{AllocError, Global};
+use std::sync::Arc;
 use toml::{Table, Value};
+use verify::Verified;
 
 /// The rule that a text names.
 fn rule_named(text: &str) -> Result<Rule, ScenarioError>
@@ -44,7 +48,7 @@ fn rule(value: Option<&Value>) -> Result<Rule, ScenarioError>
 }
 
 /// The greatest bound that so many generals may have.
-fn most_traitors(generals: u32) -> u32
+fn most_traitors(generals: u8) -> u8
     ensures { result ≡ min 4 (generals - 2) }
 {
     generals.saturating_sub(2).min(4)
@@ -56,9 +60,9 @@ fn head(alloc: Global, table: &Table) -> Result<Head, ScenarioError>
     ensures { Gives (λ h. h) result (head (table_view table.now)) }
 {
     top_is_known(alloc, table)?;
-    let generals = number(Place::Key(Name::Generals), 2, 13, at(table, Name::Generals))?;
-    let most = most_traitors(generals);
-    let bound = number(Place::Key(Name::Bound), 0, most, at(table, Name::Bound))?;
+    let generals = number(Place::Key(Name::Generals), 2, 13, at(table, Name::Generals))? as u8;
+    let most = u32::from(most_traitors(generals));
+    let bound = number(Place::Key(Name::Bound), 0, most, at(table, Name::Bound))? as u8;
     let place = Place::Key(Name::Commander);
     let commander = general(
         place,
@@ -98,18 +102,25 @@ fn tables(value: Option<&Value>) -> Result<&[Value], ScenarioError>
 }
 
 /// A seat for each general, nobody's yet.
-fn unseated(alloc: Global, generals: u32) -> Result<Vec<Seat>, AllocError>
+fn unseated(alloc: Global, generals: u8) -> Result<Vec<Seat>, AllocError>
     ensures { IfOk result (λ seats. seats.items ≡ replicate generals None) }
 {
-    let mut seats = Vec::with_capacity(alloc, generals as usize)?;
+    let mut seats = Vec::with_capacity(alloc, usize::from(generals))?;
     for _general in 0..generals {
-        seats.push(Seat { program: None })?;
+        seats.push(Seat::new(None))?;
     }
     Ok(seats)
 }
 
-/// The campaign with the tables' traitors in their seats.
-fn seated(alloc: Global, head: Head, values: &[Value]) -> Result<Campaign, ScenarioError>
+/// The seat of a traitor with this program.
+fn taken(alloc: Global, program: Verified) -> Result<Seat, ScenarioError>
+    ensures { MatchResult result (λ seat. seat ≡ Some program) (λ e. e ≡ Memory) }
+{
+    Ok(Seat::new(Some(Arc::new(alloc, program)?)))
+}
+
+/// The scenario with the tables' traitors in their seats.
+fn seated(alloc: Global, head: Head, values: &[Value]) -> Result<Scenario, ScenarioError>
     ensures { Answers (scenario_of head) head.generals 0 (unseated head) (items_view values.now) result }
 {
     let Head {
@@ -124,24 +135,15 @@ fn seated(alloc: Global, head: Head, values: &[Value]) -> Result<Campaign, Scena
     let mut seats = unseated(alloc, generals)?;
     for index in 0..values.len() {
         let (general, program) = traitor(alloc, generals, seats.as_slice(), index, &values[index])?;
-        seats[general as usize] = Seat {
-            program: Some(program),
-        };
+        seats[usize::from(general)] = taken(alloc, program)?;
     }
-    Ok(Campaign {
-        generals,
-        bound,
-        commander,
-        order,
-        board,
-        seats,
-        patience,
-        rule,
-    })
+    Ok(Scenario::new(
+        generals, bound, commander, order, board, seats, patience, rule,
+    ))
 }
 
 /// The scenario of a table.
-fn campaign(alloc: Global, table: &Table) -> Result<Campaign, ScenarioError>
+fn campaign(alloc: Global, table: &Table) -> Result<Scenario, ScenarioError>
     ensures { Reads (Some (table_view table.now)) result }
 {
     let head = head(alloc, table)?;
@@ -155,7 +157,7 @@ fn campaign(alloc: Global, table: &Table) -> Result<Campaign, ScenarioError>
 ///
 /// The first fault, with its place: that the text is no TOML, then an unknown key at the top (the least by bytes), then
 /// `generals`, `bound`, `commander`, `order`, `board`, `patience`, `rule`, the list `traitor`, and its tables in order.
-pub fn read(alloc: Global, text: &str) -> Result<Campaign, ScenarioError>
+pub fn read(alloc: Global, text: &str) -> Result<Scenario, ScenarioError>
     ensures { Reads (parse_document text.now) result }
 {
     match toml::table_from_str(alloc, text) {

@@ -10,7 +10,7 @@ use crate::fault::{Fault, ScenarioError};
 use crate::keys::{at, entry_is_known, general};
 use crate::place::{Name, Place};
 use crate::programs::{Written, accepted, program};
-use crate::told::Seat;
+use round::Seat;
 use std::alloc::Global;
 use toml::{Table, Value};
 use verify::Verified;
@@ -40,23 +40,22 @@ fn written<'a>(
 }
 
 /// Whether a table before seated the general.
-fn is_seated(seats: &[Seat], general: u32) -> bool
+fn is_seated(seats: &[Seat], general: u8) -> bool
     requires { general < length seats.now }
     ensures { result ≡ is_seated seats.now general }
 {
-    let seat = &seats[general as usize];
-    seat.program.is_some()
+    seats[usize::from(general)].program().is_some()
 }
 
 /// The general of a table, and his program as it is written.
 #[tactic(auto, unfolding(crate::specs::Tables::table_in))]
 fn in_table<'a>(
     alloc: Global,
-    generals: u32,
+    generals: u8,
     seats: &[Seat],
     index: usize,
     table: &'a Table,
-) -> Result<(u32, Written<'a>), ScenarioError>
+) -> Result<(u8, Written<'a>), ScenarioError>
     requires { length seats.now ≡ generals }
     ensures gives { Gives (λ t. record { general = t.0; source = source_of t.1 }) result (table_in generals seats.now index (table_view table.now)) }
     ensures small { IfOk result (λ t. t.0 < generals) }
@@ -80,11 +79,11 @@ fn in_table<'a>(
 #[tactic(auto, unfolding(crate::specs::Tables::table))]
 fn table<'a>(
     alloc: Global,
-    generals: u32,
+    generals: u8,
     seats: &[Seat],
     index: usize,
     value: &'a Value,
-) -> Result<(u32, Written<'a>), ScenarioError>
+) -> Result<(u8, Written<'a>), ScenarioError>
     requires { length seats.now ≡ generals }
     ensures gives { Gives (λ t. record { general = t.0; source = source_of t.1 }) result (table generals seats.now index (view value.now)) }
     ensures small { IfOk result (λ t. t.0 < generals) }
@@ -98,11 +97,11 @@ fn table<'a>(
 /// The general of a table, and his verified program.
 pub fn traitor(
     alloc: Global,
-    generals: u32,
+    generals: u8,
     seats: &[Seat],
     index: usize,
     value: &Value,
-) -> Result<(u32, Verified), ScenarioError>
+) -> Result<(u8, Verified), ScenarioError>
     requires { length seats.now ≡ generals }
     ensures judged { Judged (table generals seats.now index (view value.now)) result }
     ensures small { IfOk result (λ t. t.0 < generals) }
