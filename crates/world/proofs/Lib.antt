@@ -28,3 +28,4 @@ pub mod Verdicts
 pub mod Ticking
 pub mod Listed
 pub mod Holding
+pub mod Counted

@@ -11,3 +11,4 @@ pub mod Replay
 pub mod Refusals
 pub mod Playing
 pub mod Held
+pub mod Verdicts

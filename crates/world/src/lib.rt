@@ -4,8 +4,10 @@
 mod applying;
 mod beginnings;
 mod campaign;
+mod chronicle;
 mod event;
 mod events;
+mod judging;
 mod laws;
 mod onward;
 mod part;
@@ -16,6 +18,7 @@ mod teller;
 mod verdict;
 
 pub use campaign::World;
+pub use chronicle::Chronicle;
 pub use event::{Event, EventError};
 pub use laws::{
     accounts_are_runs, activations_are_runs, activations_are_safe, decisions_agree,

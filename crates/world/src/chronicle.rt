@@ -1,0 +1,91 @@
+//! What is told of a finished campaign.
+ghost use Rattle.std.specs.Prelude.{◌≡◌};
+ghost use Rattle.world.specs.Chronicle.{chronicle_with, verdict_of};
+
+use crate::judging::verdict;
+use crate::verdict::Verdict;
+use arrayvec::ArrayVec;
+use board::Access;
+use round::{Round, Scenario};
+use std::marker::Model;
+
+/// What is told of a finished campaign: its letters, its accesses, the lieutenants' decisions and the verdict on them.
+#[derive(Drop)]
+pub struct Chronicle {
+    scenario: Scenario,
+    letters: Vec<Round>,
+    accesses: Vec<Access>,
+    decisions: ArrayVec<u32, 12>,
+    verdict: Verdict,
+}
+
+impl Model for Chronicle {
+    ghost use Rattle.world.specs.Chronicle.{Chronicle as Told};
+
+    ghost Value = { Told };
+
+    ghost view = { λ c. record {
+      scenario = c.scenario;
+      letters = c.letters.items;
+      accesses = c.accesses.items;
+      decisions = c.decisions.items;
+      verdict = c.verdict;
+    } };
+}
+
+impl Chronicle {
+    /// The chronicle of these accesses in the board's order, these letters by round and in a round by general, and the
+    /// decision of each lieutenant, ascending by number. The verdict is computed of the scenario and the decisions.
+    pub fn of(
+        scenario: Scenario,
+        accesses: Vec<Access>,
+        letters: Vec<Round>,
+        decisions: ArrayVec<u32, 12>,
+    ) -> Chronicle
+        ensures { result ≡ chronicle_with scenario letters.items accesses.items decisions.items }
+    {
+        let verdict = verdict(&scenario, decisions.as_slice());
+        Chronicle {
+            scenario,
+            letters,
+            accesses,
+            decisions,
+            verdict,
+        }
+    }
+
+    /// Its campaign.
+    pub fn scenario(&self) -> &Scenario
+        ensures { result.now ≡ self.now.scenario }
+    {
+        &self.scenario
+    }
+
+    /// The letters, by round from the first, and in a round by general.
+    pub fn letters(&self) -> &[Round]
+        ensures { result.now ≡ self.now.letters }
+    {
+        self.letters.as_slice()
+    }
+
+    /// The accesses, in the board's order.
+    pub fn accesses(&self) -> &[Access]
+        ensures { result.now ≡ self.now.accesses }
+    {
+        self.accesses.as_slice()
+    }
+
+    /// The decision of each lieutenant, ascending by number.
+    pub fn decisions(&self) -> &[u32]
+        ensures { result.now ≡ self.now.decisions }
+    {
+        self.decisions.as_slice()
+    }
+
+    /// The verdict on the decisions.
+    pub fn verdict(&self) -> Verdict
+        ensures { result ≡ self.now.verdict }
+    {
+        self.verdict
+    }
+}

@@ -1,0 +1,114 @@
+//! What decisions say of a campaign.
+ghost use Rattle.std.specs.Prelude.{◌≡◌, ◌<◌, ◌*◌, ◌++◌, ◌==◌, ◌&&◌, length, cond, None, Some, count_by, nat_lt, nat_le, slice_get};
+ghost use Rattle.std.specs.List.{list_all};
+ghost use Rattle.label.specs.Labels.{generals};
+ghost use Rattle.label.specs.Lieutenants.{lieutenants};
+ghost use Rattle.round.specs.Scenario.{is_traitor};
+ghost use Rattle.world.specs.Chronicle.{of_loyal, all_same, verdict_of};
+ghost use Rattle.world.specs.Verdicts.{counted};
+
+use crate::verdict::Verdict;
+use arrayvec::ArrayVec;
+use round::Scenario;
+
+/// The verdict on these decisions of the lieutenants, ascending by number.
+pub(crate) fn verdict(scenario: &Scenario, decisions: &[u32]) -> Verdict
+    ensures { result ≡ verdict_of scenario.now decisions.now }
+{
+    let loyal = loyal_decisions(scenario, decisions);
+    Verdict {
+        alike: alike(loyal.as_slice()),
+        obeyed: obeyed(scenario, loyal.as_slice()),
+        bound: is_bound(scenario),
+    }
+}
+
+/// Whether all these decisions of loyal lieutenants are one.
+fn alike(loyal: &[u32]) -> bool
+    ensures { result ≡ all_same loyal.now }
+{
+    match loyal.split_first() {
+        Some((first, rest)) => are_all(rest, *first),
+        None => true,
+    }
+}
+
+/// Whether all these decisions are this order.
+fn are_all(decisions: &[u32], order: u32) -> bool
+    ensures { result ≡ list_all (λ d. d == order) decisions.now }
+{
+    decisions.iter().all(|decision| *decision == order)
+}
+
+/// Whether all these decisions of loyal lieutenants are the order; none where the commander is a traitor.
+fn obeyed(scenario: &Scenario, loyal: &[u32]) -> Option<bool>
+    ensures { result ≡ cond (is_traitor scenario.now scenario.now.commander) None (Some (list_all (λ d. d == scenario.now.order) loyal.now)) }
+{
+    if is_traitor(scenario, scenario.commander()) {
+        return None;
+    }
+    Some(are_all(loyal, scenario.order()))
+}
+
+/// Whether there are more than three times as many generals as traitors are provided for, and no more traitors than these.
+fn is_bound(scenario: &Scenario) -> bool
+    ensures { result ≡ (nat_lt (3 * scenario.now.bound) scenario.now.generals && nat_le (count_by (is_traitor scenario.now) (generals scenario.now.generals)) scenario.now.bound) }
+{
+    let bound = scenario.bound();
+    3 * bound < scenario.generals() && traitors(scenario) <= bound
+}
+
+/// How many generals are traitors.
+fn traitors(scenario: &Scenario) -> u8
+    ensures { result ≡ count_by (is_traitor scenario.now) (generals scenario.now.generals) }
+{
+    let mut traitors = 0;
+    for general in 0..scenario.generals() {
+        if is_traitor(scenario, general) {
+            traitors += 1;
+        }
+    }
+    traitors
+}
+
+/// The decisions of the loyal lieutenants, ascending by number.
+fn loyal_decisions(scenario: &Scenario, decisions: &[u32]) -> ArrayVec<u32, 13>
+    ensures { result.items ≡ of_loyal scenario.now (lieutenants scenario.now.generals scenario.now.commander) decisions.now }
+{
+    let mut loyal = ArrayVec::new();
+    let mut place = 0;
+    for general in 0..scenario.generals() {
+        if general != scenario.commander() {
+            count(&mut loyal, scenario, decisions, general, place);
+            place += 1;
+        }
+    }
+    loyal
+}
+
+/// One lieutenant's decision more, where he is loyal.
+fn count(
+    loyal: &mut ArrayVec<u32, 13>,
+    scenario: &Scenario,
+    decisions: &[u32],
+    general: u8,
+    place: usize,
+)
+    requires room { length loyal.old.items < 13 }
+    requires inside { general < scenario.now.generals }
+    ensures { loyal.new.items ≡ loyal.old.items ++ counted scenario.now general (slice_get decisions.now place) }
+{
+    if let Some(decision) = decisions.get(place) {
+        if !is_traitor(scenario, general) {
+            loyal.push(*decision);
+        }
+    }
+}
+
+/// Whether the general has a program.
+fn is_traitor(scenario: &Scenario, general: u8) -> bool
+    requires { general < scenario.now.generals }
+    ensures { result ≡ is_traitor scenario.now general }
+{
+    scenario.seat(general).program().is_some()
+}
