@@ -15,16 +15,16 @@ use Rattle.label.proofs.Counts.{begins, below}
 use Rattle.book.specs.declared.message.Message.{Message}
 use Rattle.book.specs.declared.fault.TableError.{TableError}
 use Rattle.book.specs.declared.fault.TableError.TheVariants.{Range, Place, Twice}
-use Rattle.book.specs.Table.{MessageTable, IsWithin, is_about}
+use Rattle.book.specs.Table.{MessageTable, AreNumbersWithin, is_about}
 use Rattle.book.specs.Grammar.{head_of, is_within, opened, tell_parts, numbers_of, order_in, message_of, is_place, checked, faultless, with_message, lines_told, told_by_lines, table_told}
-use Rattle.book.specs.Laws.{IsMessage, EachOnce, IsWhole, ToldTablesAreWhole}
+use Rattle.book.specs.Laws.{IsMessage, EachOnce, IsWholeTable, ToldTablesAreWhole}
 
 -- a step behind another
 no_fault : {A B : Type 0} (r : Result A TableError) (f : A → Result B TableError) (u : B) → faultless r f ≡ Ok u → (x : A) × (r ≡ Ok x) × (f x ≡ Ok u)
 no_fault (Ok x) f u e = (x, refl, e)
 no_fault (Err x) f u e = cc
 
-limits : (n m c : ℕ) → is_within n m c ≡ true → IsWithin n m c
+limits : (n m c : ℕ) → is_within n m c ≡ true → AreNumbersWithin n m c
 limits n m c e =
     let last = and_parts (nat_le n 13 && nat_le m 4 && nat_le (m + 2) n) (nat_lt c n) e in
     let middle = and_parts (nat_le n 13 && nat_le m 4) (nat_le (m + 2) n) last.0 in
@@ -34,14 +34,14 @@ limits n m c e =
 ok_same : (x y : MessageTable) → ◌≡◌ {A = Result MessageTable TableError} (Ok x) (Ok y) → x ≡ y
 ok_same x y e = cc
 
-head_whole : (n m c : ℕ) (rule : Rule) (t : MessageTable) (b : Bool) → is_within n m c ≡ b → (if b then Ok (record { generals = n; bound = m; commander = c; rule = rule; messages = [] }) else Err (Range 1)) ≡ Ok t → IsWhole t
+head_whole : (n m c : ℕ) (rule : Rule) (t : MessageTable) (b : Bool) → is_within n m c ≡ b → (if b then Ok (record { generals = n; bound = m; commander = c; rule = rule; messages = [] }) else Err (Range 1)) ≡ Ok t → IsWholeTable t
 head_whole n m c rule t true h e =
     let empty : MessageTable = record { generals = n; bound = m; commander = c; rule = rule; messages = [] } in
-    let made : IsWhole empty = record { within = limits n m c h; messages = tt; once = tt } in
-    subst IsWhole (ok_same empty t e) made
+    let made : IsWholeTable empty = record { within = limits n m c h; messages = tt; once = tt } in
+    subst IsWholeTable (ok_same empty t e) made
 head_whole n m c rule t false h e = cc
 
-opened_whole : (head : Option (ℕ × ℕ × ℕ × Rule)) (t : MessageTable) → opened head ≡ Ok t → IsWhole t
+opened_whole : (head : Option (ℕ × ℕ × ℕ × Rule)) (t : MessageTable) → opened head ≡ Ok t → IsWholeTable t
 opened_whole None t e = cc
 opened_whole (Some h) t e = head_whole h.0 h.1 h.2 h.3 t (is_within h.0 h.1 h.2) refl e
 
@@ -124,19 +124,19 @@ once-push (x ∷ xs) y once new =
     let both = or_parts (is_about y.label y.receiver x) (list_any (is_about y.label y.receiver) xs) new in
     (any-push (is_about x.label x.receiver) xs y once.0 (about_sym x y ∙ both.0), once-push xs y once.1 both.1)
 
-lines_whole : (lines : List (List ℕ)) (number : ℕ) (t u : MessageTable) → IsWhole t → lines_told t number lines ≡ Ok u → IsWhole u
-lines_whole [] number t u w e = subst IsWhole (ok_same t u e) w
+lines_whole : (lines : List (List ℕ)) (number : ℕ) (t u : MessageTable) → IsWholeTable t → lines_told t number lines ≡ Ok u → IsWholeTable u
+lines_whole [] number t u w e = subst IsWholeTable (ok_same t u e) w
 lines_whole (line ∷ lines) number t u w e =
     let s = no_fault (checked t number (message_of line)) (λ said. lines_told (with_message t said) (suc number) lines) u e in
     let c = checked_parts t number (message_of line) s.0 s.1 in
-    let more : IsWhole (with_message t s.0) = record {
+    let more : IsWholeTable (with_message t s.0) = record {
       within = w.within;
       messages = all-push (IsMessage t.generals t.bound t.commander) t.messages s.0 w.messages (place_message t s.0 c.1 (message_small line s.0 c.0));
       once = once-push t.messages s.0 w.once c.2;
     } in
     lines_whole lines (suc number) (with_message t s.0) u more s.2
 
-told_whole : (lines : List (List ℕ)) (t : MessageTable) → told_by_lines lines ≡ Ok t → IsWhole t
+told_whole : (lines : List (List ℕ)) (t : MessageTable) → told_by_lines lines ≡ Ok t → IsWholeTable t
 told_whole [] t e = cc
 told_whole (line ∷ lines) t e =
     let s = no_fault (opened (head_of line)) (λ u. lines_told u 2 lines) t e in

@@ -40,7 +40,7 @@ unfoldable pub placed_label : MessageTable → List (List ℕ) → ℕ → Optio
 placed_label t parts p = if nat_lt p t.generals then (begun_label t parts >>= λ w. if on w p then None else Some w) else None
 
 -- a line's label, not read yet, with its receiver and order; none where the line has no shape
-pub record IsShape (label : List ℕ) (receiver order : ℕ) (said : Option Message) : Type 0 where
+pub record HasParts (label : List ℕ) (receiver order : ℕ) (said : Option Message) : Type 0 where
   pub w : List ℕ
   pub numbers : numbers_of (pieces dot label) ≡ Some w
   pub is : said ≡ Some (record { label = w; receiver = receiver; order = order })
@@ -48,4 +48,4 @@ pub record IsShape (label : List ℕ) (receiver order : ℕ) (said : Option Mess
 -- what a cut line gives, or none
 abbrev pub GivesShape : Option (List ℕ × ℕ × ℕ) → Option Message → Type 0
 GivesShape None said = said ≡ None
-GivesShape (Some s) said = IsShape s.0 s.1 s.2 said
+GivesShape (Some s) said = HasParts s.0 s.1 s.2 said

@@ -5,7 +5,7 @@ use Rattle.label.specs.Oral.{Messages}
 use Rattle.book.specs.declared.message.Message.{Message}
 
 -- a campaign's numbers within their limits
-pub record IsWithin (generals bound commander : ℕ) : Type 0 where
+pub record AreNumbersWithin (generals bound commander : ℕ) : Type 0 where
   pub few : generals ≤ 13
   pub rounds : bound ≤ 4
   pub relays : bound + 2 ≤ generals

@@ -4,7 +4,7 @@ ghost use Rattle.std.specs.Bool.{OnTrue};
 ghost use Rattle.label.specs.Labels.{on};
 ghost use Rattle.text.specs.Stop.{dot};
 ghost use Rattle.text.specs.Parts.{pieces};
-ghost use Rattle.book.specs.Table.{IsWithin};
+ghost use Rattle.book.specs.Table.{AreNumbersWithin};
 ghost use Rattle.book.specs.Reading.{left, prolonged_label, begun_label, placed_label};
 
 use crate::table::Table;
@@ -18,7 +18,7 @@ const DOT: Stop = Stop::Byte(b'.');
 pub fn placed(table: &Table, label: &[u8], receiver: u128) -> Option<Label>
     ensures place { result ≡ placed_label table.now (pieces dot label.now) receiver }
     ensures small { IfSome result (λ w. receiver < 13) }
-    ensures within { IsWithin table.now.generals table.now.bound table.now.commander }
+    ensures within { AreNumbersWithin table.now.generals table.now.bound table.now.commander }
 {
     if receiver >= (table.generals() as u128) {
         return None;

@@ -1,7 +1,7 @@
 ghost use Rattle.std.specs.Prelude.{◌≡◌, ◌≢◌, ◌<◌, ◌≤◌, [], ◌∷◌, true, false, length, IfOk};
 ghost use Rattle.std.specs.List.{list_any};
 ghost use Rattle.label.specs.Labels.{others};
-ghost use Rattle.book.specs.Table.{IsWithin, is_about, told};
+ghost use Rattle.book.specs.Table.{AreNumbersWithin, is_about, told};
 ghost use Rattle.book.specs.Grammar.{is_place, with_message};
 ghost use Rattle.book.specs.Trees.{tree_of};
 
@@ -31,11 +31,11 @@ impl Model for Table {
 
     ghost Value = { MessageTable };
 
-    ghost use Rattle.book.specs.Trees.{IsKept};
+    ghost use Rattle.book.specs.Trees.{AreTableTrees};
 
     ghost view = { λ t. record { generals = t.generals; bound = t.bound; commander = t.commander; rule = t.rule; messages = t.messages.items } };
 
-    ghost invariant = { λ t. IsKept t.generals t.bound t.commander t.messages.items t.trees.items };
+    ghost invariant = { λ t. AreTableTrees t.generals t.bound t.commander t.messages.items t.trees.items };
 }
 
 /// The place of a lieutenant among the lieutenants, ascending.
@@ -59,7 +59,7 @@ impl Table {
         commander: u8,
         rule: Rule,
     ) -> Result<Table, AllocError>
-        requires { IsWithin generals bound commander }
+        requires { AreNumbersWithin generals bound commander }
         ensures { IfOk result (λ t. t ≡ record { generals = generals; bound = bound; commander = commander; rule = rule; messages = [] }) }
     {
         let mut trees = Vec::with_capacity(alloc, generals as usize)?;
@@ -110,7 +110,7 @@ impl Table {
     /// How many generals there are, 2 to 13.
     pub fn generals(&self) -> u8
         ensures value { result ≡ self.now.generals }
-        ensures within { IsWithin self.now.generals self.now.bound self.now.commander }
+        ensures within { AreNumbersWithin self.now.generals self.now.bound self.now.commander }
     {
         self.generals
     }
@@ -118,7 +118,7 @@ impl Table {
     /// The greatest number of traitors that the campaign is made for, 0 to 4.
     pub fn bound(&self) -> u8
         ensures value { result ≡ self.now.bound }
-        ensures within { IsWithin self.now.generals self.now.bound self.now.commander }
+        ensures within { AreNumbersWithin self.now.generals self.now.bound self.now.commander }
     {
         self.bound
     }
@@ -126,7 +126,7 @@ impl Table {
     /// The commander's number.
     pub fn commander(&self) -> u8
         ensures value { result ≡ self.now.commander }
-        ensures within { IsWithin self.now.generals self.now.bound self.now.commander }
+        ensures within { AreNumbersWithin self.now.generals self.now.bound self.now.commander }
     {
         self.commander
     }

@@ -1,2 +1,3 @@
 pub mod SortedMiddle
 pub mod Voting
+pub mod Joining

@@ -23,5 +23,12 @@ impl Combine for Rule {
         }
     }
 
+    fn combine_told(&self, told: &[Option<u32>], place: usize, own: u32) -> u32 {
+        match self {
+            Rule::Majority => Majority.combine_told(told, place, own),
+            Rule::Median => Median.combine_told(told, place, own),
+        }
+    }
+
     ghost most_decide = { chosen_is_rule };
 }

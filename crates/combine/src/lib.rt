@@ -6,6 +6,7 @@ mod laws;
 mod majority;
 mod median;
 mod rule;
+mod told;
 
 pub use chosen::Rule;
 pub use laws::{median_is_middle, no_majority_is_retreat};

@@ -41,11 +41,19 @@ fn is_in_the_middle(orders: &[u32], order: u32) -> bool
 fn count_less(orders: &[u32], order: u32) -> usize
     ensures { result ≡ count_by (λ x. nat_lt x order) orders.now }
 {
-    orders.iter().filter(|x| **x < order).count()
+    let mut count = 0;
+    for x in orders {
+        count += usize::from(*x < order);
+    }
+    count
 }
 
 fn count_no_more(orders: &[u32], order: u32) -> usize
     ensures { result ≡ count_by (λ x. nat_le x order) orders.now }
 {
-    orders.iter().filter(|x| **x <= order).count()
+    let mut count = 0;
+    for x in orders {
+        count += usize::from(*x <= order);
+    }
+    count
 }

@@ -10,3 +10,4 @@ pub mod RowByRow
 pub mod Numbered
 pub mod LastOrders
 pub mod Alike
+pub mod Kept

@@ -124,10 +124,10 @@ others_same w s j h = rw add-one (others-more_no (w ++ s ∷ []) j (on-push w s 
     not-false false e = cc
 
 -- a new row
-abbrev nothing : Option ℕ
+abbrev pub nothing : Option ℕ
 nothing = None
 
-none_at : (k n : ℕ) → get_or (replicate k nothing) n None ≡ None
+pub none_at : (k n : ℕ) → get_or (replicate k nothing) n None ≡ None
 none_at zero n = refl
 none_at (suc k) zero = refl
 none_at (suc k) (suc n) = none_at k n

@@ -1,7 +1,7 @@
 -- One label's row of an outbox.
-use Rattle.std.specs.Prelude.{ℕ, ◌≡◌, ◌==◌, true, if◌then◌else◌, List, [], ◌∷◌, map, length, Option, Some, None, slice_index_or}
+use Rattle.std.specs.Prelude.{ℕ, ◌≡◌, ◌==◌, true, false, if◌then◌else◌, List, [], ◌∷◌, map, length, Option, Some, None, slice_index_or}
 use Rattle.label.specs.declared.shape.Shape.{Shape}
-use Rattle.label.specs.Labels.{is_distinct}
+use Rattle.label.specs.Labels.{on, is_distinct}
 use Rattle.label.specs.Oral.{AllBelow}
 use Rattle.label.specs.Relay.{receivers}
 
@@ -24,6 +24,7 @@ pub record IsRow (orders : List (Option ℕ)) (names : List ℕ) : Type 0 where
   pub long : length orders ≡ 13
   pub below : AllBelow 13 names
   pub distinct : is_distinct names ≡ true
+  pub absent : (n : ℕ) → on names n ≡ false → slice_index_or orders n None ≡ None
 
 -- a row in which nothing is put
 abbrev pub empty_row : List ℕ → RowOrders

@@ -9,7 +9,7 @@ use std::marker::Model;
 #[derive(Drop)]
 pub(crate) struct Row {
     receivers: ArrayVec<u8, 13>,
-    /// By the receiver's number.
+    /// By the receiver's number; nothing at the other numbers.
     orders: [Option<u32>; 13],
 }
 
@@ -65,7 +65,7 @@ impl Row {
     pub fn order(&self, receiver: u32) -> Option<u32>
         ensures { result ≡ order_in receiver self.now }
     {
-        if hears(self.receivers.as_slice(), receiver) {
+        if receiver < 13 {
             self.orders[receiver as usize]
         } else {
             None
@@ -141,7 +141,7 @@ fn fill(receivers: &[u8], kept: &mut [Option<u32>; 13], orders: &[u32]) -> u32
     requires row { IsRow kept.old receivers.now }
     requires few { length receivers.now ≤ 13 }
     ensures row { row_of kept.new receivers.now ≡ filled orders.now (row_of kept.old receivers.now) }
-    ensures long { length kept.new ≡ 13 }
+    ensures kept { IsRow kept.new receivers.now }
     ensures count { result ≡ min (length receivers.now) (length orders.now) }
 {
     let count = receivers.len().min(orders.len());

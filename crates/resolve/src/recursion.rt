@@ -39,7 +39,7 @@ fn decide<C: Combine>(tree: &Tree, rule: &C, relays: u8, size: u8, rank: usize, 
     let width = (tree.space().generals - 1).saturating_sub(size);
     if relays == 1 {
         let children = children(tree.level(size + 1), width as usize, rank);
-        return lowest(rule, own, children, place as usize);
+        return rule.combine_told(children, place as usize, own);
     }
     let first = rank * width as usize;
     let mut orders: ArrayVec<u32, 13> = ArrayVec::new();
@@ -66,24 +66,6 @@ fn children(level: &[Option<u32>], width: usize, rank: usize) -> &[Option<u32>]
     ensures { result.now ≡ slice_range level.now (rank * width) (rank * width + width) }
 {
     &level[rank * width..rank * width + width]
-}
-
-/// What is decided of a label whose children are longest labels: these relay nothing further, so
-/// their orders are combined as they are, the lieutenant's own at its place among them.
-fn lowest<C: Combine>(rule: &C, direct: u32, children: &[Option<u32>], place: usize) -> u32
-    requires place { place ≤ length children.now }
-    requires few { length children.now < 13 }
-    ensures { result ≡ C.combined rule.now (insert (map order_of children.now) place direct) }
-{
-    let mut orders: ArrayVec<u32, 13> = ArrayVec::new();
-    for x in &children[..place] {
-        orders.push(x.unwrap_or(0));
-    }
-    orders.push(direct);
-    for y in &children[place..] {
-        orders.push(y.unwrap_or(0));
-    }
-    rule.combine(orders.as_slice())
 }
 
 /// The order at a rank, RETREAT where nothing came.

@@ -4,8 +4,8 @@ use Rattle.std.specs.Prelude.{slice_get, ◌==◌}
 use Rattle.std.proofs.lemmas.Bool.{eq-eqb, ne_eqb}
 use Rattle.std.proofs.lemmas.Bool.Decides.{eqb_tells}
 use Rattle.std.proofs.lemmas.Option.{slice_get_within, slice_get_read}
-use Rattle.label.specs.Labels.{on, labels}
-use Rattle.label.specs.Oral.{Messages, IsLabel}
+use Rattle.label.specs.Labels.{labels}
+use Rattle.label.specs.Oral.{Messages}
 use Rattle.label.specs.declared.shape.Shape.{Shape}
 use Rattle.label.specs.declared.space.Space.{Space}
 use Rattle.label.specs.Space.{labels_of}
@@ -14,7 +14,7 @@ use Rattle.tree.specs.Kept.{Kept, IsCampaign, IsFilled, SameCampaign, levels_fro
 use Rattle.tree.proofs.Also.{also-here, also-other}
 use Rattle.round.specs.Letters.{Letter}
 use Rattle.round.specs.Told.{AreDue, told_now, heard_also, round_of}
-use Rattle.round.specs.Delivery.{AreFor}
+use Rattle.round.specs.Delivery.{IsPartly, IsFilledBetween}
 
 pub same_map : {B : Type 0} (F G : List ℕ → B) (ws : List (List ℕ)) → ((i : ℕ) (w : List ℕ) → slice_get ws i ≡ Some w → F w ≡ G w) → map F ws ≡ map G ws
 same_map F G [] h = refl
@@ -43,35 +43,31 @@ none_heard t row M c none filled =
     let zero_round : round_of row ≡ 0 = ap round_of none in
     sym (heard_other M row w t.general (λ e. absurd (omega arith))))
 
--- filled up to a rank of the level
-pub record IsPartly (M : Messages) (row : List Letter) (n c p k i : ℕ) (t : Kept) : Type 0 where
-  pub N : Messages
-  pub filled : IsFilled t N
-  pub others : (w : List ℕ) → (length w ≡ k → ⊥) → N w p ≡ M w p
-  pub done : (j : ℕ) (w : List ℕ) → j < i → slice_get (labels n c p k) j ≡ Some w → N w p ≡ told_now row w p
+-- nothing is told yet
+pub told_none : (t : Kept) (row : List Letter) (k i : ℕ) → IsFilledBetween t row k i i t
+told_none t row k i = record { same = record { generals = refl; bound = refl; commander = refl; general = refl }; partly = λ M p. p }
 
--- so many labels are filled in
-pub record IsFilledTo (t : Kept) (row : List Letter) (k i : ℕ) (u : Kept) : Type 0 where
-  pub same : SameCampaign t u
-  pub partly : (M : Messages) → IsFilled t M → IsPartly M row t.generals t.commander t.general k i u
-
-pub filled_none : (t : Kept) (row : List Letter) (k : ℕ) → IsFilledTo t row k 0 t
-filled_none t row k = record {
-  same = record { generals = refl; bound = refl; commander = refl; general = refl };
-  partly = λ M filled. record { N = M; filled = filled; others = λ w ne. refl; done = λ j w lt at. absurd (omega arith) };
+-- one after another
+pub told_on : (t : Kept) (row : List Letter) (k i j l : ℕ) (u v : Kept) → IsFilledBetween t row k i j u → IsFilledBetween u row k j l v → IsFilledBetween t row k i l v
+told_on t row k i j l u v h g = record {
+  same = record { generals = g.same.generals ∙ h.same.generals; bound = g.same.bound ∙ h.same.bound; commander = g.same.commander ∙ h.same.commander; general = g.same.general ∙ h.same.general };
+  partly = λ M p.
+      subst (λ (n : ℕ). IsPartly M row n t.commander t.general k j u → IsPartly M row n t.commander t.general k l v) h.same.generals
+      (subst (λ (c : ℕ). IsPartly M row u.generals c t.general k j u → IsPartly M row u.generals c t.general k l v) h.same.commander
+      (subst (λ (q : ℕ). IsPartly M row u.generals u.commander q k j u → IsPartly M row u.generals u.commander q k l v) h.same.general (g.partly M))) (h.partly M p);
 }
 
-pub filled_more : (t : Kept) (row : List Letter) (k i : ℕ) (u v : Kept) (w : List ℕ) (value : Option ℕ) → IsCampaign t → IsFilledTo t row k i u → SameCampaign u v →
+-- one label
+pub told_one : (t : Kept) (row : List Letter) (k i : ℕ) (v : Kept) (w : List ℕ) (value : Option ℕ) → IsCampaign t → SameCampaign t v →
     slice_get (labels t.generals t.commander t.general k) i ≡ Some w → value ≡ told_now row w t.general →
-    ((M : Messages) (x : List ℕ) → IsFilled u M → slice_get (labels u.generals u.commander u.general k) i ≡ Some x → IsFilled v (told_also M x value)) → IsFilledTo t row k (i + 1) v
-filled_more t row k i u v w value c h same at is fill = record {
-  same = record { generals = same.generals ∙ h.same.generals; bound = same.bound ∙ h.same.bound; commander = same.commander ∙ h.same.commander; general = same.general ∙ h.same.general };
-  partly = λ M filled.
-      let p = h.partly M filled in
+    ((M : Messages) (x : List ℕ) → IsFilled t M → slice_get (labels t.generals t.commander t.general k) i ≡ Some x → IsFilled v (told_also M x value)) → IsFilledBetween t row k i (suc i) v
+told_one t row k i v w value c same at is fill = record {
+  same = same;
+  partly = λ M p.
       let long : length w ≡ k = (proved_labels_are_exact.only t.generals t.commander t.general k i w c.commander c.general c.lieutenant at).2 in
       record {
         N = told_also p.N w value;
-        filled = fill p.N w p.filled (rw (h.same.generals, h.same.commander, h.same.general) at);
+        filled = fill p.N w p.filled at;
         others = λ x far. also-other p.N w value x t.general (λ e. far (ap length e ∙ long)) ∙ p.others x far;
         done = λ j x lt there. ⊎_elim
             (λ (q : (j == i ≡ true) × (j ≡ i)).
@@ -100,24 +96,11 @@ each_same t row k i u M c ek all p j m w le at =
     p.others w (λ e. q.1 (sym long ∙ e)) ∙ sym (heard_other M row w t.general (λ e. q.1 (sym long ∙ (e ∙ sym ek)))))
     (eqb_tells j k)
 
-pub filled_all : (t : Kept) (row : List Letter) (k i : ℕ) (u : Kept) → IsCampaign t → k ≡ round_of row → IsFilledTo t row k i u → length (labels t.generals t.commander t.general k) ≤ i → (M : Messages) → IsFilled t M → IsFilled u (heard_also M row)
-filled_all t row k i u c ek h all M filled =
-    let p = h.partly M filled in
+-- all labels of the length
+pub told_all : (t : Kept) (row : List Letter) (k i : ℕ) (u : Kept) → IsCampaign t → k ≡ round_of row → IsFilledBetween t row k 0 i u → length (labels t.generals t.commander t.general k) ≤ i → (M : Messages) → IsFilled t M → IsFilled u (heard_also M row)
+told_all t row k i u c ek h all M filled =
+    let p = h.partly M (record { N = M; filled = filled; others = λ w ne. refl; done = λ j w lt at. absurd (omega arith) }) in
     p.filled ∙ (rw (h.same.generals, h.same.commander, h.same.general) (levels-same t.generals t.commander t.general p.N (heard_also M row) 1 (u.bound + 1) (each_same t row k i u M c ek all p)))
-
--- the letters of the tree's campaign are for its labels of that length
-pub due_for : (t : Kept) (row : List Letter) (w : List ℕ) (p : ℕ) → AreDue t row → IsLabel t.generals t.commander w → length w ≡ round_of row → p < t.generals → on w p ≡ false → AreFor row w p
-due_for t row w p due label long within without i l at last =
-    let s = due.letters i l at in
-    record {
-      last = record {
-        label = (let P : ℕ → ℕ → Type 0 = λ n c. IsLabel n c w in subst (λ (g : ℕ). P g l.outbox.shape.commander) (sym (ap (λ x. x.generals) s)) (subst (λ (c : ℕ). P t.generals c) (sym (ap (λ x. x.commander) s)) label));
-        sender = ap (λ x. x.general) s ∙ last;
-        round = ap (λ x. x.round) s ∙ sym long;
-      };
-      within = (let e = ap (λ x. x.generals) s in omega arith);
-      without = without;
-    }
 
 -- as it is called
 pub due_round : (t : Kept) (row : List Letter) (shape : Shape) (inside item : Letter) → AreDue t row → inside ≡ item → item ≡ get_or row 0 item → 0 < length row → shape ≡ inside.outbox.shape → shape.round ≡ round_of row
@@ -127,9 +110,6 @@ due_round t row shape inside item due view at some same =
 
 pub same_labels : (sp : Space) (t : Kept) (k : ℕ) → sp.generals ≡ t.generals → sp.commander ≡ t.commander → sp.general ≡ t.general → labels_of sp k ≡ labels t.generals t.commander t.general k
 same_labels sp t k en ec eg = (λ i. labels (en i) (ec i) (eg i) k)
-
-pub label_told : (t : Kept) (k i : ℕ) (w : List ℕ) → IsCampaign t → slice_get (labels t.generals t.commander t.general k) i ≡ Some w → IsLabel t.generals t.commander w × (on w t.general ≡ false) × (length w ≡ k)
-label_told t k i w c at = let h = proved_labels_are_exact.only t.generals t.commander t.general k i w c.commander c.general c.lieutenant at in (h.0, h.1, h.2)
 
 pub no_letters : (row : List Letter) → length row ≡ 0 → row ≡ []
 no_letters [] e = refl

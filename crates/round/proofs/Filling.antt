@@ -1,5 +1,5 @@
 -- The trees of all lieutenants, round by round.
-use Rattle.std.proofs.Common.{◌≡◌, ◌≢◌, ℕ, zero, suc, ◌+◌, ◌-◌, ◌<◌, ◌≤◌, List, [], ◌∷◌, ◌++◌, length, take, get_or, set, Bool, true, false, refl, sym, ap, subst, ◌∙◌, Some, None, arith, ⊎_elim, ◌⊎◌, inl, inr, length-append}
+use Rattle.std.proofs.Common.{◌≡◌, ◌≢◌, ℕ, zero, suc, ◌+◌, ◌-◌, ◌<◌, ◌≤◌, List, [], ◌∷◌, ◌++◌, length, take, get_or, Bool, true, false, refl, sym, ap, subst, ◌∙◌, Some, None, arith, ⊎_elim, ◌⊎◌, inl, inr, length-append}
 use Rattle.std.specs.Prelude.{slice_get, slice_index, ◌==◌, nat_lt, if◌then◌else◌}
 use Rattle.std.proofs.lemmas.Bool.{ltb-true, ltb-false}
 use Rattle.std.proofs.lemmas.Bool.Decides.{eqb_tells}
@@ -11,6 +11,7 @@ use Rattle.round.specs.Scenario.{Scenario, IsScenario}
 use Rattle.round.specs.Letters.{Letter, messages, told_by, letter_of}
 use Rattle.round.specs.Told.{IsTreeOf, AreDue, AreLettersOf, Heard, WasTold, told_now, heard_also, round_of, lieutenant_at}
 use Rattle.round.proofs.Delivering.{levels-same, heard_here, heard_other}
+use Rattle.round.proofs.EachTree.{AreChangedTo}
 
 get-end : {A : Type 0} (xs : List A) (x d : A) → get_or (xs ++ x ∷ []) (length xs) d ≡ x
 get-end [] x d = refl
@@ -28,7 +29,7 @@ messages-now before row w p e =
     let front : length w - 1 ≡ length before = omega arith in
     ap (λ ls. told_by (letter_of ls (slice_index w (length w - 1))) (take (length w - 1) w) p) (ap (λ (i : ℕ). get_or (before ++ row ∷ []) i []) front ∙ get-end before row [])
 
-messages-past : (before : List (List Letter)) (row : List Letter) (w : List ℕ) (p : ℕ) → 0 < length w → (length w ≡ suc (length before) → ⊥) → messages (before ++ row ∷ []) w p ≡ messages before w p
+pub messages-past : (before : List (List Letter)) (row : List Letter) (w : List ℕ) (p : ℕ) → 0 < length w → (length w ≡ suc (length before) → ⊥) → messages (before ++ row ∷ []) w p ≡ messages before w p
 unfolding messages
 messages-past before row w p some ne =
     ap (λ ls. told_by (letter_of ls (slice_index w (length w - 1))) (take (length w - 1) w) p) (get-other before row [] (length w - 1) (λ e. ne (omega arith)))
@@ -39,7 +40,7 @@ get_past (x ∷ xs) zero d l = absurd (omega arith)
 get_past (x ∷ xs) (suc i) d l = get_past xs i d (omega arith)
 
 -- of a round that is not closed there is no message
-messages-none : (before : List (List Letter)) (w : List ℕ) (p : ℕ) → length before ≤ length w - 1 → messages before w p ≡ None
+pub messages-none : (before : List (List Letter)) (w : List ℕ) (p : ℕ) → length before ≤ length w - 1 → messages before w p ≡ None
 unfolding messages
 messages-none before w p le = ap (λ ls. told_by (letter_of ls (slice_index w (length w - 1))) (take (length w - 1) w) p) (get_past before (length w - 1) [] le)
 
@@ -94,52 +95,7 @@ tree_due s before row g rounds t h due left = record {
     at_most [] due = omega arith
     at_most (x ∷ row) due = (let e = (due 0 x refl).0 in let b = h.bound in omega arith)
 
--- so many trees have the new round, the others are as they were
-pub record AreFilledTo (old : List Kept) (row : List Letter) (i : ℕ) (trees : List Kept) : Type 0 where
-  pub count : length trees ≡ length old
-  pub done : (j : ℕ) (t u : Kept) → j < i → slice_get old j ≡ Some t → slice_get trees j ≡ Some u → SameCampaign t u × ((M : Messages) → IsFilled t M → IsFilled u (heard_also M row))
-  pub rest : (j : ℕ) → i ≤ j → slice_get trees j ≡ slice_get old j
-
-pub filled_from : (old : List Kept) (row : List Letter) → AreFilledTo old row 0 old
-filled_from old row = record { count = refl; done = λ j t u lt. absurd (omega arith); rest = λ j le. refl }
-
-set_length : (xs : List Kept) (i : ℕ) (x : Kept) → length (set xs i x) ≡ length xs
-set_length [] i x = refl
-set_length (y ∷ xs) zero x = refl
-set_length (y ∷ xs) (suc i) x = ap suc (set_length xs i x)
-
-get_set : (xs : List Kept) (i : ℕ) (x : Kept) → i < length xs → slice_get (set xs i x) i ≡ Some x
-get_set [] i x lt = absurd (omega arith)
-get_set (y ∷ xs) zero x lt = refl
-get_set (y ∷ xs) (suc i) x lt = get_set xs i x (omega arith)
-
-get_unset : (xs : List Kept) (i j : ℕ) (x : Kept) → (j ≡ i → ⊥) → slice_get (set xs i x) j ≡ slice_get xs j
-get_unset [] i j x ne = refl
-get_unset (y ∷ xs) zero zero x ne = absurd (ne refl)
-get_unset (y ∷ xs) zero (suc j) x ne = refl
-get_unset (y ∷ xs) (suc i) zero x ne = refl
-get_unset (y ∷ xs) (suc i) (suc j) x ne = get_unset xs i j x (λ e. ne (ap suc e))
-
-some_same : {A : Type 0} {a b : A} → Some a ≡ Some b → a ≡ b
-some_same e = cc
-
-pub filled_next : (old : List Kept) (row : List Letter) (i : ℕ) (trees : List Kept) (t u : Kept) → AreFilledTo old row i trees → i < length trees → t ≡ get_or trees i t → SameCampaign t u → ((M : Messages) → IsFilled t M → IsFilled u (heard_also M row)) → AreFilledTo old row (i + 1) (set trees i u)
-filled_next old row i trees t u h lt at same fill =
-    let here : slice_get trees i ≡ Some t = slice_get_read trees (length trees) i t refl lt at in
-    record {
-      count = set_length trees i u ∙ h.count;
-      done = λ j x y less was now. ⊎_elim
-          (λ (q : (j == i ≡ true) × (j ≡ i)).
-          let first : x ≡ t = some_same (sym was ∙ (ap (λ (k : ℕ). slice_get old k) q.1 ∙ (sym (h.rest i (omega arith)) ∙ here))) in
-          let last : y ≡ u = some_same (sym now ∙ (ap (λ (k : ℕ). slice_get (set trees i u) k) q.1 ∙ get_set trees i u lt)) in
-          rw (first, last) (same, fill))
-          (λ (q : (j == i ≡ false) × (j ≢ i)).
-          h.done j x y (let n = q.1 in omega arith) was (sym (get_unset trees i j u q.1) ∙ now))
-          (eqb_tells j i);
-      rest = λ j le. get_unset trees i j u (λ e. absurd (omega arith)) ∙ h.rest j (omega arith);
-    }
-
-pub told_more : (s : Scenario) (before : List (List Letter)) (row : List Letter) (h : Heard) (trees : List Kept) (i : ℕ) → IsScenario s → WasTold s before h → AreLettersOf s (suc h.rounds) row → AreFilledTo h.trees row i trees → length trees ≤ i →
+pub told_more : (s : Scenario) (before : List (List Letter)) (row : List Letter) (h : Heard) (trees : List Kept) (i : ℕ) → IsScenario s → WasTold s before h → AreLettersOf s (suc h.rounds) row → AreChangedTo h.trees (λ M. heard_also M row) i trees → length trees ≤ i →
     WasTold s (before ++ row ∷ []) (record { rounds = h.rounds + 1; trees = trees })
 told_more s before row h trees i is told due filled all =
     let due' : AreLettersOf s (suc (length before)) row = subst (λ (k : ℕ). AreLettersOf s (suc k) row) told.rounds due in
@@ -178,7 +134,7 @@ pub silent_none : (s : Scenario) → AreSilent s 0 []
 silent_none s = record { count = refl; trees = λ j t at. cc }
 
 get_push : (xs : List Kept) (x t : Kept) (j : ℕ) → slice_get (xs ++ x ∷ []) j ≡ Some t → (slice_get xs j ≡ Some t) ⊎ ((j ≡ length xs) × (x ≡ t))
-get_push [] x t zero e = inr (refl, some_same e)
+get_push [] x t zero e = inr (refl, cc)
 get_push [] x t (suc j) e = cc
 get_push (y ∷ xs) x t zero e = inl e
 get_push (y ∷ xs) x t (suc j) e = ⊎_elim (λ (q : slice_get xs j ≡ Some t). inl q) (λ (q : (j ≡ length xs) × (x ≡ t)). inr (ap suc q.0, q.1)) (get_push xs x t j e)
@@ -225,7 +181,7 @@ place_within c i g n m within inside is count = by (nat_lt i c) refl is
     by false e h = omega arith
 
 -- a tree that is not filled yet is due the letters
-pub told_due : (s : Scenario) (before : List (List Letter)) (row : List Letter) (h : Heard) (trees : List Kept) (i : ℕ) (t : Kept) → WasTold s before h → AreFilledTo h.trees row i trees → i < length trees → t ≡ get_or trees i t → AreLettersOf s (suc h.rounds) row → h.rounds ≤ s.bound → AreDue t row
+pub told_due : (s : Scenario) (before : List (List Letter)) (row : List Letter) (h : Heard) (trees : List Kept) (i : ℕ) (t : Kept) → WasTold s before h → AreChangedTo h.trees (λ M. heard_also M row) i trees → i < length trees → t ≡ get_or trees i t → AreLettersOf s (suc h.rounds) row → h.rounds ≤ s.bound → AreDue t row
 told_due s before row h trees i t told filled lt at due left =
     let here : slice_get trees i ≡ Some t = slice_get_read trees (length trees) i t refl lt at in
     tree_due s before row (lieutenant_at s.commander i) h.rounds t (told.trees i t (sym (filled.rest i (omega arith)) ∙ here)) due left

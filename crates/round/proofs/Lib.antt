@@ -12,10 +12,16 @@ pub mod Ends
 pub mod Programs
 pub mod Turning
 pub mod Spelling
-pub mod Fresh
 pub mod Senders
+pub mod Prolonging
 pub mod Delivering
+pub mod EachTree
+pub mod Walking
+pub mod Descending
 pub mod Filling
+pub mod Forgetting
 pub mod Values
 pub mod ToldRows
+pub mod Fitting
 pub mod Onwards
+pub mod Served

@@ -9,9 +9,9 @@ use Rattle.semantics.proofs.PlacesLaws.{row_from}
 use Rattle.outbox.specs.Contents.{Contents}
 use Rattle.round.specs.Scenario.{Scenario, IsScenario, shape_of}
 use Rattle.round.specs.Letters.{Letter, telling}
-use Rattle.round.specs.Contexts.{AreWords, value_of, context_numbers, context_of, shape_told, outbox_told, letter_told, loyal_letter}
-use Rattle.round.specs.Laws.{LoyalLettersFollow}
-use Rattle.round.proofs.Telling.{number_at, proved_contexts_tell}
+use Rattle.round.specs.Contexts.{AreWords, value_of, context_numbers, context_of, IsToldTo, shape_told, outbox_told, letter_told, loyal_letter}
+use Rattle.round.specs.Laws.{ContextsTell, LoyalLettersFollow}
+use Rattle.round.proofs.Telling.{number_at, value_is_told}
 
 -- the numbers of his campaign
 pub shape_is_told : (s : Scenario) (before : List (List Letter)) (g round : ℕ) → IsScenario s → shape_told g round (context_of s before g) ≡ shape_of s g round
@@ -23,6 +23,22 @@ shape_is_told s before g round is =
     let generals = number_at numbers 0 0 s.generals refl (omega arith) refl (omega arith) in
     let commander = number_at numbers 3 12 s.commander refl (omega arith) refl (omega arith) in
     (λ i. record { generals = generals i; commander = commander i; general = g; round = round })
+
+-- his own number, and the round
+pub own_is_told : (s : Scenario) (before : List (List Letter)) (g : ℕ) → IsScenario s → g < s.generals → length before ≤ s.bound → IsToldTo g (suc (length before)) (context_of s before g)
+own_is_told s before g is inside le =
+    let shape = shape_of s g (suc (length before)) in
+    let numbers : List ℕ = context_numbers shape s.bound (map (value_of s before g) (relay shape)) in
+    let few = is.few in
+    let rounds = is.rounds in
+    (number_at numbers 2 8 g refl (omega arith) refl (omega arith), number_at numbers 4 16 (suc (length before)) refl (omega arith) refl (omega arith))
+
+pub proved_contexts_tell : ContextsTell
+proved_contexts_tell = record {
+  own = own_is_told;
+  shape = λ s before g is inside le. shape_is_told s before g (suc (length before)) is;
+  values = value_is_told;
+}
 
 -- a list of numbers gives each place its label's value
 number_row : (F : ℕ → ℕ) (v k b : ℕ) (ns : List ℕ) → F k ≡ v → map (λ place. Some (F place.rank)) (row_from k b ns) ≡ map (λ p. Some v) ns
@@ -42,7 +58,7 @@ told_is : (s : Scenario) (before : List (List Letter)) (g : ℕ) → IsScenario 
 told_is s before g is within le small =
     let shape = shape_of s g (suc (length before)) in
     let rows = number_rows shape (λ rank. taken_value (context_of s before g) rank) (value_of s before g) 0 (relay shape)
-    (λ rank u at. (let z : 0 + rank ≡ rank = omega arith in ap (λ (n : ℕ). taken_value (context_of s before g) n) z ∙ proved_contexts_tell s before g rank u is within le at (small rank u at))) in
+    (λ rank u at. (let z : 0 + rank ≡ rank = omega arith in ap (λ (n : ℕ). taken_value (context_of s before g) n) z ∙ value_is_told s before g rank u is within le at (small rank u at))) in
     (λ i. record { shape = shape; rows = rows i })
 
 -- so his letter is the loyal one
@@ -55,5 +71,5 @@ letter_is s before g is within le small =
 pub proved_loyal_letters_follow : LoyalLettersFollow
 proved_loyal_letters_follow = record {
   letter = letter_is;
-  kept = λ g round context is. record { context = is; shape = refl; run = (refl, refl, refl, refl) };
+  kept = λ context is. record { context = is; own = (refl, refl); shape = refl; run = (refl, refl, refl, refl) };
 }

@@ -5,13 +5,15 @@ use Rattle.std.specs.Prelude.{◌||◌}
 use Rattle.insn.specs.declared.insn.Insn.{Insn}
 use Rattle.label.specs.declared.shape.Shape.{Shape}
 use Rattle.semantics.specs.Relay.{IsContext}
+use Rattle.semantics.specs.Call.{fits}
 use Rattle.board.specs.Board.{Access}
 use Rattle.round.specs.Activation.{Activation, Turn, Goes, Asks, Ended, turn, started, has_ended, is_reached}
-use Rattle.round.specs.Contexts.{shape_told}
+use Rattle.round.specs.Contexts.{IsToldTo, shape_told}
 use Rattle.round.specs.Letters.{Letter}
-use Rattle.round.specs.Runs.{Onward, Runs, IsWithin, IsLetter}
+use Rattle.round.specs.Runs.{Onward, Runs, AreFitting, IsWithin, IsLetter}
 use Rattle.round.specs.Running.{TakesTurn, IsSameRun, Silently, AreAccessesOf, IsOnWay, IsLived, letter_left}
 use Rattle.round.proofs.Patience.{under, runs_under}
+use Rattle.round.proofs.Fitting.{fitting_more}
 use Rattle.round.proofs.Stepping.{runs_steps}
 use Rattle.round.proofs.Runnings.{StopsAt, Runs-snoc}
 
@@ -63,13 +65,15 @@ on_silently general round start a mid b t h turn_is same went further =
       same = same_run_on start mid b (same_run_on start a mid h.same same) further;
       run = (all.0, subst (λ (l : List Access). Runs all.0 start l b) (append-nil t) all.1);
       own = h.own;
+      fitting = h.fitting;
     }
 
-pub on_served : (general round : ℕ) (start a mid b : Activation) (t : List Access) (x : Access) → IsOnWay general round start a t → TakesTurn (turn a) (Some x) mid → (x.general ≡ general) × (x.round ≡ round) → IsSameRun a mid → Silently mid b → IsSameRun mid b → IsOnWay general round start b (t ++ x ∷ [])
-on_served general round start a mid b t x h turn_is own same went further = record {
+pub on_served : (general round : ℕ) (start a mid b : Activation) (t : List Access) (x : Access) → IsOnWay general round start a t → TakesTurn (turn a) (Some x) mid → (x.general ≡ general) × (x.round ≡ round) → fits x.request x.reply ≡ true → IsSameRun a mid → Silently mid b → IsSameRun mid b → IsOnWay general round start b (t ++ x ∷ [])
+on_served general round start a mid b t x h turn_is own fit same went further = record {
   same = same_run_on start mid b (same_run_on start a mid h.same same) further;
   run = run_on start a mid b t (Some x) h.run turn_is went;
   own = all_more general round t x h.own own;
+  fitting = fitting_more t x h.fitting fit;
 }
 
 pub silently_later : (a b : Activation) → Silently a b → a.state.steps ≤ b.state.steps
@@ -80,6 +84,7 @@ way_begins general round a t none = record {
   same = record { program = refl; context = refl; shape = refl; patience = refl };
   run = (0, (none, refl));
   own = subst (λ (l : List Access). AreAccessesOf general round l) (sym none) (all_none general round);
+  fitting = subst (λ (l : List Access). AreFitting l) (sym none) tt;
 }
 
 -- the same run without a patience
@@ -89,11 +94,12 @@ run_without patience program context shape t a run =
     subst (λ (n : ℕ). Runs n (started None program context shape) t (under None a)) (sym counted) (runs_under None run.0 (started patience program context shape) t a tt run.1)
 
 -- what is left is a letter
-pub letter_of_run : (general round : ℕ) (t : List Access) (a : Activation) → IsContext a.context → a.shape ≡ shape_told general round a.context → (k : ℕ) × Runs k (started a.patience a.program a.context a.shape) t a → IsLetter (letter_left general round t a)
-letter_of_run general round t a context shape run = record {
+pub letter_of_run : (general round : ℕ) (t : List Access) (a : Activation) → IsContext a.context → IsToldTo general round a.context → a.shape ≡ shape_told general round a.context → AreFitting t → (k : ℕ) × Runs k (started a.patience a.program a.context a.shape) t a → IsLetter (letter_left general round t a)
+letter_of_run general round t a context own shape fit run = record {
   context = context;
+  own = own;
   shape = shape;
-  run = (under None a, run_without a.patience a.program a.context a.shape t a run, refl, refl);
+  run = (fit, under None a, run_without a.patience a.program a.context a.shape t a run, refl, refl);
 }
 
 -- an activation that is on its way, by its own parts
@@ -115,6 +121,7 @@ lived general round program context patience shape t a l told within way ended i
       own_program = ap (λ (p : List Insn). Some p) s.program;
       shape = s.shape ∙ told;
       run = (
+        way.fitting,
         under None a,
         subst (λ (x : Activation). Runs a.state.steps x t (under None a)) (λ i. started None program (sym s.context i) (sym s.shape i)) (run_without patience program context shape t a way.run),
         refl,

@@ -1,41 +1,15 @@
--- A label's front in the relay of its last general, and a receiver's place there.
-use Rattle.std.proofs.Common.{◌≡◌, ◌≢◌, ℕ, zero, suc, ◌+◌, ◌-◌, ◌<◌, ◌≤◌, List, [], ◌∷◌, ◌++◌, length, take, get_or, Bool, true, false, cond, refl, sym, ap, ◌∙◌, subst, Some, None, Option, arith, ⊎_elim}
-use Rattle.std.specs.Prelude.{slice_get, slice_index, ◌==◌, bytes_eq}
-use Rattle.std.proofs.lemmas.Bool.{eq-eqb, ne_eqb, eqb-true, false_from_ne_true}
+-- What a general's letter tells, by rank and receiver.
+use Rattle.std.proofs.Common.{◌≡◌, ◌≢◌, ℕ, zero, suc, ◌+◌, ◌-◌, ◌<◌, ◌≤◌, List, [], ◌∷◌, length, take, get_or, Bool, true, false, cond, refl, sym, ap, ◌∙◌, Some, None, Option, arith, ⊎_elim}
+use Rattle.std.specs.Prelude.{slice_get, ◌==◌, bytes_eq, if◌then◌else◌}
+use Rattle.std.proofs.lemmas.Bool.{eq-eqb, eqb-true, false_from_ne_true}
 use Rattle.std.proofs.lemmas.Bool.Decides.{eqb_tells}
-use Rattle.std.proofs.lemmas.List.{length-take-le}
 use Rattle.std.proofs.lemmas.Slice.Eq.{bytes_eq-Decides}
 use Rattle.label.specs.declared.shape.Shape.{Shape}
-use Rattle.label.specs.Labels.{on, others, labels}
-use Rattle.label.specs.Oral.{IsLabel, BeginsWith}
-use Rattle.label.specs.Relay.{IsShape, relay, receivers}
-use Rattle.label.proofs.Ranks.{others-at, others-place}
+use Rattle.label.specs.Relay.{relay, receivers}
 use Rattle.label.proofs.Listing.{proved_labels_differ}
-use Rattle.label.proofs.Same.{label_stands}
+use Rattle.semantics.proofs.PlacesLaws.{row_from, rows_from}
+use Rattle.outbox.specs.Contents.{order_among, order_at}
 use Rattle.round.specs.Letters.{Letter, beside, tells, letter_of}
-use Rattle.round.specs.Delivery.{IsLastOf, IsFor}
-use Rattle.round.proofs.Fronts.{Front, front, apart}
-
-snoc_at : (w : List ℕ) (k : ℕ) → length w ≡ suc k → w ≡ take k w ++ slice_index w k ∷ []
-snoc_at [] k e = absurd (omega arith)
-snoc_at (x ∷ []) zero e = refl
-snoc_at (x ∷ y ∷ w) zero e = absurd (omega arith)
-snoc_at (x ∷ w) (suc k) e = ap (λ l. x ∷ l) (snoc_at w k (omega arith))
-
-pub snoc : (w : List ℕ) → 0 < length w → w ≡ take (length w - 1) w ++ slice_index w (length w - 1) ∷ []
-snoc w s = snoc_at w (length w - 1) (omega arith)
-
-fronted_push : (n c g : ℕ) (u : List ℕ) → 0 < length u → IsLabel n c (u ++ g ∷ []) → Front n c g u × (g ≢ c)
-fronted_push n c g [] s a = absurd (omega arith)
-fronted_push n c g (x ∷ xs) s a = let f = front n c g x xs a in (f, apart n c g x xs f.label f.off)
-
-take-some : (k : ℕ) (w : List ℕ) → 0 < k → k ≤ length w → 0 < length (take k w)
-take-some zero w s l = absurd (omega arith)
-take-some (suc k) [] s l = absurd (omega arith)
-take-some (suc k) (x ∷ w) s l = omega arith
-
-pub fronted : (n c : ℕ) (w : List ℕ) → IsLabel n c w → 1 < length w → Front n c (slice_index w (length w - 1)) (take (length w - 1) w) × (slice_index w (length w - 1) ≢ c)
-fronted n c w a l = fronted_push n c (slice_index w (length w - 1)) (take (length w - 1) w) (take-some (length w - 1) w (omega arith) (omega arith)) (subst (λ v. IsLabel n c v) (snoc w (omega arith)) a)
 
 -- what stands beside the only element that passes
 beside-at : {A B : Type 0} (is : A → Bool) (d : B) (xs : List A) (ys : List B) (i : ℕ) (x : A) → slice_get xs i ≡ Some x → is x ≡ true → ((j : ℕ) (y : A) → slice_get xs j ≡ Some y → is y ≡ true → j ≡ i) → beside is d xs ys ≡ get_or ys i d
@@ -67,48 +41,43 @@ relay_differ s i j u commander general = ⊎_elim
     (λ (q : (s.general == s.commander ≡ false) × (s.general ≢ s.commander)). rw q.0 (λ e f. proved_labels_differ s.generals s.commander s.general (s.round - 1) i j u commander general q.1 e f))
     (eqb_tells s.general s.commander)
 
--- by rank and number
-tells_rows : (s : Shape) (outbox : List (List (Option ℕ))) (u : List ℕ) (p rank number : ℕ) → s.commander < s.generals → s.general < s.generals → p < s.generals → on (u ++ s.general ∷ []) p ≡ false → slice_get (relay s) rank ≡ Some u → number ≡ length (others p (u ++ s.general ∷ [])) →
-    tells (record { shape = s; rows = outbox }) u p ≡ get_or (get_or outbox rank []) number None
-tells_rows s outbox u p rank number commander general within off at en =
-    ap (λ row. beside (λ j. j == p) None (receivers s u) row)
-    (beside-at (λ v. bytes_eq v u) [] (relay s) outbox rank u at ((bytes_eq-Decides u u).1 refl) (λ j y e h. relay_differ s j rank u commander general (e ∙ ap Some ((bytes_eq-Decides y u).0 h)) at))
-    ∙ (beside-at (λ j. j == p) None (receivers s u) (get_or outbox rank []) (length (others p (u ++ s.general ∷ []))) p (others-at s.generals (u ++ s.general ∷ []) p within off) (eq-eqb p p refl)
-    (λ j y e h. others-place s.generals (u ++ s.general ∷ []) j p (e ∙ ap Some (eqb-true y p h)))
-    ∙ ap (λ (k : ℕ). get_or (get_or outbox rank []) k None) (sym en))
+-- by rank and receiver
+order_beside : (p k b : ℕ) (ns : List ℕ) (os : List (Option ℕ)) → order_among p (row_from k b ns) os ≡ beside (λ j. j == p) None ns os
+order_beside p k b [] os = refl
+order_beside p k b (n ∷ ns) [] = refl
+order_beside p k b (n ∷ ns) (o ∷ os) = ap (λ r. if n == p then o else r) (order_beside p k (b + 1) ns os)
 
-pub begun : (c : ℕ) (w : List ℕ) → BeginsWith c w → 0 < length w
-begun c [] h = absurd h
-begun c (x ∷ w) h = omega arith
+places_at : (s : Shape) (a i : ℕ) (ws : List (List ℕ)) (u : List ℕ) → slice_get ws i ≡ Some u → get_or (rows_from s a ws) i [] ≡ row_from (a + i) 0 (receivers s u)
+places_at s a i [] u at = cc
+places_at s a zero (w ∷ ws) u at =
+    let e : w ≡ u = cc in
+    let k : a ≡ a + 0 = omega arith in
+    ap (λ v. row_from a 0 (receivers s v)) e ∙ ap (λ (m : ℕ). row_from m 0 (receivers s u)) k
+places_at s a (suc i) (w ∷ ws) u at =
+    let k : a + 1 + i ≡ a + suc i = omega arith in
+    places_at s (a + 1) i ws u at ∙ ap (λ (m : ℕ). row_from m 0 (receivers s u)) k
 
--- the relay of the last general
-pub relay_front : (s : Shape) (w : List ℕ) (r : ℕ) → IsLastOf s w → 1 < length w → slice_get (labels s.generals s.commander s.general (length (take (length w - 1) w))) r ≡ Some (take (length w - 1) w) →
-    slice_get (relay s) r ≡ Some (take (length w - 1) w)
-relay_front s w r h more at =
-    let f = fronted s.generals s.commander w h.label more in
-    let ne : s.general ≢ s.commander = λ e. f.1 (sym h.sender ∙ e) in
-    let same = h.round in
-    let long : length (take (length w - 1) w) ≡ s.round - 1 = length-take-le (length w - 1) w (omega arith) ∙ (omega arith) in
-    rw (ne_eqb s.general s.commander ne, ← long) at
+pub order_tells : (s : Shape) (outbox : List (List (Option ℕ))) (u : List ℕ) (p rank : ℕ) → s.commander < s.generals → s.general < s.generals → slice_get (relay s) rank ≡ Some u →
+    order_at s outbox rank p ≡ tells (record { shape = s; rows = outbox }) u p
+order_tells s outbox u p rank commander general at =
+    ap (λ ps. order_among p ps (get_or outbox rank [])) (places_at s 0 rank (relay s) u at)
+    ∙ (order_beside p (0 + rank) 0 (receivers s u) (get_or outbox rank [])
+    ∙ sym (ap (λ row. beside (λ j. j == p) None (receivers s u) row)
+    (beside-at (λ v. bytes_eq v u) [] (relay s) outbox rank u at ((bytes_eq-Decides u u).1 refl) (λ j y e h. relay_differ s j rank u commander general (e ∙ ap Some ((bytes_eq-Decides y u).0 h)) at))))
 
-pub relay_alone : (s : Shape) (w : List ℕ) → IsLastOf s w → s.round ≡ 1 → slice_get (relay s) 0 ≡ Some (take (length w - 1) w)
-relay_alone s [] h one = absurd (h.label.first)
-relay_alone s (x ∷ []) h one = rw (eq-eqb s.general s.commander (h.sender ∙ h.label.first), eq-eqb s.round 1 one) refl
-relay_alone s (x ∷ y ∷ w) h one = absurd (let e = h.round in omega arith)
+-- where a general's letter stands
+pub letter_stands : (row : List Letter) (g : ℕ) (l : Letter) → letter_of row g ≡ Some l → (i : ℕ) × (slice_get row i ≡ Some l) × (l.general ≡ g)
+letter_stands [] g l e = cc
+letter_stands (x ∷ row) g l e = ⊎_elim
+    (λ (q : (x.general == g ≡ true) × (x.general ≡ g)). let h : Some x ≡ Some l = rw q.0 at e in let same : x ≡ l = cc in (0, ap Some same, ap (λ (y : Letter). y.general) (sym same) ∙ q.1))
+    (λ (q : (x.general == g ≡ false) × (x.general ≢ g)). let h : letter_of row g ≡ Some l = rw q.0 at e in let r = letter_stands row g l h in (suc r.0, r.1, r.2))
+    (eqb_tells x.general g)
 
-pub front_stands : (s : Shape) (w : List ℕ) → IsShape s → IsLastOf s w → 1 < length w → (r : ℕ) × (slice_get (labels s.generals s.commander s.general (length (take (length w - 1) w))) r ≡ Some (take (length w - 1) w))
-front_stands s w is h more =
-    let f = fronted s.generals s.commander w h.label more in
-    (let P : ℕ → Type 0 = λ g. (r : ℕ) × (slice_get (labels s.generals s.commander g (length (take (length w - 1) w))) r ≡ Some (take (length w - 1) w)) in
-    subst P (sym h.sender) (label_stands s.generals s.commander (slice_index w (length w - 1)) (take (length w - 1) w) is.commander f.0.within f.1 f.0.label f.0.off))
-
--- what a letter tells, by rank and number
-pub told_of_is : (l : Letter) (w : List ℕ) (p rank number : ℕ) (r : Option ℕ) → IsShape l.outbox.shape → IsFor l w p →
-    slice_get (relay l.outbox.shape) rank ≡ Some (take (length w - 1) w) → number ≡ length (others p w) → r ≡ get_or (get_or l.outbox.rows rank []) number None → r ≡ tells l.outbox (take (length w - 1) w) p
-told_of_is l w p rank number r is h at en same =
-    let some : 0 < length w = begun l.outbox.shape.commander w h.last.label.first in
-    let e : take (length w - 1) w ++ l.outbox.shape.general ∷ [] ≡ w = ap (λ (g : ℕ). take (length w - 1) w ++ g ∷ []) h.last.sender ∙ sym (snoc w some) in
-    same ∙ (sym (tells_rows l.outbox.shape l.outbox.rows (take (length w - 1) w) p rank number is.commander is.general h.within (ap (λ v. on v p) e ∙ h.without) at (en ∙ ap (λ v. length (others p v)) (sym e))))
+-- a letter of the round at its place
+pub found_at : (row : List Letter) (i : ℕ) (l d : Letter) → i < length row → l ≡ get_or row i d → slice_get row i ≡ Some l
+found_at [] i l d lt at = absurd (omega arith)
+found_at (x ∷ row) zero l d lt at = ap Some (sym at)
+found_at (x ∷ row) (suc i) l d lt at = found_at row i l d (omega arith) at
 
 -- the first letter of a general
 pub first_letter : (row : List Letter) (last i : ℕ) (l d : Letter) → i < length row → l ≡ get_or row i d → l.general ≡ last → letter_of (take i row) last ≡ None → letter_of row last ≡ Some l
@@ -135,3 +104,17 @@ none_next (x ∷ row) last (suc i) l d lt at ne none = ⊎_elim
 
 pub none_more : (row : List Letter) (last i : ℕ) (l d : Letter) → i < length row → l ≡ get_or row i d → (l.general ≡ last → ⊥) → letter_of (take i row) last ≡ None → letter_of (take (i + 1) row) last ≡ None
 none_more row last i l d lt at ne none = let z : i + 1 ≡ suc i = omega arith in ap (λ (k : ℕ). letter_of (take k row) last) z ∙ none_next row last i l d lt at ne none
+
+-- past the last
+pub none_left : (row : List Letter) (g i : ℕ) → length row ≤ i → letter_of (take i row) g ≡ None → slice_get row (length row) ≡ letter_of row g
+none_left row g i all none = nothing_past row ∙ (sym none ∙ ap (λ ls. letter_of ls g) (whole row i all))
+  where
+    nothing_past : (row : List Letter) → slice_get row (length row) ≡ None
+    nothing_past [] = refl
+    nothing_past (x ∷ row) = nothing_past row
+
+    whole : (row : List Letter) (i : ℕ) → length row ≤ i → take i row ≡ row
+    whole [] zero all = refl
+    whole [] (suc i) all = refl
+    whole (x ∷ row) zero all = absurd (omega arith)
+    whole (x ∷ row) (suc i) all = ap (λ xs. x ∷ xs) (whole row i (omega arith))

@@ -36,6 +36,10 @@ AreWords s before g = (rank : ℕ) (u : List ℕ) → slice_get (relay (shape_of
 abbrev pub number_told : List ℕ → ℕ → ℕ
 number_told context place = little_number (slice_range context (4 * place) (4 * place + 4))
 
+-- a context tells this general and this round
+abbrev pub IsToldTo : ℕ → ℕ → List ℕ → Type 0
+IsToldTo g round context = (number_told context 2 ≡ g) × (number_told context 4 ≡ round)
+
 -- the relay of a general in a round, in the campaign that his context tells
 abbrev pub shape_told : ℕ → ℕ → List ℕ → Shape
 shape_told g round context = record { generals = number_told context 0; commander = number_told context 3; general = g; round = round }

@@ -1,22 +1,48 @@
--- Letters and the labels that they tell (own).
-use Rattle.std.specs.Prelude.{ℕ, ◌-◌, ◌<◌, ◌≡◌, false, List, length, slice_index, slice_get, Some}
-use Rattle.label.specs.declared.shape.Shape.{Shape}
-use Rattle.label.specs.Labels.{on}
-use Rattle.label.specs.Oral.{IsLabel}
-use Rattle.round.specs.Letters.{Letter}
+-- Letters by their generals, and what of a round has been told (own).
+use Rattle.std.specs.Prelude.{ℕ, suc, ◌-◌, ◌*◌, ◌<◌, ◌≡◌, false, List, length, slice_index, slice_get, Option, None, Some}
+use Rattle.label.specs.Labels.{on, labels}
+use Rattle.label.specs.Oral.{Messages}
+use Rattle.tree.specs.Kept.{Kept, IsFilled, SameCampaign}
+use Rattle.outbox.specs.Contents.{order_at}
+use Rattle.round.specs.Letters.{Letter, letter_of}
+use Rattle.round.specs.Told.{AreDue, told_now, round_of}
+use Rattle.round.specs.Fronts.{IsFront, under}
+use Rattle.round.specs.declared.front.Front.{Front}
 
--- the relay is that of the label's last general in the round of its length
-pub record IsLastOf (shape : Shape) (w : List ℕ) : Type 0 where
-  pub label : IsLabel shape.generals shape.commander w
-  pub sender : shape.general ≡ slice_index w (length w - 1)
-  pub round : shape.round ≡ length w
+-- for each general the place of his letter, or past the last
+abbrev pub ArePlaces : List Letter → List ℕ → Type 0
+ArePlaces row places = (length places ≡ 13) × ((g : ℕ) → g < 13 → slice_get row (slice_index places g) ≡ letter_of row g)
 
--- the letter is that of the label's last general, and p, who is not on the label, is one of its receivers
-pub record IsFor (l : Letter) (w : List ℕ) (p : ℕ) : Type 0 where
-  pub last : IsLastOf l.outbox.shape w
-  pub within : p < l.outbox.shape.generals
-  pub without : on w p ≡ false
+-- what a letter tells p of the label of that rank among those that it relays
+abbrev pub order_told : Option Letter → ℕ → ℕ → Option ℕ
+order_told None rank p = None
+order_told (Some l) rank p = order_at l.outbox.shape l.outbox.rows rank p
 
--- whichever of the letters is that of the label's last general
-abbrev pub AreFor : List Letter → List ℕ → ℕ → Type 0
-AreFor row w p = (i : ℕ) (l : Letter) → slice_get row i ≡ Some l → l.general ≡ slice_index w (length w - 1) → IsFor l w p
+-- the values tell N: M, but at the labels of this length whose rank is below i what the letters tell of them
+pub record IsPartly (M : Messages) (row : List Letter) (n c p k i : ℕ) (t : Kept) : Type 0 where
+  pub N : Messages
+  pub filled : IsFilled t N
+  pub others : (w : List ℕ) → (length w ≡ k → ⊥) → N w p ≡ M w p
+  pub done : (j : ℕ) (w : List ℕ) → j < i → slice_get (labels n c p k) j ≡ Some w → N w p ≡ told_now row w p
+
+-- where the labels of a length were told below one rank, they are below another
+pub record IsFilledBetween (t : Kept) (row : List Letter) (k i j : ℕ) (u : Kept) : Type 0 where
+  pub same : SameCampaign t u
+  pub partly : (M : Messages) → IsPartly M row t.generals t.commander t.general k i t → IsPartly M row t.generals t.commander t.general k j u
+
+-- a shorter label that lacks the tree's lieutenant, in the round of these letters
+pub record IsWalk (t : Kept) (row : List Letter) (places : List ℕ) (k : ℕ) (f : Front) : Type 0 where
+  pub due : AreDue t row
+  pub size : k ≡ round_of row
+  pub posted : ArePlaces row places
+  pub short : f.size < k
+  pub w : List ℕ
+  pub front : IsFront t.generals t.commander w f
+  pub off : on w t.general ≡ false
+
+-- the first rank of the labels of a length that begin with this one, and the rank past them
+abbrev pub first_under : Kept → Front → ℕ → ℕ
+first_under t f k = slice_index f.ranks t.general * under t.generals f.size (k - f.size)
+
+abbrev pub past_under : Kept → Front → ℕ → ℕ
+past_under t f k = suc (slice_index f.ranks t.general) * under t.generals f.size (k - f.size)

@@ -10,20 +10,23 @@ use Rattle.semantics.specs.Run.{IsSound}
 use Rattle.board.specs.Board.{Access}
 use Rattle.round.specs.Scenario.{Scenario, IsScenario, shape_of}
 use Rattle.round.specs.Letters.{Letter}
-use Rattle.round.specs.Contexts.{AreWords, value_of, context_of, letter_told, loyal_letter}
+use Rattle.round.specs.Contexts.{AreWords, value_of, context_of, number_told, IsToldTo, shape_told, letter_told, loyal_letter}
 use Rattle.round.specs.Activation.{Activation, started, has_ended}
 use Rattle.round.specs.Runs.{Runs, IsWithin, AreFitting, IsLetter}
 
--- a context tells its general what he took for each label that he relays
-abbrev pub ContextsTell : Type 0
-ContextsTell = (s : Scenario) (before : List (List Letter)) (g rank : ℕ) (label : List ℕ) → IsScenario s → g < s.generals → length before ≤ s.bound →
-    slice_get (relay (shape_of s g (suc (length before)))) rank ≡ Some label → value_of s before g label < 2 ^ 32 → taken_value (context_of s before g) rank ≡ value_of s before g label
+-- a context tells its general who he is, the round, whose relay he has, and what he took for each label that he relays
+pub record ContextsTell : Type 0 where
+  pub own : (s : Scenario) (before : List (List Letter)) (g : ℕ) → IsScenario s → g < s.generals → length before ≤ s.bound → IsToldTo g (suc (length before)) (context_of s before g)
+  pub shape : (s : Scenario) (before : List (List Letter)) (g : ℕ) → IsScenario s → g < s.generals → length before ≤ s.bound →
+      shape_told g (suc (length before)) (context_of s before g) ≡ shape_of s g (suc (length before))
+  pub values : (s : Scenario) (before : List (List Letter)) (g rank : ℕ) (label : List ℕ) → IsScenario s → g < s.generals → length before ≤ s.bound →
+      slice_get (relay (shape_of s g (suc (length before)))) rank ≡ Some label → value_of s before g label < 2 ^ 32 → taken_value (context_of s before g) rank ≡ value_of s before g label
 
--- a loyal general's letter follows from his context, where what he took has 32 bits; and what a context tells is a letter, whatever it is
+-- a loyal general's letter follows from his context, where what he took has 32 bits; and what a context tells is a letter of the general and round that it tells, whatever it is
 pub record LoyalLettersFollow : Type 0 where
   pub letter : (s : Scenario) (before : List (List Letter)) (g : ℕ) → IsScenario s → g < s.generals → length before ≤ s.bound → AreWords s before g →
       letter_told g (suc (length before)) (context_of s before g) ≡ loyal_letter s before g
-  pub kept : (g round : ℕ) (context : List ℕ) → IsContext context → IsLetter (letter_told g round context)
+  pub kept : (context : List ℕ) → IsContext context → IsLetter (letter_told (number_told context 2) (number_told context 4) context)
 
 -- runs of one beginning, in as many steps and with the same accesses, have one end, also an unfinished one
 abbrev pub RunsHaveOneEnd : Type 0

@@ -6,4 +6,5 @@ pub mod Runs
 pub mod Laws
 pub mod Running
 pub mod Told
+pub mod Fronts
 pub mod Delivery

@@ -12,8 +12,8 @@ use Rattle.machine.specs.declared.pause.Stop.TheVariants.{Asked, Exited, Limit}
 use Rattle.insn.specs.declared.insn.Insn.{Insn}
 use Rattle.round.specs.Letters.{Letter}
 use Rattle.round.specs.Contexts.{shape_told}
-use Rattle.round.specs.Runs.{Runs, IsRunOf, IsWithin}
-use Rattle.round.specs.Activation.{Activation, Turn, Goes, Asks, Ended, is_reached}
+use Rattle.round.specs.Runs.{Runs, AreFitting, IsRunOf, IsWithin}
+use Rattle.round.specs.Activation.{Activation, Turn, Goes, Asks, Ended, started, is_reached}
 
 abbrev pub standing : Activation → Standing
 standing a = record { shape = a.shape; state = a.state }
@@ -86,13 +86,24 @@ pub record IsSameRun (a b : Activation) : Type 0 where
 abbrev pub AreAccessesOf : ℕ → ℕ → List Access → Type 0
 AreAccessesOf general round accesses = All (λ a. (a.general ≡ general) × (a.round ≡ round)) accesses
 
--- from its start it has come here with just these accesses
+-- from its start it has come here with just these accesses, whose replies fit
 pub record IsOnWay (general round : ℕ) (start a : Activation) (transcript : List Access) : Type 0 where
   pub same : IsSameRun start a
   pub run : (k : ℕ) × Runs k start transcript a
   pub own : AreAccessesOf general round transcript
+  pub fitting : AreFitting transcript
 
--- the letter of an activation that was run to its end, or to its patience: its program, run in this context with just the accesses of its transcript, has come to its outbox
+-- it has come here by the accesses that were served to it, behind those served before
+pub record IsWayServed (general round : ℕ) (start a : Activation) (before transcript served : List Access) : Type 0 where
+  pub way : IsOnWay general round start a transcript
+  pub whole : served ≡ before ++ transcript
+
+-- a run of the program that was given up: what was served to it, behind what was served before, are its accesses as far as it came
+abbrev pub IsGivenUp : ℕ → ℕ → List Insn → List ℕ → Option ℕ → List Access → List Access → Type 0
+IsGivenUp general round program context patience before served =
+    (a : Activation) × (transcript : List Access) × IsWayServed general round (started patience program context (shape_told general round context)) a before transcript served
+
+-- the letter of an activation that was run to its end, or to its patience: its program, run in this context with just the accesses of its transcript, whose replies fit, has come to its outbox
 pub record IsLived (general round : ℕ) (program : List Insn) (context : List ℕ) (patience : Option ℕ) (l : Letter) : Type 0 where
   pub own_general : l.general ≡ general
   pub own_round : l.round ≡ round

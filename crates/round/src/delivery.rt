@@ -1,15 +1,13 @@
 //! What the letters of a round add to a tree.
-ghost use Rattle.std.specs.Prelude.{◌≡◌, ◌<◌, ◌≤◌, ◌-◌, length, take, Some, slice_get};
-ghost use Rattle.label.specs.Labels.{others};
+ghost use Rattle.std.specs.Prelude.{◌≡◌, ◌<◌, ◌+◌, not, ◌||◌, ◌==◌, false, cond, nat_lt, length, slice_get, slice_index_or};
 ghost use Rattle.label.specs.Oral.{Messages};
-ghost use Rattle.label.specs.Relay.{IsShape, relay};
 ghost use Rattle.tree.specs.Kept.{IsFilled, SameCampaign};
-ghost use Rattle.round.specs.Letters.{tells};
-ghost use Rattle.round.specs.Told.{AreDue, told_now, heard_also};
-ghost use Rattle.round.specs.Delivery.{AreFor, IsFor, IsLastOf};
+ghost use Rattle.round.specs.Letters.{letter_of};
+ghost use Rattle.round.specs.Told.{AreDue, heard_also};
+ghost use Rattle.round.specs.Delivery.{ArePlaces, IsFilledBetween, IsWalk, first_under, order_told, past_under};
 
+use crate::front::Front;
 use crate::letter::Letter;
-use label::{Label, Shape, Space, count, rank, unrank};
 use tree::Tree;
 
 /// Fills in what the letters of one round tell the tree's lieutenant: for each label of the round, what the
@@ -25,84 +23,111 @@ pub fn deliver(letters: &[Letter], tree: &mut Tree)
     }
     let first = &letters[0];
     let size = first.outbox.shape().round as u8;
-    for rank in 0..count(space, size) {
-        let Ok(label) = unrank(space, size, rank) else {
-            unreachable!()
-        };
-        tree.set(size, rank, told(letters, &label, space.general));
+    let places = places_of(letters);
+    if size == 1 {
+        let value = told(letters, &places, space.commander, 0, space.general);
+        tree.set(1, 0, value);
+        return;
     }
+    descend(letters, &places, size, tree, &Front::of(space.commander));
 }
 
-/// What the round's letters tell the general of a label.
-fn told(letters: &[Letter], label: &Label, general: u8) -> Option<u32>
-    requires { AreFor letters.now label.now general }
-    ensures { result ≡ told_now letters.now label.now general }
+/// Fills in what the letters tell of all labels of the round's length that begin with this one, which is shorter.
+fn descend(letters: &[Letter], places: &[usize; 13], size: u8, tree: &mut Tree, front: &Front)
+    requires { IsWalk tree.old letters.now places.now size front.now }
+    ensures { IsFilledBetween tree.old letters.now size (first_under tree.old front.now size) (past_under tree.old front.now size) tree.new }
 {
-    let generals = label.generals();
-    let last = u32::from(generals[generals.len() - 1]);
-    for letter in letters {
-        if letter.general == last {
-            return told_of(letter, label, general);
-        }
+    if front.size + 1 == size {
+        tell_children(letters, places, size, tree, front);
+        return;
     }
-    None
-}
-
-/// What the letter of a label's last general tells the general of it.
-fn told_of(letter: &Letter, label: &Label, general: u8) -> Option<u32>
-    requires { IsFor letter.now label.now general }
-    ensures { result ≡ tells letter.now.outbox (take (length label.now - 1) label.now) general }
-{
-    let shape = letter.outbox.shape();
-    letter
-        .outbox
-        .at(front_rank(shape, label), place(label, general) as usize)
-}
-
-/// The rank of a label's front in the relay of its last general.
-fn front_rank(shape: Shape, label: &Label) -> u32
-    requires shape { IsShape shape }
-    requires label { IsLastOf shape label.now }
-    ensures { slice_get (relay shape) result ≡ Some (take (length label.now - 1) label.now) }
-{
-    if shape.round == 1 {
-        return 0;
-    }
-    let space = Space {
-        generals: shape.generals as u8,
-        commander: shape.commander as u8,
-        general: shape.general as u8,
-    };
-    match rank(space, &front_of(label)) {
-        Ok(rank) => rank,
-        Err(_) => 0,
-    }
-}
-
-/// The label without its last general.
-fn front_of(label: &Label) -> Label
-    requires { 1 < length label.now }
-    ensures { result ≡ take (length label.now - 1) label.now }
-{
-    let generals = label.generals();
-    let mut front = Label::of(generals[0]);
-    for place in 1..generals.len() - 1 {
-        front = front.with(generals[place]);
-    }
-    front
-}
-
-/// How many generals below this one are off the label.
-#[tactic(auto, using(label::proofs::Bounds::others_length_more))]
-fn place(label: &Label, general: u8) -> u32
-    ensures value { result ≡ length (others general label.now) }
-    ensures few { result ≤ general }
-{
+    let space = tree.space();
     let mut place: u32 = 0;
-    for j in 0..general {
-        if !label.has(j) {
+    for general in 0..space.generals {
+        if is_off(front, space.general, general) {
+            let below = with_receiver(place, space.general, general);
+            let longer = front.with(space.generals, general, below);
+            descend(letters, places, size, tree, &longer);
             place += 1;
         }
     }
-    place
+}
+
+/// Fills in what the letters tell of the labels that have one general more than this one.
+fn tell_children(letters: &[Letter], places: &[usize; 13], size: u8, tree: &mut Tree, front: &Front)
+    requires walk { IsWalk tree.old letters.now places.now size front.now }
+    requires last { front.now.size + 1 ≡ size }
+    ensures { IsFilledBetween tree.old letters.now size (first_under tree.old front.now size) (past_under tree.old front.now size) tree.new }
+{
+    let space = tree.space();
+    let count = u32::from(space.generals);
+    let width = count.saturating_sub(u32::from(size));
+    let first = front.ranks[usize::from(space.general)] * width;
+    let mut place: u32 = 0;
+    for general in 0..space.generals {
+        if is_off(front, space.general, general) {
+            let rank = front.ranks[usize::from(general)];
+            let value = told(letters, places, general, rank, space.general);
+            tree.set(size, first + place, value);
+            place += 1;
+        }
+    }
+}
+
+/// Whether the general stands neither on the label nor is its receiver.
+fn is_off(front: &Front, receiver: u8, general: u8) -> bool
+    requires general { general < 13 }
+    requires wide { length front.now.on ≡ 13 }
+    ensures { result ≡ not (receiver == general || slice_index_or front.now.on general false) }
+{
+    !(receiver == general || front.on[usize::from(general)])
+}
+
+/// How many generals off the label are below this one: so many and, where he is, the receiver.
+fn with_receiver(place: u32, receiver: u8, general: u8) -> u32
+    requires { place < 13 }
+    ensures { result ≡ place + cond (nat_lt receiver general) 1 0 }
+{
+    place + u32::from(receiver < general)
+}
+
+/// What the letter of a general tells a receiver of the label of that rank among those that the general relays.
+fn told(
+    letters: &[Letter],
+    places: &[usize; 13],
+    general: u8,
+    rank: u32,
+    receiver: u8,
+) -> Option<u32>
+    requires { general < 13 }
+    ensures { ArePlaces letters.now places.now → result ≡ order_told (letter_of letters.now general) rank receiver }
+{
+    match letters.get(places[usize::from(general)]) {
+        Some(letter) => letter.outbox.get(rank, u32::from(receiver)),
+        None => None,
+    }
+}
+
+/// For each general the place of his letter, or past the last where there is none.
+fn places_of(letters: &[Letter]) -> [usize; 13]
+    ensures { ArePlaces letters.now result }
+{
+    let mut places = [0; 13];
+    for general in 0..13 {
+        places[general] = place_of(letters, general as u32);
+    }
+    places
+}
+
+/// The place of the first letter of this general, or past the last.
+fn place_of(letters: &[Letter], general: u32) -> usize
+    ensures { slice_get letters.now result ≡ letter_of letters.now general }
+{
+    for place in 0..letters.len() {
+        let letter = &letters[place];
+        if letter.general == general {
+            return place;
+        }
+    }
+    letters.len()
 }

@@ -5,6 +5,7 @@ mod accesses;
 mod code;
 mod context;
 mod delivery;
+mod front;
 mod laws;
 mod letter;
 mod living;

@@ -1,15 +1,16 @@
 //! One activation from its start to its end.
-ghost use Rattle.std.specs.Prelude.{◌≡◌, ◌<◌, ◌≤◌, ◌+◌, false, ℕ, List, length, IfOk, IfSome, OnOk, OnErr};
+ghost use Rattle.std.specs.Prelude.{◌≡◌, ◌<◌, ◌≤◌, ◌+◌, ◌++◌, ◌∷◌, [], true, false, ℕ, List, length, option_to_list, IfOk, IfSome, OnOk, OnErr};
 ghost use Rattle.std.specs.Arc.{arc_value};
 ghost use Rattle.insn.specs.declared.insn.Insn.{Insn};
 ghost use Rattle.label.specs.Relay.{IsShape};
-ghost use Rattle.semantics.specs.Call.{resumed};
+ghost use Rattle.semantics.specs.Call.{fits, resumed};
 ghost use Rattle.machine.specs.Standing.{HasAsked, before};
 ghost use Rattle.machine.specs.Advance.{IsOfRun, IsAskOfRun};
 ghost use Rattle.round.specs.Activation.{Activation as Activated, started, turn, has_ended};
-ghost use Rattle.round.specs.Runs.{Runs};
-ghost use Rattle.round.specs.Contexts.{shape_told};
-ghost use Rattle.round.specs.Running.{TakesTurn, IsSameRun, IsOnWay, IsLived, letter_left};
+ghost use Rattle.round.specs.Runs.{Runs, AreFitting};
+ghost use Rattle.round.specs.Contexts.{IsToldTo, shape_told};
+ghost use Rattle.board.specs.Board.{Access as Entry};
+ghost use Rattle.round.specs.Running.{TakesTurn, IsSameRun, IsWayServed, IsGivenUp, IsLived, letter_left};
 
 use crate::letter::Letter;
 use crate::loyalty::number_told;
@@ -27,11 +28,13 @@ use std::sync::Arc;
 use verify::Verified;
 
 /// Runs a general's program in its context to its end, or until it has taken as many steps as the patience says; a
-/// request that is the last of these steps is still served. The letter tells what it did and put.
+/// request that is the last of these steps is still served. The letter tells what it did and put; its transcript is just
+/// what the server has served meanwhile.
 ///
 /// # Errors
 ///
-/// `AllocError` where the memory for the outbox, an access or the transcript is refused.
+/// `AllocError` where the memory for the outbox, an access or the transcript is refused. What the server has served until
+/// then is what the program had asked so far.
 pub fn live<S: Server>(
     alloc: Global,
     server: &mut S,
@@ -42,8 +45,11 @@ pub fn live<S: Server>(
     patience: Option<u32>,
 ) -> Result<Letter, AllocError>
     requires context { length context.items ≡ 4096 }
+    requires own { IsToldTo general round context.items }
     requires shape { IsShape (shape_told general round context.items) }
-    ensures { IfOk result (IsLived general round (arc_value program) context.items patience) }
+    ensures lived { IfOk result (IsLived general round (arc_value program) context.items patience) }
+    ensures served { IfOk result (λ letter. S.served server.new ≡ S.served server.old ++ letter.transcript) }
+    ensures given_up { OnErr result (IsGivenUp general round (arc_value program) context.items patience (S.served server.old) (S.served server.new)) }
 {
     let shape = Shape {
         generals: number_told(context.as_slice(), 0),
@@ -68,7 +74,10 @@ fn go_on<S: Server>(
     round: u32,
 ) -> Result<(), AllocError>
     requires { has_ended running.old ≡ false }
-    ensures way { OnOk result ((start : Activated) → IsOnWay general round start running.old transcript.old.items → IsOnWay general round start running.new transcript.new.items) }
+    ensures way { OnOk result ((start : Activated) (before : List Entry) → IsWayServed general round start running.old before transcript.old.items (S.served server.old) →
+        IsWayServed general round start running.new before transcript.new.items (S.served server.new)) }
+    ensures given_up { OnErr result ((start : Activated) (before : List Entry) → IsWayServed general round start running.old before transcript.old.items (S.served server.old) →
+        (a : Activated) × (made : List Entry) × IsWayServed general round start a before made (S.served server.new)) }
     ensures later { OnOk result (running.old.state.steps < running.new.state.steps) }
     ensures few { OnOk result (running.old.state.steps < 4096) }
 {
@@ -84,7 +93,9 @@ fn go_on<S: Server>(
 impl Running {
     /// The letter of the activation as it stands, with the accesses that it made.
     fn into_letter(self, general: u32, round: u32, transcript: Vec<Access>) -> Letter
+        requires own { IsToldTo general round self.context }
         requires shape { self.shape ≡ shape_told general round self.context }
+        requires fitting { AreFitting transcript.items }
         requires run { (k : ℕ) × Runs k (started self.patience self.program self.context self.shape) transcript.items self }
         ensures { result ≡ letter_left general round transcript.items self }
     {
@@ -119,10 +130,13 @@ impl Running {
         requires { has_ended self.old ≡ false }
         ensures turn { IfOk result (λ access. TakesTurn (turn self.old) access self.new) }
         ensures own { IfOk result (λ access. IfSome access (λ a. (a.general ≡ general) × (a.round ≡ round))) }
+        ensures fits { IfOk result (λ access. IfSome access (λ a. fits a.request a.reply ≡ true)) }
         ensures same { IsSameRun self.old self.new }
         ensures one { OnOk result (self.new.state.steps ≡ self.old.state.steps + 1) }
         ensures few { OnOk result (self.new.state.steps ≤ 4096) }
+        ensures served { IfOk result (λ access. S.served server.new ≡ S.served server.old ++ option_to_list access) }
         ensures undone { OnErr result (self.new ≡ self.old) }
+        ensures unserved { OnErr result (S.served server.new ≡ S.served server.old) }
     {
         match one(&mut self.activation, &self.program, self.context.as_slice()) {
             Stop::Limit => Ok(None),
@@ -131,7 +145,7 @@ impl Running {
                 Ok(None)
             }
             Stop::Asked(request) => {
-                let access = served(&mut self.activation, server, general, round, request)?;
+                let access = answered(&mut self.activation, server, general, round, request)?;
                 Ok(Some(access))
             }
         }
@@ -139,7 +153,7 @@ impl Running {
 }
 
 /// The server serves what was asked; without memory it is taken back.
-fn served<S: Server>(
+fn answered<S: Server>(
     activation: &mut Activation,
     server: &mut S,
     general: u32,
@@ -149,9 +163,12 @@ fn served<S: Server>(
     requires { HasAsked activation.old.state }
     ensures shape { activation.new.shape ≡ activation.old.shape }
     ensures own { IfOk result (λ a. (a.general ≡ general) × (a.round ≡ round) × (a.request ≡ request)) }
+    ensures fits { IfOk result (λ a. fits request a.reply ≡ true) }
     ensures state { IfOk result (λ a. activation.new.state ≡ resumed request a.reply activation.old.state) }
     ensures steps { OnOk result (activation.new.state.steps ≡ activation.old.state.steps) }
+    ensures entered { IfOk result (λ a. S.served server.new ≡ S.served server.old ++ a ∷ []) }
     ensures undone { OnErr result (activation.new.state ≡ before activation.old.state) }
+    ensures unserved { OnErr result (S.served server.new ≡ S.served server.old) }
     ensures of_run { (code : List Insn) (context : List ℕ) →
         IsAskOfRun code context (record { shape = activation.old.shape; request = request; last = before activation.old.state; state = activation.old.state }) → IsOfRun code context activation.new }
 {

@@ -2,7 +2,7 @@
 ghost use Rattle.std.specs.Prelude.{◌≡◌, ◌*◌, ◌+◌, ◌≤◌, length, take, drop, IfOk};
 ghost use Rattle.word.specs.Bytes.{little_number};
 ghost use Rattle.label.specs.Relay.{IsShape};
-ghost use Rattle.round.specs.Contexts.{shape_told, outbox_told, letter_told, number_told};
+ghost use Rattle.round.specs.Contexts.{IsToldTo, shape_told, outbox_told, letter_told, number_told};
 
 use crate::letter::Letter;
 use crate::seat::Seat;
@@ -10,7 +10,8 @@ use label::Shape;
 use outbox::Outbox;
 use std::alloc::{AllocError, Global};
 
-/// A loyal general's letter of a round: he tells each receiver of each label what his context says that he took.
+/// A loyal general's letter of a round: he tells each receiver of each label what his context says that he took. The
+/// context is that of this general in this round.
 ///
 /// # Errors
 ///
@@ -22,6 +23,7 @@ pub fn loyal_letter(
     context: Vec<u8>,
 ) -> Result<Letter, AllocError>
     requires context { length context.items ≡ 4096 }
+    requires own { IsToldTo general round context.items }
     requires shape { IsShape (shape_told general round context.items) }
     ensures { IfOk result (λ letter. letter ≡ letter_told general round context.items) }
 {

@@ -76,6 +76,18 @@ impl Told {
         self.rounds += 1;
     }
 
+    /// Takes back the letters of the round that was told last. It takes no memory.
+    pub fn forget(&mut self, scenario: &Scenario)
+        requires told { (before : List (List Written)) × (row : List Written) × WasTold scenario.now (before ++ row ∷ []) self.old }
+        ensures { (before : List (List Written)) → (row : List Written) → WasTold scenario.now (before ++ row ∷ []) self.old → WasTold scenario.now before self.new }
+    {
+        let _bound = scenario.bound();
+        for place in 0..self.trees.len() {
+            self.trees[place].clear(self.rounds);
+        }
+        self.rounds -= 1;
+    }
+
     /// What a general is told as the next round begins.
     ///
     /// # Errors

@@ -97,8 +97,8 @@ board (Some d) = do
   board_words ds
 
 -- the rule that a text names
-abbrev pub rule_named : List ℕ → Result Rule Flaw
-rule_named t =
+abbrev pub rule_by_name : List ℕ → Result Rule Flaw
+rule_by_name t =
     if bytes_eq t (codes "majority") then Ok Majority
     else if bytes_eq t (codes "median") then Ok Median
     else Err (faulty (faults.Range (places.Key names.Rule)))
@@ -108,7 +108,7 @@ unfoldable pub rule : Option Data → Result Rule Flaw
 rule None = Ok Majority
 rule (Some d) = do
   t ← ok_or (as_str d) (faulty (faults.Kind (places.Key names.Rule)))
-  rule_named t
+  rule_by_name t
 
 -- a campaign's numbers and rule
 pub record Head : Type 0 where

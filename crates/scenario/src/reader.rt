@@ -3,7 +3,7 @@ ghost use Rattle.std.specs.Prelude.{◌≡◌, ◌-◌, ◌≤◌, min, length, 
 ghost use Rattle.toml.specs.Parse.{parse_document};
 ghost use Rattle.toml.specs.View.{view, table_view, items_view};
 ghost use Rattle.scenario.specs.Flaws.{Gives};
-ghost use Rattle.scenario.specs.Checks.{head, rule_named, rule, tables};
+ghost use Rattle.scenario.specs.Checks.{head, rule_by_name, rule, tables};
 ghost use Rattle.scenario.specs.Told.{Answers, scenario_of, unseated, Reads};
 ghost use Rattle.scenario.specs.declared.fault.ScenarioError.TheVariants.{Memory};
 
@@ -21,8 +21,8 @@ use toml::{Table, Value};
 use verify::Verified;
 
 /// The rule that a text names.
-fn rule_named(text: &str) -> Result<Rule, ScenarioError>
-    ensures { Gives (λ r. r) result (rule_named text.now) }
+fn rule_by_name(text: &str) -> Result<Rule, ScenarioError>
+    ensures { Gives (λ r. r) result (rule_by_name text.now) }
 {
     if text == "majority" {
         return Ok(Rule::Majority);
@@ -42,7 +42,7 @@ fn rule(value: Option<&Value>) -> Result<Rule, ScenarioError>
         return Ok(Rule::Majority);
     };
     match value.as_str() {
-        Some(text) => rule_named(text),
+        Some(text) => rule_by_name(text),
         None => Err(ScenarioError::Fault(Fault::Kind(Place::Key(Name::Rule)))),
     }
 }

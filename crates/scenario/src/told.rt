@@ -16,11 +16,11 @@ pub struct Head {
 
 impl Model for Head {
     ghost use Rattle.scenario.specs.Checks.{Head as Numbers};
-    ghost use Rattle.scenario.specs.Limits.{IsWithin};
+    ghost use Rattle.scenario.specs.Limits.{IsHeadWithin};
 
     ghost Value = { Numbers };
 
     ghost view = { λ h. record { generals = h.generals; bound = h.bound; commander = h.commander; order = h.order; board = h.board; patience = h.patience; rule = h.rule } };
 
-    ghost invariant = { λ h. IsWithin h.generals h.bound h.commander h.patience };
+    ghost invariant = { λ h. IsHeadWithin h.generals h.bound h.commander h.patience };
 }

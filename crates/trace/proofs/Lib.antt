@@ -1,6 +1,8 @@
 pub mod EntryLemmas
 pub mod WrittenLemmas
 pub mod LineLemmas
+pub mod RoundLemmas
+pub mod DecisionLemmas
 pub mod Splitting
 pub mod Plain
 pub mod Naming

@@ -37,7 +37,7 @@ pub decision_parts : (g : ℕ) (b : Bool) (d : ℕ) → (((codes "decision" ++ 3
 decision_parts g b d = marked (codes "decision") (decimal g) (mark b) (decimal d) ∙ sym (ap (λ l. text (l ∷ [])) (decision_is g b d))
 
 -- a word, and words behind it
-said : (x : List ℕ) (w : Word) (ws : List Word) → (x ++ (32 ∷ w)) ++ further ws ≡ x ++ further (w ∷ ws)
+pub said : (x : List ℕ) (w : Word) (ws : List Word) → (x ++ (32 ∷ w)) ++ further ws ≡ x ++ further (w ∷ ws)
 said x w ws = append_assoc x (32 ∷ w) (further ws)
 
 -- the line of the verdict, part by part
@@ -76,7 +76,7 @@ four_words a b c d =
     ap (λ t. (two ++ (32 ∷ c)) ++ t) (sym (further-one d)) ∙ said two c (d ∷ []) ∙ said (32 ∷ a) b (c ∷ d ∷ [])
 
 -- lines behind lines
-text-append : (ls ks : List Line) → text (ls ++ ks) ≡ text ls ++ text ks
+pub text-append : (ls ks : List Line) → text (ls ++ ks) ≡ text ls ++ text ks
 text-append [] ks = refl
 text-append (l ∷ ls) ks = ap (λ t. spaced l ++ (10 ∷ t)) (text-append ls ks) ∙ sym (append_assoc (spaced l) (10 ∷ text ls) (text ks))
 

@@ -1,6 +1,6 @@
 -- One text after another, and a piece in several calls.
 use Rattle.std.proofs.Common.{◌≡◌, ℕ, zero, suc, ◌+◌, ◌-◌, ◌<◌, ◌≤◌, arith, List, [], ◌∷◌, ◌++◌, length, map, take, drop, get_or, Bool, true, false, refl, sym, ap, subst, ◌∙◌, append_assoc, append-nil, Option, None, Some}
-use Rattle.std.specs.Prelude.{decimal}
+use Rattle.std.specs.Prelude.{decimal, OnOk, Result, Ok, Err}
 use Rattle.std.proofs.Math.ListN.{set, length-set}
 use Rattle.std.proofs.lemmas.List.{take-append-drop, take_all, drop-set, drop_all, take_more, map-append}
 use Rattle.std.specs.Io.KnownBytes.{Appends, Keeps}
@@ -43,6 +43,10 @@ then_wrote {a} {b} {c} {x} {y} {f} {g} {h} v w =
 -- nothing is written
 pub wrote-nothing : {a : Option (List ℕ)} {f : Bool} → Wrote a f [] a f
 wrote-nothing {a} {f} = record { front = []; rest = []; parts = refl; grown = Appends-nil a; whole = λ e. refl; sound = λ e. e; nothing = λ e. refl }
+
+-- a text of no bytes
+pub wrote_none : {a : Option (List ℕ)} {f : Bool} (x : List ℕ) → x ≡ [] → Wrote a f x a f
+wrote_none {a} {f} x e = subst (λ t. Wrote a f t a f) (sym e) wrote-nothing
 
 -- the same text in other words
 pub wrote-same : {a b : Option (List ℕ)} {f g : Bool} (x y : List ℕ) → x ≡ y → Wrote a f x b g → Wrote a f y b g
@@ -154,3 +158,12 @@ pub one_further : {X : Type 0} {a b c : Option (List ℕ)} {f g h : Bool} (word 
 one_further {X} {a} {b} {c} {f} {g} {h} word xs i d lt so then =
     let x : X = get_or xs i d in
     wrote-same _ _ (sym (ap (λ t. further (map word t)) (take_more xs i d lt) ∙ ap further (map-append word (take i xs) (x ∷ [])) ∙ further-append (map word (take i xs)) (word x ∷ []) ∙ ap (λ t. further (map word (take i xs)) ++ t) (further-one (word x)))) (then_wrote so then)
+
+-- what was written to a sink that has not failed is the whole text
+pub wrote-all : {a b : Option (List ℕ)} {f g : Bool} {x : List ℕ} → Wrote a f x b g → g ≡ false → Appends a b x
+wrote-all {a} {b} {f} {g} {x} w fine = appends-same a b w.front x (sym (w.parts ∙ ap (λ t. w.front ++ t) (w.whole fine) ∙ append-nil w.front)) w.grown
+
+-- so a call that says that it has not failed wrote all
+pub all-written : {E : Type 0} (r : Result (Unit {0}) E) {a b : Option (List ℕ)} {f g : Bool} {x : List ℕ} → OnOk r (g ≡ false) → Wrote a f x b g → OnOk r (Appends a b x)
+all-written (Ok u) fine w = wrote-all w fine
+all-written (Err e) fine w = tt

@@ -1,8 +1,11 @@
 -- Single lines of a chronicle, by the numbers that they tell, and parts of them.
-use Rattle.std.specs.Prelude.{ℕ, Bool, true, false, List, [], ◌∷◌, map, decimal, codes, Option, None, Some}
+use Rattle.std.specs.Prelude.{ℕ, Bool, true, false, List, [], ◌∷◌, ◌++◌, ◌==◌, map, filter, flat_map, decimal, codes, Option, None, Some}
 use Rattle.semantics.specs.declared.request.Request.{Request}
 use Rattle.semantics.specs.declared.request.Request.TheVariants.{Get, Swap, Add, Cas, Copy}
-use Rattle.trace.specs.Text.{Word, Line, place}
+use Rattle.board.specs.Board.{Access}
+use Rattle.round.specs.Letters.{Letter}
+use Rattle.round.specs.Scenario.{Scenario, is_traitor}
+use Rattle.trace.specs.Text.{Word, Line, access_line, letter_lines, place, decision_line}
 
 -- what was asked, before the equals sign
 abbrev pub question : Request → List Word
@@ -30,3 +33,12 @@ author_line g steps = codes "letter" ∷ decimal g ∷ kind steps
 abbrev pub mark : Bool → List Word
 mark true = codes "traitor" ∷ []
 mark false = []
+
+-- a round's lines
+abbrev pub one_round : ℕ → List Access → List Letter → List Line
+one_round r xs letters = (round_line r ∷ map access_line (filter (λ a. a.round == r) xs)) ++ flat_map letter_lines letters
+
+-- the line of a general's decision, where he has one
+abbrev pub decided_lines : Scenario → ℕ → Option ℕ → List Line
+decided_lines s g None = []
+decided_lines s g (Some d) = decision_line g (is_traitor s g) d ∷ []

@@ -38,10 +38,10 @@ abbrev pub with_line_told : ℕ → Option (List Repeat) → (List Repeat → Re
 with_line_told number None rest = Err (Line number)
 with_line_told number (Some entries) rest = if nat_lt 5 number then Err (Line number) else rest entries
 
-abbrev pub lines_told : List (List Repeat) → ℕ → List (List ℕ) → Result (List (List Repeat)) TraceError
-lines_told before number [] = Ok before
-lines_told before number (line ∷ lines) = with_line_told number (line_told line) (λ entries. lines_told (before ++ entries ∷ []) (suc number) lines)
+abbrev pub schedule_lines_told : List (List Repeat) → ℕ → List (List ℕ) → Result (List (List Repeat)) TraceError
+schedule_lines_told before number [] = Ok before
+schedule_lines_told before number (line ∷ lines) = with_line_told number (line_told line) (λ entries. schedule_lines_told (before ++ entries ∷ []) (suc number) lines)
 
 -- the schedule that a text of at most 1,048,576 bytes tells, or the first line that tells none
 unfoldable pub schedule_told : List ℕ → Result (List (List Repeat)) TraceError
-schedule_told text = if nat_le (length text) 1048576 then lines_told [] 1 (lines_of text) else Err (Line 1)
+schedule_told text = if nat_le (length text) 1048576 then schedule_lines_told [] 1 (lines_of text) else Err (Line 1)

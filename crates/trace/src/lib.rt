@@ -1,15 +1,18 @@
 //! The texts of campaigns: chronicles and schedules.
 #![tactic(auto)]
 
+mod chronicling;
 mod fault;
 mod heading;
 mod laws;
+mod letters;
 mod lines;
 mod scheduling;
 mod sink;
 mod version;
 mod writing;
 
+pub use chronicling::{write_chronicle, write_verdict};
 pub use fault::TraceError;
 pub use laws::{names_are_told, sound_texts_are_runs};
 pub use scheduling::read_schedule;

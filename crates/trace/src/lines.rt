@@ -1,5 +1,5 @@
 //! The lines of a chronicle, written to a sink.
-ghost use Rattle.std.specs.Prelude.{◌≡◌, ◌==◌, ◌++◌, ◌∷◌, [], ℕ, decimal, codes, map, filter, Option};
+ghost use Rattle.std.specs.Prelude.{◌≡◌, ◌==◌, ◌<◌, ◌++◌, ◌∷◌, [], ℕ, decimal, codes, length, map, filter, Option, slice_index_or};
 ghost use Rattle.semantics.specs.Replies.{words_in};
 ghost use Rattle.trace.specs.Sinks.{Wrote};
 ghost use Rattle.trace.specs.Text.{further, text, access_line, place, yes_no, yes_no_none, verdict_line, decision_line};
@@ -8,6 +8,7 @@ ghost use Rattle.trace.specs.Lines.{question, kind, mark, round_line, row_line, 
 use crate::sink::Sink;
 use crate::writing::{put_all, put_headed, put_next};
 use board::Access;
+use outbox::Outbox;
 use semantics::{Reply, Request};
 use world::Verdict;
 
@@ -72,16 +73,16 @@ pub fn put_access<S: Sink>(sink: &mut S, access: &Access)
 }
 
 /// The line of an access, where it is one of this round.
-fn put_access_in<S: Sink>(sink: &mut S, round: u32, access: &Access)
+fn put_access_in<S: Sink>(sink: &mut S, round: u64, access: &Access)
     ensures { Wrote (S.contents sink.old) (S.has_failed sink.old) (text (map access_line (filter (λ a. a.round == round) (access.now ∷ [])))) (S.contents sink.new) (S.has_failed sink.new) }
 {
-    if access.round == round {
+    if u64::from(access.round) == round {
         put_access(sink, access);
     }
 }
 
 /// The lines of the accesses of a round, in their order.
-pub fn put_accesses<S: Sink>(sink: &mut S, round: u32, accesses: &[Access])
+pub fn put_accesses<S: Sink>(sink: &mut S, round: u64, accesses: &[Access])
     ensures { Wrote (S.contents sink.old) (S.has_failed sink.old) (text (map access_line (filter (λ a. a.round == round) accesses.now))) (S.contents sink.new) (S.has_failed sink.new) }
 {
     for access in accesses {
@@ -90,10 +91,10 @@ pub fn put_accesses<S: Sink>(sink: &mut S, round: u32, accesses: &[Access])
 }
 
 /// The line of a round.
-pub fn put_round<S: Sink>(sink: &mut S, round: u32)
+pub fn put_round<S: Sink>(sink: &mut S, round: u64)
     ensures { Wrote (S.contents sink.old) (S.has_failed sink.old) (text (round_line round ∷ [])) (S.contents sink.new) (S.has_failed sink.new) }
 {
-    put_headed(sink, b"round", round as u64);
+    put_headed(sink, b"round", round);
     put_all(sink, b"\n");
 }
 
@@ -107,21 +108,23 @@ pub fn put_order<S: Sink>(sink: &mut S, order: Option<u32>)
     }
 }
 
-/// Orders, or dashes for nothing, each behind a space.
-fn put_orders<S: Sink>(sink: &mut S, orders: &[Option<u32>])
-    ensures { Wrote (S.contents sink.old) (S.has_failed sink.old) (further (map place orders.now)) (S.contents sink.new) (S.has_failed sink.new) }
+/// What the receivers of a label were told, by its rank: orders, or dashes for nothing, each behind a space.
+fn put_orders<S: Sink>(sink: &mut S, outbox: &Outbox, rank: u32)
+    requires { rank < length outbox.now.rows }
+    ensures { Wrote (S.contents sink.old) (S.has_failed sink.old) (further (map place (slice_index_or outbox.now.rows rank []))) (S.contents sink.new) (S.has_failed sink.new) }
 {
-    for order in orders {
-        put_order(sink, *order);
+    for number in 0..outbox.receivers(rank).len() {
+        put_order(sink, outbox.at(rank, number));
     }
 }
 
 /// The line of a label's row: its rank, and what its receivers were told.
-pub fn put_row<S: Sink>(sink: &mut S, rank: u32, orders: &[Option<u32>])
-    ensures { Wrote (S.contents sink.old) (S.has_failed sink.old) (text (row_line rank orders.now ∷ [])) (S.contents sink.new) (S.has_failed sink.new) }
+pub fn put_row<S: Sink>(sink: &mut S, outbox: &Outbox, rank: u32)
+    requires { rank < length outbox.now.rows }
+    ensures { Wrote (S.contents sink.old) (S.has_failed sink.old) (text (row_line rank (slice_index_or outbox.now.rows rank []) ∷ [])) (S.contents sink.new) (S.has_failed sink.new) }
 {
     put_headed(sink, b"row", rank as u64);
-    put_orders(sink, orders);
+    put_orders(sink, outbox, rank);
     put_all(sink, b"\n");
 }
 

@@ -2,7 +2,7 @@
 ghost use Rattle.std.specs.Prelude.{◌≡◌, ◌≢◌, ◌≤◌, ◌<◌, ◌^◌, ◌++◌, ◌∷◌, [], IfOk, IfErr, IfSome, Ok, Err, None, Some};
 ghost use Rattle.text.specs.Parts.{pieces, lines_of};
 ghost use Rattle.trace.specs.declared.fault.TraceError.TheVariants.{Memory};
-ghost use Rattle.trace.specs.Schedules.{star, number_within, entry_of, entries_told, line_told, lines_told, schedule_told};
+ghost use Rattle.trace.specs.Schedules.{star, number_within, entry_of, entries_told, line_told, schedule_lines_told, schedule_told};
 
 use crate::fault::TraceError;
 use std::alloc::{AllocError, Global};

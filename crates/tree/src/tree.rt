@@ -1,7 +1,7 @@
 ghost use Rattle.std.specs.Prelude.{◌≡◌, ◌<◌, ◌≤◌, ◌≢◌, ◌+◌, ℕ, List, Option, Some, None, IfOk, length, slice_get, replicate};
 ghost use Rattle.label.specs.Labels.{labels};
 ghost use Rattle.label.specs.Oral.{Messages};
-ghost use Rattle.tree.specs.Kept.{IsCampaign, IsFilled, IsPlace, SameCampaign, level_told, level_of, silence, told_also};
+ghost use Rattle.tree.specs.Kept.{IsCampaign, IsFilled, IsPlace, SameCampaign, level_told, level_of, silence, told_also, blank};
 
 use label::{Label, Space, count, rank};
 use std::alloc::{AllocError, Global};
@@ -140,6 +140,18 @@ impl Tree {
         let row = self.levels[(size - 1) as usize].as_mut_slice();
         row[rank as usize] = value;
     }
+
+    /// Takes back what was filled in for the labels of this length. Where it has no such labels,
+    /// nothing changes.
+    pub fn clear(&mut self, size: u8)
+        ensures filled { (M : Messages) → IsFilled self.old M → IsFilled self.new (blank M size) }
+        ensures same { SameCampaign self.old self.new }
+    {
+        if size == 0 || size as usize > self.levels.len() {
+            return;
+        }
+        erase(self.levels[(size - 1) as usize].as_mut_slice());
+    }
 }
 
 /// A level in which nothing is told.
@@ -147,4 +159,13 @@ fn empty_level(alloc: Global, places: u32) -> Result<Vec<Option<u32>>, AllocErro
     ensures { IfOk result (λ v. v.items ≡ replicate places None) }
 {
     vec![in alloc; None; places as usize]
+}
+
+/// Nothing in every place.
+fn erase(row: &mut [Option<u32>])
+    ensures { row.new ≡ replicate (length row.old) None }
+{
+    for place in row.iter_mut() {
+        *place = None;
+    }
 }

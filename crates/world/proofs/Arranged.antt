@@ -10,7 +10,7 @@ use Rattle.board.specs.Board.{Access}
 use Rattle.round.specs.Scenario.{Scenario, program_of}
 use Rattle.round.specs.Letters.{Letter}
 use Rattle.world.specs.World.{each}
-use Rattle.world.specs.Accounted.{IsLetterOf, AreAccounted, letter_by, alone, row_of, rounds_of, IsAccounted}
+use Rattle.world.specs.Accounted.{IsLetterOf, AreAccounted, letter_by, alone, row_by, rounds_of, IsAccounted}
 use Rattle.world.proofs.Accounting.{accounted_count}
 
 abbrev is_by : ℕ → ℕ → Letter → Bool
@@ -84,7 +84,7 @@ grid_count : (n t : ℕ) (rounds : List (List Letter)) → IsGridFrom n t rounds
 grid_count n t [] h = (let e : 0 ≡ 0 * n = omega arith in e)
 grid_count n t (row ∷ rounds) h = (let e = grid_count n (suc t) rounds h.1 in let l = h.0.0 in omega (arith, length-append row (all rounds), suc-mul (length rounds) n))
 
-row_is : (n r : ℕ) (rounds : List (List Letter)) (row : List Letter) → IsGridFrom n 1 rounds → slice_get rounds r ≡ Some row → row_of n (suc r) (all rounds) ≡ row
+row_is : (n r : ℕ) (rounds : List (List Letter)) (row : List Letter) → IsGridFrom n 1 rounds → slice_get rounds r ≡ Some row → row_by n (suc r) (all rounds) ≡ row
 row_is n r rounds row h at =
     let long = grid_long n 1 r rounds row h at in
     let A : ℕ → Type 0 = λ u. (g : ℕ) (l : Letter) → slice_get row g ≡ Some l → alone (letter_by g u (all rounds)) ≡ l ∷ [] in
@@ -117,5 +117,5 @@ all_accounted s ledger rounds h =
     let grid : IsGridFrom s.generals 1 rounds = grid_from s rounds [] ledger h in
     let count : length rounds ≡ suc s.bound = (let c = accounted_count s rounds [] ledger h in omega arith) in
     let same : rounds_of s (all rounds) ≡ rounds =
-    each_front rounds (λ r. row_of s.generals (suc r) (all rounds) ∷ []) (λ r row at. ap (λ x. x ∷ []) (row_is s.generals r rounds row grid at)) (suc s.bound) (omega arith) ∙ take_all (suc s.bound) rounds (omega arith) in
+    each_front rounds (λ r. row_by s.generals (suc r) (all rounds) ∷ []) (λ r row at. ap (λ x. x ∷ []) (row_is s.generals r rounds row grid at)) (suc s.bound) (omega arith) ∙ take_all (suc s.bound) rounds (omega arith) in
     (grid_count s.generals 1 rounds grid ∙ ap (λ n. n * s.generals) count, (let A : List (List Letter) → Type 0 = λ r. AreAccounted s [] ledger r in subst A (sym same) h))

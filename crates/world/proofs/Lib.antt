@@ -23,9 +23,13 @@ pub mod Arranged
 pub mod Replaying
 pub mod Refusing
 pub mod Example
+pub mod Replies
 pub mod Standing
 pub mod Verdicts
 pub mod Ticking
 pub mod Listed
 pub mod Holding
+pub mod Hearing
+pub mod Outcomes
+pub mod Deciders
 pub mod Counted

@@ -97,6 +97,17 @@ module _ (s : Scenario) where
   traitor_is : (ds : List ℕ) → is_traitor s s.commander ≡ true → (verdict_of s ds).obeyed ≡ None
   traitor_is ds h = rw h refl
 
+  none_is : (ds : List ℕ) → ((verdict_of s ds).obeyed ≡ None) ↔ (is_traitor s s.commander ≡ true)
+  none_is ds =
+      let all = list_all (λ d. d == s.order) (of_loyal s L ds) in (
+        (λ h.
+            ⊎_elim
+            (λ (x : is_traitor s s.commander ≡ true). x)
+            (λ (x : is_traitor s s.commander ≡ false). absurd (let f : Some all ≡ None = rw x at h in cc))
+            (either_way (is_traitor s s.commander))),
+        (λ h. traitor_is ds h),
+      )
+
   never_disobeyed : (ds : List ℕ) → length ds ≡ length L → (is_traitor s s.commander ≡ false → AreObedient s ds) → (verdict_of s ds).obeyed ≢ Some false
   never_disobeyed ds long h e =
       ⊎_elim
@@ -116,7 +127,7 @@ proved_verdicts_mean = record {
   bound = bound_is;
   alike = alike_is;
   obeyed = obeyed_is;
-  traitor = traitor_is;
+  none = none_is;
   kept = λ s events is done b.
       let M = messages (run (opening s) events).closed in
       let A : Scenario → Type 0 = λ v. (verdict_of v (decisions v M)).bound ≡ true → ((verdict_of v (decisions v M)).alike ≡ true) × ((verdict_of v (decisions v M)).obeyed ≢ Some false) in

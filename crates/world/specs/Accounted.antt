@@ -52,12 +52,12 @@ alone None = []
 alone (Some x) = x ∷ []
 
 -- the letters of a round, by general
-abbrev pub row_of : ℕ → ℕ → List Letter → List Letter
-row_of n round letters = each n (λ g. alone (letter_by g round letters))
+abbrev pub row_by : ℕ → ℕ → List Letter → List Letter
+row_by n round letters = each n (λ g. alone (letter_by g round letters))
 
 -- the letters by round and general
 abbrev pub rounds_of : Scenario → List Letter → List (List Letter)
-rounds_of s letters = each (suc s.bound) (λ r. row_of s.generals (suc r) letters ∷ [])
+rounds_of s letters = each (suc s.bound) (λ r. row_by s.generals (suc r) letters ∷ [])
 
 -- the letters, in whatever order, are one for each general and round, and the ledger has their accesses and no others
 abbrev pub IsAccounted : Scenario → List Access → List Letter → Type 0

@@ -35,12 +35,12 @@ AreAlike s ds = (i j : ℕ) → IsLoyalAt s.generals s.commander (is_traitor s) 
 abbrev pub AreObedient : Scenario → List ℕ → Type 0
 AreObedient s ds = (i : ℕ) → IsLoyalAt s.generals s.commander (is_traitor s) i → slice_index ds i ≡ s.order
 
--- the verdict means what it says, and in a finished world whose bound holds it says that all is well
+-- the verdict means what it says, of obedience nothing exactly where the commander is a traitor, and in a finished world whose bound holds it says that all is well
 pub record VerdictsMean : Type 0 where
   pub bound : (s : Scenario) (ds : List ℕ) → ((verdict_of s ds).bound ≡ true) ↔ IsBound s.generals s.bound (is_traitor s)
   pub alike : (s : Scenario) (ds : List ℕ) → length ds ≡ length (lieutenants s.generals s.commander) → ((verdict_of s ds).alike ≡ true) ↔ AreAlike s ds
   pub obeyed : (s : Scenario) (ds : List ℕ) → length ds ≡ length (lieutenants s.generals s.commander) → is_traitor s s.commander ≡ false →
       ((verdict_of s ds).obeyed ≡ Some true) ↔ AreObedient s ds
-  pub traitor : (s : Scenario) (ds : List ℕ) → is_traitor s s.commander ≡ true → (verdict_of s ds).obeyed ≡ None
+  pub none : (s : Scenario) (ds : List ℕ) → ((verdict_of s ds).obeyed ≡ None) ↔ (is_traitor s s.commander ≡ true)
   pub kept : (s : Scenario) (events : List Event) → IsScenario s → IsFinished (run (opening s) events) → (chronicle_of (run (opening s) events)).verdict.bound ≡ true →
       ((chronicle_of (run (opening s) events)).verdict.alike ≡ true) × ((chronicle_of (run (opening s) events)).verdict.obeyed ≢ Some false)

@@ -6,6 +6,7 @@ pub mod Schedules
 pub mod Accounted
 pub mod Chronicle
 pub mod Agreement
+pub mod Promises
 pub mod Safety
 pub mod Replay
 pub mod Refusals

@@ -7,7 +7,7 @@ use Rattle.round.specs.Scenario.{Scenario, IsScenario, program_of, shape_of}
 use Rattle.round.specs.Letters.{Letter}
 use Rattle.round.specs.Contexts.{context_of, loyal_letter}
 use Rattle.round.specs.Activation.{Activation, started, has_ended}
-use Rattle.round.specs.Runs.{Runs, IsRunOf, IsLetter}
+use Rattle.round.specs.Runs.{Runs, AreFitting, IsRunOf, IsWithin, IsLetter}
 use Rattle.world.specs.declared.event.Event.{Event}
 use Rattle.world.specs.Part.{Acting}
 use Rattle.world.specs.World.{World, accesses_of, opening, run}
@@ -24,9 +24,10 @@ pub record ActivationsAreSafe : Type 0 where
       slice_get (run (opening s) events).parts g ≡ Some (Acting a) → a.state.steps ≤ length a.program
   pub letters : (s : Scenario) (events : List Event) → IsScenario s → All (λ letters. All IsShort letters) (run (opening s) events).closed
 
--- the activation is that of a general in the round behind these: what he runs, what he was told, whom he relays to, and his patience
+-- the activation is that of a general in the round behind these, which is one of the campaign: what he runs, what he was told, whom he relays to, and his patience
 pub record IsPlaced (s : Scenario) (closed : List (List Letter)) (g : ℕ) (a : Activation) : Type 0 where
   pub general : g < s.generals
+  pub rounds : length closed ≤ s.bound
   pub program : program_of s g ≡ Some a.program
   pub context : a.context ≡ context_of s closed g
   pub shape : a.shape ≡ shape_of s g (suc (length closed))
@@ -37,23 +38,27 @@ abbrev pub PartsArePlaced : Type 0
 PartsArePlaced = (s : Scenario) (events : List Event) (g : ℕ) (a : Activation) → IsScenario s →
     slice_get (run (opening s) events).parts g ≡ Some (Acting a) → IsPlaced s (run (opening s) events).closed g a
 
--- it has come from its start in the steps that it counts, by his accesses in the open round
+-- it has come from its start in the steps that it counts, by his accesses in the open round, whose replies fit
 abbrev pub HasRun : World → ℕ → Activation → Type 0
-HasRun w g a = Runs a.state.steps (started a.patience a.program a.context a.shape) (accesses_of g (drop w.opened w.ledger)) a
+HasRun w g a =
+    let transcript = accesses_of g (drop w.opened w.ledger) in
+    AreFitting transcript × Runs a.state.steps (started a.patience a.program a.context a.shape) transcript a
 
 -- a loyal general's letter is what he took, a traitor's the run of its transcript
 abbrev pub IsMade : Scenario → List (List Letter) → Letter → Option (List Insn) → Type 0
 IsMade s before l None = l ≡ loyal_letter s before l.general
 IsMade s before l (Some program) = IsRunOf l (Some program)
 
--- a letter of the round behind these
+-- a letter of the round behind these, which is one of the campaign; its steps lie within the patience
 pub record IsLetterIn (s : Scenario) (before : List (List Letter)) (l : Letter) : Type 0 where
   pub general : l.general < s.generals
+  pub rounds : length before ≤ s.bound
   pub round : l.round ≡ suc (length before)
   pub context : l.context ≡ context_of s before l.general
   pub shape : l.outbox.shape ≡ shape_of s l.general l.round
   pub program : l.program ≡ program_of s l.general
   pub made : IsMade s before l l.program
+  pub within : IsWithin s.patience l.steps
 
 -- every open activation and every closed letter is a run of its transcript, also an unfinished one
 pub record ActivationsAreRuns : Type 0 where

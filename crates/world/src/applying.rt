@@ -7,9 +7,8 @@ use crate::beginnings::beginnings;
 use crate::campaign::World;
 use crate::event::{Event, EventError};
 use crate::onward::is_unfit;
-use crate::teller::Teller;
 use board::Board;
-use round::Scenario;
+use round::{Scenario, Told};
 use std::alloc::{AllocError, Global};
 
 impl World {
@@ -18,14 +17,11 @@ impl World {
     /// # Errors
     ///
     /// `AllocError` where memory is refused.
-    pub fn open<T: Teller>(
-        alloc: Global,
-        teller: &T,
-        scenario: Scenario,
-    ) -> Result<World, AllocError>
+    pub fn open(alloc: Global, scenario: Scenario) -> Result<World, AllocError>
         ensures { IfOk result (λ world. world ≡ opening scenario) }
     {
-        let parts = beginnings(alloc, teller, &scenario, &[])?;
+        let told = Told::new(alloc, &scenario)?;
+        let parts = beginnings(alloc, &told, &scenario, &[])?;
         let board = Board::new(alloc, *scenario.board());
         Ok(World {
             scenario,
@@ -34,6 +30,7 @@ impl World {
             opened: 0,
             parts,
             full: true,
+            told,
         })
     }
 
@@ -43,12 +40,7 @@ impl World {
     ///
     /// After an error the world is as it was. `NotOpen` where all rounds are closed; `NoGeneral` where there is no such
     /// general, or he is not of the event's kind; `Memory` where neither is so and memory is refused.
-    pub fn apply<T: Teller>(
-        &mut self,
-        alloc: Global,
-        teller: &T,
-        event: Event,
-    ) -> Result<(), EventError>
+    pub fn apply(&mut self, alloc: Global, event: Event) -> Result<(), EventError>
         ensures done { OnOk result (self.new ≡ happen self.old event) }
         ensures undone { OnErr result (self.new ≡ self.old) }
         ensures fit { OnOk result (refusal self.old event ≡ None) }
@@ -66,7 +58,7 @@ impl World {
                 self.post(general);
                 Ok(())
             }
-            Event::Close => self.close(alloc, teller),
+            Event::Close => self.close(alloc),
         };
         match done {
             Ok(()) => Ok(()),

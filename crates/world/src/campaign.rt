@@ -1,7 +1,7 @@
 //! A campaign as it stands.
 use crate::part::Part;
 use board::Board;
-use round::{Round, Scenario};
+use round::{Round, Scenario, Told};
 use std::marker::Model;
 
 /// A scenario's campaign as events have left it.
@@ -13,6 +13,7 @@ pub struct World {
     pub(crate) opened: usize,
     pub(crate) parts: Vec<Part>,
     pub(crate) full: bool,
+    pub(crate) told: Told,
 }
 
 impl Model for World {
@@ -20,9 +21,10 @@ impl Model for World {
 
     ghost Value = { Standing };
 
+    ghost use Rattle.round.specs.Told.{WasTold};
     ghost use Rattle.world.specs.Reached.{world_of, IsHeld};
 
     ghost view = { λ w. world_of w.scenario w.closed.items w.board w.opened w.parts.items w.full };
 
-    ghost invariant = { λ w. IsHeld w.scenario w.closed.items w.board w.opened w.parts.items w.full };
+    ghost invariant = { λ w. IsHeld w.scenario w.closed.items w.board w.opened w.parts.items w.full × WasTold w.scenario w.closed.items w.told };
 }

@@ -8,7 +8,6 @@ use crate::beginnings::beginnings;
 use crate::campaign::World;
 use crate::onward;
 use crate::rows::{is_full, letters, since};
-use crate::teller::Teller;
 use round::Round;
 use std::alloc::{AllocError, Global};
 
@@ -52,8 +51,9 @@ impl World {
         onward::post(&mut self.parts, general);
     }
 
-    /// The end of the round: all letters, and all parts of the next one, are made before the world is written.
-    pub(crate) fn close<T: Teller>(&mut self, alloc: Global, teller: &T) -> Result<(), AllocError>
+    /// The end of the round. Its letters are made first; where the row or the next parts find no memory, the
+    /// row is taken back, and what it told is forgotten.
+    pub(crate) fn close(&mut self, alloc: Global) -> Result<(), AllocError>
         requires { length self.old.closed ≤ self.old.scenario.bound }
         ensures done { OnOk result (self.new ≡ happen self.old Close) }
         ensures undone { OnErr result (self.new ≡ self.old) }
@@ -62,7 +62,7 @@ impl World {
         let accesses = since(self.board.ledger(), self.opened);
         let Ok(row) = letters(
             alloc,
-            teller,
+            &self.told,
             &self.scenario,
             self.closed.as_slice(),
             accesses,
@@ -70,10 +70,13 @@ impl World {
         ) else {
             return Err(AllocError);
         };
+        self.told.deliver(&self.scenario, row.as_slice());
         let Ok(()) = self.closed.push(Round { letters: row }) else {
+            self.told.forget(&self.scenario);
             return Err(AllocError);
         };
-        let Ok(parts) = beginnings(alloc, teller, &self.scenario, self.closed.as_slice()) else {
+        let Ok(parts) = beginnings(alloc, &self.told, &self.scenario, self.closed.as_slice()) else {
+            self.told.forget(&self.scenario);
             let _ = self.closed.pop();
             return Err(AllocError);
         };

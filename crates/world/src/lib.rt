@@ -7,19 +7,21 @@ mod campaign;
 mod chronicle;
 mod event;
 mod events;
+mod finished;
 mod judging;
 mod laws;
 mod onward;
+mod outcome;
 mod part;
 mod playing;
 mod rows;
 mod schedule;
-mod teller;
 mod verdict;
 
 pub use campaign::World;
 pub use chronicle::Chronicle;
 pub use event::{Event, EventError};
+pub use finished::{play, replay};
 pub use laws::{
     accounts_are_runs, activations_are_runs, activations_are_safe, decisions_agree,
     idle_events_change_nothing, ledgers_decide, lists_are_complete, parts_are_placed,
@@ -27,5 +29,4 @@ pub use laws::{
 };
 pub use part::Part;
 pub use schedule::{Entries, Repeat, Schedule};
-pub use teller::Teller;
 pub use verdict::Verdict;

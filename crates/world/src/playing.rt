@@ -14,7 +14,6 @@ ghost use Rattle.world.specs.Playing.{line_events, lists_in};
 use crate::campaign::World;
 use crate::onward;
 use crate::schedule::{Repeat, Schedule};
-use crate::teller::Teller;
 use round::Scenario;
 use std::alloc::{AllocError, Global};
 
@@ -154,48 +153,38 @@ impl World {
     }
 
     /// The end of the round, where one is open.
-    fn end_round<T: Teller>(&mut self, alloc: Global, teller: &T) -> Result<(), AllocError>
+    fn end_round(&mut self, alloc: Global) -> Result<(), AllocError>
         ensures { OnOk result (self.new ≡ happen self.old Close) }
     {
         if self.closed.len() > usize::from(self.scenario.bound()) {
             return Ok(());
         }
-        self.close(alloc, teller)
+        self.close(alloc)
     }
 
     /// All loyal generals post, all traitors go to their ends, and the round is closed.
-    fn wind_up<T: Teller>(&mut self, alloc: Global, teller: &T) -> Result<(), AllocError>
+    fn wind_up(&mut self, alloc: Global) -> Result<(), AllocError>
         ensures { OnOk result (self.new ≡ run self.old (wound_up self.old.scenario)) }
     {
         self.all_post();
         self.all_end()?;
-        self.end_round(alloc, teller)
+        self.end_round(alloc)
     }
 
     /// A round by a line of a schedule.
-    fn listed_round<T: Teller>(
-        &mut self,
-        alloc: Global,
-        teller: &T,
-        line: &[Repeat],
-    ) -> Result<(), AllocError>
+    fn listed_round(&mut self, alloc: Global, line: &[Repeat]) -> Result<(), AllocError>
         ensures { OnOk result (self.new ≡ run (run self.old (line_events self.old.scenario (entries_of line.now))) (wound_up self.old.scenario)) }
     {
         self.line(line)?;
-        self.wind_up(alloc, teller)
+        self.wind_up(alloc)
     }
 
     /// A round by names.
-    fn named_round<T: Teller>(
-        &mut self,
-        alloc: Global,
-        teller: &T,
-        names: &[u8],
-    ) -> Result<(), AllocError>
+    fn named_round(&mut self, alloc: Global, names: &[u8]) -> Result<(), AllocError>
         ensures { OnOk result (self.new ≡ run (run self.old (names_events self.old names.now)) (wound_up self.old.scenario)) }
     {
         self.names(names)?;
-        self.wind_up(alloc, teller)
+        self.wind_up(alloc)
     }
 
     /// The scenario's campaign by a schedule, to its end.
@@ -203,9 +192,8 @@ impl World {
     /// # Errors
     ///
     /// `AllocError` where memory is refused.
-    pub fn played<T: Teller>(
+    pub fn played(
         alloc: Global,
-        teller: &T,
         scenario: Scenario,
         schedule: &Schedule,
     ) -> Result<World, AllocError>
@@ -215,10 +203,10 @@ impl World {
             Agree scenario.generals scenario.commander scenario.order (is_traitor scenario) (decision scenario (messages world.closed))) }
     {
         let _few = scenario.bound();
-        let mut world = World::open(alloc, teller, scenario)?;
+        let mut world = World::open(alloc, scenario)?;
         let rounds = usize::from(world.scenario.bound()) + 1;
         for round in 0..rounds {
-            world.listed_round(alloc, teller, line_at(schedule, round))?;
+            world.listed_round(alloc, line_at(schedule, round))?;
         }
         Ok(world)
     }
@@ -228,9 +216,8 @@ impl World {
     /// # Errors
     ///
     /// `AllocError` where memory is refused.
-    pub fn replayed<T: Teller>(
+    pub fn replayed(
         alloc: Global,
-        teller: &T,
         scenario: Scenario,
         names: &[Vec<u8>],
     ) -> Result<World, AllocError>
@@ -238,10 +225,10 @@ impl World {
         ensures finished { IfOk result IsFinished }
     {
         let _few = scenario.bound();
-        let mut world = World::open(alloc, teller, scenario)?;
+        let mut world = World::open(alloc, scenario)?;
         let rounds = usize::from(world.scenario.bound()) + 1;
         for round in 0..rounds {
-            world.named_round(alloc, teller, names_at(names, round))?;
+            world.named_round(alloc, names_at(names, round))?;
         }
         Ok(world)
     }

@@ -4,25 +4,26 @@ ghost use Rattle.std.specs.List.{list_all};
 ghost use Rattle.round.specs.Activation.{Activation};
 ghost use Rattle.round.specs.Contexts.{loyal_letter};
 ghost use Rattle.round.specs.Runs.{IsLetter};
+ghost use Rattle.round.specs.Told.{WasTold};
 ghost use Rattle.world.specs.Part.{Acting, has_posted};
 ghost use Rattle.world.specs.World.{accesses_of};
 ghost use Rattle.world.specs.Held.{acting_letter, written, row_of, AreLetters};
 
 use crate::part::Part;
-use crate::teller::Teller;
 use board::Access;
-use round::{Letter, Round, Running, Scenario, Seat};
+use round::{Letter, Round, Running, Scenario, Seat, Told, loyal_letter};
 use std::alloc::{AllocError, Global};
 
 /// The letters of the open round, as the generals stand.
-pub(crate) fn letters<T: Teller>(
+pub(crate) fn letters(
     alloc: Global,
-    teller: &T,
+    told: &Told,
     scenario: &Scenario,
     closed: &[Round],
     accesses: &[Access],
     parts: &[Part],
 ) -> Result<Vec<Letter>, AllocError>
+    requires told { WasTold scenario.now closed.now told.now }
     requires left { length closed.now ≤ scenario.now.bound }
     requires runs { AreLetters (suc (length closed.now)) accesses.now parts.now }
     ensures { IfOk result (λ row. row.items ≡ row_of scenario.now closed.now accesses.now parts.now) }
@@ -30,23 +31,24 @@ pub(crate) fn letters<T: Teller>(
     let mut row = Vec::with_capacity(alloc, parts.len())?;
     for general in 0..scenario.generals() {
         write(
-            &mut row, alloc, teller, scenario, closed, accesses, parts, general,
+            &mut row, alloc, told, scenario, closed, accesses, parts, general,
         )?;
     }
     Ok(row)
 }
 
 /// One general's letter, where there is one.
-fn write<T: Teller>(
+fn write(
     row: &mut Vec<Letter>,
     alloc: Global,
-    teller: &T,
+    told: &Told,
     scenario: &Scenario,
     closed: &[Round],
     accesses: &[Access],
     parts: &[Part],
     general: u8,
 ) -> Result<(), AllocError>
+    requires told { WasTold scenario.now closed.now told.now }
     requires left { length closed.now ≤ scenario.now.bound }
     requires inside { general < scenario.now.generals }
     requires runs { AreLetters (suc (length closed.now)) accesses.now parts.now }
@@ -60,12 +62,31 @@ fn write<T: Teller>(
             Ok(())
         }
         Some(Part::Posted) => {
-            row.push(teller.letter(alloc, scenario, closed, general)?)?;
+            row.push(loyal(alloc, told, scenario, closed, general)?)?;
             Ok(())
         }
         Some(Part::Silent) => Ok(()),
         None => Ok(()),
     }
+}
+
+/// A loyal general's letter.
+fn loyal(
+    alloc: Global,
+    told: &Told,
+    scenario: &Scenario,
+    closed: &[Round],
+    general: u8,
+) -> Result<Letter, AllocError>
+    requires told { WasTold scenario.now closed.now told.now }
+    requires left { length closed.now ≤ scenario.now.bound }
+    requires inside { general < scenario.now.generals }
+    ensures { IfOk result (λ letter. letter ≡ loyal_letter scenario.now closed.now general) }
+{
+    let _few = scenario.bound();
+    let round = closed.len() as u32 + 1;
+    let context = told.context(alloc, scenario, general)?;
+    loyal_letter(alloc, u32::from(general), round, context)
 }
 
 /// A traitor's letter.

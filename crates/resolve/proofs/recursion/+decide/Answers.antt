@@ -4,6 +4,7 @@ use Rattle.std.specs.List.{range_with_len}
 use Rattle.label.specs.Labels.{labels}
 use Rattle.label.specs.Oral.{order_of}
 use Rattle.resolve.specs.Decided.{decided, child, order_at}
+use Rattle.combine.specs.Told.{with_own}
 use Rattle.resolve.proofs.Steps.{step-last, step-more, more-before, own-put, more-behind, few-before, few-behind, rank-small, first-fits}
 use Rattle.label.proofs.Parts.{part-within, part-long, rank-within}
 use Rattle.resolve.proofs.Lowest.{step-one}
@@ -112,8 +113,8 @@ children-children-requires g t c =
     let long = c.level-then-relays-eq1.ensures.long in
     omega arith
 
-pub lowest-requires-clause-place : goal.lowest-requires-clause-place
-lowest-requires-clause-place g t c =
+pub combine_told-requires-clause-place : goal.combine_told-requires-clause-place
+combine_told-requires-clause-place g t c =
     let width : c.saturating_sub-width.result ≡ c.args.tree.now.generals - 1 - c.args.size = c.saturating_sub-width.ensures ∙ ap (λ (n : ℕ). n - 1 - c.args.size) c.space.ensures.generals in
     let within : c.args.rank * c.saturating_sub-width.result + c.saturating_sub-width.result ≤ length (labels c.args.tree.now.generals c.args.tree.now.commander c.args.tree.now.general (c.args.size + 1)) = part-within c.args.tree.now.generals c.args.tree.now.commander c.args.tree.now.general c.args.size c.args.rank c.saturating_sub-width.result c.space.ensures.kind.commander c.space.ensures.kind.general c.space.ensures.kind.lieutenant c.requires.some width c.requires.within in
     let long = c.level-then-relays-eq1.ensures.long in
@@ -121,7 +122,7 @@ lowest-requires-clause-place g t c =
     let place = c.requires.place in
     omega arith
 
-one : (f : List ℕ → ℕ) (t : Kept) (size rank place width own order : ℕ) (children level : List (Option ℕ)) (k : ℕ) → k ≡ 1 → own ≡ order_at t size rank → width ≡ t.generals - 1 - size → rank * width + width ≤ length level → level ≡ level_of t (size + 1) → children ≡ slice_range level (rank * width) (rank * width + width) → order ≡ f (insert (map order_of children) place own) → order ≡ decided f t k size rank place
+one : (f : List ℕ → ℕ) (t : Kept) (size rank place width own order : ℕ) (children level : List (Option ℕ)) (k : ℕ) → k ≡ 1 → own ≡ order_at t size rank → width ≡ t.generals - 1 - size → rank * width + width ≤ length level → level ≡ level_of t (size + 1) → children ≡ slice_range level (rank * width) (rank * width + width) → order ≡ f (with_own children place own) → order ≡ decided f t k size rank place
 one f t size rank place width own order children level k ek eo ew l el ec e = e ∙ step-one f t k size rank place width own children ek eo ew (rw el at l) (rw el at ec)
 
 pub returns-then-relays-eq1 : goal.returns-then-relays-eq1
@@ -129,4 +130,4 @@ returns-then-relays-eq1 g t c =
     let width : c.saturating_sub-width.result ≡ c.args.tree.now.generals - 1 - c.args.size = c.saturating_sub-width.ensures ∙ ap (λ (n : ℕ). n - 1 - c.args.size) c.space.ensures.generals in
     let within : c.args.rank * c.saturating_sub-width.result + c.saturating_sub-width.result ≤ length (labels c.args.tree.now.generals c.args.tree.now.commander c.args.tree.now.general (c.args.size + 1)) = part-within c.args.tree.now.generals c.args.tree.now.commander c.args.tree.now.general c.args.size c.args.rank c.saturating_sub-width.result c.space.ensures.kind.commander c.space.ensures.kind.general c.space.ensures.kind.lieutenant c.requires.some width c.requires.within in
     let long = c.level-then-relays-eq1.ensures.long in
-    one (g.C.Combine.combined c.args.rule.now) c.args.tree.now c.args.size c.args.rank c.args.place c.saturating_sub-width.result c.order_at-own.result c.lowest.result c.children-children.result.now c.level-then-relays-eq1.result.now c.args.relays c.if-relays-eq1.true (c.order_at-own.ensures ∙ ap (λ xs. order_of (slice_index_or xs c.args.rank None)) c.level.ensures.value) width (omega arith) c.level-then-relays-eq1.ensures.value c.children-children.ensures c.lowest.ensures
+    one (g.C.Combine.combined c.args.rule.now) c.args.tree.now c.args.size c.args.rank c.args.place c.saturating_sub-width.result c.order_at-own.result c.combine_told.result c.children-children.result.now c.level-then-relays-eq1.result.now c.args.relays c.if-relays-eq1.true (c.order_at-own.ensures ∙ ap (λ xs. order_of (slice_index_or xs c.args.rank None)) c.level.ensures.value) width (omega arith) c.level-then-relays-eq1.ensures.value c.children-children.ensures c.combine_told.ensures

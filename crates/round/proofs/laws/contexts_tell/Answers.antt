@@ -1,4 +1,4 @@
-use Rattle.round.proofs.Telling.{proved_contexts_tell}
+use Rattle.round.proofs.Loyal.{proved_contexts_tell}
 use Rattle.round.proofs.laws.contexts_tell.Goals as goal
 
 pub returns : goal.returns

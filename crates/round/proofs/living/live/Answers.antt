@@ -1,11 +1,13 @@
 -- From the start to the end.
-use Rattle.std.proofs.Common.{◌≡◌, ◌∙◌, ℕ, List, ap, sym, subst, arith, refl}
+use Rattle.std.proofs.Common.{◌≡◌, ◌∙◌, ℕ, List, [], ◌++◌, ap, sym, subst, arith, refl}
 use Rattle.std.specs.Arc.{arc_value}
 use Rattle.label.specs.declared.shape.Shape.{Shape}
 use Rattle.round.specs.Activation.{Activation, started}
-use Rattle.round.specs.Contexts.{shape_told, number_told}
-use Rattle.round.specs.Running.{IsOnWay}
-use Rattle.round.proofs.Onwards.{way_begins, own_run, lived}
+use Rattle.round.specs.Letters.{Letter}
+use Rattle.round.specs.Contexts.{IsToldTo, shape_told, number_told}
+use Rattle.round.specs.Running.{IsWayServed}
+use Rattle.round.proofs.Onwards.{own_run, lived}
+use Rattle.round.proofs.Served.{served_first, any_error}
 use Rattle.round.proofs.living.live.Goals as goal
 
 pub loop-running-init : goal.loop-running-init
@@ -21,11 +23,12 @@ loop-running-init g c =
     }) in
     let begun = c.start-running.ensures ∙ ap (λ (s : Shape). started c.args.patience (arc_value c.args.program) context s) shape in
     let start = started c.args.patience (arc_value c.args.program) context (shape_told c.args.general c.args.round context) in
-    subst (λ (a : Activation). IsOnWay c.args.general c.args.round start a c.new-transcript.result.items) (sym begun)
-    (way_begins c.args.general c.args.round start c.new-transcript.result.items c.new-transcript.ensures.items)
+    let served = g.S.Server.served c.args.server.now in
+    subst (λ (a : Activation). IsWayServed c.args.general c.args.round start a served c.new-transcript.result.items served) (sym begun)
+    (served_first c.args.general c.args.round start c.new-transcript.result.items served c.new-transcript.ensures.items)
 
 pub loop-running-preserved : goal.loop-running-preserved
-loop-running-preserved g c = c.in_ok-go_on.ensures.way _ c.loop-running.invariant
+loop-running-preserved g c = c.in_ok-go_on.ensures.way _ _ c.loop-running.invariant
 
 pub loop-running-smaller : goal.loop-running-smaller
 loop-running-smaller g c =
@@ -35,14 +38,30 @@ loop-running-smaller g c =
 
 pub into_letter-requires-clause-shape : goal.into_letter-requires-clause-shape
 into_letter-requires-clause-shape g c =
-    let s = c.loop-running.invariant.same in
+    let s = c.loop-running.invariant.way.same in
     s.shape ∙ ap (λ (l : List ℕ). shape_told c.args.general c.args.round l) (sym s.context)
+
+pub into_letter-requires-clause-own : goal.into_letter-requires-clause-own
+into_letter-requires-clause-own g c =
+    let s = c.loop-running.invariant.way.same in
+    subst (λ (l : List ℕ). IsToldTo c.args.general c.args.round l) (sym s.context) c.requires.own
+
+pub into_letter-requires-clause-fitting : goal.into_letter-requires-clause-fitting
+into_letter-requires-clause-fitting g c = c.loop-running.invariant.way.fitting
 
 pub into_letter-requires-clause-run : goal.into_letter-requires-clause-run
 into_letter-requires-clause-run g c =
-    own_run c.args.general c.args.round (arc_value c.args.program) c.args.context.items c.args.patience (shape_told c.args.general c.args.round c.args.context.items) c.loop-running.transcript.items c.loop-running.running c.loop-running.invariant
+    own_run c.args.general c.args.round (arc_value c.args.program) c.args.context.items c.args.patience (shape_told c.args.general c.args.round c.args.context.items) c.loop-running.transcript.items c.loop-running.running c.loop-running.invariant.way
 
-pub returns : goal.returns
-returns g c =
+pub returns-clause-lived : goal.returns-clause-lived
+returns-clause-lived g c =
     lived c.args.general c.args.round (arc_value c.args.program) c.args.context.items c.args.patience (shape_told c.args.general c.args.round c.args.context.items) c.loop-running.transcript.items c.loop-running.running c.into_letter.result
-    refl c.has_ended.ensures.within c.loop-running.invariant (sym c.has_ended.ensures.ended ∙ c.loop-running-test.false) c.into_letter.ensures
+    refl c.has_ended.ensures.within c.loop-running.invariant.way (sym c.has_ended.ensures.ended ∙ c.loop-running-test.false) c.into_letter.ensures
+
+pub returns-clause-served : goal.returns-clause-served
+returns-clause-served g c = c.loop-running.invariant.whole ∙ ap (λ (l : Letter). g.S.Server.served c.args.server.now ++ l.transcript) (sym c.into_letter.ensures)
+
+pub returns-in_err-new-clause-given_up : goal.returns-in_err-new-clause-given_up
+returns-in_err-new-clause-given_up g c =
+    let start = started c.args.patience (arc_value c.args.program) c.args.context.items (shape_told c.args.general c.args.round c.args.context.items) in
+    any_error c.from_residual.result _ (start, [], served_first c.args.general c.args.round start [] (g.S.Server.served c.args.server.now) refl)

@@ -7,6 +7,6 @@ use Rattle.world.proofs.Holding.{more_each}
 use Rattle.world.proofs.beginnings.beginnings.Goals as goal
 
 pub loop-general-preserved : goal.loop-general-preserved
-loop-general-preserved g c =
+loop-general-preserved c =
     more_each c.loop-general.general (λ j. begins c.args.scenario.now c.args.closed.now j (program_of c.args.scenario.now j) ∷ []) c.loop-general.parts.items (c.in_ok-beginning.field-0 ∷ []) c.push.new.self.items
     c.in_ok-push.ensures.items c.loop-general.invariant (ap (λ (p : Part). p ∷ []) c.in_ok-beginning.ensures)

@@ -3,7 +3,7 @@ use Rattle.std.proofs.Common.{◌≡◌, ◌≤◌, ◌∷◌, ◌++◌, [], sym
 use Rattle.label.specs.Labels.{others}
 use Rattle.semantics.proofs.PlacesLaws.{others-distinct}
 use Rattle.outbox.specs.Rows.{empty_row}
-use Rattle.outbox.proofs.RowLemmas.{others-few, others_more, others_same, others-below, row_empty}
+use Rattle.outbox.proofs.RowLemmas.{others-few, others_more, others_same, others-below, row_empty, none_at}
 use Rattle.outbox.proofs.row.Row.new.Goals as goal
 use Rattle.outbox.proofs.row.Row.new.Goals.{then-is_free, else-is_free}
 
@@ -27,6 +27,7 @@ invariant_of-result c =
       long = refl;
       below = rw c.loop-general.invariant (others-below c.loop-general.general (c.args.label.now ++ c.args.sender ∷ []) few);
       distinct = rw c.loop-general.invariant (others-distinct c.loop-general.general (c.args.label.now ++ c.args.sender ∷ []));
+      absent = λ n away. none_at 13 n;
     }
 
 pub returns : goal.returns

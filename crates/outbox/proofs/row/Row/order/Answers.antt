@@ -1,19 +1,17 @@
--- The order of one receiver.
-use Rattle.std.proofs.Common.{sym, ap, ◌∙◌}
-use Rattle.label.specs.Labels.{on}
-use Rattle.outbox.specs.Rows.{receivers_in, order_in}
-use Rattle.outbox.proofs.RowLemmas.{names_in, on-below, order_there, order_absent}
+-- The order of one receiver, by his number.
+use Rattle.std.proofs.Common.{◌≤◌, sym, ap, ◌∙◌, length, arith}
+use Rattle.std.proofs.lemmas.List.{get_or_past}
+use Rattle.outbox.specs.Rows.{order_in}
+use Rattle.outbox.proofs.Kept.{order_kept}
 use Rattle.outbox.proofs.row.Row.order.Goals as goal
 
 pub bounds-self-inside-receiver : goal.bounds-self-inside-receiver
-bounds-self-inside-receiver c = on-below 13 c.self.inside.receivers.items c.args.receiver c.self.invariant.below (ap (λ xs. on xs c.args.receiver) (sym c.as_slice.ensures.value) ∙ (sym c.hears.ensures ∙ c.if-hears.true))
+bounds-self-inside-receiver c = (let long = c.self.invariant.long in omega arith)
 
-pub returns-then-hears : goal.returns-then-hears
-returns-then-hears c =
-    order_there c.self.inside.orders c.self.inside.receivers.items c.args.receiver (ap (λ xs. on xs c.args.receiver) (sym c.as_slice.ensures.value) ∙ (sym c.hears.ensures ∙ c.if-hears.true))
-    ∙ ap (order_in c.args.receiver) c.self.view_is
+pub returns-then-receiver-lt13 : goal.returns-then-receiver-lt13
+returns-then-receiver-lt13 c = order_kept c.self.inside.orders c.self.inside.receivers.items c.args.receiver c.self.invariant ∙ ap (order_in c.args.receiver) c.self.view_is
 
-pub returns-else-hears : goal.returns-else-hears
-returns-else-hears c =
-    order_absent c.args.self.now c.args.receiver
-    (sym (ap (λ xs. on xs c.args.receiver) (c.as_slice.ensures.value ∙ (sym (names_in c.self.inside.orders c.self.inside.receivers.items) ∙ ap receivers_in c.self.view_is))) ∙ (sym c.hears.ensures ∙ c.if-hears.false))
+pub returns-else-receiver-lt13 : goal.returns-else-receiver-lt13
+returns-else-receiver-lt13 c =
+    let past : length c.self.inside.orders ≤ c.args.receiver = let long = c.self.invariant.long in omega arith in
+    sym (get_or_past c.self.inside.orders c.args.receiver _ past) ∙ (order_kept c.self.inside.orders c.self.inside.receivers.items c.args.receiver c.self.invariant ∙ ap (order_in c.args.receiver) c.self.view_is)

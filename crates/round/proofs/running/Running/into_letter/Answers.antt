@@ -15,4 +15,4 @@ invariant_of-result c =
     let e = c.end-ended.ensures in
     subst (λ (l : Letter). IsLetter l) (ap (λ (a : Activation). letter_left g r t a) (sym c.self.view_is)
     ∙ (λ i. record { general = g; round = r; context = c.self.inside.context.items; program = sym c.new.ensures i; transcript = t; steps = sym e.steps i; outbox = record { shape = sym e.shape i; rows = sym e.outbox i }; exited = c.self.inside.over }))
-    (letter_of_run g r t c.args.self context c.requires.shape c.requires.run)
+    (letter_of_run g r t c.args.self context c.requires.own c.requires.shape c.requires.fitting c.requires.run)

@@ -8,20 +8,20 @@ use Rattle.world.proofs.Listed.{play_next, play_last, played_finished, listed_ag
 use Rattle.world.proofs.campaign.World.played.Goals as goal
 
 pub loop-round-preserved : goal.loop-round-preserved
-loop-round-preserved g c =
+loop-round-preserved c =
     let both = play_next c.args.scenario (c.from-rounds.result + 1) c.loop-round.round c.args.schedule.now c.line_at.result.now c.loop-round.world c.listed_round.new.self
     (run (opening c.args.scenario) (listed c.args.scenario (lines_by c.args.schedule.now))) c.loop-round-test.true c.loop-round.invariant.scenario c.line_at.ensures c.in_ok-listed_round.ensures c.loop-round.invariant.left in
     record { scenario = both.0; left = both.1 }
 
 pub returns-clause-finished : goal.returns-clause-finished
-returns-clause-finished g c =
+returns-clause-finished c =
     let lines = lines_by c.args.schedule.now in
     let same : c.loop-round.world ≡ run (opening c.args.scenario) (listed c.args.scenario lines) =
     play_last c.args.scenario (c.from-rounds.result + 1) c.loop-round.round (lines_by (drop c.loop-round.round c.args.schedule.now)) c.loop-round.world _ c.loop-round-test.false c.loop-round.invariant.left in
     played_finished c.args.scenario lines c.loop-round.world c.bound-few.ensures.whole same
 
 pub returns-clause-agree : goal.returns-clause-agree
-returns-clause-agree g c =
+returns-clause-agree c =
     let lines = lines_by c.args.schedule.now in
     let same : c.loop-round.world ≡ run (opening c.args.scenario) (listed c.args.scenario lines) =
     play_last c.args.scenario (c.from-rounds.result + 1) c.loop-round.round (lines_by (drop c.loop-round.round c.args.schedule.now)) c.loop-round.world _ c.loop-round-test.false c.loop-round.invariant.left in

@@ -6,7 +6,7 @@ use Rattle.world.proofs.campaign.World.round.Goals as goal
 pub overflow_cast-result : goal.overflow_cast-result
 overflow_cast-result c =
     let s = c.self.inside in
-    let few = held_few s.scenario s.closed.items s.board s.opened s.parts.items s.full c.bound-few.ensures.whole c.self.invariant in
+    let few = held_few s.scenario s.closed.items s.board s.opened s.parts.items s.full c.bound-few.ensures.whole c.self.invariant.0 in
     let rounds = c.bound-few.ensures.whole.rounds in
     let len : c.len.result ≡ length s.closed.items = (let o = s.closed.ok in let h = c.len.ensures in omega arith) in
     omega arith
@@ -14,7 +14,7 @@ overflow_cast-result c =
 pub overflow_add-result : goal.overflow_add-result
 overflow_add-result c =
     let s = c.self.inside in
-    let few = held_few s.scenario s.closed.items s.board s.opened s.parts.items s.full c.bound-few.ensures.whole c.self.invariant in
+    let few = held_few s.scenario s.closed.items s.board s.opened s.parts.items s.full c.bound-few.ensures.whole c.self.invariant.0 in
     let rounds = c.bound-few.ensures.whole.rounds in
     let len : c.len.result ≡ length s.closed.items = (let o = s.closed.ok in let h = c.len.ensures in omega arith) in
     omega arith

@@ -1,0 +1,122 @@
+-- Letters that stand, and have the context of their round, are those of their generals; and what letters of a round are.
+use Rattle.std.proofs.Common.{◌≡◌, IsTrue, ℕ, suc, ◌<◌, ◌≤◌, List, [], length, refl, sym, ap, subst, ◌∙◌, true, Bool, arith, Option, None, Some}
+use Rattle.std.specs.Prelude.{◌||◌, ◌↔◌, slice_get}
+use Rattle.insn.specs.declared.insn.Insn.{Insn}
+use Rattle.outbox.specs.Contents.{Contents}
+use Rattle.label.specs.declared.shape.Shape.{Shape}
+use Rattle.board.specs.Board.{Access}
+use Rattle.round.specs.Scenario.{Scenario, IsScenario, program_of, shape_of}
+use Rattle.round.specs.Letters.{Letter}
+use Rattle.round.specs.Contexts.{AreWords, context_of, shape_told, outbox_told, letter_told, loyal_letter}
+use Rattle.round.specs.Activation.{Activation, started, is_reached}
+use Rattle.round.specs.Runs.{Runs, IsWithin, IsRunOf, IsLetter}
+use Rattle.round.specs.Told.{AreLettersOf}
+use Rattle.round.proofs.Loyal.{shape_is_told, letter_is}
+use Rattle.world.specs.World.{accesses_of}
+use Rattle.world.specs.Accounted.{IsLetterOf, IsAccountedRound}
+use Rattle.threads.specs.Holding.{IsOver, Stands}
+
+none_reached : (p : Option ℕ) → IsWithin p 0
+none_reached None = tt
+none_reached (Some p) = omega arith
+
+loyal_over : (s : Scenario) (before : List (List Letter)) (g : ℕ) → IsOver s (loyal_letter s before g)
+loyal_over s before g = record { within = none_reached s.patience; over = refl }
+
+-- a letter of a general stands
+stood : (s : Scenario) (before : List (List Letter)) (piece : List Access) (g : ℕ) (o : Option (List Insn)) (l : Letter) → o ≡ program_of s g → IsLetterOf s before g o l → accesses_of g piece ≡ l.transcript
+    → Stands s piece g (suc (length before)) l × (l.context ≡ context_of s before g)
+stood s before piece g None l is h part = (
+  record {
+    general = ap (λ (x : Letter). x.general) h;
+    round_is = ap (λ (x : Letter). x.round) h;
+    program = ap (λ (x : Letter). x.program) h ∙ is;
+    over = subst (λ (x : Letter). IsOver s x) (sym h) (loyal_over s before g);
+    part = part;
+  },
+  ap (λ (x : Letter). x.context) h,
+)
+stood s before piece g (Some p) l is h part = (
+  record {
+    general = ap (λ (x : Letter). x.general) h.2;
+    round_is = ap (λ (x : Letter). x.round) h.2;
+    program = ap (λ (x : Letter). x.program) h.2 ∙ is;
+    over = record { within = h.3; over = h.4 };
+    part = part;
+  },
+  ap (λ (x : Letter). x.context) h.2,
+)
+
+module _ (s : Scenario) (before : List (List Letter)) (g : ℕ) (l : Letter) (is : IsScenario s) (lt : g < s.generals) (le : length before ≤ s.bound) (kept : IsLetter l)
+    (own : l.general ≡ g) (of_round : l.round ≡ suc (length before)) (told : l.context ≡ context_of s before g) where
+  shape : l.outbox.shape ≡ shape_of s g (suc (length before))
+  shape = kept.shape ∙ ((λ i. shape_told (own i) (of_round i) (told i)) ∙ shape_is_told s before g (suc (length before)) is)
+
+  loyal : AreWords s before g → l.program ≡ None → IsRunOf l None → l ≡ loyal_letter s before g
+  loyal small none run =
+      let outbox : l.outbox ≡ outbox_told (shape_told g (suc (length before)) (context_of s before g)) (context_of s before g) =
+      run.2 ∙ (λ i. outbox_told ((kept.shape ∙ (λ j. shape_told (own j) (of_round j) (told j))) i) (told i)) in
+      (λ i. record {
+        general = own i;
+        round = of_round i;
+        context = told i;
+        program = none i;
+        transcript = run.0 i;
+        steps = run.1 i;
+        outbox = outbox i;
+        exited = run.3 i;
+      }) ∙ letter_is s before g is lt le small
+
+  traitor : (p : List Insn) → l.program ≡ Some p → IsRunOf l (Some p) → IsOver s l → IsLetterOf s before g (Some p) l
+  traitor p has run over =
+      let A : List ℕ → Shape → Type 0 = λ context relay. Runs l.steps (started None p context relay) l.transcript run.1 in (
+        run.1,
+        subst (λ (relay : Shape). A (context_of s before g) relay) shape (subst (λ (context : List ℕ). A context l.outbox.shape) told run.2),
+        (λ i. record {
+          general = own i;
+          round = of_round i;
+          context = told i;
+          program = has i;
+          transcript = l.transcript;
+          steps = l.steps;
+          outbox = record { shape = shape i; rows = run.3 i };
+          exited = run.4 i;
+        }),
+        over.within,
+        over.over,
+      )
+
+  by : (o : Option (List Insn)) → AreWords s before g → l.program ≡ o → IsOver s l → IsLetterOf s before g o l
+  by None small has over = loyal small has (let A : Option (List Insn) → Type 0 = λ o. IsRunOf l o in subst A has kept.run)
+  by (Some p) small has over = traitor p has (let A : Option (List Insn) → Type 0 = λ o. IsRunOf l o in subst A has kept.run) over
+
+  pub is_of : AreWords s before g → l.program ≡ program_of s g → IsOver s l → IsLetterOf s before g (program_of s g) l
+  is_of small has over = by (program_of s g) small has over
+
+-- both ways
+pub stands_for : (s : Scenario) (before : List (List Letter)) (piece : List Access) (g : ℕ) (l : Letter) → IsLetterOf s before g (program_of s g) l × (accesses_of g piece ≡ l.transcript)
+    → Stands s piece g (suc (length before)) l × (l.context ≡ context_of s before g)
+stands_for s before piece g l h = stood s before piece g (program_of s g) l refl h.0 h.1
+
+-- the tests of a letter are whose it is
+pub holds : (s : Scenario) (before : List (List Letter)) (piece : List Access) (g round : ℕ) (l : Letter) → IsScenario s → g < s.generals → length before ≤ s.bound → IsLetter l
+    → round ≡ suc (length before) → AreWords s before g → Stands s piece g round l → (b : Bool) → IsTrue b ↔ (l.context ≡ context_of s before g)
+    → IsTrue b ↔ (IsLetterOf s before g (program_of s g) l × (accesses_of g piece ≡ l.transcript))
+holds s before piece g round l is lt le kept e small st b has = (
+  λ y. (is_of s before g l is lt le kept st.general (st.round_is ∙ e) (has.0 y) small st.program st.over, st.part),
+  λ h. has.1 (stands_for s before piece g l h).1,
+)
+
+whose : (s : Scenario) (before : List (List Letter)) (g : ℕ) (o : Option (List Insn)) (l : Letter) → IsLetterOf s before g o l → (l.round ≡ suc (length before)) × (l.outbox.shape ≡ shape_of s l.general (suc (length before)))
+whose s before g None l e = (
+  ap (λ (x : Letter). x.round) e,
+  ap (λ (x : Letter). x.outbox.shape) e ∙ ap (λ (h : ℕ). shape_of s h (suc (length before))) (sym (ap (λ (x : Letter). x.general) e)),
+)
+whose s before g (Some p) l h = (
+  ap (λ (x : Letter). x.round) h.2,
+  ap (λ (x : Letter). x.outbox.shape) h.2 ∙ ap (λ (k : ℕ). shape_of s k (suc (length before))) (sym (ap (λ (x : Letter). x.general) h.2)),
+)
+
+-- the letters of an accounted round are of that round
+pub are_of_round : (s : Scenario) (before : List (List Letter)) (piece : List Access) (row : List Letter) → IsAccountedRound s before piece row → AreLettersOf s (suc (length before)) row
+are_of_round s before piece row h i l at = whose s before i (program_of s i) l (h.each i l at).0

@@ -1,0 +1,26 @@
+use Rattle.std.proofs.Common.{◌≡◌, ◌<◌, ◌≤◌, ℕ, List, length, ◌∙◌, ap, subst, arith}
+use Rattle.std.specs.List.{AllZip}
+use Rattle.combine.specs.Chosen.{combined_by}
+use Rattle.combine.specs.declared.chosen.Rule.{Rule}
+use Rattle.tree.specs.Kept.{Kept}
+use Rattle.resolve.specs.Decided.{Decides}
+use Rattle.threads.proofs.Deciding.{zip_long, all_decided}
+use Rattle.threads.proofs.concluding.decide.Goals as goal
+
+pub listed-requires : goal.listed-requires
+listed-requires g c =
+    let long = zip_long (combined_by c.rule.result) c.trees.result.now c.in_ok-orders.orders.items c.in_ok-orders.ensures in
+    let count = c.requires.1.count in
+    let trees = ap length c.trees.ensures in
+    let few = c.commander-commander.ensures.whole.few in
+    let same = ap length c.as_slice.ensures.value in
+    omega arith
+
+pub returns : goal.returns
+returns g c before told =
+    let s = c.args.scenario.now in
+    let orders = c.in_ok-orders.orders.items in
+    let all : AllZip (Decides (combined_by s.rule)) c.args.told.now.trees orders =
+    subst (λ (trees : List Kept). AllZip (Decides (combined_by s.rule)) trees orders) c.trees.ensures
+    (subst (λ (rule : Rule). AllZip (Decides (combined_by rule)) c.trees.result.now orders) c.rule.ensures c.in_ok-orders.ensures) in
+    c.listed.ensures ∙ (c.as_slice.ensures.value ∙ all_decided s before c.args.told.now orders c.commander-commander.ensures.whole.commander told all)

@@ -1,0 +1,21 @@
+-- What is tested of a letter, its context aside.
+use Rattle.std.specs.Prelude.{ℕ, ◌≡◌, ◌||◌, true, List}
+use Rattle.board.specs.Board.{Access}
+use Rattle.round.specs.Scenario.{Scenario, program_of}
+use Rattle.round.specs.Letters.{Letter}
+use Rattle.round.specs.Activation.{is_reached}
+use Rattle.round.specs.Runs.{IsWithin}
+use Rattle.world.specs.World.{accesses_of}
+
+-- its general has ended, within the patience
+pub record IsOver (s : Scenario) (l : Letter) : Type 0 where
+  pub within : IsWithin s.patience l.steps
+  pub over : (l.exited || is_reached s.patience l.steps) ≡ true
+
+-- whose it is, of which round, by which program; he has ended, and has made just these of the accesses
+pub record Stands (s : Scenario) (piece : List Access) (g round : ℕ) (l : Letter) : Type 0 where
+  pub general : l.general ≡ g
+  pub round_is : l.round ≡ round
+  pub program : l.program ≡ program_of s g
+  pub over : IsOver s l
+  pub part : accesses_of g piece ≡ l.transcript

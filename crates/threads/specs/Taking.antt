@@ -1,0 +1,26 @@
+-- Letters taken out of a list, one for each general and round.
+use Rattle.std.specs.Prelude.{ℕ, zero, suc, ◌≡◌, ◌<◌, ◌*◌, ◌==◌, ◌&&◌, Bool, cond, List, [], ◌∷◌, length}
+use Rattle.round.specs.Letters.{Letter}
+use Rattle.world.specs.Accounted.{row_of}
+
+-- the list without the first letter that passes
+abbrev pub without : (Letter → Bool) → List Letter → List Letter
+without is [] = []
+without is (l ∷ letters) = cond (is l) letters (l ∷ without is letters)
+
+abbrev pub left_by : ℕ → ℕ → List Letter → List Letter
+left_by g round letters = without (λ l. (l.general == g) && (l.round == round)) letters
+
+-- what is left behind the first generals of a round, and behind the first rounds
+abbrev pub left_row : ℕ → ℕ → List Letter → List Letter
+left_row zero round letters = letters
+left_row (suc g) round letters = left_by g round (left_row g round letters)
+
+abbrev pub left_rounds : ℕ → ℕ → List Letter → List Letter
+left_rounds n zero letters = letters
+left_rounds n (suc r) letters = left_row n (suc r) (left_rounds n r letters)
+
+-- as many letters as places, and each place has one
+pub record IsGrid (n rounds : ℕ) (letters : List Letter) : Type 0 where
+  pub count : length letters ≡ rounds * n
+  pub rows : (r : ℕ) → r < rounds → length (row_of n (suc r) letters) ≡ n

@@ -1,0 +1,52 @@
+//! What holds a general before each access.
+use crate::shared::SharedBoard;
+use board::Access;
+use round::Server;
+use semantics::{Reply, Request};
+use std::alloc::{AllocError, Global};
+use std::sync::Wait;
+
+/// Holds generals before their accesses, for as long as it likes.
+pub trait Gate {
+    /// Called before each taking of the board's lock, and never while the lock is held; `nth` is counted from 0 for that
+    /// general and round.
+    fn before_access(&self, general: u32, round: u32, nth: u64);
+}
+
+/// Lets everyone pass at once.
+#[derive(Clone, Copy, Debug)]
+pub struct Open;
+
+impl Gate for Open {
+    fn before_access(&self, _general: u32, _round: u32, _nth: u64) {}
+}
+
+/// The board as one general meets it in one round: first the gate, then the lock, for one access.
+#[derive(Drop)]
+pub(crate) struct Gated<'a, R, G> {
+    pub(crate) rt: &'a R,
+    pub(crate) alloc: Global,
+    pub(crate) gate: &'a G,
+    pub(crate) board: &'a SharedBoard,
+    /// The accesses that he has made in this round.
+    pub(crate) made: Vec<Access>,
+}
+
+impl<'a, R: Wait, G: Gate> Server for Gated<'a, R, G> {
+    ghost served = { λ gated. gated.made.items };
+
+    fn serve(&mut self, general: u32, round: u32, request: Request) -> Result<Reply, AllocError> {
+        self.gate
+            .before_access(general, round, self.made.len() as u64);
+        let reply = self.board.apply(self.rt, general, round, request)?;
+        let access = Access {
+            general,
+            round,
+            request,
+            reply,
+        };
+        self.made.push(access.copy(self.alloc)?)?;
+        let Access { reply, .. } = access;
+        Ok(reply)
+    }
+}

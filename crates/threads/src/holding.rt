@@ -1,0 +1,167 @@
+//! Whether letters are accounted for.
+ghost use Rattle.std.specs.Prelude.{◌≡◌, ◌↔◌, ◌<◌, ◌≤◌, ℕ, suc, take, drop, min, sum_by, length, All, List, IsTrue, IfOk, OnOk};
+ghost use Rattle.round.specs.Scenario.{program_of};
+ghost use Rattle.round.specs.Letters.{Letter as Written};
+ghost use Rattle.round.specs.Contexts.{context_of, AreWords};
+ghost use Rattle.round.specs.Told.{WasTold};
+ghost use Rattle.world.specs.World.{accesses_of};
+ghost use Rattle.world.specs.Accounted.{IsLetterOf, IsAccountedRound, AreAccounted};
+ghost use Rattle.threads.specs.Holding.{IsOver, Stands};
+
+use board::Access;
+use round::{Letter, Round, Scenario, Told};
+use std::alloc::{AllocError, Global};
+
+/// Whether these are just one general's accesses, in their order.
+fn is_part(piece: &[Access], general: u32, transcript: &[Access]) -> bool
+    ensures { IsTrue result ↔ (accesses_of general piece.now ≡ transcript.now) }
+{
+    let mut next = 0;
+    for access in piece {
+        if access.general == general {
+            if next >= transcript.len() || !access.same(&transcript[next]) {
+                return false;
+            }
+            next += 1;
+        }
+    }
+    next == transcript.len()
+}
+
+/// Whether each access is of this round, and of one of so many generals.
+fn are_known(piece: &[Access], generals: u32, round: u32) -> bool
+    ensures { IsTrue result ↔ All (λ a. (a.general < generals) × (a.round ≡ round)) piece.now }
+{
+    piece.iter().all(|access| access.general < generals && access.round == round)
+}
+
+/// Whether the letter's general has ended, within the patience.
+fn is_over(scenario: &Scenario, letter: &Letter) -> bool
+    ensures { IsTrue result ↔ IsOver scenario.now letter.now }
+{
+    match scenario.patience() {
+        None => letter.exited,
+        Some(patience) => letter.steps <= patience && (letter.exited || patience <= letter.steps),
+    }
+}
+
+/// Whether a letter is that of its place, its context aside.
+fn stands(scenario: &Scenario, piece: &[Access], general: u8, round: u32, letter: &Letter) -> bool
+    requires { general < scenario.now.generals }
+    ensures { IsTrue result ↔ Stands scenario.now piece.now general round letter.now }
+{
+    letter.general == u32::from(general)
+        && letter.round == round
+        && letter.program.same(scenario.seat(general))
+        && is_over(scenario, letter)
+        && is_part(piece, u32::from(general), letter.transcript.as_slice())
+}
+
+/// Whether a letter's context is what its general is told.
+fn has_context(
+    alloc: Global,
+    told: &Told,
+    scenario: &Scenario,
+    general: u8,
+    letter: &Letter,
+) -> Result<bool, AllocError>
+    requires told { (before : List (List Written)) × WasTold scenario.now before told.now }
+    requires left { told.now.rounds ≤ scenario.now.bound }
+    requires general { general < scenario.now.generals }
+    ensures context { IfOk result (λ b. (before : List (List Written)) → WasTold scenario.now before told.now → IsTrue b ↔ (letter.now.context ≡ context_of scenario.now before general)) }
+    ensures words { OnOk result ((before : List (List Written)) → WasTold scenario.now before told.now → AreWords scenario.now before general) }
+{
+    let context = told.context(alloc, scenario, general)?;
+    Ok(letter.context.as_slice() == context.as_slice())
+}
+
+/// Whether a letter is that of its general in the round to come, and the accesses are its transcript.
+fn holds_letter(
+    alloc: Global,
+    told: &Told,
+    scenario: &Scenario,
+    piece: &[Access],
+    general: u8,
+    letter: &Letter,
+) -> Result<bool, AllocError>
+    requires told { (before : List (List Written)) × WasTold scenario.now before told.now }
+    requires left { told.now.rounds ≤ scenario.now.bound }
+    requires general { general < scenario.now.generals }
+    ensures { IfOk result (λ b. (before : List (List Written)) → WasTold scenario.now before told.now →
+        IsTrue b ↔ (IsLetterOf scenario.now before general (program_of scenario.now general) letter.now × (accesses_of general piece.now ≡ letter.now.transcript))) }
+{
+    letter.tell();
+    let _few = scenario.bound();
+    let round = u32::from(told.rounds()) + 1;
+    if !stands(scenario, piece, general, round, letter) {
+        return Ok(false);
+    }
+    let has = has_context(alloc, told, scenario, general, letter)?;
+    Ok(has)
+}
+
+/// Whether the letters are those of the round to come, and the accesses are theirs.
+fn holds_row(
+    alloc: Global,
+    told: &Told,
+    scenario: &Scenario,
+    piece: &[Access],
+    row: &[Letter],
+) -> Result<bool, AllocError>
+    requires told { (before : List (List Written)) × WasTold scenario.now before told.now }
+    requires left { told.now.rounds ≤ scenario.now.bound }
+    ensures { IfOk result (λ b. (before : List (List Written)) → WasTold scenario.now before told.now → IsTrue b ↔ IsAccountedRound scenario.now before piece.now row.now) }
+{
+    let generals = scenario.generals();
+    let round = u32::from(told.rounds()) + 1;
+    if row.len() != usize::from(generals) || !are_known(piece, u32::from(generals), round) {
+        return Ok(false);
+    }
+    for general in 0..generals {
+        let letter = &row[usize::from(general)];
+        if !holds_letter(alloc, told, scenario, piece, general, letter)? {
+            return Ok(false);
+        }
+    }
+    Ok(true)
+}
+
+/// How many accesses the letters have together, at most so many.
+fn accesses(row: &[Letter], most: usize) -> usize
+    ensures { result ≡ min (sum_by (λ l. length l.transcript) row.now) most }
+{
+    let mut count = 0;
+    for i in 0..row.len() {
+        let letter = &row[i];
+        count += letter.transcript.len().min(most - count);
+    }
+    count
+}
+
+/// Whether the rounds from one on are accounted for by the rest of the ledger. Where they are, all rounds were told.
+pub(crate) fn are_accounted(
+    alloc: Global,
+    told: &mut Told,
+    scenario: &Scenario,
+    rows: &[Round],
+    at: usize,
+    rest: &[Access],
+) -> Result<bool, AllocError>
+    requires rounds { length rows.now ≡ suc scenario.now.bound }
+    requires at { at ≤ length rows.now }
+    requires told { WasTold scenario.now (take at rows.now) told.old }
+    ensures exact { IfOk result (λ b. IsTrue b ↔ AreAccounted scenario.now (take at rows.now) rest.now (drop at rows.now)) }
+    ensures told { IfOk result (λ b. IsTrue b → WasTold scenario.now rows.now told.new) }
+{
+    if at == rows.len() {
+        return Ok(rest.is_empty());
+    }
+    let row = rows[at].letters();
+    let (piece, later) = rest.split_at(accesses(row, rest.len()));
+    if !holds_row(alloc, told, scenario, piece, row)? {
+        return Ok(false);
+    }
+    told.deliver(scenario, row);
+    let more = are_accounted(alloc, told, scenario, rows, at + 1, later)?;
+    Ok(more)
+}

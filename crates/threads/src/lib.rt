@@ -1,0 +1,19 @@
+//! Campaigns whose generals act in threads of their own, and the letters that a ledger accounts for.
+#![tactic(auto)]
+
+mod accounts;
+mod concluding;
+mod error;
+mod gate;
+mod gathering;
+mod holding;
+mod mustering;
+mod shared;
+mod taking;
+mod task;
+
+pub use error::MusterError;
+pub use gate::{Gate, Open};
+pub use gathering::gather;
+pub use mustering::{muster, muster_with};
+pub use shared::SharedBoard;

@@ -1,0 +1,49 @@
+ghost use Rattle.std.specs.Prelude.{◌≡◌, true, IfOk};
+ghost use Rattle.semantics.specs.Call.{fits};
+ghost use Rattle.semantics.specs.Replies.{words_in};
+ghost use Rattle.board.specs.Requests.{IsReplyTo};
+
+use board::Board;
+use semantics::{Reply, Request};
+use std::alloc::AllocError;
+use std::sync::{Mutex, Wait};
+
+/// A board that threads share, behind a lock. Whenever the lock is free, its ledger is legal from its opening words on:
+/// the type of the board keeps that, and so it is known of the board that is given back.
+#[derive(Drop)]
+pub struct SharedBoard {
+    board: Mutex<Board>,
+}
+
+impl SharedBoard {
+    /// Shares this board.
+    pub fn new(board: Board) -> SharedBoard {
+        SharedBoard {
+            board: Mutex::new(board),
+        }
+    }
+
+    /// Serves a general's request of a round, and enters it, while the lock is held. It waits for the lock.
+    ///
+    /// # Errors
+    ///
+    /// `AllocError` where the memory for the reply or the entry is refused; the board is then as it was.
+    pub fn apply<R: Wait>(
+        &self,
+        rt: &R,
+        general: u32,
+        round: u32,
+        request: Request,
+    ) -> Result<Reply, AllocError>
+        ensures fits { IfOk result (λ r. fits request (words_in r) ≡ true) }
+        ensures form { IfOk result (λ r. IsReplyTo request r) }
+    {
+        self.board.lock(rt).apply(general, round, request)
+    }
+
+    /// The board that was shared.
+    pub fn into_board(self) -> Board {
+        let SharedBoard { board } = self;
+        board.into_inner()
+    }
+}

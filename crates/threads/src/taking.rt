@@ -1,0 +1,83 @@
+//! Letters by round and general.
+ghost use Rattle.std.specs.Prelude.{◌≡◌, ◌+◌, ◌<◌, ◌≤◌, ◌∷◌, [], suc, length, MatchOption, IfOk, IfSome, slice_get};
+ghost use Rattle.std.specs.List.{remove};
+ghost use Rattle.world.specs.World.{each};
+ghost use Rattle.world.specs.Accounted.{letter_by, row_of};
+ghost use Rattle.threads.specs.Taking.{left_by, left_row, IsGrid};
+
+use round::{Letter, Round};
+use std::alloc::{AllocError, Global};
+
+/// Where the first letter of a general in a round stands.
+fn place_of(letters: &[Letter], general: u32, round: u32) -> Option<usize>
+    ensures within { IfSome result (λ i. i < length letters.now) }
+    ensures found { MatchOption result (letter_by general round letters.now ≡ None) (λ i. letter_by general round letters.now ≡ slice_get letters.now i) }
+    ensures left { IfSome result (λ i. left_by general round letters.now ≡ remove letters.now i) }
+{
+    for i in 0..letters.len() {
+        let letter = &letters[i];
+        if letter.general == general && letter.round == round {
+            return Some(i);
+        }
+    }
+    None
+}
+
+/// Takes out the first letter of a general in a round, where there is one.
+fn take(letters: &mut Vec<Letter>, general: u32, round: u32) -> Option<Letter>
+    ensures found { result ≡ letter_by general round letters.old.items }
+    ensures left { IfSome result (λ _. letters.new.items ≡ left_by general round letters.old.items) }
+    ensures fewer { IfSome result (λ _. length letters.new.items + 1 ≡ length letters.old.items) }
+{
+    match place_of(letters.as_slice(), general, round) {
+        Some(i) => Some(letters.remove(i)),
+        None => None,
+    }
+}
+
+/// Takes out the letters of a round, by general, where each has one.
+fn row(
+    alloc: Global,
+    letters: &mut Vec<Letter>,
+    generals: u32,
+    round: u32,
+) -> Result<Option<Vec<Letter>>, AllocError>
+    ensures row { IfOk result (λ o. MatchOption o (length (row_of generals round letters.old.items) < generals) (λ row. (row.items ≡ row_of generals round letters.old.items) × (length row.items ≡ generals))) }
+    ensures left { IfOk result (λ o. IfSome o (λ _. letters.new.items ≡ left_row generals round letters.old.items)) }
+    ensures fewer { IfOk result (λ o. IfSome o (λ _. length letters.new.items + generals ≡ length letters.old.items)) }
+{
+    let mut row = Vec::with_capacity(alloc, generals as usize)?;
+    for general in 0..generals {
+        match take(letters, general, round) {
+            Some(letter) => row.push(letter)?,
+            None => return Ok(None),
+        }
+    }
+    Ok(Some(row))
+}
+
+/// The letters by round and general, where there is one for each and no other.
+pub(crate) fn arrange(
+    alloc: Global,
+    letters: Vec<Letter>,
+    generals: u32,
+    rounds: u32,
+) -> Result<Option<Vec<Round>>, AllocError>
+    ensures grid { IfOk result (λ o. MatchOption o (¬ IsGrid generals rounds letters.items)
+        (λ rows. IsGrid generals rounds letters.items × (rows.items ≡ each rounds (λ r. row_of generals (suc r) letters.items ∷ [])))) }
+    ensures count { IfOk result (λ o. IfSome o (λ rows. length rows.items ≡ rounds)) }
+{
+    let mut left = letters;
+    let mut rows = Vec::with_capacity(alloc, rounds as usize)?;
+    for r in 0..rounds {
+        match row(alloc, &mut left, generals, r + 1)? {
+            Some(letters) => rows.push(Round { letters })?,
+            None => return Ok(None),
+        }
+    }
+    if left.is_empty() {
+        Ok(Some(rows))
+    } else {
+        Ok(None)
+    }
+}

@@ -1,0 +1,91 @@
+//! What a general does in a round.
+ghost use Rattle.std.specs.Prelude.{◌≡◌, ◌<◌, ◌≤◌, List};
+ghost use Rattle.round.specs.Letters.{Letter as Written};
+ghost use Rattle.round.specs.Told.{WasTold};
+
+use round::{Letter, Scenario, Seat, Server, Told, live, loyal_letter};
+use std::alloc::{AllocError, Global};
+use std::marker::Model;
+
+/// A general's task in a round: to run his program, or, where he is loyal, to relay what he was told. It is seen as his relay.
+#[derive(Drop)]
+pub(crate) struct Task {
+    program: Seat,
+    context: Vec<u8>,
+    general: u32,
+    round: u32,
+    patience: Option<u32>,
+}
+
+impl Model for Task {
+    ghost use Rattle.std.specs.Prelude.{◌≡◌, length};
+    ghost use Rattle.label.specs.declared.shape.Shape.{Shape as Relayed};
+    ghost use Rattle.label.specs.Relay.{IsShape};
+    ghost use Rattle.round.specs.Contexts.{IsToldTo, shape_told};
+
+    ghost Value = { Relayed };
+
+    ghost view = { λ t. shape_told t.general t.round t.context.items };
+
+    ghost invariant = { λ t. (length t.context.items ≡ 4096) × IsToldTo t.general t.round t.context.items × IsShape (shape_told t.general t.round t.context.items) };
+}
+
+impl Task {
+    /// A general's task in the round to come.
+    ///
+    /// # Errors
+    ///
+    /// `AllocError` where the memory for the context is refused.
+    pub(crate) fn new(
+        alloc: Global,
+        scenario: &Scenario,
+        told: &Told,
+        general: u8,
+    ) -> Result<Task, AllocError>
+        requires told { (before : List (List Written)) × WasTold scenario.now before told.now }
+        requires left { told.now.rounds ≤ scenario.now.bound }
+        requires general { general < scenario.now.generals }
+    {
+        let _few = scenario.bound();
+        let context = told.context(alloc, scenario, general)?;
+        let program = scenario.seat(general).copy()?;
+        Ok(Task {
+            program,
+            context,
+            general: u32::from(general),
+            round: u32::from(told.rounds()) + 1,
+            patience: scenario.patience(),
+        })
+    }
+
+    /// The general's letter. His program's requests go to the server.
+    ///
+    /// # Errors
+    ///
+    /// `AllocError` where memory is refused.
+    pub(crate) fn letter<S: Server>(
+        self,
+        alloc: Global,
+        server: &mut S,
+    ) -> Result<Letter, AllocError> {
+        let Task {
+            program,
+            context,
+            general,
+            round,
+            patience,
+        } = self;
+        match program.program() {
+            Some(program) => live(
+                alloc,
+                server,
+                general,
+                round,
+                program.clone()?,
+                context,
+                patience,
+            ),
+            None => loyal_letter(alloc, general, round, context),
+        }
+    }
+}

@@ -1,0 +1,79 @@
+-- Lines behind lines: rows, letters and rounds, one more of each.
+use Rattle.std.proofs.Common.{◌≡◌, ℕ, suc, ◌+◌, ◌<◌, ◌≤◌, Bool, List, [], ◌∷◌, ◌++◌, refl, sym, ap, subst, ◌∙◌, append_assoc, append-nil, map, flat_map, length, take, get_or, arith, Option, None, Some}
+use Rattle.std.specs.Prelude.{decimal, codes, filter, ◌==◌}
+use Rattle.std.proofs.lemmas.List.{take_more, length-take-le}
+use Rattle.std.proofs.lemmas.Grind.{flat_map-append}
+use Rattle.std.specs.Option.{option_map}
+use Rattle.insn.specs.declared.insn.Insn.{Insn}
+use Rattle.board.specs.Board.{Access}
+use Rattle.round.specs.Letters.{Letter}
+use Rattle.trace.specs.Sinks.{Wrote}
+use Rattle.trace.specs.Text.{Word, Line, further, text, place, access_line, row_lines, letter_line, letter_lines, round_lines}
+use Rattle.trace.specs.Lines.{author_line, one_round, round_line, row_line}
+use Rattle.trace.proofs.WrittenLemmas.{further-append, then_wrote, wrote-same}
+use Rattle.trace.proofs.LineLemmas.{text-append}
+
+-- lines, and others behind them
+pub then_lines : {a b c : Option (List ℕ)} {f g h : Bool} (ls ks all : List Line) → all ≡ ls ++ ks → Wrote a f (text ls) b g → Wrote b g (text ks) c h → Wrote a f (text all) c h
+then_lines ls ks all e v w = wrote-same _ _ (sym (ap text e ∙ text-append ls ks)) (then_wrote v w)
+
+-- one row more
+more_rows : (rank : ℕ) (rows : List (List (Option ℕ))) (row : List (Option ℕ)) → row_lines rank (rows ++ row ∷ []) ≡ row_lines rank rows ++ row_line (rank + length rows) row ∷ []
+more_rows rank [] row = ap (λ r. row_line r row ∷ []) (omega arith)
+more_rows rank (x ∷ rows) row = ap (λ ls. row_line rank x ∷ ls) (more_rows (suc rank) rows row ∙ ap (λ r. row_lines (suc rank) rows ++ row_line r row ∷ []) (omega arith))
+
+pub rows_more : (rows : List (List (Option ℕ))) (i : ℕ) (d : List (Option ℕ)) → i < length rows → row_lines 0 (take (i + 1) rows) ≡ row_lines 0 (take i rows) ++ row_line i (get_or rows i d) ∷ []
+rows_more rows i d lt =
+    ap (row_lines 0) (take_more rows i d lt) ∙ more_rows 0 (take i rows) (get_or rows i d)
+    ∙ ap (λ r. row_lines 0 (take i rows) ++ row_line r (get_or rows i d) ∷ []) (let e : length (take i rows) ≡ i = length-take-le i rows (omega arith) in let z : 0 + length (take i rows) ≡ i = omega arith in z)
+
+-- one letter more
+pub letters_more : (letters : List Letter) (i : ℕ) (x : Letter) → i < length letters → x ≡ get_or letters i x → flat_map letter_lines (take (i + 1) letters) ≡ flat_map letter_lines (take i letters) ++ letter_lines x
+letters_more letters i x lt is =
+    ap (flat_map letter_lines) (take_more letters i x lt ∙ ap (λ y. take i letters ++ y ∷ []) (sym is)) ∙ flat_map-append letter_lines (take i letters) (x ∷ [])
+    ∙ ap (λ ls. flat_map letter_lines (take i letters) ++ ls) (append-nil (letter_lines x))
+
+-- one round more
+more_rounds : (r : ℕ) (xs : List Access) (rounds : List (List Letter)) (letters : List Letter) → round_lines r xs (rounds ++ letters ∷ []) ≡ round_lines r xs rounds ++ one_round (r + length rounds) xs letters
+more_rounds r xs [] letters =
+    ap (λ ls. round_line r ∷ (map access_line (filter (λ a. a.round == r) xs) ++ ls)) (append-nil (flat_map letter_lines letters))
+    ∙ ap (λ k. one_round k xs letters) (let e : r ≡ r + 0 = omega arith in e)
+more_rounds r xs (first ∷ rounds) letters =
+    let mine = map access_line (filter (λ a. a.round == r) xs) in
+    let here = flat_map letter_lines first in
+    let last = one_round (r + length (first ∷ rounds)) xs letters in
+    let e : round_lines (suc r) xs (rounds ++ letters ∷ []) ≡ round_lines (suc r) xs rounds ++ last =
+    more_rounds (suc r) xs rounds letters ∙ ap (λ k. round_lines (suc r) xs rounds ++ one_round k xs letters) (omega arith) in
+    ap (λ ls. round_line r ∷ ls)
+    (ap (λ ls. mine ++ (here ++ ls)) e ∙ ap (λ ls. mine ++ ls) (sym (append_assoc here (round_lines (suc r) xs rounds) last)) ∙ sym (append_assoc mine (here ++ round_lines (suc r) xs rounds) last))
+
+pub rounds_more : (xs : List Access) (rounds : List (List Letter)) (i : ℕ) (d : List Letter) → i < length rounds
+    → round_lines 1 xs (take (i + 1) rounds) ≡ round_lines 1 xs (take i rounds) ++ one_round (i + 1) xs (get_or rounds i d)
+rounds_more xs rounds i d lt =
+    ap (round_lines 1 xs) (take_more rounds i d lt) ∙ more_rounds 1 xs (take i rounds) (get_or rounds i d)
+    ∙ ap (λ k. round_lines 1 xs (take i rounds) ++ one_round k xs (get_or rounds i d)) (let e = length-take-le i rounds (omega arith) in omega arith)
+
+-- the head's lines, part by part
+pub head_parts : (v w : Word) (ws fs : List Word) → (((v ++ 10 ∷ []) ++ (w ++ further ws)) ++ further fs) ++ 10 ∷ [] ≡ v ++ 10 ∷ ((w ++ further (ws ++ fs)) ++ 10 ∷ [])
+head_parts v w ws fs = rw (further-append ws fs) (simp append_assoc)
+
+-- a chronicle's lines, part by part
+pub chronicle_parts : (xs ys zs ws : List Line) → ((text xs ++ text ys) ++ text zs) ++ text ws ≡ text (xs ++ (ys ++ (zs ++ ws)))
+chronicle_parts xs ys zs ws = rw (text-append xs (ys ++ (zs ++ ws)), text-append ys (zs ++ ws), text-append zs ws) (simp append_assoc)
+
+-- a round's lines behind each other
+pub round_parts : (r : ℕ) (xs : List Access) (letters : List Letter) → (text (round_line r ∷ []) ++ text (map access_line (filter (λ a. a.round == r) xs))) ++ text (flat_map letter_lines letters) ≡ text (one_round r xs letters)
+round_parts r xs letters =
+    ap (λ t. t ++ text (flat_map letter_lines letters)) (sym (text-append (round_line r ∷ []) (map access_line (filter (λ a. a.round == r) xs))))
+    ∙ sym (text-append (round_line r ∷ map access_line (filter (λ a. a.round == r) xs)) (flat_map letter_lines letters))
+
+author_is : (g : ℕ) (program : Option (List Insn)) (steps : ℕ) → author_line g (option_map (λ _. steps) program) ≡ letter_line g program steps
+author_is g None steps = refl
+author_is g (Some program) steps = refl
+
+-- a letter's lines
+pub letter_parts : (l : Letter) (g : ℕ) (o : Option ℕ) (rows : List (List (Option ℕ))) → g ≡ l.general → o ≡ option_map (λ _. l.steps) l.program → rows ≡ l.outbox.rows
+    → text (author_line g o ∷ []) ++ text (row_lines 0 rows) ≡ text (letter_lines l)
+letter_parts l g o rows eg eo er =
+    (λ i. text (author_line (eg i) (eo i) ∷ []) ++ text (row_lines 0 (er i)))
+    ∙ (ap (λ line. text (line ∷ []) ++ text (row_lines 0 l.outbox.rows)) (author_is l.general l.program l.steps) ∙ sym (text-append (letter_line l.general l.program l.steps ∷ []) (row_lines 0 l.outbox.rows)))

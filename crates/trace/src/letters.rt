@@ -1,0 +1,129 @@
+//! The letters of a campaign and what the lieutenants decided, written to a sink.
+ghost use Rattle.std.specs.Prelude.{◌≡◌, ◌<◌, [], flat_map, length, slice_get, slice_index_or};
+ghost use Rattle.std.specs.Option.{option_map};
+ghost use Rattle.round.specs.Scenario.{is_traitor};
+ghost use Rattle.label.specs.Lieutenants.{lieutenants};
+ghost use Rattle.trace.specs.Sinks.{Wrote};
+ghost use Rattle.trace.specs.Text.{text, row_lines, letter_lines, round_lines, decision_lines};
+ghost use Rattle.trace.specs.Lines.{decided_lines, one_round};
+
+use crate::lines::{put_accesses, put_author, put_decision, put_round, put_row};
+use crate::sink::Sink;
+use board::Access;
+use outbox::Outbox;
+use round::{Letter, Round, Scenario};
+
+/// The lines of an outbox's rows, by rank.
+fn put_rows<S: Sink>(sink: &mut S, outbox: &Outbox)
+    ensures { Wrote (S.contents sink.old) (S.has_failed sink.old) (text (row_lines 0 outbox.now.rows)) (S.contents sink.new) (S.has_failed sink.new) }
+{
+    for rank in 0..outbox.labels() {
+        put_row(sink, outbox, rank);
+    }
+}
+
+/// Whose letter it is.
+fn general_of(letter: &Letter) -> u32
+    ensures { result ≡ letter.now.general }
+{
+    letter.general
+}
+
+/// Whom it tells what.
+fn outbox_of(letter: &Letter) -> &Outbox
+    ensures { result.now ≡ letter.now.outbox }
+{
+    &letter.outbox
+}
+
+/// The steps of a traitor's letter; none where its general is loyal.
+fn steps_of(letter: &Letter) -> Option<u32>
+    ensures { result ≡ option_map (λ _. letter.now.steps) letter.now.program }
+{
+    match letter.program.program() {
+        Some(_) => Some(letter.steps),
+        None => None,
+    }
+}
+
+/// The lines of a letter.
+fn put_letter<S: Sink>(sink: &mut S, letter: &Letter)
+    ensures { Wrote (S.contents sink.old) (S.has_failed sink.old) (text (letter_lines letter.now)) (S.contents sink.new) (S.has_failed sink.new) }
+{
+    put_author(sink, general_of(letter), steps_of(letter));
+    put_rows(sink, outbox_of(letter));
+}
+
+/// The lines of a round's letters, in their order.
+fn put_letters<S: Sink>(sink: &mut S, letters: &[Letter])
+    ensures { Wrote (S.contents sink.old) (S.has_failed sink.old) (text (flat_map letter_lines letters.now)) (S.contents sink.new) (S.has_failed sink.new) }
+{
+    for letter in letters {
+        put_letter(sink, letter);
+    }
+}
+
+/// The lines of a round: its own, its accesses and its letters.
+fn put_one<S: Sink>(sink: &mut S, round: u64, accesses: &[Access], letters: &[Letter])
+    ensures { Wrote (S.contents sink.old) (S.has_failed sink.old) (text (one_round round accesses.now letters.now)) (S.contents sink.new) (S.has_failed sink.new) }
+{
+    put_round(sink, round);
+    put_accesses(sink, round, accesses);
+    put_letters(sink, letters);
+}
+
+/// The letters of a round, counted from 0.
+fn letters_of(rounds: &[Round], number: usize) -> &[Letter]
+    requires { number < length rounds.now }
+    ensures { result.now ≡ slice_index_or rounds.now number [] }
+{
+    rounds[number].letters()
+}
+
+/// The lines of the rounds from the first on: of each its own, its accesses and its letters.
+pub fn put_rounds<S: Sink>(sink: &mut S, accesses: &[Access], rounds: &[Round])
+    ensures { Wrote (S.contents sink.old) (S.has_failed sink.old) (text (round_lines 1 accesses.now rounds.now)) (S.contents sink.new) (S.has_failed sink.new) }
+{
+    for number in 0..rounds.len() {
+        put_one(
+            sink,
+            number as u64 + 1,
+            accesses,
+            letters_of(rounds, number),
+        );
+    }
+}
+
+/// The decision at this place, where there is one.
+fn decision_at(decisions: &[u32], place: usize) -> Option<u32>
+    ensures { result ≡ slice_get decisions.now place }
+{
+    decisions.get(place).copied()
+}
+
+/// The line of a lieutenant's decision, where he has one.
+fn put_decided<S: Sink>(sink: &mut S, scenario: &Scenario, general: u8, decision: Option<u32>)
+    requires { general < scenario.now.generals }
+    ensures { Wrote (S.contents sink.old) (S.has_failed sink.old) (text (decided_lines scenario.now general decision)) (S.contents sink.new) (S.has_failed sink.new) }
+{
+    match decision {
+        Some(decision) => {
+            let is_traitor = scenario.seat(general).program().is_some();
+            put_decision(sink, general as u32, is_traitor, decision);
+        }
+        None => {}
+    }
+}
+
+/// The lines of the lieutenants' decisions, ascending by number.
+pub fn put_decisions<S: Sink>(sink: &mut S, scenario: &Scenario, decisions: &[u32])
+    ensures { Wrote (S.contents sink.old) (S.has_failed sink.old) (text (decision_lines scenario.now (lieutenants scenario.now.generals scenario.now.commander) decisions.now)) (S.contents sink.new) (S.has_failed sink.new) }
+{
+    let mut place = 0;
+    for general in 0..scenario.generals() {
+        if general != scenario.commander() {
+            put_decided(sink, scenario, general, decision_at(decisions, place));
+            place += 1;
+        }
+    }
+}

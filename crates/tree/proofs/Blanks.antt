@@ -1,0 +1,88 @@
+-- A level in which nothing is told any more.
+use Rattle.std.proofs.Common.{ℕ, zero, suc, ◌+◌, ◌-◌, ◌<◌, ◌≤◌, ◌≡◌, List, [], ◌∷◌, ◌++◌, map, length, replicate, drop, refl, sym, ap, subst, ◌∙◌, arith, Some, None, Option}
+use Rattle.std.proofs.Math.ListN.{set}
+use Rattle.std.specs.Prelude.{slice_get, get_or, Vec}
+use Rattle.std.specs.declared.alloc.Global.{Global}
+use Rattle.std.proofs.lemmas.Bool.{eq-eqb, ne_eqb}
+use Rattle.std.proofs.lemmas.List.{with_items_is, length-replicate}
+use Rattle.std.specs.Vec.{with_items}
+use Rattle.label.specs.Labels.{labels}
+use Rattle.label.specs.Oral.{Messages}
+use Rattle.label.specs.Space.{IsSpace, labels_of}
+use Rattle.label.specs.declared.space.Space.{Space}
+use Rattle.label.proofs.Listing.{proved_labels_are_exact}
+use Rattle.tree.specs.Kept.{IsFilled, levels_from, blank}
+use Rattle.tree.specs.Fields.{kept, IsWhole}
+use Rattle.tree.proofs.Also.{row-set}
+use Rattle.tree.proofs.Levels.{row-long}
+
+-- labels of a length are that long
+abbrev AreLong : ℕ → ℕ → ℕ → Type 0
+AreLong n c p = (j i : ℕ) (w : List ℕ) → slice_get (labels n c p j) i ≡ Some w → length w ≡ j
+
+pub blank-here : (M : Messages) (k : ℕ) (w : List ℕ) (p : ℕ) → length w ≡ k → blank M k w p ≡ None
+unfolding blank
+blank-here M k w p e = rw (eq-eqb (length w) k e) refl
+
+pub blank-other : (M : Messages) (k : ℕ) (w : List ℕ) (p : ℕ) → (length w ≡ k → ⊥) → blank M k w p ≡ M w p
+unfolding blank
+blank-other M k w p ne = rw (ne_eqb (length w) k ne) refl
+
+all-blank : (M : Messages) (k p : ℕ) (ws : List (List ℕ)) → ((i : ℕ) (w : List ℕ) → slice_get ws i ≡ Some w → length w ≡ k) → map (λ w. blank M k w p) ws ≡ replicate (length ws) None
+all-blank M k p [] long = refl
+all-blank M k p (w ∷ ws) long = (λ i. blank-here M k w p (long 0 w refl) i ∷ all-blank M k p ws (λ j u e. long (suc j) u e) i)
+
+none-blank : (M : Messages) (k p : ℕ) (ws : List (List ℕ)) → ((i : ℕ) (w : List ℕ) → slice_get ws i ≡ Some w → length w ≡ k → ⊥) → map (λ w. blank M k w p) ws ≡ map (λ w. M w p) ws
+none-blank M k p [] long = refl
+none-blank M k p (w ∷ ws) long = (λ i. blank-other M k w p (long 0 w refl) i ∷ none-blank M k p ws (λ j u e. long (suc j) u e) i)
+
+-- levels of other lengths stay
+levels-kept : (n c p : ℕ) (M : Messages) (k j l : ℕ) → AreLong n c p → ((q : ℕ) → j ≤ q → q < j + l → q ≡ k → ⊥) → levels_from n c p (blank M k) j l ≡ levels_from n c p M j l
+unfolding levels_from
+levels-kept n c p M k j zero long away = refl
+levels-kept n c p M k j (suc l) long away =
+    (λ i. none-blank M k p (labels n c p j) (λ q w at e. away j (omega arith) (omega arith) (sym (long j q w at) ∙ e)) i ∷ levels-kept n c p M k (suc j) l long (λ q low high. away q (omega arith) (omega arith)) i)
+
+-- the level of that length alone is blank
+levels-blank : (n c p : ℕ) (M : Messages) (k l i j : ℕ) → AreLong n c p → i < l → k + i ≡ j → levels_from n c p (blank M j) k l ≡ set (levels_from n c p M k l) i (replicate (length (labels n c p j)) None)
+unfolding levels_from
+levels-blank n c p M k zero i j long less e = absurd (omega arith)
+levels-blank n c p M k (suc l) zero j long less e =
+    let same : k ≡ j = omega arith in
+    subst (λ (q : ℕ). levels_from n c p (blank M q) k (suc l) ≡ set (levels_from n c p M k (suc l)) 0 (replicate (length (labels n c p q)) None)) same
+    (λ i. all-blank M k p (labels n c p k) (λ q w at. long k q w at) i ∷ levels-kept n c p M k (suc k) l long (λ q low high e. absurd (omega arith)) i)
+levels-blank n c p M k (suc l) (suc i) j long less e =
+    (λ q. none-blank M j p (labels n c p k) (λ r w at same. let h = long k r w at in absurd (omega arith)) q ∷ levels-blank n c p M (suc k) l i j long (omega arith) (omega arith) q)
+
+long-labels : (s : Space) → IsSpace s → AreLong s.generals s.commander s.general
+long-labels s is j q w at = (proved_labels_are_exact.only s.generals s.commander s.general j q w is.commander is.general is.lieutenant at).2
+
+-- without a level of that length nothing changes
+pub away-blank : (s : Space) (m : ℕ) (ls : List (Vec (Option ℕ) Global)) (M : Messages) (k : ℕ) → IsWhole s m ls → IsFilled (kept s m ls) M → ((q : ℕ) → 1 ≤ q → q < m + 2 → q ≡ k → ⊥) → IsFilled (kept s m ls) (blank M k)
+away-blank s m ls M k i f away = f ∙ sym (levels-kept s.generals s.commander s.general M k 1 (m + 1) (long-labels s i.space) (λ q low high. away q low (omega arith)))
+
+-- the row of a length is written over with nothing
+pub row-blank : (s : Space) (m : ℕ) (ls : List (Vec (Option ℕ) Global)) (M : Messages) (k : ℕ) (row new : Vec (Option ℕ) Global) → IsWhole s m ls → IsFilled (kept s m ls) M → 0 < k → k ≤ m + 1 → row ≡ get_or ls (k - 1) row → new.items ≡ replicate (length row.items) None
+    → IsFilled (kept s m (set ls (k - 1) new)) (blank M k)
+row-blank s m ls M k row new i f some short er en =
+    row-set ls (k - 1) new
+    ∙ (ap (set (map (λ l. l.items) ls) (k - 1)) (en ∙ ap (λ (j : ℕ). replicate j None) (row-long s m ls k row i some short er))
+    ∙ (ap (λ ys. set ys (k - 1) (replicate (length (labels_of s k)) None)) f
+    ∙ sym (levels-blank s.generals s.commander s.general M 1 (m + 1) (k - 1) k (long-labels s i.space) (omega arith) (omega arith))))
+
+-- and the tree is whole again
+pub whole-blank : (s : Space) (m : ℕ) (ls : List (Vec (Option ℕ) Global)) (k : ℕ) (row new : Vec (Option ℕ) Global) → IsWhole s m ls → 0 < k → k ≤ m + 1 → row ≡ get_or ls (k - 1) row → new.items ≡ replicate (length row.items) None → IsWhole s m (set ls (k - 1) new)
+whole-blank s m ls k row new i some short er en = record { space = i.space; small = i.small; M = blank i.M k; filled = row-blank s m ls i.M k row new i i.filled some short er en }
+
+-- the row's vector, written over
+pub with-blank : (row : Vec (Option ℕ) Global) (old new : List (Option ℕ)) → old ≡ row.items → new ≡ replicate (length old) None → (with_items row new).items ≡ replicate (length row.items) None
+with-blank row old new eo en =
+    let e : new ≡ replicate (length row.items) None = en ∙ ap (λ xs. replicate (length xs) None) eo in
+    let long : length new ≡ length row.items = ap length e ∙ length-replicate (length row.items) None in
+    with_items_is row new (let o = row.ok in omega arith) ∙ e
+
+-- one place more
+pub none-more : (n : ℕ) (d : List (Option ℕ)) → n < length d → set (replicate n None ++ drop n d) n None ≡ replicate (suc n) None ++ drop (suc n) d
+none-more n [] less = absurd (omega arith)
+none-more zero (x ∷ d) less = refl
+none-more (suc n) (x ∷ d) less = ap (λ xs. None ∷ xs) (none-more n d (omega arith))
