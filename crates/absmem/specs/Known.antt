@@ -28,7 +28,7 @@ abbrev pub IsFiled : ℕ → Spill → Type 0
 IsFiled b Free = Unit {0}
 IsFiled b (Whole shift region offset) = (shift < 8) × (8 * b + shift + 8 ≤ 512)
 
-pub record IsKept (bytes : List Bool) (spills : List Spill) : Type 0 where
+pub record IsKnownStack (bytes : List Bool) (spills : List Spill) : Type 0 where
   pub cells : length bytes ≡ 512
   pub blocks : length spills ≡ 64
   pub filed : (b : ℕ) → b < 64 → IsFiled b (spill_at spills b)

@@ -18,13 +18,13 @@ pub struct AbsStack {
 }
 
 impl Model for AbsStack {
-    ghost use Rattle.absmem.specs.Known.{Known, IsKept};
+    ghost use Rattle.absmem.specs.Known.{Known, IsKnownStack};
 
     ghost Value = { Known };
 
     ghost view = { λ s. record { bytes = s.bytes; spills = s.spills } };
 
-    ghost invariant = { λ s. IsKept s.bytes s.spills };
+    ghost invariant = { λ s. IsKnownStack s.bytes s.spills };
 
     ghost inverse = { λ k. record { bytes = k.bytes; spills = k.spills } };
 }

@@ -2,13 +2,13 @@
 use Rattle.std.proofs.Common.{◌≡◌, ℕ, List, [], ◌∷◌, ◌++◌, sym, ap, subst, ◌∙◌}
 use Rattle.board.specs.Board.{Access, IsBoard, reply, next, words_after, IsLegal}
 use Rattle.board.specs.Requests.{IsRequest}
-use Rattle.board.specs.Ledger.{IsKept}
+use Rattle.board.specs.Ledger.{IsRecorded}
 use Rattle.board.proofs.Serving.{next_board}
 use Rattle.board.proofs.Histories.{words_after-snoc, IsLegal-snoc}
 
 -- what is kept stays so with an entry that the board answered
 pub kept_next : (opening words : List ℕ) (ledger more : List Access) (after : List ℕ) (entry : Access) → more ≡ ledger ++ entry ∷ [] → entry.reply ≡ reply words entry.request →
-    after ≡ next words entry.request → IsRequest entry.request → IsKept opening words ledger → IsKept opening after more
+    after ≡ next words entry.request → IsRequest entry.request → IsRecorded opening words ledger → IsRecorded opening after more
 kept_next opening words ledger more after entry pushed answered changed within k = record {
   begun = k.begun;
   whole = subst (λ (ws : List ℕ). IsBoard ws) (sym changed) (next_board words entry.request k.whole within);
@@ -18,7 +18,7 @@ kept_next opening words ledger more after entry pushed answered changed within k
 }
 
 -- with no access yet
-pub kept_begun : (words : List ℕ) (ledger : List Access) → ledger ≡ [] → IsBoard words → IsKept words words ledger
+pub kept_begun : (words : List ℕ) (ledger : List Access) → ledger ≡ [] → IsBoard words → IsRecorded words words ledger
 kept_begun words ledger none board = record {
   begun = board;
   whole = board;

@@ -2,13 +2,13 @@
 use Rattle.std.specs.Prelude.{ℕ, ◌≡◌, List}
 use Rattle.board.specs.Board.{IsBoard, Access, IsLegal, words_after}
 
-pub record Kept : Type 0 where
+pub record RecordedBoard : Type 0 where
   pub opening : List ℕ
   pub words : List ℕ
   pub ledger : List Access
 
 -- the ledger is legal from the opening words on, and leaves the words
-pub record IsKept (opening words : List ℕ) (ledger : List Access) : Type 0 where
+pub record IsRecorded (opening words : List ℕ) (ledger : List Access) : Type 0 where
   pub begun : IsBoard opening
   pub whole : IsBoard words
   pub legal : IsLegal opening ledger

@@ -20,13 +20,13 @@ pub struct Board {
 }
 
 impl Model for Board {
-    ghost use Rattle.board.specs.Ledger.{Kept, IsKept};
+    ghost use Rattle.board.specs.Ledger.{RecordedBoard, IsRecorded};
 
-    ghost Value = { Kept };
+    ghost Value = { RecordedBoard };
 
     ghost view = { λ b. record { opening = b.opening; words = b.words; ledger = b.ledger.items } };
 
-    ghost invariant = { λ b. IsKept b.opening b.words b.ledger.items };
+    ghost invariant = { λ b. IsRecorded b.opening b.words b.ledger.items };
 }
 
 impl Board {

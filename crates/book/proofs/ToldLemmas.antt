@@ -4,7 +4,7 @@ use Rattle.std.specs.Prelude.{find, bytes_eq, is_some, option_map, ◌==◌}
 use Rattle.std.specs.List.{list_any}
 use Rattle.std.proofs.lemmas.Bool.{cases_Bool, cond-true, cond-false, and_from, eq-eqb, or_parts, ne_eqb, true≢false}
 use Rattle.std.proofs.lemmas.Slice.Eq.{bytes_eq-Decides}
-use Rattle.tree.specs.Kept.{told_also}
+use Rattle.tree.specs.LieutenantTree.{told_also}
 use Rattle.book.specs.declared.message.Message.{Message}
 use Rattle.book.specs.Table.{is_about, told}
 use Rattle.book.proofs.WholeLemmas.{bytes_sym}

@@ -10,7 +10,7 @@ use Rattle.label.specs.Labels.{on, others, labels}
 use Rattle.label.specs.Oral.{Messages, BeginsWith}
 use Rattle.label.proofs.Bounds.{others_here}
 use Rattle.label.proofs.Ranks.{others-place}
-use Rattle.tree.specs.Kept.{Kept, IsFilled, IsPlace, SameCampaign, levels_from, silence, told_also}
+use Rattle.tree.specs.LieutenantTree.{LieutenantTree, IsFilled, IsPlace, SameCampaign, levels_from, silence, told_also}
 use Rattle.book.specs.declared.message.Message.{Message}
 use Rattle.book.specs.Table.{MessageTable, is_about, told}
 use Rattle.book.specs.Grammar.{is_place}
@@ -22,9 +22,9 @@ use Rattle.book.proofs.ToldLemmas.{told_also_is, told_others}
 use Rattle.book.proofs.WholeLemmas.{place_message}
 
 -- a tree by its parts
-pub tree_is : (t : Kept) (n m c p : ℕ) (M : Messages) → t.generals ≡ n → t.bound ≡ m → t.commander ≡ c → t.general ≡ p → IsFilled t M → t ≡ tree_of n m c M p
+pub tree_is : (t : LieutenantTree) (n m c p : ℕ) (M : Messages) → t.generals ≡ n → t.bound ≡ m → t.commander ≡ c → t.general ≡ p → IsFilled t M → t ≡ tree_of n m c M p
 tree_is t n m c p M en em ec ep full =
-    let T : List (List (Option ℕ)) → Kept = λ ls. record { generals = t.generals; bound = t.bound; commander = t.commander; general = t.general; levels = ls } in
+    let T : List (List (Option ℕ)) → LieutenantTree = λ ls. record { generals = t.generals; bound = t.bound; commander = t.commander; general = t.general; levels = ls } in
     rw (← en, ← em, ← ec, ← ep) (ap T full)
 
 map_same : (M N : Messages) (p : ℕ) → ((w : List ℕ) → M w p ≡ N w p) → (ws : List (List ℕ)) → map (λ w. M w p) ws ≡ map (λ w. N w p) ws
@@ -39,18 +39,18 @@ levels_same n c p M N k (suc l) same = rw (map_same M N p same (labels n c p k),
 -- a tree has no more of the messages than its lieutenant's
 pub tree_same : (n m c p : ℕ) (M N : Messages) → ((w : List ℕ) → M w p ≡ N w p) → tree_of n m c M p ≡ tree_of n m c N p
 tree_same n m c p M N same =
-    let T : List (List (Option ℕ)) → Kept = λ ls. record { generals = n; bound = m; commander = c; general = p; levels = ls } in
+    let T : List (List (Option ℕ)) → LieutenantTree = λ ls. record { generals = n; bound = m; commander = c; general = p; levels = ls } in
     ap T (levels_same n c p M N 1 (m + 1) same)
 
 -- an element of a map is written, and the others agree
-set_map : (F G : ℕ → Kept) (ps : List ℕ) (i p : ℕ) (y : Kept) → slice_get ps i ≡ Some p → y ≡ G p → ((j q : ℕ) → slice_get ps j ≡ Some q → j ≢ i → F q ≡ G q) → set (map F ps) i y ≡ map G ps
+set_map : (F G : ℕ → LieutenantTree) (ps : List ℕ) (i p : ℕ) (y : LieutenantTree) → slice_get ps i ≡ Some p → y ≡ G p → ((j q : ℕ) → slice_get ps j ≡ Some q → j ≢ i → F q ≡ G q) → set (map F ps) i y ≡ map G ps
 set_map F G [] i p y at e same = cc
 set_map F G (x ∷ xs) zero p y at e same =
     let here : x ≡ p = cc in
     let first : y ≡ G x = e ∙ ap G (sym here) in
     rw (first, rest F G xs (λ j q h. same (suc j) q h (λ z. absurd (omega arith)))) refl
   where
-    rest : (F G : ℕ → Kept) (ps : List ℕ) → ((j q : ℕ) → slice_get ps j ≡ Some q → F q ≡ G q) → map F ps ≡ map G ps
+    rest : (F G : ℕ → LieutenantTree) (ps : List ℕ) → ((j q : ℕ) → slice_get ps j ≡ Some q → F q ≡ G q) → map F ps ≡ map G ps
     rest F G [] same = refl
     rest F G (x ∷ xs) same = rw (same 0 x refl, rest F G xs (λ j q h. same (suc j) q h)) refl
 set_map F G (x ∷ xs) (suc i) p y at e same =
@@ -62,12 +62,12 @@ pub lieutenant_at : (n c p place : ℕ) → p < n → p ≢ c → place ≡ leng
 lieutenant_at n c p place within ne e = others_here n (c ∷ []) place p within (or_from (c == p) false (ne_eqb c p (λ h. ne (sym h))) refl) e
 
 -- his tree stands there too
-pub tree_at : (n m c p place : ℕ) (M : Messages) (trees : List Kept) → p < n → p ≢ c → place ≡ length (others p (c ∷ [])) → trees ≡ map (tree_of n m c M) (lieutenants n c) → slice_get trees place ≡ Some (tree_of n m c M p)
+pub tree_at : (n m c p place : ℕ) (M : Messages) (trees : List LieutenantTree) → p < n → p ≢ c → place ≡ length (others p (c ∷ [])) → trees ≡ map (tree_of n m c M) (lieutenants n c) → slice_get trees place ≡ Some (tree_of n m c M p)
 tree_at n m c p place M trees within ne e is =
     ap (λ xs. slice_get xs place) is ∙ (slice_get-map (tree_of n m c M) (lieutenants n c) place ∙ ap (option_map (tree_of n m c M)) (lieutenant_at n c p place within ne e))
 
 -- a message more is written into the tree of its receiver
-pub written : (n m c place : ℕ) (messages : List Message) (said : Message) (trees : List Kept) (tree : Kept) → said.receiver < n → said.receiver ≢ c → place ≡ length (others said.receiver (c ∷ [])) → list_any (is_about said.label said.receiver) messages ≡ false
+pub written : (n m c place : ℕ) (messages : List Message) (said : Message) (trees : List LieutenantTree) (tree : LieutenantTree) → said.receiver < n → said.receiver ≢ c → place ≡ length (others said.receiver (c ∷ [])) → list_any (is_about said.label said.receiver) messages ≡ false
     → trees ≡ map (tree_of n m c (told messages)) (lieutenants n c) → tree ≡ tree_of n m c (told_also (told messages) said.label (Some said.order)) said.receiver
     → set trees place tree ≡ map (tree_of n m c (told (messages ++ said ∷ []))) (lieutenants n c)
 written n m c place messages said trees tree within ne e fresh is new =
@@ -87,7 +87,7 @@ place_of_tree t M w p e =
     apart (x ∷ xs) p c b o = λ same. eqb-false x p (or_parts (x == p) (on xs p) o).0 (b ∙ sym same)
 
 -- one lieutenant more
-pub tree_more : (n m c p : ℕ) (M : Messages) (trees longer : List Kept) (tree : Kept) → p ≢ c → trees ≡ map (tree_of n m c M) (others p (c ∷ [])) → tree ≡ tree_of n m c M p → longer ≡ trees ++ tree ∷ [] → longer ≡ map (tree_of n m c M) (others (p + 1) (c ∷ []))
+pub tree_more : (n m c p : ℕ) (M : Messages) (trees longer : List LieutenantTree) (tree : LieutenantTree) → p ≢ c → trees ≡ map (tree_of n m c M) (others p (c ∷ [])) → tree ≡ tree_of n m c M p → longer ≡ trees ++ tree ∷ [] → longer ≡ map (tree_of n m c M) (others (p + 1) (c ∷ []))
 tree_more n m c p M trees longer tree ne is new e =
     rw (e, is, new, others-more_yes (c ∷ []) p (or_from (c == p) false (ne_eqb c p (λ h. ne (sym h))) refl)) (sym (map-append (tree_of n m c M) (others p (c ∷ [])) (p ∷ [])))
 
@@ -97,7 +97,7 @@ unfolding told
 told_none n m c p = refl
 
 -- a tree into which a message was filled
-pub refilled : (old new : Kept) (n m c p : ℕ) (M : Messages) (w : List ℕ) (v : Option ℕ) → old ≡ tree_of n m c M p → SameCampaign old new → ((N : Messages) → IsFilled old N → IsFilled new (told_also N w v)) → new ≡ tree_of n m c (told_also M w v) p
+pub refilled : (old new : LieutenantTree) (n m c p : ℕ) (M : Messages) (w : List ℕ) (v : Option ℕ) → old ≡ tree_of n m c M p → SameCampaign old new → ((N : Messages) → IsFilled old N → IsFilled new (told_also N w v)) → new ≡ tree_of n m c (told_also M w v) p
 refilled old new n m c p M w v e same filled =
     let full : IsFilled old M = rw e refl in
-    tree_is new n m c p (told_also M w v) (same.generals ∙ ap (λ (t : Kept). t.generals) e) (same.bound ∙ ap (λ (t : Kept). t.bound) e) (same.commander ∙ ap (λ (t : Kept). t.commander) e) (same.general ∙ ap (λ (t : Kept). t.general) e) (filled M full)
+    tree_is new n m c p (told_also M w v) (same.generals ∙ ap (λ (t : LieutenantTree). t.generals) e) (same.bound ∙ ap (λ (t : LieutenantTree). t.bound) e) (same.commander ∙ ap (λ (t : LieutenantTree). t.commander) e) (same.general ∙ ap (λ (t : LieutenantTree). t.general) e) (filled M full)

@@ -1,16 +1,16 @@
 -- The trees that a table keeps, one for each lieutenant.
 use Rattle.std.specs.Prelude.{ℕ, ◌≡◌, List, map}
 use Rattle.label.specs.Oral.{Messages}
-use Rattle.tree.specs.Kept.{Kept, levels_told}
+use Rattle.tree.specs.LieutenantTree.{LieutenantTree, levels_told}
 use Rattle.book.specs.declared.message.Message.{Message}
 use Rattle.book.specs.Table.{AreNumbersWithin, told}
 use Rattle.book.specs.Decisions.{lieutenants}
 
 -- the tree of p, filled from M
-abbrev pub tree_of : ℕ → ℕ → ℕ → Messages → ℕ → Kept
+abbrev pub tree_of : ℕ → ℕ → ℕ → Messages → ℕ → LieutenantTree
 tree_of n m c M p = record { generals = n; bound = m; commander = c; general = p; levels = levels_told n c m p M }
 
 -- numbers within their limits, and the lieutenants' trees, ascending, filled from the messages
-pub record AreTableTrees (n m c : ℕ) (messages : List Message) (trees : List Kept) : Type 0 where
+pub record AreTableTrees (n m c : ℕ) (messages : List Message) (trees : List LieutenantTree) : Type 0 where
   pub within : AreNumbersWithin n m c
   pub filled : trees ≡ map (tree_of n m c (told messages)) (lieutenants n c)

@@ -4,7 +4,7 @@ use Rattle.std.specs.Prelude.{insert, count_by, ◌==◌}
 use Rattle.std.proofs.lemmas.List.{take-map, take_all}
 use Rattle.std.proofs.lemmas.List.Sums.{sum_by-cons, sum_by-append}
 use Rattle.combine.specs.Rule.{is_most}
-use Rattle.combine.specs.Told.{order_told}
+use Rattle.combine.specs.Told.{order_or_retreat}
 
 drop_map : {A B : Type 0} (g : A → B) (n : ℕ) (xs : List A) → drop n (map g xs) ≡ map g (drop n xs)
 drop_map g zero xs = refl
@@ -30,7 +30,7 @@ longer xs place own =
 pub most_anywhere : (xs : List ℕ) (place own v : ℕ) → is_most (insert xs place own) v ≡ is_most (own ∷ xs) v
 most_anywhere xs place own v = rw (counted (λ x. x == v) xs place own, longer xs place own) refl
 
-pub count-told : (v : ℕ) (told : List (Option ℕ)) → count_by (λ x. x == v) (map order_told told) ≡ count_by (λ o. order_told o == v) told
+pub count-told : (v : ℕ) (told : List (Option ℕ)) → count_by (λ x. x == v) (map order_or_retreat told) ≡ count_by (λ o. order_or_retreat o == v) told
 count-told v [] = refl
 count-told v (o ∷ told) =
-    omega (arith, count-told v told, sum_by-cons (λ y. cond (y == v) 1 0) (order_told o) (map order_told told), sum_by-cons (λ y. cond (order_told y == v) 1 0) o told)
+    omega (arith, count-told v told, sum_by-cons (λ y. cond (y == v) 1 0) (order_or_retreat o) (map order_or_retreat told), sum_by-cons (λ y. cond (order_or_retreat y == v) 1 0) o told)

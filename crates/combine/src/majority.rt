@@ -1,6 +1,6 @@
 ghost use Rattle.std.specs.Prelude.{◌≡◌, ◌==◌, ◌<◌, ◌*◌, ℕ, count_by, length, map, ◌∷◌};
 ghost use Rattle.combine.specs.Rule.{majority, is_most};
-ghost use Rattle.combine.specs.Told.{order_told};
+ghost use Rattle.combine.specs.Told.{order_or_retreat};
 ghost use Rattle.combine.specs.Laws.{majority_is_rule};
 
 use crate::rule::Combine;
@@ -80,7 +80,7 @@ fn other_of_two(told: &[Option<u32>], own: u32) -> u32 {
 /// Whether the order stands in more than half of the places, one's own among them.
 fn is_in_most_told(told: &[Option<u32>], own: u32, order: u32) -> bool
     requires few { length told.now < 13 }
-    ensures { result ≡ is_most (own ∷ map order_told told.now) order }
+    ensures { result ≡ is_most (own ∷ map order_or_retreat told.now) order }
 {
     let count = count_told(told, order) + usize::from(own == order);
     count > told.len() + 1 - count
@@ -99,7 +99,7 @@ fn count(orders: &[u32], order: u32) -> usize
 
 /// In how many places the order was told.
 fn count_told(told: &[Option<u32>], order: u32) -> usize
-    ensures { result ≡ count_by (λ x. order_told x == order) told.now }
+    ensures { result ≡ count_by (λ x. order_or_retreat x == order) told.now }
 {
     let mut count = 0;
     for x in told {

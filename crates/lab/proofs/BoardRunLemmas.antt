@@ -14,7 +14,7 @@ use Rattle.semantics.specs.Reached.{Reached}
 use Rattle.semantics.specs.Whole.{CountsOnce}
 use Rattle.semantics.proofs.StepLaws.{step_counts, resumed_counts}
 use Rattle.board.specs.Board.{Access, IsLegal, reply}
-use Rattle.board.specs.Ledger.{Kept}
+use Rattle.board.specs.Ledger.{RecordedBoard}
 use Rattle.machine.specs.declared.pause.Ended.{Ended}
 use Rattle.machine.specs.Standing.{Standing, Asking}
 use Rattle.machine.specs.Advance.{IsOfRun, Leads, Requests, Exits}
@@ -36,7 +36,7 @@ in_turn_more program context shape answers (b ∷ ledger) a (first, turn) awaits
 )
 
 -- the program stands where the accesses have led it
-pub record IsServing (program : List Insn) (context : List ℕ) (a : Standing) (b : Kept) : Type 0 where
+pub record IsServing (program : List Insn) (context : List ℕ) (a : Standing) (b : RecordedBoard) : Type 0 where
   pub of_run : IsOfRun program context a
   pub shape : a.shape ≡ bench_shape
   pub opening : b.opening ≡ replicate 64 0
@@ -44,10 +44,10 @@ pub record IsServing (program : List Insn) (context : List ℕ) (a : Standing) (
   pub reached : Reached program context bench_shape (answers_of b.ledger) a.state
 
 -- as the machine is told it
-pub own_reached : (program : List Insn) (context : List ℕ) (a : Standing) (b : Kept) → IsServing program context a b → Reached program context a.shape (answers_of b.ledger) a.state
+pub own_reached : (program : List Insn) (context : List ℕ) (a : Standing) (b : RecordedBoard) → IsServing program context a b → Reached program context a.shape (answers_of b.ledger) a.state
 own_reached program context a b s = subst (λ (shape : Shape). Reached program context shape (answers_of b.ledger) a.state) (sym s.shape) s.reached
 
-pub served_from : (program : List Insn) (context : List ℕ) (a : Standing) (b : Kept) → IsOfRun program context a → a.shape ≡ bench_shape → b.opening ≡ replicate 64 0 → b.ledger ≡ [] →
+pub served_from : (program : List Insn) (context : List ℕ) (a : Standing) (b : RecordedBoard) → IsOfRun program context a → a.shape ≡ bench_shape → b.opening ≡ replicate 64 0 → b.ledger ≡ [] →
     Reached program context a.shape [] a.state → IsServing program context a b
 served_from program context a b run same opening none reached = record {
   of_run = run;
@@ -68,7 +68,7 @@ last_asks program context shape answers limit s request w r =
     ap (λ (own : Shape). step program context own w.last) r.shape_kept ∙ (r.asks ∙ ap (λ (own : Request). Ask own w.state) (sym r.same))
 
 -- and it goes on from the board's answer
-pub serves_on : (program : List Insn) (context : List ℕ) (limit : ℕ) (a t : Standing) (b d : Kept) (request : Request) (w : Asking) (words : List ℕ) (own : Shape) → own ≡ bench_shape → IsServing program context a b →
+pub serves_on : (program : List Insn) (context : List ℕ) (limit : ℕ) (a t : Standing) (b d : RecordedBoard) (request : Request) (w : Asking) (words : List ℕ) (own : Shape) → own ≡ bench_shape → IsServing program context a b →
     Requests program context a.shape (answers_of b.ledger) limit a.state request w → t.shape ≡ w.shape → Reached program context t.shape (answers_of b.ledger ++ words ∷ []) t.state → IsOfRun program context t →
     words ≡ reply b.words request → d.opening ≡ b.opening → d.ledger ≡ b.ledger ++ record { general = own.general; round = own.round; request = request; reply = reply b.words request } ∷ [] → IsServing program context t d
 serves_on program context limit a t b d request w words own bench s r same reached run answer opening entered =
@@ -111,7 +111,7 @@ goes_further program context limit answers a t request w words sound run r is =
     omega arith
 
 -- the exit
-pub served_to : (program : List Insn) (context : List ℕ) (limit r0 : ℕ) (a : Standing) (b : Kept) (ended : Ended) → IsServing program context a b → IsLegal b.opening b.ledger →
+pub served_to : (program : List Insn) (context : List ℕ) (limit r0 : ℕ) (a : Standing) (b : RecordedBoard) (ended : Ended) → IsServing program context a b → IsLegal b.opening b.ledger →
     Exits program context a.shape (answers_of b.ledger) limit a.state ended → ended.r0 ≡ Some r0 → IsServed program context bench_shape r0 ended.steps
 served_to program context limit r0 a b ended s legal e is = record {
   ledger = b.ledger;

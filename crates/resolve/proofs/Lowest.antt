@@ -3,12 +3,12 @@ use Rattle.std.proofs.Common.{ℕ, zero, suc, ◌+◌, ◌-◌, ◌*◌, ◌≤�
 use Rattle.std.specs.Prelude.{slice_range, slice_index_or}
 use Rattle.std.specs.List.{range_with_len}
 use Rattle.std.proofs.lemmas.List.{drop_more}
-use Rattle.combine.specs.Told.{order_told, with_own}
+use Rattle.combine.specs.Told.{order_or_retreat, with_own}
 use Rattle.label.specs.Oral.{order_of}
-use Rattle.tree.specs.Kept.{Kept, level_of}
-use Rattle.resolve.specs.Decided.{decided, order_at}
+use Rattle.tree.specs.LieutenantTree.{LieutenantTree, level_of}
+use Rattle.resolve.specs.Decided.{decided, order_at_rank}
 
-told_orders : (told : List (Option ℕ)) → map order_told told ≡ map order_of told
+told_orders : (told : List (Option ℕ)) → map order_or_retreat told ≡ map order_of told
 told_orders [] = refl
 told_orders (None ∷ told) = ap (λ xs. 0 ∷ xs) (told_orders told)
 told_orders (Some v ∷ told) = ap (λ xs. v ∷ xs) (told_orders told)
@@ -22,7 +22,7 @@ part xs a b (suc n) l =
     rw (more, part xs a (b + 1) n (omega arith), next) refl
 
 -- with one relay left
-pub step-one : (f : List ℕ → ℕ) (t : Kept) (k size rank place width own : ℕ) (children : List (Option ℕ)) → k ≡ 1 → own ≡ order_at t size rank → width ≡ t.generals - 1 - size → rank * width + width ≤ length (level_of t (size + 1)) → children ≡ slice_range (level_of t (size + 1)) (rank * width) (rank * width + width) → f (with_own children place own) ≡ decided f t k size rank place
+pub step-one : (f : List ℕ → ℕ) (t : LieutenantTree) (k size rank place width own : ℕ) (children : List (Option ℕ)) → k ≡ 1 → own ≡ order_at_rank t size rank → width ≡ t.generals - 1 - size → rank * width + width ≤ length (level_of t (size + 1)) → children ≡ slice_range (level_of t (size + 1)) (rank * width) (rank * width + width) → f (with_own children place own) ≡ decided f t k size rank place
 unfolding decided
 step-one f t k size rank place width own children one eo ew l ec =
     let next : size + 1 ≡ suc size = omega arith in

@@ -11,17 +11,17 @@ use Rattle.label.proofs.Parts.{wide}
 use Rattle.label.proofs.Ranks.{others-at}
 use Rattle.label.proofs.Listing.{proved_labels_are_exact}
 use Rattle.label.proofs.Places.{first_label, children_stand, count_is_product}
-use Rattle.tree.specs.Kept.{Kept, IsCampaign}
+use Rattle.tree.specs.LieutenantTree.{LieutenantTree, IsCampaign}
 use Rattle.resolve.specs.Decided.{child_place}
 use Rattle.resolve.specs.Upward.{label_at, place_at}
 use Rattle.resolve.proofs.Below.{child-below}
 
 -- the label at a rank stands there
-stands : (t : Kept) (size rank : ℕ) → rank < length (labels t.generals t.commander t.general size) → slice_get (labels t.generals t.commander t.general size) rank ≡ Some (label_at t size rank)
+stands : (t : LieutenantTree) (size rank : ℕ) → rank < length (labels t.generals t.commander t.general size) → slice_get (labels t.generals t.commander t.general size) rank ≡ Some (label_at t size rank)
 stands t size rank l = slice_get-get_or (labels t.generals t.commander t.general size) rank [] l
 
 -- and lacks the lieutenant
-pub lacking : (t : Kept) (k rank : ℕ) (w : List ℕ) → IsCampaign t → slice_get (labels t.generals t.commander t.general k) rank ≡ Some w → on w t.general ≡ false
+pub lacking : (t : LieutenantTree) (k rank : ℕ) (w : List ℕ) → IsCampaign t → slice_get (labels t.generals t.commander t.general k) rank ≡ Some w → on w t.general ≡ false
 lacking t k rank w is at = (proved_labels_are_exact.only t.generals t.commander t.general k rank w is.commander is.general is.lieutenant at).1
 
 -- who prolongs it is new to it
@@ -29,7 +29,7 @@ off-child : (n p : ℕ) (w : List ℕ) (i j : ℕ) → slice_get (others n (p �
 off-child n p w i j h = (others-on n (p ∷ w) j (on-get (others n (p ∷ w)) i j h)).1
 
 -- the commander alone
-pub place-one : (t : Kept) (size rank place : ℕ) → IsCampaign t → size ≡ 1 → rank < length (labels t.generals t.commander t.general size) → place ≡ length (others t.general (t.commander ∷ [])) → place ≡ place_at t size rank
+pub place-one : (t : LieutenantTree) (size rank place : ℕ) → IsCampaign t → size ≡ 1 → rank < length (labels t.generals t.commander t.general size) → place ≡ length (others t.general (t.commander ∷ [])) → place ≡ place_at t size rank
 unfolding place_at
 place-one t size rank place is one l e =
     let first : labels t.generals t.commander t.general 1 ≡ (t.commander ∷ []) ∷ [] = first_label t.generals t.commander t.general is.lieutenant in
@@ -39,12 +39,12 @@ place-one t size rank place is one l e =
     rw (one, z, first) e
 
 -- a longer label, by its parent
-pub record Grown (t : Kept) (size rank width : ℕ) : Type 0 where
+pub record Grown (t : LieutenantTree) (size rank width : ℕ) : Type 0 where
   pub some : 0 < width
   pub parent : rank / width < length (labels t.generals t.commander t.general (size - 1))
   pub place : (place : ℕ) → place ≡ place_at t (size - 1) (rank / width) → child_place place (rank % width) ≡ place_at t size rank
 
-pub grown : (t : Kept) (size rank width : ℕ) → IsCampaign t → 1 < size → width ≡ t.generals - size → rank < length (labels t.generals t.commander t.general size) → Grown t size rank width
+pub grown : (t : LieutenantTree) (size rank width : ℕ) → IsCampaign t → 1 < size → width ≡ t.generals - size → rank < length (labels t.generals t.commander t.general size) → Grown t size rank width
 unfolding place_at
 grown t zero rank width is some ew l = absurd (omega arith)
 grown t (suc zero) rank width is some ew l = absurd (omega arith)
@@ -78,7 +78,7 @@ grown t (suc (suc k)) rank width is some ew l =
     positive_of a (suc b) r h = omega arith
 
 -- the own order has a place among them
-pub place-few : (t : Kept) (size rank : ℕ) → IsCampaign t → 0 < size → rank < length (labels t.generals t.commander t.general size) → place_at t size rank ≤ t.generals - 1 - size
+pub place-few : (t : LieutenantTree) (size rank : ℕ) → IsCampaign t → 0 < size → rank < length (labels t.generals t.commander t.general size) → place_at t size rank ≤ t.generals - 1 - size
 unfolding place_at
 place-few t zero rank is some l = absurd (omega arith)
 place-few t (suc k) rank is some l =

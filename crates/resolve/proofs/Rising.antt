@@ -11,14 +11,14 @@ use Rattle.label.specs.Oral.{Messages, om, taken, order_of}
 use Rattle.label.proofs.Parts.{by_place, wide}
 use Rattle.label.proofs.Own.{om-level}
 use Rattle.label.proofs.Places.{first_label, children_stand}
-use Rattle.tree.specs.Kept.{Kept, IsCampaign, IsFilled, level_told}
-use Rattle.resolve.specs.Decided.{order_at}
+use Rattle.tree.specs.LieutenantTree.{LieutenantTree, IsCampaign, IsFilled, level_told}
+use Rattle.resolve.specs.Decided.{order_at_rank}
 use Rattle.resolve.specs.Upward.{label_at, place_at, children_of, upward, decisions_at}
 use Rattle.resolve.proofs.Decisions.{order-told}
 use Rattle.resolve.proofs.Places.{lacking}
 
 -- one rank
-pub upward-is : (f : List ℕ → ℕ) (t : Kept) (below : List ℕ) (size rank width place own : ℕ) (children orders : List ℕ) → width ≡ t.generals - 1 - size → children ≡ slice_range below (rank * width) (rank * width + width) → place ≡ place_at t size rank → own ≡ order_at t size rank → orders ≡ insert children place own → f orders ≡ upward f t below size rank
+pub upward-is : (f : List ℕ → ℕ) (t : LieutenantTree) (below : List ℕ) (size rank width place own : ℕ) (children orders : List ℕ) → width ≡ t.generals - 1 - size → children ≡ slice_range below (rank * width) (rank * width + width) → place ≡ place_at t size rank → own ≡ order_at_rank t size rank → orders ≡ insert children place own → f orders ≡ upward f t below size rank
 unfolding upward
 upward-is f t below size rank width place own children orders ew ec ep eo e = rw (e, ec, ep, eo, ew) refl
 
@@ -34,7 +34,7 @@ part_is xs G (j ∷ js) a same =
     rw (more, read, rest) refl
 
 -- the part of a rank is what its children decide
-pub upward-om : (f : List ℕ → ℕ) (t : Kept) (M : Messages) (k size rank : ℕ) (below : List ℕ) (w : List ℕ) → IsCampaign t → IsFilled t M → 0 < size → size + suc k ≤ t.bound + 1 → slice_get (labels t.generals t.commander t.general size) rank ≡ Some w → below ≡ decisions_at f t M k (size + 1) → upward f t below size rank ≡ om f t.generals M (suc k) w t.general
+pub upward-om : (f : List ℕ → ℕ) (t : LieutenantTree) (M : Messages) (k size rank : ℕ) (below : List ℕ) (w : List ℕ) → IsCampaign t → IsFilled t M → 0 < size → size + suc k ≤ t.bound + 1 → slice_get (labels t.generals t.commander t.general size) rank ≡ Some w → below ≡ decisions_at f t M k (size + 1) → upward f t below size rank ≡ om f t.generals M (suc k) w t.general
 unfolding upward place_at decisions_at
 upward-om f t M k zero rank below w is full some short at e = absurd (omega arith)
 upward-om f t M k (suc s) rank below w is full some short at e =
@@ -51,26 +51,26 @@ upward-om f t M k (suc s) rank below w is full some short at e =
     ∙ (slice_get-map (λ v. om f t.generals M k v t.general) (labels t.generals t.commander t.general (suc s + 1)) (rank * (t.generals - 1 - suc s) + i)
     ∙ rw (next, rw width at (children_stand t.generals t.commander t.general s rank i j w is.commander is.general is.lieutenant at h)) refl))
     in
-    ap f (ap (λ xs. insert xs (length (others t.general (label_at t (suc s) rank))) (order_at t (suc s) rank)) part
-    ∙ (ap (λ (v : List ℕ). insert (map (λ j. om f t.generals M k (w ++ j ∷ []) t.general) (others t.generals (t.general ∷ w))) (length (others t.general v)) (order_at t (suc s) rank)) read
+    ap f (ap (λ xs. insert xs (length (others t.general (label_at t (suc s) rank))) (order_at_rank t (suc s) rank)) part
+    ∙ (ap (λ (v : List ℕ). insert (map (λ j. om f t.generals M k (w ++ j ∷ []) t.general) (others t.generals (t.general ∷ w))) (length (others t.general v)) (order_at_rank t (suc s) rank)) read
     ∙ ap (insert (map (λ j. om f t.generals M k (w ++ j ∷ []) t.general) (others t.generals (t.general ∷ w))) (length (others t.general w))) (order-told t M (suc s) rank w full (omega arith) (omega arith) at)))
     ∙ sym (om-level f t.generals M k w t.general is.general without)
 
 -- a level is what is decided about its labels
-pub level-om : (f : List ℕ → ℕ) (t : Kept) (M : Messages) (k size : ℕ) (below level : List ℕ) → IsCampaign t → IsFilled t M → 0 < size → size + suc k ≤ t.bound + 1 → below ≡ decisions_at f t M k (size + 1) → level ≡ map (upward f t below size) (nat_range 0 (length (labels t.generals t.commander t.general size))) → level ≡ decisions_at f t M (suc k) size
+pub level-om : (f : List ℕ → ℕ) (t : LieutenantTree) (M : Messages) (k size : ℕ) (below level : List ℕ) → IsCampaign t → IsFilled t M → 0 < size → size + suc k ≤ t.bound + 1 → below ≡ decisions_at f t M k (size + 1) → level ≡ map (upward f t below size) (nat_range 0 (length (labels t.generals t.commander t.general size))) → level ≡ decisions_at f t M (suc k) size
 unfolding decisions_at
 level-om f t M k size below level is full some short e el =
     let z : length (labels t.generals t.commander t.general size) - 0 ≡ length (labels t.generals t.commander t.general size) = omega arith in
     el ∙ (ap (λ (l : ℕ). map (upward f t below size) (range_with_len 0 l)) z
     ∙ by_place (upward f t below size) (λ w. om f t.generals M (suc k) w t.general) 0 (labels t.generals t.commander t.general size) (λ i w at. let y : 0 + i ≡ i = omega arith in rw y (upward-om f t M k size i below w is full some short at e)))
 
-pub level-long : (f : List ℕ → ℕ) (t : Kept) (size : ℕ) (below level : List ℕ) → level ≡ map (upward f t below size) (nat_range 0 (length (labels t.generals t.commander t.general size))) → length level ≡ length (labels t.generals t.commander t.general size)
+pub level-long : (f : List ℕ → ℕ) (t : LieutenantTree) (size : ℕ) (below level : List ℕ) → level ≡ map (upward f t below size) (nat_range 0 (length (labels t.generals t.commander t.general size))) → length level ≡ length (labels t.generals t.commander t.general size)
 level-long f t size below level e =
     let z : length (labels t.generals t.commander t.general size) - 0 ≡ length (labels t.generals t.commander t.general size) = omega arith in
     ap length e ∙ (length-map-range_with_len (upward f t below size) 0 (length (labels t.generals t.commander t.general size) - 0) ∙ z)
 
 -- the longest labels
-pub longest-om : (f : List ℕ → ℕ) (t : Kept) (M : Messages) (size : ℕ) (level : List (Option ℕ)) (orders : List ℕ) → level ≡ level_told t.generals t.commander t.general M size → orders ≡ map order_of level → orders ≡ decisions_at f t M 0 size
+pub longest-om : (f : List ℕ → ℕ) (t : LieutenantTree) (M : Messages) (size : ℕ) (level : List (Option ℕ)) (orders : List ℕ) → level ≡ level_told t.generals t.commander t.general M size → orders ≡ map order_of level → orders ≡ decisions_at f t M 0 size
 unfolding decisions_at om
 longest-om f t M size level orders el eo = eo ∙ (ap (map order_of) el ∙ twice (labels t.generals t.commander t.general size))
   where
@@ -79,7 +79,7 @@ longest-om f t M size level orders el eo = eo ∙ (ap (map order_of) el ∙ twic
     twice (w ∷ ws) = ap (λ xs. taken M w t.general ∷ xs) (twice ws)
 
 -- the first of the shortest
-pub first-om : (f : List ℕ → ℕ) (t : Kept) (M : Messages) (k order : ℕ) (decisions : List ℕ) → IsCampaign t → decisions ≡ decisions_at f t M k 1 → order ≡ get_or decisions 0 order → order ≡ om f t.generals M k (t.commander ∷ []) t.general
+pub first-om : (f : List ℕ → ℕ) (t : LieutenantTree) (M : Messages) (k order : ℕ) (decisions : List ℕ) → IsCampaign t → decisions ≡ decisions_at f t M k 1 → order ≡ get_or decisions 0 order → order ≡ om f t.generals M k (t.commander ∷ []) t.general
 unfolding decisions_at
 first-om f t M k order decisions is e eo =
     let first : labels t.generals t.commander t.general 1 ≡ (t.commander ∷ []) ∷ [] = first_label t.generals t.commander t.general is.lieutenant in

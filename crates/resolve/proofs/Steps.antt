@@ -8,30 +8,30 @@ use Rattle.std.proofs.lemmas.Bool.{cond-true, cond-false, lt-ltb, le-ltb}
 use Rattle.std.proofs.lemmas.Nat.{mul-le}
 use Rattle.label.specs.Labels.{labels}
 use Rattle.label.proofs.Bounds.{most, most-fits, labels-few}
-use Rattle.tree.specs.Kept.{Kept, IsCampaign}
-use Rattle.resolve.specs.Decided.{decided, child, order_at}
+use Rattle.tree.specs.LieutenantTree.{LieutenantTree, IsCampaign}
+use Rattle.resolve.specs.Decided.{decided, child, order_at_rank}
 
-pub step-last : (f : List ℕ → ℕ) (t : Kept) (k size rank place own : ℕ) → k ≡ 0 → own ≡ order_at t size rank → own ≡ decided f t k size rank place
+pub step-last : (f : List ℕ → ℕ) (t : LieutenantTree) (k size rank place own : ℕ) → k ≡ 0 → own ≡ order_at_rank t size rank → own ≡ decided f t k size rank place
 unfolding decided
 step-last f t k size rank place own z e = rw z e
 
-pub step-more : (f : List ℕ → ℕ) (t : Kept) (k size rank place own : ℕ) (orders : List ℕ) → 0 < k → own ≡ order_at t size rank → orders ≡ insert (map (child f t (k - 1) size rank place) (range_with_len 0 (t.generals - 1 - size))) place own → f orders ≡ decided f t k size rank place
+pub step-more : (f : List ℕ → ℕ) (t : LieutenantTree) (k size rank place own : ℕ) (orders : List ℕ) → 0 < k → own ≡ order_at_rank t size rank → orders ≡ insert (map (child f t (k - 1) size rank place) (range_with_len 0 (t.generals - 1 - size))) place own → f orders ≡ decided f t k size rank place
 unfolding decided child
 step-more f t zero size rank place own orders some e eo = absurd (omega arith)
 step-more f t (suc k) size rank place own orders some e eo =
     let less : suc k - 1 ≡ k = omega arith in
     ap f (rw less at eo ∙ ap (insert (map (child f t k size rank place) (range_with_len 0 (t.generals - 1 - size))) place) e)
 
-child_before : (f : List ℕ → ℕ) (t : Kept) (k size rank place i : ℕ) → i < place → decided f t k (suc size) (rank * (t.generals - 1 - size) + i) (place - 1) ≡ child f t k size rank place i
+child_before : (f : List ℕ → ℕ) (t : LieutenantTree) (k size rank place i : ℕ) → i < place → decided f t k (suc size) (rank * (t.generals - 1 - size) + i) (place - 1) ≡ child f t k size rank place i
 unfolding child
 child_before f t k size rank place i l = ap (decided f t k (suc size) (rank * (t.generals - 1 - size) + i)) (sym (cond-true (nat_lt i place) (place - 1) place (lt-ltb i place l)))
 
-child_behind : (f : List ℕ → ℕ) (t : Kept) (k size rank place i : ℕ) → place ≤ i → decided f t k (suc size) (rank * (t.generals - 1 - size) + i) place ≡ child f t k size rank place i
+child_behind : (f : List ℕ → ℕ) (t : LieutenantTree) (k size rank place i : ℕ) → place ≤ i → decided f t k (suc size) (rank * (t.generals - 1 - size) + i) place ≡ child f t k size rank place i
 unfolding child
 child_behind f t k size rank place i l = ap (decided f t k (suc size) (rank * (t.generals - 1 - size) + i)) (sym (cond-false (nat_lt i place) (place - 1) place (le-ltb i place l)))
 
 -- one child more, before the own order
-pub more-before : (f : List ℕ → ℕ) (t : Kept) (k size rank place width i one : ℕ) (orders longer : List ℕ) → width ≡ t.generals - 1 - size → i < place → orders ≡ map (child f t k size rank place) (range_with_len 0 i) → one ≡ decided f t k (size + 1) (rank * width + i) (place - 1) → longer ≡ orders ++ one ∷ []
+pub more-before : (f : List ℕ → ℕ) (t : LieutenantTree) (k size rank place width i one : ℕ) (orders longer : List ℕ) → width ≡ t.generals - 1 - size → i < place → orders ≡ map (child f t k size rank place) (range_with_len 0 i) → one ≡ decided f t k (size + 1) (rank * width + i) (place - 1) → longer ≡ orders ++ one ∷ []
     → longer ≡ map (child f t k size rank place) (range_with_len 0 (i + 1))
 more-before f t k size rank place width i one orders longer ew l eo e1 el =
     let next : size + 1 ≡ suc size = omega arith in
@@ -43,7 +43,7 @@ own-put F place i own orders longer ei eo el =
     rw (el, eo, ei) (sym (ap (λ (n : ℕ). insert (map F (range_with_len 0 place)) n own) (sym (length-map-range_with_len F 0 place)) ∙ insert_end (map F (range_with_len 0 place)) own))
 
 -- one child more, behind it
-pub more-behind : (f : List ℕ → ℕ) (t : Kept) (k size rank place width i one own : ℕ) (orders longer : List ℕ) → width ≡ t.generals - 1 - size → place ≤ i → orders ≡ insert (map (child f t k size rank place) (range_with_len 0 i)) place own → one ≡ decided f t k (size + 1) (rank * width + i) place → longer ≡ orders ++ one ∷ []
+pub more-behind : (f : List ℕ → ℕ) (t : LieutenantTree) (k size rank place width i one own : ℕ) (orders longer : List ℕ) → width ≡ t.generals - 1 - size → place ≤ i → orders ≡ insert (map (child f t k size rank place) (range_with_len 0 i)) place own → one ≡ decided f t k (size + 1) (rank * width + i) place → longer ≡ orders ++ one ∷ []
     → longer ≡ insert (map (child f t k size rank place) (range_with_len 0 (i + 1))) place own
 more-behind f t k size rank place width i one own orders longer ew l eo e1 el =
     let next : size + 1 ≡ suc size = omega arith in
@@ -60,7 +60,7 @@ few-behind F i place own orders l e =
     ap length e ∙ (length-insert (map F (range_with_len 0 i)) place own (omega arith) ∙ ap (λ (n : ℕ). n + 1) h)
 
 -- ranks have 32 bits
-pub rank-small : (t : Kept) (size rank : ℕ) → IsCampaign t → 0 < size → size < 14 → rank < length (labels t.generals t.commander t.general size) → rank < 2 ^ 32
+pub rank-small : (t : LieutenantTree) (size rank : ℕ) → IsCampaign t → 0 < size → size < 14 → rank < length (labels t.generals t.commander t.general size) → rank < 2 ^ 32
 rank-small t zero rank is some short r = absurd (omega arith)
 rank-small t (suc k) rank is some short r =
     let few : length (labels t.generals t.commander t.general (suc k)) ≤ most k = labels-few t.generals t.commander t.general k is.few is.commander is.general is.lieutenant in

@@ -3,7 +3,7 @@ ghost use Rattle.std.specs.Prelude.{◌≡◌, ◌<◌, ◌≤◌, ◌+◌, ◌-
 ghost use Rattle.rayon.specs.Numbers.{nat_range};
 ghost use Rattle.label.specs.Labels.{labels};
 ghost use Rattle.label.specs.Oral.{Messages};
-ghost use Rattle.tree.specs.Kept.{IsFilled};
+ghost use Rattle.tree.specs.LieutenantTree.{IsFilled};
 ghost use Rattle.resolve.specs.Decided.{Decides};
 ghost use Rattle.resolve.specs.Upward.{place_at, upward, decisions_at};
 

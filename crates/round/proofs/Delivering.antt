@@ -10,7 +10,7 @@ use Rattle.label.specs.declared.shape.Shape.{Shape}
 use Rattle.label.specs.declared.space.Space.{Space}
 use Rattle.label.specs.Space.{labels_of}
 use Rattle.label.proofs.Listing.{proved_labels_are_exact, proved_labels_differ}
-use Rattle.tree.specs.Kept.{Kept, IsCampaign, IsFilled, SameCampaign, levels_from, told_also}
+use Rattle.tree.specs.LieutenantTree.{LieutenantTree, IsCampaign, IsFilled, SameCampaign, levels_from, told_also}
 use Rattle.tree.proofs.Also.{also-here, also-other}
 use Rattle.round.specs.Letters.{Letter}
 use Rattle.round.specs.Told.{AreDue, told_now, heard_also, round_of}
@@ -36,7 +36,7 @@ unfolding heard_also
 heard_other M row w p ne = rw (ne_eqb (length w) (round_of row) ne) refl
 
 -- without letters nothing is told
-pub none_heard : (t : Kept) (row : List Letter) (M : Messages) → IsCampaign t → row ≡ [] → IsFilled t M → IsFilled t (heard_also M row)
+pub none_heard : (t : LieutenantTree) (row : List Letter) (M : Messages) → IsCampaign t → row ≡ [] → IsFilled t M → IsFilled t (heard_also M row)
 none_heard t row M c none filled =
     filled ∙ levels-same t.generals t.commander t.general M (heard_also M row) 1 (t.bound + 1) (λ j i w le at.
     let long : length w ≡ j = (proved_labels_are_exact.only t.generals t.commander t.general j i w c.commander c.general c.lieutenant at).2 in
@@ -44,11 +44,11 @@ none_heard t row M c none filled =
     sym (heard_other M row w t.general (λ e. absurd (omega arith))))
 
 -- nothing is told yet
-pub told_none : (t : Kept) (row : List Letter) (k i : ℕ) → IsFilledBetween t row k i i t
+pub told_none : (t : LieutenantTree) (row : List Letter) (k i : ℕ) → IsFilledBetween t row k i i t
 told_none t row k i = record { same = record { generals = refl; bound = refl; commander = refl; general = refl }; partly = λ M p. p }
 
 -- one after another
-pub told_on : (t : Kept) (row : List Letter) (k i j l : ℕ) (u v : Kept) → IsFilledBetween t row k i j u → IsFilledBetween u row k j l v → IsFilledBetween t row k i l v
+pub told_on : (t : LieutenantTree) (row : List Letter) (k i j l : ℕ) (u v : LieutenantTree) → IsFilledBetween t row k i j u → IsFilledBetween u row k j l v → IsFilledBetween t row k i l v
 told_on t row k i j l u v h g = record {
   same = record { generals = g.same.generals ∙ h.same.generals; bound = g.same.bound ∙ h.same.bound; commander = g.same.commander ∙ h.same.commander; general = g.same.general ∙ h.same.general };
   partly = λ M p.
@@ -58,7 +58,7 @@ told_on t row k i j l u v h g = record {
 }
 
 -- one label
-pub told_one : (t : Kept) (row : List Letter) (k i : ℕ) (v : Kept) (w : List ℕ) (value : Option ℕ) → IsCampaign t → SameCampaign t v →
+pub told_one : (t : LieutenantTree) (row : List Letter) (k i : ℕ) (v : LieutenantTree) (w : List ℕ) (value : Option ℕ) → IsCampaign t → SameCampaign t v →
     slice_get (labels t.generals t.commander t.general k) i ≡ Some w → value ≡ told_now row w t.general →
     ((M : Messages) (x : List ℕ) → IsFilled t M → slice_get (labels t.generals t.commander t.general k) i ≡ Some x → IsFilled v (told_also M x value)) → IsFilledBetween t row k i (suc i) v
 told_one t row k i v w value c same at is fill = record {
@@ -83,7 +83,7 @@ told_one t row k i v w value c same at is fill = record {
     some_same : {A : Type 0} {a b : A} → Some a ≡ Some b → a ≡ b
     some_same e = cc
 
-each_same : (t : Kept) (row : List Letter) (k i : ℕ) (u : Kept) (M : Messages) → IsCampaign t → k ≡ round_of row → length (labels t.generals t.commander t.general k) ≤ i → (p : IsPartly M row t.generals t.commander t.general k i u) →
+each_same : (t : LieutenantTree) (row : List Letter) (k i : ℕ) (u : LieutenantTree) (M : Messages) → IsCampaign t → k ≡ round_of row → length (labels t.generals t.commander t.general k) ≤ i → (p : IsPartly M row t.generals t.commander t.general k i u) →
     (j m : ℕ) (w : List ℕ) → 1 ≤ j → slice_get (labels t.generals t.commander t.general j) m ≡ Some w → p.N w t.general ≡ heard_also M row w t.general
 each_same t row k i u M c ek all p j m w le at =
     let long : length w ≡ j = (proved_labels_are_exact.only t.generals t.commander t.general j m w c.commander c.general c.lieutenant at).2 in
@@ -97,18 +97,18 @@ each_same t row k i u M c ek all p j m w le at =
     (eqb_tells j k)
 
 -- all labels of the length
-pub told_all : (t : Kept) (row : List Letter) (k i : ℕ) (u : Kept) → IsCampaign t → k ≡ round_of row → IsFilledBetween t row k 0 i u → length (labels t.generals t.commander t.general k) ≤ i → (M : Messages) → IsFilled t M → IsFilled u (heard_also M row)
+pub told_all : (t : LieutenantTree) (row : List Letter) (k i : ℕ) (u : LieutenantTree) → IsCampaign t → k ≡ round_of row → IsFilledBetween t row k 0 i u → length (labels t.generals t.commander t.general k) ≤ i → (M : Messages) → IsFilled t M → IsFilled u (heard_also M row)
 told_all t row k i u c ek h all M filled =
     let p = h.partly M (record { N = M; filled = filled; others = λ w ne. refl; done = λ j w lt at. absurd (omega arith) }) in
     p.filled ∙ (rw (h.same.generals, h.same.commander, h.same.general) (levels-same t.generals t.commander t.general p.N (heard_also M row) 1 (u.bound + 1) (each_same t row k i u M c ek all p)))
 
 -- as it is called
-pub due_round : (t : Kept) (row : List Letter) (shape : Shape) (inside item : Letter) → AreDue t row → inside ≡ item → item ≡ get_or row 0 item → 0 < length row → shape ≡ inside.outbox.shape → shape.round ≡ round_of row
+pub due_round : (t : LieutenantTree) (row : List Letter) (shape : Shape) (inside item : Letter) → AreDue t row → inside ≡ item → item ≡ get_or row 0 item → 0 < length row → shape ≡ inside.outbox.shape → shape.round ≡ round_of row
 due_round t row shape inside item due view at some same =
     let there : slice_get row 0 ≡ Some item = slice_get_read row (length row) 0 item refl some at in
     ap (λ (s : Shape). s.round) (same ∙ (ap (λ (l : Letter). l.outbox.shape) view ∙ due.letters 0 item there))
 
-pub same_labels : (sp : Space) (t : Kept) (k : ℕ) → sp.generals ≡ t.generals → sp.commander ≡ t.commander → sp.general ≡ t.general → labels_of sp k ≡ labels t.generals t.commander t.general k
+pub same_labels : (sp : Space) (t : LieutenantTree) (k : ℕ) → sp.generals ≡ t.generals → sp.commander ≡ t.commander → sp.general ≡ t.general → labels_of sp k ≡ labels t.generals t.commander t.general k
 same_labels sp t k en ec eg = (λ i. labels (en i) (ec i) (eg i) k)
 
 pub no_letters : (row : List Letter) → length row ≡ 0 → row ≡ []

@@ -8,7 +8,7 @@ use Rattle.label.specs.Oral.{Messages}
 use Rattle.label.proofs.Counting.{on-push}
 use Rattle.label.proofs.Listing.{proved_labels_differ}
 use Rattle.label.proofs.Places.{first_label}
-use Rattle.tree.specs.Kept.{Kept, IsCampaign, IsFilled, SameCampaign}
+use Rattle.tree.specs.LieutenantTree.{LieutenantTree, IsCampaign, IsFilled, SameCampaign}
 use Rattle.round.specs.Letters.{Letter}
 use Rattle.round.specs.Told.{AreDue, heard_also, round_of}
 use Rattle.round.specs.Fronts.{IsFront, under}
@@ -29,7 +29,7 @@ apart-from : (p x : ℕ) (w : List ℕ) → on (p ∷ w) x ≡ false → p ≢ x
 apart-from p x w away = λ e. true≢false (sym (eq-eqb p x e) ∙ (or_parts (p == x) (on w x) away).0)
 
 -- the walk from a child
-pub child_walk : (t u : Kept) (row : List Letter) (places : List ℕ) (k : ℕ) (f : Front) (walk : IsWalk t row places k f) → SameCampaign t u → f.size + 1 ≢ k → (x : ℕ) → on (t.general ∷ walk.w) x ≡ false → (g : Front) → IsFront t.generals t.commander (walk.w ++ x ∷ []) g → IsWalk u row places k g
+pub child_walk : (t u : LieutenantTree) (row : List Letter) (places : List ℕ) (k : ℕ) (f : Front) (walk : IsWalk t row places k f) → SameCampaign t u → f.size + 1 ≢ k → (x : ℕ) → on (t.general ∷ walk.w) x ≡ false → (g : Front) → IsFront t.generals t.commander (walk.w ++ x ∷ []) g → IsWalk u row places k g
 child_walk t u row places k f walk same more x away g child = record {
   due = same_due t u row same walk.due;
   size = walk.size;
@@ -41,7 +41,7 @@ child_walk t u row places k f walk same more x away g child = record {
 }
 
 -- the child's part
-child_rank_is : (t : Kept) (row : List Letter) (places : List ℕ) (k : ℕ) (f : Front) (walk : IsWalk t row places k f) → IsCampaign t → (x place : ℕ) → x < t.generals → on (t.general ∷ walk.w) x ≡ false → place ≡ length (others x (t.general ∷ walk.w)) → (g : Front) → IsFront t.generals t.commander (walk.w ++ x ∷ []) g →
+child_rank_is : (t : LieutenantTree) (row : List Letter) (places : List ℕ) (k : ℕ) (f : Front) (walk : IsWalk t row places k f) → IsCampaign t → (x place : ℕ) → x < t.generals → on (t.general ∷ walk.w) x ≡ false → place ≡ length (others x (t.general ∷ walk.w)) → (g : Front) → IsFront t.generals t.commander (walk.w ++ x ∷ []) g →
     slice_index g.ranks t.general ≡ slice_index f.ranks t.general * (t.generals - (f.size + 1)) + place
 child_rank_is t row places k f walk c x place within away ep g child =
     let off : on (walk.w ++ x ∷ []) t.general ≡ false = on-push walk.w x t.general ∙ rw (walk.off, ne_eqb x t.general (λ e. apart-from t.general x walk.w away (sym e))) refl in
@@ -51,14 +51,14 @@ child_rank_is t row places k f walk c x place within away ep g child =
 child_size_is : (n c x : ℕ) (w : List ℕ) (f g : Front) → IsFront n c w f → IsFront n c (w ++ x ∷ []) g → g.size ≡ f.size + 1
 child_size_is n c x w f g h child = child.size ∙ child_long n c x w f h
 
-pub child_first : (t u : Kept) (row : List Letter) (places : List ℕ) (k : ℕ) (f : Front) (walk : IsWalk t row places k f) → SameCampaign t u → IsCampaign t → (x place : ℕ) → x < t.generals → on (t.general ∷ walk.w) x ≡ false → place ≡ length (others x (t.general ∷ walk.w)) → (g : Front) → IsFront t.generals t.commander (walk.w ++ x ∷ []) g →
+pub child_first : (t u : LieutenantTree) (row : List Letter) (places : List ℕ) (k : ℕ) (f : Front) (walk : IsWalk t row places k f) → SameCampaign t u → IsCampaign t → (x place : ℕ) → x < t.generals → on (t.general ∷ walk.w) x ≡ false → place ≡ length (others x (t.general ∷ walk.w)) → (g : Front) → IsFront t.generals t.commander (walk.w ++ x ∷ []) g →
     first_under u g k ≡ (slice_index f.ranks t.general * (t.generals - (f.size + 1)) + place) * under t.generals (f.size + 1) (k - (f.size + 1))
 child_first t u row places k f walk same c x place within away ep g child =
     rw (same.general, same.generals)
     (ap (λ (r : ℕ). r * under t.generals g.size (k - g.size)) (child_rank_is t row places k f walk c x place within away ep g child)
     ∙ ap (λ (s : ℕ). (slice_index f.ranks t.general * (t.generals - (f.size + 1)) + place) * under t.generals s (k - s)) (child_size_is t.generals t.commander x walk.w f g walk.front child))
 
-pub child_past : (t u : Kept) (row : List Letter) (places : List ℕ) (k : ℕ) (f : Front) (walk : IsWalk t row places k f) → SameCampaign t u → IsCampaign t → (x place : ℕ) → x < t.generals → on (t.general ∷ walk.w) x ≡ false → place ≡ length (others x (t.general ∷ walk.w)) → (g : Front) → IsFront t.generals t.commander (walk.w ++ x ∷ []) g →
+pub child_past : (t u : LieutenantTree) (row : List Letter) (places : List ℕ) (k : ℕ) (f : Front) (walk : IsWalk t row places k f) → SameCampaign t u → IsCampaign t → (x place : ℕ) → x < t.generals → on (t.general ∷ walk.w) x ≡ false → place ≡ length (others x (t.general ∷ walk.w)) → (g : Front) → IsFront t.generals t.commander (walk.w ++ x ∷ []) g →
     past_under u g k ≡ (slice_index f.ranks t.general * (t.generals - (f.size + 1)) + (place + 1)) * under t.generals (f.size + 1) (k - (f.size + 1))
 child_past t u row places k f walk same c x place within away ep g child =
     let rank : slice_index g.ranks t.general ≡ slice_index f.ranks t.general * (t.generals - (f.size + 1)) + place = child_rank_is t row places k f walk c x place within away ep g child in
@@ -68,7 +68,7 @@ child_past t u row places k f walk same c x place within away ep g child =
     ∙ ap (λ (s : ℕ). (slice_index f.ranks t.general * (t.generals - (f.size + 1)) + (place + 1)) * under t.generals s (k - s)) (child_size_is t.generals t.commander x walk.w f g walk.front child))
 
 -- the walk from the commander's label
-pub first_walk : (t : Kept) (row : List Letter) (places : List ℕ) (k : ℕ) (f : Front) → AreDue t row → k ≡ round_of row → ArePlaces row places → 1 < k → IsCampaign t → IsFront t.generals t.commander (t.commander ∷ []) f → IsWalk t row places k f
+pub first_walk : (t : LieutenantTree) (row : List Letter) (places : List ℕ) (k : ℕ) (f : Front) → AreDue t row → k ≡ round_of row → ArePlaces row places → 1 < k → IsCampaign t → IsFront t.generals t.commander (t.commander ∷ []) f → IsWalk t row places k f
 first_walk t row places k f due ek posted more c front = record {
   due = due;
   size = ek;
@@ -79,10 +79,10 @@ first_walk t row places k f due ek posted more c front = record {
   off = alone t c;
 }
   where
-    alone : (t : Kept) → IsCampaign t → on (t.commander ∷ []) t.general ≡ false
+    alone : (t : LieutenantTree) → IsCampaign t → on (t.commander ∷ []) t.general ≡ false
     alone t c = rw (ne_eqb t.commander t.general (λ e. c.lieutenant (sym e))) refl
 
-pub all_walked : (t : Kept) (row : List Letter) (k : ℕ) (f : Front) (u : Kept) → IsCampaign t → k ≡ round_of row → 1 < k → IsFront t.generals t.commander (t.commander ∷ []) f → IsFilledBetween t row k (first_under t f k) (past_under t f k) u → (M : Messages) → IsFilled t M → IsFilled u (heard_also M row)
+pub all_walked : (t : LieutenantTree) (row : List Letter) (k : ℕ) (f : Front) (u : LieutenantTree) → IsCampaign t → k ≡ round_of row → 1 < k → IsFront t.generals t.commander (t.commander ∷ []) f → IsFilledBetween t row k (first_under t f k) (past_under t f k) u → (M : Messages) → IsFilled t M → IsFilled u (heard_also M row)
 all_walked t row k f u c ek more front told =
     let off : on (t.commander ∷ []) t.general ≡ false = rw (ne_eqb t.commander t.general (λ e. c.lieutenant (sym e))) refl in
     let one : length (labels t.generals t.commander t.general 1) ≡ 1 = ap length (first_label t.generals t.commander t.general c.lieutenant) in

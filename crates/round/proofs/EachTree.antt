@@ -4,28 +4,28 @@ use Rattle.std.specs.Prelude.{slice_get, ◌==◌}
 use Rattle.std.proofs.lemmas.Bool.Decides.{eqb_tells}
 use Rattle.std.proofs.lemmas.Option.{slice_get_read}
 use Rattle.label.specs.Oral.{Messages}
-use Rattle.tree.specs.Kept.{Kept, IsFilled, SameCampaign}
+use Rattle.tree.specs.LieutenantTree.{LieutenantTree, IsFilled, SameCampaign}
 
 -- so many trees are changed so, the others are as they were
-pub record AreChangedTo (old : List Kept) (change : Messages → Messages) (i : ℕ) (trees : List Kept) : Type 0 where
+pub record AreChangedTo (old : List LieutenantTree) (change : Messages → Messages) (i : ℕ) (trees : List LieutenantTree) : Type 0 where
   pub count : length trees ≡ length old
-  pub done : (j : ℕ) (t u : Kept) → j < i → slice_get old j ≡ Some t → slice_get trees j ≡ Some u → SameCampaign t u × ((M : Messages) → IsFilled t M → IsFilled u (change M))
+  pub done : (j : ℕ) (t u : LieutenantTree) → j < i → slice_get old j ≡ Some t → slice_get trees j ≡ Some u → SameCampaign t u × ((M : Messages) → IsFilled t M → IsFilled u (change M))
   pub rest : (j : ℕ) → i ≤ j → slice_get trees j ≡ slice_get old j
 
-pub changed_from : (old : List Kept) (change : Messages → Messages) → AreChangedTo old change 0 old
+pub changed_from : (old : List LieutenantTree) (change : Messages → Messages) → AreChangedTo old change 0 old
 changed_from old change = record { count = refl; done = λ j t u lt. absurd (omega arith); rest = λ j le. refl }
 
-set_length : (xs : List Kept) (i : ℕ) (x : Kept) → length (set xs i x) ≡ length xs
+set_length : (xs : List LieutenantTree) (i : ℕ) (x : LieutenantTree) → length (set xs i x) ≡ length xs
 set_length [] i x = refl
 set_length (y ∷ xs) zero x = refl
 set_length (y ∷ xs) (suc i) x = ap suc (set_length xs i x)
 
-get_set : (xs : List Kept) (i : ℕ) (x : Kept) → i < length xs → slice_get (set xs i x) i ≡ Some x
+get_set : (xs : List LieutenantTree) (i : ℕ) (x : LieutenantTree) → i < length xs → slice_get (set xs i x) i ≡ Some x
 get_set [] i x lt = absurd (omega arith)
 get_set (y ∷ xs) zero x lt = refl
 get_set (y ∷ xs) (suc i) x lt = get_set xs i x (omega arith)
 
-get_unset : (xs : List Kept) (i j : ℕ) (x : Kept) → (j ≡ i → ⊥) → slice_get (set xs i x) j ≡ slice_get xs j
+get_unset : (xs : List LieutenantTree) (i j : ℕ) (x : LieutenantTree) → (j ≡ i → ⊥) → slice_get (set xs i x) j ≡ slice_get xs j
 get_unset [] i j x ne = refl
 get_unset (y ∷ xs) zero zero x ne = absurd (ne refl)
 get_unset (y ∷ xs) zero (suc j) x ne = refl
@@ -35,7 +35,7 @@ get_unset (y ∷ xs) (suc i) (suc j) x ne = get_unset xs i j x (λ e. ne (ap suc
 some_same : {A : Type 0} {a b : A} → Some a ≡ Some b → a ≡ b
 some_same e = cc
 
-pub changed_next : (old : List Kept) (change : Messages → Messages) (i : ℕ) (trees : List Kept) (t u : Kept) → AreChangedTo old change i trees → i < length trees → t ≡ get_or trees i t → SameCampaign t u → ((M : Messages) → IsFilled t M → IsFilled u (change M)) → AreChangedTo old change (i + 1) (set trees i u)
+pub changed_next : (old : List LieutenantTree) (change : Messages → Messages) (i : ℕ) (trees : List LieutenantTree) (t u : LieutenantTree) → AreChangedTo old change i trees → i < length trees → t ≡ get_or trees i t → SameCampaign t u → ((M : Messages) → IsFilled t M → IsFilled u (change M)) → AreChangedTo old change (i + 1) (set trees i u)
 changed_next old change i trees t u h lt at same fill =
     let here : slice_get trees i ≡ Some t = slice_get_read trees (length trees) i t refl lt at in
     record {

@@ -6,7 +6,7 @@ use Rattle.std.proofs.lemmas.Bool.Decides.{eqb_tells}
 use Rattle.std.proofs.lemmas.Option.{slice_get_within, slice_get_read, slice_get-get_or}
 use Rattle.label.specs.Oral.{Messages}
 use Rattle.label.proofs.Listing.{proved_labels_are_exact}
-use Rattle.tree.specs.Kept.{Kept, IsFilled, SameCampaign, silence}
+use Rattle.tree.specs.LieutenantTree.{LieutenantTree, IsFilled, SameCampaign, silence}
 use Rattle.round.specs.Scenario.{Scenario, IsScenario}
 use Rattle.round.specs.Letters.{Letter, messages, told_by, letter_of}
 use Rattle.round.specs.Told.{IsTreeOf, AreDue, AreLettersOf, Heard, WasTold, told_now, heard_also, round_of, lieutenant_at}
@@ -62,7 +62,7 @@ heard_more before (l ∷ row) w p some due =
     (eqb_tells (length w) (suc (length before)))
 
 -- one tree
-tree_more : (s : Scenario) (before : List (List Letter)) (row : List Letter) (g : ℕ) (t u : Kept) → IsScenario s → IsTreeOf s before g t → AreLettersOf s (suc (length before)) row → SameCampaign t u → ((M : Messages) → IsFilled t M → IsFilled u (heard_also M row)) →
+tree_more : (s : Scenario) (before : List (List Letter)) (row : List Letter) (g : ℕ) (t u : LieutenantTree) → IsScenario s → IsTreeOf s before g t → AreLettersOf s (suc (length before)) row → SameCampaign t u → ((M : Messages) → IsFilled t M → IsFilled u (heard_also M row)) →
     IsTreeOf s (before ++ row ∷ []) g u
 tree_more s before row g t u is h due same fill = record {
   generals = same.generals ∙ h.generals;
@@ -80,7 +80,7 @@ tree_more s before row g t u is h due same fill = record {
 }
 
 -- what a tree is due
-pub tree_due : (s : Scenario) (before : List (List Letter)) (row : List Letter) (g rounds : ℕ) (t : Kept) → IsTreeOf s before g t → AreLettersOf s (suc rounds) row → rounds ≤ s.bound → AreDue t row
+pub tree_due : (s : Scenario) (before : List (List Letter)) (row : List Letter) (g rounds : ℕ) (t : LieutenantTree) → IsTreeOf s before g t → AreLettersOf s (suc rounds) row → rounds ≤ s.bound → AreDue t row
 tree_due s before row g rounds t h due left = record {
   round = at_most row due;
   letters = λ i l at.
@@ -95,7 +95,7 @@ tree_due s before row g rounds t h due left = record {
     at_most [] due = omega arith
     at_most (x ∷ row) due = (let e = (due 0 x refl).0 in let b = h.bound in omega arith)
 
-pub told_more : (s : Scenario) (before : List (List Letter)) (row : List Letter) (h : Heard) (trees : List Kept) (i : ℕ) → IsScenario s → WasTold s before h → AreLettersOf s (suc h.rounds) row → AreChangedTo h.trees (λ M. heard_also M row) i trees → length trees ≤ i →
+pub told_more : (s : Scenario) (before : List (List Letter)) (row : List Letter) (h : Heard) (trees : List LieutenantTree) (i : ℕ) → IsScenario s → WasTold s before h → AreLettersOf s (suc h.rounds) row → AreChangedTo h.trees (λ M. heard_also M row) i trees → length trees ≤ i →
     WasTold s (before ++ row ∷ []) (record { rounds = h.rounds + 1; trees = trees })
 told_more s before row h trees i is told due filled all =
     let due' : AreLettersOf s (suc (length before)) row = subst (λ (k : ℕ). AreLettersOf s (suc k) row) told.rounds due in
@@ -114,7 +114,7 @@ told_more s before row h trees i is told due filled all =
 none_said : (w : List ℕ) (p : ℕ) → silence w p ≡ messages [] w p
 none_said w p = sym (messages-none [] w p (omega arith))
 
-pub tree_new : (s : Scenario) (g : ℕ) (t : Kept) → t.generals ≡ s.generals → t.bound ≡ s.bound → t.commander ≡ s.commander → t.general ≡ g → g < s.generals → g ≢ s.commander → IsFilled t silence → IsTreeOf s [] g t
+pub tree_new : (s : Scenario) (g : ℕ) (t : LieutenantTree) → t.generals ≡ s.generals → t.bound ≡ s.bound → t.commander ≡ s.commander → t.general ≡ g → g < s.generals → g ≢ s.commander → IsFilled t silence → IsTreeOf s [] g t
 tree_new s g t eg eb ec ep within ne filled = record {
   generals = eg;
   bound = eb;
@@ -126,30 +126,30 @@ tree_new s g t eg eb ec ep within ne filled = record {
 }
 
 -- the trees of so many lieutenants, of which nothing is told
-pub record AreSilent (s : Scenario) (i : ℕ) (all : List Kept) : Type 0 where
+pub record AreSilent (s : Scenario) (i : ℕ) (all : List LieutenantTree) : Type 0 where
   pub count : length all ≡ i
-  pub trees : (j : ℕ) (t : Kept) → slice_get all j ≡ Some t → IsTreeOf s [] (lieutenant_at s.commander j) t
+  pub trees : (j : ℕ) (t : LieutenantTree) → slice_get all j ≡ Some t → IsTreeOf s [] (lieutenant_at s.commander j) t
 
 pub silent_none : (s : Scenario) → AreSilent s 0 []
 silent_none s = record { count = refl; trees = λ j t at. cc }
 
-get_push : (xs : List Kept) (x t : Kept) (j : ℕ) → slice_get (xs ++ x ∷ []) j ≡ Some t → (slice_get xs j ≡ Some t) ⊎ ((j ≡ length xs) × (x ≡ t))
+get_push : (xs : List LieutenantTree) (x t : LieutenantTree) (j : ℕ) → slice_get (xs ++ x ∷ []) j ≡ Some t → (slice_get xs j ≡ Some t) ⊎ ((j ≡ length xs) × (x ≡ t))
 get_push [] x t zero e = inr (refl, cc)
 get_push [] x t (suc j) e = cc
 get_push (y ∷ xs) x t zero e = inl e
 get_push (y ∷ xs) x t (suc j) e = ⊎_elim (λ (q : slice_get xs j ≡ Some t). inl q) (λ (q : (j ≡ length xs) × (x ≡ t)). inr (ap suc q.0, q.1)) (get_push xs x t j e)
 
-pub silent_more : (s : Scenario) (i g : ℕ) (trees : List Kept) (t : Kept) → AreSilent s i trees → g ≡ lieutenant_at s.commander i → IsTreeOf s [] g t → AreSilent s (i + 1) (trees ++ t ∷ [])
+pub silent_more : (s : Scenario) (i g : ℕ) (trees : List LieutenantTree) (t : LieutenantTree) → AreSilent s i trees → g ≡ lieutenant_at s.commander i → IsTreeOf s [] g t → AreSilent s (i + 1) (trees ++ t ∷ [])
 silent_more s i g trees t h eg new = record {
   count = (let l = length-append trees (t ∷ []) in let e = h.count in omega arith);
   trees = λ j u at. ⊎_elim
       (λ (q : slice_get trees j ≡ Some u). h.trees j u q)
       (λ (q : (j ≡ length trees) × (t ≡ u)).
-      subst (λ (x : Kept). IsTreeOf s [] (lieutenant_at s.commander j) x) q.1 (subst (λ (k : ℕ). IsTreeOf s [] k t) (eg ∙ ap (λ (k : ℕ). lieutenant_at s.commander k) (sym (q.0 ∙ h.count))) new))
+      subst (λ (x : LieutenantTree). IsTreeOf s [] (lieutenant_at s.commander j) x) q.1 (subst (λ (k : ℕ). IsTreeOf s [] k t) (eg ∙ ap (λ (k : ℕ). lieutenant_at s.commander k) (sym (q.0 ∙ h.count))) new))
       (get_push trees t u j at);
 }
 
-pub told_none : (s : Scenario) (i : ℕ) (trees : List Kept) → AreSilent s i trees → i + 1 ≡ s.generals → WasTold s [] (record { rounds = 0; trees = trees })
+pub told_none : (s : Scenario) (i : ℕ) (trees : List LieutenantTree) → AreSilent s i trees → i + 1 ≡ s.generals → WasTold s [] (record { rounds = 0; trees = trees })
 told_none s i trees h e = record { rounds = refl; count = (let c = h.count in omega arith); trees = h.trees }
 
 -- a lieutenant under a commander
@@ -168,7 +168,7 @@ lieutenant_within c i n lt = by (nat_lt i c)
     by false = omega arith
 
 -- the tree of a lieutenant
-pub own_tree : (s : Scenario) (before : List (List Letter)) (h : Heard) (i g : ℕ) (t : Kept) → WasTold s before h → i < length h.trees → t ≡ get_or h.trees i t → lieutenant_at s.commander i ≡ g → IsTreeOf s before g t
+pub own_tree : (s : Scenario) (before : List (List Letter)) (h : Heard) (i g : ℕ) (t : LieutenantTree) → WasTold s before h → i < length h.trees → t ≡ get_or h.trees i t → lieutenant_at s.commander i ≡ g → IsTreeOf s before g t
 own_tree s before h i g t told lt at is =
     subst (λ (k : ℕ). IsTreeOf s before k t) is (told.trees i t (slice_get_read h.trees (length h.trees) i t refl lt at))
 
@@ -181,20 +181,20 @@ place_within c i g n m within inside is count = by (nat_lt i c) refl is
     by false e h = omega arith
 
 -- a tree that is not filled yet is due the letters
-pub told_due : (s : Scenario) (before : List (List Letter)) (row : List Letter) (h : Heard) (trees : List Kept) (i : ℕ) (t : Kept) → WasTold s before h → AreChangedTo h.trees (λ M. heard_also M row) i trees → i < length trees → t ≡ get_or trees i t → AreLettersOf s (suc h.rounds) row → h.rounds ≤ s.bound → AreDue t row
+pub told_due : (s : Scenario) (before : List (List Letter)) (row : List Letter) (h : Heard) (trees : List LieutenantTree) (i : ℕ) (t : LieutenantTree) → WasTold s before h → AreChangedTo h.trees (λ M. heard_also M row) i trees → i < length trees → t ≡ get_or trees i t → AreLettersOf s (suc h.rounds) row → h.rounds ≤ s.bound → AreDue t row
 told_due s before row h trees i t told filled lt at due left =
     let here : slice_get trees i ≡ Some t = slice_get_read trees (length trees) i t refl lt at in
     tree_due s before row (lieutenant_at s.commander i) h.rounds t (told.trees i t (sym (filled.rest i (omega arith)) ∙ here)) due left
 
 -- as it is looked up
-pub looked_up : (s : Scenario) (before : List (List Letter)) (h now : Heard) (commander place from g : ℕ) (t : Kept) → IsScenario s → WasTold s before now → h ≡ now → commander ≡ s.commander → lieutenant_at commander place ≡ g → g < s.generals → from ≡ place → t ≡ get_or h.trees from t →
+pub looked_up : (s : Scenario) (before : List (List Letter)) (h now : Heard) (commander place from g : ℕ) (t : LieutenantTree) → IsScenario s → WasTold s before now → h ≡ now → commander ≡ s.commander → lieutenant_at commander place ≡ g → g < s.generals → from ≡ place → t ≡ get_or h.trees from t →
     (lieutenant_at s.commander place ≡ g) × (place < length h.trees) × (t ≡ get_or h.trees place t)
 looked_up s before h now commander place from g t is told view ec there within ef at =
     let here : lieutenant_at s.commander place ≡ g = ap (λ (k : ℕ). lieutenant_at k place) (sym ec) ∙ there in
     let count : length h.trees + 1 ≡ s.generals = ap (λ (x : Heard). length x.trees + 1) view ∙ told.count in
     (here, place_within s.commander place g s.generals (length h.trees) within is.commander here count, at ∙ ap (λ (i : ℕ). get_or h.trees i t) ef)
 
-pub looked_tree : (s : Scenario) (before : List (List Letter)) (h now : Heard) (commander place from g : ℕ) (t : Kept) → IsScenario s → WasTold s before now → h ≡ now → commander ≡ s.commander → lieutenant_at commander place ≡ g → g < s.generals → from ≡ place → t ≡ get_or h.trees from t → IsTreeOf s before g t
+pub looked_tree : (s : Scenario) (before : List (List Letter)) (h now : Heard) (commander place from g : ℕ) (t : LieutenantTree) → IsScenario s → WasTold s before now → h ≡ now → commander ≡ s.commander → lieutenant_at commander place ≡ g → g < s.generals → from ≡ place → t ≡ get_or h.trees from t → IsTreeOf s before g t
 looked_tree s before h now commander place from g t is told view ec there within ef at =
     let o = looked_up s before h now commander place from g t is told view ec there within ef at in
     own_tree s before h place g t (subst (λ (x : Heard). WasTold s before x) (sym view) told) o.1 o.2 o.0

@@ -5,7 +5,7 @@ use Rattle.std.proofs.lemmas.Bool.Decides.{eqb_tells}
 use Rattle.std.proofs.lemmas.Option.{slice_get_within, slice_get-get_or}
 use Rattle.label.specs.Oral.{Messages}
 use Rattle.label.proofs.Listing.{proved_labels_are_exact}
-use Rattle.tree.specs.Kept.{Kept, IsFilled, SameCampaign, blank}
+use Rattle.tree.specs.LieutenantTree.{LieutenantTree, IsFilled, SameCampaign, blank}
 use Rattle.tree.proofs.Blanks.{blank-here, blank-other}
 use Rattle.round.specs.Scenario.{Scenario, IsScenario}
 use Rattle.round.specs.Letters.{Letter, messages}
@@ -31,7 +31,7 @@ forgotten before row k w p ek some = ⊎_elim
     (eqb_tells (length w) k)
 
 -- one tree
-tree_less : (s : Scenario) (before : List (List Letter)) (row : List Letter) (g k : ℕ) (t u : Kept) → IsScenario s → k ≡ suc (length before) → IsTreeOf s (before ++ row ∷ []) g t → SameCampaign t u → ((M : Messages) → IsFilled t M → IsFilled u (blank M k)) →
+tree_less : (s : Scenario) (before : List (List Letter)) (row : List Letter) (g k : ℕ) (t u : LieutenantTree) → IsScenario s → k ≡ suc (length before) → IsTreeOf s (before ++ row ∷ []) g t → SameCampaign t u → ((M : Messages) → IsFilled t M → IsFilled u (blank M k)) →
     IsTreeOf s before g u
 tree_less s before row g k t u is ek h same fill = record {
   generals = same.generals ∙ h.generals;
@@ -49,7 +49,7 @@ tree_less s before row g k t u is ek h same fill = record {
 }
 
 -- all trees
-pub told_less : (s : Scenario) (before : List (List Letter)) (row : List Letter) (h : Heard) (trees : List Kept) (i : ℕ) → IsScenario s → WasTold s (before ++ row ∷ []) h → AreChangedTo h.trees (λ M. blank M h.rounds) i trees → length trees ≤ i →
+pub told_less : (s : Scenario) (before : List (List Letter)) (row : List Letter) (h : Heard) (trees : List LieutenantTree) (i : ℕ) → IsScenario s → WasTold s (before ++ row ∷ []) h → AreChangedTo h.trees (λ M. blank M h.rounds) i trees → length trees ≤ i →
     WasTold s before (record { rounds = h.rounds - 1; trees = trees })
 told_less s before row h trees i is told changed all =
     let rounds : h.rounds ≡ suc (length before) = some_told s before row h told in

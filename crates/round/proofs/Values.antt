@@ -9,7 +9,7 @@ use Rattle.label.specs.Labels.{labels}
 use Rattle.label.specs.Relay.{relay}
 use Rattle.label.specs.Oral.{Messages, order_of, heard}
 use Rattle.label.proofs.Listing.{proved_labels_are_exact}
-use Rattle.tree.specs.Kept.{Kept, IsFilled, level_told}
+use Rattle.tree.specs.LieutenantTree.{LieutenantTree, IsFilled, level_told}
 use Rattle.round.specs.Scenario.{Scenario, IsScenario, shape_of}
 use Rattle.round.specs.Letters.{Letter, messages}
 use Rattle.round.specs.Contexts.{value_of, context_bytes, context_numbers, context_of, AreWords}
@@ -43,7 +43,7 @@ values_level s before g k commander general ne some =
     ∙ map_twice order_of (λ w. messages before w g) (labels s.generals s.commander g k))
 
 -- the numbers of a later context, from the tree's level
-pub later_is : (s : Scenario) (before : List (List Letter)) (g k bound : ℕ) (t : Kept) (shape : Shape) (level : List (Option ℕ)) → IsScenario s → IsTreeOf s before g t → k ≡ length before → 0 < k → shape ≡ shape_of s g (k + 1) → bound ≡ s.bound →
+pub later_is : (s : Scenario) (before : List (List Letter)) (g k bound : ℕ) (t : LieutenantTree) (shape : Shape) (level : List (Option ℕ)) → IsScenario s → IsTreeOf s before g t → k ≡ length before → 0 < k → shape ≡ shape_of s g (k + 1) → bound ≡ s.bound →
     ((M : Messages) → IsFilled t M → level ≡ level_told t.generals t.commander t.general M k) → context_bytes (context_numbers shape bound (map order_of level)) ≡ context_of s before g
 later_is s before g k bound t shape level is h ek some es eb told =
     let round : k + 1 ≡ suc (length before) = omega arith in
@@ -55,7 +55,7 @@ later_is s before g k bound t shape level is h ek some es eb told =
     let there : shape ≡ shape_of s g (suc (length before)) = es ∙ ap (λ (j : ℕ). shape_of s g j) round in
     (λ i. context_bytes (context_numbers (there i) (eb i) (values i)))
 
-pub few_values : (s : Scenario) (before : List (List Letter)) (g k : ℕ) (t : Kept) (level : List (Option ℕ)) → IsScenario s → IsTreeOf s before g t → k ≤ s.bound → length level ≡ length (labels t.generals t.commander t.general k) → length level ≤ 1000
+pub few_values : (s : Scenario) (before : List (List Letter)) (g k : ℕ) (t : LieutenantTree) (level : List (Option ℕ)) → IsScenario s → IsTreeOf s before g t → k ≤ s.bound → length level ≡ length (labels t.generals t.commander t.general k) → length level ≤ 1000
 few_values s before g k t level is h le long =
     let same : length (labels t.generals t.commander t.general k) ≡ length (labels s.generals s.commander g k) = (λ i. length (labels (h.generals i) (h.commander i) (h.general i) k)) in
     let few : length (labels s.generals s.commander g k) ≤ 1000 = (let l = few_labels s.generals s.commander g k is.few is.commander h.within h.lieutenant (let r = is.rounds in omega arith) in omega arith) in
@@ -104,7 +104,7 @@ commander_told (Ok v) s h g bound k shape ek some eg es eb is =
 commander_told (Err e) s h g bound k shape ek some eg es eb is = tt
 
 -- a lieutenant later on
-pub later_told : {E : Type 0} (r : Result (Vec ℕ Global) E) (s : Scenario) (h : Heard) (g bound k i : ℕ) (t : Kept) (shape : Shape) (level : List (Option ℕ)) → IsScenario s → k ≡ h.rounds → (k ≡ 0 → ⊥) → lieutenant_at s.commander i ≡ g → i < length h.trees → t ≡ get_or h.trees i t →
+pub later_told : {E : Type 0} (r : Result (Vec ℕ Global) E) (s : Scenario) (h : Heard) (g bound k i : ℕ) (t : LieutenantTree) (shape : Shape) (level : List (Option ℕ)) → IsScenario s → k ≡ h.rounds → (k ≡ 0 → ⊥) → lieutenant_at s.commander i ≡ g → i < length h.trees → t ≡ get_or h.trees i t →
     shape ≡ shape_of s g (k + 1) → bound ≡ s.bound → ((M : Messages) → IsFilled t M → level ≡ level_told t.generals t.commander t.general M k) →
     IfOk r (λ v. v.items ≡ context_bytes (context_numbers shape bound (map order_of level))) → IfOk r (λ v. (before : List (List Letter)) → WasTold s before h → v.items ≡ context_of s before g)
 later_told (Ok v) s h g bound k i t shape level is ek some there lt at es eb told_level bytes =
@@ -124,7 +124,7 @@ get_map F (x ∷ ws) zero w d e = (let same : x ≡ w = cc in ap F same)
 get_map F (x ∷ ws) (suc i) w d e = get_map F ws i w d e
 
 -- what the level of a lieutenant's tree has are words
-pub words_told : (s : Scenario) (before : List (List Letter)) (h : Heard) (g k i : ℕ) (t : Kept) (level : List (Option ℕ)) → IsScenario s → WasTold s before h → k ≡ h.rounds → (k ≡ 0 → ⊥) → lieutenant_at s.commander i ≡ g → i < length h.trees → t ≡ get_or h.trees i t →
+pub words_told : (s : Scenario) (before : List (List Letter)) (h : Heard) (g k i : ℕ) (t : LieutenantTree) (level : List (Option ℕ)) → IsScenario s → WasTold s before h → k ≡ h.rounds → (k ≡ 0 → ⊥) → lieutenant_at s.commander i ≡ g → i < length h.trees → t ≡ get_or h.trees i t →
     ((M : Messages) → IsFilled t M → level ≡ level_told t.generals t.commander t.general M k) → All (λ v. order_of v < 2 ^ 32) level → AreWords s before g
 words_told s before h g k i t level is told ek some there lt at told_level small rank u place =
     let tree = own_tree s before h i g t told lt at there in

@@ -12,11 +12,11 @@ use Rattle.label.proofs.Bounds.{others_length_more}
 use Rattle.label.proofs.Counts.{count-more, row-fits}
 use Rattle.label.proofs.Parts.{wide}
 use Rattle.label.specs.Oral.{Messages}
-use Rattle.tree.specs.Kept.{Kept, IsCampaign, IsFilled, SameCampaign, told_also}
+use Rattle.tree.specs.LieutenantTree.{LieutenantTree, IsCampaign, IsFilled, SameCampaign, told_also}
 use Rattle.round.specs.Letters.{Letter, told_by, letter_of}
 use Rattle.round.specs.Told.{AreDue, told_now, round_of}
 use Rattle.round.specs.Fronts.{IsFront, under}
-use Rattle.round.specs.Delivery.{order_told, IsFilledBetween, IsWalk}
+use Rattle.round.specs.Delivery.{order_in_letter, IsFilledBetween, IsWalk}
 use Rattle.round.specs.declared.front.Front.{Front}
 use Rattle.round.proofs.Senders.{order_tells, letter_stands}
 use Rattle.round.proofs.Prolonging.{child_rank, child_fits, off-lieutenant, begun-long}
@@ -39,21 +39,21 @@ told_last row w x p =
     ∙ (ap (λ (g : ℕ). told_by (letter_of row g) (take (length w) (w ++ x ∷ [])) p) (last_is w x) ∙ ap (λ u. told_by (letter_of row x) u p) (front_is w x))
 
 -- what the letter of a general who is due tells, by the label's rank among those that he relays
-order_by : (o : Option Letter) (s : Shape) (u : List ℕ) (p rank : ℕ) → ((l : Letter) → o ≡ Some l → l.outbox.shape ≡ s) → s.commander < s.generals → s.general < s.generals → slice_get (relay s) rank ≡ Some u → order_told o rank p ≡ told_by o u p
+order_by : (o : Option Letter) (s : Shape) (u : List ℕ) (p rank : ℕ) → ((l : Letter) → o ≡ Some l → l.outbox.shape ≡ s) → s.commander < s.generals → s.general < s.generals → slice_get (relay s) rank ≡ Some u → order_in_letter o rank p ≡ told_by o u p
 order_by None s u p rank due commander general at = refl
 order_by (Some l) s u p rank due commander general at =
     let e : s ≡ l.outbox.shape = sym (due l refl) in
     order_tells l.outbox.shape l.outbox.rows u p rank
     (subst (λ (z : Shape). z.commander < z.generals) e commander) (subst (λ (z : Shape). z.general < z.generals) e general) (subst (λ (z : Shape). slice_get (relay z) rank ≡ Some u) e at)
 
-pub due_shape : (t : Kept) (row : List Letter) (x : ℕ) (l : Letter) → AreDue t row → letter_of row x ≡ Some l → l.outbox.shape ≡ record { generals = t.generals; commander = t.commander; general = x; round = round_of row }
+pub due_shape : (t : LieutenantTree) (row : List Letter) (x : ℕ) (l : Letter) → AreDue t row → letter_of row x ≡ Some l → l.outbox.shape ≡ record { generals = t.generals; commander = t.commander; general = x; round = round_of row }
 due_shape t row x l due e =
     let s = letter_stands row x l e in
     due.letters s.0 l s.1 ∙ ap (λ (g : ℕ). record { generals = t.generals; commander = t.commander; general = g; round = round_of row }) s.2
 
 -- of a longer label
-pub child_told : (t : Kept) (row : List Letter) (w : List ℕ) (x rank : ℕ) (value : Option ℕ) → AreDue t row → t.commander < t.generals → x < t.generals → x ≢ t.commander → round_of row ≡ length w + 1 → slice_get (labels t.generals t.commander x (length w)) rank ≡ Some w →
-    value ≡ order_told (letter_of row x) rank t.general → value ≡ told_now row (w ++ x ∷ []) t.general
+pub child_told : (t : LieutenantTree) (row : List Letter) (w : List ℕ) (x rank : ℕ) (value : Option ℕ) → AreDue t row → t.commander < t.generals → x < t.generals → x ≢ t.commander → round_of row ≡ length w + 1 → slice_get (labels t.generals t.commander x (length w)) rank ≡ Some w →
+    value ≡ order_in_letter (letter_of row x) rank t.general → value ≡ told_now row (w ++ x ∷ []) t.general
 child_told t row w x rank value due inside within ne round at is =
     let less : length w ≡ round_of row - 1 = omega arith in
     is ∙ (order_by (letter_of row x) (record { generals = t.generals; commander = t.commander; general = x; round = round_of row }) w t.general rank (λ l e. due_shape t row x l due e) inside within
@@ -61,7 +61,7 @@ child_told t row w x rank value due inside within ne round at is =
     ∙ sym (told_last row w x t.general))
 
 -- of the commander's label
-pub first_told : (t : Kept) (row : List Letter) (value : Option ℕ) → AreDue t row → t.commander < t.generals → round_of row ≡ 1 → value ≡ order_told (letter_of row t.commander) 0 t.general → value ≡ told_now row (t.commander ∷ []) t.general
+pub first_told : (t : LieutenantTree) (row : List Letter) (value : Option ℕ) → AreDue t row → t.commander < t.generals → round_of row ≡ 1 → value ≡ order_in_letter (letter_of row t.commander) 0 t.general → value ≡ told_now row (t.commander ∷ []) t.general
 first_told t row value due inside round is =
     is ∙ (order_by (letter_of row t.commander) (record { generals = t.generals; commander = t.commander; general = t.commander; round = round_of row }) [] t.general 0 (λ l e. due_shape t row t.commander l due e) inside inside
     (rw (eq-eqb t.commander t.commander refl, eq-eqb (round_of row) 1 round) refl)
@@ -160,7 +160,7 @@ all_children n c p place w f h inside pin off at =
     wide n c p (length w - 1) (slice_index f.ranks p) w inside pin (off-lieutenant c p w h.label.first off) (subst (λ (k : ℕ). slice_get (labels n c p k) (slice_index f.ranks p) ≡ Some w) long (h.stands p pin off)) in
     omega arith
 
-pub same_campaign : (t u : Kept) → SameCampaign t u → IsCampaign t → IsCampaign u
+pub same_campaign : (t u : LieutenantTree) → SameCampaign t u → IsCampaign t → IsCampaign u
 same_campaign t u same c = record {
   few = rw same.generals c.few;
   commander = rw (same.commander, same.generals) c.commander;
@@ -169,18 +169,18 @@ same_campaign t u same c = record {
   small = rw same.bound c.small;
 }
 
-pub same_due : (t u : Kept) (row : List Letter) → SameCampaign t u → AreDue t row → AreDue u row
+pub same_due : (t u : LieutenantTree) (row : List Letter) → SameCampaign t u → AreDue t row → AreDue u row
 same_due t u row same due = record {
   round = rw same.bound due.round;
   letters = λ i l at. rw (same.generals, same.commander) (due.letters i l at);
 }
 
-pub told_ends : (t : Kept) (row : List Letter) (k i j a b : ℕ) (u : Kept) → i ≡ a → j ≡ b → IsFilledBetween t row k i j u → IsFilledBetween t row k a b u
+pub told_ends : (t : LieutenantTree) (row : List Letter) (k i j a b : ℕ) (u : LieutenantTree) → i ≡ a → j ≡ b → IsFilledBetween t row k i j u → IsFilledBetween t row k a b u
 told_ends t row k i j a b u ei ej h = subst (λ (x : ℕ). IsFilledBetween t row k x b u) ei (subst (λ (y : ℕ). IsFilledBetween t row k i y u) ej h)
 
 -- one child more is told
-pub tell_step : (t u v : Kept) (row : List Letter) (places : List ℕ) (k : ℕ) (f : Front) (walk : IsWalk t row places k f) → f.size + 1 ≡ k → IsCampaign t → (first width place x : ℕ) → width ≡ t.generals - k → first ≡ slice_index f.ranks t.general * width →
-    x < t.generals → on (t.general ∷ walk.w) x ≡ false → place ≡ length (others x (t.general ∷ walk.w)) → IsFilledBetween t row k first (first + place) u → (value : Option ℕ) → value ≡ order_told (letter_of row x) (slice_index f.ranks x) t.general → SameCampaign u v →
+pub tell_step : (t u v : LieutenantTree) (row : List Letter) (places : List ℕ) (k : ℕ) (f : Front) (walk : IsWalk t row places k f) → f.size + 1 ≡ k → IsCampaign t → (first width place x : ℕ) → width ≡ t.generals - k → first ≡ slice_index f.ranks t.general * width →
+    x < t.generals → on (t.general ∷ walk.w) x ≡ false → place ≡ length (others x (t.general ∷ walk.w)) → IsFilledBetween t row k first (first + place) u → (value : Option ℕ) → value ≡ order_in_letter (letter_of row x) (slice_index f.ranks x) t.general → SameCampaign u v →
     ((M : Messages) (y : List ℕ) → IsFilled u M → slice_get (labels u.generals u.commander u.general k) (first + place) ≡ Some y → IsFilled v (told_also M y value)) → IsFilledBetween t row k first (first + (place + 1)) v
 tell_step t u v row places k f walk last c first width place x ew ef within away ep told value is same fill =
     let parts = or_parts (t.general == x) (on walk.w x) away in
@@ -200,7 +200,7 @@ tell_step t u v row places k f walk last c first width place x ew ef within away
     (told_one u row k (first + place) v (walk.w ++ x ∷ []) value (same_campaign t u told.same c) same (rw (told.same.generals, told.same.commander, told.same.general) at) (rw told.same.general now) fill))
 
 -- a child's place, and that it fits
-pub row_fits : (t : Kept) (row : List Letter) (places : List ℕ) (k : ℕ) (f : Front) (walk : IsWalk t row places k f) → IsCampaign t → (g width : ℕ) → g ≡ t.general → width ≡ t.generals - (f.size + 1) → slice_index f.ranks g * width < 2 ^ 32
+pub row_fits : (t : LieutenantTree) (row : List Letter) (places : List ℕ) (k : ℕ) (f : Front) (walk : IsWalk t row places k f) → IsCampaign t → (g width : ℕ) → g ≡ t.general → width ≡ t.generals - (f.size + 1) → slice_index f.ranks g * width < 2 ^ 32
 row_fits t row places k f walk c g width eg ew =
     let h = walk.front in let s = h.size in let d = walk.due.round in let z = walk.size in let b = c.small in let l = walk.short in
     let long : length walk.w ≡ suc (length walk.w - 1) = begun-long t.commander walk.w h.label.first in
@@ -209,14 +209,14 @@ row_fits t row places k f walk c g width eg ew =
     (row-fits (record { generals = t.generals; commander = t.commander; general = t.general }) (record { generals = c.few; commander = c.commander; general = c.general; lieutenant = c.lieutenant })
     (length walk.w) (slice_index f.ranks t.general) walk.w (omega arith) (omega arith) (h.stands t.general c.general walk.off)))
 
-pub child_place : (t : Kept) (row : List Letter) (places : List ℕ) (k : ℕ) (f : Front) (walk : IsWalk t row places k f) → IsCampaign t → (g width x place : ℕ) → g ≡ t.general → width ≡ t.generals - (f.size + 1) → x < t.generals → on (t.general ∷ walk.w) x ≡ false → place ≡ length (others x (t.general ∷ walk.w)) →
+pub child_place : (t : LieutenantTree) (row : List Letter) (places : List ℕ) (k : ℕ) (f : Front) (walk : IsWalk t row places k f) → IsCampaign t → (g width x place : ℕ) → g ≡ t.general → width ≡ t.generals - (f.size + 1) → x < t.generals → on (t.general ∷ walk.w) x ≡ false → place ≡ length (others x (t.general ∷ walk.w)) →
     slice_get (labels t.generals t.commander t.general (f.size + 1)) (slice_index f.ranks g * width + place) ≡ Some (walk.w ++ x ∷ [])
 child_place t row places k f walk c g width x place eg ew within away ep =
     subst (λ (q : ℕ). slice_get (labels t.generals t.commander t.general (f.size + 1)) (slice_index f.ranks q * width + place) ≡ Some (walk.w ++ x ∷ [])) (sym eg)
     (subst (λ (j : ℕ). slice_get (labels t.generals t.commander t.general j) (slice_index f.ranks t.general * width + place) ≡ Some (walk.w ++ x ∷ [])) (child_long t.generals t.commander x walk.w f walk.front)
     (child_at t.generals t.commander t.general x place width walk.w f walk.front c.commander c.general within walk.off away ep ew))
 
-pub place_fits : (t : Kept) (row : List Letter) (places : List ℕ) (k : ℕ) (f : Front) (walk : IsWalk t row places k f) → IsCampaign t → (r : ℕ) (v : List ℕ) → slice_get (labels t.generals t.commander t.general (f.size + 1)) r ≡ Some v → r < 2 ^ 32
+pub place_fits : (t : LieutenantTree) (row : List Letter) (places : List ℕ) (k : ℕ) (f : Front) (walk : IsWalk t row places k f) → IsCampaign t → (r : ℕ) (v : List ℕ) → slice_get (labels t.generals t.commander t.general (f.size + 1)) r ≡ Some v → r < 2 ^ 32
 place_fits t row places k f walk c r v at =
     let d = walk.due.round in let z = walk.size in let b = c.small in let l = walk.short in
     child_fits t.generals t.commander t.general (f.size + 1) r v c.few c.commander c.general c.lieutenant (omega arith) (omega arith) at

@@ -4,7 +4,7 @@ use Rattle.semantics.specs.declared.request.Request.{Request}
 use Rattle.semantics.specs.State.{State, Outcome, Next, Ask, Exit}
 use Rattle.semantics.specs.Relay.{IsContext}
 use Rattle.board.specs.Board.{Access, reply, next}
-use Rattle.board.specs.Ledger.{Kept}
+use Rattle.board.specs.Ledger.{RecordedBoard}
 use Rattle.machine.specs.Standing.{Standing, before}
 use Rattle.machine.specs.Advance.{IsOfRun}
 use Rattle.machine.specs.declared.pause.Stop.{Stop}
@@ -37,14 +37,14 @@ IsBack (Asked r) old new = before new ≡ old
 IsBack _ old new = Unit {0}
 
 -- a served request is entered
-abbrev pub entered : ℕ → ℕ → Request → Kept → Kept
+abbrev pub entered : ℕ → ℕ → Request → RecordedBoard → RecordedBoard
 entered general round request k = record k {
   words = next k.words request;
   ledger = k.ledger ++ record { general = general; round = round; request = request; reply = reply k.words request } ∷ [];
 }
 
 -- what a turn leaves of the activation and of the board; a request is served within it
-abbrev pub moved : ℕ → ℕ → Activation → Kept → Turn → Activation × Kept
+abbrev pub moved : ℕ → ℕ → Activation → RecordedBoard → Turn → Activation × RecordedBoard
 moved general round a k (Goes b) = (b, k)
 moved general round a k (Asks request answered) = (answered (reply k.words request), entered general round request k)
 moved general round a k Ended = (a, k)

@@ -1,12 +1,12 @@
 -- What the letters of closed rounds have told the lieutenants (own; Lynch, Distributed Algorithms, section 6.2).
 use Rattle.std.specs.Prelude.{ℕ, suc, ◌+◌, ◌-◌, ◌≡◌, ◌≢◌, ◌<◌, ◌==◌, nat_lt, if◌then◌else◌, cond, List, [], ◌∷◌, length, take, slice_index, slice_get, Option, Some}
 use Rattle.label.specs.Oral.{Messages}
-use Rattle.tree.specs.Kept.{Kept, IsFilled}
+use Rattle.tree.specs.LieutenantTree.{LieutenantTree, IsFilled}
 use Rattle.round.specs.Scenario.{Scenario, shape_of}
 use Rattle.round.specs.Letters.{Letter, messages, told_by, letter_of}
 
 -- the tree is a lieutenant's of the campaign, filled from the letters of these rounds
-pub record IsTreeOf (s : Scenario) (before : List (List Letter)) (g : ℕ) (t : Kept) : Type 0 where
+pub record IsTreeOf (s : Scenario) (before : List (List Letter)) (g : ℕ) (t : LieutenantTree) : Type 0 where
   pub generals : t.generals ≡ s.generals
   pub bound : t.bound ≡ s.bound
   pub commander : t.commander ≡ s.commander
@@ -29,7 +29,7 @@ unfoldable pub heard_also : Messages → List Letter → Messages
 heard_also M row w p = cond (length w == round_of row) (told_now row w p) (M w p)
 
 -- the letters are of one round of the tree's campaign
-pub record AreDue (t : Kept) (row : List Letter) : Type 0 where
+pub record AreDue (t : LieutenantTree) (row : List Letter) : Type 0 where
   pub round : round_of row < t.bound + 2
   pub letters : (i : ℕ) (l : Letter) → slice_get row i ≡ Some l → l.outbox.shape ≡ record { generals = t.generals; commander = t.commander; general = l.general; round = round_of row }
 
@@ -44,7 +44,7 @@ AreRoundsOf s before = (i : ℕ) (row : List Letter) → slice_get before i ≡ 
 -- how many rounds were told, and each lieutenant's tree, ascending
 pub record Heard : Type 0 where
   pub rounds : ℕ
-  pub trees : List Kept
+  pub trees : List LieutenantTree
 
 -- the lieutenant at a place among those under a commander
 abbrev pub lieutenant_at : ℕ → ℕ → ℕ
@@ -54,4 +54,4 @@ lieutenant_at commander i = if nat_lt i commander then i else i + 1
 pub record WasTold (s : Scenario) (before : List (List Letter)) (h : Heard) : Type 0 where
   pub rounds : h.rounds ≡ length before
   pub count : length h.trees + 1 ≡ s.generals
-  pub trees : (i : ℕ) (t : Kept) → slice_get h.trees i ≡ Some t → IsTreeOf s before (lieutenant_at s.commander i) t
+  pub trees : (i : ℕ) (t : LieutenantTree) → slice_get h.trees i ≡ Some t → IsTreeOf s before (lieutenant_at s.commander i) t

@@ -1,10 +1,10 @@
 //! What the letters of a round add to a tree.
 ghost use Rattle.std.specs.Prelude.{◌≡◌, ◌<◌, ◌+◌, not, ◌||◌, ◌==◌, false, cond, nat_lt, length, slice_get, slice_index_or};
 ghost use Rattle.label.specs.Oral.{Messages};
-ghost use Rattle.tree.specs.Kept.{IsFilled, SameCampaign};
+ghost use Rattle.tree.specs.LieutenantTree.{IsFilled, SameCampaign};
 ghost use Rattle.round.specs.Letters.{letter_of};
 ghost use Rattle.round.specs.Told.{AreDue, heard_also};
-ghost use Rattle.round.specs.Delivery.{ArePlaces, IsFilledBetween, IsWalk, first_under, order_told, past_under};
+ghost use Rattle.round.specs.Delivery.{ArePlaces, IsFilledBetween, IsWalk, first_under, order_in_letter, past_under};
 
 use crate::front::Front;
 use crate::letter::Letter;
@@ -100,7 +100,7 @@ fn told(
     receiver: u8,
 ) -> Option<u32>
     requires { general < 13 }
-    ensures { ArePlaces letters.now places.now → result ≡ order_told (letter_of letters.now general) rank receiver }
+    ensures { ArePlaces letters.now places.now → result ≡ order_in_letter (letter_of letters.now general) rank receiver }
 {
     match letters.get(places[usize::from(general)]) {
         Some(letter) => letter.outbox.get(rank, u32::from(receiver)),

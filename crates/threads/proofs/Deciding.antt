@@ -10,7 +10,7 @@ use Rattle.label.specs.Labels.{others}
 use Rattle.label.specs.Lieutenants.{lieutenants}
 use Rattle.label.specs.Oral.{Messages, om}
 use Rattle.label.proofs.Ranks.{others-more_no, others-more_yes}
-use Rattle.tree.specs.Kept.{Kept}
+use Rattle.tree.specs.LieutenantTree.{LieutenantTree}
 use Rattle.resolve.specs.Decided.{Decides}
 use Rattle.round.specs.Scenario.{Scenario}
 use Rattle.round.specs.Letters.{Letter, messages}
@@ -50,13 +50,13 @@ lieutenants_are n c k lt e =
     subst A s (all_of c k (omega arith))
 
 -- what each tree decides
-tree_decides : (s : Scenario) (before : List (List Letter)) (p : ℕ) (t : Kept) (d : ℕ) → IsTreeOf s before p t → Decides (combined_by s.rule) t d → d ≡ decision s (messages before) p
+tree_decides : (s : Scenario) (before : List (List Letter)) (p : ℕ) (t : LieutenantTree) (d : ℕ) → IsTreeOf s before p t → Decides (combined_by s.rule) t d → d ≡ decision s (messages before) p
 tree_decides s before p t d is h =
     h (messages before) is.filled ∙ (λ i. om (combined_by s.rule) (is.generals i) (messages before) (is.bound i) (is.commander i ∷ []) (is.general i))
 
 -- from the last on
-listed : (s : Scenario) (before : List (List Letter)) (ts : List Kept) (ds : List ℕ) → AllZip (Decides (combined_by s.rule)) ts ds
-    → (k : ℕ) → ((i : ℕ) (t : Kept) → slice_get ts i ≡ Some t → IsTreeOf s before (lieutenant_at s.commander (k + i)) t)
+listed : (s : Scenario) (before : List (List Letter)) (ts : List LieutenantTree) (ds : List ℕ) → AllZip (Decides (combined_by s.rule)) ts ds
+    → (k : ℕ) → ((i : ℕ) (t : LieutenantTree) → slice_get ts i ≡ Some t → IsTreeOf s before (lieutenant_at s.commander (k + i)) t)
     → (i d : ℕ) → slice_get ds i ≡ Some d → d ≡ decision s (messages before) (lieutenant_at s.commander (k + i))
 listed s before [] [] all k trees i d at = cc
 listed s before [] (x ∷ ds) all k trees i d at = absurd all
@@ -71,7 +71,7 @@ listed s before (t ∷ ts) (x ∷ ds) all k trees (suc i) d at =
     (let B : ℕ → Type 0 = λ m. IsTreeOf s before (lieutenant_at s.commander m) u in
     let f : k + suc j ≡ suc k + j = omega arith in subst B f (trees (suc j) u h))) i d at)
 
-pub zip_long : (f : List ℕ → ℕ) (ts : List Kept) (ds : List ℕ) → AllZip (Decides f) ts ds → length ts ≡ length ds
+pub zip_long : (f : List ℕ → ℕ) (ts : List LieutenantTree) (ds : List ℕ) → AllZip (Decides f) ts ds → length ts ≡ length ds
 zip_long f [] [] all = refl
 zip_long f [] (d ∷ ds) all = absurd all
 zip_long f (t ∷ ts) [] all = absurd all

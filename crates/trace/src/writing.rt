@@ -1,4 +1,4 @@
-//! Pieces, words and numbers, written to a sink. What was written is a beginning of the text, the whole exactly where the
+//! Pieces, words and numbers, written to a sink. What was written is a beginning of the text, the whole where the
 //! sink has not failed: so each function writes on, and nothing goes out behind a failure.
 ghost use Rattle.std.specs.Prelude.{◌≡◌, ◌++◌, ◌∷◌, [], decimal};
 ghost use Rattle.trace.specs.Sinks.{Wrote};

@@ -7,7 +7,7 @@ use Rattle.std.proofs.lemmas.Bool.{cond-true, cond-false, false_from_ne_true}
 use Rattle.std.proofs.lemmas.Slice.Eq.{bytes_eq-Decides}
 use Rattle.label.specs.Labels.{labels}
 use Rattle.label.specs.Oral.{Messages}
-use Rattle.tree.specs.Kept.{level_told, levels_from, told_also}
+use Rattle.tree.specs.LieutenantTree.{level_told, levels_from, told_also}
 
 pub also-here : (M : Messages) (w : List ℕ) (v : Option ℕ) (p : ℕ) → told_also M w v w p ≡ v
 unfolding told_also

@@ -11,8 +11,8 @@ use Rattle.label.specs.Oral.{Messages}
 use Rattle.label.specs.Space.{IsSpace, labels_of}
 use Rattle.label.specs.declared.space.Space.{Space}
 use Rattle.label.proofs.Listing.{proved_labels_are_exact}
-use Rattle.tree.specs.Kept.{IsFilled, levels_from, blank}
-use Rattle.tree.specs.Fields.{kept, IsWhole}
+use Rattle.tree.specs.LieutenantTree.{IsFilled, levels_from, blank}
+use Rattle.tree.specs.Fields.{kept, IsFilledBySome}
 use Rattle.tree.proofs.Also.{row-set}
 use Rattle.tree.proofs.Levels.{row-long}
 
@@ -58,11 +58,11 @@ long-labels : (s : Space) → IsSpace s → AreLong s.generals s.commander s.gen
 long-labels s is j q w at = (proved_labels_are_exact.only s.generals s.commander s.general j q w is.commander is.general is.lieutenant at).2
 
 -- without a level of that length nothing changes
-pub away-blank : (s : Space) (m : ℕ) (ls : List (Vec (Option ℕ) Global)) (M : Messages) (k : ℕ) → IsWhole s m ls → IsFilled (kept s m ls) M → ((q : ℕ) → 1 ≤ q → q < m + 2 → q ≡ k → ⊥) → IsFilled (kept s m ls) (blank M k)
+pub away-blank : (s : Space) (m : ℕ) (ls : List (Vec (Option ℕ) Global)) (M : Messages) (k : ℕ) → IsFilledBySome s m ls → IsFilled (kept s m ls) M → ((q : ℕ) → 1 ≤ q → q < m + 2 → q ≡ k → ⊥) → IsFilled (kept s m ls) (blank M k)
 away-blank s m ls M k i f away = f ∙ sym (levels-kept s.generals s.commander s.general M k 1 (m + 1) (long-labels s i.space) (λ q low high. away q low (omega arith)))
 
 -- the row of a length is written over with nothing
-pub row-blank : (s : Space) (m : ℕ) (ls : List (Vec (Option ℕ) Global)) (M : Messages) (k : ℕ) (row new : Vec (Option ℕ) Global) → IsWhole s m ls → IsFilled (kept s m ls) M → 0 < k → k ≤ m + 1 → row ≡ get_or ls (k - 1) row → new.items ≡ replicate (length row.items) None
+pub row-blank : (s : Space) (m : ℕ) (ls : List (Vec (Option ℕ) Global)) (M : Messages) (k : ℕ) (row new : Vec (Option ℕ) Global) → IsFilledBySome s m ls → IsFilled (kept s m ls) M → 0 < k → k ≤ m + 1 → row ≡ get_or ls (k - 1) row → new.items ≡ replicate (length row.items) None
     → IsFilled (kept s m (set ls (k - 1) new)) (blank M k)
 row-blank s m ls M k row new i f some short er en =
     row-set ls (k - 1) new
@@ -71,7 +71,7 @@ row-blank s m ls M k row new i f some short er en =
     ∙ sym (levels-blank s.generals s.commander s.general M 1 (m + 1) (k - 1) k (long-labels s i.space) (omega arith) (omega arith))))
 
 -- and the tree is whole again
-pub whole-blank : (s : Space) (m : ℕ) (ls : List (Vec (Option ℕ) Global)) (k : ℕ) (row new : Vec (Option ℕ) Global) → IsWhole s m ls → 0 < k → k ≤ m + 1 → row ≡ get_or ls (k - 1) row → new.items ≡ replicate (length row.items) None → IsWhole s m (set ls (k - 1) new)
+pub whole-blank : (s : Space) (m : ℕ) (ls : List (Vec (Option ℕ) Global)) (k : ℕ) (row new : Vec (Option ℕ) Global) → IsFilledBySome s m ls → 0 < k → k ≤ m + 1 → row ≡ get_or ls (k - 1) row → new.items ≡ replicate (length row.items) None → IsFilledBySome s m (set ls (k - 1) new)
 whole-blank s m ls k row new i some short er en = record { space = i.space; small = i.small; M = blank i.M k; filled = row-blank s m ls i.M k row new i i.filled some short er en }
 
 -- the row's vector, written over

@@ -8,8 +8,8 @@ use Rattle.label.specs.Labels.{labels}
 use Rattle.label.specs.Oral.{Messages}
 use Rattle.label.specs.Space.{labels_of, IsSpace}
 use Rattle.label.specs.declared.space.Space.{Space}
-use Rattle.tree.specs.Kept.{level_told, levels_from, IsFilled, silence}
-use Rattle.tree.specs.Fields.{kept, IsWhole}
+use Rattle.tree.specs.LieutenantTree.{level_told, levels_from, IsFilled, silence}
+use Rattle.tree.specs.Fields.{kept, IsFilledBySome}
 
 -- two readings of one place
 pub same_some : {A : Type 0} {o : Option A} {a b : A} → o ≡ Some a → o ≡ Some b → a ≡ b
@@ -41,11 +41,11 @@ row-at [] i row s e = absurd (omega arith)
 row-at (x ∷ ls) zero row s e = ap (λ (v : Vec (Option ℕ) Global). Some v.items) (sym e)
 row-at (x ∷ ls) (suc i) row s e = row-at ls i row (omega arith) e
 
-pub levels-there : {s : Space} {m : ℕ} {ls : List (Vec (Option ℕ) Global)} → IsWhole s m ls → length ls ≡ m + 1
+pub levels-there : {s : Space} {m : ℕ} {ls : List (Vec (Option ℕ) Global)} → IsFilledBySome s m ls → length ls ≡ m + 1
 levels-there {s} {m} {ls} w = sym (length-map ls (λ (l : Vec (Option ℕ) Global). l.items)) ∙ (ap length w.filled ∙ levels-long s.generals s.commander s.general w.M 1 (m + 1))
 
 -- the row of a length is what was told
-pub row-told : (s : Space) (m : ℕ) (ls : List (Vec (Option ℕ) Global)) (M : Messages) (k : ℕ) (row : Vec (Option ℕ) Global) → IsWhole s m ls → IsFilled (kept s m ls) M → 0 < k → k ≤ m + 1 → row ≡ get_or ls (k - 1) row → row.items ≡ level_told s.generals s.commander s.general M k
+pub row-told : (s : Space) (m : ℕ) (ls : List (Vec (Option ℕ) Global)) (M : Messages) (k : ℕ) (row : Vec (Option ℕ) Global) → IsFilledBySome s m ls → IsFilled (kept s m ls) M → 0 < k → k ≤ m + 1 → row ≡ get_or ls (k - 1) row → row.items ≡ level_told s.generals s.commander s.general M k
 row-told s m ls M k row w f some short e =
     let there : length ls ≡ m + 1 = levels-there w in
     let here : slice_get (map (λ l. l.items) ls) (k - 1) ≡ Some row.items = row-at ls (k - 1) row (omega arith) e in
@@ -53,12 +53,12 @@ row-told s m ls M k row w f some short e =
     let size : 1 + (k - 1) ≡ k = omega arith in
     same_some here (ap (λ xs. slice_get xs (k - 1)) f ∙ told) ∙ ap (λ (j : ℕ). level_told s.generals s.commander s.general M j) size
 
-pub row-value : (s : Space) (m : ℕ) (ls : List (Vec (Option ℕ) Global)) (k : ℕ) (row : Vec (Option ℕ) Global) → IsWhole s m ls → 0 < k → k ≤ m + 1 → row ≡ get_or ls (k - 1) row → row.items ≡ unwrap_or (slice_get (map (λ l. l.items) ls) (k - 1)) []
+pub row-value : (s : Space) (m : ℕ) (ls : List (Vec (Option ℕ) Global)) (k : ℕ) (row : Vec (Option ℕ) Global) → IsFilledBySome s m ls → 0 < k → k ≤ m + 1 → row ≡ get_or ls (k - 1) row → row.items ≡ unwrap_or (slice_get (map (λ l. l.items) ls) (k - 1)) []
 row-value s m ls k row w some short e =
     let there : length ls ≡ m + 1 = levels-there w in
     sym (ap (λ o. unwrap_or o []) (row-at ls (k - 1) row (omega arith) e))
 
-pub row-long : (s : Space) (m : ℕ) (ls : List (Vec (Option ℕ) Global)) (k : ℕ) (row : Vec (Option ℕ) Global) → IsWhole s m ls → 0 < k → k ≤ m + 1 → row ≡ get_or ls (k - 1) row → length row.items ≡ length (labels_of s k)
+pub row-long : (s : Space) (m : ℕ) (ls : List (Vec (Option ℕ) Global)) (k : ℕ) (row : Vec (Option ℕ) Global) → IsFilledBySome s m ls → 0 < k → k ≤ m + 1 → row ≡ get_or ls (k - 1) row → length row.items ≡ length (labels_of s k)
 row-long s m ls k row w some short e = ap length (row-told s m ls w.M k row w w.filled some short e) ∙ length-map (labels_of s k) (λ u. w.M u s.general)
 
 -- what stands at the rank of a label
@@ -80,5 +80,5 @@ one-more n c p ls longer l count row e el er ec =
     let level : row.items ≡ level_told n c p silence (1 + l) = er ∙ (ap (λ (k : ℕ). replicate k None) ec ∙ (sym (told-silence p (labels n c p (l + 1))) ∙ ap (λ (k : ℕ). level_told n c p silence k) (sym size))) in
     rw (el, map-append, e, level, add-one) (sym (levels-more n c p silence 1 l))
 
-pub whole-silent : (s : Space) (m k : ℕ) (ls : List (Vec (Option ℕ) Global)) → IsSpace s → m < 13 → k ≡ m + 1 → map (λ v. v.items) ls ≡ levels_from s.generals s.commander s.general silence 1 k → IsWhole s m ls
+pub whole-silent : (s : Space) (m k : ℕ) (ls : List (Vec (Option ℕ) Global)) → IsSpace s → m < 13 → k ≡ m + 1 → map (λ v. v.items) ls ≡ levels_from s.generals s.commander s.general silence 1 k → IsFilledBySome s m ls
 whole-silent s m k ls i l ek e = record { space = i; small = l; M = silence; filled = rw (← ek) e }

@@ -11,8 +11,8 @@ use Rattle.label.specs.declared.space.Space.{Space}
 use Rattle.label.specs.Oral.{Messages}
 use Rattle.label.proofs.Same.{label_stands}
 use Rattle.label.proofs.Listing.{proved_labels_are_exact, proved_labels_differ}
-use Rattle.tree.specs.Kept.{IsPlace, IsFilled, level_told, told_also}
-use Rattle.tree.specs.Fields.{kept, IsWhole}
+use Rattle.tree.specs.LieutenantTree.{IsPlace, IsFilled, level_told, told_also}
+use Rattle.tree.specs.Fields.{kept, IsFilledBySome}
 use Rattle.tree.proofs.Also.{levels-set, levels-away, row-set}
 use Rattle.tree.proofs.Levels.{row-told, row-long, told-at, read-at}
 
@@ -27,7 +27,7 @@ ranked s m ls w is p away =
     away at.0 at.1
 
 -- the rank is a place of the row
-pub row-within : (s : Space) (m : ℕ) (ls : List (Vec (Option ℕ) Global)) (w : List ℕ) (k r : ℕ) (row : Vec (Option ℕ) Global) → IsWhole s m ls → k ≡ length w → 0 < k → k ≤ m + 1 → row ≡ get_or ls (k - 1) row → HasRank s w r → r < length row.items
+pub row-within : (s : Space) (m : ℕ) (ls : List (Vec (Option ℕ) Global)) (w : List ℕ) (k r : ℕ) (row : Vec (Option ℕ) Global) → IsFilledBySome s m ls → k ≡ length w → 0 < k → k ≤ m + 1 → row ≡ get_or ls (k - 1) row → HasRank s w r → r < length row.items
 row-within s m ls w k r row i e some short er at =
     let within : r < length (labels_of s (length w)) = slice_get_within (labels_of s (length w)) r w at in
     let within' : r < length (labels_of s k) = rw e within in
@@ -35,7 +35,7 @@ row-within s m ls w k r row i e some short er at =
     omega arith
 
 -- what is read there was told
-pub row-read : (s : Space) (m : ℕ) (ls : List (Vec (Option ℕ) Global)) (M : Messages) (w : List ℕ) (k r : ℕ) (row : Vec (Option ℕ) Global) → IsWhole s m ls → IsFilled (kept s m ls) M → k ≡ length w → 0 < k → k ≤ m + 1 → row ≡ get_or ls (k - 1) row → HasRank s w r → get_or row.items r None ≡ M w s.general
+pub row-read : (s : Space) (m : ℕ) (ls : List (Vec (Option ℕ) Global)) (M : Messages) (w : List ℕ) (k r : ℕ) (row : Vec (Option ℕ) Global) → IsFilledBySome s m ls → IsFilled (kept s m ls) M → k ≡ length w → 0 < k → k ≤ m + 1 → row ≡ get_or ls (k - 1) row → HasRank s w r → get_or row.items r None ≡ M w s.general
 row-read s m ls M w k r row i f e some short er at =
     read-at row.items r (M w s.general) None (told-at s.generals s.commander s.general k r M w row.items (row-told s m ls M k row i f some short er) (rw e at))
 
@@ -49,7 +49,7 @@ only-long s is w k j q e at =
     sym one.2 ∙ sym e
 
 -- the message is written at the label's rank
-pub row-filled : (s : Space) (m : ℕ) (ls : List (Vec (Option ℕ) Global)) (M : Messages) (w : List ℕ) (k r : ℕ) (row : Vec (Option ℕ) Global) (xs : List (Option ℕ)) (v : Option ℕ) → IsWhole s m ls → IsFilled (kept s m ls) M → 0 < k → k ≤ m + 1 → row ≡ get_or ls (k - 1) row → xs ≡ row.items → slice_get (labels_of s k) r ≡ Some w
+pub row-filled : (s : Space) (m : ℕ) (ls : List (Vec (Option ℕ) Global)) (M : Messages) (w : List ℕ) (k r : ℕ) (row : Vec (Option ℕ) Global) (xs : List (Option ℕ)) (v : Option ℕ) → IsFilledBySome s m ls → IsFilled (kept s m ls) M → 0 < k → k ≤ m + 1 → row ≡ get_or ls (k - 1) row → xs ≡ row.items → slice_get (labels_of s k) r ≡ Some w
     → IsFilled (kept s m (set ls (k - 1) (with_items row (set xs r v)))) (told_also M w v)
 row-filled s m ls M w k r row xs v i f some short er ex at =
     let n = s.generals in
@@ -64,14 +64,14 @@ row-filled s m ls M w k r row xs v i f some short er ex at =
     (rw size (λ j q e. only-long s i.space w k j q here e)))))
 
 -- a label without a place changes nothing
-pub none-filled : (s : Space) (m : ℕ) (ls : List (Vec (Option ℕ) Global)) (M : Messages) (w : List ℕ) (v : Option ℕ) → IsWhole s m ls → IsFilled (kept s m ls) M → ((r : ℕ) → length w ≤ m + 1 → HasRank s w r → ⊥) → IsFilled (kept s m ls) (told_also M w v)
+pub none-filled : (s : Space) (m : ℕ) (ls : List (Vec (Option ℕ) Global)) (M : Messages) (w : List ℕ) (v : Option ℕ) → IsFilledBySome s m ls → IsFilled (kept s m ls) M → ((r : ℕ) → length w ≤ m + 1 → HasRank s w r → ⊥) → IsFilled (kept s m ls) (told_also M w v)
 none-filled s m ls M w v i f away =
     f ∙ sym (levels-away s.generals s.commander s.general M w v 1 (m + 1) (λ j q low high e.
     let long : length w ≡ j = (proved_labels_are_exact.only s.generals s.commander s.general j q w i.space.commander i.space.general i.space.lieutenant e).2 in
     away q (omega arith) (rw long e)))
 
 -- and the tree is whole again
-pub row-whole : (s : Space) (m : ℕ) (ls : List (Vec (Option ℕ) Global)) (k r : ℕ) (row : Vec (Option ℕ) Global) (xs : List (Option ℕ)) (v : Option ℕ) → IsWhole s m ls → 0 < k → k ≤ m + 1 → row ≡ get_or ls (k - 1) row → xs ≡ row.items → r < length (labels_of s k) → IsWhole s m (set ls (k - 1) (with_items row (set xs r v)))
+pub row-whole : (s : Space) (m : ℕ) (ls : List (Vec (Option ℕ) Global)) (k r : ℕ) (row : Vec (Option ℕ) Global) (xs : List (Option ℕ)) (v : Option ℕ) → IsFilledBySome s m ls → 0 < k → k ≤ m + 1 → row ≡ get_or ls (k - 1) row → xs ≡ row.items → r < length (labels_of s k) → IsFilledBySome s m (set ls (k - 1) (with_items row (set xs r v)))
 row-whole s m ls k r row xs v i some short er ex l =
     record {
       space = i.space;

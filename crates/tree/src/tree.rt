@@ -1,7 +1,7 @@
 ghost use Rattle.std.specs.Prelude.{◌≡◌, ◌<◌, ◌≤◌, ◌≢◌, ◌+◌, ℕ, List, Option, Some, None, IfOk, length, slice_get, replicate};
 ghost use Rattle.label.specs.Labels.{labels};
 ghost use Rattle.label.specs.Oral.{Messages};
-ghost use Rattle.tree.specs.Kept.{IsCampaign, IsFilled, IsPlace, SameCampaign, level_told, level_of, silence, told_also, blank};
+ghost use Rattle.tree.specs.LieutenantTree.{IsCampaign, IsFilled, IsPlace, SameCampaign, level_told, level_of, silence, told_also, blank};
 
 use label::{Label, Space, count, rank};
 use std::alloc::{AllocError, Global};
@@ -19,15 +19,15 @@ pub struct Tree {
 }
 
 impl Model for Tree {
-    ghost use Rattle.tree.specs.Kept.{Kept};
+    ghost use Rattle.tree.specs.LieutenantTree.{LieutenantTree};
 
-    ghost Value = { Kept };
+    ghost Value = { LieutenantTree };
 
-    ghost use Rattle.tree.specs.Fields.{kept, IsWhole};
+    ghost use Rattle.tree.specs.Fields.{kept, IsFilledBySome};
 
     ghost view = { λ a. kept a.space a.bound a.levels.items };
 
-    ghost invariant = { λ a. IsWhole a.space a.bound a.levels.items };
+    ghost invariant = { λ a. IsFilledBySome a.space a.bound a.levels.items };
 }
 
 impl Tree {

@@ -27,7 +27,8 @@ use Rattle.helper.specs.Results.{HoldsResult, Returns}
 use Rattle.helper.proofs.Tests.{copy_in, place_in, row_in, sway_in}
 use Rattle.verify.specs.declared.state.AbsState.{AbsState}
 use Rattle.verify.specs.Gamma.{RegistersDescribe, Describes}
-use Rattle.verify.specs.Outcomes.{IsSetting, StandsAt, GoesOn}
+use Rattle.semantics.specs.Relay.{IsSetting}
+use Rattle.verify.specs.Outcomes.{StandsAt, GoesOn}
 use Rattle.verify.specs.Calls.{known_at, arguments_reason}
 use Rattle.verify.specs.CallStates.{Puts, CopyStands, RowStands, WindowStands}
 use Rattle.verify.proofs.CallArguments.{arguments_fine}
@@ -214,15 +215,15 @@ called_goes BoardCopy a new lo hi context shape s setting d e accepts returns st
     (copy_stands a new.stack s d stands)
 called_goes Send a new lo hi context shape s setting d e accepts returns stands puts =
     sent_goes new lo hi shape s (λ set. 1 - set) (place_in s) (λ cause q. accepts context shape s cause (arguments_fine (arguments_of Send) 1 a.registers s.registers d.registers e) q) puts
-    (λ after q. returns.at_once context shape s after setting.is_shape q) (kept a new.stack s d stands)
+    (λ after q. returns.at_once context shape s after setting.is_relay q) (kept a new.stack s d stands)
 called_goes SendRow a new lo hi context shape s setting d e accepts returns stands puts =
     sent_goes new lo hi shape s (λ set. set) (row_in context s)
     (λ cause q. row_free a context shape s cause setting d (arguments_fine (arguments_of SendRow) 1 a.registers s.registers d.registers e) stands.1 (sent_trap shape s (λ set. set) (row_in context s) cause q)) puts
-    (λ after q. returns.at_once context shape s after setting.is_shape q) (kept a new.stack s d stands.0)
+    (λ after q. returns.at_once context shape s after setting.is_relay q) (kept a new.stack s d stands.0)
 called_goes Sway a new lo hi context shape s setting d e accepts returns stands puts =
     sent_goes new lo hi shape s (λ set. set) (sway_in s) (λ cause q. accepts context shape s cause (arguments_fine (arguments_of Sway) 1 a.registers s.registers d.registers e) q) puts
-    (λ after q. returns.at_once context shape s after setting.is_shape q) (kept a new.stack s d stands)
+    (λ after q. returns.at_once context shape s after setting.is_relay q) (kept a new.stack s d stands)
 called_goes Honest a new lo hi context shape s setting d e accepts returns stands puts =
     sent_goes new lo hi shape s (λ set. set) (given (argument s 1 13) (λ receiver. Ok (as_taken context receiver)))
     (λ cause q. accepts context shape s cause (arguments_fine (arguments_of Honest) 1 a.registers s.registers d.registers e) q) puts
-    (λ after q. returns.at_once context shape s after setting.is_shape q) (kept a new.stack s d stands)
+    (λ after q. returns.at_once context shape s after setting.is_relay q) (kept a new.stack s d stands)

@@ -16,7 +16,7 @@ use Rattle.semantics.proofs.SafetyLaws.{IsSafe-longer}
 use Rattle.semantics.specs.Plain.{IsIn, leads_to}
 use Rattle.verify.specs.Forward.{IsForward}
 use Rattle.verify.specs.Safe.{StartsSafe}
-use Rattle.verify.specs.Outcomes.{IsSetting}
+use Rattle.semantics.specs.Relay.{IsSetting}
 use Rattle.verify.specs.Slots.{Slot, IsAt, IsPassed}
 use Rattle.verify.proofs.Edges.{start_inside}
 use Rattle.verify.proofs.Starts.{left, left-le, left-falls, left-bound}

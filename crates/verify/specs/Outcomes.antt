@@ -4,12 +4,11 @@ use Rattle.insn.specs.declared.insn.Insn.{Insn}
 use Rattle.insn.specs.declared.insn.Insn.TheVariants.{Jump, LongJump, Branch, Exit}
 use Rattle.insn.specs.Insn.{units_of}
 use Rattle.label.specs.declared.shape.Shape.{Shape}
-use Rattle.label.specs.Relay.{IsShape}
 use Rattle.semantics.specs.State.{Cause, State, Outcome, Next, Ask, Trap}
 use Rattle.semantics.specs.State.{Exit as Exited}
 use Rattle.semantics.specs.Call.{fits, resumed}
 use Rattle.semantics.specs.Execution.{executed}
-use Rattle.semantics.specs.Run.{IsContext}
+use Rattle.semantics.specs.Relay.{IsSetting}
 use Rattle.verify.specs.declared.state.AbsState.{AbsState}
 use Rattle.verify.specs.Gamma.{Describes}
 
@@ -28,11 +27,6 @@ GoesOn a unit (Next t) = StandsAt a unit t
 GoesOn a unit (Ask request t) = (answer : List ℕ) → fits request answer ≡ true → StandsAt a unit (resumed request answer t)
 GoesOn a unit (Exited r0 t) = ⊥
 GoesOn a unit (Trap cause) = ⊥
-
--- what a program runs in: a context, and the relay of a general of a campaign
-pub record IsSetting (context : List ℕ) (shape : Shape) : Type 0 where
-  pub is_context : IsContext context
-  pub is_shape : IsShape shape
 
 -- from every state that is described, the instruction goes on behind itself to one that is
 abbrev pub Follows : AbsState → Insn → AbsState → Type 0

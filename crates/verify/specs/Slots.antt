@@ -11,7 +11,7 @@ use Rattle.semantics.specs.Plain.{IsIn, leads_to, writes, Unwritten}
 use Rattle.absval.specs.declared.value.AbsVal.{AbsVal}
 use Rattle.verify.specs.declared.state.AbsState.{AbsState}
 use Rattle.verify.specs.Gamma.{Describes, has_number}
-use Rattle.verify.specs.Outcomes.{IsSetting}
+use Rattle.semantics.specs.Relay.{IsSetting}
 
 -- what is kept for a unit
 abbrev pub Slot : Type 0

@@ -4,7 +4,7 @@ use Rattle.std.specs.Prelude.{slice_get, slice_set, replicate, OnOk, OnErr, nat_
 use Rattle.std.specs.List.{list_all}
 use Rattle.std.proofs.lemmas.Bool.{lt-ltb, ltb-true, ltb-false}
 use Rattle.round.proofs.Lists.{either_way}
-use Rattle.board.specs.Ledger.{Kept}
+use Rattle.board.specs.Ledger.{RecordedBoard}
 use Rattle.round.specs.Scenario.{Scenario, IsScenario}
 use Rattle.round.specs.Letters.{Letter}
 use Rattle.round.specs.Activation.{Activation, Turn, Goes, Asks, Ended, turn}
@@ -17,7 +17,8 @@ use Rattle.world.specs.Part.{Part, Acting, Silent, Posted, has_posted}
 use Rattle.world.specs.World.{World, each, opening, served, ticked, posting, closing, happen, run, round_open, letters_at, round_letters, accesses_of}
 use Rattle.world.specs.Reached.{world_of, IsHeld}
 use Rattle.board.specs.Board.{Access}
-use Rattle.world.specs.Held.{ticked_of, posted_of, AheadTo, acting_letter, written, row_of, beginnings, AreLetters}
+use Rattle.world.specs.Held.{ticked_of, posted_of, AheadTo, written, round_letters, beginnings, AreLetters}
+use Rattle.round.specs.Running.{letter_left}
 use Rattle.world.specs.Safety.{IsPlaced, HasRun}
 use Rattle.round.proofs.Ends.{proved_patience_is_kept}
 use Rattle.world.proofs.Standing.{proved_parts_are_placed, proved_activations_are_runs}
@@ -39,7 +40,7 @@ either_le : (m n : ℕ) → (m ≤ n) ⊎ (n ≤ m)
 either_le m n = ⊎_elim (λ (h : nat_lt m n ≡ true). inl (let l = ltb-true m n h in omega arith)) (λ (h : nat_lt m n ≡ false). inr (ltb-false m n h)) (either_way (nat_lt m n))
 
 -- who does not act stays
-pub idle_turn : (ps : List Part) (b : Kept) (g r place : ℕ) (x : Part) → place ≡ g → slice_get ps place ≡ Some x → x ≡ Silent ⊎ x ≡ Posted → (slice_set ps place x, b) ≡ ticked_of g r ps b (slice_get ps g)
+pub idle_turn : (ps : List Part) (b : RecordedBoard) (g r place : ℕ) (x : Part) → place ≡ g → slice_get ps place ≡ Some x → x ≡ Silent ⊎ x ≡ Posted → (slice_set ps place x, b) ≡ ticked_of g r ps b (slice_get ps g)
 idle_turn ps b g r place x same at kind =
     let same_list : slice_set ps place x ≡ ps = set-same ps place x at in
     let there : slice_get ps g ≡ Some x = ap (slice_get ps) (sym same) ∙ at in
@@ -66,7 +67,7 @@ acting_ahead limit taken ps g place x a b same at kind way pause within is =
     let A : Option Part → Type 0 = λ o. AheadTo limit taken ps g o (slice_set ps place (Acting b)) in
     subst A (sym there) (b, subst (λ (n : ℕ). Runs n a [] b) k way.1, most, pause, ap (λ (n : ℕ). slice_set ps n (Acting b)) same)
 
-module _ (s : Scenario) (closed : List (List Letter)) (k : Kept) (opened : ℕ) (ps : List Part) (full : Bool) where
+module _ (s : Scenario) (closed : List (List Letter)) (k : RecordedBoard) (opened : ℕ) (ps : List Part) (full : Bool) where
   served_is : (g : ℕ) (a : Activation) (t : Turn) → slice_get ps g ≡ Some (Acting a) →
       world_of s closed (moved g (suc (length closed)) a k t).1 opened (slice_set ps g (Acting (moved g (suc (length closed)) a k t).0)) full ≡ served (world_of s closed k opened ps full) g t
   served_is g a (Goes b) e = refl
@@ -81,11 +82,11 @@ module _ (s : Scenario) (closed : List (List Letter)) (k : Kept) (opened : ℕ) 
   ticked_is g (Some Posted) e = refl
 
   -- a tick that is done is the event
-  pub tick_is : (g r : ℕ) (ps' : List Part) (k' : Kept) → r ≡ suc (length closed) → (ps', k') ≡ ticked_of g r ps k (slice_get ps g) →
+  pub tick_is : (g r : ℕ) (ps' : List Part) (k' : RecordedBoard) → r ≡ suc (length closed) → (ps', k') ≡ ticked_of g r ps k (slice_get ps g) →
       world_of s closed k' opened ps' full ≡ happen (world_of s closed k opened ps full) (Tick g)
   tick_is g r ps' k' counted done =
       let is : (ps', k') ≡ ticked_of g (suc (length closed)) ps k (slice_get ps g) = done ∙ ap (λ (n : ℕ). ticked_of g n ps k (slice_get ps g)) counted in
-      ap (λ (p : List Part × Kept). world_of s closed p.1 opened p.0 full) is ∙ ticked_is g (slice_get ps g) refl
+      ap (λ (p : List Part × RecordedBoard). world_of s closed p.1 opened p.0 full) is ∙ ticked_is g (slice_get ps g) refl
 
   posted_is : (g : ℕ) (o : Option Part) → world_of s closed k opened (posted_of g ps o) full ≡ posting (world_of s closed k opened ps full) g o
   posted_is g None = refl
@@ -97,7 +98,7 @@ module _ (s : Scenario) (closed : List (List Letter)) (k : Kept) (opened : ℕ) 
   post_is g ps' done = ap (λ (p : List Part). world_of s closed k opened p full) done ∙ posted_is g (slice_get ps g)
 
   -- after any events from a held world the world is held
-  pub held_on : (closed' : List (List Letter)) (k' : Kept) (opened' : ℕ) (ps' : List Part) (full' : Bool) (events : List Event) → IsHeld s closed k opened ps full →
+  pub held_on : (closed' : List (List Letter)) (k' : RecordedBoard) (opened' : ℕ) (ps' : List Part) (full' : Bool) (events : List Event) → IsHeld s closed k opened ps full →
       world_of s closed' k' opened' ps' full' ≡ run (world_of s closed k opened ps full) events → k'.opening ≡ k.opening → IsHeld s closed' k' opened' ps' full'
   held_on closed' k' opened' ps' full' events h is same = record {
     reached = (h.reached.0 ++ events, run-append h.reached.0 events (opening s) ∙ (ap (λ (w : World). run w events) h.reached.1 ∙ sym is));
@@ -115,14 +116,14 @@ module _ (s : Scenario) (closed : List (List Letter)) (k : Kept) (opened : ℕ) 
   ticked_opening g r (Some Silent) = refl
   ticked_opening g r (Some Posted) = refl
 
-  pub tick_held : {A E : Type 0} (result : Result A E) (g r : ℕ) (ps' : List Part) (k' : Kept) → r ≡ suc (length closed) → IsHeld s closed k opened ps full →
+  pub tick_held : {A E : Type 0} (result : Result A E) (g r : ℕ) (ps' : List Part) (k' : RecordedBoard) → r ≡ suc (length closed) → IsHeld s closed k opened ps full →
       OnOk result ((ps', k') ≡ ticked_of g r ps k (slice_get ps g)) → OnErr result ((ps' ≡ ps) × (k' ≡ k)) → IsHeld s closed k' opened ps' full
   tick_held (Ok x) g r ps' k' counted h done undone =
-      held_on closed k' opened ps' full (Tick g ∷ []) h (tick_is g r ps' k' counted done) (ap (λ (p : List Part × Kept). p.1.opening) done ∙ ticked_opening g r (slice_get ps g))
+      held_on closed k' opened ps' full (Tick g ∷ []) h (tick_is g r ps' k' counted done) (ap (λ (p : List Part × RecordedBoard). p.1.opening) done ∙ ticked_opening g r (slice_get ps g))
   tick_held (Err x) g r ps' k' counted h done undone =
-      subst (λ (p : List Part). IsHeld s closed k' opened p full) (sym undone.0) (subst (λ (b : Kept). IsHeld s closed b opened ps full) (sym undone.1) h)
+      subst (λ (p : List Part). IsHeld s closed k' opened p full) (sym undone.0) (subst (λ (b : RecordedBoard). IsHeld s closed b opened ps full) (sym undone.1) h)
 
-  pub tick_done : {A E : Type 0} (result : Result A E) (g r : ℕ) (ps' : List Part) (k' : Kept) (w : World) → r ≡ suc (length closed) → world_of s closed k opened ps full ≡ w →
+  pub tick_done : {A E : Type 0} (result : Result A E) (g r : ℕ) (ps' : List Part) (k' : RecordedBoard) (w : World) → r ≡ suc (length closed) → world_of s closed k opened ps full ≡ w →
       OnOk result ((ps', k') ≡ ticked_of g r ps k (slice_get ps g)) → OnOk result (world_of s closed k' opened ps' full ≡ happen w (Tick g))
   tick_done (Ok x) g r ps' k' w counted is done = tick_is g r ps' k' counted done ∙ ap (λ (v : World). happen v (Tick g)) is
   tick_done (Err x) g r ps' k' w counted is done = tt
@@ -134,7 +135,7 @@ module _ (s : Scenario) (closed : List (List Letter)) (k : Kept) (opened : ℕ) 
   is_open le = lt-ltb (length closed) (suc s.bound) (omega arith)
 
 -- some turns without an access are as many ticks
-module _ (s : Scenario) (closed : List (List Letter)) (k : Kept) (opened : ℕ) (full : Bool) where
+module _ (s : Scenario) (closed : List (List Letter)) (k : RecordedBoard) (opened : ℕ) (full : Bool) where
   step_by : (n g : ℕ) (ps : List Part) (a b : Activation) (t : Turn) → turn a ≡ t → slice_get ps g ≡ Some (Acting a) →
       ((c : Activation) → Runs n c [] b → run (world_of s closed k opened (slice_set ps g (Acting c)) full) (replicate n (Tick g)) ≡ world_of s closed k opened (slice_set (slice_set ps g (Acting c)) g (Acting b)) full) →
       Onward (Runs n) t [] b → run (served (world_of s closed k opened ps full) g t) (replicate n (Tick g)) ≡ world_of s closed k opened (slice_set ps g (Acting b)) full
@@ -170,32 +171,32 @@ pub silent_row : (s : Scenario) (c : List (List Letter)) (a : List Access) (ps :
 silent_row s c a ps g o xs is none = none_written xs (written s c a g (slice_get ps g)) (ap (λ (p : Option Part). written s c a g p) is ∙ none)
 
 -- an acting general's letter
-pub letter_at : (n g h r : ℕ) (accesses : List Access) (ps : List Part) (a : Activation) → AreLetters (suc n) accesses ps → slice_get ps g ≡ Some (Acting a) → h ≡ g → r ≡ suc n → IsLetter (acting_letter h r (accesses_of h accesses) a)
+pub letter_at : (n g h r : ℕ) (accesses : List Access) (ps : List Part) (a : Activation) → AreLetters (suc n) accesses ps → slice_get ps g ≡ Some (Acting a) → h ≡ g → r ≡ suc n → IsLetter (letter_left h r (accesses_of h accesses) a)
 letter_at n g h r accesses ps a runs at same counted =
-    subst (λ (m : ℕ). IsLetter (acting_letter h m (accesses_of h accesses) a)) (sym counted)
-    (subst (λ (m : ℕ). IsLetter (acting_letter m (suc n) (accesses_of m accesses) a)) (sym same) (runs g a at))
+    subst (λ (m : ℕ). IsLetter (letter_left h m (accesses_of h accesses) a)) (sym counted)
+    (subst (λ (m : ℕ). IsLetter (letter_left m (suc n) (accesses_of m accesses) a)) (sym same) (runs g a at))
 
 pub row_with : (s : Scenario) (c : List (List Letter)) (accesses : List Access) (ps : List Part) (g : ℕ) (o : Option Part) (xs ys : List Letter) (l : Letter) → slice_get ps g ≡ o → ys ≡ xs ++ l ∷ [] → l ∷ [] ≡ written s c accesses g o →
     ys ≡ xs ++ written s c accesses g (slice_get ps g)
 row_with s c accesses ps g o xs ys l at pushed is = pushed ∙ (ap (λ (row : List Letter). xs ++ row) is ∙ ap (λ (p : Option Part). xs ++ written s c accesses g p) (sym at))
 
-pub acting_is : (n g h r : ℕ) (accesses : List Access) (a : Activation) (l : Letter) → h ≡ g → r ≡ suc n → l ≡ acting_letter h r (accesses_of h accesses) a → l ∷ [] ≡ acting_letter g (suc n) (accesses_of g accesses) a ∷ []
-acting_is n g h r accesses a l same counted is = (λ i. is i ∷ []) ∙ (λ i. acting_letter (same i) (counted i) (accesses_of (same i) accesses) a ∷ [])
+pub acting_is : (n g h r : ℕ) (accesses : List Access) (a : Activation) (l : Letter) → h ≡ g → r ≡ suc n → l ≡ letter_left h r (accesses_of h accesses) a → l ∷ [] ≡ letter_left g (suc n) (accesses_of g accesses) a ∷ []
+acting_is n g h r accesses a l same counted is = (λ i. is i ∷ []) ∙ (λ i. letter_left (same i) (counted i) (accesses_of (same i) accesses) a ∷ [])
 
 -- what the acting generals of a held world have done
-pub held_letters : (s : Scenario) (closed : List (List Letter)) (k : Kept) (opened : ℕ) (ps : List Part) (full : Bool) (accesses : List Access) → IsScenario s → IsHeld s closed k opened ps full → accesses ≡ drop opened k.ledger →
+pub held_letters : (s : Scenario) (closed : List (List Letter)) (k : RecordedBoard) (opened : ℕ) (ps : List Part) (full : Bool) (accesses : List Access) → IsScenario s → IsHeld s closed k opened ps full → accesses ≡ drop opened k.ledger →
     AreLetters (suc (length closed)) accesses ps
 held_letters s closed k opened ps full accesses is h same g a at =
     let w = world_of s closed k opened ps full in
     let Q : World → Type 0 = λ v. slice_get v.parts g ≡ Some (Acting a) → IsPlaced s v.closed g a × HasRun v g a in
     let both : IsPlaced s closed g a × HasRun w g a = subst Q h.reached.1 (λ e. (proved_parts_are_placed s h.reached.0 g a is e, proved_activations_are_runs.parts s h.reached.0 g a is e)) at in
     let p = both.0 in
-    let l = acting_letter g (suc (length closed)) (accesses_of g (drop opened k.ledger)) a in
+    let l = letter_left g (suc (length closed)) (accesses_of g (drop opened k.ledger)) a in
     let is_run : IsRunOf l (Some a.program) = (both.1.0, record a { patience = None }, proved_patience_is_kept.without a.patience a.program a.context a.shape a.state.steps (accesses_of g (drop opened k.ledger)) a both.1.1, refl, refl) in
     let lies : IsWithin a.patience a.state.steps = proved_patience_is_kept.within a.patience a.program a.context a.shape a.state.steps (accesses_of g (drop opened k.ledger)) a both.1.1 in
     let within : IsWithin s.patience a.state.steps = subst (λ (q : Option ℕ). IsWithin q a.state.steps) p.patience lies in
     let letter : IsLetter l = proved_activations_are_runs.kept s closed l a.program is (record { general = p.general; rounds = p.rounds; round = refl; context = p.context; shape = p.shape; program = sym p.program; made = is_run; within = within }) refl in
-    subst (λ (acc : List Access). IsLetter (acting_letter g (suc (length closed)) (accesses_of g acc) a)) (sym same) letter
+    subst (λ (acc : List Access). IsLetter (letter_left g (suc (length closed)) (accesses_of g acc) a)) (sym same) letter
 
 -- so the row is that of the world
 same_letter : (w : World) (g : ℕ) (o : Option Part) → ((a : Activation) → o ≡ Some (Acting a) → IsPlaced w.scenario w.closed g a) → written w.scenario w.closed (drop w.opened w.ledger) g o ≡ letters_at w g o
@@ -219,8 +220,8 @@ each-same : {A : Type 0} (n : ℕ) (f h : ℕ → List A) → ((g : ℕ) → f g
 each-same zero f h e = refl
 each-same (suc n) f h e = (λ i. each-same n f h e i ++ e n i)
 
-module _ (s : Scenario) (closed : List (List Letter)) (k : Kept) (opened : ℕ) (ps : List Part) (full : Bool) where
-  same_row : IsScenario s → IsHeld s closed k opened ps full → row_of s closed (drop opened k.ledger) ps ≡ round_letters (world_of s closed k opened ps full)
+module _ (s : Scenario) (closed : List (List Letter)) (k : RecordedBoard) (opened : ℕ) (ps : List Part) (full : Bool) where
+  same_row : IsScenario s → IsHeld s closed k opened ps full → round_letters s closed (drop opened k.ledger) ps ≡ round_letters (world_of s closed k opened ps full)
   same_row is h =
       let w = world_of s closed k opened ps full in
       let Q : World → Type 0 = λ v. (g : ℕ) (a : Activation) → slice_get v.parts g ≡ Some (Acting a) → IsPlaced s v.closed g a in
@@ -230,7 +231,7 @@ module _ (s : Scenario) (closed : List (List Letter)) (k : Kept) (opened : ℕ) 
 
   -- what is made for a close is the event
   pub close_is : (row : List Letter) (closed' : List (List Letter)) (opened' : ℕ) (ps' : List Part) (full' : Bool) → IsScenario s → IsHeld s closed k opened ps full → length closed ≤ s.bound →
-      row ≡ row_of s closed (drop opened k.ledger) ps → closed' ≡ closed ++ row ∷ [] → ps' ≡ beginnings s closed' → opened' ≡ length k.ledger → full' ≡ (full && list_all has_posted ps) →
+      row ≡ round_letters s closed (drop opened k.ledger) ps → closed' ≡ closed ++ row ∷ [] → ps' ≡ beginnings s closed' → opened' ≡ length k.ledger → full' ≡ (full && list_all has_posted ps) →
       world_of s closed' k opened' ps' full' ≡ happen (world_of s closed k opened ps full) Close
   close_is row closed' opened' ps' full' is h le row_is closed_is parts_are opened_is full_is =
       let w = world_of s closed k opened ps full in
@@ -238,16 +239,16 @@ module _ (s : Scenario) (closed : List (List Letter)) (k : Kept) (opened : ℕ) 
       let parts : ps' ≡ beginnings s (closed ++ round_letters w ∷ []) = parts_are ∙ ap (λ (c : List (List Letter)). beginnings s c) rows in
       (λ i. world_of s (rows i) k (opened_is i) (parts i) (full_is i)) ∙ sym (ap (λ b. cond b (closing w) w) (is_open s closed k opened ps full le))
 
-pub same_rows : (s : Scenario) (c c' : List (List Letter)) (a a' : List Access) (p p' : List Part) → c' ≡ c → a' ≡ a → p' ≡ p → row_of s c' a' p' ≡ row_of s c a p
-same_rows s c c' a a' p p' e f h = (λ i. row_of s (e i) (f i) (h i))
+pub same_rows : (s : Scenario) (c c' : List (List Letter)) (a a' : List Access) (p p' : List Part) → c' ≡ c → a' ≡ a → p' ≡ p → round_letters s c' a' p' ≡ round_letters s c a p
+same_rows s c c' a a' p p' e f h = (λ i. round_letters s (e i) (f i) (h i))
 
 -- a world has as many rounds at most
-pub held_few : (s : Scenario) (closed : List (List Letter)) (k : Kept) (opened : ℕ) (ps : List Part) (full : Bool) → IsScenario s → IsHeld s closed k opened ps full → length closed ≤ suc s.bound
+pub held_few : (s : Scenario) (closed : List (List Letter)) (k : RecordedBoard) (opened : ℕ) (ps : List Part) (full : Bool) → IsScenario s → IsHeld s closed k opened ps full → length closed ≤ suc s.bound
 held_few s closed k opened ps full is h =
     let Q : World → Type 0 = λ v. length v.closed ≤ suc v.scenario.bound in
     subst Q h.reached.1 (run_kept h.reached.0 (opening s) (opening_kept s is.board)).closed
 
-pub runs_for : (s : Scenario) (closed : List (List Letter)) (k : Kept) (opened : ℕ) (ps : List Part) (full : Bool) (closed' : List (List Letter)) (accesses : List Access) (ps' : List Part) → IsScenario s → IsHeld s closed k opened ps full →
+pub runs_for : (s : Scenario) (closed : List (List Letter)) (k : RecordedBoard) (opened : ℕ) (ps : List Part) (full : Bool) (closed' : List (List Letter)) (accesses : List Access) (ps' : List Part) → IsScenario s → IsHeld s closed k opened ps full →
     closed' ≡ closed → accesses ≡ drop opened k.ledger → ps' ≡ ps → AreLetters (suc (length closed')) accesses ps'
 runs_for s closed k opened ps full closed' accesses ps' is h closed_is same parts_are =
     subst (λ (c : List (List Letter)). AreLetters (suc (length c)) accesses ps') (sym closed_is)

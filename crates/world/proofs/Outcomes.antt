@@ -3,7 +3,7 @@ use Rattle.std.proofs.Common.{◌≡◌, ℕ, ◌<◌, List, Bool, true, length,
 use Rattle.std.proofs.lemmas.List.{length-map}
 use Rattle.label.specs.Oral.{Messages}
 use Rattle.label.specs.Lieutenants.{lieutenants, AgreeInList}
-use Rattle.board.specs.Ledger.{Kept}
+use Rattle.board.specs.Ledger.{RecordedBoard}
 use Rattle.round.specs.Scenario.{Scenario, IsScenario, is_traitor}
 use Rattle.round.specs.Letters.{Letter, messages}
 use Rattle.world.specs.declared.event.Event.{Event}
@@ -19,20 +19,20 @@ use Rattle.world.proofs.Holding.{held_few}
 use Rattle.world.proofs.Verdicts.{proved_decisions_agree, proved_verdicts_mean}
 
 -- in a held world that is finished they agree
-pub held_agree : (s : Scenario) (closed : List (List Letter)) (k : Kept) (opened : ℕ) (ps : List Part) (full : Bool) → IsScenario s → IsHeld s closed k opened ps full → IsFinished (world_of s closed k opened ps full) →
+pub held_agree : (s : Scenario) (closed : List (List Letter)) (k : RecordedBoard) (opened : ℕ) (ps : List Part) (full : Bool) → IsScenario s → IsHeld s closed k opened ps full → IsFinished (world_of s closed k opened ps full) →
     AgreeUnderBound s (decisions s (messages closed))
 held_agree s closed k opened ps full is h done bound =
     let Q : World → Type 0 = λ v. IsFinished v → AgreeInList s.generals s.commander s.order (is_traitor s) (decisions s (messages v.closed)) in
     subst Q h.reached.1 (λ over. proved_decisions_agree s h.reached.0 is over bound) done
 
-pub decided_agree : (s : Scenario) (closed : List (List Letter)) (k : Kept) (opened : ℕ) (ps : List Part) (full : Bool) (w : World) (xs : List ℕ) → IsScenario s → IsHeld s closed k opened ps full → world_of s closed k opened ps full ≡ w →
+pub decided_agree : (s : Scenario) (closed : List (List Letter)) (k : RecordedBoard) (opened : ℕ) (ps : List Part) (full : Bool) (w : World) (xs : List ℕ) → IsScenario s → IsHeld s closed k opened ps full → world_of s closed k opened ps full ≡ w →
     xs ≡ decisions w.scenario (messages w.closed) → IsFinished w → AgreeUnderBound w.scenario xs
 decided_agree s closed k opened ps full w xs is h same decided done =
     let A : World → Type 0 = λ v. IsFinished v → AgreeUnderBound v.scenario (decisions v.scenario (messages v.closed)) in
     subst (λ (ds : List ℕ). AgreeUnderBound w.scenario ds) (sym decided) (subst A same (held_agree s closed k opened ps full is h) done)
 
 -- where no round is open and it is full
-pub is_done : (s : Scenario) (closed : List (List Letter)) (k : Kept) (opened : ℕ) (ps : List Part) (full : Bool) (w : World) (len from : ℕ) → IsScenario s → IsHeld s closed k opened ps full → world_of s closed k opened ps full ≡ w →
+pub is_done : (s : Scenario) (closed : List (List Letter)) (k : RecordedBoard) (opened : ℕ) (ps : List Part) (full : Bool) (w : World) (len from : ℕ) → IsScenario s → IsHeld s closed k opened ps full → world_of s closed k opened ps full ≡ w →
     len ≡ length closed → from ≡ s.bound → from < len → full ≡ true → IsFinished w
 is_done s closed k opened ps full w len from is h same counted bound past filled =
     let few = held_few s closed k opened ps full is h in

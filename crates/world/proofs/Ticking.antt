@@ -14,7 +14,7 @@ use Rattle.world.specs.Lists.{further_turns, until_access, ticks_named}
 use Rattle.round.specs.Running.{Pauses}
 use Rattle.std.specs.Prelude.{OnOk}
 use Rattle.std.proofs.Common.{Result, Ok, Err}
-use Rattle.board.specs.Ledger.{Kept}
+use Rattle.board.specs.Ledger.{RecordedBoard}
 use Rattle.round.specs.Letters.{Letter}
 use Rattle.round.specs.Scenario.{IsScenario}
 use Rattle.world.specs.Reached.{world_of, IsHeld}
@@ -141,7 +141,7 @@ named_by s w v g most taken t (Some (Acting a)) at is (b, way, le, pause, new) a
 named_by s w v g most taken t (Some Silent) at is far ahead = absurd (let f : None ≡ Some most = is in cc)
 named_by s w v g most taken t (Some Posted) at is far ahead = absurd (let f : None ≡ Some most = is in cc)
 
-pub named_turn : {A E : Type 0} (result : Result A E) (s : Scenario) (closed : List (List Letter)) (k : Kept) (opened : ℕ) (ps ps' : List Part) (full : Bool) (w v u : World) (g most taken : ℕ) → IsScenario s → IsHeld s closed k opened ps full →
+pub named_turn : {A E : Type 0} (result : Result A E) (s : Scenario) (closed : List (List Letter)) (k : RecordedBoard) (opened : ℕ) (ps ps' : List Part) (full : Bool) (w v u : World) (g most taken : ℕ) → IsScenario s → IsHeld s closed k opened ps full →
     world_of s closed k opened ps full ≡ w → ps' ≡ ps → Some most ≡ program_length (slice_get ps' g) → AheadTo most taken w.parts g (slice_get w.parts g) v.parts → v ≡ run w (replicate taken (Tick g)) → OnOk result (u ≡ happen v (Tick g)) →
     OnOk result (u ≡ run w (ticks_named g (slice_get w.parts g)))
 named_turn (Ok x) s closed k opened ps ps' full w v u g most taken is h view parts_are most_is far ahead done =

@@ -1,13 +1,13 @@
 -- How a world is held, and what one event leaves of its parts and its board (own).
 use Rattle.std.specs.Prelude.{ℕ, suc, ◌≡◌, ◌≤◌, ◌-◌, cond, List, [], ◌∷◌, length, slice_set, slice_get, Option, None, Some}
 use Rattle.board.specs.Board.{Access}
-use Rattle.board.specs.Ledger.{Kept}
+use Rattle.board.specs.Ledger.{RecordedBoard}
 use Rattle.round.specs.Scenario.{Scenario, program_of}
 use Rattle.round.specs.Letters.{Letter}
 use Rattle.round.specs.Contexts.{loyal_letter}
 use Rattle.round.specs.Activation.{Activation, turn}
 use Rattle.round.specs.Runs.{Runs, IsLetter}
-use Rattle.round.specs.Running.{moved, Pauses}
+use Rattle.round.specs.Running.{moved, Pauses, letter_left}
 use Rattle.world.specs.declared.event.EventError.{EventError}
 use Rattle.world.specs.declared.event.EventError.TheVariants.{Memory}
 use Rattle.world.specs.Part.{Part, Acting, Silent, Posted}
@@ -19,7 +19,7 @@ IsAnswer error (Some refused) = error ≡ refused
 IsAnswer error None = error ≡ Memory
 
 -- what a tick leaves
-abbrev pub ticked_of : ℕ → ℕ → List Part → Kept → Option Part → List Part × Kept
+abbrev pub ticked_of : ℕ → ℕ → List Part → RecordedBoard → Option Part → List Part × RecordedBoard
 ticked_of general round parts board (Some (Acting a)) =
     (slice_set parts general (Acting (moved general round a board (turn a)).0), (moved general round a board (turn a)).1)
 ticked_of general round parts board _ = (parts, board)
@@ -40,29 +40,16 @@ abbrev pub steps_of : Option Part → ℕ
 steps_of (Some (Acting a)) = a.state.steps
 steps_of _ = 0
 
--- a traitor's letter, as his activation stands
-abbrev pub acting_letter : ℕ → ℕ → List Access → Activation → Letter
-acting_letter general round transcript a = record {
-  general = general;
-  round = round;
-  context = a.context;
-  program = Some a.program;
-  transcript = transcript;
-  steps = a.state.steps;
-  outbox = record { shape = a.shape; rows = a.state.outbox };
-  exited = a.over;
-}
-
 -- a general's letter, or none, from his part and the round's accesses
 abbrev pub written : Scenario → List (List Letter) → List Access → ℕ → Option Part → List Letter
-written s closed accesses g (Some (Acting a)) = acting_letter g (suc (length closed)) (accesses_of g accesses) a ∷ []
+written s closed accesses g (Some (Acting a)) = letter_left g (suc (length closed)) (accesses_of g accesses) a ∷ []
 written s closed accesses g (Some Silent) = []
 written s closed accesses g (Some Posted) = loyal_letter s closed g ∷ []
 written s closed accesses g None = []
 
 -- the letters of a round
-abbrev pub row_of : Scenario → List (List Letter) → List Access → List Part → List Letter
-row_of s closed accesses parts = each s.generals (λ g. written s closed accesses g (slice_get parts g))
+abbrev pub round_letters : Scenario → List (List Letter) → List Access → List Part → List Letter
+round_letters s closed accesses parts = each s.generals (λ g. written s closed accesses g (slice_get parts g))
 
 -- how the generals begin the round behind these
 abbrev pub beginnings : Scenario → List (List Letter) → List Part
@@ -70,4 +57,4 @@ beginnings s closed = cond (round_open s closed) (each s.generals (λ g. begins 
 
 -- what each acting general has done is a letter's run
 abbrev pub AreLetters : ℕ → List Access → List Part → Type 0
-AreLetters round accesses parts = (g : ℕ) (a : Activation) → slice_get parts g ≡ Some (Acting a) → IsLetter (acting_letter g round (accesses_of g accesses) a)
+AreLetters round accesses parts = (g : ℕ) (a : Activation) → slice_get parts g ≡ Some (Acting a) → IsLetter (letter_left g round (accesses_of g accesses) a)

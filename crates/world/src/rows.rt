@@ -7,7 +7,8 @@ ghost use Rattle.round.specs.Runs.{IsLetter};
 ghost use Rattle.round.specs.Told.{WasTold};
 ghost use Rattle.world.specs.Part.{Acting, has_posted};
 ghost use Rattle.world.specs.World.{accesses_of};
-ghost use Rattle.world.specs.Held.{acting_letter, written, row_of, AreLetters};
+ghost use Rattle.world.specs.Held.{written, round_letters, AreLetters};
+ghost use Rattle.round.specs.Running.{letter_left};
 
 use crate::part::Part;
 use board::Access;
@@ -26,7 +27,7 @@ pub(crate) fn letters(
     requires told { WasTold scenario.now closed.now told.now }
     requires left { length closed.now ≤ scenario.now.bound }
     requires runs { AreLetters (suc (length closed.now)) accesses.now parts.now }
-    ensures { IfOk result (λ row. row.items ≡ row_of scenario.now closed.now accesses.now parts.now) }
+    ensures { IfOk result (λ row. row.items ≡ round_letters scenario.now closed.now accesses.now parts.now) }
 {
     let mut row = Vec::with_capacity(alloc, parts.len())?;
     for general in 0..scenario.generals() {
@@ -97,8 +98,8 @@ fn acting(
     round: u32,
     accesses: &[Access],
 ) -> Result<Letter, AllocError>
-    requires { IsLetter (acting_letter general round (accesses_of general accesses.now) running.now) }
-    ensures { IfOk result (λ letter. letter ≡ acting_letter general round (accesses_of general accesses.now) running.now) }
+    requires { IsLetter (letter_left general round (accesses_of general accesses.now) running.now) }
+    ensures { IfOk result (λ letter. letter ≡ letter_left general round (accesses_of general accesses.now) running.now) }
 {
     let context = Vec::from_slice(alloc, running.context())?;
     let program = Seat::new(Some(running.program().clone()?));

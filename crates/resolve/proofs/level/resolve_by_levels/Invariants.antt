@@ -1,7 +1,7 @@
 use Rattle.std.proofs.Common.{◌≡◌, ◌+◌, ◌-◌, length}
 use Rattle.label.specs.Labels.{labels}
 use Rattle.label.specs.Oral.{Messages}
-use Rattle.tree.specs.Kept.{IsFilled}
+use Rattle.tree.specs.LieutenantTree.{IsFilled}
 use Rattle.resolve.specs.Upward.{decisions_at}
 use Rattle.resolve.proofs.level.resolve_by_levels.Given as goal
 

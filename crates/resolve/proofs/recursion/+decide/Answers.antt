@@ -3,12 +3,12 @@ use Rattle.std.specs.Prelude.{insert, slice_range, slice_index_or}
 use Rattle.std.specs.List.{range_with_len}
 use Rattle.label.specs.Labels.{labels}
 use Rattle.label.specs.Oral.{order_of}
-use Rattle.resolve.specs.Decided.{decided, child, order_at}
+use Rattle.resolve.specs.Decided.{decided, child, order_at_rank}
 use Rattle.combine.specs.Told.{with_own}
 use Rattle.resolve.proofs.Steps.{step-last, step-more, more-before, own-put, more-behind, few-before, few-behind, rank-small, first-fits}
 use Rattle.label.proofs.Parts.{part-within, part-long, rank-within}
 use Rattle.resolve.proofs.Lowest.{step-one}
-use Rattle.tree.specs.Kept.{Kept, level_of}
+use Rattle.tree.specs.LieutenantTree.{LieutenantTree, level_of}
 use Rattle.resolve.proofs.recursion.+decide.Goals as goal
 
 pub returns-then-relays-eq0 : goal.returns-then-relays-eq0
@@ -122,7 +122,7 @@ combine_told-requires-clause-place g t c =
     let place = c.requires.place in
     omega arith
 
-one : (f : List ℕ → ℕ) (t : Kept) (size rank place width own order : ℕ) (children level : List (Option ℕ)) (k : ℕ) → k ≡ 1 → own ≡ order_at t size rank → width ≡ t.generals - 1 - size → rank * width + width ≤ length level → level ≡ level_of t (size + 1) → children ≡ slice_range level (rank * width) (rank * width + width) → order ≡ f (with_own children place own) → order ≡ decided f t k size rank place
+one : (f : List ℕ → ℕ) (t : LieutenantTree) (size rank place width own order : ℕ) (children level : List (Option ℕ)) (k : ℕ) → k ≡ 1 → own ≡ order_at_rank t size rank → width ≡ t.generals - 1 - size → rank * width + width ≤ length level → level ≡ level_of t (size + 1) → children ≡ slice_range level (rank * width) (rank * width + width) → order ≡ f (with_own children place own) → order ≡ decided f t k size rank place
 one f t size rank place width own order children level k ek eo ew l el ec e = e ∙ step-one f t k size rank place width own children ek eo ew (rw el at l) (rw el at ec)
 
 pub returns-then-relays-eq1 : goal.returns-then-relays-eq1

@@ -6,7 +6,7 @@ use Rattle.label.proofs.Places.{first_label}
 use Rattle.round.specs.Letters.{letter_of}
 use Rattle.round.specs.Told.{round_of, told_now}
 use Rattle.round.specs.Fronts.{IsFront}
-use Rattle.round.specs.Delivery.{order_told}
+use Rattle.round.specs.Delivery.{order_in_letter}
 use Rattle.round.specs.declared.front.Front.{Front}
 use Rattle.round.proofs.Delivering.{none_heard, no_letters, due_round, told_all, told_one}
 use Rattle.round.proofs.Walking.{first_told}
@@ -32,7 +32,7 @@ returns-then-size-eq1-clause-filled c =
     let alone : labels t.generals t.commander t.general 1 ≡ (t.commander ∷ []) ∷ [] = first_label t.generals t.commander t.general sp.kind.lieutenant in
     let value : c.told-value.result ≡ told_now row (t.commander ∷ []) t.general =
     first_told t row c.told-value.result c.requires sp.kind.commander (sym round ∙ c.if-size-eq1.true)
-    (c.told-value.ensures c.places_of-places.ensures ∙ (ap (λ (g : ℕ). order_told (letter_of row g) 0 c.space-space.result.general) sp.commander ∙ ap (λ (p : ℕ). order_told (letter_of row t.commander) 0 p) sp.general)) in
+    (c.told-value.ensures c.places_of-places.ensures ∙ (ap (λ (g : ℕ). order_in_letter (letter_of row g) 0 c.space-space.result.general) sp.commander ∙ ap (λ (p : ℕ). order_in_letter (letter_of row t.commander) 0 p) sp.general)) in
     told_all t row 1 1 c.set.new.self sp.kind (sym c.if-size-eq1.true ∙ round)
     (told_one t row 1 0 c.set.new.self (t.commander ∷ []) c.told-value.result sp.kind c.set.ensures.same (ap (λ ws. slice_get ws 0) alone) value c.set.ensures.filled)
     (let one : length (labels t.generals t.commander t.general 1) ≡ 1 = ap length alone in omega arith)

@@ -5,7 +5,7 @@ use Rattle.std.proofs.lemmas.Option.{slice_get_within}
 use Rattle.label.specs.Labels.{others, labels}
 use Rattle.outbox.proofs.RowLemmas.{others-few}
 use Rattle.round.specs.Letters.{letter_of}
-use Rattle.round.specs.Delivery.{order_told}
+use Rattle.round.specs.Delivery.{order_in_letter}
 use Rattle.round.proofs.Walking.{row_fits, child_place, place_fits, off_told, off_true, place_next, place_same, all_children, tell_step, told_ends, under_one, suc_times}
 use Rattle.round.proofs.delivery.tell_children.Goals as goal
 use Rattle.round.proofs.delivery.tell_children.Goals.{then-is_off, else-is_off}
@@ -59,7 +59,7 @@ loop-general-preserved c =
             (ap (λ (g : ℕ). slice_index f.ranks g * c.saturating_sub-width.result) (c.from-2.ensures ∙ sp.general)) within
             (off_true p x walk.w c.is_off.result (off_told c.args.tree.now.generals c.args.tree.now.commander p x walk.w f c.is_off.result walk.front within test) w.if-is_off.true)
             (c.loop-general.invariant.place walk.w walk.front walk.off) c.loop-general.invariant.told w.told-value.result
-            (w.told-value.ensures walk.posted ∙ (ap (λ (g : ℕ). order_told (letter_of row x) (slice_index f.ranks g) c.space-space.result.general) w.from-then-is_off.ensures ∙ ap (λ (q : ℕ). order_told (letter_of row x) (slice_index f.ranks x) q) sp.general))
+            (w.told-value.ensures walk.posted ∙ (ap (λ (g : ℕ). order_in_letter (letter_of row x) (slice_index f.ranks g) c.space-space.result.general) w.from-then-is_off.ensures ∙ ap (λ (q : ℕ). order_in_letter (letter_of row x) (slice_index f.ranks x) q) sp.general))
             w.set.ensures.same w.set.ensures.filled);
         place = λ v h off. rw w.place-is (place_next p x c.loop-general.place v c.is_off.result (off_told c.args.tree.now.generals c.args.tree.now.commander p x v f c.is_off.result h within test) w.if-is_off.true (c.loop-general.invariant.place v h off));
       }

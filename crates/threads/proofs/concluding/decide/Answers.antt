@@ -2,7 +2,7 @@ use Rattle.std.proofs.Common.{◌≡◌, ◌<◌, ◌≤◌, ℕ, List, length, 
 use Rattle.std.specs.List.{AllZip}
 use Rattle.combine.specs.Chosen.{combined_by}
 use Rattle.combine.specs.declared.chosen.Rule.{Rule}
-use Rattle.tree.specs.Kept.{Kept}
+use Rattle.tree.specs.LieutenantTree.{LieutenantTree}
 use Rattle.resolve.specs.Decided.{Decides}
 use Rattle.threads.proofs.Deciding.{zip_long, all_decided}
 use Rattle.threads.proofs.concluding.decide.Goals as goal
@@ -21,6 +21,6 @@ returns g c before told =
     let s = c.args.scenario.now in
     let orders = c.in_ok-orders.orders.items in
     let all : AllZip (Decides (combined_by s.rule)) c.args.told.now.trees orders =
-    subst (λ (trees : List Kept). AllZip (Decides (combined_by s.rule)) trees orders) c.trees.ensures
+    subst (λ (trees : List LieutenantTree). AllZip (Decides (combined_by s.rule)) trees orders) c.trees.ensures
     (subst (λ (rule : Rule). AllZip (Decides (combined_by rule)) c.trees.result.now orders) c.rule.ensures c.in_ok-orders.ensures) in
     c.listed.ensures ∙ (c.as_slice.ensures.value ∙ all_decided s before c.args.told.now orders c.commander-commander.ensures.whole.commander told all)

@@ -1,7 +1,7 @@
 use Rattle.std.proofs.Common.{◌∙◌, ◌∷◌, [], refl, sym}
 use Rattle.std.specs.Prelude.{◌==◌}
 use Rattle.std.proofs.lemmas.Bool.{or_left, eq-eqb}
-use Rattle.tree.specs.Kept.{silence}
+use Rattle.tree.specs.LieutenantTree.{silence}
 use Rattle.book.specs.Table.{told}
 use Rattle.book.proofs.Steps.{others-more_no}
 use Rattle.book.proofs.TreeLemmas.{tree_is, tree_more, told_none}

@@ -1,5 +1,5 @@
 use Rattle.std.proofs.Common.{◌∙◌, ap, refl}
-use Rattle.tree.specs.Kept.{Kept}
+use Rattle.tree.specs.LieutenantTree.{LieutenantTree}
 use Rattle.book.specs.Table.{told}
 use Rattle.book.proofs.TreeLemmas.{place_of_tree}
 use Rattle.book.proofs.table.Table.told.Goals as goal
@@ -7,4 +7,4 @@ use Rattle.book.proofs.table.Table.told.Goals as goal
 pub returns : goal.returns
 returns c =
     let there = place_of_tree c.args.self.now (told c.args.self.now.messages) c.args.label.now c.args.receiver c.requires in
-    c.value.ensures.told (told c.args.self.now.messages) (rw c.tree.ensures refl) (rw c.tree.ensures there.0) ∙ ap (λ (t : Kept). told c.args.self.now.messages c.args.label.now t.general) c.tree.ensures
+    c.value.ensures.told (told c.args.self.now.messages) (rw c.tree.ensures refl) (rw c.tree.ensures there.0) ∙ ap (λ (t : LieutenantTree). told c.args.self.now.messages c.args.label.now t.general) c.tree.ensures

@@ -1,7 +1,7 @@
 -- Tree by tree.
 use Rattle.std.proofs.Common.{◌≡◌, ◌-◌, ◌++◌, ◌∷◌, [], ℕ, suc, length, arith, sym, subst}
 use Rattle.label.specs.Oral.{Messages}
-use Rattle.tree.specs.Kept.{IsFilled, blank}
+use Rattle.tree.specs.LieutenantTree.{IsFilled, blank}
 use Rattle.round.specs.Told.{Heard, WasTold}
 use Rattle.round.proofs.EachTree.{changed_next}
 use Rattle.round.proofs.Forgetting.{some_told, told_less}

@@ -1,5 +1,5 @@
 use Rattle.std.proofs.Common.{◌≡◌}
-use Rattle.tree.specs.Kept.{blank}
+use Rattle.tree.specs.LieutenantTree.{blank}
 use Rattle.round.proofs.EachTree.{AreChangedTo}
 use Rattle.round.proofs.told.Told.forget.Given as goal
 

@@ -1,19 +1,19 @@
 -- A tree for each lieutenant.
 use Rattle.std.proofs.Common.{◌≡◌, ◌<◌, ◌+◌, ◌∙◌, ℕ, List, arith, sym, ap, subst, refl}
-use Rattle.tree.specs.Kept.{Kept}
+use Rattle.tree.specs.LieutenantTree.{LieutenantTree}
 use Rattle.round.specs.Told.{lieutenant_at}
 use Rattle.round.proofs.Filling.{AreSilent, silent_none, silent_more, told_none, tree_new, lieutenant_other, lieutenant_within}
 use Rattle.round.proofs.told.Told.new.Goals as goal
 
 pub loop-place-init : goal.loop-place-init
-loop-place-init c = subst (λ (l : List Kept). AreSilent c.args.scenario.now 0 l) (sym c.in_ok-trees.ensures.items) (silent_none c.args.scenario.now)
+loop-place-init c = subst (λ (l : List LieutenantTree). AreSilent c.args.scenario.now 0 l) (sym c.in_ok-trees.ensures.items) (silent_none c.args.scenario.now)
 
 pub loop-place-preserved : goal.loop-place-preserved
 loop-place-preserved c =
     let s = c.args.scenario.now in let i = c.loop-place.place in let t = c.in_ok-new.field-0 in let n = c.in_ok-new.ensures.numbers in
     let g : c.lieutenant_at-general.result ≡ lieutenant_at s.commander i = c.lieutenant_at-general.ensures ∙ ap (λ (k : ℕ). lieutenant_at k i) c.commander-commander.ensures.same in
     let less : i + 1 < s.generals = let e = c.generals-generals.ensures.same in let l = c.loop-place-test.true in omega arith in
-    subst (λ (l : List Kept). AreSilent s (i + 1) l) (sym c.in_ok-push.ensures.items)
+    subst (λ (l : List LieutenantTree). AreSilent s (i + 1) l) (sym c.in_ok-push.ensures.items)
     (silent_more s i (lieutenant_at s.commander i) c.loop-place.trees.items t c.loop-place.invariant refl
     (tree_new s (lieutenant_at s.commander i) t (n.0 ∙ c.generals-generals.ensures.same) (n.1 ∙ c.bound-bound.ensures.same) (n.2 ∙ c.commander-commander.ensures.same) (n.3 ∙ g)
     (lieutenant_within s.commander i s.generals less) (lieutenant_other s.commander i) c.in_ok-new.ensures.silent))
