@@ -1,5 +1,4 @@
 pub mod RowLemmas
-pub mod Numbers
 pub mod Writing
 pub mod Whole
 pub mod One

@@ -3,6 +3,8 @@ ghost use Rattle.std.specs.Prelude.{◌≡◌, ◌+◌, ◌*◌, ◌≤◌, leng
 ghost use Rattle.word.specs.Bytes.{little_number};
 ghost use Rattle.semantics.specs.Outbox.{taken_value};
 
+use byteorder::{ByteOrder, LittleEndian};
+
 /// The value taken for the label of that rank.
 pub(crate) fn taken_value(context: &[u8], rank: usize) -> u32
     requires { 36 + 4 * rank ≤ length context.now }
@@ -11,18 +13,10 @@ pub(crate) fn taken_value(context: &[u8], rank: usize) -> u32
     word_at(context, 32 + 4 * rank)
 }
 
-/// The number in 2 bytes.
-fn half_at(bytes: &[u8], place: usize) -> u16
-    requires { place + 2 ≤ length bytes.now }
-    ensures { result ≡ little_number (take 2 (drop place bytes.now)) }
-{
-    u16::from(bytes[place]) + 256 * u16::from(bytes[place + 1])
-}
-
-/// The number in 4 bytes.
+/// The number that 4 bytes spell, the lowest first.
 fn word_at(bytes: &[u8], place: usize) -> u32
     requires { place + 4 ≤ length bytes.now }
     ensures { result ≡ little_number (take 4 (drop place bytes.now)) }
 {
-    u32::from(half_at(bytes, place)) + 0x1_0000 * u32::from(half_at(bytes, place + 2))
+    LittleEndian::read_u32(&bytes[place..])
 }

@@ -4,6 +4,7 @@ ghost use Rattle.word.specs.Bytes.{little_bytes};
 ghost use Rattle.label.specs.Oral.{order_of};
 ghost use Rattle.round.specs.Contexts.{context_bytes, context_numbers};
 
+use byteorder::{ByteOrder, LittleEndian};
 use label::Shape;
 use std::alloc::{AllocError, Global};
 
@@ -71,5 +72,7 @@ fn order(value: &Option<u32>) -> u32
 fn put(bytes: &mut Vec<u8>, number: u32) -> Result<(), AllocError>
     ensures { OnOk result (bytes.new.items ≡ bytes.old.items ++ little_bytes 4 number) }
 {
-    bytes.extend_from_slice(&number.to_le_bytes())
+    let mut word = [0; 4];
+    LittleEndian::write_u32(&mut word, number);
+    bytes.extend_from_slice(&word)
 }

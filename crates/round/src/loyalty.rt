@@ -6,6 +6,7 @@ ghost use Rattle.round.specs.Contexts.{IsToldTo, shape_told, outbox_told, letter
 
 use crate::letter::Letter;
 use crate::seat::Seat;
+use byteorder::{ByteOrder, LittleEndian};
 use label::Shape;
 use outbox::Outbox;
 use std::alloc::{AllocError, Global};
@@ -67,18 +68,10 @@ pub(crate) fn number_told(context: &[u8], place: usize) -> u32
     word_at(context, 4 * place)
 }
 
-/// The number in 2 bytes.
-fn half_at(bytes: &[u8], place: usize) -> u16
-    requires { place + 2 ≤ length bytes.now }
-    ensures { result ≡ little_number (take 2 (drop place bytes.now)) }
-{
-    u16::from(bytes[place]) + 256 * u16::from(bytes[place + 1])
-}
-
-/// The number in 4 bytes.
+/// The number that 4 bytes spell, the lowest first.
 fn word_at(bytes: &[u8], place: usize) -> u32
     requires { place + 4 ≤ length bytes.now }
     ensures { result ≡ little_number (take 4 (drop place bytes.now)) }
 {
-    u32::from(half_at(bytes, place)) + 0x1_0000 * u32::from(half_at(bytes, place + 2))
+    LittleEndian::read_u32(&bytes[place..])
 }

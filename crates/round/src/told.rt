@@ -133,7 +133,8 @@ pub fn context_for(
     requires left { length before.now ≤ scenario.now.bound }
     requires general { general < scenario.now.generals }
     requires letters { AreRoundsOf scenario.now before.now }
-    ensures { IfOk result (λ bytes. bytes.items ≡ context_of scenario.now before.now general) }
+    ensures context { IfOk result (λ bytes. bytes.items ≡ context_of scenario.now before.now general) }
+    ensures words { OnOk result (AreWords scenario.now before.now general) }
 {
     let mut told = Told::new(alloc, scenario)?;
     for row in before {

@@ -2,7 +2,7 @@
 use Rattle.std.specs.Prelude.{◌≡◌, ℕ, Bool, true, false, List, [], ◌++◌, Option}
 use Rattle.std.specs.Io.KnownBytes.{Appends}
 
--- from what was written, failed or not, a text went out: the whole one exactly where the sink has not failed, else a beginning of it, and nothing of it where the sink had failed before
+-- from what was written, failed or not, a text went out: the whole one where the sink has not failed, else a beginning of it, and nothing of it where the sink had failed before
 pub record Wrote (old : Option (List ℕ)) (before : Bool) (text : List ℕ) (new : Option (List ℕ)) (after : Bool) : Type 0 where
   pub front : List ℕ
   pub rest : List ℕ

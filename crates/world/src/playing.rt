@@ -192,7 +192,7 @@ impl World {
     /// # Errors
     ///
     /// `AllocError` where memory is refused.
-    pub fn played(
+    pub(crate) fn played(
         alloc: Global,
         scenario: Scenario,
         schedule: &Schedule,
@@ -216,7 +216,7 @@ impl World {
     /// # Errors
     ///
     /// `AllocError` where memory is refused.
-    pub fn replayed(
+    pub(crate) fn replayed(
         alloc: Global,
         scenario: Scenario,
         names: &[Vec<u8>],
