@@ -8,15 +8,22 @@ use Rattle.round.specs.Contexts.{loyal_letter}
 use Rattle.round.specs.Activation.{Activation, turn}
 use Rattle.round.specs.Runs.{Runs, IsLetter}
 use Rattle.round.specs.Running.{moved, Pauses, letter_left}
+use Rattle.world.specs.declared.event.Event.{Event}
+use Rattle.world.specs.declared.event.Event.TheVariants.{Post}
 use Rattle.world.specs.declared.event.EventError.{EventError}
 use Rattle.world.specs.declared.event.EventError.TheVariants.{Memory}
 use Rattle.world.specs.Part.{Part, Acting, Silent, Posted}
 use Rattle.world.specs.World.{each, accesses_of, begins, round_open}
 
+-- a tick enters an access, and a close keeps letters; a post takes no memory
+abbrev pub TakesMemory : Event → Type 0
+TakesMemory (Post g) = ⊥
+TakesMemory _ = Unit {0}
+
 -- an error is the refusal, and where nothing is refused the want of memory
-abbrev pub IsAnswer : EventError → Option EventError → Type 0
-IsAnswer error (Some refused) = error ≡ refused
-IsAnswer error None = error ≡ Memory
+abbrev pub IsAnswer : Event → EventError → Option EventError → Type 0
+IsAnswer event error (Some refused) = error ≡ refused
+IsAnswer event error None = (error ≡ Memory) × TakesMemory event
 
 -- what a tick leaves
 abbrev pub ticked_of : ℕ → ℕ → List Part → RecordedBoard → Option Part → List Part × RecordedBoard

@@ -39,12 +39,13 @@ impl World {
     /// # Errors
     ///
     /// After an error the world is as it was. `NotOpen` where all rounds are closed; `NoGeneral` where there is no such
-    /// general, or he is not of the event's kind; `Memory` where neither is so and memory is refused.
+    /// general, or he is not of the event's kind; `Memory` where neither is so and memory is refused
+    /// to a tick or a close: a post takes none.
     pub fn apply(&mut self, alloc: Global, event: Event) -> Result<(), EventError>
         ensures done { OnOk result (self.new ≡ happen self.old event) }
         ensures undone { OnErr result (self.new ≡ self.old) }
         ensures fit { OnOk result (refusal self.old event ≡ None) }
-        ensures refused { IfErr result (λ e. IsAnswer e (refusal self.old event)) }
+        ensures refused { IfErr result (λ e. IsAnswer event e (refusal self.old event)) }
     {
         if self.closed.len() > usize::from(self.scenario.bound()) {
             return Err(EventError::NotOpen);
@@ -52,17 +53,13 @@ impl World {
         if is_unfit(self.parts.as_slice(), event) {
             return Err(EventError::NoGeneral);
         }
-        let done = match event {
-            Event::Tick(general) => self.turn(general),
+        match event {
+            Event::Tick(general) => Ok(self.turn(general)?),
             Event::Post(general) => {
                 self.post(general);
                 Ok(())
             }
-            Event::Close => self.close(alloc),
-        };
-        match done {
-            Ok(()) => Ok(()),
-            Err(_) => Err(EventError::Memory),
+            Event::Close => Ok(self.close(alloc)?),
         }
     }
 }

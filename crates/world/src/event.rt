@@ -1,3 +1,4 @@
+use std::alloc::AllocError;
 use thiserror::Error;
 
 /// What happens in a campaign.
@@ -23,4 +24,15 @@ pub enum EventError {
     /// The memory that it takes is refused.
     #[error("out of memory")]
     Memory,
+}
+
+impl From<AllocError> for EventError {
+    ghost use Rattle.std.specs.Prelude.{◌≡◌};
+    ghost use Rattle.world.specs.declared.event.EventError.TheVariants.{Memory};
+
+    ghost from_gives = { λ _ e. e ≡ Memory };
+
+    fn from(_error: AllocError) -> EventError {
+        EventError::Memory
+    }
 }
