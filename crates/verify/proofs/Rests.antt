@@ -74,7 +74,7 @@ pass_step program context shape old new unit forward passed setting rest s le so
     (cases_lt unit s.unit)
 
 pub rests_step : (program : List Insn) (old new : List Slot) (unit : ℕ) → IsForward program → IsPassed program unit old new → EntryRests program old unit → EntryRests program new (unit + 1)
-rests_step program old new unit forward passed rests context shape c h rest = rests context shape c h (pass_step program context shape old new unit forward passed (record { is_context = c; is_shape = h }) rest)
+rests_step program old new unit forward passed rests context shape c h rest = rests context shape c h (pass_step program context shape old new unit forward passed (record { is_context = c; is_relay = h }) rest)
 
 first_start : (program : List Insn) → 0 < length (slots_of program) → IsSome (instruction_at program 0)
 first_start [] lt = absurd (omega arith)
