@@ -11,14 +11,15 @@ use Rattle.clap.proofs.FaultLemmas.{stopped_fault}
 use Rattle.clap.proofs.OnLiterals.{clap_on_literals}
 use Rattle.command_line.specs.Asked.{asked, file_in, is_end_of_flags, is_flag, is_subcommand}
 use Rattle.command_line.specs.Lab.{lab_app, task_met}
+use Rattle.command_line.specs.Told.{Told, one_file}
 use Rattle.command_line.proofs.WordLemmas.{Fails, HasHelpAlone, or_else-first, true_or_false}
 use Rattle.command_line.proofs.TurnLemmas.{flag_turn, fold_stopped, plain_turn, turn_fails}
 use Rattle.command_line.proofs.FileLemmas.{FileAgrees, faults, file_agrees, file_shape, rows}
 
 -- the words fail where the rule finds no task, and else their task is met
-abbrev pub Agrees : Kinds → Option (Text × List Row) → Option (Text × Text) → Type 0
+abbrev pub Agrees : Kinds → Option (Text × List Row) → Option Told → Type 0
 Agrees kinds met None = Fails kinds
-Agrees kinds met (Some task) = (kinds ≡ []) × (task_met met ≡ Some task) × (is_subcommand task.0 ≡ true)
+Agrees kinds met (Some task) = (kinds ≡ []) × (task_met met ≡ Some task) × (is_subcommand task.name ≡ true)
 
 abbrev top : Shape
 top = (built lab_app).top
@@ -64,10 +65,10 @@ after_walk kinds w = or_else kinds (or_else (entered_fault (built lab_app) w.sto
 -- ---- a subcommand of one file
 
 as_task : (name : Text) → is_subcommand name ≡ true → (kinds : Kinds) (found : List Row) (file : Option Text)
-    → FileAgrees kinds found file → Agrees (or_else kinds []) (Some (name, found)) (option_map (λ f. (name, f)) file)
+    → FileAgrees kinds found file → Agrees (or_else kinds []) (Some (name, found)) (option_map (one_file name) file)
 as_task name known kinds found None fails = or_else-first _ _ fails
 as_task name known kinds found (Some file) passes =
-    (ap (λ (k : Kinds). or_else k []) passes.0, ap (option_map (λ (f : Text). (name, f))) passes.1, known)
+    (ap (λ (k : Kinds). or_else k []) passes.0, ap (option_map (one_file name)) passes.1, known)
 
 module _ (name : Text) (rest : List Text)
     (meets : walked top.rules names start name ≡ record start { stopped = Some (name, []) })
@@ -89,12 +90,12 @@ module _ (name : Text) (rest : List Text)
       ∙ ap₂ (λ (k : Kinds) (m : Option (Text × List Row)). or_else k (after_level (is_some m))) below_is met_is
       ∙ ap (or_else (faults name rest)) nothing_left
 
-  named : Agrees (fault_of lab_app (name ∷ rest)) (subcommand_of lab_app (name ∷ rest)) (option_map (λ f. (name, f)) (file_in rest))
+  named : Agrees (fault_of lab_app (name ∷ rest)) (subcommand_of lab_app (name ∷ rest)) (option_map (one_file name) (file_in rest))
   named =
       let agrees = as_task name known (faults name rest) (rows name rest) (file_in rest) (file_agrees name rest) in
       let met = ap (λ (w : Walk). entered (built lab_app) w.stopped) stop_is ∙ met_is in
-      subst (λ (k : Kinds). Agrees k (subcommand_of lab_app (name ∷ rest)) (option_map (λ f. (name, f)) (file_in rest))) (sym faults_are)
-      (subst (λ (m : Option (Text × List Row)). Agrees (or_else (faults name rest) []) m (option_map (λ f. (name, f)) (file_in rest))) (sym met) agrees)
+      subst (λ (k : Kinds). Agrees k (subcommand_of lab_app (name ∷ rest)) (option_map (one_file name) (file_in rest))) (sym faults_are)
+      (subst (λ (m : Option (Text × List Row)). Agrees (or_else (faults name rest) []) m (option_map (one_file name) (file_in rest))) (sym met) agrees)
 
 -- ---- the words by their cases
 

@@ -1,12 +1,10 @@
 -- What the words behind the program's name ask for.
-use Rattle.std.specs.Prelude.{ℕ, ◌==◌, ◌&&◌, Bool, true, false, List, [], ◌∷◌, Option, Some, None}
+use Rattle.std.specs.Prelude.{◌==◌, ◌&&◌, Bool, true, false, List, [], ◌∷◌, Option, Some, None}
 use Rattle.std.specs.Prelude.{codes, if◌then◌else◌, is_some, map, option_map, slice_get}
 use Rattle.std.specs.Borrow.{Bor}
 use Rattle.std.specs.List.{list_any}
 use Rattle.std.specs.Str.{bytes_eq, chars}
-
-abbrev pub Text : Type 0
-Text = List ℕ
+use Rattle.command_line.specs.Told.{Text, Told, one_file}
 
 -- the texts behind the references
 abbrev pub words_of : List (Bor Text) → List Text
@@ -45,7 +43,7 @@ abbrev pub is_subcommand : Text → Bool
 is_subcommand name = list_any (λ known. bytes_eq known name) subcommands
 
 -- the words are a subcommand's name and its file
-abbrev pub asked : List Text → Option (Text × Text)
+abbrev pub asked : List Text → Option Told
 asked [] = None
-asked (name ∷ rest) = if is_subcommand name then option_map (λ file. (name, file)) (file_in rest)
+asked (name ∷ rest) = if is_subcommand name then option_map (one_file name) (file_in rest)
     else None

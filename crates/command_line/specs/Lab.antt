@@ -1,6 +1,7 @@
 -- The command line as `clap` is told of it.
 use Rattle.std.specs.Prelude.{List, Option, true, codes, option_and_then, option_map}
 use Rattle.clap.specs.Words.{App, Row, Rule, Text, first_of, new_app, new_rule, with_rule, with_subcommand}
+use Rattle.command_line.specs.Told.{Told, one_file}
 
 -- a file, which has to be there
 abbrev pub file_rule : Rule
@@ -25,6 +26,6 @@ lab_app = with_file_command (with_file_command (with_file_command (with_file_com
     (codes "check")) (codes "asm")) (codes "dis")) (codes "book")
 
 -- the subcommand that `clap` met, and its file
-abbrev pub task_met : Option (Text × List Row) → Option (Text × Text)
-task_met = option_and_then (λ met. option_map (λ file. (met.0, file))
+abbrev pub task_met : Option (Text × List Row) → Option Told
+task_met = option_and_then (λ met. option_map (one_file met.0)
     (first_of (codes "file") met.1))

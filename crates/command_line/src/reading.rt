@@ -2,7 +2,7 @@ ghost use Rattle.std.specs.Prelude.{◌≡◌, ◌≢◌, IfOk, IfErr, IsSome, S
 ghost use Rattle.clap.specs.Words.{IsAmong, fault_of, kind_of, subcommand_rows_of};
 ghost use Rattle.command_line.specs.Asked.{asked, is_subcommand, words_of};
 ghost use Rattle.command_line.specs.Lab.{lab_app, task_met};
-ghost use Rattle.command_line.specs.Told.{IfWords, told_of};
+ghost use Rattle.command_line.specs.Told.{IfWords, one_file, told_of};
 
 use crate::lab::lab_command;
 use crate::tasks::{Task, TaskError};
@@ -40,7 +40,7 @@ pub fn task(alloc: Global, words: &[&str]) -> Result<Task, TaskError>
 /// The subcommand that was met, and its file.
 fn met<'a>(matches: &ArgMatches<'a>) -> (&'a str, &'a str)
     requires { IsSome (task_met (subcommand_rows_of matches.now)) }
-    ensures { Some (result.0.now, result.1.now) ≡ task_met (subcommand_rows_of matches.now) }
+    ensures { Some (one_file result.0.now result.1.now) ≡ task_met (subcommand_rows_of matches.now) }
 {
     let Some((name, found)) = matches.subcommand() else {
         unreachable!();
@@ -54,7 +54,7 @@ fn met<'a>(matches: &ArgMatches<'a>) -> (&'a str, &'a str)
 /// The task of a subcommand with its file.
 fn task_named(alloc: Global, name: &str, file: &str) -> Result<Task, AllocError>
     requires { is_subcommand name.now ≡ true }
-    ensures { IfOk result (λ task. told_of task ≡ (name.now, file.now)) }
+    ensures { IfOk result (λ task. told_of task ≡ one_file name.now file.now) }
 {
     let file = String::from_str(alloc, file)?;
     Ok(match name {

@@ -3,6 +3,7 @@ use Rattle.clap.specs.Words.{Text, first_of, found_of, rows_of, subcommand_rows_
 use Rattle.clap.specs.declared.parser.matches.ArgMatches.TheViews.{out-ArgMatches}
 use Rattle.clap.proofs.WalkLemmas.{first_value-rows}
 use Rattle.command_line.specs.Lab.{task_met}
+use Rattle.command_line.specs.Told.{one_file}
 use Rattle.command_line.proofs.MetLemmas.{not_some, subcommand_rows-name, task_met-parts}
 use Rattle.command_line.proofs.reading.met.Goals as goal
 
@@ -20,7 +21,7 @@ unreachable-requires-in_default-get_str c =
     ∙ (sym c.get_str.ensures ∙ ap (option_map (λ (s : Bor Text). s.now)) c.in_default-get_str.is) in
     not_some (task_met (subcommand_rows_of m))
     (task_met-parts (subcommand_rows_of m) name rows name_is rows_are
-    ∙ ap (option_map (λ (file : Text). (name, file))) none) c.requires
+    ∙ ap (option_map (one_file name)) none) c.requires
 
 pub returns : goal.returns
 returns c =
@@ -35,4 +36,4 @@ returns c =
     sym (first_value-rows (found_of c.in-Some.found.now) (codes "file"))
     ∙ (sym c.get_str.ensures ∙ ap (option_map (λ (s : Bor Text). s.now)) c.in-Some-get_str.is) in
     sym (task_met-parts (subcommand_rows_of m) name rows name_is rows_are
-    ∙ ap (option_map (λ (file : Text). (name, file))) some)
+    ∙ ap (option_map (one_file name)) some)
