@@ -52,13 +52,14 @@ fn with_file_command<'a>(
     lab.subcommand(Command::new(alloc, name).about(about).arg(file)?)
 }
 
-/// Adds the subcommand of a scenario and perhaps a schedule.
+/// Adds the subcommand `play`.
 fn with_play_command<'a>(alloc: Global, lab: Command<'a>) -> Result<Command<'a>, AllocError>
     ensures { IfOk result (λ c. app_of c ≡ with_play_command (app_of lab.entry)) }
 {
     lab.subcommand(play_command(alloc)?)
 }
 
+/// The subcommand of a scenario and perhaps a schedule.
 fn play_command<'a>(alloc: Global) -> Result<Command<'a>, AllocError>
     ensures app { IfOk result (λ c. app_of c ≡ play_app) }
     ensures local { IfOk result (λ c. (out-Command c).has_globals ≡ false) }
