@@ -4,9 +4,11 @@ use Rattle.clap.specs.Words.{App, IsAmong, Row, Text, fault_of, is_simple, is_si
 use Rattle.clap.specs.declared.error.kind.ErrorKind.{ErrorKind}
 use Rattle.clap.specs.declared.error.kind.ErrorKind.TheVariants.{OutOfMemory}
 use Rattle.clap.proofs.OnLiterals.{clap_on_literals}
-use Rattle.command_line.specs.Asked.{asked, is_subcommand}
+use Rattle.command_line.specs.Asked.{asked, is_task}
 use Rattle.command_line.specs.Lab.{lab_app, task_met}
-use Rattle.command_line.proofs.AskedLemmas.{Agrees, rule_agrees}
+use Rattle.command_line.specs.Told.{Told}
+use Rattle.command_line.proofs.AgreeLemmas.{Agrees}
+use Rattle.command_line.proofs.AskedLemmas.{rule_agrees}
 
 is_simple_lab : is_simple lab_app ≡ true
 unfolding clap_on_literals
@@ -18,12 +20,12 @@ is_free_lab = refl
 
 -- the rule finds the task that was met
 pub record IsFound (words : List Text) (met : Option (Text × List Row)) : Type 0 where
-  pub task : Text × Text
+  pub task : Told
   pub asked_is : asked words ≡ Some task
   pub met_is : task_met met ≡ Some task
-  pub known : is_subcommand task.0 ≡ true
+  pub known : is_task task ≡ true
 
-found_by : (words : List Text) (task : Option (Text × Text)) → asked words ≡ task → fault_of lab_app words ≡ []
+found_by : (words : List Text) (task : Option Told) → asked words ≡ task → fault_of lab_app words ≡ []
     → Agrees (fault_of lab_app words) (subcommand_of lab_app words) task → IsFound words (subcommand_of lab_app words)
 found_by words None is none fails = absurd (fails none)
 found_by words (Some task) is none agrees =
@@ -40,7 +42,7 @@ task_found app words met lab passes meets =
     meets (ap is_simple lab ∙ is_simple_lab) ∙ ap (λ (a : App). subcommand_of a words) lab in
     subst (IsFound words) (sym met_is) (found_by words (asked words) refl none (rule_agrees words))
 
-none_by : (words : List Text) (task : Option (Text × Text)) (k : ErrorKind) → IsAmong k (fault_of lab_app words)
+none_by : (words : List Text) (task : Option Told) (k : ErrorKind) → IsAmong k (fault_of lab_app words)
     → Agrees (fault_of lab_app words) (subcommand_of lab_app words) task → task ≡ None
 none_by words None k among fails = refl
 none_by words (Some task) k among agrees =

@@ -1,19 +1,37 @@
 -- What a task and its refusal say.
-use Rattle.std.specs.Prelude.{⊤, codes}
+use Rattle.std.specs.Prelude.{⊤, ℕ, List, Option, None, codes, option_map}
 use Rattle.std.specs.String.{string_bytes}
 use Rattle.clap.specs.declared.error.Error.{Error}
-use Rattle.command_line.specs.Asked.{Text}
 use Rattle.command_line.specs.declared.tasks.Task.{Task}
-use Rattle.command_line.specs.declared.tasks.Task.TheVariants.{Check, Assemble, Disassemble, Book}
+use Rattle.command_line.specs.declared.tasks.Task.TheVariants.{Check, Assemble, Disassemble, Book, Play}
 use Rattle.command_line.specs.declared.tasks.TaskError.{TaskError}
 use Rattle.command_line.specs.declared.tasks.TaskError.TheVariants.{Words, Memory}
 
--- the subcommand's name and its file
-abbrev pub told_of : Task → Text × Text
-told_of (Check file) = (codes "check", string_bytes file)
-told_of (Assemble file) = (codes "asm", string_bytes file)
-told_of (Disassemble file) = (codes "dis", string_bytes file)
-told_of (Book file) = (codes "book", string_bytes file)
+abbrev pub Text : Type 0
+Text = List ℕ
+
+-- a subcommand's name, its only or first file, and its second where there is one
+pub record Told : Type 0 where
+  pub name : Text
+  pub file : Text
+  pub second : Option Text
+
+-- a subcommand of one file
+abbrev pub one_file : Text → Text → Told
+one_file name file = record { name = name; file = file; second = None }
+
+-- `play`, perhaps with a schedule
+abbrev pub played : Option Text → Text → Told
+played schedule scenario =
+    record { name = codes "play"; file = scenario; second = schedule }
+
+abbrev pub told_of : Task → Told
+told_of (Check file) = one_file (codes "check") (string_bytes file)
+told_of (Assemble file) = one_file (codes "asm") (string_bytes file)
+told_of (Disassemble file) = one_file (codes "dis") (string_bytes file)
+told_of (Book file) = one_file (codes "book") (string_bytes file)
+told_of (Play scenario schedule) =
+    played (option_map string_bytes schedule) (string_bytes scenario)
 
 -- the fact holds of `clap`'s error, where the words were refused
 abbrev pub IfWords : TaskError → (Error → Type 0) → Type 0

@@ -1,7 +1,7 @@
 use clap::Error;
 use std::alloc::AllocError;
 
-/// What the words ask for: a subcommand with the name of its file.
+/// What the words ask for: a subcommand with the names of its files.
 #[derive(Debug, Drop, PartialEq, Eq)]
 pub enum Task {
     /// Decode, verify and run raw bytecode.
@@ -12,19 +12,35 @@ pub enum Task {
     Disassemble(String),
     /// Compute the decisions of a message table.
     Book(String),
+    /// Play a campaign, by the schedule of a second file where one is named.
+    Play {
+        scenario: String,
+        schedule: Option<String>,
+    },
 }
 
 impl Task {
-    ghost use Rattle.std.specs.Prelude.{◌≡◌};
+    ghost use Rattle.std.specs.Prelude.{◌≡◌, option_map};
     ghost use Rattle.command_line.specs.Told.{told_of};
 
-    /// The name of the file.
+    /// The name of the only file, or of the first.
     pub fn file(&self) -> &str
-        ensures { result.now ≡ (told_of self.now).1 }
+        ensures { result.now ≡ (told_of self.now).file }
     {
         match self {
             Task::Check(file) | Task::Assemble(file) | Task::Disassemble(file) | Task::Book(file) =>
                 file.as_str(),
+            Task::Play { scenario, .. } => scenario.as_str(),
+        }
+    }
+
+    /// The name of the second file, where there is one.
+    pub fn second(&self) -> Option<&str>
+        ensures { option_map (λ file. file.now) result ≡ (told_of self.now).second }
+    {
+        match self {
+            Task::Play { schedule, .. } => schedule.as_deref(),
+            _ => None,
         }
     }
 }
