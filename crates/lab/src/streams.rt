@@ -7,7 +7,7 @@ use std::fmt::Display;
 use std::io::{self, Read, Write};
 
 /// A file to read.
-pub trait Source {
+pub trait Source: Drop {
     ghost use Rattle.std.specs.Prelude.{◌≡◌, ℕ, List, Option, IfOk, IfSome, OnErr};
 
     // The bytes, where they are known.
