@@ -1,4 +1,4 @@
-//! `byzlab`, a laboratory for the Byzantine generals problem: reads the words, opens the file, and
+//! `byzlab`, a laboratory for the Byzantine generals problem: reads the words, opens the files, and
 //! leaves the task to the library `lab`.
 #![tactic(auto)]
 
@@ -41,13 +41,27 @@ fn run(rt: &HostRuntime) -> io::Result<u8> {
         }
         Err(TaskError::Memory) => return Err(io::Error::from(ErrorKind::OutOfMemory)),
     };
-    match File::open(rt, task.file()) {
-        Ok(first) => Ok(serve(alloc, &task, first, &mut rt.stdout(), &mut rt.stderr())),
+    let Some(first) = opened(rt, task.file())? else {
+        return Ok(1);
+    };
+    let second = match task.second() {
+        Some(name) => match opened(rt, name)? {
+            Some(file) => Some(file),
+            None => return Ok(1),
+        },
+        None => None,
+    };
+    Ok(serve(alloc, &task, first, second, &mut rt.stdout(), &mut rt.stderr()))
+}
+
+/// The file; none where it does not open, after the line that says so.
+fn opened(rt: &HostRuntime, name: &str) -> io::Result<Option<File>> {
+    match File::open(rt, name) {
+        Ok(file) => Ok(Some(file)),
         Err(error) if error.kind() == ErrorKind::OutOfMemory => Err(error),
         Err(_) => {
-            let file = task.file();
-            let _ = rt.eprintln(format_args!("fault read {file}"));
-            Ok(1)
+            let _ = rt.eprintln(format_args!("fault read {name}"));
+            Ok(None)
         }
     }
 }

@@ -4,22 +4,19 @@ use Rattle.std.specs.List.{fold}
 use Rattle.std.specs.Str.{bytes_eq}
 use Rattle.std.proofs.lemmas.Slice.Eq.{bytes_eq-Decides}
 use Rattle.clap.specs.Kinds.{Kinds, or_else}
-use Rattle.clap.specs.Walk.{Names, Row, Text, Walk, answers_to, arg_by_long, arg_by_short, finished, idle, nothing_held, settled, subcommand_met, walk, walk_from, walked}
+use Rattle.clap.specs.Walk.{Names, Row, Text, Walk, answers_to, arg_by_long, arg_by_short, finished, idle, nothing_held, rows_after, settled, subcommand_met, walk, walk_from, walked}
 use Rattle.clap.specs.Simple.{Shape, built, entered, filled, help_rule, label_of, names_of, subcommand_of}
-use Rattle.clap.specs.Faults.{check_fault, defaults_fault, entered_fault, fault_of, settle_fault, walk_fault}
+use Rattle.clap.specs.Faults.{check_fault, defaults_fault, entered_fault, fault_of, level_fault, settle_fault, walk_fault}
 use Rattle.clap.proofs.FaultLemmas.{stopped_fault}
 use Rattle.clap.proofs.OnLiterals.{clap_on_literals}
-use Rattle.command_line.specs.Asked.{asked, file_in, is_end_of_flags, is_flag, is_subcommand}
-use Rattle.command_line.specs.Lab.{lab_app, task_met}
+use Rattle.command_line.specs.Asked.{asked, file_in, is_end_of_flags, is_flag, takes_one_file}
+use Rattle.command_line.specs.Lab.{lab_app}
 use Rattle.command_line.specs.Told.{Told, one_file}
-use Rattle.command_line.proofs.WordLemmas.{Fails, HasHelpAlone, or_else-first, true_or_false}
+use Rattle.command_line.proofs.AgreeLemmas.{Agrees, Fails, or_else-first, true_or_false}
+use Rattle.command_line.proofs.WordLemmas.{HasHelpAlone, help_word_fails}
 use Rattle.command_line.proofs.TurnLemmas.{flag_turn, fold_stopped, plain_turn, turn_fails}
 use Rattle.command_line.proofs.FileLemmas.{FileAgrees, faults, file_agrees, file_shape, rows}
-
--- the words fail where the rule finds no task, and else their task is met
-abbrev pub Agrees : Kinds → Option (Text × List Row) → Option Told → Type 0
-Agrees kinds met None = Fails kinds
-Agrees kinds met (Some task) = (kinds ≡ []) × (task_met met ≡ Some task) × (is_subcommand task.name ≡ true)
+use Rattle.command_line.proofs.PlayLemmas.{campaign_agrees, play_shape}
 
 abbrev top : Shape
 top = (built lab_app).top
@@ -62,40 +59,52 @@ after_walk kinds w = or_else kinds (or_else (entered_fault (built lab_app) w.sto
     (or_else (defaults_fault (settled top.rules w.held).rows top.rules)
     (check_fault top (finished top.rules w.held) (is_some (entered (built lab_app) w.stopped))))))
 
--- ---- a subcommand of one file
+-- ---- a subcommand
 
-as_task : (name : Text) → is_subcommand name ≡ true → (kinds : Kinds) (found : List Row) (file : Option Text)
-    → FileAgrees kinds found file → Agrees (or_else kinds []) (Some (name, found)) (option_map (one_file name) file)
-as_task name known kinds found None fails = or_else-first _ _ fails
-as_task name known kinds found (Some file) passes =
-    (ap (λ (k : Kinds). or_else k []) passes.0, ap (option_map (one_file name)) passes.1, known)
+abbrev below : Shape → List Text → Kinds
+below s rest = level_fault s [] nothing_held rest false []
 
-module _ (name : Text) (rest : List Text)
+and_nothing : (kinds : Kinds) (met : Option (Text × List Row)) (told : Option Told) → Agrees kinds met told
+    → Agrees (or_else kinds []) met told
+and_nothing kinds met None fails = or_else-first _ _ fails
+and_nothing kinds met (Some told) passes = (ap (λ (k : Kinds). or_else k []) passes.0, passes.1, passes.2)
+
+module _ (name : Text) (rest : List Text) (s : Shape) (told : Option Told)
     (meets : walked top.rules names start name ≡ record start { stopped = Some (name, []) })
     (passes : walk_fault top names start (name ∷ rest) ≡ walk_fault top names (record start { stopped = Some (name, []) }) rest)
-    (found : find (λ s. answers_to name (label_of s)) (built lab_app).subs ≡ Some (file_shape name))
-    (known : is_subcommand name ≡ true) where
+    (found : find (λ s. answers_to name (label_of s)) (built lab_app).subs ≡ Some s)
+    (agrees : Agrees (below s rest) (Some (s.name, rows_after s.rules [] rest)) told) where
   stop_is : walk top.rules names nothing_held (name ∷ rest) ≡ record start { stopped = Some (name, rest) }
   stop_is = ap (λ w. fold (walked top.rules names) w rest) meets ∙ fold_stopped top.rules names start name [] rest
 
-  met_is : entered (built lab_app) (Some (name, rest)) ≡ Some (name, rows name rest)
+  met_is : entered (built lab_app) (Some (name, rest)) ≡ Some (s.name, rows_after s.rules [] rest)
   met_is = rw found refl
 
-  below_is : entered_fault (built lab_app) (Some (name, rest)) ≡ faults name rest
+  below_is : entered_fault (built lab_app) (Some (name, rest)) ≡ below s rest
   below_is = rw found refl
 
-  faults_are : fault_of lab_app (name ∷ rest) ≡ or_else (faults name rest) []
+  faults_are : fault_of lab_app (name ∷ rest) ≡ or_else (below s rest) []
   faults_are =
       ap₂ after_walk (passes ∙ stopped_fault top names start (name, []) rest) stop_is
       ∙ ap₂ (λ (k : Kinds) (m : Option (Text × List Row)). or_else k (after_level (is_some m))) below_is met_is
-      ∙ ap (or_else (faults name rest)) nothing_left
+      ∙ ap (or_else (below s rest)) nothing_left
 
-  named : Agrees (fault_of lab_app (name ∷ rest)) (subcommand_of lab_app (name ∷ rest)) (option_map (one_file name) (file_in rest))
+  named : Agrees (fault_of lab_app (name ∷ rest)) (subcommand_of lab_app (name ∷ rest)) told
   named =
-      let agrees = as_task name known (faults name rest) (rows name rest) (file_in rest) (file_agrees name rest) in
       let met = ap (λ (w : Walk). entered (built lab_app) w.stopped) stop_is ∙ met_is in
-      subst (λ (k : Kinds). Agrees k (subcommand_of lab_app (name ∷ rest)) (option_map (one_file name) (file_in rest))) (sym faults_are)
-      (subst (λ (m : Option (Text × List Row)). Agrees (or_else (faults name rest) []) m (option_map (one_file name) (file_in rest))) (sym met) agrees)
+      subst (λ (k : Kinds). Agrees k (subcommand_of lab_app (name ∷ rest)) told) (sym faults_are)
+      (subst (λ (m : Option (Text × List Row)). Agrees (or_else (below s rest) []) m told) (sym met) (and_nothing (below s rest) (Some (s.name, rows_after s.rules [] rest)) told agrees))
+
+-- ---- a subcommand of one file
+
+as_told : (name : Text) → takes_one_file name ≡ true → (kinds : Kinds) (found : List Row) (file : Option Text)
+    → FileAgrees kinds found file → Agrees kinds (Some (name, found)) (option_map (one_file name) file)
+as_told name known kinds found None fails = fails
+as_told name known kinds found (Some file) passes = (passes.0, rw (passes.1, passes.2) refl, rw known refl)
+
+of_file : (name : Text) (rest : List Text) → takes_one_file name ≡ true
+    → Agrees (below (file_shape name) rest) (Some (name, rows name rest)) (option_map (one_file name) (file_in rest))
+of_file name rest known = as_told name known (faults name rest) (rows name rest) (file_in rest) (file_agrees name rest)
 
 -- ---- the words by their cases
 
@@ -110,19 +119,23 @@ RuleAt name rest = Agrees (fault_of lab_app (name ∷ rest)) (subcommand_of lab_
 
 at_check : (rest : List Text) → RuleAt (codes "check") rest
 unfolding clap_on_literals
-at_check rest = named (codes "check") rest refl refl refl refl
+at_check rest = named (codes "check") rest (file_shape (codes "check")) _ refl refl refl (of_file (codes "check") rest refl)
 
 at_asm : (rest : List Text) → RuleAt (codes "asm") rest
 unfolding clap_on_literals
-at_asm rest = named (codes "asm") rest refl refl refl refl
+at_asm rest = named (codes "asm") rest (file_shape (codes "asm")) _ refl refl refl (of_file (codes "asm") rest refl)
 
 at_dis : (rest : List Text) → RuleAt (codes "dis") rest
 unfolding clap_on_literals
-at_dis rest = named (codes "dis") rest refl refl refl refl
+at_dis rest = named (codes "dis") rest (file_shape (codes "dis")) _ refl refl refl (of_file (codes "dis") rest refl)
 
 at_book : (rest : List Text) → RuleAt (codes "book") rest
 unfolding clap_on_literals
-at_book rest = named (codes "book") rest refl refl refl refl
+at_book rest = named (codes "book") rest (file_shape (codes "book")) _ refl refl refl (of_file (codes "book") rest refl)
+
+at_play : (rest : List Text) → RuleAt (codes "play") rest
+unfolding clap_on_literals
+at_play rest = named (codes "play") rest play_shape _ refl refl refl (campaign_agrees rest)
 
 no_words : Fails (fault_of lab_app [])
 unfolding clap_on_literals
@@ -143,8 +156,8 @@ at_other word rest other = elim (true_or_false (is_end_of_flags word)) [
   | inl dashes ↦
       subst (λ (w : Text). Fails (fault_of lab_app (w ∷ rest))) (sym ((bytes_eq-Decides word (codes "--")).0 dashes)) (at_dashes rest)
   | inr ends ↦ lab_fails (word ∷ rest) (turn_fails top names start word rest (elim (true_or_false (is_flag word)) [
-    | inl flag ↦ flag_turn top names 1 [] None alone word other ends flag
-    | inr plain ↦ rw (plain_turn top names 1 [] None alone word other ends plain) (λ e. cc)
+    | inl flag ↦ flag_turn top names 1 idle [] None word other ends (help_word_fails top.rules alone top.args_override_self [] None word ends flag)
+    | inr plain ↦ rw (plain_turn top names 1 idle [] None word other ends plain) (λ e. cc)
   ]))
 ]
 
@@ -159,9 +172,12 @@ rule_agrees (word ∷ rest) = elim (is_text (codes "check") word) [
       | inl is ↦ subst (λ (w : Text). RuleAt w rest) (sym is) (at_dis rest)
       | inr c ↦ elim (is_text (codes "book") word) [
         | inl is ↦ subst (λ (w : Text). RuleAt w rest) (sym is) (at_book rest)
-        | inr d ↦ elim (is_text (codes "help") word) [
-          | inl is ↦ rw (a, b, c, d) (subst (λ (w : Text). Fails (fault_of lab_app (w ∷ rest))) (sym is) (at_help rest))
-          | inr e ↦ rw (a, b, c, d) (at_other word rest (rw (a, b, c, d, e) refl))
+        | inr d ↦ elim (is_text (codes "play") word) [
+          | inl is ↦ subst (λ (w : Text). RuleAt w rest) (sym is) (at_play rest)
+          | inr p ↦ elim (is_text (codes "help") word) [
+            | inl is ↦ rw (a, b, c, d, p) (subst (λ (w : Text). Fails (fault_of lab_app (w ∷ rest))) (sym is) (at_help rest))
+            | inr e ↦ rw (a, b, c, d, p) (at_other word rest (rw (a, b, c, d, p, e) refl))
+          ]
         ]
       ]
     ]

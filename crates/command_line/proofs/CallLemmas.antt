@@ -4,10 +4,11 @@ use Rattle.clap.specs.Words.{App, IsAmong, Row, Text, fault_of, is_simple, is_si
 use Rattle.clap.specs.declared.error.kind.ErrorKind.{ErrorKind}
 use Rattle.clap.specs.declared.error.kind.ErrorKind.TheVariants.{OutOfMemory}
 use Rattle.clap.proofs.OnLiterals.{clap_on_literals}
-use Rattle.command_line.specs.Asked.{asked, is_subcommand}
+use Rattle.command_line.specs.Asked.{asked, is_task}
 use Rattle.command_line.specs.Lab.{lab_app, task_met}
 use Rattle.command_line.specs.Told.{Told}
-use Rattle.command_line.proofs.AskedLemmas.{Agrees, rule_agrees}
+use Rattle.command_line.proofs.AgreeLemmas.{Agrees}
+use Rattle.command_line.proofs.AskedLemmas.{rule_agrees}
 
 is_simple_lab : is_simple lab_app ≡ true
 unfolding clap_on_literals
@@ -22,7 +23,7 @@ pub record IsFound (words : List Text) (met : Option (Text × List Row)) : Type 
   pub task : Told
   pub asked_is : asked words ≡ Some task
   pub met_is : task_met met ≡ Some task
-  pub known : is_subcommand task.name ≡ true
+  pub known : is_task task ≡ true
 
 found_by : (words : List Text) (task : Option Told) → asked words ≡ task → fault_of lab_app words ≡ []
     → Agrees (fault_of lab_app words) (subcommand_of lab_app words) task → IsFound words (subcommand_of lab_app words)

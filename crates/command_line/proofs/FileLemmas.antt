@@ -4,13 +4,14 @@ use Rattle.std.specs.List.{fold}
 use Rattle.std.specs.Str.{bytes_eq}
 use Rattle.std.proofs.lemmas.Slice.Eq.{bytes_eq-Decides}
 use Rattle.clap.specs.Kinds.{Kinds, or_else}
-use Rattle.clap.specs.Walk.{Held, Row, Text, Walk, arg_by_long, arg_by_short, finished, first_of, nothing_held, rows_after, settled, walk, walk_from, walked}
+use Rattle.clap.specs.Walk.{Held, Row, Text, Walk, arg_by_long, arg_by_short, finished, first_of, idle, nothing_held, rows_after, settled, walk, walk_from, walked}
 use Rattle.clap.specs.Simple.{Shape, built_leaf, filled, help_rule, inherited, marked_built, with_leaf_noted}
 use Rattle.clap.specs.Faults.{check_fault, defaults_fault, level_fault, settle_fault, walk_fault}
 use Rattle.clap.proofs.OnLiterals.{clap_on_literals}
 use Rattle.command_line.specs.Asked.{file_in, is_end_of_flags, is_flag, nothing_more, only}
 use Rattle.command_line.specs.Lab.{file_app, lab_app}
-use Rattle.command_line.proofs.WordLemmas.{Fails, HasHelpAlone, held, true_or_false, walk_at}
+use Rattle.command_line.proofs.AgreeLemmas.{Fails, true_or_false}
+use Rattle.command_line.proofs.WordLemmas.{HasHelpAlone, held, help_word_fails, walk_at}
 use Rattle.command_line.proofs.TurnLemmas.{flag_turn, plain_turn, plain_walked, turn_fails, walk_fails}
 
 -- a subcommand of one file, as it is built
@@ -20,7 +21,7 @@ file_shape name = built_leaf (inherited (with_leaf_noted (marked_built lab_app.t
 -- the words fail where the rule finds no file, and else they have its file
 abbrev pub FileAgrees : Kinds → List Row → Option Text → Type 0
 FileAgrees kinds rows None = Fails kinds
-FileAgrees kinds rows (Some file) = (kinds ≡ []) × (first_of (codes "file") rows ≡ Some file)
+FileAgrees kinds rows (Some file) = (kinds ≡ []) × (first_of (codes "file") rows ≡ Some file) × (first_of (codes "schedule") rows ≡ None)
 
 dashes_are : (word : Text) → is_end_of_flags word ≡ true → word ≡ codes "--"
 dashes_are word e = (bytes_eq-Decides word (codes "--")).0 e
@@ -59,11 +60,11 @@ module _ (name : Text) where
 
   module _ (file : Text) (ends : is_end_of_flags file ≡ false) (flag : is_flag file ≡ false) where
     file_walked : walked s.rules [] start file ≡ walk_at 2 (with_file file)
-    file_walked = plain_walked s [] 1 [] None alone file refl ends flag
+    file_walked = plain_walked s [] 1 idle [] None file refl ends flag
 
     file_faults : (rest : List Text) → walk_fault s [] start (file ∷ rest) ≡ walk_fault s [] (walk_at 2 (with_file file)) rest
     unfolding walk_fault
-    file_faults rest = ap₂ (λ k w. or_else k (walk_fault s [] w rest)) (plain_turn s [] 1 [] None alone file refl ends flag) file_walked
+    file_faults rest = ap₂ (λ k w. or_else k (walk_fault s [] w rest)) (plain_turn s [] 1 idle [] None file refl ends flag) file_walked
 
     file_walk : (rest : List Text) → walk s.rules [] nothing_held (file ∷ rest) ≡ fold (walked s.rules []) (walk_at 2 (with_file file)) rest
     file_walk rest = ap (λ w. fold (walked s.rules []) w rest) file_walked
@@ -81,10 +82,16 @@ module _ (name : Text) where
   file_found : (file : Text) → first_of (codes "file") (finished s.rules (with_file file)) ≡ Some file
   file_found file = refl
 
+  no_second : (file : Text) → first_of (codes "schedule") (finished s.rules (with_file file)) ≡ None
+  no_second file = refl
+
   has_file : (file : Text) (words : List Text) → walk_fault s [] start words ≡ []
       → (walk s.rules [] nothing_held words).held ≡ with_file file → FileAgrees (faults words) (rows words) (Some file)
-  has_file file words none is =
-      (ap₂ after_walk none is ∙ file_passes file, ap (λ h. first_of (codes "file") (finished s.rules h)) is ∙ file_found file)
+  has_file file words none is = (
+    ap₂ after_walk none is ∙ file_passes file,
+    ap (λ h. first_of (codes "file") (finished s.rules h)) is ∙ file_found file,
+    ap (λ h. first_of (codes "schedule") (finished s.rules h)) is ∙ no_second file,
+  )
 
   no_words : Fails (faults [])
   unfolding clap_on_literals
@@ -106,15 +113,15 @@ module _ (name : Text) where
   -- a flag first
   flag_first : (word : Text) (rest : List Text) → is_end_of_flags word ≡ false → is_flag word ≡ true → Fails (faults (word ∷ rest))
   flag_first word rest ends flag =
-      walk_fails s [] nothing_held (word ∷ rest) false [] (turn_fails s [] start word rest (flag_turn s [] 1 [] None alone word refl ends flag))
+      walk_fails s [] nothing_held (word ∷ rest) false [] (turn_fails s [] start word rest (flag_turn s [] 1 idle [] None word refl ends (help_word_fails s.rules alone s.args_override_self [] None word ends flag)))
 
   -- behind the file a further word fails
   second_fails : (file word : Text) (rest : List Text) → is_end_of_flags word ≡ false
       → Fails (walk_fault s [] (walk_at 2 (with_file file)) (word ∷ rest))
   second_fails file word rest ends = elim (true_or_false (is_flag word)) [
-    | inl flag ↦ turn_fails s [] (walk_at 2 (with_file file)) word rest (flag_turn s [] 2 [] (Some (codes "file", file ∷ [])) alone word refl ends flag)
+    | inl flag ↦ turn_fails s [] (walk_at 2 (with_file file)) word rest (flag_turn s [] 2 idle [] (Some (codes "file", file ∷ [])) word refl ends (help_word_fails s.rules alone s.args_override_self [] (Some (codes "file", file ∷ [])) word ends flag))
     | inr plain ↦
-        let stray = plain_turn s [] 2 [] (Some (codes "file", file ∷ [])) alone word refl ends plain in
+        let stray = plain_turn s [] 2 idle [] (Some (codes "file", file ∷ [])) word refl ends plain in
         turn_fails s [] (walk_at 2 (with_file file)) word rest (rw stray (λ e. cc))
   ]
 

@@ -1,6 +1,9 @@
+pub mod AgreeLemmas
 pub mod AskedLemmas
 pub mod CallLemmas
 pub mod FileLemmas
 pub mod MetLemmas
+pub mod PlayLemmas
+pub mod ScheduleLemmas
 pub mod TurnLemmas
 pub mod WordLemmas

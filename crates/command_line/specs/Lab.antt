@@ -1,7 +1,7 @@
 -- The command line as `clap` is told of it.
-use Rattle.std.specs.Prelude.{List, Option, true, codes, option_and_then, option_map}
+use Rattle.std.specs.Prelude.{List, Option, Some, true, codes, option_and_then, option_map}
 use Rattle.clap.specs.Words.{App, Row, Rule, Text, first_of, new_app, new_rule, with_rule, with_subcommand}
-use Rattle.command_line.specs.Told.{Told, one_file}
+use Rattle.command_line.specs.Told.{Told}
 
 -- a file, which has to be there
 abbrev pub file_rule : Rule
@@ -14,6 +14,18 @@ file_app name = with_rule (new_app name) file_rule
 abbrev pub with_file_command : App → Text → App
 with_file_command app name = with_subcommand app (file_app name).top
 
+-- the option `--schedule FILE`
+abbrev pub schedule_rule : Rule
+schedule_rule =
+    record (new_rule (codes "schedule")) { long = Some (codes "schedule"); value_names = 1 }
+
+-- the subcommand of a scenario and perhaps a schedule
+abbrev pub play_app : App
+play_app = with_rule (file_app (codes "play")) schedule_rule
+
+abbrev pub with_play_command : App → App
+with_play_command app = with_subcommand app play_app.top
+
 -- the program before its subcommands
 abbrev pub bare_app : App
 bare_app =
@@ -22,10 +34,13 @@ bare_app =
 
 -- the program with its subcommands
 abbrev pub lab_app : App
-lab_app = with_file_command (with_file_command (with_file_command (with_file_command bare_app
-    (codes "check")) (codes "asm")) (codes "dis")) (codes "book")
+lab_app = with_play_command (with_file_command (with_file_command (with_file_command
+    (with_file_command bare_app (codes "check")) (codes "asm")) (codes "dis")) (codes "book"))
 
--- the subcommand that `clap` met, and its file
+-- the subcommand that `clap` met, with its files
 abbrev pub task_met : Option (Text × List Row) → Option Told
-task_met = option_and_then (λ met. option_map (one_file met.0)
-    (first_of (codes "file") met.1))
+task_met = option_and_then (λ met. option_map (λ file. record {
+  name = met.0;
+  file = file;
+  second = first_of (codes "schedule") met.1;
+}) (first_of (codes "file") met.1))

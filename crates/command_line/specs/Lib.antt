@@ -1,3 +1,4 @@
 pub mod Asked
 pub mod Lab
+pub mod Met
 pub mod Told

@@ -20,16 +20,18 @@ pub record Told : Type 0 where
 abbrev pub one_file : Text → Text → Told
 one_file name file = record { name = name; file = file; second = None }
 
+-- `play`, perhaps with a schedule
+abbrev pub played : Option Text → Text → Told
+played schedule scenario =
+    record { name = codes "play"; file = scenario; second = schedule }
+
 abbrev pub told_of : Task → Told
 told_of (Check file) = one_file (codes "check") (string_bytes file)
 told_of (Assemble file) = one_file (codes "asm") (string_bytes file)
 told_of (Disassemble file) = one_file (codes "dis") (string_bytes file)
 told_of (Book file) = one_file (codes "book") (string_bytes file)
-told_of (Play scenario schedule) = record {
-  name = codes "play";
-  file = string_bytes scenario;
-  second = option_map string_bytes schedule;
-}
+told_of (Play scenario schedule) =
+    played (option_map string_bytes schedule) (string_bytes scenario)
 
 -- the fact holds of `clap`'s error, where the words were refused
 abbrev pub IfWords : TaskError → (Error → Type 0) → Type 0

@@ -1,6 +1,7 @@
-ghost use Rattle.std.specs.Prelude.{◌≡◌, IfOk};
+ghost use Rattle.std.specs.Prelude.{◌≡◌, IfOk, false};
 ghost use Rattle.clap.specs.Words.{app_of};
-ghost use Rattle.command_line.specs.Lab.{bare_app, lab_app, with_file_command};
+ghost use Rattle.clap.specs.declared.builder.command.Command.TheViews.{out-Command};
+ghost use Rattle.command_line.specs.Lab.{bare_app, lab_app, play_app, with_file_command, with_play_command};
 
 use clap::{Arg, Command};
 use std::alloc::{AllocError, Global};
@@ -9,7 +10,7 @@ use std::alloc::{AllocError, Global};
 pub(crate) fn lab_command<'a>(alloc: Global) -> Result<Command<'a>, AllocError>
     ensures { IfOk result (λ c. app_of c ≡ lab_app) }
 {
-    let lab = bare_command(alloc);
+    let lab = bare_command(alloc)?;
     let lab = with_file_command(alloc, lab, "check", "Verifies raw bytecode and runs it")?;
     let lab = with_file_command(
         alloc,
@@ -18,22 +19,24 @@ pub(crate) fn lab_command<'a>(alloc: Global) -> Result<Command<'a>, AllocError>
         "Translates assembly into bytecode in hex",
     )?;
     let lab = with_file_command(alloc, lab, "dis", "Translates raw bytecode into assembly")?;
-    with_file_command(
+    let lab = with_file_command(
         alloc,
         lab,
         "book",
         "Computes the decisions of a message table",
-    )
+    )?;
+    with_play_command(alloc, lab)
 }
 
 /// The program without its subcommands.
-fn bare_command<'a>(alloc: Global) -> Command<'a>
-    ensures { app_of result ≡ bare_app }
+fn bare_command<'a>(alloc: Global) -> Result<Command<'a>, AllocError>
+    ensures { IfOk result (λ c. app_of c ≡ bare_app) }
 {
     Command::new(alloc, "byzlab")
         .about("A laboratory for the Byzantine generals problem")
         .no_binary_name(true)
         .subcommand_required(true)
+        .bin_name("byzlab")
 }
 
 /// Adds a subcommand of one file.
@@ -47,4 +50,29 @@ fn with_file_command<'a>(
 {
     let file = Arg::new(alloc, "file").value_name("FILE").required(true);
     lab.subcommand(Command::new(alloc, name).about(about).arg(file)?)
+}
+
+/// Adds the subcommand `play`.
+fn with_play_command<'a>(alloc: Global, lab: Command<'a>) -> Result<Command<'a>, AllocError>
+    ensures { IfOk result (λ c. app_of c ≡ with_play_command (app_of lab.entry)) }
+{
+    lab.subcommand(play_command(alloc)?)
+}
+
+/// The subcommand of a scenario and perhaps a schedule.
+fn play_command<'a>(alloc: Global) -> Result<Command<'a>, AllocError>
+    ensures app { IfOk result (λ c. app_of c ≡ play_app) }
+    ensures local { IfOk result (λ c. (out-Command c).has_globals ≡ false) }
+{
+    let scenario = Arg::new(alloc, "file")
+        .value_name("SCENARIO")
+        .required(true);
+    let schedule = Arg::new(alloc, "schedule")
+        .long("schedule")
+        .value_name("FILE")
+        .help("The order of the turns; without it each round is punctual");
+    Command::new(alloc, "play")
+        .about("Plays a campaign and prints its chronicle")
+        .arg(scenario)?
+        .arg(schedule)
 }

@@ -1,7 +1,8 @@
-//! The command line: which subcommand the words name, and its file.
+//! The command line: which subcommand the words name, and its files.
 #![tactic(auto)]
 
 mod lab;
+mod met;
 mod reading;
 mod tasks;
 

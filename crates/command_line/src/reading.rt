@@ -1,14 +1,14 @@
-ghost use Rattle.std.specs.Prelude.{◌≡◌, ◌≢◌, IfOk, IfErr, IsSome, Some, None, true};
-ghost use Rattle.clap.specs.Words.{IsAmong, fault_of, kind_of, subcommand_rows_of};
-ghost use Rattle.command_line.specs.Asked.{asked, is_subcommand, words_of};
-ghost use Rattle.command_line.specs.Lab.{lab_app, task_met};
-ghost use Rattle.command_line.specs.Told.{IfWords, one_file, told_of};
+ghost use Rattle.std.specs.Prelude.{◌≡◌, ◌≢◌, IfOk, IfErr, Some, None};
+ghost use Rattle.clap.specs.Words.{IsAmong, fault_of, kind_of};
+ghost use Rattle.command_line.specs.Asked.{asked, words_of};
+ghost use Rattle.command_line.specs.Lab.{lab_app};
+ghost use Rattle.command_line.specs.Told.{IfWords, told_of};
 
 use crate::lab::lab_command;
+use crate::met::Met;
 use crate::tasks::{Task, TaskError};
-use clap::ArgMatches;
 use clap::error::ErrorKind;
-use std::alloc::{AllocError, Global};
+use std::alloc::Global;
 
 /// Reads the words behind the program's name.
 pub fn task(alloc: Global, words: &[&str]) -> Result<Task, TaskError>
@@ -24,10 +24,7 @@ pub fn task(alloc: Global, words: &[&str]) -> Result<Task, TaskError>
 {
     let lab = lab_command(alloc)?;
     match lab.try_get_matches_from(words) {
-        Ok(matches) => {
-            let (name, file) = met(&matches);
-            Ok(task_named(alloc, name, file)?)
-        }
+        Ok(matches) => Ok(Met::of(&matches).task(alloc)?),
         Err(error) => {
             if error.kind() == ErrorKind::OutOfMemory {
                 return Err(TaskError::Memory);
@@ -35,33 +32,4 @@ pub fn task(alloc: Global, words: &[&str]) -> Result<Task, TaskError>
             Err(TaskError::Words(error))
         }
     }
-}
-
-/// The subcommand that was met, and its file.
-fn met<'a>(matches: &ArgMatches<'a>) -> (&'a str, &'a str)
-    requires { IsSome (task_met (subcommand_rows_of matches.now)) }
-    ensures { Some (one_file result.0.now result.1.now) ≡ task_met (subcommand_rows_of matches.now) }
-{
-    let Some((name, found)) = matches.subcommand() else {
-        unreachable!();
-    };
-    let Some(file) = found.get_str("file") else {
-        unreachable!();
-    };
-    (name, file)
-}
-
-/// The task of a subcommand with its file.
-fn task_named(alloc: Global, name: &str, file: &str) -> Result<Task, AllocError>
-    requires { is_subcommand name.now ≡ true }
-    ensures { IfOk result (λ task. told_of task ≡ one_file name.now file.now) }
-{
-    let file = String::from_str(alloc, file)?;
-    Ok(match name {
-        "check" => Task::Check(file),
-        "asm" => Task::Assemble(file),
-        "dis" => Task::Disassemble(file),
-        "book" => Task::Book(file),
-        _ => unreachable!(),
-    })
 }

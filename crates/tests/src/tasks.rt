@@ -28,6 +28,34 @@ fn each_subcommand_has_its_task(rt: HostRuntime) -> Result<(), Fail> {
     let book = task(alloc, &["book", "-"])?;
     assert_eq!(rt; book, Task::Book(text(alloc, "-")?));
     assert_eq!(rt; book.file(), "-");
+    assert_eq!(rt; book.second(), None);
+    Ok(())
+}
+
+#[test]
+fn a_schedule_stands_before_or_behind_the_scenario(rt: HostRuntime) -> Result<(), Fail> {
+    let alloc = rt.alloc();
+    assert_eq!(rt;
+        task(alloc, &["play", "s.toml"])?,
+        Task::Play { scenario: text(alloc, "s.toml")?, schedule: None }
+    );
+    let with: [&[&str]; 7] = [
+        &["play", "s", "--schedule", "t"],
+        &["play", "s", "--schedule=t"],
+        &["play", "s", "--schedule", "t", "--"],
+        &["play", "--schedule", "t", "s"],
+        &["play", "--schedule=t", "s"],
+        &["play", "--schedule=t", "s", "--"],
+        &["play", "--schedule", "t", "--", "s"],
+    ];
+    for words in with {
+        let play = task(alloc, words)?;
+        assert_eq!(rt; play.file(), "s");
+        assert_eq!(rt; play.second(), Some("t"));
+    }
+    let odd = task(alloc, &["play", "--schedule=-t=u", "--", "--schedule"])?;
+    assert_eq!(rt; odd.file(), "--schedule");
+    assert_eq!(rt; odd.second(), Some("-t=u"));
     Ok(())
 }
 
@@ -84,14 +112,82 @@ fn other_words_are_refused(rt: HostRuntime) -> Result<(), Fail> {
 }
 
 #[test]
-fn help_names_the_subcommands(rt: HostRuntime) -> Result<(), Fail> {
+fn other_words_of_play_are_refused(rt: HostRuntime) -> Result<(), Fail> {
     let alloc = rt.alloc();
-    let Err(error) = task(alloc, &["--help"]) else {
+    let missing: [&[&str]; 3] = [
+        &["play"],
+        &["play", "--schedule", "t"],
+        &["play", "--schedule=t", "--"],
+    ];
+    for words in missing {
+        refuses(&rt, alloc, words, ErrorKind::MissingRequiredArgument, 2)?;
+    }
+    let unknown: [&[&str]; 5] = [
+        &["play", "s", "t"],
+        &["play", "-s"],
+        &["play", "s", "--", "--schedule=t"],
+        &["play", "s", "--sched", "t"],
+        &["check", "s", "--schedule=t"],
+    ];
+    for words in unknown {
+        refuses(&rt, alloc, words, ErrorKind::UnknownArgument, 2)?;
+    }
+    let valueless: [&[&str]; 3] = [
+        &["play", "s", "--schedule"],
+        &["play", "s", "--schedule", "--"],
+        &["play", "--schedule", "--schedule=t", "s"],
+    ];
+    for words in valueless {
+        refuses(&rt, alloc, words, ErrorKind::InvalidValue, 2)?;
+    }
+    let twice: [&[&str]; 2] = [
+        &["play", "s", "--schedule", "t", "--schedule=t"],
+        &["play", "--schedule=t", "--schedule", "t", "s"],
+    ];
+    for words in twice {
+        refuses(&rt, alloc, words, ErrorKind::ArgumentConflict, 2)?;
+    }
+    Ok(())
+}
+
+/// The text that is printed in place of a task.
+fn printed(alloc: Global, words: &[&str]) -> Result<String, Fail> {
+    let Err(error) = task(alloc, words) else {
         return Err("the words are taken")?;
     };
-    let help = format!(in alloc; "{error}")?;
-    for word in ["Usage: byzlab <COMMAND>", "check", "asm", "dis", "book"] {
+    Ok(format!(in alloc; "{error}")?)
+}
+
+#[test]
+fn help_names_the_subcommands(rt: HostRuntime) -> Result<(), Fail> {
+    let alloc = rt.alloc();
+    let help = printed(alloc, &["--help"])?;
+    for word in [
+        "Usage: byzlab <COMMAND>",
+        "check",
+        "asm",
+        "dis",
+        "book",
+        "play",
+    ] {
         assert!(rt; help.as_str().contains(word), "{help}");
+    }
+    Ok(())
+}
+
+#[test]
+fn each_usage_begins_with_the_program(rt: HostRuntime) -> Result<(), Fail> {
+    let alloc = rt.alloc();
+    for (words, usage) in [
+        (["check", "--help"], "Usage: byzlab check <FILE>"),
+        (["asm", "--asm"], "Usage: byzlab asm <FILE>"),
+        (["play", "--help"], "Usage: byzlab play [OPTIONS] <SCENARIO>"),
+        (["play", "--play"], "Usage: byzlab play [OPTIONS] <SCENARIO>"),
+        (["help", "play"], "Usage: byzlab play [OPTIONS] <SCENARIO>"),
+        (["play", "--help"], "--schedule <FILE>"),
+    ] {
+        let text = printed(alloc, &words)?;
+        assert!(rt; text.as_str().contains(usage), "{text}");
     }
     Ok(())
 }

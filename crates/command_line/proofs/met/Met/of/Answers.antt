@@ -1,11 +1,10 @@
-use Rattle.std.proofs.Common.{◌≡◌, ◌∙◌, Some, None, Bor, ap, codes, sym, option_map}
+use Rattle.std.proofs.Common.{◌≡◌, ◌∙◌, Option, Some, None, Bor, ap, codes, sym, option_map}
 use Rattle.clap.specs.Words.{Text, first_of, found_of, rows_of, subcommand_rows_of}
 use Rattle.clap.specs.declared.parser.matches.ArgMatches.TheViews.{out-ArgMatches}
 use Rattle.clap.proofs.WalkLemmas.{first_value-rows}
 use Rattle.command_line.specs.Lab.{task_met}
-use Rattle.command_line.specs.Told.{one_file}
-use Rattle.command_line.proofs.MetLemmas.{not_some, subcommand_rows-name, task_met-parts}
-use Rattle.command_line.proofs.reading.met.Goals as goal
+use Rattle.command_line.proofs.MetLemmas.{not_some, subcommand_rows-name, task_met-parts, told_as}
+use Rattle.command_line.proofs.met.Met.of.Goals as goal
 
 pub unreachable-requires-in_default-get_str : goal.unreachable-requires-in_default-get_str
 unreachable-requires-in_default-get_str c =
@@ -21,7 +20,7 @@ unreachable-requires-in_default-get_str c =
     ∙ (sym c.get_str.ensures ∙ ap (option_map (λ (s : Bor Text). s.now)) c.in_default-get_str.is) in
     not_some (task_met (subcommand_rows_of m))
     (task_met-parts (subcommand_rows_of m) name rows name_is rows_are
-    ∙ ap (option_map (one_file name)) none) c.requires
+    ∙ ap (option_map (told_as name (first_of (codes "schedule") rows))) none) c.requires
 
 pub returns : goal.returns
 returns c =
@@ -32,8 +31,11 @@ returns c =
     subcommand_rows-name (out-ArgMatches m).subcommand ∙ sym (rw c.in-Some.is at c.subcommand.ensures.name) in
     let rows_are : option_map (λ p. p.1) (subcommand_rows_of m) ≡ Some rows =
     sym (rw c.in-Some.is at c.subcommand.ensures.rows) in
-    let some : first_of (codes "file") rows ≡ Some c.in-Some-get_str.file.now =
+    let file_is : first_of (codes "file") rows ≡ Some c.in-Some-get_str.file.now =
     sym (first_value-rows (found_of c.in-Some.found.now) (codes "file"))
     ∙ (sym c.get_str.ensures ∙ ap (option_map (λ (s : Bor Text). s.now)) c.in-Some-get_str.is) in
+    let second_is : first_of (codes "schedule") rows ≡ option_map (λ (s : Bor Text). s.now) c.get_str-second.result =
+    sym (first_value-rows (found_of c.in-Some.found.now) (codes "schedule")) ∙ sym c.get_str-second.ensures in
     sym (task_met-parts (subcommand_rows_of m) name rows name_is rows_are
-    ∙ ap (option_map (one_file name)) some)
+    ∙ ap (option_map (told_as name (first_of (codes "schedule") rows))) file_is
+    ∙ ap (λ (second : Option Text). Some (told_as name second c.in-Some-get_str.file.now)) second_is)
