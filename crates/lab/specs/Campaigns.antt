@@ -17,7 +17,7 @@ played s schedule = chronicle_of (run (opening s) (listed s (lines_by schedule))
 
 -- the text is that of this chronicle, whose decisions agree under the bound, and whose verdict means what it says
 pub record IsPlayed (s : Scenario) (schedule : List (List Repeat)) (text : List ℕ) : Type 0 where
-  pub text : text ≡ text_of (played s schedule)
+  pub told : text ≡ text_of (played s schedule)
   pub agree : AgreeUnderBound s (played s schedule).decisions
   pub verdict : IsVerdictOn s (played s schedule).decisions (played s schedule).verdict
   pub well : IsWellUnderBound (played s schedule).verdict
