@@ -47,7 +47,7 @@ turned_down unread refused name fails old new Memory why told one =
 prevented : (unread second_unread fails : Type 0) (task : Task) (files : Files) (old new : Option (List ℕ)) (fault : Fault)
     → Prevents unread second_unread task files fault → fails ⊎ IfSome (with_newline (fault_text fault)) (Appends old new) → status_of fault ≡ 1
     → IsTurnedDown unread (IsRefused task files.first) (first_name task) (Tells fails old new)
-      ⊎ (IsTaken task files.first × IsTurnedDown second_unread (IsSecondRefused files.second) (second_name task) (Tells fails old new))
+    ⊎ (IsTaken task files.first × IsTurnedDown second_unread (IsSecondRefused files.second) (second_name task) (Tells fails old new))
 prevented unread second_unread fails task files old new fault (inl why) told one =
     inl (turned_down unread (IsRefused task files.first) (first_name task) fails old new fault why told one)
 prevented unread second_unread fails task files old new fault (inr (taken, why)) told one =

@@ -90,5 +90,5 @@ IsUnwritten unwritten task files tells = unwritten × HasAnswer task files × te
 abbrev pub IsFault : Type 0 → Type 0 → Type 0 → Task → Files → Type 0 → (List ℕ → Type 0) → Type 0
 IsFault unread second_unread unwritten task files kept tells =
     (kept × (IsTurnedDown unread (IsRefused task files.first) (first_name task) tells
-        ⊎ (IsTaken task files.first × IsTurnedDown second_unread (IsSecondRefused files.second) (second_name task) tells)))
+    ⊎ (IsTaken task files.first × IsTurnedDown second_unread (IsSecondRefused files.second) (second_name task) tells)))
     ⊎ IsUnwritten unwritten task files tells
