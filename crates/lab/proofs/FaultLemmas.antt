@@ -6,38 +6,64 @@ use Rattle.std.specs.Io.KnownBytes.{Appends}
 use Rattle.command_line.specs.declared.tasks.Task.{Task}
 use Rattle.lab.specs.declared.refusal.Refusal.{Refusal}
 use Rattle.lab.specs.declared.refusal.Refusal.TheVariants as refusal
-use Rattle.lab.specs.declared.serving.Fault.{Fault}
-use Rattle.lab.specs.declared.serving.Fault.TheVariants.{Read, Text, Refused, Write, Memory}
-use Rattle.lab.specs.Faults.{fault_text, status_of, Explains}
-use Rattle.lab.specs.Serving.{Tells, TellsRefusal, IsFault}
+use Rattle.lab.specs.declared.fault.Fault.{Fault}
+use Rattle.lab.specs.declared.fault.Fault.TheVariants.{Read, Text, Refused, Write, Memory}
+use Rattle.lab.specs.Faults.{fault_text, status_of, Explains, Prevents, Stops}
+use Rattle.lab.specs.Serving.{Files, IsFault, IsRefused, IsSecondRefused, IsTaken, IsTurnedDown, Tells, TellsRefusal, first_name, second_name}
 
 -- a write that failed, or what it wrote
 pub written : {E : Type 0} (r : Result (Unit {0}) E) (P Q : Type 0) → OnOk r P → OnErr r Q → Q ⊎ P
 written (Ok x) P Q p q = inr p
 written (Err e) P Q p q = inl q
 
--- a refused program or table has a code
-refusal_told : (task : Task) (tells : List ℕ → Type 0) (cause : Refusal) → cause ≢ refusal.NotText → TellsRefusal task tells cause
-refusal_told task tells (refusal.Codec error) other = tt
-refusal_told task tells (refusal.Verifier fault) other = tt
-refusal_told task tells (refusal.Assembly error) other = tt
-refusal_told task tells (refusal.Table error) other = tt
-refusal_told task tells refusal.NotText other = absurd (other refl)
-refusal_told task tells refusal.Memory other = tt
+-- a refused program, table, scenario or schedule has a code
+refusal_told : (name : List ℕ) (tells : List ℕ → Type 0) (cause : Refusal) → cause ≢ refusal.NotText → TellsRefusal name tells cause
+refusal_told name tells (refusal.Codec error) other = tt
+refusal_told name tells (refusal.Verifier fault) other = tt
+refusal_told name tells (refusal.Assembly error) other = tt
+refusal_told name tells (refusal.Table error) other = tt
+refusal_told name tells (refusal.Scenario error) other = tt
+refusal_told name tells (refusal.Schedule error) other = tt
+refusal_told name tells refusal.NotText other = absurd (other refl)
+refusal_told name tells refusal.Memory other = tt
+
+-- a file that stops a task, but for want of memory
+turned_down : (unread : Type 0) (refused : Refusal → Type 0) (name : List ℕ) (fails : Type 0) (old new : Option (List ℕ)) (fault : Fault)
+    → Stops unread refused name fault → fails ⊎ IfSome (with_newline (fault_text fault)) (Appends old new) → status_of fault ≡ 1
+    → IsTurnedDown unread refused name (Tells fails old new)
+turned_down unread refused name fails old new (Read file) why told one =
+    let P : List ℕ → Type 0 = λ own. fails ⊎ Appends old new ((codes "fault read " ++ own) ++ 10 ∷ []) in
+    inl (why.0, subst P why.1 told)
+turned_down unread refused name fails old new (Text file) why told one =
+    let P : List ℕ → Type 0 = λ own. fails ⊎ Appends old new ((codes "fault text " ++ own) ++ 10 ∷ []) in
+    inr (refusal.NotText, why.0, subst P why.1 told)
+turned_down unread refused name fails old new (Refused cause) why told one =
+    inr (cause, why.1, refusal_told name (Tells fails old new) cause why.0)
+turned_down unread refused name fails old new Write why told one = absurd why
+turned_down unread refused name fails old new Memory why told one =
+    let no : ⊥ = omega (arith, one) in absurd no
+
+-- the first file, or the second
+prevented : (unread second_unread fails : Type 0) (task : Task) (files : Files) (old new : Option (List ℕ)) (fault : Fault)
+    → Prevents unread second_unread task files fault → fails ⊎ IfSome (with_newline (fault_text fault)) (Appends old new) → status_of fault ≡ 1
+    → IsTurnedDown unread (IsRefused task files.first) (first_name task) (Tells fails old new)
+    ⊎ (IsTaken task files.first × IsTurnedDown second_unread (IsSecondRefused files.second) (second_name task) (Tells fails old new))
+prevented unread second_unread fails task files old new fault (inl why) told one =
+    inl (turned_down unread (IsRefused task files.first) (first_name task) fails old new fault why told one)
+prevented unread second_unread fails task files old new fault (inr (taken, why)) told one =
+    inr (taken, turned_down second_unread (IsSecondRefused files.second) (second_name task) fails old new fault why told one)
 
 -- each fault but want of memory
-pub fault_ends : (unread unwritten fails : Type 0) (task : Task) (known old new : Option (List ℕ)) (kept : Type 0) (fault : Fault)
-    → Explains unread unwritten task known fault → (fault ≢ Write → kept)
+pub fault_ends : (unread second_unread unwritten fails : Type 0) (task : Task) (files : Files) (old new : Option (List ℕ)) (kept : Type 0) (fault : Fault)
+    → Explains unread second_unread unwritten task files fault → (fault ≢ Write → kept)
     → fails ⊎ IfSome (with_newline (fault_text fault)) (Appends old new) → status_of fault ≡ 1
-    → IsFault unread unwritten task known kept (Tells fails old new)
-fault_ends unread unwritten fails task known old new kept (Read file) why same told one =
-    let P : List ℕ → Type 0 = λ name. fails ⊎ Appends old new ((codes "fault read " ++ name) ++ 10 ∷ []) in
-    inl (same (λ e. cc), inl (why.0, subst P why.1 told))
-fault_ends unread unwritten fails task known old new kept (Text file) why same told one =
-    let P : List ℕ → Type 0 = λ name. fails ⊎ Appends old new ((codes "fault text " ++ name) ++ 10 ∷ []) in
-    inl (same (λ e. cc), inr (refusal.NotText, why.0, subst P why.1 told))
-fault_ends unread unwritten fails task known old new kept (Refused cause) why same told one =
-    inl (same (λ e. cc), inr (cause, why.1, refusal_told task (Tells fails old new) cause why.0))
-fault_ends unread unwritten fails task known old new kept Write why same told one = inr (why.0, why.1, told)
-fault_ends unread unwritten fails task known old new kept Memory why same told one =
+    → IsFault unread second_unread unwritten task files kept (Tells fails old new)
+fault_ends unread second_unread unwritten fails task files old new kept Write why same told one = inr (why.0, why.1, told)
+fault_ends unread second_unread unwritten fails task files old new kept (Read file) why same told one =
+    inl (same (λ e. cc), prevented unread second_unread fails task files old new (Read file) why told one)
+fault_ends unread second_unread unwritten fails task files old new kept (Text file) why same told one =
+    inl (same (λ e. cc), prevented unread second_unread fails task files old new (Text file) why told one)
+fault_ends unread second_unread unwritten fails task files old new kept (Refused cause) why same told one =
+    inl (same (λ e. cc), prevented unread second_unread fails task files old new (Refused cause) why told one)
+fault_ends unread second_unread unwritten fails task files old new kept Memory why same told one =
     let no : ⊥ = omega (arith, one) in absurd no

@@ -1,5 +1,6 @@
 pub mod BenchLemmas
 pub mod FaultLemmas
+pub mod FilesLemmas
 pub mod LineLemmas
 pub mod RefusalLemmas
 pub mod BoardRunLemmas

@@ -1,5 +1,5 @@
--- What a task prints on a file of some bytes.
-use Rattle.std.specs.Prelude.{ℕ, ◌≡◌, List, Some, Ok, length}
+-- What a task prints on files of some bytes.
+use Rattle.std.specs.Prelude.{ℕ, ◌≡◌, List, Option, Some, Ok, length, string_bytes}
 use Rattle.insn.specs.declared.insn.Insn.{Insn}
 use Rattle.insn.specs.Program.{slots_of}
 use Rattle.semantics.specs.Run.{IsSound}
@@ -10,11 +10,16 @@ use Rattle.book.specs.Decisions.{decisions_of, TableAgrees}
 use Rattle.book.specs.Grammar.{table_told}
 use Rattle.book.specs.Table.{MessageTable}
 use Rattle.command_line.specs.declared.tasks.Task.{Task}
-use Rattle.command_line.specs.declared.tasks.Task.TheVariants.{Check, Assemble, Disassemble, Book}
+use Rattle.command_line.specs.declared.tasks.Task.TheVariants.{Check, Assemble, Disassemble, Book, Play}
+use Rattle.round.specs.Scenario.{Scenario}
+use Rattle.scenario.specs.Told.{Tells}
 use Rattle.lab.specs.Bench.{bench_bytes, bench_shape}
 use Rattle.lab.specs.BoardRun.{IsServed}
+use Rattle.lab.specs.Campaigns.{Plays}
 use Rattle.lab.specs.Lines.{checked_lines, decision_lines, hex_line}
 use Rattle.lab.specs.declared.checking.Checked.{Checked}
+use Rattle.lab.specs.declared.outcome.Outcome.{Outcome}
+use Rattle.lab.specs.declared.outcome.Outcome.TheVariants.{Text, Campaign}
 
 -- the program is sound, and its run in the bench context, with a board that begins with zeros, ended so
 pub record IsRun (program : List Insn) (checked : Checked) : Type 0 where
@@ -43,9 +48,20 @@ Decides text lines =
     (table : MessageTable) × (table_told text ≡ Ok table) × (lines ≡ decision_lines table)
     × TableAgrees table (decisions_of table)
 
--- the task prints this text on a file of these bytes
-abbrev pub Prints : Task → List ℕ → List ℕ → Type 0
-Prints (Check file) bytes text = (checked : Checked) × Checks bytes checked × (text ≡ checked_lines checked)
-Prints (Assemble file) bytes text = Assembles bytes text
-Prints (Disassemble file) bytes text = Disassembles bytes text
-Prints (Book file) bytes text = Decides bytes text
+-- the task prints this text on files of these bytes
+abbrev pub Prints : Task → List ℕ → Option (List ℕ) → List ℕ → Type 0
+Prints (Check file) first second text = (checked : Checked) × Checks first checked × (text ≡ checked_lines checked)
+Prints (Assemble file) first second text = Assembles first text
+Prints (Disassemble file) first second text = Disassembles first text
+Prints (Book file) first second text = Decides first text
+Prints (Play scenario schedule) first second text = Plays first second text
+
+-- the task goes on with this campaign to its second file
+abbrev pub GoesOn : Task → List ℕ → Scenario → Type 0
+GoesOn (Play scenario schedule) first s = Tells first s
+GoesOn _ first s = ⊥
+
+-- what the task comes to on its first file: a text, whatever the second has, or a campaign with which it goes on
+abbrev pub ComesTo : Task → List ℕ → Outcome → Type 0
+ComesTo task first (Text text) = (second : Option (List ℕ)) → Prints task first second (string_bytes text)
+ComesTo task first (Campaign s) = GoesOn task first s

@@ -1,13 +1,12 @@
 -- The fault of a refusal, its line, its exit status and its cause.
-use Rattle.std.specs.Prelude.{ℕ, ◌≡◌, ◌≢◌, List, Option, Some, None, ◌++◌, codes}
+use Rattle.std.specs.Prelude.{ℕ, ◌≡◌, ◌≢◌, ◌⊎◌, List, Option, Some, None, ◌++◌, codes}
 use Rattle.std.specs.Borrow.{Bor}
-use Rattle.command_line.specs.Told.{told_of}
 use Rattle.command_line.specs.declared.tasks.Task.{Task}
 use Rattle.lab.specs.declared.refusal.Refusal.{Refusal}
 use Rattle.lab.specs.declared.refusal.Refusal.TheVariants as refusal
-use Rattle.lab.specs.declared.serving.Fault.{Fault}
-use Rattle.lab.specs.declared.serving.Fault.TheVariants.{Read, Text, Refused, Write, Memory}
-use Rattle.lab.specs.Serving.{HasAnswer, IsRefused}
+use Rattle.lab.specs.declared.fault.Fault.{Fault}
+use Rattle.lab.specs.declared.fault.Fault.TheVariants.{Read, Text, Refused, Write, Memory}
+use Rattle.lab.specs.Serving.{Files, HasAnswer, IsRefused, IsSecondRefused, IsTaken, first_name, second_name}
 
 -- the fault of a file with this name
 abbrev pub fault_of : Refusal → Bor (List ℕ) → Fault
@@ -28,16 +27,21 @@ fault_text (Refused refusal) = None
 fault_text Write = Some (codes "fault write")
 fault_text Memory = Some (codes "out of memory")
 
--- why a task has no answer: the file's reader failed, the task refuses the file, or want of memory
-abbrev pub Prevents : Type 0 → Task → Option (List ℕ) → Fault → Type 0
-Prevents unread task known (Read file) = unread × (file.now ≡ (told_of task).1)
-Prevents unread task known (Text file) =
-    IsRefused task known refusal.NotText × (file.now ≡ (told_of task).1)
-Prevents unread task known (Refused cause) = (cause ≢ refusal.NotText) × IsRefused task known cause
-Prevents unread task known Write = ⊥
-Prevents unread task known Memory = Unit {0}
+-- why the file with this name stops a task: its reader failed, it is refused, or want of memory
+abbrev pub Stops : Type 0 → (Refusal → Type 0) → List ℕ → Fault → Type 0
+Stops unread refused name (Read file) = unread × (file.now ≡ name)
+Stops unread refused name (Text file) = refused refusal.NotText × (file.now ≡ name)
+Stops unread refused name (Refused cause) = (cause ≢ refusal.NotText) × refused cause
+Stops unread refused name Write = ⊥
+Stops unread refused name Memory = Unit {0}
+
+-- why a task has no answer: its first file stops it, or behind one that is taken the second
+abbrev pub Prevents : Type 0 → Type 0 → Task → Files → Fault → Type 0
+Prevents unread second_unread task files fault =
+    Stops unread (IsRefused task files.first) (first_name task) fault
+    ⊎ (IsTaken task files.first × Stops second_unread (IsSecondRefused files.second) (second_name task) fault)
 
 -- why a task is not done: it has no answer, or the output failed on its answer
-abbrev pub Explains : Type 0 → Type 0 → Task → Option (List ℕ) → Fault → Type 0
-Explains unread unwritten task known Write = unwritten × HasAnswer task known
-Explains unread unwritten task known fault = Prevents unread task known fault
+abbrev pub Explains : Type 0 → Type 0 → Type 0 → Task → Files → Fault → Type 0
+Explains unread second_unread unwritten task files Write = unwritten × HasAnswer task files
+Explains unread second_unread unwritten task files fault = Prevents unread second_unread task files fault

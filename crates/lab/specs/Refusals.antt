@@ -1,4 +1,4 @@
--- Why a task prints nothing on a file of some bytes.
+-- Why a task does not take a file of some bytes.
 use Rattle.std.specs.Prelude.{ℕ, ◌≡◌, ◌≢◌, List, None, Err, IfSome}
 use Rattle.std.specs.Str.{IsUtf8}
 use Rattle.insn.specs.declared.insn.Insn.{Insn}
@@ -12,13 +12,20 @@ use Rattle.asm.specs.declared.fault.AsmError.TheVariants as asm
 use Rattle.book.specs.Grammar.{table_told}
 use Rattle.book.specs.declared.fault.TableError.{TableError}
 use Rattle.book.specs.declared.fault.TableError.TheVariants as table
+use Rattle.toml.specs.Parse.{parse_document}
+use Rattle.scenario.specs.Told.{Reads}
+use Rattle.scenario.specs.declared.fault.ScenarioError.{ScenarioError}
+use Rattle.scenario.specs.declared.fault.ScenarioError.TheVariants as scenario
+use Rattle.trace.specs.Schedules.{schedule_told}
+use Rattle.trace.specs.declared.fault.TraceError.{TraceError}
+use Rattle.trace.specs.declared.fault.TraceError.TheVariants as trace
 use Rattle.verify.specs.declared.fault.Fault.{Fault}
 use Rattle.verify.specs.declared.fault.Fault.TheVariants as verifier
 use Rattle.verify.specs.Structure.{structural_fault, IsOwnFault}
 use Rattle.command_line.specs.declared.tasks.Task.{Task}
-use Rattle.command_line.specs.declared.tasks.Task.TheVariants.{Check, Assemble, Disassemble, Book}
+use Rattle.command_line.specs.declared.tasks.Task.TheVariants.{Check, Assemble, Disassemble, Book, Play}
 use Rattle.lab.specs.declared.refusal.Refusal.{Refusal}
-use Rattle.lab.specs.declared.refusal.Refusal.TheVariants.{Codec, Verifier, Assembly, Table, NotText, Memory}
+use Rattle.lab.specs.declared.refusal.Refusal.TheVariants.{Codec, Verifier, Assembly, Table, Scenario, Schedule, NotText, Memory}
 
 -- the refusal of each error: want of memory is the same everywhere
 abbrev pub codec_refusal : CodecError → Refusal
@@ -36,6 +43,14 @@ assembly_refusal error = Assembly error
 abbrev pub table_refusal : TableError → Refusal
 table_refusal table.Memory = Memory
 table_refusal error = Table error
+
+abbrev pub scenario_refusal : ScenarioError → Refusal
+scenario_refusal scenario.Memory = Memory
+scenario_refusal error = Scenario error
+
+abbrev pub schedule_refusal : TraceError → Refusal
+schedule_refusal trace.Memory = Memory
+schedule_refusal error = Schedule error
 
 -- the bytes spell no program, by this first fault
 abbrev pub RefusesBytes : List ℕ → CodecError → Type 0
@@ -73,13 +88,27 @@ RefusesTable text (Table error) = table_told text ≡ Err error
 RefusesTable text Memory = Unit {0}
 RefusesTable text _ = ⊥
 
+-- the text tells no scenario, by this first fault
+abbrev pub RefusesScenario : List ℕ → Refusal → Type 0
+RefusesScenario text (Scenario error) = (error ≢ scenario.Memory) × Reads (parse_document text) (Err error)
+RefusesScenario text Memory = Unit {0}
+RefusesScenario text _ = ⊥
+
+-- the text tells no schedule, by this first line
+abbrev pub RefusesSchedule : List ℕ → Refusal → Type 0
+RefusesSchedule text (Schedule error) = schedule_told text ≡ Err error
+RefusesSchedule text Memory = Unit {0}
+RefusesSchedule text _ = ⊥
+
+-- the bytes are no text, or the text is refused
 abbrev pub RefusesText : (List ℕ → Refusal → Type 0) → List ℕ → Refusal → Type 0
 RefusesText refuses bytes NotText = IsUtf8 bytes → ⊥
 RefusesText refuses bytes refusal = refuses bytes refusal
 
--- the task has no answer on a file of these bytes
+-- the task does not take an only or first file of these bytes
 abbrev pub Refuses : Task → List ℕ → Refusal → Type 0
 Refuses (Check file) bytes refusal = RefusesCheck bytes refusal
 Refuses (Assemble file) bytes refusal = RefusesText RefusesAssembly bytes refusal
 Refuses (Disassemble file) bytes refusal = RefusesDisassembly bytes refusal
 Refuses (Book file) bytes refusal = RefusesText RefusesTable bytes refusal
+Refuses (Play scenario schedule) bytes refusal = RefusesText RefusesScenario bytes refusal

@@ -1,58 +1,94 @@
--- How a task on a file ends. What a file has and what a stream holds are given where they are known.
-use Rattle.std.specs.Prelude.{ℕ, ◌≡◌, ◌≢◌, ◌⊎◌, List, [], ◌∷◌, ◌++◌, Option, IfSome, codes}
+-- How a task on its files ends. What a file has and what a stream holds are given where they are known.
+use Rattle.std.specs.Prelude.{ℕ, ◌≡◌, ◌≢◌, ◌⊎◌, List, [], ◌∷◌, ◌++◌, Option, None, Some, IfSome, IsSomeAnd, codes, option_map, unwrap_or}
 use Rattle.std.specs.Io.KnownBytes.{Appends}
 use Rattle.command_line.specs.Told.{told_of}
 use Rattle.command_line.specs.declared.tasks.Task.{Task}
+use Rattle.round.specs.Scenario.{Scenario}
+use Rattle.world.specs.declared.schedule.Repeat.{Repeat}
 use Rattle.lab.specs.declared.refusal.Refusal.{Refusal}
 use Rattle.lab.specs.declared.refusal.Refusal.TheVariants.{NotText, Memory}
-use Rattle.lab.specs.Answers.{Prints}
-use Rattle.lab.specs.Refusals.{Refuses}
+use Rattle.lab.specs.Answers.{GoesOn, Prints}
+use Rattle.lab.specs.Campaigns.{IsSchedule}
+use Rattle.lab.specs.Refusals.{Refuses, RefusesSchedule, RefusesText}
+
+-- the only or first file's bytes, and the second's where there is one
+pub record Files : Type 0 where
+  pub first : Option (List ℕ)
+  pub second : Option (Option (List ℕ))
+
+abbrev pub files : {R : Type 0} → (R → Option (List ℕ)) → R → Option R → Files
+files bytes first second = record { first = bytes first; second = option_map bytes second }
+
+-- the names of the files, the second's empty where the words name none
+abbrev pub first_name : Task → List ℕ
+first_name task = (told_of task).file
+
+abbrev pub second_name : Task → List ℕ
+second_name task = unwrap_or (told_of task).second []
 
 -- the bytes are the file's
 abbrev pub AreBytes : Option (List ℕ) → List ℕ → Type 0
 AreBytes known bytes = IfSome known (λ all. bytes ≡ all)
 
--- the task prints this text on the file
-abbrev pub IsAnswer : Task → Option (List ℕ) → List ℕ → Type 0
-IsAnswer task known text = (bytes : List ℕ) × AreBytes known bytes × Prints task bytes text
+-- the bytes are the second file's, and there are none where there is no such file
+abbrev pub AreSecond : Option (Option (List ℕ)) → Option (List ℕ) → Type 0
+AreSecond None second = second ≡ None
+AreSecond (Some known) second = IsSomeAnd second (AreBytes known)
 
--- the task has an answer on the file
-abbrev pub HasAnswer : Task → Option (List ℕ) → Type 0
-HasAnswer task known = (text : List ℕ) × IsAnswer task known text
+-- the task prints this text on the files
+abbrev pub IsAnswer : Task → Files → List ℕ → Type 0
+IsAnswer task files text =
+    (first : List ℕ) × AreBytes files.first first
+    × ((second : Option (List ℕ)) × AreSecond files.second second × Prints task first second text)
 
--- the output has grown by the task's whole answer on the file, and by nothing else
-abbrev pub IsPrinted : Task → Option (List ℕ) → Option (List ℕ) → Option (List ℕ) → Type 0
-IsPrinted task known old new = (text : List ℕ) × IsAnswer task known text × Appends old new text
+-- the schedule is that of the second file, the empty one where there is no such file
+abbrev pub IsScheduleOf : Option (Option (List ℕ)) → List (List Repeat) → Type 0
+IsScheduleOf known schedule = (second : Option (List ℕ)) × AreSecond known second × IsSchedule second schedule
 
--- the task refuses the file so, and not for want of memory
+-- the task has an answer on the files
+abbrev pub HasAnswer : Task → Files → Type 0
+HasAnswer task files = (text : List ℕ) × IsAnswer task files text
+
+-- the output has grown by the task's whole answer on the files, and by nothing else
+abbrev pub IsPrinted : Task → Files → Option (List ℕ) → Option (List ℕ) → Type 0
+IsPrinted task files old new = (text : List ℕ) × IsAnswer task files text × Appends old new text
+
+-- the task refuses its only or first file so, and not for want of memory
 abbrev pub IsRefused : Task → Option (List ℕ) → Refusal → Type 0
 IsRefused task known refusal =
     (refusal ≢ Memory) × ((bytes : List ℕ) × AreBytes known bytes × Refuses task bytes refusal)
+
+-- the task takes its first file, and goes on to the second
+abbrev pub IsTaken : Task → Option (List ℕ) → Type 0
+IsTaken task known = (bytes : List ℕ) × AreBytes known bytes × ((s : Scenario) × GoesOn task bytes s)
+
+-- the second file is there and refused so, and not for want of memory
+abbrev pub IsSecondRefused : Option (Option (List ℕ)) → Refusal → Type 0
+IsSecondRefused known refusal =
+    (refusal ≢ Memory) × ((bytes : List ℕ) × AreSecond known (Some bytes) × RefusesText RefusesSchedule bytes refusal)
 
 -- the stream has grown by this line, or it failed
 abbrev pub Tells : Type 0 → Option (List ℕ) → Option (List ℕ) → List ℕ → Type 0
 Tells fails old new line = fails ⊎ Appends old new (line ++ 10 ∷ [])
 
--- the line that tells of a refusal; a code with its place is not said here
-abbrev pub TellsRefusal : Task → (List ℕ → Type 0) → Refusal → Type 0
-TellsRefusal task tells NotText = tells (codes "fault text " ++ (told_of task).1)
-TellsRefusal task tells _ = Unit {0}
+-- the line that tells of a refusal of the file with this name; a code with its place is not said here
+abbrev pub TellsRefusal : List ℕ → (List ℕ → Type 0) → Refusal → Type 0
+TellsRefusal name tells NotText = tells (codes "fault text " ++ name)
+TellsRefusal name tells _ = Unit {0}
 
--- the file's reader failed, and a line says so
-abbrev pub IsUnread : Type 0 → Task → (List ℕ → Type 0) → Type 0
-IsUnread unread task tells = unread × tells (codes "fault read " ++ (told_of task).1)
-
--- the task refuses the file, and a line says so
-abbrev pub IsTurnedDown : Task → Option (List ℕ) → (List ℕ → Type 0) → Type 0
-IsTurnedDown task known tells =
-    (refusal : Refusal) × IsRefused task known refusal × TellsRefusal task tells refusal
+-- the file with this name was not read, since its reader failed, or it is refused; and a line says so
+abbrev pub IsTurnedDown : Type 0 → (Refusal → Type 0) → List ℕ → (List ℕ → Type 0) → Type 0
+IsTurnedDown unread refused name tells =
+    (unread × tells (codes "fault read " ++ name))
+    ⊎ ((refusal : Refusal) × refused refusal × TellsRefusal name tells refusal)
 
 -- the output failed on the task's answer, and a line says so
-abbrev pub IsUnwritten : Type 0 → Task → Option (List ℕ) → (List ℕ → Type 0) → Type 0
-IsUnwritten unwritten task known tells = unwritten × HasAnswer task known × tells (codes "fault write")
+abbrev pub IsUnwritten : Type 0 → Task → Files → (List ℕ → Type 0) → Type 0
+IsUnwritten unwritten task files tells = unwritten × HasAnswer task files × tells (codes "fault write")
 
--- nothing is printed, since the file was not read or is refused; or the output failed on the answer
-abbrev pub IsFault : Type 0 → Type 0 → Task → Option (List ℕ) → Type 0 → (List ℕ → Type 0) → Type 0
-IsFault unread unwritten task known kept tells =
-    (kept × (IsUnread unread task tells ⊎ IsTurnedDown task known tells))
-    ⊎ IsUnwritten unwritten task known tells
+-- nothing is printed, since the first file is turned down, or behind a first one that is taken the second; or the output failed on the answer
+abbrev pub IsFault : Type 0 → Type 0 → Type 0 → Task → Files → Type 0 → (List ℕ → Type 0) → Type 0
+IsFault unread second_unread unwritten task files kept tells =
+    (kept × (IsTurnedDown unread (IsRefused task files.first) (first_name task) tells
+    ⊎ (IsTaken task files.first × IsTurnedDown second_unread (IsSecondRefused files.second) (second_name task) tells)))
+    ⊎ IsUnwritten unwritten task files tells

@@ -1,10 +1,12 @@
 use asm::AsmError;
 use book::TableError;
 use codec::CodecError;
+use scenario::ScenarioError;
 use std::alloc::AllocError;
+use trace::TraceError;
 use verify::Fault;
 
-/// Why a task has no answer on a file's bytes: what is refused, with its code and place.
+/// Why a task does not take a file's bytes: what is refused, with its code and place.
 #[derive(Debug, Drop, thiserror::Error)]
 pub enum Refusal {
     /// The bytes spell no program.
@@ -19,6 +21,12 @@ pub enum Refusal {
     /// The text tells no message table.
     #[error("{0}")]
     Table(TableError),
+    /// The text tells no scenario.
+    #[error("{0}")]
+    Scenario(ScenarioError),
+    /// The text tells no schedule.
+    #[error("{0}")]
+    Schedule(TraceError),
     /// The bytes are no text in UTF-8.
     #[error("not UTF-8")]
     NotText,
@@ -90,6 +98,34 @@ impl From<TableError> for Refusal {
         match error {
             TableError::Memory => Refusal::Memory,
             error => Refusal::Table(error),
+        }
+    }
+}
+
+impl From<ScenarioError> for Refusal {
+    ghost use Rattle.std.specs.Prelude.{◌≡◌};
+    ghost use Rattle.lab.specs.Refusals.{scenario_refusal};
+
+    ghost from_gives = { λ error refusal. refusal ≡ scenario_refusal error };
+
+    fn from(error: ScenarioError) -> Refusal {
+        match error {
+            ScenarioError::Memory => Refusal::Memory,
+            error => Refusal::Scenario(error),
+        }
+    }
+}
+
+impl From<TraceError> for Refusal {
+    ghost use Rattle.std.specs.Prelude.{◌≡◌};
+    ghost use Rattle.lab.specs.Refusals.{schedule_refusal};
+
+    ghost from_gives = { λ error refusal. refusal ≡ schedule_refusal error };
+
+    fn from(error: TraceError) -> Refusal {
+        match error {
+            TraceError::Memory => Refusal::Memory,
+            error => Refusal::Schedule(error),
         }
     }
 }

@@ -1,87 +1,48 @@
-ghost use Rattle.std.specs.Prelude.{◌≡◌, ◌≢◌, ◌⊎◌, IfOk, IfErr, OnOk, codes, string_bytes};
-ghost use Rattle.lab.specs.Faults.{fault_of, status_of, Prevents, Explains};
-ghost use Rattle.lab.specs.Serving.{AreBytes, IsAnswer, IsPrinted, IsFault, Tells};
-ghost use Rattle.lab.specs.declared.serving.Fault.TheVariants.{Write as unwritten};
+ghost use Rattle.std.specs.Prelude.{◌≡◌, ◌≢◌, ◌⊎◌, IfOk, IfErr, IsSomeAnd, OnOk, codes, option_map};
+ghost use Rattle.lab.specs.Faults.{Explains, Prevents, Stops};
+ghost use Rattle.lab.specs.Serving.{AreBytes, AreSecond, IsAnswer, IsFault, IsPrinted, IsScheduleOf, IsSecondRefused, Tells, files, second_name};
+ghost use Rattle.lab.specs.declared.fault.Fault.TheVariants.{Write as unwritten};
 
 use crate::answering::answer;
-use crate::refusal::Refusal;
-use crate::streams::{Sink, Source};
+use crate::fault::Fault;
+use crate::outcome::Outcome;
+use crate::playing::{played, schedule};
+use crate::streams::{Output, Source};
 use command_line::Task;
 use std::alloc::Global;
-use std::fmt;
 use std::io::ErrorKind;
+use world::Schedule;
 
-/// Why a task was not done.
-#[derive(Debug, Drop)]
-enum Fault<'a> {
-    Read(&'a str),
-    Text(&'a str),
-    Refused(Refusal),
-    Write,
-    Memory,
-}
-
-impl fmt::Display for Fault<'_> {
-    ghost use Rattle.lab.specs.Faults.{fault_text};
-
-    ghost output = { fault_text };
-
-    fn fmt<W: fmt::Write>(&self, f: &mut fmt::Formatter<W>) -> fmt::Result {
-        match self {
-            Fault::Read(file) => write!(f, "fault read {file}"),
-            Fault::Text(file) => write!(f, "fault text {file}"),
-            Fault::Refused(refusal) => write!(f, "refused {refusal}"),
-            Fault::Write => f.write_str("fault write"),
-            Fault::Memory => f.write_str("out of memory"),
-        }
-    }
-}
-
-impl<'a> Fault<'a> {
-    /// The fault of a file with this name.
-    fn of(refusal: Refusal, file: &'a str) -> Fault<'a>
-        ensures { result ≡ fault_of refusal file.entry }
-    {
-        match refusal {
-            Refusal::Memory => Fault::Memory,
-            Refusal::NotText => Fault::Text(file),
-            refusal => Fault::Refused(refusal),
-        }
-    }
-
-    /// The exit status.
-    fn status(&self) -> u8
-        ensures { result ≡ status_of self.now }
-    {
-        match self {
-            Fault::Memory => 3,
-            _ => 1,
-        }
-    }
-}
-
-/// Does the task on its file: prints what it answers, or one line of what is at fault. The result
-/// is the exit status: 0 done, 1 refused or a fault of a file, 3 want of memory.
-pub fn serve<R, O, F>(alloc: Global, task: &Task, first: R, out: &mut O, fault: &mut F) -> u8
+/// Does the task on its files: prints what it answers, or one line of what is at fault. The second file is read where the
+/// task has one, and only where the first is not refused. All that is printed is in memory first. The result is the exit
+/// status: 0 done, 1 refused or a fault of a file, 3 want of memory.
+pub fn serve<R, O, F>(
+    alloc: Global,
+    task: &Task,
+    first: R,
+    second: Option<R>,
+    out: &mut O,
+    fault: &mut F,
+) -> u8
 where
     R: Source,
-    O: Sink,
-    F: Sink,
+    O: Output,
+    F: Output,
     ensures status { (result ≡ 0) ⊎ ((result ≡ 1) ⊎ (result ≡ 3)) }
 
     ensures done { result ≡ 0 →
-        IsPrinted task.now (R.bytes first) (O.contents out.old) (O.contents out.new) }
+        IsPrinted task.now (files R.bytes first second) (O.contents out.old) (O.contents out.new) }
     ensures quiet { result ≡ 0 → fault.new ≡ fault.old }
 
     ensures at_fault { result ≡ 1 →
-        IsFault (R.fails first) (O.fails out.old) task.now (R.bytes first) (out.new ≡ out.old)
-        (Tells (F.fails fault.old) (F.contents fault.old) (F.contents fault.new)) }
+        IsFault (R.fails first) (IsSomeAnd second R.fails) (O.fails out.old) task.now (files R.bytes first second)
+        (out.new ≡ out.old) (Tells (F.fails fault.old) (F.contents fault.old) (F.contents fault.new)) }
 
     ensures unprinted { result ≡ 3 → out.new ≡ out.old }
     ensures memory { result ≡ 3 →
         Tells (F.fails fault.old) (F.contents fault.old) (F.contents fault.new) (codes "out of memory") }
 {
-    match print(alloc, task, first, out) {
+    match print(alloc, task, first, second, out) {
         Ok(()) => 0,
         Err(error) => {
             let _ = fault.tell(&error);
@@ -91,44 +52,86 @@ where
 }
 
 /// Prints the whole answer, or nothing where there is none.
-fn print<'a, R, O>(alloc: Global, task: &'a Task, first: R, out: &mut O) -> Result<(), Fault<'a>>
+fn print<'a, R, O>(
+    alloc: Global,
+    task: &'a Task,
+    first: R,
+    second: Option<R>,
+    out: &mut O,
+) -> Result<(), Fault<'a>>
 where
     R: Source,
-    O: Sink,
+    O: Output,
     ensures done { OnOk result
-        (IsPrinted task.entry.now (R.bytes first) (O.contents out.old) (O.contents out.new)) }
+        (IsPrinted task.entry.now (files R.bytes first second) (O.contents out.old) (O.contents out.new)) }
     ensures fault { IfErr result
-        (Explains (R.fails first) (O.fails out.old) task.entry.now (R.bytes first)) }
+        (Explains (R.fails first) (IsSomeAnd second R.fails) (O.fails out.old) task.entry.now (files R.bytes first second)) }
     ensures unprinted { IfErr result (λ fault. fault ≢ unwritten → out.new ≡ out.old) }
 {
-    let text = answered(alloc, task, first)?;
-    match out.put(text.as_str()) {
+    let text = answered(alloc, task, first, second)?;
+    match out.put(text.as_slice()) {
         Ok(()) => Ok(()),
         Err(_) => Err(Fault::Write),
     }
 }
 
-/// The task's answer on its file.
-fn answered<'a, R: Source>(alloc: Global, task: &'a Task, first: R) -> Result<String, Fault<'a>>
+/// The task's answer on its files.
+fn answered<'a, R: Source>(
+    alloc: Global,
+    task: &'a Task,
+    first: R,
+    second: Option<R>,
+) -> Result<Vec<u8>, Fault<'a>>
     ensures answer { IfOk result
-        (λ text. IsAnswer task.entry.now (R.bytes first) (string_bytes text)) }
-    ensures fault { IfErr result (Prevents (R.fails first) task.entry.now (R.bytes first)) }
+        (λ text. IsAnswer task.entry.now (files R.bytes first second) text.items) }
+    ensures fault { IfErr result
+        (Prevents (R.fails first) (IsSomeAnd second R.fails) task.entry.now (files R.bytes first second)) }
 {
-    let bytes = read(alloc, task, first)?;
+    let bytes = read(alloc, task.file(), first)?;
     match answer(alloc, task, bytes.as_slice()) {
-        Ok(text) => Ok(text),
+        Ok(Outcome::Text(text)) => Ok(text.into_bytes()),
+        Ok(Outcome::Campaign(scenario)) => {
+            let file = task.second().unwrap_or("");
+            let schedule = scheduled(alloc, file, second)?;
+            match played(alloc, scenario, &schedule) {
+                Ok(text) => Ok(text),
+                Err(_) => Err(Fault::Memory),
+            }
+        }
         Err(refusal) => Err(Fault::of(refusal, task.file())),
     }
 }
 
-/// All bytes of the task's file.
-fn read<'a, R: Source>(alloc: Global, task: &'a Task, first: R) -> Result<Vec<u8>, Fault<'a>>
-    ensures whole { IfOk result (λ all. AreBytes (R.bytes first) all.items) }
-    ensures fault { IfErr result (Prevents (R.fails first) task.entry.now (R.bytes first)) }
+/// The schedule of the second file, the empty one where there is none.
+fn scheduled<'a, R: Source>(
+    alloc: Global,
+    file: &'a str,
+    second: Option<R>,
+) -> Result<Schedule, Fault<'a>>
+    ensures told { IfOk result (λ schedule. IsScheduleOf (option_map R.bytes second) schedule) }
+    ensures fault { IfErr result
+        (Stops (IsSomeAnd second R.fails) (IsSecondRefused (option_map R.bytes second)) file.entry.now) }
 {
-    match first.read_all(alloc) {
+    let Some(second) = second else {
+        return Ok(Schedule {
+            lines: Vec::new(alloc),
+        });
+    };
+    let bytes = read(alloc, file, second)?;
+    match schedule(alloc, bytes.as_slice()) {
+        Ok(schedule) => Ok(schedule),
+        Err(refusal) => Err(Fault::of(refusal, file)),
+    }
+}
+
+/// All bytes of the file with this name.
+fn read<'a, R: Source>(alloc: Global, file: &'a str, source: R) -> Result<Vec<u8>, Fault<'a>>
+    ensures whole { IfOk result (λ all. AreBytes (R.bytes source) all.items) }
+    ensures fault { IfErr result (Stops (R.fails source) (λ _. ⊥) file.entry.now) }
+{
+    match source.read_all(alloc) {
         Ok(bytes) => Ok(bytes),
         Err(error) if error.kind() == ErrorKind::OutOfMemory => Err(Fault::Memory),
-        Err(_) => Err(Fault::Read(task.file())),
+        Err(_) => Err(Fault::Read(file)),
     }
 }

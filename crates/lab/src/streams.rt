@@ -1,5 +1,5 @@
-//! Where a task's file comes from, and where its texts go: every reader is a `Source`, and every
-//! writer a `Sink`. Their contracts can say that a call failed, which those of `Read` and `Write`
+//! Where a task's files come from, and where its texts go: every reader is a `Source`, and every
+//! writer an `Output`. Their contracts can say that a call failed, which those of `Read` and `Write`
 //! cannot.
 
 use std::alloc::Global;
@@ -7,7 +7,7 @@ use std::fmt::Display;
 use std::io::{self, Read, Write};
 
 /// A file to read.
-pub trait Source {
+pub trait Source: Drop {
     ghost use Rattle.std.specs.Prelude.{◌≡◌, ℕ, List, Option, IfOk, IfSome, OnErr};
 
     // The bytes, where they are known.
@@ -39,7 +39,7 @@ impl<R: Read + Drop> Source for R {
 }
 
 /// A stream to write to.
-pub trait Sink {
+pub trait Output {
     ghost use Rattle.std.specs.Prelude.{◌≡◌, ℕ, List, Option, IfSome, OnOk, OnErr};
     ghost use Rattle.std.specs.Fmt.{with_newline};
     ghost use Rattle.std.specs.Io.KnownBytes.{Appends};
@@ -55,7 +55,7 @@ pub trait Sink {
     /// # Errors
     ///
     /// A write that failed.
-    fn put(&mut self, text: &str) -> io::Result<()>
+    fn put(&mut self, text: &[u8]) -> io::Result<()>
         ensures put { OnOk result (Appends (contents self.old) (contents self.new) text.now) }
         ensures failed { OnErr result (fails self.old) };
 
@@ -70,13 +70,13 @@ pub trait Sink {
         ensures failed { OnErr result (fails self.old) };
 }
 
-impl<W: Write> Sink for W {
+impl<W: Write> Output for W {
     ghost contents = { λ writer. W.contents writer };
 
     ghost fails = { λ _. Unit {0} };
 
-    fn put(&mut self, text: &str) -> io::Result<()> {
-        self.write_all(text.as_bytes())?;
+    fn put(&mut self, text: &[u8]) -> io::Result<()> {
+        self.write_all(text)?;
         self.flush()
     }
 

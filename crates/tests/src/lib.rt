@@ -16,6 +16,8 @@ mod labels;
 #[cfg(test)]
 mod outboxes;
 #[cfg(test)]
+mod plays;
+#[cfg(test)]
 mod ranges;
 #[cfg(test)]
 mod sandbox;

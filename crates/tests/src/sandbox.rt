@@ -1,7 +1,7 @@
 //! The programs of docs/SANDBOX.md. Their texts are those of the files in examples/, letter by letter.
 
 use command_line::Task;
-use lab::answer;
+use lab::{Outcome, answer};
 use std::alloc::{AllocError, Global};
 use std::process::Abort;
 use std::test::Fail;
@@ -202,13 +202,15 @@ const POINTER_OUT: &str = "; V13: the program ends with a pointer in r0.
 pub(crate) fn verdict(rt: &impl Abort, alloc: Global, text: &str) -> Result<String, AllocError> {
     let name = String::from_str(alloc, "p")?;
     let code = match answer(alloc, &Task::Assemble(name), text.as_bytes()) {
-        Ok(code) => code,
+        Ok(Outcome::Text(code)) => code,
+        Ok(Outcome::Campaign(_)) => return String::from_str(alloc, "a campaign"),
         Err(refusal) => return refusal.to_string(alloc),
     };
     let bytes = hex::decode(alloc, code.trim_end()).expect(rt, "hex");
     let name = String::from_str(alloc, "p")?;
     match answer(alloc, &Task::Check(name), bytes.as_slice()) {
-        Ok(lines) => Ok(lines),
+        Ok(Outcome::Text(lines)) => Ok(lines),
+        Ok(Outcome::Campaign(_)) => String::from_str(alloc, "a campaign"),
         Err(refusal) => refusal.to_string(alloc),
     }
 }

@@ -18,7 +18,7 @@ fn row(
     let (status, printed, fault) = expected;
     let mut out = Vec::new(alloc);
     let mut complaint = Vec::new(alloc);
-    let answer = serve(alloc, task, bytes, &mut out, &mut complaint);
+    let answer = serve(alloc, task, bytes, None, &mut out, &mut complaint);
     assert_eq!(rt; out.as_slice(), printed.as_bytes());
     assert_eq!(rt; complaint.as_slice(), fault.as_bytes());
     assert_eq!(rt; answer, status);
@@ -359,13 +359,13 @@ fn failing_files_are_told(rt: HostRuntime) -> Result<(), Fail> {
     let task = Task::Check(String::from_str(alloc, "p.bin")?);
     let mut out = Vec::new(alloc);
     let mut complaint = Vec::new(alloc);
-    assert_eq!(rt; serve(alloc, &task, Broken, &mut out, &mut complaint), 1);
+    assert_eq!(rt; serve(alloc, &task, Broken, None, &mut out, &mut complaint), 1);
     assert_eq!(rt; out.as_slice(), b"".as_slice());
     assert_eq!(rt; complaint.as_slice(), b"fault read p.bin\n".as_slice());
 
     let bytes = b"\xb7\0\0\0\x2a\0\0\0\x95\0\0\0\0\0\0\0".as_slice();
     let mut complaint = Vec::new(alloc);
-    assert_eq!(rt; serve(alloc, &task, bytes, &mut Broken, &mut complaint), 1);
+    assert_eq!(rt; serve(alloc, &task, bytes, None, &mut Broken, &mut complaint), 1);
     assert_eq!(rt; complaint.as_slice(), b"fault write\n".as_slice());
     Ok(())
 }

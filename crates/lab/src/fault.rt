@@ -1,0 +1,59 @@
+ghost use Rattle.std.specs.Prelude.{◌≡◌};
+ghost use Rattle.lab.specs.Faults.{fault_of, status_of};
+
+use crate::refusal::Refusal;
+use std::fmt;
+
+/// Why a task was not done.
+#[derive(Debug, Drop)]
+pub(crate) enum Fault<'a> {
+    /// The file of this name could not be read.
+    Read(&'a str),
+    /// The file of this name is no text in UTF-8.
+    Text(&'a str),
+    /// What a file has is refused.
+    Refused(Refusal),
+    /// The output failed.
+    Write,
+    /// Want of memory.
+    Memory,
+}
+
+impl fmt::Display for Fault<'_> {
+    ghost use Rattle.lab.specs.Faults.{fault_text};
+
+    ghost output = { fault_text };
+
+    fn fmt<W: fmt::Write>(&self, f: &mut fmt::Formatter<W>) -> fmt::Result {
+        match self {
+            Fault::Read(file) => write!(f, "fault read {file}"),
+            Fault::Text(file) => write!(f, "fault text {file}"),
+            Fault::Refused(refusal) => write!(f, "refused {refusal}"),
+            Fault::Write => f.write_str("fault write"),
+            Fault::Memory => f.write_str("out of memory"),
+        }
+    }
+}
+
+impl<'a> Fault<'a> {
+    /// The fault of a file with this name.
+    pub(crate) fn of(refusal: Refusal, file: &'a str) -> Fault<'a>
+        ensures { result ≡ fault_of refusal file.entry }
+    {
+        match refusal {
+            Refusal::Memory => Fault::Memory,
+            Refusal::NotText => Fault::Text(file),
+            refusal => Fault::Refused(refusal),
+        }
+    }
+
+    /// The exit status.
+    pub(crate) fn status(&self) -> u8
+        ensures { result ≡ status_of self.now }
+    {
+        match self {
+            Fault::Memory => 3,
+            _ => 1,
+        }
+    }
+}

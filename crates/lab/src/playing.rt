@@ -1,0 +1,53 @@
+ghost use Rattle.std.specs.Prelude.{◌≡◌, IfOk, IfErr, Ok};
+ghost use Rattle.scenario.specs.Told.{Tells};
+ghost use Rattle.trace.specs.Schedules.{schedule_told};
+ghost use Rattle.lab.specs.Campaigns.{IsPlayed};
+ghost use Rattle.lab.specs.Refusals.{RefusesScenario, RefusesSchedule, RefusesText};
+
+use crate::refusal::Refusal;
+use crate::texts::text_of;
+use round::Scenario;
+use std::alloc::{AllocError, Global};
+use trace::{Latch, read_schedule, write_chronicle};
+use world::{Schedule, play};
+
+/// The campaign that the bytes tell.
+///
+/// # Errors
+///
+/// The first fault of the scenario, or want of memory.
+pub fn campaign(alloc: Global, bytes: &[u8]) -> Result<Scenario, Refusal>
+    ensures told { IfOk result (Tells bytes.now) }
+    ensures refused { IfErr result (RefusesText RefusesScenario bytes.now) }
+{
+    Ok(scenario::read(alloc, text_of(bytes)?)?)
+}
+
+/// The schedule that the bytes tell.
+///
+/// # Errors
+///
+/// The first line that is none, or want of memory.
+pub fn schedule(alloc: Global, bytes: &[u8]) -> Result<Schedule, Refusal>
+    ensures told { IfOk result (λ schedule. schedule_told bytes.now ≡ Ok schedule) }
+    ensures refused { IfErr result (RefusesText RefusesSchedule bytes.now) }
+{
+    Ok(read_schedule(alloc, text_of(bytes)?)?)
+}
+
+/// The text of the chronicle of the campaign by a schedule. All of it is in memory, some bytes for each word and access
+/// that it tells.
+///
+/// # Errors
+///
+/// `AllocError` where memory is refused.
+pub fn played(alloc: Global, scenario: Scenario, schedule: &Schedule) -> Result<Vec<u8>, AllocError>
+    ensures { IfOk result (λ text. IsPlayed scenario schedule.now text.items) }
+{
+    let chronicle = play(alloc, scenario, schedule)?;
+    let mut latch = Latch::new(Vec::new(alloc));
+    match write_chronicle(&chronicle, &mut latch) {
+        Ok(()) => Ok(latch.into_writer()),
+        Err(_) => Err(AllocError),
+    }
+}

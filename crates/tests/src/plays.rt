@@ -1,0 +1,338 @@
+//! What `play` prints of a campaign, by a schedule and without one.
+
+use command_line::Task;
+use lab::serve;
+use std::alloc::{AllocError, Global};
+use std::io::{self, ErrorKind, Read, Write};
+use std::process::Abort;
+use std::test::Fail;
+
+/// Four generals, of whom the last tells two others the order 0.
+const SWAYED: &[u8] = b"generals = 4
+bound = 1
+commander = 0
+order = 1
+
+[[traitor]]
+general = 3
+asm = '''
+mov r1, 1
+mov r2, 0
+call sway
+mov r1, 2
+mov r2, 0
+call sway
+exit
+'''
+";
+
+const SWAYED_CHRONICLE: &str = "chronicle 1
+generals 4 bound 1 commander 0 order 1
+round 1
+letter 0 loyal
+row 0 1 1 1
+letter 1 loyal
+letter 2 loyal
+letter 3 steps 7
+round 2
+letter 0 loyal
+letter 1 loyal
+row 0 1 1
+letter 2 loyal
+row 0 1 1
+letter 3 steps 7
+row 0 0 0
+decision 1 1
+decision 2 1
+decision 3 traitor 1
+verdict alike yes obeyed yes bound yes
+";
+
+/// Two traitors who agree over the board: who comes first in a round tells the order 0, who comes second the order 1.
+const COLLUSION: &[u8] = b"generals = 7
+bound = 2
+commander = 0
+order = 0
+
+[[traitor]]
+general = 0
+asm = '''
+mov r1, 0
+mov r2, 1
+call board_add
+mov r6, r0
+and r6, 1
+mov r1, 1
+mov r2, r6
+call sway
+mov r1, 2
+mov r2, r6
+call sway
+mov r1, 3
+mov r2, r6
+call sway
+exit
+'''
+
+[[traitor]]
+general = 4
+asm = '''
+mov r1, 0
+mov r2, 1
+call board_add
+mov r6, r0
+and r6, 1
+mov r1, 1
+mov r2, r6
+call sway
+mov r1, 2
+mov r2, r6
+call sway
+mov r1, 3
+mov r2, r6
+call sway
+exit
+'''
+";
+
+/// A file that can be read, or one that cannot.
+#[derive(Clone, Copy, Drop)]
+enum File<'a> {
+    Bytes(&'a [u8]),
+    Broken,
+}
+
+impl Read for File<'_> {
+    fn read(&mut self, buf: &mut [u8]) -> io::Result<usize> {
+        match self {
+            File::Bytes(bytes) => bytes.read(buf),
+            File::Broken => Err(io::Error::from(ErrorKind::Other)),
+        }
+    }
+}
+
+/// A writer that fails.
+#[derive(Drop)]
+struct Full;
+
+impl Write for Full {
+    fn write(&mut self, _buf: &[u8]) -> io::Result<usize> {
+        Err(io::Error::from(ErrorKind::Other))
+    }
+
+    fn flush(&mut self) -> io::Result<()> {
+        Err(io::Error::from(ErrorKind::Other))
+    }
+}
+
+/// The words `play c.toml --schedule s.txt`, or without a schedule.
+fn task(alloc: Global, has_schedule: bool) -> Result<Task, AllocError> {
+    let scenario = String::from_str(alloc, "c.toml")?;
+    let schedule = if has_schedule {
+        Some(String::from_str(alloc, "s.txt")?)
+    } else {
+        None
+    };
+    Ok(Task::Play { scenario, schedule })
+}
+
+/// `play` on these files has this status, and prints this and this fault.
+fn row(
+    rt: &impl Abort,
+    alloc: Global,
+    scenario: File,
+    schedule: Option<File>,
+    expected: (u8, &str, &str),
+) -> Result<(), Fail> {
+    let (status, printed, fault) = expected;
+    let task = task(alloc, schedule.is_some())?;
+    let mut out = Vec::new(alloc);
+    let mut complaint = Vec::new(alloc);
+    let answer = serve(alloc, &task, scenario, schedule, &mut out, &mut complaint);
+    assert_eq!(rt; complaint.as_slice(), fault.as_bytes());
+    assert_eq!(rt; out.as_slice(), printed.as_bytes());
+    assert_eq!(rt; answer, status);
+    Ok(())
+}
+
+#[test]
+fn a_swaying_traitor_is_played(rt: HostRuntime) -> Result<(), Fail> {
+    let alloc = rt.alloc();
+    let scenario = File::Bytes(SWAYED);
+    let expected = (0, SWAYED_CHRONICLE, "");
+    row(&rt, alloc, scenario, None, expected)?;
+    for schedule in [b"".as_slice(), b"3*4096 3 12\n", b"3*7 0 1\n\n"] {
+        row(&rt, alloc, scenario, Some(File::Bytes(schedule)), expected)?;
+    }
+    Ok(())
+}
+
+/// What `play` prints of the two who agree over the board.
+fn collusion(rt: &impl Abort, alloc: Global, schedule: &[u8]) -> Result<String, Fail> {
+    let task = task(alloc, true)?;
+    let mut out = Vec::new(alloc);
+    let mut complaint = Vec::new(alloc);
+    let answer = serve(
+        alloc,
+        &task,
+        COLLUSION,
+        Some(schedule),
+        &mut out,
+        &mut complaint,
+    );
+    assert_eq!(rt; answer, 0);
+    Ok(String::from_utf8(out).expect(rt, "UTF-8"))
+}
+
+#[test]
+fn a_schedule_decides_who_comes_first(rt: HostRuntime) -> Result<(), Fail> {
+    let alloc = rt.alloc();
+    for (schedule, accesses, order) in [
+        (
+            b"".as_slice(),
+            "round 1\naccess 0 add 0 1 = 0\naccess 4 add 0 1 = 1\nletter 0 steps 15\n",
+            0,
+        ),
+        (
+            b"4*15\n",
+            "round 1\naccess 4 add 0 1 = 0\naccess 0 add 0 1 = 1\nletter 0 steps 15\n",
+            1,
+        ),
+        (
+            b"4*15\n4*15\n",
+            "round 2\naccess 4 add 0 1 = 2\naccess 0 add 0 1 = 3\nletter 0 steps 15\n",
+            0,
+        ),
+    ] {
+        let chronicle = collusion(&rt, alloc, schedule)?;
+        assert!(rt; chronicle.contains(accesses));
+        for general in [1, 2, 3, 5, 6] {
+            let line = format!(in alloc; "\ndecision {general} {order}\n")?;
+            assert!(rt; chronicle.contains(line.as_str()));
+        }
+        assert!(rt; chronicle.ends_with("\nverdict alike yes obeyed - bound yes\n"));
+    }
+    Ok(())
+}
+
+/// A scenario of four generals with this behind its numbers.
+fn four_with(alloc: Global, rest: &str) -> Result<String, AllocError> {
+    format!(in alloc; "generals = 4\nbound = 1\ncommander = 0\norder = 1\n{rest}")
+}
+
+#[test]
+fn scenarios_are_refused(rt: HostRuntime) -> Result<(), Fail> {
+    let alloc = rt.alloc();
+    for (text, fault) in [
+        ("generals = ", "refused S1\n"),
+        ("generals = 4\n", "refused S2 bound\n"),
+        ("generals = 4\nsize = 4\n", "refused S2 size\n"),
+        ("generals = '4'\n", "refused S3 generals\n"),
+        ("generals = 14\n", "refused S4 generals\n"),
+        ("generals = 4\nbound = 3\n", "refused S4 bound\n"),
+        (
+            "generals = 4\nbound = 1\ncommander = 4\n",
+            "refused S5 commander\n",
+        ),
+    ] {
+        let scenario = File::Bytes(text.as_bytes());
+        row(&rt, alloc, scenario, None, (1, "", fault))?;
+    }
+    Ok(())
+}
+
+#[test]
+fn traitors_are_refused(rt: HostRuntime) -> Result<(), Fail> {
+    let alloc = rt.alloc();
+    for (traitors, fault) in [
+        (
+            "[[traitor]]\ngeneral = 3\nasm = 'mov r0, 0\nexit'\n",
+            "refused S1\n",
+        ),
+        ("[[traitor]]\ngeneral = 3\n", "refused S2 traitor[0].asm\n"),
+        ("traitor = [1]\n", "refused S3 traitor[0]\n"),
+        ("board = [-1]\n", "refused S4 board[0]\n"),
+        (
+            "[[traitor]]\ngeneral = 4\ncode = ''\n",
+            "refused S5 traitor[0].general\n",
+        ),
+        (
+            "[[traitor]]\ngeneral = 3\ncode = 'b70000002a0000009500000000000000'\n\
+             [[traitor]]\ngeneral = 3\ncode = 'b70000002a0000009500000000000000'\n",
+            "refused S6 traitor[1].general\n",
+        ),
+        (
+            "[[traitor]]\ngeneral = 3\ncode = ''\n",
+            "refused S7 traitor 3 C8 unit 0\n",
+        ),
+        (
+            "[[traitor]]\ngeneral = 3\ncode = '9'\n",
+            "refused S7 traitor 3 hex\n",
+        ),
+        (
+            "[[traitor]]\ngeneral = 3\nasm = 'foo'\n",
+            "refused S7 traitor 3 A2 line 1\n",
+        ),
+        (
+            "[[traitor]]\ngeneral = 3\ncode = '9500000000000000'\n",
+            "refused S8 traitor 3 V5 unit 0\n",
+        ),
+    ] {
+        let text = four_with(alloc, traitors)?;
+        let scenario = File::Bytes(text.as_bytes());
+        row(&rt, alloc, scenario, None, (1, "", fault))?;
+    }
+    Ok(())
+}
+
+#[test]
+fn schedules_are_refused(rt: HostRuntime) -> Result<(), Fail> {
+    let alloc = rt.alloc();
+    for (schedule, fault) in [
+        (b"13\n".as_slice(), "refused X1 line 1\n"),
+        (b"0 1\n0  1\n", "refused X1 line 2\n"),
+        (b"0*0", "refused X1 line 1\n"),
+        (b"\n\n\n\n\n\n", "refused X1 line 6\n"),
+    ] {
+        let schedule = Some(File::Bytes(schedule));
+        row(&rt, alloc, File::Bytes(SWAYED), schedule, (1, "", fault))?;
+    }
+    Ok(())
+}
+
+#[test]
+fn the_scenario_is_looked_through_first(rt: HostRuntime) -> Result<(), Fail> {
+    let alloc = rt.alloc();
+    let refused = File::Bytes(b"generals = 14\n");
+    let expected = (1, "", "refused S4 generals\n");
+    for schedule in [File::Broken, File::Bytes(b"\xff"), File::Bytes(b"13\n")] {
+        row(&rt, alloc, refused, Some(schedule), expected)?;
+    }
+    Ok(())
+}
+
+#[test]
+fn files_at_fault_are_named(rt: HostRuntime) -> Result<(), Fail> {
+    let alloc = rt.alloc();
+    let scenario = File::Bytes(SWAYED);
+    let expected = (1, "", "fault read c.toml\n");
+    row(&rt, alloc, File::Broken, None, expected)?;
+    row(&rt, alloc, File::Broken, Some(File::Broken), expected)?;
+    let expected = (1, "", "fault text c.toml\n");
+    row(&rt, alloc, File::Bytes(b"\xff"), None, expected)?;
+    let expected = (1, "", "fault read s.txt\n");
+    row(&rt, alloc, scenario, Some(File::Broken), expected)?;
+    let expected = (1, "", "fault text s.txt\n");
+    row(&rt, alloc, scenario, Some(File::Bytes(b"\xff")), expected)
+}
+
+#[test]
+fn an_output_that_fails_is_told(rt: HostRuntime) -> Result<(), Fail> {
+    let alloc = rt.alloc();
+    let task = task(alloc, false)?;
+    let mut complaint = Vec::new(alloc);
+    let answer = serve(alloc, &task, SWAYED, None, &mut Full, &mut complaint);
+    assert_eq!(rt; answer, 1);
+    assert_eq!(rt; complaint.as_slice(), b"fault write\n".as_slice());
+    Ok(())
+}
