@@ -1,17 +1,15 @@
--- Where two texts part.
-use Rattle.std.specs.Prelude.{ℕ, suc, ◌≡◌, ◌≢◌, ◌+◌, ◌==◌, List, [], ◌∷◌, if◌then◌else◌, slice_get, take}
+-- Where two texts part (own).
+use Rattle.std.specs.Prelude.{ℕ, suc, ◌==◌, List, [], ◌∷◌, if◌then◌else◌, Option, Some, None}
+use Rattle.campaigns.specs.declared.comparing.Outcome.{Outcome}
+use Rattle.campaigns.specs.declared.comparing.Outcome.TheVariants.{AsStored, Differs}
 
--- the texts agree before this place, and differ there
-abbrev pub Parts : List ℕ → List ℕ → ℕ → Type 0
-Parts told stored at = (take at told ≡ take at stored) × (slice_get told at ≢ slice_get stored at)
+-- the line in which two texts first differ, if they do; the given one is their first
+abbrev pub parting : ℕ → List ℕ → List ℕ → Option ℕ
+parting line [] [] = None
+parting line [] (d ∷ ds) = Some line
+parting line (c ∷ cs) [] = Some line
+parting line (c ∷ cs) (d ∷ ds) = if c == d then parting (if c == 10 then suc line else line) cs ds else Some line
 
--- how many line feeds stand in a text
-abbrev pub feeds : List ℕ → ℕ
-feeds [] = 0
-feeds (c ∷ cs) = if c == 10 then suc (feeds cs) else feeds cs
-
--- the texts differ first in this line, counted from 1
-pub record PartAt (told : List ℕ) (stored : List ℕ) (line : ℕ) : Type 0 where
-  pub place : ℕ
-  pub parts : Parts told stored place
-  pub number : line ≡ feeds (take place told) + 1
+abbrev pub outcome_by : Option ℕ → Outcome
+outcome_by None = AsStored
+outcome_by (Some line) = Differs line

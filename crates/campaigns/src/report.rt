@@ -1,5 +1,5 @@
 //! What is printed of an example.
-use crate::comparing::differing_line;
+use crate::comparing::compare;
 use crate::example::Example;
 use crate::playing::chronicle_text;
 use anyhow::{Result, anyhow};
@@ -18,10 +18,8 @@ pub fn report<R: Print + Files + AllocGlobal>(rt: &R, example: &Example) -> Resu
     let told = chronicle_text(alloc, scenario, &schedule)?;
     let stored = fs::read(rt, example.chronicle_file(alloc)?.as_str())?;
     let name = example.name();
-    match differing_line(told.as_slice(), stored.as_slice()) {
-        None => println!(rt; "{name}: as stored")?,
-        Some(line) => println!(rt; "{name}: differs at line {line}")?,
-    }
+    let outcome = compare(told.as_slice(), stored.as_slice());
+    println!(rt; "{name}: {outcome}")?;
     Ok(())
 }
 
