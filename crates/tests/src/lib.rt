@@ -10,6 +10,8 @@ mod bytecode;
 #[cfg(test)]
 mod cells;
 #[cfg(test)]
+mod chronicles;
+#[cfg(test)]
 mod known_bits;
 #[cfg(test)]
 mod labels;
