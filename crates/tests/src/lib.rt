@@ -8,6 +8,8 @@ mod boards;
 #[cfg(test)]
 mod bytecode;
 #[cfg(test)]
+mod campaigns;
+#[cfg(test)]
 mod cells;
 #[cfg(test)]
 mod known_bits;
@@ -22,6 +24,8 @@ mod sandbox;
 #[cfg(test)]
 mod sandbox_calls;
 #[cfg(test)]
+mod scenarios;
+#[cfg(test)]
 mod serving;
 #[cfg(test)]
 mod tables;
@@ -33,3 +37,5 @@ mod trees;
 mod verdicts;
 #[cfg(test)]
 mod words;
+#[cfg(test)]
+mod worlds;
