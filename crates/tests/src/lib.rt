@@ -16,9 +16,13 @@ mod known_bits;
 #[cfg(test)]
 mod labels;
 #[cfg(test)]
+mod lives;
+#[cfg(test)]
 mod outboxes;
 #[cfg(test)]
 mod ranges;
+#[cfg(test)]
+mod rounds;
 #[cfg(test)]
 mod sandbox;
 #[cfg(test)]

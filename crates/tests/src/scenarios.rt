@@ -73,6 +73,15 @@ pub fn with_traitor(
     Ok(format!(in alloc; "{head}{traitor}")?)
 }
 
+/// The program that swaps word 5 of the board for 1, and then gets word 6: six instructions.
+const SPYING: &str = "mov r1, 5
+mov r2, 1
+call board_swap
+mov r1, 6
+call board_get
+exit
+";
+
 /// The text of a campaign in which these generals have this program.
 fn with_program(alloc: Global, head: &str, program: &str, generals: &[u8]) -> Result<String, Fail> {
     let mut text = String::from_str(alloc, head)?;
@@ -88,6 +97,11 @@ fn with_program(alloc: Global, head: &str, program: &str, generals: &[u8]) -> Re
 /// The text of a campaign in which 0 and 4 tell 1, 2 and 3 whether they came to the board second.
 pub fn counted(alloc: Global, head: &str) -> Result<String, Fail> {
     with_program(alloc, head, COUNTING, &[0, 4])
+}
+
+/// The text of a campaign in which 5 swaps a word of the board, and gets another.
+pub fn spying(alloc: Global) -> Result<String, Fail> {
+    with_program(alloc, SEVEN, SPYING, &[5])
 }
 
 /// The text of a campaign in which 9 to 12 take 4,096 steps and tell nothing.
