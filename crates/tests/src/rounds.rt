@@ -243,15 +243,22 @@ fn are_due(tree: &Tree, letters: &[Letter]) -> bool
     true
 }
 
-/// Fills in what the letters of these rounds tell the tree's lieutenant.
-fn fill(tree: &mut Tree, rounds: &[Round]) -> Result<(), Fail> {
-    for round in rounds {
-        if !are_due(tree, round.letters()) {
-            return Err("letters of another round")?;
-        }
-        deliver(round.letters(), tree);
+/// Fills in what the letters of a round tell the tree's lieutenant.
+fn fill(tree: &mut Tree, round: &Round) -> Result<(), Fail> {
+    if !are_due(tree, round.letters()) {
+        return Err("letters of another round")?;
     }
+    deliver(round.letters(), tree);
     Ok(())
+}
+
+/// What the commander 0, and 2 and 3 about him, have told.
+fn orders(tree: &Tree) -> [Option<u32>; 3] {
+    [
+        tree.value(&Label::of(0)),
+        tree.value(&Label::of(0).with(2)),
+        tree.value(&Label::of(0).with(3)),
+    ]
 }
 
 #[test]
@@ -259,14 +266,12 @@ fn letters_fill_a_tree(rt: HostRuntime) -> Result<(), Fail> {
     let alloc = rt.alloc();
     let chronicle = played(alloc, swayed(alloc)?.as_str(), "")?;
     let mut tree = Tree::new(alloc, 4, 1, 0, 1)?;
-    let (first, rest) = chronicle.letters().split_at(1);
-    fill(&mut tree, first)?;
-    assert_eq!(rt; tree.level(1), [Some(1)].as_slice());
-    assert_eq!(rt; tree.level(2), [None, None].as_slice());
-    fill(&mut tree, rest)?;
-    assert_eq!(rt; tree.level(1), [Some(1)].as_slice());
-    assert_eq!(rt; tree.level(2), [Some(1), Some(0)].as_slice());
-    assert_eq!(rt; tree.value(&Label::of(0).with(2)), Some(1));
-    assert_eq!(rt; tree.value(&Label::of(0).with(3)), Some(0));
+    let mut filled = Vec::new(alloc);
+    for round in chronicle.letters() {
+        fill(&mut tree, round)?;
+        filled.push(orders(&tree))?;
+    }
+    let expected = [[Some(1), None, None], [Some(1), Some(1), Some(0)]];
+    assert_eq!(rt; filled.as_slice(), expected.as_slice());
     Ok(())
 }
