@@ -1,12 +1,14 @@
-//! `bench`, which times the codec, the verifier, the machine and trees: what it measures goes to standard
+//! `bench`, which times the codec, the verifier, the machine, trees, rounds and campaigns: what it measures goes to standard
 //! output, which is the same at every run, and the times go to standard error.
 #![tactic(auto)]
 
 mod bytecode;
+mod campaigns;
 mod figure;
 mod median;
 mod plain;
 mod report;
+mod rounds;
 mod shape;
 mod trees;
 mod work;
@@ -15,5 +17,7 @@ use anyhow::Result;
 
 fn main(rt: HostRuntime) -> Result<()> {
     report::report(&rt)?;
-    trees::report_trees(&rt)
+    trees::report_trees(&rt)?;
+    rounds::report_rounds(&rt)?;
+    campaigns::report_campaigns(&rt)
 }

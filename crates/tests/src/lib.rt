@@ -8,6 +8,8 @@ mod boards;
 #[cfg(test)]
 mod bytecode;
 #[cfg(test)]
+mod campaigns;
+#[cfg(test)]
 mod cells;
 #[cfg(test)]
 mod chronicles;
@@ -16,15 +18,21 @@ mod known_bits;
 #[cfg(test)]
 mod labels;
 #[cfg(test)]
+mod lives;
+#[cfg(test)]
 mod outboxes;
 #[cfg(test)]
 mod plays;
 #[cfg(test)]
 mod ranges;
 #[cfg(test)]
+mod rounds;
+#[cfg(test)]
 mod sandbox;
 #[cfg(test)]
 mod sandbox_calls;
+#[cfg(test)]
+mod scenarios;
 #[cfg(test)]
 mod serving;
 #[cfg(test)]
@@ -37,3 +45,5 @@ mod trees;
 mod verdicts;
 #[cfg(test)]
 mod words;
+#[cfg(test)]
+mod worlds;

@@ -1,0 +1,187 @@
+//! Times the contexts of a round, and the delivery of its letters.
+ghost use Rattle.std.specs.Prelude.{◌≡◌, ◌≤◌, suc, List, IsTrue, IfOk, length};
+ghost use Rattle.round.specs.Letters.{Letter as Written};
+ghost use Rattle.round.specs.Scenario.{shape_of};
+ghost use Rattle.round.specs.Told.{AreLettersOf, AreRoundsOf, WasTold};
+
+use crate::campaigns::scenario_of;
+use crate::median::median;
+use anyhow::{Result, bail};
+use round::{Letter, Round, Scenario, Told};
+use std::alloc::{AllocError, Global};
+use std::rt::Clock;
+use std::time::Instant;
+use world::{Schedule, play};
+
+/// How often each piece of work is timed.
+const TIMES: usize = 25;
+
+/// Thirteen loyal generals, of whom each lieutenant relays 990 labels in the last round.
+const THIRTEEN: &str = "generals = 13\nbound = 4\ncommander = 0\norder = 1\n";
+
+/// Measures the last round of thirteen generals. What was measured is printed on standard output, the figures on
+/// standard error.
+pub fn report_rounds<R: Print + Eprint + Clock + AllocGlobal>(rt: &R) -> Result<()> {
+    let alloc = rt.alloc();
+    let schedule = Schedule {
+        lines: Vec::new(alloc),
+    };
+    let chronicle = play(alloc, scenario_of(alloc, THIRTEEN)?, &schedule)?;
+    let scenario = chronicle.scenario();
+    let Some((last, before)) = chronicle.letters().split_last() else {
+        bail!("a campaign has a round");
+    };
+    if before.len() > usize::from(scenario.bound()) || !are_rounds_of(scenario, before) {
+        bail!("letters of another campaign");
+    }
+    let mut told = told_by(alloc, scenario, before)?;
+    report_context(rt, scenario, &told)?;
+    report_delivery(rt, scenario, &mut told, last.letters())
+}
+
+/// Whether the letter is of this round of the campaign.
+fn is_of_round(scenario: &Scenario, round: u32, letter: &Letter) -> bool
+    ensures { IsTrue result → ((letter.now.round ≡ round) × (letter.now.outbox.shape ≡ shape_of scenario.now letter.now.general round)) }
+{
+    let shape = letter.outbox.shape();
+    letter.round == round
+        && shape.generals == u32::from(scenario.generals())
+        && shape.commander == u32::from(scenario.commander())
+        && shape.general == letter.general
+        && shape.round == round
+}
+
+/// Whether the letters are of this round of the campaign.
+fn are_of_round(scenario: &Scenario, round: u32, letters: &[Letter]) -> bool
+    ensures { IsTrue result → AreLettersOf scenario.now round letters.now }
+{
+    for letter in letters {
+        if !is_of_round(scenario, round, letter) {
+            return false;
+        }
+    }
+    true
+}
+
+/// Whether the letters of each round are of that round of the campaign.
+fn are_rounds_of(scenario: &Scenario, rounds: &[Round]) -> bool
+    ensures { IsTrue result → AreRoundsOf scenario.now rounds.now }
+{
+    let mut number = 0;
+    for round in rounds {
+        if number == u32::MAX || !are_of_round(scenario, number + 1, round.letters()) {
+            return false;
+        }
+        number += 1;
+    }
+    true
+}
+
+/// What the letters of these rounds have told.
+fn told_by(alloc: Global, scenario: &Scenario, rounds: &[Round]) -> Result<Told, AllocError>
+    requires few { length rounds.now ≤ scenario.now.bound }
+    requires letters { AreRoundsOf scenario.now rounds.now }
+    ensures { IfOk result (WasTold scenario.now rounds.now) }
+{
+    let mut told = Told::new(alloc, scenario)?;
+    for round in rounds {
+        told.deliver(scenario, round.letters());
+    }
+    Ok(told)
+}
+
+fn report_context<R: Print + Eprint + Clock + AllocGlobal>(
+    rt: &R,
+    scenario: &Scenario,
+    told: &Told,
+) -> Result<()>
+    requires told { (before : List (List Written)) × WasTold scenario.now before told.now }
+    requires left { told.now.rounds ≤ scenario.now.bound }
+{
+    let mut sum = 0;
+    let time = context_time(rt.alloc(), rt, scenario, told, &mut sum)?;
+    println!(rt; "context, the last of thirteen generals in the last round")?;
+    eprintln!(rt;
+        "context, the last of thirteen generals in the last round: {time} ns, sum {sum}"
+    )?;
+    Ok(())
+}
+
+/// The median time of a general's context, in nanoseconds.
+fn context_time<C: Clock>(
+    alloc: Global,
+    clock: &C,
+    scenario: &Scenario,
+    told: &Told,
+    sum: &mut u64,
+) -> Result<u64>
+    requires told { (before : List (List Written)) × WasTold scenario.now before told.now }
+    requires left { told.now.rounds ≤ scenario.now.bound }
+{
+    let general = scenario.generals() - 1;
+    let mut times = Vec::with_capacity(alloc, TIMES)?;
+    for _ in 0..TIMES {
+        let start = Instant::now(clock)?;
+        let context = told.context(alloc, scenario, general)?;
+        times.push(u64::try_from(start.elapsed(clock)?.as_nanos())?)?;
+        *sum = sum.wrapping_add(context.as_slice().get(32).copied().map_or(0, u64::from));
+    }
+    Ok(median(&mut times).unwrap_or(0))
+}
+
+fn report_delivery<R: Print + Eprint + Clock + AllocGlobal>(
+    rt: &R,
+    scenario: &Scenario,
+    told: &mut Told,
+    letters: &[Letter],
+) -> Result<()>
+    requires told { (before : List (List Written)) × WasTold scenario.now before told.old }
+    requires left { told.old.rounds ≤ scenario.now.bound }
+{
+    let time = delivery_time(rt.alloc(), rt, scenario, told, letters)?;
+    println!(rt; "delivery, the last round of thirteen generals: 12 trees")?;
+    eprintln!(rt; "delivery, the last round of thirteen generals: {time} ns")?;
+    Ok(())
+}
+
+/// The median time of the delivery of a round's letters to all lieutenants, in nanoseconds.
+fn delivery_time<C: Clock>(
+    alloc: Global,
+    clock: &C,
+    scenario: &Scenario,
+    told: &mut Told,
+    letters: &[Letter],
+) -> Result<u64>
+    requires told { (before : List (List Written)) × WasTold scenario.now before told.old }
+    requires left { told.old.rounds ≤ scenario.now.bound }
+{
+    let _few = scenario.bound();
+    if !are_of_round(scenario, u32::from(told.rounds()) + 1, letters) {
+        bail!("letters of another round");
+    }
+    let mut times = Vec::with_capacity(alloc, TIMES)?;
+    for _ in 0..TIMES {
+        times.push(deliver_once(clock, scenario, told, letters)?)?;
+    }
+    Ok(median(&mut times).unwrap_or(0))
+}
+
+/// The time of one delivery, which is then taken back.
+fn deliver_once<C: Clock>(
+    clock: &C,
+    scenario: &Scenario,
+    told: &mut Told,
+    letters: &[Letter],
+) -> Result<u64>
+    requires told { (before : List (List Written)) × WasTold scenario.now before told.old }
+    requires left { told.old.rounds ≤ scenario.now.bound }
+    requires letters { AreLettersOf scenario.now (suc told.old.rounds) letters.now }
+    ensures told { (before : List (List Written)) → WasTold scenario.now before told.old → WasTold scenario.now before told.new }
+    ensures rounds { told.new.rounds ≡ told.old.rounds }
+{
+    let start = Instant::now(clock)?;
+    told.deliver(scenario, letters);
+    let time = start.elapsed(clock);
+    told.forget(scenario);
+    Ok(u64::try_from(time?.as_nanos())?)
+}
