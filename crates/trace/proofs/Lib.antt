@@ -6,6 +6,7 @@ pub mod DecisionLemmas
 pub mod Splitting
 pub mod Plain
 pub mod Naming
+pub mod Generals
 pub mod Sound
 mod Printed
 mod TwoGenerals

@@ -1,5 +1,6 @@
 pub mod Text
 pub mod Names
+pub mod Marks
 pub mod Laws
 pub mod Schedules
 pub mod Left

@@ -2,11 +2,13 @@
 #![tactic(auto)]
 
 mod chronicling;
+mod comparing;
 mod fault;
 mod heading;
 mod laws;
 mod letters;
 mod lines;
+mod named;
 mod scheduling;
 mod sink;
 mod version;
