@@ -8,6 +8,9 @@ pub mod Plain
 pub mod Naming
 pub mod Generals
 pub mod Sound
+pub mod ShapeLemmas
+pub mod Differences
+pub mod AuditLemmas
 mod Printed
 mod TwoGenerals
 mod TraitorLieutenant

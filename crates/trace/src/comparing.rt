@@ -1,5 +1,5 @@
 //! Two texts, compared as the one is written.
-ghost use Rattle.std.specs.Prelude.{◌≡◌, ◌≤◌, ◌++◌, Bool, true, None, Some, is_some, length, slice_get, take};
+ghost use Rattle.std.specs.Prelude.{◌≡◌, ◌<◌, ◌≤◌, true, false, IfNone, IfSome, None, is_some, length, slice_get};
 
 use crate::sink::Sink;
 
@@ -20,7 +20,10 @@ pub struct Comparison<'a> {
 
 impl<'a> Comparison<'a> {
     /// A comparison with this text, which has taken nothing.
-    pub fn new(text: &'a [u8]) -> Comparison<'a> {
+    pub fn new(text: &'a [u8]) -> Comparison<'a>
+        ensures text { result.text.now ≡ text.now }
+        ensures fresh { (result.same ≡ 0) × (result.other ≡ None) × (result.failed ≡ false) }
+    {
         Comparison {
             text,
             same: 0,
@@ -28,12 +31,25 @@ impl<'a> Comparison<'a> {
             failed: false,
         }
     }
+
+    /// The place of the first difference, none where it has taken all of the text and nothing else.
+    pub fn difference(&self) -> Option<usize>
+        ensures none { IfNone result ((self.now.other ≡ None) × (self.now.same ≡ length self.now.text.now)) }
+        ensures some { IfSome result (λ place. (place ≡ self.now.same) × (self.now.other ≡ None → place < length self.now.text.now)) }
+    {
+        if self.other.is_none() && self.same == self.text.len() {
+            None
+        } else {
+            Some(self.same)
+        }
+    }
 }
 
 impl<'a> Sink for Comparison<'a> {
-    ghost use Rattle.trace.specs.Marks.{listed};
+    ghost use Rattle.trace.specs.Compared.{compared, taken};
 
-    ghost contents = { λ c. Some (take c.same c.text.now ++ listed c.other) };
+    // What it has taken, behind the text itself: so the text is known to stay the same.
+    ghost contents = { λ c. compared c.text.now (taken c.text.now c.same c.other) };
 
     ghost has_failed = { λ c. c.failed };
 

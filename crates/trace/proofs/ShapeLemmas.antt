@@ -1,0 +1,21 @@
+-- The lines of a text, one after the other.
+use Rattle.std.proofs.Common.{◌≡◌, ℕ, suc, ◌<◌, ◌≤◌, Bool, true, false, List, [], ◌∷◌, length, Option, Some, None, refl, arith}
+use Rattle.std.specs.Prelude.{if◌then◌else◌, ◌==◌, ◌&&◌, nat_lt}
+use Rattle.std.proofs.lemmas.Bool.Decides.{nat_tests}
+use Rattle.text.specs.Stop.{feed}
+use Rattle.text.specs.Parts.{pieces}
+use Rattle.text.proofs.PartsLemmas.{pieces_is}
+use Rattle.trace.specs.Shapes.{is_shaped, unshaped_from}
+
+-- a line with its LF is looked at for its shape
+line_by : (number : ℕ) (line next : List ℕ) (lines : List (List ℕ)) → unshaped_from number (line ∷ next ∷ lines) ≡ (if is_shaped line then unshaped_from (suc number) (next ∷ lines) else Some number)
+line_by number line next lines = refl
+
+by_shape : (number : ℕ) (line rest : List ℕ) → unshaped_from number (line ∷ pieces feed rest) ≡ (if is_shaped line then unshaped_from (suc number) (pieces feed rest) else Some number)
+by_shape number line rest = rw (pieces_is feed rest) refl
+
+pub shaped_line : (number : ℕ) (line rest : List ℕ) → is_shaped line ≡ true → unshaped_from number (line ∷ pieces feed rest) ≡ unshaped_from (suc number) (pieces feed rest)
+shaped_line number line rest h = let e = by_shape number line rest in rw (e, h) refl
+
+pub unshaped_line : (number : ℕ) (line rest : List ℕ) → is_shaped line ≡ false → Some number ≡ unshaped_from number (line ∷ pieces feed rest)
+unshaped_line number line rest h = let e = by_shape number line rest in rw (e, h) refl
