@@ -1,6 +1,6 @@
 -- A text and what was written to a sink that compares with it.
 use Rattle.std.proofs.Common.{◌≡◌, ◌≢◌, ℕ, zero, suc, ◌+◌, ◌<◌, ◌≤◌, Bool, true, false, List, [], ◌∷◌, ◌++◌, length, take, drop, Option, Some, None, refl, sym, ap, subst, ◌∙◌, append_assoc, append-nil, arith}
-use Rattle.std.specs.Prelude.{slice_get, is_some}
+use Rattle.std.specs.Prelude.{slice_get, is_some, IfNone, IfSome}
 use Rattle.std.specs.Io.KnownBytes.{Appends}
 use Rattle.trace.specs.Marks.{listed}
 use Rattle.trace.specs.Compared.{taken, compared}
@@ -99,3 +99,21 @@ first_difference text now written same other failed place w within differs refus
     } in
     subst (λ p. IsFirstDifference text written p) (sym e.0)
     (subst (λ t. IsFirstDifference t written same) k.0 (subst (λ u. IsFirstDifference now u same) (sym w.parts) there))
+
+-- a comparison that began with the text
+pub started : (text first written : List ℕ) (same : ℕ) (other : Option ℕ) (failed : Bool) (new : Option (List ℕ)) (after : Bool)
+    → first ≡ text → (same ≡ 0) × (other ≡ None) × (failed ≡ false) → Wrote (compared first (taken first same other)) failed written new after → Wrote (compared text []) false written new after
+started text first written same other failed new after e fresh w =
+    subst (λ t. Wrote (compared t (taken t 0 None)) false written new after) e
+    (subst (λ n. Wrote (compared first (taken first n None)) false written new after) fresh.0
+    (subst (λ o. Wrote (compared first (taken first same o)) false written new after) fresh.1
+    (subst (λ b. Wrote (compared first (taken first same other)) b written new after) fresh.2 w)))
+
+-- what follows in either case
+pub if_none : {P Q : Type 0} (r : Option ℕ) → (P → Q) → IfNone r P → IfNone r Q
+if_none None f h = f h
+if_none (Some n) f h = tt
+
+pub if_some : {P Q : ℕ → Type 0} (r : Option ℕ) → ((n : ℕ) → P n → Q n) → IfSome r P → IfSome r Q
+if_some None f h = tt
+if_some (Some n) f h = f n h

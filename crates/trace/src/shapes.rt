@@ -65,7 +65,7 @@ fn behind<'a>(shape: &[u8], line: &'a [u8]) -> Option<Option<&'a [u8]>>
 }
 
 /// Whether a line has the words of a shape and no others.
-#[tactic(auto, unfolding(crate::specs::Shapes::fits))]
+#[tactic(auto, using(crate::proofs::ShapeLemmas::more_left), unfolding(crate::specs::Shapes::fits))]
 fn fits(shape: &[u8], line: &[u8]) -> bool
     ensures { result ≡ fits shape.now (pieces space line.now) }
 {
@@ -207,21 +207,23 @@ fn is_shaped(line: &[u8]) -> bool
 }
 
 /// The first line of a text, counted from 1, that has no shape or no line feed behind it; an empty text has one.
+#[tactic(auto, using(crate::proofs::ShapeLemmas::shaped_line, crate::proofs::ShapeLemmas::unshaped_line))]
 pub fn unshaped(text: &[u8]) -> Option<u64>
     ensures { result ≡ unshaped_from 1 (pieces feed text.now) }
 {
-    let mut rest = text;
+    let mut rest = Some(text);
     let mut number = 1;
-    while let (line, Some(behind)) = piece(FEED, rest) {
-        if !is_shaped(line) {
+    while let Some(lines) = rest {
+        let (line, behind) = piece(FEED, lines);
+        let is_right = match behind {
+            Some(_) => is_shaped(line),
+            None => line.is_empty() && number > 1,
+        };
+        if !is_right {
             return Some(number);
         }
         rest = behind;
         number += 1;
     }
-    if rest.is_empty() && number > 1 {
-        None
-    } else {
-        Some(number)
-    }
+    None
 }
