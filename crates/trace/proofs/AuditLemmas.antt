@@ -1,5 +1,5 @@
 -- An audit's answer and the texts of replays.
-use Rattle.std.proofs.Common.{◌≡◌, ◌≢◌, ℕ, suc, ◌+◌, ◌-◌, ◌<◌, ◌≤◌, Bool, true, false, List, [], ◌∷◌, ◌++◌, length, map, take, drop, Option, Some, None, Result, Ok, Err, IfOk, Vec, refl, sym, ap, subst, ◌∙◌, arith}
+use Rattle.std.proofs.Common.{◌≡◌, ◌≢◌, ℕ, ◌-◌, Bool, true, false, List, [], ◌∷◌, length, map, take, drop, Some, None, Result, Ok, Err, IfOk, Vec, refl, sym, ap, subst, ◌∙◌, arith}
 use Rattle.std.specs.Prelude.{slice_get, bytes_eq, codes, if◌then◌else◌}
 use Rattle.std.specs.Global.{Global}
 use Rattle.std.proofs.lemmas.List.{take_all}
@@ -102,5 +102,5 @@ unfolding replay_of names_of
 replayed_ok s copy t items lists (Err x) e same h d = tt
 replayed_ok s copy t items lists (Ok c) e same h d =
     let names : lists_in (take (length lists - 1) (drop 1 lists)) ≡ (named (map (pieces space) (pieces feed t))).1 =
-      names_behind lists (named (map (pieces space) (pieces feed t))) (ap lists_in same ∙ h) in
+    names_behind lists (named (map (pieces space) (pieces feed t))) (ap lists_in same ∙ h) in
     d ∙ (λ i. chronicle_of (run (opening (e i)) (replayed (e i) (names i))))

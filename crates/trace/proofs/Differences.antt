@@ -1,5 +1,5 @@
 -- A text and what was written to a sink that compares with it.
-use Rattle.std.proofs.Common.{◌≡◌, ◌≢◌, ℕ, zero, suc, ◌+◌, ◌<◌, ◌≤◌, Bool, true, false, List, [], ◌∷◌, ◌++◌, length, take, drop, Option, Some, None, refl, sym, ap, subst, ◌∙◌, append_assoc, append-nil, arith}
+use Rattle.std.proofs.Common.{◌≡◌, ◌≢◌, ℕ, zero, suc, ◌<◌, ◌≤◌, Bool, true, false, List, [], ◌∷◌, ◌++◌, length, take, Option, Some, None, refl, sym, ap, subst, ◌∙◌, append_assoc, append-nil, arith}
 use Rattle.std.specs.Prelude.{slice_get, is_some, IfNone, IfSome}
 use Rattle.std.specs.Io.KnownBytes.{Appends}
 use Rattle.trace.specs.Marks.{listed}
@@ -67,15 +67,15 @@ differs_there : (text front rest : List ℕ) (same : ℕ) (other : Option ℕ) �
 differs_there text front rest same None le h few differs e =
     let f = few refl in
     let seam : slice_get (front ++ rest) same ≡ None =
-      (λ i. slice_get (sym h i ++ f.0 i) (sym (take_length same text le) i))
-      ∙ ap (λ l. slice_get (l ++ []) (length (take same text))) (append-nil (take same text))
-      ∙ get_behind (take same text) [] in
+    (λ i. slice_get (sym h i ++ f.0 i) (sym (take_length same text le) i))
+    ∙ ap (λ l. slice_get (l ++ []) (length (take same text))) (append-nil (take same text))
+    ∙ get_behind (take same text) [] in
     get_within text same f.1 (e ∙ seam)
 differs_there text front rest same (Some b) le h few differs e =
     let seam : slice_get (front ++ rest) same ≡ Some b =
-      (λ i. slice_get (sym h i ++ rest) (sym (take_length same text le) i))
-      ∙ ap (λ l. slice_get l (length (take same text))) (append_assoc (take same text) (b ∷ []) rest)
-      ∙ get_behind (take same text) (b ∷ rest) in
+    (λ i. slice_get (sym h i ++ rest) (sym (take_length same text le) i))
+    ∙ ap (λ l. slice_get l (length (take same text))) (append_assoc (take same text) (b ∷ []) rest)
+    ∙ get_behind (take same text) (b ∷ rest) in
     absurd (let n = differs (e ∙ seam) in cc)
 
 same_before : (text front rest : List ℕ) (same : ℕ) (other : Option ℕ) → same ≤ length text → take same text ++ listed other ≡ front → take same text ≡ take same (front ++ rest)

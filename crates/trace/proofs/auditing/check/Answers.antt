@@ -1,4 +1,4 @@
-use Rattle.std.proofs.Common.{◌≡◌, sym}
+use Rattle.std.proofs.Common.{sym}
 use Rattle.trace.proofs.AuditLemmas.{found_sound, refused_different, refused_unnamed}
 use Rattle.trace.proofs.auditing.check.Goals as goal
 

@@ -1,4 +1,3 @@
-use Rattle.std.proofs.Common.{◌≡◌}
 use Rattle.trace.specs.Text.{text_in}
 use Rattle.trace.proofs.Differences.{first_difference, if_none, if_some, same_texts, started}
 use Rattle.trace.proofs.auditing.difference.Goals as goal

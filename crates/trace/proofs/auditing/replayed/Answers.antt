@@ -1,4 +1,3 @@
-use Rattle.std.proofs.Common.{◌≡◌}
 use Rattle.trace.proofs.AuditLemmas.{replayed_ok}
 use Rattle.trace.proofs.auditing.replayed.Goals as goal
 

@@ -1,4 +1,4 @@
-use Rattle.std.proofs.Common.{◌≡◌, sym}
+use Rattle.std.proofs.Common.{sym}
 use Rattle.trace.proofs.Generals.{general_some}
 use Rattle.trace.proofs.named.general.Goals as goal
 

@@ -1,4 +1,4 @@
-use Rattle.std.proofs.Common.{◌≡◌, ℕ, length, ◌++◌, map}
+use Rattle.std.proofs.Common.{◌≡◌, ◌++◌, map}
 use Rattle.text.specs.Stop.{space, feed}
 use Rattle.text.specs.Parts.{pieces}
 use Rattle.world.specs.Playing.{lists_in}
