@@ -4,6 +4,8 @@
 #[cfg(test)]
 mod assembly;
 #[cfg(test)]
+mod audits;
+#[cfg(test)]
 mod boards;
 #[cfg(test)]
 mod bytecode;

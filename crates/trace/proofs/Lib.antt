@@ -6,7 +6,11 @@ pub mod DecisionLemmas
 pub mod Splitting
 pub mod Plain
 pub mod Naming
+pub mod Generals
 pub mod Sound
+pub mod ShapeLemmas
+pub mod Differences
+pub mod AuditLemmas
 mod Printed
 mod TwoGenerals
 mod TraitorLieutenant

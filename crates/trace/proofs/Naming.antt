@@ -38,7 +38,7 @@ in-range t (suc n) a g h le lt =
     (λ (x : (g == a ≡ false) × (g ≢ a)). in-range t n (a + 1) g b.1 (let ne = x.1 in omega arith) (omega arith))
     (eqb_tells g a)
 
-general_told : (g : ℕ) → g < 13 → general_of (decimal g) ≡ g ∷ []
+pub general_told : (g : ℕ) → g < 13 → general_of (decimal g) ≡ g ∷ []
 unfolding is_told
 general_told g lt = (bytes_eq-Decides (general_of (decimal g)) (g ∷ [])).0 (in-range is_told 13 0 g all_told (omega arith) (omega arith))
 

@@ -1,6 +1,6 @@
 -- Lines behind lines: rows, letters and rounds, one more of each.
-use Rattle.std.proofs.Common.{◌≡◌, ℕ, suc, ◌+◌, ◌<◌, ◌≤◌, Bool, List, [], ◌∷◌, ◌++◌, refl, sym, ap, subst, ◌∙◌, append_assoc, append-nil, map, flat_map, length, take, get_or, arith, Option, None, Some}
-use Rattle.std.specs.Prelude.{decimal, codes, filter, ◌==◌}
+use Rattle.std.proofs.Common.{◌≡◌, ℕ, suc, ◌+◌, ◌<◌, Bool, List, [], ◌∷◌, ◌++◌, refl, sym, ap, ◌∙◌, append_assoc, append-nil, map, flat_map, length, take, get_or, arith, Option, None, Some}
+use Rattle.std.specs.Prelude.{filter, ◌==◌}
 use Rattle.std.proofs.lemmas.List.{take_more, length-take-le}
 use Rattle.std.proofs.lemmas.Grind.{flat_map-append}
 use Rattle.std.specs.Option.{option_map}
@@ -8,7 +8,7 @@ use Rattle.insn.specs.declared.insn.Insn.{Insn}
 use Rattle.board.specs.Board.{Access}
 use Rattle.round.specs.Letters.{Letter}
 use Rattle.trace.specs.Sinks.{Wrote}
-use Rattle.trace.specs.Text.{Word, Line, further, text, place, access_line, row_lines, letter_line, letter_lines, round_lines}
+use Rattle.trace.specs.Text.{Word, Line, further, text, access_line, row_lines, letter_line, letter_lines, round_lines}
 use Rattle.trace.specs.Lines.{author_line, one_round, round_line, row_line}
 use Rattle.trace.proofs.WrittenLemmas.{further-append, then_wrote, wrote-same}
 use Rattle.trace.proofs.LineLemmas.{text-append}

@@ -1,4 +1,4 @@
--- Words of the reader of schedules alone.
+-- Words of the readers of lines alone.
 use Rattle.std.specs.Prelude.{ℕ, ◌+◌, List, [], length, Option, Some, None}
 use Rattle.std.proofs.Common.{Bor}
 use Rattle.text.specs.Stop.{space}

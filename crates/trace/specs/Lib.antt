@@ -1,6 +1,10 @@
 pub mod Text
 pub mod Names
+pub mod Marks
 pub mod Laws
+pub mod Shapes
+pub mod Audit
+pub mod Compared
 pub mod Schedules
 pub mod Left
 pub mod Sinks

@@ -1,17 +1,23 @@
 //! The texts of campaigns: chronicles and schedules.
 #![tactic(auto)]
 
+mod auditing;
 mod chronicling;
+mod comparing;
 mod fault;
 mod heading;
 mod laws;
 mod letters;
 mod lines;
+mod named;
+mod refusing;
 mod scheduling;
+mod shapes;
 mod sink;
 mod version;
 mod writing;
 
+pub use auditing::check;
 pub use chronicling::{write_chronicle, write_verdict};
 pub use fault::TraceError;
 pub use laws::{names_are_told, sound_texts_are_runs};

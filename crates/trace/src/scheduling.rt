@@ -21,7 +21,7 @@ const MOST_LINES: u64 = 5;
 
 /// A decimal number between two others.
 #[tactic(auto, unfolding(crate::specs::Schedules::number_within))]
-fn number_within(least: u16, most: u16, part: &[u8]) -> Option<u16>
+pub(crate) fn number_within(least: u16, most: u16, part: &[u8]) -> Option<u16>
     ensures value { result ≡ number_within least most part.now }
     ensures bound { IfSome result (λ n. n ≤ most) }
 {

@@ -1,0 +1,6 @@
+use Rattle.trace.proofs.AuditLemmas.{replayed_ok}
+use Rattle.trace.proofs.auditing.replayed.Goals as goal
+
+pub returns : goal.returns
+returns c =
+    replayed_ok c.args.scenario.now c.in_ok-copy.field-0 c.args.text.now c.in_ok-lists.lists.items c.deref.result.now c.replay.result c.in_ok-copy.ensures c.deref.ensures.value c.in_ok-lists.ensures c.replay.ensures.replayed

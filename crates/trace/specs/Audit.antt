@@ -1,0 +1,70 @@
+-- What an audit answers to a text that is not sound (own).
+use Rattle.std.specs.Prelude.{ℕ, suc, ◌≡◌, ◌≢◌, ◌≤◌, ◌==◌, nat_le, if◌then◌else◌, List, [], ◌∷◌, length, take, slice_get, count_by, bytes_eq, codes, Option, Some, None}
+use Rattle.combine.specs.declared.chosen.Rule.{Rule}
+use Rattle.combine.specs.declared.chosen.Rule.TheVariants.{Majority, Median}
+use Rattle.text.specs.Stop.{feed}
+use Rattle.text.specs.Parts.{pieces}
+use Rattle.round.specs.Scenario.{Scenario}
+use Rattle.world.specs.World.{opening, run}
+use Rattle.world.specs.Lists.{replayed}
+use Rattle.world.specs.Chronicle.{Chronicle, chronicle_of}
+use Rattle.trace.specs.declared.version.Version.{Version}
+use Rattle.trace.specs.declared.version.Version.TheVariants.{First, Second}
+use Rattle.trace.specs.declared.fault.TraceError.{TraceError}
+use Rattle.trace.specs.declared.fault.TraceError.TheVariants.{Line, Scenario as NotTheScenarios, Differs}
+use Rattle.trace.specs.Text.{text_in}
+use Rattle.trace.specs.Names.{names_of}
+use Rattle.trace.specs.Shapes.{unshaped_from}
+
+-- the chronicle of the replay of the accesses that a text tells
+unfoldable pub replay_of : Scenario → List ℕ → Chronicle
+replay_of s t = chronicle_of (run (opening s) (replayed s (names_of t)))
+
+-- the version that a first line names, where a campaign by the rule may be told in it
+abbrev pub first_version : Rule → Option Version
+first_version Majority = Some First
+first_version Median = None
+
+abbrev pub line_version : Rule → List ℕ → Option Version
+line_version rule line = if bytes_eq line (codes "chronicle 2") then Some Second else if bytes_eq line (codes "chronicle 1") then first_version rule else None
+
+abbrev pub lines_version : Rule → List (List ℕ) → Option Version
+lines_version rule [] = None
+lines_version rule (line ∷ lines) = line_version rule line
+
+unfoldable pub version_named : Rule → List ℕ → Option Version
+version_named rule t = lines_version rule (pieces feed t)
+
+-- the first place at which two texts differ: one of them may end there
+pub record IsFirstDifference (t other : List ℕ) (place : ℕ) : Type 0 where
+  pub within : place ≤ length t
+  pub same : take place t ≡ take place other
+  pub differs : slice_get t place ≢ slice_get other place
+
+-- the line of a place, counted from 1
+abbrev pub line_at : List ℕ → ℕ → ℕ
+line_at t place = suc (count_by (λ c. c == 10) (take place t))
+
+-- a first or second line that differs is not the scenario's
+abbrev pub differing : ℕ → TraceError
+differing line = if nat_le line 2 then NotTheScenarios line else Differs line
+
+-- a line of no shape comes before a difference
+abbrev pub first_fault : Option ℕ → ℕ → TraceError
+first_fault (Some line) differs = Line line
+first_fault None differs = differing differs
+
+-- the fault of a text that differs at this place
+unfoldable pub fault_at : List ℕ → ℕ → TraceError
+fault_at t place = first_fault (unshaped_from 1 (pieces feed t)) (line_at t place)
+
+-- the text differs there from that of its replay, or at once where it is in no version of the campaign's
+abbrev pub DiffersAt : Scenario → List ℕ → Option Version → ℕ → Type 0
+DiffersAt s t None place = place ≡ 0
+DiffersAt s t (Some version) place = IsFirstDifference t (text_in version (replay_of s t)) place
+
+-- why the text is not sound: the fault at its first difference
+pub record IsFaultOf (s : Scenario) (t : List ℕ) (e : TraceError) : Type 0 where
+  pub place : ℕ
+  pub differs : DiffersAt s t (version_named s.rule t) place
+  pub fault : e ≡ fault_at t place

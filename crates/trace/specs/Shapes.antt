@@ -1,0 +1,104 @@
+-- The shapes of a chronicle's lines: each is a line's alone, whatever its numbers (own).
+use Rattle.std.specs.Prelude.{ℕ, suc, ◌==◌, ◌&&◌, ◌||◌, nat_lt, Bool, true, false, if◌then◌else◌, List, [], ◌∷◌, length, bytes_eq, codes, Option, Some, None, is_some}
+use Rattle.std.specs.List.{list_all}
+use Rattle.text.specs.Stop.{space}
+use Rattle.text.specs.Parts.{pieces}
+use Rattle.text.specs.Number.{decimal_of}
+use Rattle.trace.specs.Text.{Word}
+
+-- a decimal number without leading zeros, of any size
+abbrev pub is_number : Word → Bool
+is_number word = is_some (decimal_of word)
+
+abbrev pub is_dash : Word → Bool
+is_dash word = bytes_eq word (codes "-")
+
+abbrev pub is_place : Word → Bool
+is_place word = is_dash word || is_number word
+
+abbrev pub is_yes_no : Word → Bool
+is_yes_no word = bytes_eq word (codes "yes") || bytes_eq word (codes "no")
+
+-- whether a word is what a word of a shape stands for: N for a number, P for a number or a dash, A for yes or no, B for these or a dash, any other for itself
+unfoldable pub stands_for : Word → Word → Bool
+stands_for kind word =
+    if bytes_eq kind (codes "N") then is_number word
+    else if bytes_eq kind (codes "P") then is_place word
+    else if bytes_eq kind (codes "A") then is_yes_no word
+    else if bytes_eq kind (codes "B") then (is_dash word || is_yes_no word)
+    else bytes_eq word kind
+
+-- the words behind those of a shape
+abbrev pub behind : List Word → List Word → Option (List Word)
+behind [] words = Some words
+behind (kind ∷ kinds) [] = None
+behind (kind ∷ kinds) (word ∷ words) = if stands_for kind word then behind kinds words else None
+
+unfoldable pub behind_shape : List ℕ → List Word → Option (List Word)
+behind_shape shape words = behind (pieces space shape) words
+
+abbrev pub is_nothing_left : Option (List Word) → Bool
+is_nothing_left (Some []) = true
+is_nothing_left _ = false
+
+-- a line of these words and no others
+unfoldable pub fits : List ℕ → List Word → Bool
+fits shape words = is_nothing_left (behind_shape shape words)
+
+-- the first two lines
+unfoldable pub is_head : List Word → Bool
+is_head words =
+    fits (codes "chronicle 1") words
+    || fits (codes "chronicle 2") words
+    || fits (codes "generals N bound N commander N order N") words
+    || fits (codes "generals N bound N commander N order N patience P rule majority") words
+    || fits (codes "generals N bound N commander N order N patience P rule median") words
+
+-- places to the end of a line
+abbrev pub are_places : Option (List Word) → Bool
+are_places None = false
+are_places (Some words) = list_all is_place words
+
+-- the line of a round, and those of a letter
+unfoldable pub is_told : List Word → Bool
+is_told words =
+    fits (codes "round N") words
+    || fits (codes "letter N loyal") words
+    || fits (codes "letter N steps N") words
+    || are_places (behind_shape (codes "row N") words)
+
+-- so many words, all of them numbers
+abbrev pub is_count : Option ℕ → List Word → Bool
+is_count None words = false
+is_count (Some count) words = list_all is_number words && count == length words
+
+-- how many words are copied, and the words
+abbrev pub is_copied : Option (List Word) → Bool
+is_copied (Some (count ∷ equals ∷ words)) = bytes_eq equals (codes "=") && is_count (decimal_of count) words
+is_copied _ = false
+
+-- an access
+unfoldable pub is_access : List Word → Bool
+is_access words =
+    fits (codes "access N get N = N") words
+    || fits (codes "access N swap N N = N") words
+    || fits (codes "access N add N N = N") words
+    || fits (codes "access N cas N N N = N") words
+    || is_copied (behind_shape (codes "access N copy N") words)
+
+-- a decision, and the verdict
+unfoldable pub is_end : List Word → Bool
+is_end words =
+    fits (codes "decision N N") words
+    || fits (codes "decision N traitor N") words
+    || fits (codes "verdict alike A obeyed B bound A") words
+
+-- a line of one of the shapes
+unfoldable pub is_shaped : List ℕ → Bool
+is_shaped line = let words = pieces space line in is_head words || is_told words || is_access words || is_end words
+
+-- the first line, counted from this number, that has no shape or no LF behind it, where nothing stands behind the last LF; an empty text has a first line
+abbrev pub unshaped_from : ℕ → List (List ℕ) → Option ℕ
+unshaped_from number [] = None
+unshaped_from number (line ∷ []) = if length line == 0 && nat_lt 1 number then None else Some number
+unshaped_from number (line ∷ next ∷ lines) = if is_shaped line then unshaped_from (suc number) (next ∷ lines) else Some number

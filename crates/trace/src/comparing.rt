@@ -1,0 +1,74 @@
+//! Two texts, compared as the one is written.
+ghost use Rattle.std.specs.Prelude.{◌≡◌, ◌<◌, ◌≤◌, true, false, IfNone, IfSome, None, is_some, length, slice_get};
+
+use crate::sink::Sink;
+
+/// A sink that compares what it takes with a text, and keeps the first difference.
+#[derive(Drop)]
+pub struct Comparison<'a> {
+    text: &'a [u8],
+    /// How many bytes of the text it has taken.
+    same: usize,
+    /// What it has taken in place of the next byte, or behind the last one.
+    other: Option<u8>,
+    /// Whether it has refused what came behind that.
+    failed: bool,
+    ghost within: { same ≤ length text.now },
+    ghost differs: { slice_get text.now same ≡ other → other ≡ None },
+    ghost refused: { failed ≡ true → is_some other ≡ true },
+}
+
+impl<'a> Comparison<'a> {
+    /// A comparison with this text, which has taken nothing.
+    pub fn new(text: &'a [u8]) -> Comparison<'a>
+        ensures text { result.text.now ≡ text.now }
+        ensures fresh { (result.same ≡ 0) × (result.other ≡ None) × (result.failed ≡ false) }
+    {
+        Comparison {
+            text,
+            same: 0,
+            other: None,
+            failed: false,
+        }
+    }
+
+    /// The place of the first difference, none where it has taken all of the text and nothing else.
+    pub fn difference(&self) -> Option<usize>
+        ensures none { IfNone result ((self.now.other ≡ None) × (self.now.same ≡ length self.now.text.now)) }
+        ensures some { IfSome result (λ place. (place ≡ self.now.same) × (self.now.other ≡ None → place < length self.now.text.now)) }
+    {
+        if self.other.is_none() && self.same == self.text.len() {
+            None
+        } else {
+            Some(self.same)
+        }
+    }
+}
+
+impl<'a> Sink for Comparison<'a> {
+    ghost use Rattle.trace.specs.Compared.{compared, taken};
+
+    // What it has taken, behind the text itself: so the text is known to stay the same.
+    ghost contents = { λ c. compared c.text.now (taken c.text.now c.same c.other) };
+
+    ghost has_failed = { λ c. c.failed };
+
+    fn put(&mut self, piece: &[u8]) -> Option<usize> {
+        let Some(byte) = piece.first() else {
+            return Some(0);
+        };
+        if self.other.is_some() {
+            self.failed = true;
+            return None;
+        }
+        match self.text.get(self.same) {
+            Some(next) if *next == *byte => self.same += 1,
+            _ => self.other = Some(*byte),
+        }
+        Some(1)
+    }
+
+    fn failed(&self) -> bool {
+        self.failed
+    }
+}

@@ -1,0 +1,88 @@
+//! Who makes the accesses of each round, as a chronicle's text tells it.
+ghost use Rattle.std.specs.Prelude.{◌≡◌, ◌∷◌, ◌++◌, map, IfOk};
+ghost use Rattle.text.specs.Stop.{space, feed};
+ghost use Rattle.text.specs.Parts.{pieces};
+ghost use Rattle.world.specs.Playing.{lists_in};
+ghost use Rattle.trace.specs.Names.{Named, general_of, with_line, named};
+ghost use Rattle.trace.specs.Marks.{all_names, listed, marked};
+
+use crate::scheduling::number_within;
+use std::alloc::{AllocError, Global};
+use text::{Stop, piece};
+
+const SPACE: Stop = Stop::Byte(b' ');
+
+const FEED: Stop = Stop::Byte(b'\n');
+
+/// What a line says of rounds and accesses.
+#[derive(Clone, Copy, Debug, PartialEq, Eq)]
+enum Mark {
+    /// A round begins.
+    Round,
+    /// This general makes an access.
+    Access(u8),
+    /// Neither.
+    Other,
+}
+
+/// The general of a number.
+#[tactic(auto, using(crate::proofs::Generals::general_none))]
+fn general(word: &[u8]) -> Option<u8>
+    ensures { listed result ≡ general_of word.now }
+{
+    Some(number_within(0, 12, word)? as u8)
+}
+
+/// What the line of an access says, by the number of its general.
+fn access(number: &[u8]) -> Mark
+    ensures { (rest : Named) → marked result rest ≡ (general_of number.now ++ rest.0, rest.1) }
+{
+    match general(number) {
+        Some(general) => Mark::Access(general),
+        None => Mark::Other,
+    }
+}
+
+/// What a line says.
+fn said(line: &[u8]) -> Mark
+    ensures { (rest : Named) → marked result rest ≡ with_line (pieces space line.now) rest }
+{
+    let (word, Some(rest)) = piece(SPACE, line) else {
+        return Mark::Other;
+    };
+    let (number, _) = piece(SPACE, rest);
+    if word == b"round".as_slice() {
+        Mark::Round
+    } else if word == b"access".as_slice() {
+        access(number)
+    } else {
+        Mark::Other
+    }
+}
+
+/// The generals of a text's accesses, in order: first those before the line of a round, then those behind each such line.
+///
+/// # Errors
+///
+/// `AllocError` where memory is refused.
+pub fn names(alloc: Global, text: &[u8]) -> Result<Vec<Vec<u8>>, AllocError>
+    ensures { IfOk result (λ lists. lists_in lists.items ≡ all_names (named (map (pieces space) (pieces feed text.now)))) }
+{
+    let mut rounds = Vec::new(alloc);
+    let mut names = Vec::new(alloc);
+    let mut rest = Some(text);
+    while let Some(lines) = rest {
+        let (line, behind) = piece(FEED, lines);
+        match said(line) {
+            Mark::Round => {
+                rounds.push(names)?;
+                names = Vec::new(alloc);
+            }
+            Mark::Access(general) => names.push(general)?,
+            Mark::Other => {}
+        }
+        rest = behind;
+    }
+    rounds.push(names)?;
+    Ok(rounds)
+}

@@ -1,0 +1,49 @@
+//! Why a text is not sound.
+ghost use Rattle.std.specs.Prelude.{◌≡◌, ◌≤◌, ◌==◌, count_by, length};
+ghost use Rattle.trace.specs.Audit.{differing, fault_at, line_at};
+
+use crate::fault::TraceError;
+use crate::shapes::unshaped;
+
+/// How many line feeds stand in a text.
+fn feeds(text: &[u8]) -> usize
+    ensures value { result ≡ count_by (λ c. c == 10) text.now }
+    ensures bound { result ≤ length text.now }
+{
+    let mut count = 0;
+    for byte in text {
+        count += usize::from(*byte == b'\n');
+    }
+    count
+}
+
+/// The line of a place, counted from 1.
+fn line_at(text: &[u8], place: usize) -> u64
+    requires { place ≤ length text.now }
+    ensures { result ≡ line_at text.now place }
+{
+    feeds(&text[..place]) as u64 + 1
+}
+
+/// A first or second line that differs is not the scenario's.
+fn differing(line: u64) -> TraceError
+    ensures { result ≡ differing line }
+{
+    if line <= 2 {
+        TraceError::Scenario(line)
+    } else {
+        TraceError::Differs(line)
+    }
+}
+
+/// The fault of a text that differs at this place: a line of no shape comes first.
+#[tactic(auto, unfolding(crate::specs::Audit::fault_at))]
+pub fn refusal(text: &[u8], place: usize) -> TraceError
+    requires { place ≤ length text.now }
+    ensures { result ≡ fault_at text.now place }
+{
+    match unshaped(text) {
+        Some(line) => TraceError::Line(line),
+        None => differing(line_at(text, place)),
+    }
+}

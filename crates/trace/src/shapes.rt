@@ -1,0 +1,229 @@
+//! The shapes of a chronicle's lines.
+ghost use Rattle.std.specs.Prelude.{◌≡◌, ◌&&◌, ◌==◌, Some, option_map, codes, length};
+ghost use Rattle.std.specs.List.{list_all};
+ghost use Rattle.text.specs.Stop.{space, feed};
+ghost use Rattle.text.specs.Parts.{pieces};
+ghost use Rattle.trace.specs.Left.{left};
+ghost use Rattle.trace.specs.Shapes.{are_places, behind, behind_shape, fits, is_access, is_copied, is_count, is_end, is_head, is_number, is_place, is_shaped, is_told, is_yes_no, stands_for, unshaped_from};
+
+use text::{Stop, decimal, piece};
+
+const SPACE: Stop = Stop::Byte(b' ');
+
+const FEED: Stop = Stop::Byte(b'\n');
+
+/// Whether a word is a number, or a dash for nothing.
+fn is_place(word: &[u8]) -> bool
+    ensures { result ≡ is_place word.now }
+{
+    word == b"-".as_slice() || decimal(word).is_some()
+}
+
+/// Whether a word is yes or no.
+fn is_yes_no(word: &[u8]) -> bool
+    ensures { result ≡ is_yes_no word.now }
+{
+    word == b"yes".as_slice() || word == b"no".as_slice()
+}
+
+/// Whether a word is what a word of a shape stands for: `N` for a number, `P` for a number or a dash, `A` for yes or no,
+/// `B` for these or a dash, any other for itself.
+#[tactic(auto, unfolding(crate::specs::Shapes::stands_for))]
+fn stands_for(kind: &[u8], word: &[u8]) -> bool
+    ensures { result ≡ stands_for kind.now word.now }
+{
+    if kind == b"N".as_slice() {
+        decimal(word).is_some()
+    } else if kind == b"P".as_slice() {
+        is_place(word)
+    } else if kind == b"A".as_slice() {
+        is_yes_no(word)
+    } else if kind == b"B".as_slice() {
+        word == b"-".as_slice() || is_yes_no(word)
+    } else {
+        word == kind
+    }
+}
+
+/// What is left of a line behind the words of a shape, where it begins with them.
+#[tactic(auto, unfolding(crate::specs::Shapes::behind_shape))]
+fn behind<'a>(shape: &[u8], line: &'a [u8]) -> Option<Option<&'a [u8]>>
+    ensures { option_map left result ≡ behind_shape shape.now (pieces space line.now) }
+{
+    let mut kinds = Some(shape);
+    let mut words = Some(line);
+    while let Some(parts) = kinds {
+        let (kind, further) = piece(SPACE, parts);
+        let (word, rest) = piece(SPACE, words?);
+        if !stands_for(kind, word) {
+            return None;
+        }
+        kinds = further;
+        words = rest;
+    }
+    Some(words)
+}
+
+/// Whether a line has the words of a shape and no others.
+#[tactic(auto, using(crate::proofs::ShapeLemmas::more_left), unfolding(crate::specs::Shapes::fits))]
+fn fits(shape: &[u8], line: &[u8]) -> bool
+    ensures { result ≡ fits shape.now (pieces space line.now) }
+{
+    match behind(shape, line) {
+        Some(None) => true,
+        Some(Some(_)) | None => false,
+    }
+}
+
+/// Whether a line has a shape of the first two.
+#[tactic(auto, unfolding(crate::specs::Shapes::is_head))]
+fn is_head(line: &[u8]) -> bool
+    ensures { result ≡ is_head (pieces space line.now) }
+{
+    fits(b"chronicle 1", line)
+        || fits(b"chronicle 2", line)
+        || fits(b"generals N bound N commander N order N", line)
+        || fits(
+            b"generals N bound N commander N order N patience P rule majority",
+            line,
+        )
+        || fits(
+            b"generals N bound N commander N order N patience P rule median",
+            line,
+        )
+}
+
+/// Whether the words that are left are numbers or dashes.
+fn are_places(words: Option<&[u8]>) -> bool
+    ensures { result ≡ list_all is_place (left words.entry) }
+{
+    let mut rest = words;
+    while let Some(places) = rest {
+        let (place, further) = piece(SPACE, places);
+        if !is_place(place) {
+            return false;
+        }
+        rest = further;
+    }
+    true
+}
+
+/// Whether a line is a label's row.
+fn is_row(line: &[u8]) -> bool
+    ensures { result ≡ are_places (behind_shape (codes "row N") (pieces space line.now)) }
+{
+    match behind(b"row N", line) {
+        Some(places) => are_places(places),
+        None => false,
+    }
+}
+
+/// Whether a line is a round's or one of a letter's.
+#[tactic(auto, unfolding(crate::specs::Shapes::is_told))]
+fn is_told(line: &[u8]) -> bool
+    ensures { result ≡ is_told (pieces space line.now) }
+{
+    fits(b"round N", line)
+        || fits(b"letter N loyal", line)
+        || fits(b"letter N steps N", line)
+        || is_row(line)
+}
+
+/// Whether so many words are left, all of them numbers.
+fn is_count(count: u128, words: Option<&[u8]>) -> bool
+    ensures { result ≡ is_count (Some count) (left words.entry) }
+{
+    let mut rest = words;
+    let mut met = 0;
+    while let Some(numbers) = rest {
+        let (number, further) = piece(SPACE, numbers);
+        if decimal(number).is_none() {
+            return false;
+        }
+        rest = further;
+        met += 1;
+    }
+    count == met
+}
+
+/// Whether what is left of a line tells how many words are copied, and the words.
+fn is_copied(words: Option<&[u8]>) -> bool
+    ensures { result ≡ is_copied (Some (left words.entry)) }
+{
+    let Some(words) = words else {
+        return false;
+    };
+    let (count, Some(rest)) = piece(SPACE, words) else {
+        return false;
+    };
+    let (equals, copied) = piece(SPACE, rest);
+    if equals != b"=".as_slice() {
+        return false;
+    }
+    match decimal(count) {
+        Some(count) => is_count(count, copied),
+        None => false,
+    }
+}
+
+/// Whether a line is an access that copies words.
+fn is_copy(line: &[u8]) -> bool
+    ensures { result ≡ is_copied (behind_shape (codes "access N copy N") (pieces space line.now)) }
+{
+    match behind(b"access N copy N", line) {
+        Some(words) => is_copied(words),
+        None => false,
+    }
+}
+
+/// Whether a line is an access.
+#[tactic(auto, unfolding(crate::specs::Shapes::is_access))]
+fn is_access(line: &[u8]) -> bool
+    ensures { result ≡ is_access (pieces space line.now) }
+{
+    fits(b"access N get N = N", line)
+        || fits(b"access N swap N N = N", line)
+        || fits(b"access N add N N = N", line)
+        || fits(b"access N cas N N N = N", line)
+        || is_copy(line)
+}
+
+/// Whether a line is a decision or the verdict.
+#[tactic(auto, unfolding(crate::specs::Shapes::is_end))]
+fn is_end(line: &[u8]) -> bool
+    ensures { result ≡ is_end (pieces space line.now) }
+{
+    fits(b"decision N N", line)
+        || fits(b"decision N traitor N", line)
+        || fits(b"verdict alike A obeyed B bound A", line)
+}
+
+/// Whether a line has one of the shapes.
+#[tactic(auto, unfolding(crate::specs::Shapes::is_shaped))]
+fn is_shaped(line: &[u8]) -> bool
+    ensures { result ≡ is_shaped line.now }
+{
+    is_head(line) || is_told(line) || is_access(line) || is_end(line)
+}
+
+/// The first line of a text, counted from 1, that has no shape or no line feed behind it; an empty text has one.
+#[tactic(auto, using(crate::proofs::ShapeLemmas::shaped_line, crate::proofs::ShapeLemmas::unshaped_line))]
+pub fn unshaped(text: &[u8]) -> Option<u64>
+    ensures { result ≡ unshaped_from 1 (pieces feed text.now) }
+{
+    let mut rest = Some(text);
+    let mut number = 1;
+    while let Some(lines) = rest {
+        let (line, behind) = piece(FEED, lines);
+        let is_right = match behind {
+            Some(_) => is_shaped(line),
+            None => line.is_empty() && number > 1,
+        };
+        if !is_right {
+            return Some(number);
+        }
+        rest = behind;
+        number += 1;
+    }
+    None
+}
