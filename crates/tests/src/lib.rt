@@ -10,9 +10,15 @@ mod bytecode;
 #[cfg(test)]
 mod cells;
 #[cfg(test)]
+mod gates;
+#[cfg(test)]
+mod gathers;
+#[cfg(test)]
 mod known_bits;
 #[cfg(test)]
 mod labels;
+#[cfg(test)]
+mod musters;
 #[cfg(test)]
 mod outboxes;
 #[cfg(test)]
@@ -27,6 +33,8 @@ mod serving;
 mod tables;
 #[cfg(test)]
 mod tasks;
+#[cfg(test)]
+mod threaded;
 #[cfg(test)]
 mod trees;
 #[cfg(test)]
