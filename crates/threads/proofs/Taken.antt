@@ -7,7 +7,7 @@ use Rattle.std.proofs.lemmas.Bool.{eq-eqb, ne_eqb}
 use Rattle.std.proofs.lemmas.Bool.Decides.{eqb_tells}
 use Rattle.round.specs.Letters.{Letter}
 use Rattle.world.specs.World.{each}
-use Rattle.world.specs.Accounted.{letter_by, alone, row_of}
+use Rattle.world.specs.Accounted.{letter_by, alone, row_by}
 use Rattle.threads.specs.Taking.{without, left_by, left_row, left_rounds, IsGrid}
 
 abbrev pub is_by : ℕ → ℕ → Letter → Bool
@@ -79,35 +79,35 @@ each-same : {A : Type 0} (n : ℕ) (f f' : ℕ → List A) → ((k : ℕ) → f 
 each-same zero f f' e = refl
 each-same (suc n) f f' e = λ i. each-same n f f' e i ++ e n i
 
-pub rounds_same : (n r : ℕ) (xs : List Letter) → row_of n (suc r) (left_rounds n r xs) ≡ row_of n (suc r) xs
+pub rounds_same : (n r : ℕ) (xs : List Letter) → row_by n (suc r) (left_rounds n r xs) ≡ row_by n (suc r) xs
 rounds_same n r xs = each-same n (λ g. alone (letter_by g (suc r) (left_rounds n r xs))) (λ g. alone (letter_by g (suc r) xs)) (λ g. ap alone (rounds_others n r g r (omega arith) xs))
 
 alone_few : (o : Option Letter) → length (alone o) ≤ 1
 alone_few None = omega arith
 alone_few (Some x) = omega arith
 
-row_few : (n round : ℕ) (xs : List Letter) → length (row_of n round xs) ≤ n
+row_few : (n round : ℕ) (xs : List Letter) → length (row_by n round xs) ≤ n
 row_few zero round xs = omega arith
-row_few (suc n) round xs = (let l = row_few n round xs in let m = alone_few (letter_by n round xs) in omega (arith, length-append (row_of n round xs) (alone (letter_by n round xs))))
+row_few (suc n) round xs = (let l = row_few n round xs in let m = alone_few (letter_by n round xs) in omega (arith, length-append (row_by n round xs) (alone (letter_by n round xs))))
 
 -- where one is missing the row is too short
-pub row_short : (n g round : ℕ) (xs : List Letter) → g < n → letter_by g round xs ≡ None → length (row_of n round xs) < n
+pub row_short : (n g round : ℕ) (xs : List Letter) → g < n → letter_by g round xs ≡ None → length (row_by n round xs) < n
 row_short zero g round xs lt none = omega arith
 row_short (suc n) g round xs lt none = ⊎_elim
     (λ (x : (g == n ≡ true) × (g ≡ n)).
     let e : length (alone (letter_by n round xs)) ≡ 0 = ap (λ o. length (alone o)) ((let A : ℕ → Type 0 = λ k. letter_by k round xs ≡ None in subst A x.1 none)) in
-    let l = row_few n round xs in omega (arith, length-append (row_of n round xs) (alone (letter_by n round xs))))
+    let l = row_few n round xs in omega (arith, length-append (row_by n round xs) (alone (letter_by n round xs))))
     (λ (x : (g == n ≡ false) × (g ≢ n)).
     let l = row_short n g round xs (let ne = x.1 in omega arith) none in
-    let m = alone_few (letter_by n round xs) in omega (arith, length-append (row_of n round xs) (alone (letter_by n round xs))))
+    let m = alone_few (letter_by n round xs) in omega (arith, length-append (row_by n round xs) (alone (letter_by n round xs))))
     (eqb_tells g n)
 
 pub record Row (n round : ℕ) (xs left row : List Letter) : Type 0 where
   pub left_is : left ≡ left_row n round xs
-  pub row_is : row ≡ row_of n round xs
+  pub row_is : row ≡ row_by n round xs
 
 -- one more of the round
-pub row_more : (g round : ℕ) (xs left row left' row' : List Letter) (l : Letter) → left ≡ left_row g round xs → row ≡ row_of g round xs → Some l ≡ letter_by g round left → left' ≡ left_by g round left → row' ≡ row ++ l ∷ []
+pub row_more : (g round : ℕ) (xs left row left' row' : List Letter) (l : Letter) → left ≡ left_row g round xs → row ≡ row_by g round xs → Some l ≡ letter_by g round left → left' ≡ left_by g round left → row' ≡ row ++ l ∷ []
     → Row (g + 1) round xs left' row'
 row_more g round xs left row left' row' l a b found c d =
     let A : ℕ → Type 0 = λ n. Row n round xs left' row' in
@@ -116,16 +116,16 @@ row_more g round xs left row left' row' l a b found c d =
 
 pub record Rows (n r : ℕ) (xs left : List Letter) (rows : List (List Letter)) : Type 0 where
   pub left_is : left ≡ left_rounds n r xs
-  pub rows_are : rows ≡ each r (λ k. row_of n (suc k) xs ∷ [])
+  pub rows_are : rows ≡ each r (λ k. row_by n (suc k) xs ∷ [])
 
 -- one more round
-pub rows_more : (n r : ℕ) (xs left left' row : List Letter) (rows rows' : List (List Letter)) → left ≡ left_rounds n r xs → rows ≡ each r (λ k. row_of n (suc k) xs ∷ []) → row ≡ row_of n (r + 1) left → left' ≡ left_row n (r + 1) left → rows' ≡ rows ++ row ∷ []
+pub rows_more : (n r : ℕ) (xs left left' row : List Letter) (rows rows' : List (List Letter)) → left ≡ left_rounds n r xs → rows ≡ each r (λ k. row_by n (suc k) xs ∷ []) → row ≡ row_by n (r + 1) left → left' ≡ left_row n (r + 1) left → rows' ≡ rows ++ row ∷ []
     → Rows n (r + 1) xs left' rows'
 rows_more n r xs left left' row rows rows' a b c d e =
     let A : ℕ → Type 0 = λ m. Rows n m xs left' rows' in
-    let c' : row ≡ row_of n (suc r) xs = c ∙ (ap (λ m. row_of n m left) (add-one r) ∙ (ap (row_of n (suc r)) a ∙ rounds_same n r xs)) in
+    let c' : row ≡ row_by n (suc r) xs = c ∙ (ap (λ m. row_by n m left) (add-one r) ∙ (ap (row_by n (suc r)) a ∙ rounds_same n r xs)) in
     subst A (sym (add-one r)) (record { left_is = d ∙ (ap (λ m. left_row n m left) (add-one r) ∙ ap (left_row n (suc r)) a); rows_are = e ∙ (λ i. b i ++ c' i ∷ []) })
 
 -- the length of the row that was taken is that of the row of all letters
-pub row_long : (n r : ℕ) (xs left : List Letter) → left ≡ left_rounds n r xs → length (row_of n (r + 1) left) ≡ length (row_of n (suc r) xs)
-row_long n r xs left a = ap length (ap (λ m. row_of n m left) (add-one r) ∙ (ap (row_of n (suc r)) a ∙ rounds_same n r xs))
+pub row_long : (n r : ℕ) (xs left : List Letter) → left ≡ left_rounds n r xs → length (row_by n (r + 1) left) ≡ length (row_by n (suc r) xs)
+row_long n r xs left a = ap length (ap (λ m. row_by n m left) (add-one r) ∙ (ap (row_by n (suc r)) a ∙ rounds_same n r xs))

@@ -1,7 +1,7 @@
 -- Letters taken out of a list, one for each general and round.
 use Rattle.std.specs.Prelude.{ℕ, zero, suc, ◌≡◌, ◌<◌, ◌*◌, ◌==◌, ◌&&◌, Bool, cond, List, [], ◌∷◌, length}
 use Rattle.round.specs.Letters.{Letter}
-use Rattle.world.specs.Accounted.{row_of}
+use Rattle.world.specs.Accounted.{row_by}
 
 -- the list without the first letter that passes
 abbrev pub without : (Letter → Bool) → List Letter → List Letter
@@ -23,4 +23,4 @@ left_rounds n (suc r) letters = left_row n (suc r) (left_rounds n r letters)
 -- as many letters as places, and each place has one
 pub record IsGrid (n rounds : ℕ) (letters : List Letter) : Type 0 where
   pub count : length letters ≡ rounds * n
-  pub rows : (r : ℕ) → r < rounds → length (row_of n (suc r) letters) ≡ n
+  pub rows : (r : ℕ) → r < rounds → length (row_by n (suc r) letters) ≡ n

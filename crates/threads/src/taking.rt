@@ -2,7 +2,7 @@
 ghost use Rattle.std.specs.Prelude.{◌≡◌, ◌+◌, ◌<◌, ◌≤◌, ◌∷◌, [], suc, length, MatchOption, IfOk, IfSome, slice_get};
 ghost use Rattle.std.specs.List.{remove};
 ghost use Rattle.world.specs.World.{each};
-ghost use Rattle.world.specs.Accounted.{letter_by, row_of};
+ghost use Rattle.world.specs.Accounted.{letter_by, row_by};
 ghost use Rattle.threads.specs.Taking.{left_by, left_row, IsGrid};
 
 use round::{Letter, Round};
@@ -42,7 +42,7 @@ fn row(
     generals: u32,
     round: u32,
 ) -> Result<Option<Vec<Letter>>, AllocError>
-    ensures row { IfOk result (λ o. MatchOption o (length (row_of generals round letters.old.items) < generals) (λ row. (row.items ≡ row_of generals round letters.old.items) × (length row.items ≡ generals))) }
+    ensures row { IfOk result (λ o. MatchOption o (length (row_by generals round letters.old.items) < generals) (λ row. (row.items ≡ row_by generals round letters.old.items) × (length row.items ≡ generals))) }
     ensures left { IfOk result (λ o. IfSome o (λ _. letters.new.items ≡ left_row generals round letters.old.items)) }
     ensures fewer { IfOk result (λ o. IfSome o (λ _. length letters.new.items + generals ≡ length letters.old.items)) }
 {
@@ -64,7 +64,7 @@ pub(crate) fn arrange(
     rounds: u32,
 ) -> Result<Option<Vec<Round>>, AllocError>
     ensures grid { IfOk result (λ o. MatchOption o (¬ IsGrid generals rounds letters.items)
-        (λ rows. IsGrid generals rounds letters.items × (rows.items ≡ each rounds (λ r. row_of generals (suc r) letters.items ∷ [])))) }
+        (λ rows. IsGrid generals rounds letters.items × (rows.items ≡ each rounds (λ r. row_by generals (suc r) letters.items ∷ [])))) }
     ensures count { IfOk result (λ o. IfSome o (λ rows. length rows.items ≡ rounds)) }
 {
     let mut left = letters;

@@ -1,7 +1,7 @@
 use Rattle.std.proofs.Common.{rules, ◌≡◌, ◌+◌, ℕ, suc, List, [], ◌∷◌, true, false, ap, sym, subst, ◌∙◌, arith}
 use Rattle.round.specs.Letters.{Letter}
 use Rattle.world.specs.World.{each}
-use Rattle.world.specs.Accounted.{row_of, rounds_of, AreAccounted}
+use Rattle.world.specs.Accounted.{row_by, rounds_of, AreAccounted}
 use Rattle.threads.specs.Taking.{IsGrid}
 use Rattle.threads.proofs.Grids.{grid_of}
 use Rattle.threads.proofs.gathering.gathered.Goals as goal
@@ -21,7 +21,7 @@ returns-then-not-branch-clause-unaccounted c e h =
     let letters = c.args.letters.items in
     let generals : c.from-generals.result ≡ s.generals = (let a = c.from-generals.ensures in let b = c.generals.ensures.same in omega arith) in
     let rounds : c.from-rounds.result + 1 ≡ suc s.bound = (let a = c.from-rounds.ensures in let b = c.bound.ensures.same in omega arith) in
-    let taken : c.in-Some.rows.items ≡ each (c.from-rounds.result + 1) (λ r. row_of c.from-generals.result (suc r) letters ∷ []) = search rules in
-    let all : c.as_slice.result.now ≡ rounds_of s letters = c.as_slice.ensures.value ∙ (taken ∙ (λ i. each (rounds i) (λ r. row_of (generals i) (suc r) letters ∷ []))) in
+    let taken : c.in-Some.rows.items ≡ each (c.from-rounds.result + 1) (λ r. row_by c.from-generals.result (suc r) letters ∷ []) = search rules in
+    let all : c.as_slice.result.now ≡ rounds_of s letters = c.as_slice.ensures.value ∙ (taken ∙ (λ i. each (rounds i) (λ r. row_by (generals i) (suc r) letters ∷ []))) in
     let found : false ≡ true = sym c.if-not-branch.true ∙ c.in_ok-are_accounted.ensures.exact.1 (subst (λ (rows : List (List Letter)). AreAccounted s [] c.args.ledger.now rows) (sym all) h.1) in
     cc
