@@ -15,17 +15,18 @@ use threads::{Gate, muster};
 /// How many turns a general is held at most.
 const TURNS: u32 = 100_000_000;
 
-/// Whether the count comes to so many within the turns.
-fn comes_to(count: &AtomicU32, wanted: u32) -> bool {
+/// Holds a general until the count has come to so many. Where the turns are over before, that is noted, and nobody is
+/// held any more.
+fn hold(count: &AtomicU32, wanted: u32, missed: &AtomicU32) {
     for turn in 0..TURNS {
-        if count.load(Ordering::SeqCst) >= wanted {
-            return true;
+        if count.load(Ordering::SeqCst) >= wanted || missed.load(Ordering::SeqCst) > 0 {
+            return;
         }
         if turn % 1024 == 0 {
             thread::yield_now();
         }
     }
-    false
+    missed.fetch_add(1, Ordering::SeqCst);
 }
 
 /// No count of a round.
@@ -58,9 +59,7 @@ impl Gate for Meeting {
             return;
         };
         come.fetch_add(1, Ordering::SeqCst);
-        if !comes_to(come, self.wanted) {
-            self.missed.fetch_add(1, Ordering::SeqCst);
-        }
+        hold(come, self.wanted, &self.missed);
     }
 }
 
@@ -142,8 +141,8 @@ impl Gate for Reversing {
         };
         if general == 4 && nth == 1 {
             come.store(1, Ordering::SeqCst);
-        } else if general == 0 && nth == 0 && !comes_to(come, 1) {
-            self.missed.fetch_add(1, Ordering::SeqCst);
+        } else if general == 0 && nth == 0 {
+            hold(come, 1, &self.missed);
         }
     }
 }
