@@ -6,6 +6,7 @@ mod bytecode;
 mod campaigns;
 mod figure;
 mod median;
+mod musters;
 mod plain;
 mod report;
 mod rounds;
@@ -19,5 +20,6 @@ fn main(rt: HostRuntime) -> Result<()> {
     report::report(&rt)?;
     trees::report_trees(&rt)?;
     rounds::report_rounds(&rt)?;
-    campaigns::report_campaigns(&rt)
+    campaigns::report_campaigns(&rt)?;
+    musters::report_musters(&rt)
 }

@@ -16,11 +16,17 @@ mod cells;
 #[cfg(test)]
 mod chronicles;
 #[cfg(test)]
+mod gates;
+#[cfg(test)]
+mod gathers;
+#[cfg(test)]
 mod known_bits;
 #[cfg(test)]
 mod labels;
 #[cfg(test)]
 mod lives;
+#[cfg(test)]
+mod musters;
 #[cfg(test)]
 mod outboxes;
 #[cfg(test)]
@@ -41,6 +47,8 @@ mod serving;
 mod tables;
 #[cfg(test)]
 mod tasks;
+#[cfg(test)]
+mod threaded;
 #[cfg(test)]
 mod trees;
 #[cfg(test)]

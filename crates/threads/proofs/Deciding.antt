@@ -1,6 +1,6 @@
 -- The decisions of all trees, as a list, are those of the campaign.
-use Rattle.std.proofs.Common.{◌≡◌, ◌≢◌, ℕ, zero, suc, ◌+◌, ◌<◌, ◌≤◌, List, [], ◌∷◌, ◌++◌, length, map, take, get_or, true, false, refl, sym, ap, subst, ◌∙◌, ⊎_elim, Some, arith, length-append}
-use Rattle.std.specs.Prelude.{◌==◌, nat_lt, slice_get}
+use Rattle.std.proofs.Common.{◌≡◌, ◌≢◌, ℕ, zero, suc, ◌+◌, ◌<◌, ◌≤◌, List, [], ◌∷◌, ◌++◌, length, map, take, true, false, refl, sym, ap, subst, ◌∙◌, ⊎_elim, Some, arith}
+use Rattle.std.specs.Prelude.{◌==◌, slice_get}
 use Rattle.std.specs.List.{AllZip}
 use Rattle.std.proofs.lemmas.Bool.{eq-eqb, ne_eqb, lt-ltb, le-ltb}
 use Rattle.std.proofs.lemmas.Bool.Decides.{eqb_tells}
@@ -8,7 +8,7 @@ use Rattle.std.proofs.lemmas.List.{map-append, take_all}
 use Rattle.combine.specs.Chosen.{combined_by}
 use Rattle.label.specs.Labels.{others}
 use Rattle.label.specs.Lieutenants.{lieutenants}
-use Rattle.label.specs.Oral.{Messages, om}
+use Rattle.label.specs.Oral.{om}
 use Rattle.label.proofs.Ranks.{others-more_no, others-more_yes}
 use Rattle.tree.specs.LieutenantTree.{LieutenantTree}
 use Rattle.resolve.specs.Decided.{Decides}
@@ -17,7 +17,6 @@ use Rattle.round.specs.Letters.{Letter, messages}
 use Rattle.round.specs.Told.{IsTreeOf, Heard, WasTold, lieutenant_at}
 use Rattle.world.specs.World.{each}
 use Rattle.world.specs.Chronicle.{decision, decisions}
-use Rattle.world.proofs.Listing.{each-length}
 
 one_by_one : (f : ℕ → ℕ) (n : ℕ) (g : ℕ → ℕ) → map f (each n (λ i. g i ∷ [])) ≡ each n (λ i. f (g i) ∷ [])
 one_by_one f zero g = refl

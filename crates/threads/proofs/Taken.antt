@@ -1,5 +1,5 @@
 -- Letters taken out of a list one at a time.
-use Rattle.std.proofs.Common.{◌≡◌, ◌≢◌, ◌⊎◌, ℕ, zero, suc, ◌+◌, ◌*◌, ◌<◌, ◌≤◌, Bool, true, false, cond, List, [], ◌∷◌, ◌++◌, length, map, take, drop, refl, sym, ap, subst, ◌∙◌, ⊎_elim, Option, None, Some, arith, length-append}
+use Rattle.std.proofs.Common.{◌≡◌, ◌≢◌, ℕ, zero, suc, ◌+◌, ◌<◌, ◌≤◌, Bool, true, false, cond, List, [], ◌∷◌, ◌++◌, length, take, refl, sym, ap, subst, ◌∙◌, ⊎_elim, Option, None, Some, arith, length-append}
 use Rattle.std.specs.Prelude.{◌==◌, ◌&&◌, slice_get}
 use Rattle.std.specs.List.{find, remove}
 use Rattle.std.proofs.Math.Numerals.{add-one}
@@ -8,7 +8,7 @@ use Rattle.std.proofs.lemmas.Bool.Decides.{eqb_tells}
 use Rattle.round.specs.Letters.{Letter}
 use Rattle.world.specs.World.{each}
 use Rattle.world.specs.Accounted.{letter_by, alone, row_by}
-use Rattle.threads.specs.Taking.{without, left_by, left_row, left_rounds, IsGrid}
+use Rattle.threads.specs.Taking.{without, left_by, left_row, left_rounds}
 
 abbrev pub is_by : ℕ → ℕ → Letter → Bool
 is_by g round l = (l.general == g) && (l.round == round)

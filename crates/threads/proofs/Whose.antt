@@ -1,14 +1,13 @@
 -- Letters that stand, and have the context of their round, are those of their generals; and what letters of a round are.
-use Rattle.std.proofs.Common.{◌≡◌, IsTrue, ℕ, suc, ◌<◌, ◌≤◌, List, [], length, refl, sym, ap, subst, ◌∙◌, true, Bool, arith, Option, None, Some}
-use Rattle.std.specs.Prelude.{◌||◌, ◌↔◌, slice_get}
+use Rattle.std.proofs.Common.{◌≡◌, IsTrue, ℕ, suc, ◌<◌, ◌≤◌, List, length, refl, sym, ap, subst, ◌∙◌, Bool, arith, Option, None, Some}
+use Rattle.std.specs.Prelude.{◌↔◌}
 use Rattle.insn.specs.declared.insn.Insn.{Insn}
-use Rattle.outbox.specs.Contents.{Contents}
 use Rattle.label.specs.declared.shape.Shape.{Shape}
 use Rattle.board.specs.Board.{Access}
 use Rattle.round.specs.Scenario.{Scenario, IsScenario, program_of, shape_of}
 use Rattle.round.specs.Letters.{Letter}
-use Rattle.round.specs.Contexts.{AreWords, context_of, shape_told, outbox_told, letter_told, loyal_letter}
-use Rattle.round.specs.Activation.{Activation, started, is_reached}
+use Rattle.round.specs.Contexts.{AreWords, context_of, shape_told, outbox_told, loyal_letter}
+use Rattle.round.specs.Activation.{started}
 use Rattle.round.specs.Runs.{Runs, IsWithin, IsRunOf, IsLetter}
 use Rattle.round.specs.Told.{AreLettersOf}
 use Rattle.round.proofs.Loyal.{shape_is_told, letter_is}

@@ -1,6 +1,7 @@
 ghost use Rattle.std.specs.Prelude.{◌≡◌, true, IfOk};
 ghost use Rattle.semantics.specs.Call.{fits};
 ghost use Rattle.semantics.specs.Replies.{words_in};
+ghost use Rattle.board.specs.Board.{IsLegal, words_after};
 ghost use Rattle.board.specs.Requests.{IsReplyTo};
 
 use board::Board;
@@ -41,9 +42,14 @@ impl SharedBoard {
         self.board.lock(rt).apply(general, round, request)
     }
 
-    /// The board that was shared.
-    pub fn into_board(self) -> Board {
+    /// The board that was shared, with all accesses that it has served: each reply is what the words before it gave.
+    pub fn into_board(self) -> Board
+        ensures legal { IsLegal result.opening result.ledger }
+        ensures left { result.words ≡ words_after result.opening result.ledger }
+    {
         let SharedBoard { board } = self;
-        board.into_inner()
+        let board = board.into_inner();
+        let (_legal, _left) = (board.ledger(), board.words());
+        board
     }
 }

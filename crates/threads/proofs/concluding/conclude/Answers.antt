@@ -3,7 +3,7 @@ use Rattle.label.specs.Lieutenants.{AgreeInList}
 use Rattle.board.specs.Board.{Access, IsLegal}
 use Rattle.round.specs.Scenario.{is_traitor}
 use Rattle.round.specs.Letters.{Letter, messages}
-use Rattle.world.specs.Lists.{IsComplete, replayed, names_in}
+use Rattle.world.specs.Lists.{names_in}
 use Rattle.world.specs.Chronicle.{Chronicle, decisions, chronicle_of}
 use Rattle.world.specs.Replay.{replay_of}
 use Rattle.world.specs.Safety.{IsShort}

@@ -1,4 +1,4 @@
-use Rattle.std.proofs.Common.{◌≡◌, ◌<◌, ◌≤◌, ℕ, List, length, ◌∙◌, ap, subst, arith}
+use Rattle.std.proofs.Common.{List, length, ◌∙◌, ap, subst, arith}
 use Rattle.std.specs.List.{AllZip}
 use Rattle.combine.specs.Chosen.{combined_by}
 use Rattle.combine.specs.declared.chosen.Rule.{Rule}

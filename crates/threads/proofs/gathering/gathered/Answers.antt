@@ -1,4 +1,4 @@
-use Rattle.std.proofs.Common.{rules, ◌≡◌, ◌+◌, ℕ, suc, List, [], ◌∷◌, true, false, ap, sym, subst, ◌∙◌, arith}
+use Rattle.std.proofs.Common.{rules, ◌≡◌, ◌+◌, ℕ, suc, List, [], ◌∷◌, true, false, sym, subst, ◌∙◌, arith}
 use Rattle.round.specs.Letters.{Letter}
 use Rattle.world.specs.World.{each}
 use Rattle.world.specs.Accounted.{row_by, rounds_of, AreAccounted}

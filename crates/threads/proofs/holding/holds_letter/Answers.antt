@@ -1,4 +1,4 @@
-use Rattle.std.proofs.Common.{◌≡◌, ◌≤◌, ◌+◌, suc, length, refl, arith}
+use Rattle.std.proofs.Common.{◌+◌, refl, arith}
 use Rattle.threads.proofs.Whose.{holds}
 use Rattle.threads.proofs.holding.holds_letter.Goals as goal
 

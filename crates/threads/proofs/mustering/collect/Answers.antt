@@ -1,4 +1,4 @@
-use Rattle.std.proofs.Common.{◌≡◌, ◌≤◌, ◌+◌, ℕ, suc, List, [], ◌∷◌, ◌++◌, length, length-append, refl, sym, subst, ◌∙◌, arith}
+use Rattle.std.proofs.Common.{◌≡◌, ◌+◌, ℕ, suc, List, [], ◌∷◌, ◌++◌, length-append, refl, sym, subst, ◌∙◌, arith}
 use Rattle.round.specs.Letters.{Letter}
 use Rattle.round.specs.Told.{AreLettersOf}
 use Rattle.threads.proofs.mustering.collect.Goals as goal

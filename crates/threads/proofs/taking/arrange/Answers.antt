@@ -1,4 +1,4 @@
-use Rattle.std.proofs.Common.{rules, length-append, ◌∷◌, [], ◌≡◌, ◌<◌, ℕ, suc, ◌+◌, length, ap, sym, ◌∙◌, arith, below_more}
+use Rattle.std.proofs.Common.{rules, length-append, ◌∷◌, [], ◌≡◌, ◌<◌, suc, ◌+◌, length, ap, sym, ◌∙◌, arith, below_more}
 use Rattle.world.specs.Accounted.{row_by}
 use Rattle.threads.proofs.Taken.{row_long, rows_more}
 use Rattle.threads.proofs.taking.arrange.Goals as goal

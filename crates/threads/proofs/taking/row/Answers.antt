@@ -1,4 +1,4 @@
-use Rattle.std.proofs.Common.{◌≡◌, ap, sym, ◌∙◌, None, Some, arith, length, length-append, ◌∷◌, []}
+use Rattle.std.proofs.Common.{◌≡◌, ap, sym, ◌∙◌, None, arith, length, length-append, ◌∷◌, []}
 use Rattle.world.specs.Accounted.{letter_by}
 use Rattle.threads.proofs.Taken.{row_same, row_short, row_more}
 use Rattle.threads.proofs.taking.row.Goals as goal

@@ -1,4 +1,4 @@
-use Rattle.std.proofs.Common.{◌≡◌, ◌≤◌, ◌+◌, suc, length, arith}
+use Rattle.std.proofs.Common.{◌+◌, arith}
 use Rattle.threads.proofs.Tasks.{task_is}
 use Rattle.threads.proofs.task.Task.new.Goals as goal
 
