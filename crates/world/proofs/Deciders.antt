@@ -9,7 +9,7 @@ use Rattle.label.specs.Oral.{Messages, om}
 use Rattle.label.specs.Lieutenants.{lieutenants}
 use Rattle.combine.specs.declared.chosen.Rule.{Rule}
 use Rattle.combine.specs.Chosen.{combined_by}
-use Rattle.board.specs.Ledger.{LieutenantTree as Board}
+use Rattle.board.specs.Ledger.{RecordedBoard as Board}
 use Rattle.tree.specs.LieutenantTree.{LieutenantTree}
 use Rattle.resolve.specs.Decided.{Decides}
 use Rattle.round.specs.Scenario.{Scenario, IsScenario}

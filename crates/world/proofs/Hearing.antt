@@ -16,7 +16,7 @@ use Rattle.round.proofs.Loyal.{shape_is_told, own_is_told, letter_is}
 use Rattle.world.specs.Part.{Part, Acting, Silent, Posted}
 use Rattle.world.specs.World.{World, each}
 use Rattle.world.specs.Reached.{world_of, IsHeld}
-use Rattle.world.specs.Held.{written, round_letters}
+use Rattle.world.specs.Held.{written, letters_held}
 use Rattle.world.specs.Safety.{IsPlaced}
 use Rattle.world.proofs.Standing.{proved_parts_are_placed}
 use Rattle.world.proofs.Listed.{get_at}
@@ -45,14 +45,14 @@ written_round s closed accesses g (Some Posted) h = all_one (IsOfRound s (suc (l
 
 -- the letters of a held world's round are of that round
 pub row_told : (s : Scenario) (closed : List (List Letter)) (k : RecordedBoard) (opened : ℕ) (ps : List Part) (full : Bool) (told : Heard) (row : List Letter) → IsScenario s → IsHeld s closed k opened ps full → WasTold s closed told →
-    row ≡ round_letters s closed (drop opened k.ledger) ps → AreLettersOf s (suc told.rounds) row
+    row ≡ letters_held s closed (drop opened k.ledger) ps → AreLettersOf s (suc told.rounds) row
 row_told s closed k opened ps full told row is h was same i l at =
     let Q : World → Type 0 = λ v. (g : ℕ) (a : Activation) → slice_get v.parts g ≡ Some (Acting a) → IsPlaced s v.closed g a in
     let placed = subst Q h.reached.1 (λ g a e. proved_parts_are_placed s h.reached.0 g a is e) in
     let all = each_all (IsOfRound s (suc (length closed))) s.generals (λ g. written s closed (drop opened k.ledger) g (slice_get ps g)) (λ g. written_round s closed (drop opened k.ledger) g (slice_get ps g) (λ a e. placed g a e)) in
-    let here : slice_get (round_letters s closed (drop opened k.ledger) ps) i ≡ Some l = ap (λ (r : List Letter). slice_get r i) (sym same) ∙ at in
-    let within = slice_get_within (round_letters s closed (drop opened k.ledger) ps) i l here in
-    let it : get_or (round_letters s closed (drop opened k.ledger) ps) i l ≡ l = (let f : Some (get_or (round_letters s closed (drop opened k.ledger) ps) i l) ≡ Some l = sym (get_at (round_letters s closed (drop opened k.ledger) ps) i l within) ∙ here in cc) in
+    let here : slice_get (letters_held s closed (drop opened k.ledger) ps) i ≡ Some l = ap (λ (r : List Letter). slice_get r i) (sym same) ∙ at in
+    let within = slice_get_within (letters_held s closed (drop opened k.ledger) ps) i l here in
+    let it : get_or (letters_held s closed (drop opened k.ledger) ps) i l ≡ l = (let f : Some (get_or (letters_held s closed (drop opened k.ledger) ps) i l) ≡ Some l = sym (get_at (letters_held s closed (drop opened k.ledger) ps) i l within) ∙ here in cc) in
     let one : IsOfRound s (suc (length closed)) l = subst (IsOfRound s (suc (length closed))) it (all i l within) in
     subst (λ (n : ℕ). IsOfRound s (suc n) l) (sym was.rounds) one
 

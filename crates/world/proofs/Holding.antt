@@ -17,7 +17,7 @@ use Rattle.world.specs.Part.{Part, Acting, Silent, Posted, has_posted}
 use Rattle.world.specs.World.{World, each, opening, served, ticked, posting, closing, happen, run, round_open, letters_at, round_letters, accesses_of}
 use Rattle.world.specs.Reached.{world_of, IsHeld}
 use Rattle.board.specs.Board.{Access}
-use Rattle.world.specs.Held.{ticked_of, posted_of, AheadTo, written, round_letters, beginnings, AreLetters}
+use Rattle.world.specs.Held.{ticked_of, posted_of, AheadTo, written, letters_held, beginnings, AreLetters}
 use Rattle.round.specs.Running.{letter_left}
 use Rattle.world.specs.Safety.{IsPlaced, HasRun}
 use Rattle.round.proofs.Ends.{proved_patience_is_kept}
@@ -221,7 +221,7 @@ each-same zero f h e = refl
 each-same (suc n) f h e = (λ i. each-same n f h e i ++ e n i)
 
 module _ (s : Scenario) (closed : List (List Letter)) (k : RecordedBoard) (opened : ℕ) (ps : List Part) (full : Bool) where
-  same_row : IsScenario s → IsHeld s closed k opened ps full → round_letters s closed (drop opened k.ledger) ps ≡ round_letters (world_of s closed k opened ps full)
+  same_row : IsScenario s → IsHeld s closed k opened ps full → letters_held s closed (drop opened k.ledger) ps ≡ round_letters (world_of s closed k opened ps full)
   same_row is h =
       let w = world_of s closed k opened ps full in
       let Q : World → Type 0 = λ v. (g : ℕ) (a : Activation) → slice_get v.parts g ≡ Some (Acting a) → IsPlaced s v.closed g a in
@@ -231,7 +231,7 @@ module _ (s : Scenario) (closed : List (List Letter)) (k : RecordedBoard) (opene
 
   -- what is made for a close is the event
   pub close_is : (row : List Letter) (closed' : List (List Letter)) (opened' : ℕ) (ps' : List Part) (full' : Bool) → IsScenario s → IsHeld s closed k opened ps full → length closed ≤ s.bound →
-      row ≡ round_letters s closed (drop opened k.ledger) ps → closed' ≡ closed ++ row ∷ [] → ps' ≡ beginnings s closed' → opened' ≡ length k.ledger → full' ≡ (full && list_all has_posted ps) →
+      row ≡ letters_held s closed (drop opened k.ledger) ps → closed' ≡ closed ++ row ∷ [] → ps' ≡ beginnings s closed' → opened' ≡ length k.ledger → full' ≡ (full && list_all has_posted ps) →
       world_of s closed' k opened' ps' full' ≡ happen (world_of s closed k opened ps full) Close
   close_is row closed' opened' ps' full' is h le row_is closed_is parts_are opened_is full_is =
       let w = world_of s closed k opened ps full in
@@ -239,8 +239,8 @@ module _ (s : Scenario) (closed : List (List Letter)) (k : RecordedBoard) (opene
       let parts : ps' ≡ beginnings s (closed ++ round_letters w ∷ []) = parts_are ∙ ap (λ (c : List (List Letter)). beginnings s c) rows in
       (λ i. world_of s (rows i) k (opened_is i) (parts i) (full_is i)) ∙ sym (ap (λ b. cond b (closing w) w) (is_open s closed k opened ps full le))
 
-pub same_rows : (s : Scenario) (c c' : List (List Letter)) (a a' : List Access) (p p' : List Part) → c' ≡ c → a' ≡ a → p' ≡ p → round_letters s c' a' p' ≡ round_letters s c a p
-same_rows s c c' a a' p p' e f h = (λ i. round_letters s (e i) (f i) (h i))
+pub same_rows : (s : Scenario) (c c' : List (List Letter)) (a a' : List Access) (p p' : List Part) → c' ≡ c → a' ≡ a → p' ≡ p → letters_held s c' a' p' ≡ letters_held s c a p
+same_rows s c c' a a' p p' e f h = (λ i. letters_held s (e i) (f i) (h i))
 
 -- a world has as many rounds at most
 pub held_few : (s : Scenario) (closed : List (List Letter)) (k : RecordedBoard) (opened : ℕ) (ps : List Part) (full : Bool) → IsScenario s → IsHeld s closed k opened ps full → length closed ≤ suc s.bound

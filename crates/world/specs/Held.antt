@@ -55,8 +55,8 @@ written s closed accesses g (Some Posted) = loyal_letter s closed g ∷ []
 written s closed accesses g None = []
 
 -- the letters of a round
-abbrev pub round_letters : Scenario → List (List Letter) → List Access → List Part → List Letter
-round_letters s closed accesses parts = each s.generals (λ g. written s closed accesses g (slice_get parts g))
+abbrev pub letters_held : Scenario → List (List Letter) → List Access → List Part → List Letter
+letters_held s closed accesses parts = each s.generals (λ g. written s closed accesses g (slice_get parts g))
 
 -- how the generals begin the round behind these
 abbrev pub beginnings : Scenario → List (List Letter) → List Part

@@ -7,7 +7,7 @@ ghost use Rattle.round.specs.Runs.{IsLetter};
 ghost use Rattle.round.specs.Told.{WasTold};
 ghost use Rattle.world.specs.Part.{Acting, has_posted};
 ghost use Rattle.world.specs.World.{accesses_of};
-ghost use Rattle.world.specs.Held.{written, round_letters, AreLetters};
+ghost use Rattle.world.specs.Held.{written, letters_held, AreLetters};
 ghost use Rattle.round.specs.Running.{letter_left};
 
 use crate::part::Part;
@@ -27,7 +27,7 @@ pub(crate) fn letters(
     requires told { WasTold scenario.now closed.now told.now }
     requires left { length closed.now ≤ scenario.now.bound }
     requires runs { AreLetters (suc (length closed.now)) accesses.now parts.now }
-    ensures { IfOk result (λ row. row.items ≡ round_letters scenario.now closed.now accesses.now parts.now) }
+    ensures { IfOk result (λ row. row.items ≡ letters_held scenario.now closed.now accesses.now parts.now) }
 {
     let mut row = Vec::with_capacity(alloc, parts.len())?;
     for general in 0..scenario.generals() {

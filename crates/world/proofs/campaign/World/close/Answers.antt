@@ -7,7 +7,7 @@ use Rattle.world.specs.Part.{Part, has_posted}
 use Rattle.round.specs.Letters.{Letter}
 use Rattle.world.specs.World.{World, happen}
 use Rattle.world.specs.Reached.{world_of}
-use Rattle.world.specs.Held.{round_letters, beginnings}
+use Rattle.world.specs.Held.{letters_held, beginnings}
 use Rattle.world.proofs.Holding.{held_on, close_is, same_rows, runs_for}
 use Rattle.world.proofs.Hearing.{row_told, told_on}
 use Rattle.world.proofs.campaign.World.close.Goals as goal
@@ -18,7 +18,7 @@ is_close : (c : goal.After-drop-self-inside) →
 is_close c =
     let s = c.self.inside in
     let le : length s.closed.items ≤ s.scenario.bound = subst (λ (w : World). length w.closed ≤ w.scenario.bound) (sym c.self.view_is) c.requires in
-    let row_is : c.in-Ok.row.items ≡ round_letters s.scenario s.closed.items (drop s.opened s.board.ledger) s.parts.items =
+    let row_is : c.in-Ok.row.items ≡ letters_held s.scenario s.closed.items (drop s.opened s.board.ledger) s.parts.items =
     c.in-Ok.ensures ∙ same_rows s.scenario _ _ _ _ _ _ c.as_slice.ensures.value (c.since-accesses.ensures ∙ ap (drop s.opened) c.ledger.ensures.same) c.as_slice-2.ensures.value in
     let parts_are : c.in-Ok-beginnings.parts.items ≡ beginnings s.scenario c.push.new.self.items =
     c.in-Ok-beginnings.ensures ∙ ap (λ (l : List (List Letter)). beginnings s.scenario l) c.as_slice-4.ensures.value in
