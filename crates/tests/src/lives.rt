@@ -88,7 +88,7 @@ fn words_of(alloc: Global, letter: &Letter) -> Result<Vec<u64>, Fail> {
 #[test]
 fn traitors_live_again(rt: HostRuntime) -> Result<(), Fail> {
     let alloc = rt.alloc();
-    let mut count = 0;
+    let mut lives = Vec::new(alloc);
     let chronicle = played(alloc, counted(alloc, SEVEN)?.as_str(), "4*15")?;
     for round in chronicle.letters() {
         for letter in round.letters() {
@@ -98,11 +98,12 @@ fn traitors_live_again(rt: HostRuntime) -> Result<(), Fail> {
                 let again = lived(alloc, &mut server, letter, None)?;
                 assert!(rt; again.same(letter));
                 assert_eq!(rt; server.served.len(), 1);
-                count += 1;
+                lives.push((letter.general, letter.round))?;
             }
         }
     }
-    assert_eq!(rt; count, 6);
+    let expected = [(0, 1), (4, 1), (0, 2), (4, 2), (0, 3), (4, 3)];
+    assert_eq!(rt; lives.as_slice(), expected.as_slice());
     Ok(())
 }
 
