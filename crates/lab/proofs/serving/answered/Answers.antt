@@ -1,7 +1,6 @@
 use Rattle.std.proofs.Common.{ℕ, ◌≡◌, List, ap, subst, sym}
 use Rattle.lab.specs.Answers.{ComesTo, Prints}
 use Rattle.lab.specs.Serving.{Files, files}
-use Rattle.lab.specs.declared.outcome.Outcome.{Outcome}
 use Rattle.lab.specs.declared.outcome.Outcome.TheVariants.{Text, Campaign}
 use Rattle.lab.proofs.FilesLemmas.{answered_alone, answered_by_both}
 use Rattle.lab.proofs.serving.answered.Goals as goal
