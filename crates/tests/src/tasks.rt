@@ -37,7 +37,10 @@ fn a_schedule_stands_before_or_behind_the_scenario(rt: HostRuntime) -> Result<()
     let alloc = rt.alloc();
     assert_eq!(rt;
         task(alloc, &["play", "s.toml"])?,
-        Task::Play { scenario: text(alloc, "s.toml")?, schedule: None }
+        Task::Play {
+            scenario: text(alloc, "s.toml")?,
+            schedule: None
+        }
     );
     let with: [&[&str]; 7] = [
         &["play", "s", "--schedule", "t"],
@@ -181,8 +184,14 @@ fn each_usage_begins_with_the_program(rt: HostRuntime) -> Result<(), Fail> {
     for (words, usage) in [
         (["check", "--help"], "Usage: byzlab check <FILE>"),
         (["asm", "--asm"], "Usage: byzlab asm <FILE>"),
-        (["play", "--help"], "Usage: byzlab play [OPTIONS] <SCENARIO>"),
-        (["play", "--play"], "Usage: byzlab play [OPTIONS] <SCENARIO>"),
+        (
+            ["play", "--help"],
+            "Usage: byzlab play [OPTIONS] <SCENARIO>",
+        ),
+        (
+            ["play", "--play"],
+            "Usage: byzlab play [OPTIONS] <SCENARIO>",
+        ),
         (["help", "play"], "Usage: byzlab play [OPTIONS] <SCENARIO>"),
         (["play", "--help"], "--schedule <FILE>"),
     ] {
