@@ -367,8 +367,8 @@ fn no_beginning_is_sound(rt: HostRuntime) -> Result<(), Fail> {
     let text = told(alloc, TWO_TRAITORS, "4*15\n")?;
     let scenario = read(alloc, TWO_TRAITORS).ok().ok_or("scenario")?;
     for length in 0..text.len() {
-        let answer = check(alloc, &scenario, &text.as_str()[..length]);
-        let is_refused = match answer {
+        let beginning = text.as_str().get(..length).ok_or("no beginning")?;
+        let is_refused = match check(alloc, &scenario, beginning) {
             Err(TraceError::Line(_) | TraceError::Scenario(_) | TraceError::Differs(_)) => true,
             Err(TraceError::Write | TraceError::Memory) | Ok(_) => false,
         };
