@@ -248,29 +248,33 @@ const SECOND_FIRST_TWICE: [(u32, u32, u64); 6] = [
     (4, 3, 5),
 ];
 
+/// The two traitors of seven, by this schedule and by these names, make these accesses, and the loyal decide so.
+fn collude(
+    rt: &impl Abort,
+    alloc: Global,
+    schedule: &str,
+    names: &[&[u8]],
+    accesses: &[(u32, u32, u64)],
+    decision: u32,
+) -> Result<(), Fail> {
+    let text = counted(alloc, SEVEN)?;
+    for chronicle in [
+        played(alloc, text.as_str(), schedule)?,
+        replayed(alloc, text.as_str(), names)?,
+    ] {
+        accessed(rt, alloc, &chronicle, accesses)?;
+        five_decide(rt, &chronicle, decision);
+    }
+    Ok(())
+}
+
 #[test]
 fn traitors_collude_on_the_board(rt: HostRuntime) -> Result<(), Fail> {
     let alloc = rt.alloc();
-    let text = counted(alloc, SEVEN)?;
-    for (schedule, names, accesses, decision) in [
-        ("", [].as_slice(), ASCENDING, 0),
-        ("4*15", [[4].as_slice()].as_slice(), SECOND_FIRST, 1),
-        (
-            "4*15\n4*15",
-            [[4].as_slice(), [1, 4, 12].as_slice()].as_slice(),
-            SECOND_FIRST_TWICE,
-            0,
-        ),
-    ] {
-        for chronicle in [
-            played(alloc, text.as_str(), schedule)?,
-            replayed(alloc, text.as_str(), names)?,
-        ] {
-            accessed(&rt, alloc, &chronicle, &accesses)?;
-            five_decide(&rt, &chronicle, decision);
-        }
-    }
-    Ok(())
+    collude(&rt, alloc, "", &[], &ASCENDING, 0)?;
+    collude(&rt, alloc, "4*15", &[&[4]], &SECOND_FIRST, 1)?;
+    let names: [&[u8]; 2] = [&[4], &[1, 4, 12]];
+    collude(&rt, alloc, "4*15\n4*15", &names, &SECOND_FIRST_TWICE, 0)
 }
 
 /// No letter of these generals gives an order to anyone.
