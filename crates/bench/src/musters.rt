@@ -4,12 +4,11 @@ use crate::median::median;
 use anyhow::{Result, bail};
 use round::Scenario;
 use std::alloc::Global;
-use std::fmt;
 use std::rt::Clock;
 use std::sync::Wait;
-use std::thread;
 use std::thread::Threads;
 use std::time::Instant;
+use std::{fmt, thread};
 use threads::{Open, muster};
 use world::{Chronicle, Schedule, play};
 
@@ -159,7 +158,13 @@ fn time_once<R: Clock + Threads + Wait + Sync>(
     let copy = scenario.copy(alloc)?;
     let start = Instant::now(rt)?;
     let given = match lead {
-        Lead::Play => orders(&play(alloc, copy, &Schedule { lines: Vec::new(alloc) })?),
+        Lead::Play => orders(&play(
+            alloc,
+            copy,
+            &Schedule {
+                lines: Vec::new(alloc),
+            },
+        )?),
         Lead::Muster => orders(&muster(rt, alloc, copy, &Open)?),
         Lead::Threads => started(rt, &copy),
     };

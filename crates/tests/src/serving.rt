@@ -359,13 +359,19 @@ fn failing_files_are_told(rt: HostRuntime) -> Result<(), Fail> {
     let task = Task::Check(String::from_str(alloc, "p.bin")?);
     let mut out = Vec::new(alloc);
     let mut complaint = Vec::new(alloc);
-    assert_eq!(rt; serve(alloc, &task, Broken, None, &mut out, &mut complaint), 1);
+    assert_eq!(rt;
+        serve(alloc, &task, Broken, None, &mut out, &mut complaint),
+        1
+    );
     assert_eq!(rt; out.as_slice(), b"".as_slice());
     assert_eq!(rt; complaint.as_slice(), b"fault read p.bin\n".as_slice());
 
     let bytes = b"\xb7\0\0\0\x2a\0\0\0\x95\0\0\0\0\0\0\0".as_slice();
     let mut complaint = Vec::new(alloc);
-    assert_eq!(rt; serve(alloc, &task, bytes, None, &mut Broken, &mut complaint), 1);
+    assert_eq!(rt;
+        serve(alloc, &task, bytes, None, &mut Broken, &mut complaint),
+        1
+    );
     assert_eq!(rt; complaint.as_slice(), b"fault write\n".as_slice());
     Ok(())
 }
