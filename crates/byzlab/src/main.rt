@@ -51,7 +51,7 @@ fn run(rt: &HostRuntime) -> io::Result<u8> {
         },
         None => None,
     };
-    Ok(serve(alloc, &task, first, second, &mut rt.stdout(), &mut rt.stderr()))
+    Ok(serve(rt, alloc, &task, first, second, &mut rt.stdout(), &mut rt.stderr()))
 }
 
 /// The file; none where it does not open, after the line that says so.

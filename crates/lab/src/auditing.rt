@@ -1,4 +1,4 @@
-ghost use Rattle.std.specs.Prelude.{IfOk, IfErr};
+ghost use Rattle.std.specs.Prelude.{◌≡◌, IfOk, IfErr};
 ghost use Rattle.lab.specs.Campaigns.{IsAudited};
 ghost use Rattle.lab.specs.Lines.{sound_lines};
 ghost use Rattle.lab.specs.Refusals.{RefusesChronicle, RefusesText};
