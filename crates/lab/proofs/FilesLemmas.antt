@@ -1,7 +1,8 @@
 -- What is known of a task's two files.
-use Rattle.std.proofs.Common.{ℕ, ◌≡◌, List, [], refl, subst, sym}
+use Rattle.std.proofs.Common.{ℕ, ◌≡◌, ◌∙◌, List, [], ap, inr, refl, subst, sym}
 use Rattle.std.specs.Borrow.{Bor}
 use Rattle.std.specs.Prelude.{Option, None, Some, Ok, option_map, unwrap_or}
+use Rattle.command_line.specs.Told.{told_of}
 use Rattle.command_line.specs.declared.tasks.Task.{Task}
 use Rattle.command_line.specs.declared.tasks.Task.TheVariants.{Check, Assemble, Disassemble, Book, Play, Muster, Audit}
 use Rattle.round.specs.Scenario.{Scenario}
@@ -9,13 +10,10 @@ use Rattle.world.specs.declared.schedule.Repeat.{Repeat}
 use Rattle.trace.specs.Schedules.{schedule_told}
 use Rattle.lab.specs.Answers.{ComesTo, GoesOn, Prints}
 use Rattle.lab.specs.Campaigns.{IsAudited, IsMustered}
-use Rattle.lab.specs.Faults.{Stops, fault_of}
-use Rattle.lab.specs.Refusals.{RefusesMuster}
-use Rattle.lab.specs.Serving.{AreBytes, AreSecond, AreSecondBytes, Files, IsAnswer, IsAuditOf, IsChronicleRefused, IsPlayedBy, IsRefusedLater, IsScheduleOf, IsScheduleRefused, IsUnmustered}
+use Rattle.lab.specs.Faults.{Prevents, Stops}
+use Rattle.lab.specs.Serving.{AreBytes, AreSecond, AreSecondBytes, Files, IsAnswer, IsAuditOf, IsChronicleRefused, IsPlayedBy, IsRefusedLater, IsScheduleOf, IsScheduleRefused, second_name}
 use Rattle.lab.specs.declared.fault.Fault.{Fault}
 use Rattle.lab.specs.declared.outcome.Outcome.TheVariants as outcome
-use Rattle.lab.specs.declared.refusal.Refusal.{Refusal}
-use Rattle.lab.specs.declared.refusal.Refusal.TheVariants as refusal
 
 -- the schedule that the second file tells
 pub second_told : {R : Type 0} (bytes : R → Option (List ℕ)) (second : Option R) (own : R) (all : List ℕ) (schedule : List (List Repeat))
@@ -78,7 +76,7 @@ answered_audited (Audit scenario chronicle) files first text s are comes (bytes,
     (first, are, (second.0, second.1, (s, comes, subst (λ (own : List ℕ). IsAudited s own text) second.2 audited)))
 
 -- what stops a task behind its first file: its schedule, the threads, or the chronicle
-pub stopped_playing : (task : Task) (unread : Type 0) (first name : List ℕ) (s : Scenario) (known : Option (Option (List ℕ))) (fault : Fault)
+stopped_playing : (task : Task) (unread : Type 0) (first name : List ℕ) (s : Scenario) (known : Option (Option (List ℕ))) (fault : Fault)
     → ComesTo task first (outcome.Play s) → Stops unread (IsScheduleRefused known) name fault
     → GoesOn task first s × Stops unread (IsRefusedLater task s known) name fault
 stopped_playing (Check file) unread first name s known fault comes why = absurd comes
@@ -89,7 +87,7 @@ stopped_playing (Play scenario listing) unread first name s known fault comes wh
 stopped_playing (Muster scenario) unread first name s known fault comes why = absurd comes
 stopped_playing (Audit scenario chronicle) unread first name s known fault comes why = absurd comes
 
-pub stopped_auditing : (task : Task) (unread : Type 0) (first name : List ℕ) (s : Scenario) (known : Option (Option (List ℕ))) (fault : Fault)
+stopped_auditing : (task : Task) (unread : Type 0) (first name : List ℕ) (s : Scenario) (known : Option (Option (List ℕ))) (fault : Fault)
     → ComesTo task first (outcome.Audit s) → Stops unread (IsChronicleRefused s known) name fault
     → GoesOn task first s × Stops unread (IsRefusedLater task s known) name fault
 stopped_auditing (Check file) unread first name s known fault comes why = absurd comes
@@ -100,25 +98,31 @@ stopped_auditing (Play scenario listing) unread first name s known fault comes w
 stopped_auditing (Muster scenario) unread first name s known fault comes why = absurd comes
 stopped_auditing (Audit scenario chronicle) unread first name s known fault comes why = (comes, why)
 
--- the fault of threads
-unmustered : (unread : Type 0) (refusal : Refusal) (file : Bor (List ℕ)) (name : List ℕ) → RefusesMuster refusal → Stops unread IsUnmustered name (fault_of refusal file)
-unmustered unread (refusal.Codec error) file name refused = absurd refused
-unmustered unread (refusal.Verifier error) file name refused = absurd refused
-unmustered unread (refusal.Assembly error) file name refused = absurd refused
-unmustered unread (refusal.Table error) file name refused = absurd refused
-unmustered unread (refusal.Scenario error) file name refused = absurd refused
-unmustered unread (refusal.Trace error) file name refused = absurd refused
-unmustered unread (refusal.Threads error) file name refused = (λ e. cc, (λ e. cc, refused))
-unmustered unread refusal.NotText file name refused = absurd refused
-unmustered unread refusal.Memory file name refused = tt
+-- why it has no answer then
+pub prevented_playing : (task : Task) (files : Files) (unread second_unread : Type 0) (first name : List ℕ) (s : Scenario) (fault : Fault)
+    → AreBytes files.first first → ComesTo task first (outcome.Play s) → name ≡ second_name task
+    → Stops second_unread (IsScheduleRefused files.second) name fault → Prevents unread second_unread task files fault
+prevented_playing task files unread second_unread first name s fault are comes named why =
+    let own : Stops second_unread (IsScheduleRefused files.second) (second_name task) fault =
+    subst (λ (n : List ℕ). Stops second_unread (IsScheduleRefused files.second) n fault) named why in
+    let stopped = stopped_playing task second_unread first (second_name task) s files.second fault comes own in
+    inr (s, (first, are, stopped.0), stopped.1)
 
-pub stopped_mustering : (task : Task) (unread : Type 0) (first name : List ℕ) (s : Scenario) (known : Option (Option (List ℕ))) (refusal : Refusal) (file : Bor (List ℕ))
-    → ComesTo task first (outcome.Muster s) → RefusesMuster refusal
-    → GoesOn task first s × Stops unread (IsRefusedLater task s known) name (fault_of refusal file)
-stopped_mustering (Check own) unread first name s known refusal file comes refused = absurd comes
-stopped_mustering (Assemble own) unread first name s known refusal file comes refused = absurd comes
-stopped_mustering (Disassemble own) unread first name s known refusal file comes refused = absurd comes
-stopped_mustering (Book own) unread first name s known refusal file comes refused = absurd comes
-stopped_mustering (Play scenario listing) unread first name s known refusal file comes refused = absurd comes
-stopped_mustering (Muster scenario) unread first name s known refusal file comes refused = (comes, unmustered unread refusal file name refused)
-stopped_mustering (Audit scenario chronicle) unread first name s known refusal file comes refused = absurd comes
+pub prevented_auditing : (task : Task) (files : Files) (unread second_unread : Type 0) (first name : List ℕ) (s : Scenario) (fault : Fault)
+    → AreBytes files.first first → ComesTo task first (outcome.Audit s) → name ≡ second_name task
+    → Stops second_unread (IsChronicleRefused s files.second) name fault → Prevents unread second_unread task files fault
+prevented_auditing task files unread second_unread first name s fault are comes named why =
+    let own : Stops second_unread (IsChronicleRefused s files.second) (second_name task) fault =
+    subst (λ (n : List ℕ). Stops second_unread (IsChronicleRefused s files.second) n fault) named why in
+    let stopped = stopped_auditing task second_unread first (second_name task) s files.second fault comes own in
+    inr (s, (first, are, stopped.0), stopped.1)
+
+-- the name of the second file, empty where the words name none
+unwrapped : (o : Option (Bor (List ℕ))) (empty : Bor (List ℕ)) → empty.now ≡ [] → (unwrap_or o empty).now ≡ unwrap_or (option_map (λ (file : Bor (List ℕ)). file.now) o) []
+unwrapped None empty none = none
+unwrapped (Some file) empty none = refl
+
+pub second_named : (task : Task) (o : Option (Bor (List ℕ))) (result empty : Bor (List ℕ)) → option_map (λ (file : Bor (List ℕ)). file.now) o ≡ (told_of task).second
+    → result ≡ unwrap_or o empty → empty.now ≡ [] → result.now ≡ second_name task
+second_named task o result empty told is none =
+    ap (λ (file : Bor (List ℕ)). file.now) is ∙ (unwrapped o empty none ∙ ap (λ (second : Option (List ℕ)). unwrap_or second []) told)
