@@ -77,7 +77,7 @@ exit
 
 /// What a task prints and what is told of a fault, and its status.
 #[derive(Drop)]
-struct Answer {
+struct Told {
     out: Vec<u8>,
     fault: Vec<u8>,
     status: u8,
@@ -90,7 +90,7 @@ fn answer(
     task: &Task,
     scenario: &str,
     second: Option<&[u8]>,
-) -> Answer {
+) -> Told {
     let mut out = Vec::new(alloc);
     let mut fault = Vec::new(alloc);
     let status = serve(
@@ -102,7 +102,7 @@ fn answer(
         &mut out,
         &mut fault,
     );
-    Answer { out, fault, status }
+    Told { out, fault, status }
 }
 
 /// The words `muster c.toml`.

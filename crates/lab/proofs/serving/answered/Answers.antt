@@ -31,8 +31,8 @@ returns-in-Ok-Play-clause-fault g c =
     let comes : ComesTo c.args.task.now c.in_ok-bytes.bytes.items (Play c.in-Ok-Play.scenario) = rw (c.as_slice.ensures.value, is) at c.in-Ok-Play.ensures.answered in
     IfErr-weaker c.play_by.result _ _
     (λ fault why.
-      prevented_playing c.args.task.now both _ _ c.in_ok-bytes.bytes.items c.unwrap_or-file.result.now c.in-Ok-Play.scenario fault c.in_ok-bytes.ensures.whole comes
-      (second_named c.args.task.now c.second.result c.unwrap_or-file.result _ c.second.ensures c.unwrap_or-file.ensures refl) why)
+    prevented_playing c.args.task.now both _ _ c.in_ok-bytes.bytes.items c.unwrap_or-file.result.now c.in-Ok-Play.scenario fault c.in_ok-bytes.ensures.whole comes
+    (second_named c.args.task.now c.second.result c.unwrap_or-file.result _ c.second.ensures c.unwrap_or-file.ensures refl) why)
     c.play_by.ensures.fault
 
 pub returns-in-Ok-clause-answer : goal.returns-in-Ok-clause-answer
@@ -58,6 +58,6 @@ returns-in-Ok-Audit-clause-fault g c =
     let comes : ComesTo c.args.task.now c.in_ok-bytes.bytes.items (Audit c.in-Ok-Audit.scenario) = rw (c.as_slice.ensures.value, is) at c.in-Ok-Audit.ensures.answered in
     IfErr-weaker c.audit_of.result _ _
     (λ fault why.
-      prevented_auditing c.args.task.now both _ _ c.in_ok-bytes.bytes.items c.unwrap_or-file.result.now c.in-Ok-Audit.scenario fault c.in_ok-bytes.ensures.whole comes
-      (second_named c.args.task.now c.second.result c.unwrap_or-file.result _ c.second.ensures c.unwrap_or-file.ensures refl) why)
+    prevented_auditing c.args.task.now both _ _ c.in_ok-bytes.bytes.items c.unwrap_or-file.result.now c.in-Ok-Audit.scenario fault c.in_ok-bytes.ensures.whole comes
+    (second_named c.args.task.now c.second.result c.unwrap_or-file.result _ c.second.ensures c.unwrap_or-file.ensures refl) why)
     c.audit_of.ensures.fault
