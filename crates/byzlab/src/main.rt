@@ -51,7 +51,15 @@ fn run(rt: &HostRuntime) -> io::Result<u8> {
         },
         None => None,
     };
-    Ok(serve(rt, alloc, &task, first, second, &mut rt.stdout(), &mut rt.stderr()))
+    Ok(serve(
+        rt,
+        alloc,
+        &task,
+        first,
+        second,
+        &mut rt.stdout(),
+        &mut rt.stderr(),
+    ))
 }
 
 /// The file; none where it does not open, after the line that says so.

@@ -226,17 +226,23 @@ verdict alike yes obeyed yes bound yes
     ends(&rt, alloc, keys.as_str(), (3, SWAYING), end)
 }
 
-/// The campaign of two colluders, in threads: so many accesses, with ascending replies, and what they come to.
+/// The campaign of two colluders, in threads: so many accesses, with ascending replies from this one on, and what they
+/// come to.
 fn collude<R: Threads + Wait + Abort + Sync>(
     rt: &R,
     alloc: Global,
     keys: &str,
+    first: u64,
     accesses: usize,
 ) -> Result<(), Fail> {
     let chronicle = muster(rt, alloc, colluders(alloc, keys, ADDER)?, &Open)?;
     assert_eq!(rt; chronicle.accesses().len(), accesses);
+    let mut next = first;
+    for access in chronicle.accesses() {
+        assert_eq!(rt; word(&access.reply), Some(next));
+        next = next.wrapping_add(1);
+    }
     for (place, access) in chronicle.accesses().iter().enumerate() {
-        assert_eq!(rt; word(&access.reply), Some(place as u64));
         assert_eq!(rt; access.round as usize, place / 2 + 1);
     }
     let told = text(alloc, &chronicle)?;
@@ -251,12 +257,14 @@ fn collude<R: Threads + Wait + Abort + Sync>(
 fn two_colluders_in_any_order(rt: HostRuntime) -> Result<(), Fail> {
     let alloc = rt.alloc();
     for _ in 0..20 {
-        collude(&rt, alloc, SEVEN, 6)?;
+        collude(&rt, alloc, SEVEN, 0, 6)?;
     }
     let keys = format!(in alloc; "{SEVEN}patience = 3\n")?;
-    collude(&rt, alloc, keys.as_str(), 6)?;
+    collude(&rt, alloc, keys.as_str(), 0, 6)?;
     let keys = format!(in alloc; "{SEVEN}patience = 2\n")?;
-    collude(&rt, alloc, keys.as_str(), 0)
+    collude(&rt, alloc, keys.as_str(), 0, 0)?;
+    let keys = format!(in alloc; "{SEVEN}board = [5]\n")?;
+    collude(&rt, alloc, keys.as_str(), 5, 6)
 }
 
 #[test]

@@ -65,17 +65,17 @@ pub(crate) fn text(alloc: Global, chronicle: &Chronicle) -> Result<Vec<u8>, Fail
 /// The names of those who made a campaign's accesses, round by round.
 pub(crate) fn names(alloc: Global, chronicle: &Chronicle) -> Result<Vec<Vec<u8>>, Fail> {
     let mut lists = Vec::new(alloc);
-    for round in 1..chronicle.letters().len() as u32 + 1 {
-        lists.push(names_in(alloc, chronicle.accesses(), round)?)?;
+    for place in 0..chronicle.letters().len() {
+        lists.push(names_in(alloc, chronicle.accesses(), place + 1)?)?;
     }
     Ok(lists)
 }
 
 /// The names of those who made a round's accesses.
-fn names_in(alloc: Global, accesses: &[Access], round: u32) -> Result<Vec<u8>, Fail> {
+fn names_in(alloc: Global, accesses: &[Access], round: usize) -> Result<Vec<u8>, Fail> {
     let mut list = Vec::new(alloc);
     for access in accesses {
-        if access.round == round {
+        if access.round as usize == round {
             list.push(u8::try_from(access.general).ok().ok_or("a general's name")?)?;
         }
     }

@@ -10,7 +10,7 @@ use Rattle.world.specs.Replay.{replay_of}
 use Rattle.world.specs.Schedules.{lines_by}
 use Rattle.world.specs.World.{opening, run}
 use Rattle.scenario.specs.Told.{Tells}
-use Rattle.trace.specs.Audit as audit
+use Rattle.trace.specs.Audit.{chronicle_told}
 use Rattle.trace.specs.Laws.{IsSoundText}
 use Rattle.trace.specs.Schedules.{schedule_told}
 use Rattle.trace.specs.Text.{text_of}
@@ -54,7 +54,7 @@ Musters first text = (s : Scenario) × Tells first s × IsMustered s text
 -- the bytes are the text of a chronicle of the scenario's, and the lines say so and give the verdict of its replay
 pub record IsAudited (s : Scenario) (bytes text : List ℕ) : Type 0 where
   pub sound : IsSoundText s bytes
-  pub told : text ≡ sound_lines (audit.replay_of s bytes).verdict
+  pub told : text ≡ sound_lines (chronicle_told s bytes).verdict
 
 -- the first file's bytes tell a scenario, and these are the lines of the audit of the second's; where there is no second file its bytes are none
 abbrev pub Audits : List ℕ → Option (List ℕ) → List ℕ → Type 0

@@ -41,7 +41,10 @@ fn a_schedule_stands_before_or_behind_the_scenario(rt: HostRuntime) -> Result<()
     let alloc = rt.alloc();
     assert_eq!(rt;
         task(alloc, &["play", "s.toml"])?,
-        Task::Play { scenario: text(alloc, "s.toml")?, schedule: None }
+        Task::Play {
+            scenario: text(alloc, "s.toml")?,
+            schedule: None
+        }
     );
     let with: [&[&str]; 7] = [
         &["play", "s", "--schedule", "t"],
@@ -69,7 +72,10 @@ fn an_audit_has_two_files(rt: HostRuntime) -> Result<(), Fail> {
     let audit = task(alloc, &["audit", "s", "c"])?;
     assert_eq!(rt;
         audit,
-        Task::Audit { scenario: text(alloc, "s")?, chronicle: text(alloc, "c")? }
+        Task::Audit {
+            scenario: text(alloc, "s")?,
+            chronicle: text(alloc, "c")?
+        }
     );
     assert_eq!(rt; audit.file(), "s");
     assert_eq!(rt; audit.second(), Some("c"));
@@ -222,10 +228,19 @@ fn each_usage_begins_with_the_program(rt: HostRuntime) -> Result<(), Fail> {
     for (words, usage) in [
         (["check", "--help"], "Usage: byzlab check <FILE>"),
         (["asm", "--asm"], "Usage: byzlab asm <FILE>"),
-        (["play", "--help"], "Usage: byzlab play [OPTIONS] <SCENARIO>"),
-        (["play", "--play"], "Usage: byzlab play [OPTIONS] <SCENARIO>"),
+        (
+            ["play", "--help"],
+            "Usage: byzlab play [OPTIONS] <SCENARIO>",
+        ),
+        (
+            ["play", "--play"],
+            "Usage: byzlab play [OPTIONS] <SCENARIO>",
+        ),
         (["muster", "--help"], "Usage: byzlab muster <SCENARIO>"),
-        (["audit", "--help"], "Usage: byzlab audit <SCENARIO> <CHRONICLE>"),
+        (
+            ["audit", "--help"],
+            "Usage: byzlab audit <SCENARIO> <CHRONICLE>",
+        ),
         (["help", "play"], "Usage: byzlab play [OPTIONS] <SCENARIO>"),
         (["play", "--help"], "--schedule <FILE>"),
     ] {

@@ -18,7 +18,7 @@ use Rattle.trace.specs.Text.{lines_in, text_in}
 use Rattle.trace.specs.Names.{Named, named, names_of}
 use Rattle.trace.specs.Marks.{all_names}
 use Rattle.trace.specs.Laws.{Admits, IsSoundText}
-use Rattle.trace.specs.Audit.{line_version, lines_version, replay_of, version_named, IsFirstDifference}
+use Rattle.trace.specs.Audit.{line_version, lines_version, chronicle_told, version_named, IsFirstDifference}
 
 -- the lists behind the first one
 pub names_behind : (items : List (Vec ℕ Global)) (n : Named) → lists_in items ≡ all_names n → lists_in (take (length items - 1) (drop 1 items)) ≡ n.1
@@ -57,48 +57,48 @@ named_admitted Majority First t h = tt
 named_admitted Median First t h = none_first (pieces feed t) h
 
 -- a sound text in the version that it names
-sound_version : (s : Scenario) (t : List ℕ) (v : Version) → version_named s.rule t ≡ Some v → (h : IsSoundText s t) → t ≡ text_in v (replay_of s t)
-unfolding replay_of
+sound_version : (s : Scenario) (t : List ℕ) (v : Version) → version_named s.rule t ≡ Some v → (h : IsSoundText s t) → t ≡ text_in v (chronicle_told s t)
+unfolding chronicle_told
 sound_version s t v named h =
-    let known : version_named s.rule t ≡ Some h.version = ap (version_named s.rule) h.same ∙ version_known s.rule h.version (replay_of s t) h.admitted in
+    let known : version_named s.rule t ≡ Some h.version = ap (version_named s.rule) h.same ∙ version_known s.rule h.version (chronicle_told s t) h.admitted in
     let same : h.version ≡ v = cc in
-    h.same ∙ ap (λ w. text_in w (replay_of s t)) same
+    h.same ∙ ap (λ w. text_in w (chronicle_told s t)) same
 
 -- a text that is the same as that of the replay is sound
-pub same_is_sound : (s : Scenario) (t : List ℕ) (v : Version) → version_named s.rule t ≡ Some v → t ≡ text_in v (replay_of s t) → IsSoundText s t
-unfolding replay_of
+pub same_is_sound : (s : Scenario) (t : List ℕ) (v : Version) → version_named s.rule t ≡ Some v → t ≡ text_in v (chronicle_told s t) → IsSoundText s t
+unfolding chronicle_told
 same_is_sound s t v named same = record { version = v; admitted = named_admitted s.rule v t named; same = same }
 
 -- a text in no version of the campaign's is not sound
 pub unnamed_is_unsound : (s : Scenario) (t : List ℕ) → version_named s.rule t ≡ None → IsSoundText s t → ⊥
-unfolding replay_of
+unfolding chronicle_told
 unnamed_is_unsound s t none h =
-    let known : version_named s.rule t ≡ Some h.version = ap (version_named s.rule) h.same ∙ version_known s.rule h.version (replay_of s t) h.admitted in
+    let known : version_named s.rule t ≡ Some h.version = ap (version_named s.rule) h.same ∙ version_known s.rule h.version (chronicle_told s t) h.admitted in
     absurd cc
 
 -- nor is one that differs
-pub different_is_unsound : (s : Scenario) (t : List ℕ) (v : Version) (place : ℕ) → version_named s.rule t ≡ Some v → IsFirstDifference t (text_in v (replay_of s t)) place → IsSoundText s t → ⊥
+pub different_is_unsound : (s : Scenario) (t : List ℕ) (v : Version) (place : ℕ) → version_named s.rule t ≡ Some v → IsFirstDifference t (text_in v (chronicle_told s t)) place → IsSoundText s t → ⊥
 different_is_unsound s t v place named d h = d.differs (ap (λ u. slice_get u place) (sound_version s t v named h))
 
 -- the same of a copy of the text and the rule
 pub refused_unnamed : (s : Scenario) (t bytes : List ℕ) (rule : Rule) → rule ≡ s.rule → bytes ≡ t → version_named rule bytes ≡ None → IsSoundText s t → ⊥
 refused_unnamed s t bytes rule r b h = unnamed_is_unsound s t ((λ i. version_named (sym r i) (sym b i)) ∙ h)
 
-pub refused_different : (s : Scenario) (t bytes : List ℕ) (rule : Rule) (v : Version) (c : Chronicle) (place : ℕ) → rule ≡ s.rule → bytes ≡ t → version_named rule bytes ≡ Some v → c ≡ replay_of s bytes
+pub refused_different : (s : Scenario) (t bytes : List ℕ) (rule : Rule) (v : Version) (c : Chronicle) (place : ℕ) → rule ≡ s.rule → bytes ≡ t → version_named rule bytes ≡ Some v → c ≡ chronicle_told s bytes
     → IsFirstDifference bytes (text_in v c) place → IsSoundText s t → ⊥
 refused_different s t bytes rule v c place r b h e d =
-    different_is_unsound s t v place ((λ i. version_named (sym r i) (sym b i)) ∙ h) (subst (λ u. IsFirstDifference u (text_in v (replay_of s u)) place) b (subst (λ x. IsFirstDifference bytes (text_in v x) place) e d))
+    different_is_unsound s t v place ((λ i. version_named (sym r i) (sym b i)) ∙ h) (subst (λ u. IsFirstDifference u (text_in v (chronicle_told s u)) place) b (subst (λ x. IsFirstDifference bytes (text_in v x) place) e d))
 
-pub found_sound : (s : Scenario) (t bytes : List ℕ) (rule : Rule) (v : Version) (c : Chronicle) → rule ≡ s.rule → bytes ≡ t → version_named rule bytes ≡ Some v → c ≡ replay_of s bytes
+pub found_sound : (s : Scenario) (t bytes : List ℕ) (rule : Rule) (v : Version) (c : Chronicle) → rule ≡ s.rule → bytes ≡ t → version_named rule bytes ≡ Some v → c ≡ chronicle_told s bytes
     → bytes ≡ text_in v c → IsSoundText s t
 found_sound s t bytes rule v c r b h e d =
-    same_is_sound s t v ((λ i. version_named (sym r i) (sym b i)) ∙ h) (subst (λ u. u ≡ text_in v (replay_of s u)) b (subst (λ x. bytes ≡ text_in v x) e d))
+    same_is_sound s t v ((λ i. version_named (sym r i) (sym b i)) ∙ h) (subst (λ u. u ≡ text_in v (chronicle_told s u)) b (subst (λ x. bytes ≡ text_in v x) e d))
 
 -- the replay of a copy by the names of the text
 pub replayed_ok : {E : Type 0} (s copy : Scenario) (t : List ℕ) (items lists : List (Vec ℕ Global)) (r : Result Chronicle E) → copy ≡ s → lists ≡ items
     → lists_in items ≡ all_names (named (map (pieces space) (pieces feed t)))
-    → IfOk r (λ c. c ≡ chronicle_of (run (opening copy) (replayed copy (lists_in (take (length lists - 1) (drop 1 lists)))))) → IfOk r (λ c. c ≡ replay_of s t)
-unfolding replay_of names_of
+    → IfOk r (λ c. c ≡ chronicle_of (run (opening copy) (replayed copy (lists_in (take (length lists - 1) (drop 1 lists)))))) → IfOk r (λ c. c ≡ chronicle_told s t)
+unfolding chronicle_told names_of
 replayed_ok s copy t items lists (Err x) e same h d = tt
 replayed_ok s copy t items lists (Ok c) e same h d =
     let names : lists_in (take (length lists - 1) (drop 1 lists)) ≡ (named (map (pieces space) (pieces feed t))).1 =

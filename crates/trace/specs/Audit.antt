@@ -17,8 +17,8 @@ use Rattle.trace.specs.Names.{names_of}
 use Rattle.trace.specs.Shapes.{unshaped_from}
 
 -- the chronicle of the replay of the accesses that a text tells
-unfoldable pub replay_of : Scenario → List ℕ → Chronicle
-replay_of s t = chronicle_of (run (opening s) (replayed s (names_of t)))
+unfoldable pub chronicle_told : Scenario → List ℕ → Chronicle
+chronicle_told s t = chronicle_of (run (opening s) (replayed s (names_of t)))
 
 -- the version that a first line names, where a campaign by the rule may be told in it
 abbrev pub first_version : Rule → Option Version
@@ -61,7 +61,7 @@ fault_at t place = first_fault (unshaped_from 1 (pieces feed t)) (line_at t plac
 -- the text differs there from that of its replay, or at once where it is in no version of the campaign's
 abbrev pub DiffersAt : Scenario → List ℕ → Option Version → ℕ → Type 0
 DiffersAt s t None place = place ≡ 0
-DiffersAt s t (Some version) place = IsFirstDifference t (text_in version (replay_of s t)) place
+DiffersAt s t (Some version) place = IsFirstDifference t (text_in version (chronicle_told s t)) place
 
 -- why the text is not sound: the fault at its first difference
 pub record IsFaultOf (s : Scenario) (t : List ℕ) (e : TraceError) : Type 0 where

@@ -3,7 +3,7 @@ ghost use Rattle.std.specs.Prelude.{◌≡◌, ◌≢◌, IfOk, IfErr, IfSome, I
 ghost use Rattle.trace.specs.declared.fault.TraceError.TheVariants.{Memory};
 ghost use Rattle.trace.specs.Text.{text_in};
 ghost use Rattle.trace.specs.Laws.{IsSoundText};
-ghost use Rattle.trace.specs.Audit.{IsFaultOf, IsFirstDifference, first_version, line_version, replay_of, version_named};
+ghost use Rattle.trace.specs.Audit.{IsFaultOf, IsFirstDifference, first_version, line_version, chronicle_told, version_named};
 
 use crate::chronicling::put_chronicle;
 use crate::comparing::Comparison;
@@ -52,9 +52,9 @@ fn version_named(rule: Rule, text: &[u8]) -> Option<Version>
 }
 
 /// The chronicle of the campaign in which the generals make their accesses in the order that the text tells.
-#[tactic(auto, unfolding(crate::specs::Audit::replay_of, crate::specs::Names::names_of))]
+#[tactic(auto, unfolding(crate::specs::Audit::chronicle_told, crate::specs::Names::names_of))]
 fn replayed(alloc: Global, scenario: &Scenario, text: &[u8]) -> Result<Chronicle, AllocError>
-    ensures { IfOk result (λ chronicle. chronicle ≡ replay_of scenario.now text.now) }
+    ensures { IfOk result (λ chronicle. chronicle ≡ chronicle_told scenario.now text.now) }
 {
     let lists = names(alloc, text)?;
     replay(alloc, scenario.copy(alloc)?, &lists[1..])
@@ -81,7 +81,7 @@ fn difference(text: &[u8], version: Version, chronicle: &Chronicle) -> Option<us
 /// of the first difference, `Scenario` in the first two lines. `Memory` where memory is refused.
 pub fn check(alloc: Global, scenario: &Scenario, text: &str) -> Result<Verdict, TraceError>
     ensures sound { IfOk result (λ v. IsSoundText scenario.now text.now) }
-    ensures verdict { IfOk result (λ v. v ≡ (replay_of scenario.now text.now).verdict) }
+    ensures verdict { IfOk result (λ v. v ≡ (chronicle_told scenario.now text.now).verdict) }
     ensures unsound { IfErr result (λ e. e ≢ Memory → IsSoundText scenario.now text.now → ⊥) }
     ensures fault { IfErr result (λ e. e ≢ Memory → IsFaultOf scenario.now text.now e) }
 {
