@@ -131,7 +131,12 @@ fn told(alloc: Global, campaign: &str, schedule: &str) -> Result<String, Fail> {
 }
 
 /// The text with other lines in place of one, counted from 1.
-pub(crate) fn changed(alloc: Global, text: &str, number: usize, lines: &str) -> Result<String, AllocError> {
+pub(crate) fn changed(
+    alloc: Global,
+    text: &str,
+    number: usize,
+    lines: &str,
+) -> Result<String, AllocError> {
     let mut result = String::new(alloc);
     for (place, line) in text.split_inclusive('\n').enumerate() {
         result.push_str(if place + 1 == number { lines } else { line })?;
@@ -145,7 +150,10 @@ fn chronicles_are_sound(rt: HostRuntime) -> Result<(), Fail> {
     assert!(rt; is_sound(alloc, ONE_TRAITOR, ONE_TRAITOR_TOLD, OBEYED));
     for schedule in ["", "4*15\n", "4*15\n4*15\n", "0*2 4*15\n0*15"] {
         let text = told(alloc, TWO_TRAITORS, schedule)?;
-        assert!(rt; is_sound(alloc, TWO_TRAITORS, text.as_str(), ALIKE), "by {schedule}");
+        assert!(rt;
+            is_sound(alloc, TWO_TRAITORS, text.as_str(), ALIKE),
+            "by {schedule}"
+        );
     }
     Ok(())
 }
@@ -161,23 +169,46 @@ fn a_changed_line_is_found(rt: HostRuntime) -> Result<(), Fail> {
         (16, "row 0 - 0\n", TraceError::Differs(16)),
         (17, "decision 1 0\n", TraceError::Differs(17)),
         (17, "decision 1 traitor 1\n", TraceError::Differs(17)),
-        (20, "verdict alike yes obeyed - bound yes\n", TraceError::Differs(20)),
+        (
+            20,
+            "verdict alike yes obeyed - bound yes\n",
+            TraceError::Differs(20),
+        ),
         // a line that is missing, and one too many
         (20, "", TraceError::Differs(20)),
         (9, "", TraceError::Differs(9)),
         (5, "row 0 1 1 1\nrow 1 1 1 1\n", TraceError::Differs(6)),
-        (8, "access 3 get 0 = 0\nletter 3 steps 7\n", TraceError::Differs(8)),
+        (
+            8,
+            "access 3 get 0 = 0\nletter 3 steps 7\n",
+            TraceError::Differs(8),
+        ),
         // the first two lines
-        (2, "generals 4 bound 1 commander 0 order 2\n", TraceError::Scenario(2)),
-        (2, "generals 4 bound 1 commander 0 order 99999999999\n", TraceError::Scenario(2)),
-        (2, "generals 4 bound 1 commander 0 order 1 patience - rule majority\n", TraceError::Scenario(2)),
+        (
+            2,
+            "generals 4 bound 1 commander 0 order 2\n",
+            TraceError::Scenario(2),
+        ),
+        (
+            2,
+            "generals 4 bound 1 commander 0 order 99999999999\n",
+            TraceError::Scenario(2),
+        ),
+        (
+            2,
+            "generals 4 bound 1 commander 0 order 1 patience - rule majority\n",
+            TraceError::Scenario(2),
+        ),
         (2, "", TraceError::Scenario(2)),
         (1, "chronicle 2\n", TraceError::Scenario(2)),
         (1, "round 1\n", TraceError::Scenario(1)),
         (1, "", TraceError::Scenario(1)),
     ] {
         let text = changed(alloc, ONE_TRAITOR_TOLD, number, line)?;
-        assert!(rt; is_refused(alloc, ONE_TRAITOR, text.as_str(), fault), "line {number}: {line}");
+        assert!(rt;
+            is_refused(alloc, ONE_TRAITOR, text.as_str(), fault),
+            "line {number}: {line}"
+        );
     }
     Ok(())
 }
@@ -189,8 +220,14 @@ fn a_line_of_no_shape_comes_first(rt: HostRuntime) -> Result<(), Fail> {
         (1, "chronicle 4\n"),
         (1, "chronicle\n"),
         (2, "generals 4 bound 1 commander 0\n"),
-        (2, "generals 4 bound 1 commander 0 order 1 patience - rule\n"),
-        (2, "generals 4 bound 1 commander 0 order 1 patience - rule plurality\n"),
+        (
+            2,
+            "generals 4 bound 1 commander 0 order 1 patience - rule\n",
+        ),
+        (
+            2,
+            "generals 4 bound 1 commander 0 order 1 patience - rule plurality\n",
+        ),
         (3, "round 01\n"),
         (3, "round\n"),
         (3, "Round 1\n"),
@@ -212,11 +249,22 @@ fn a_line_of_no_shape_comes_first(rt: HostRuntime) -> Result<(), Fail> {
     ] {
         let text = changed(alloc, ONE_TRAITOR_TOLD, number, line)?;
         let fault = TraceError::Line(number as u64);
-        assert!(rt; is_refused(alloc, ONE_TRAITOR, text.as_str(), fault), "line {number}: {line}");
+        assert!(rt;
+            is_refused(alloc, ONE_TRAITOR, text.as_str(), fault),
+            "line {number}: {line}"
+        );
         // so it is behind a second line that is not the scenario's
         if number > 2 {
-            let other = changed(alloc, text.as_str(), 2, "generals 4 bound 1 commander 0 order 2\n")?;
-            assert!(rt; is_refused(alloc, ONE_TRAITOR, other.as_str(), fault), "line {number}: {line}");
+            let other = changed(
+                alloc,
+                text.as_str(),
+                2,
+                "generals 4 bound 1 commander 0 order 2\n",
+            )?;
+            assert!(rt;
+                is_refused(alloc, ONE_TRAITOR, other.as_str(), fault),
+                "line {number}: {line}"
+            );
         }
     }
     let open = ONE_TRAITOR_TOLD.trim_end_matches('\n');
@@ -247,7 +295,15 @@ fn accesses_have_their_order(rt: HostRuntime) -> Result<(), Fail> {
         (5, "access 44 add 0 1 = 1\n", 5),
     ] {
         let changed = changed(alloc, text.as_str(), number, lines)?;
-        assert!(rt; is_refused(alloc, TWO_TRAITORS, changed.as_str(), TraceError::Differs(fault)), "line {number}: {lines}");
+        assert!(rt;
+            is_refused(
+                alloc,
+                TWO_TRAITORS,
+                changed.as_str(),
+                TraceError::Differs(fault)
+            ),
+            "line {number}: {lines}"
+        );
     }
     // the other order with its own replies, so other letters
     let other = changed(alloc, text.as_str(), 4, "access 4 add 0 1 = 0\n")?;
@@ -260,21 +316,51 @@ fn accesses_have_their_order(rt: HostRuntime) -> Result<(), Fail> {
 fn versions_are_admitted_by_the_rule(rt: HostRuntime) -> Result<(), Fail> {
     let alloc = rt.alloc();
     let second = changed(alloc, ONE_TRAITOR_TOLD, 1, "chronicle 2\n")?;
-    let second = changed(alloc, second.as_str(), 2, "generals 4 bound 1 commander 0 order 1 patience - rule majority\n")?;
+    let second = changed(
+        alloc,
+        second.as_str(),
+        2,
+        "generals 4 bound 1 commander 0 order 1 patience - rule majority\n",
+    )?;
     assert!(rt; is_sound(alloc, ONE_TRAITOR, second.as_str(), OBEYED));
     for (conditions, told, version_1) in [
         ("patience = 7\n", "patience 7 rule majority", None),
-        ("rule = \"median\"\n", "patience - rule median", Some(TraceError::Scenario(1))),
-        ("patience = 4096\nrule = \"median\"\n", "patience 4096 rule median", Some(TraceError::Scenario(1))),
+        (
+            "rule = \"median\"\n",
+            "patience - rule median",
+            Some(TraceError::Scenario(1)),
+        ),
+        (
+            "patience = 4096\nrule = \"median\"\n",
+            "patience 4096 rule median",
+            Some(TraceError::Scenario(1)),
+        ),
     ] {
         let campaign = format!(in alloc; "{conditions}{ONE_TRAITOR}")?;
         let second_line = format!(in alloc; "generals 4 bound 1 commander 0 order 1 {told}\n")?;
         let text = changed(alloc, second.as_str(), 2, second_line.as_str())?;
-        assert!(rt; is_sound(alloc, campaign.as_str(), text.as_str(), OBEYED), "{told}");
-        assert!(rt; is_refused(alloc, campaign.as_str(), second.as_str(), TraceError::Scenario(2)), "{told}");
+        assert!(rt;
+            is_sound(alloc, campaign.as_str(), text.as_str(), OBEYED),
+            "{told}"
+        );
+        assert!(rt;
+            is_refused(
+                alloc,
+                campaign.as_str(),
+                second.as_str(),
+                TraceError::Scenario(2)
+            ),
+            "{told}"
+        );
         match version_1 {
-            None => assert!(rt; is_sound(alloc, campaign.as_str(), ONE_TRAITOR_TOLD, OBEYED), "{told}"),
-            Some(fault) => assert!(rt; is_refused(alloc, campaign.as_str(), ONE_TRAITOR_TOLD, fault), "{told}"),
+            None => assert!(rt;
+                is_sound(alloc, campaign.as_str(), ONE_TRAITOR_TOLD, OBEYED),
+                "{told}"
+            ),
+            Some(fault) => assert!(rt;
+                is_refused(alloc, campaign.as_str(), ONE_TRAITOR_TOLD, fault),
+                "{told}"
+            ),
         }
     }
     Ok(())

@@ -176,8 +176,16 @@ fn an_audit_names_the_line_at_fault(rt: HostRuntime) -> Result<(), Fail> {
     let alloc = rt.alloc();
     for (number, line, fault) in [
         (12, "row 0 0 1\n", "refused X3 line 12\n"),
-        (20, "verdict alike yes obeyed no bound yes\n", "refused X3 line 20\n"),
-        (20, "verdict alike yes obeyed yes bound yes", "refused X1 line 20\n"),
+        (
+            20,
+            "verdict alike yes obeyed no bound yes\n",
+            "refused X3 line 20\n",
+        ),
+        (
+            20,
+            "verdict alike yes obeyed yes bound yes",
+            "refused X1 line 20\n",
+        ),
         (1, "chronicle 2\n", "refused X2 line 2\n"),
     ] {
         let text = changed(alloc, SWAYED_CHRONICLE, number, line)?;
@@ -185,7 +193,13 @@ fn an_audit_names_the_line_at_fault(rt: HostRuntime) -> Result<(), Fail> {
     }
     let text = SWAYED_CHRONICLE.as_bytes();
     audited(&rt, alloc, COUNTING, text, (1, "", "refused X2 line 2\n"))?;
-    audited(&rt, alloc, SWAYED, b"\xff", (1, "", "fault text c.chronicle\n"))
+    audited(
+        &rt,
+        alloc,
+        SWAYED,
+        b"\xff",
+        (1, "", "fault text c.chronicle\n"),
+    )
 }
 
 #[test]

@@ -28,7 +28,12 @@ fn row(
 }
 
 /// `check` accepts the bytecode, and prints this.
-fn run(rt: &(impl Abort + Threads + Wait + Sync), alloc: Global, code: &str, lines: &str) -> Result<(), Fail> {
+fn run(
+    rt: &(impl Abort + Threads + Wait + Sync),
+    alloc: Global,
+    code: &str,
+    lines: &str,
+) -> Result<(), Fail> {
     let task = Task::Check(String::from_str(alloc, "p.bin")?);
     let bytes = hex::decode(alloc, code)?;
     row(rt, alloc, &task, bytes.as_slice(), (0, lines, ""))
@@ -361,13 +366,19 @@ fn failing_files_are_told(rt: HostRuntime) -> Result<(), Fail> {
     let task = Task::Check(String::from_str(alloc, "p.bin")?);
     let mut out = Vec::new(alloc);
     let mut complaint = Vec::new(alloc);
-    assert_eq!(rt; serve(&rt, alloc, &task, Broken, None, &mut out, &mut complaint), 1);
+    assert_eq!(rt;
+        serve(&rt, alloc, &task, Broken, None, &mut out, &mut complaint),
+        1
+    );
     assert_eq!(rt; out.as_slice(), b"".as_slice());
     assert_eq!(rt; complaint.as_slice(), b"fault read p.bin\n".as_slice());
 
     let bytes = b"\xb7\0\0\0\x2a\0\0\0\x95\0\0\0\0\0\0\0".as_slice();
     let mut complaint = Vec::new(alloc);
-    assert_eq!(rt; serve(&rt, alloc, &task, bytes, None, &mut Broken, &mut complaint), 1);
+    assert_eq!(rt;
+        serve(&rt, alloc, &task, bytes, None, &mut Broken, &mut complaint),
+        1
+    );
     assert_eq!(rt; complaint.as_slice(), b"fault write\n".as_slice());
     Ok(())
 }
