@@ -2,7 +2,7 @@
 //! leaves the task to the library `lab`.
 #![tactic(auto)]
 
-use command_line::TaskError;
+use command_line::{Task, TaskError};
 use lab::serve;
 use std::env;
 use std::fs::File;
@@ -10,8 +10,23 @@ use std::io::{self, ErrorKind};
 use std::process::ExitCode;
 
 fn main(rt: HostRuntime) -> ExitCode {
-    let status = match run(&rt) {
-        Ok(status) => status,
+    let status = match prepare(&rt) {
+        Ok(
+            Ready::Task {
+                task,
+                first,
+                second,
+            },
+        ) => serve(
+            &rt,
+            rt.alloc(),
+            &task,
+            first,
+            second,
+            &mut rt.stdout(),
+            &mut rt.stderr(),
+        ),
+        Ok(Ready::Done(status)) => status,
         Err(error) => {
             let (line, status) = failure(error.kind());
             let _ = rt.eprintln(line);
@@ -21,8 +36,21 @@ fn main(rt: HostRuntime) -> ExitCode {
     ExitCode::from(status)
 }
 
-/// Does the task of the words; the answer is the exit status.
-fn run(rt: &HostRuntime) -> io::Result<u8> {
+/// What the words come to.
+#[derive(Drop)]
+enum Ready {
+    /// A task, and its files, which are open.
+    Task {
+        task: Task,
+        first: File,
+        second: Option<File>,
+    },
+    /// No task is left: help or a fault has been told, with this exit status.
+    Done(u8),
+}
+
+/// Reads the words, and opens the files that they name.
+fn prepare(rt: &HostRuntime) -> io::Result<Ready> {
     let alloc = rt.alloc();
     let words: Vec<String> = env::args(rt)?.skip(1).collect(alloc)?;
     let mut texts: Vec<&str> = Vec::with_capacity(alloc, words.len())?;
@@ -34,31 +62,28 @@ fn run(rt: &HostRuntime) -> io::Result<u8> {
         Err(TaskError::Words(error)) => {
             if error.use_stderr() {
                 let _ = error.print(rt);
-                return Ok(2);
+                return Ok(Ready::Done(2));
             }
             error.print(rt)?;
-            return Ok(0);
+            return Ok(Ready::Done(0));
         }
         Err(TaskError::Memory) => return Err(io::Error::from(ErrorKind::OutOfMemory)),
     };
     let Some(first) = opened(rt, task.file())? else {
-        return Ok(1);
+        return Ok(Ready::Done(1));
     };
     let second = match task.second() {
         Some(name) => match opened(rt, name)? {
             Some(file) => Some(file),
-            None => return Ok(1),
+            None => return Ok(Ready::Done(1)),
         },
         None => None,
     };
-    Ok(serve(
-        alloc,
-        &task,
+    Ok(Ready::Task {
+        task,
         first,
         second,
-        &mut rt.stdout(),
-        &mut rt.stderr(),
-    ))
+    })
 }
 
 /// The file; none where it does not open, after the line that says so.

@@ -131,7 +131,12 @@ fn told(alloc: Global, campaign: &str, schedule: &str) -> Result<String, Fail> {
 }
 
 /// The text with other lines in place of one, counted from 1.
-fn changed(alloc: Global, text: &str, number: usize, lines: &str) -> Result<String, AllocError> {
+pub(crate) fn changed(
+    alloc: Global,
+    text: &str,
+    number: usize,
+    lines: &str,
+) -> Result<String, AllocError> {
     let mut result = String::new(alloc);
     for (place, line) in text.split_inclusive('\n').enumerate() {
         result.push_str(if place + 1 == number { lines } else { line })?;

@@ -16,6 +16,8 @@ mod lives;
 #[cfg(test)]
 mod musters;
 #[cfg(test)]
+mod musters_served;
+#[cfg(test)]
 mod plays;
 #[cfg(test)]
 mod rounds;

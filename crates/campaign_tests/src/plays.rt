@@ -5,7 +5,9 @@ use lab::serve;
 use std::alloc::{AllocError, Global};
 use std::io::{self, ErrorKind, Read, Write};
 use std::process::Abort;
+use std::sync::Wait;
 use std::test::Fail;
+use std::thread::Threads;
 
 /// Four generals, of whom the last tells two others the order 0.
 const SWAYED: &[u8] = b"generals = 4
@@ -138,7 +140,7 @@ fn task(alloc: Global, has_schedule: bool) -> Result<Task, AllocError> {
 
 /// `play` on these files has this status, and prints this and this fault.
 fn row(
-    rt: &impl Abort,
+    rt: &(impl Abort + Threads + Wait + Sync),
     alloc: Global,
     scenario: File,
     schedule: Option<File>,
@@ -148,7 +150,15 @@ fn row(
     let task = task(alloc, schedule.is_some())?;
     let mut out = Vec::new(alloc);
     let mut complaint = Vec::new(alloc);
-    let answer = serve(alloc, &task, scenario, schedule, &mut out, &mut complaint);
+    let answer = serve(
+        rt,
+        alloc,
+        &task,
+        scenario,
+        schedule,
+        &mut out,
+        &mut complaint,
+    );
     assert_eq!(rt; complaint.as_slice(), fault.as_bytes());
     assert_eq!(rt; out.as_slice(), printed.as_bytes());
     assert_eq!(rt; answer, status);
@@ -168,11 +178,16 @@ fn a_swaying_traitor_is_played(rt: HostRuntime) -> Result<(), Fail> {
 }
 
 /// What `play` prints of the two who agree over the board.
-fn collusion(rt: &impl Abort, alloc: Global, schedule: &[u8]) -> Result<String, Fail> {
+fn collusion(
+    rt: &(impl Abort + Threads + Wait + Sync),
+    alloc: Global,
+    schedule: &[u8],
+) -> Result<String, Fail> {
     let task = task(alloc, true)?;
     let mut out = Vec::new(alloc);
     let mut complaint = Vec::new(alloc);
     let answer = serve(
+        rt,
         alloc,
         &task,
         COLLUSION,
@@ -331,7 +346,7 @@ fn an_output_that_fails_is_told(rt: HostRuntime) -> Result<(), Fail> {
     let alloc = rt.alloc();
     let task = task(alloc, false)?;
     let mut complaint = Vec::new(alloc);
-    let answer = serve(alloc, &task, SWAYED, None, &mut Full, &mut complaint);
+    let answer = serve(&rt, alloc, &task, SWAYED, None, &mut Full, &mut complaint);
     assert_eq!(rt; answer, 1);
     assert_eq!(rt; complaint.as_slice(), b"fault write\n".as_slice());
     Ok(())

@@ -1,5 +1,7 @@
 -- What it is that the words fail, and that they agree with the rule.
-use Rattle.std.proofs.Common.{◌≡◌, ◌⊎◌, inl, inr, Bool, true, false, List, [], ◌∷◌, Option, Some, None, refl}
+use Rattle.std.proofs.Common.{◌≡◌, ◌⊎◌, inl, inr, Bool, true, false, List, [], ◌∷◌, Option, Some, None, codes, refl, sym}
+use Rattle.std.specs.Str.{bytes_eq}
+use Rattle.std.proofs.lemmas.Slice.Eq.{bytes_eq-Decides}
 use Rattle.clap.specs.Kinds.{Kinds, or_else}
 use Rattle.clap.specs.Walk.{Row, Text}
 use Rattle.command_line.specs.Asked.{is_task}
@@ -26,3 +28,31 @@ Agrees kinds met (Some task) = (kinds ≡ []) × (task_met met ≡ Some task) ×
 pub true_or_false : (b : Bool) → (b ≡ true) ⊎ (b ≡ false)
 true_or_false true = inl refl
 true_or_false false = inr refl
+
+-- the word is the known one, or not
+pub is_text : (known word : Text) → (word ≡ known) ⊎ (bytes_eq known word ≡ false)
+is_text known word = elim (true_or_false (bytes_eq known word)) [
+  | inl same ↦ inl (sym ((bytes_eq-Decides known word).0 same))
+  | inr other ↦ inr other
+]
+
+-- each task has one of the names
+pub no_other_task : (told : Told) → is_task told ≡ true
+    → (told.name ≡ codes "check" → ⊥) → (told.name ≡ codes "asm" → ⊥) → (told.name ≡ codes "dis" → ⊥) → (told.name ≡ codes "book" → ⊥)
+    → (told.name ≡ codes "muster" → ⊥) → (told.name ≡ codes "play" → ⊥) → (told.name ≡ codes "audit" → ⊥) → ⊥
+no_other_task told is check asm dis book muster play audit =
+    let bad : false ≡ true = rw (
+      off (codes "check") check,
+      off (codes "asm") asm,
+      off (codes "dis") dis,
+      off (codes "book") book,
+      off (codes "muster") muster,
+      off (codes "play") play,
+      off (codes "audit") audit,
+    ) at is in absurd cc
+  where
+    off : (known : Text) → (told.name ≡ known → ⊥) → bytes_eq known told.name ≡ false
+    off known apart = elim (is_text known told.name) [
+      | inl is ↦ absurd (apart is)
+      | inr other ↦ other
+    ]

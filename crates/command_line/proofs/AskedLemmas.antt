@@ -12,10 +12,11 @@ use Rattle.clap.proofs.OnLiterals.{clap_on_literals}
 use Rattle.command_line.specs.Asked.{asked, file_in, is_end_of_flags, is_flag, takes_one_file}
 use Rattle.command_line.specs.Lab.{lab_app}
 use Rattle.command_line.specs.Told.{Told, one_file}
-use Rattle.command_line.proofs.AgreeLemmas.{Agrees, Fails, or_else-first, true_or_false}
+use Rattle.command_line.proofs.AgreeLemmas.{Agrees, Fails, is_text, or_else-first, true_or_false}
 use Rattle.command_line.proofs.WordLemmas.{HasHelpAlone, help_word_fails}
 use Rattle.command_line.proofs.TurnLemmas.{flag_turn, fold_stopped, plain_turn, turn_fails}
 use Rattle.command_line.proofs.FileLemmas.{FileAgrees, faults, file_agrees, file_shape, rows}
+use Rattle.command_line.proofs.AuditLemmas.{audit_agrees, audit_shape}
 use Rattle.command_line.proofs.PlayLemmas.{campaign_agrees, play_shape}
 
 abbrev top : Shape
@@ -108,12 +109,6 @@ of_file name rest known = as_told name known (faults name rest) (rows name rest)
 
 -- ---- the words by their cases
 
-is_text : (known word : Text) → (word ≡ known) ⊎ (bytes_eq known word ≡ false)
-is_text known word = elim (true_or_false (bytes_eq known word)) [
-  | inl same ↦ inl (sym ((bytes_eq-Decides known word).0 same))
-  | inr other ↦ inr other
-]
-
 abbrev RuleAt : Text → List Text → Type 0
 RuleAt name rest = Agrees (fault_of lab_app (name ∷ rest)) (subcommand_of lab_app (name ∷ rest)) (asked (name ∷ rest))
 
@@ -136,6 +131,14 @@ at_book rest = named (codes "book") rest (file_shape (codes "book")) _ refl refl
 at_play : (rest : List Text) → RuleAt (codes "play") rest
 unfolding clap_on_literals
 at_play rest = named (codes "play") rest play_shape _ refl refl refl (campaign_agrees rest)
+
+at_muster : (rest : List Text) → RuleAt (codes "muster") rest
+unfolding clap_on_literals
+at_muster rest = named (codes "muster") rest (file_shape (codes "muster")) _ refl refl refl (of_file (codes "muster") rest refl)
+
+at_audit : (rest : List Text) → RuleAt (codes "audit") rest
+unfolding clap_on_literals
+at_audit rest = named (codes "audit") rest audit_shape _ refl refl refl (audit_agrees rest)
 
 no_words : Fails (fault_of lab_app [])
 unfolding clap_on_literals
@@ -174,9 +177,15 @@ rule_agrees (word ∷ rest) = elim (is_text (codes "check") word) [
         | inl is ↦ subst (λ (w : Text). RuleAt w rest) (sym is) (at_book rest)
         | inr d ↦ elim (is_text (codes "play") word) [
           | inl is ↦ subst (λ (w : Text). RuleAt w rest) (sym is) (at_play rest)
-          | inr p ↦ elim (is_text (codes "help") word) [
-            | inl is ↦ rw (a, b, c, d, p) (subst (λ (w : Text). Fails (fault_of lab_app (w ∷ rest))) (sym is) (at_help rest))
-            | inr e ↦ rw (a, b, c, d, p) (at_other word rest (rw (a, b, c, d, p, e) refl))
+          | inr p ↦ elim (is_text (codes "muster") word) [
+            | inl is ↦ subst (λ (w : Text). RuleAt w rest) (sym is) (at_muster rest)
+            | inr m ↦ elim (is_text (codes "audit") word) [
+              | inl is ↦ subst (λ (w : Text). RuleAt w rest) (sym is) (at_audit rest)
+              | inr u ↦ elim (is_text (codes "help") word) [
+                | inl is ↦ rw (a, b, c, d, m, p, u) (subst (λ (w : Text). Fails (fault_of lab_app (w ∷ rest))) (sym is) (at_help rest))
+                | inr e ↦ rw (a, b, c, d, m, p, u) (at_other word rest (rw (a, b, c, d, m, p, u, e) refl))
+              ]
+            ]
           ]
         ]
       ]

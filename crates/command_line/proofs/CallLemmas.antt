@@ -48,11 +48,18 @@ none_by words None k among fails = refl
 none_by words (Some task) k among agrees =
     let bad : IsAmong k [] = subst (IsAmong k) agrees.0 among in absurd bad
 
--- where `clap` gives an error, and memory was there, the rule finds no task
+-- where `clap` gives an error, and memory was there, its kind is one of those of the words,
+pub kind_among : (app : App) (words : List Text) (k : ErrorKind) → app ≡ lab_app
+    → (is_simple_and_free app ≡ true → (k ≡ OutOfMemory) ⊎ IsAmong k (fault_of app words))
+    → (k ≡ OutOfMemory → ⊥) → IsAmong k (fault_of lab_app words)
+kind_among app words k lab fails apart = elim (fails (ap is_simple_and_free lab ∙ is_free_lab)) [
+  | inl memory ↦ absurd (apart memory)
+  | inr among ↦ subst (λ (a : App). IsAmong k (fault_of a words)) lab among
+]
+
+-- and the rule finds no task
 pub none_found : (app : App) (words : List Text) (k : ErrorKind) → app ≡ lab_app
     → (is_simple_and_free app ≡ true → (k ≡ OutOfMemory) ⊎ IsAmong k (fault_of app words))
     → (k ≡ OutOfMemory → ⊥) → asked words ≡ None
-none_found app words k lab fails apart = elim (fails (ap is_simple_and_free lab ∙ is_free_lab)) [
-  | inl memory ↦ absurd (apart memory)
-  | inr among ↦ none_by words (asked words) k (subst (λ (a : App). IsAmong k (fault_of a words)) lab among) (rule_agrees words)
-]
+none_found app words k lab fails apart =
+    none_by words (asked words) k (kind_among app words k lab fails apart) (rule_agrees words)

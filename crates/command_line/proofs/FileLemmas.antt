@@ -21,7 +21,7 @@ file_shape name = built_leaf (inherited (with_leaf_noted (marked_built lab_app.t
 -- the words fail where the rule finds no file, and else they have its file
 abbrev pub FileAgrees : Kinds → List Row → Option Text → Type 0
 FileAgrees kinds rows None = Fails kinds
-FileAgrees kinds rows (Some file) = (kinds ≡ []) × (first_of (codes "file") rows ≡ Some file) × (first_of (codes "schedule") rows ≡ None)
+FileAgrees kinds rows (Some file) = (kinds ≡ []) × (first_of (codes "file") rows ≡ Some file) × (first_of (codes "second") rows ≡ None)
 
 dashes_are : (word : Text) → is_end_of_flags word ≡ true → word ≡ codes "--"
 dashes_are word e = (bytes_eq-Decides word (codes "--")).0 e
@@ -82,7 +82,7 @@ module _ (name : Text) where
   file_found : (file : Text) → first_of (codes "file") (finished s.rules (with_file file)) ≡ Some file
   file_found file = refl
 
-  no_second : (file : Text) → first_of (codes "schedule") (finished s.rules (with_file file)) ≡ None
+  no_second : (file : Text) → first_of (codes "second") (finished s.rules (with_file file)) ≡ None
   no_second file = refl
 
   has_file : (file : Text) (words : List Text) → walk_fault s [] start words ≡ []
@@ -90,7 +90,7 @@ module _ (name : Text) where
   has_file file words none is = (
     ap₂ after_walk none is ∙ file_passes file,
     ap (λ h. first_of (codes "file") (finished s.rules h)) is ∙ file_found file,
-    ap (λ h. first_of (codes "schedule") (finished s.rules h)) is ∙ no_second file,
+    ap (λ h. first_of (codes "second") (finished s.rules h)) is ∙ no_second file,
   )
 
   no_words : Fails (faults [])

@@ -1,7 +1,9 @@
 pub mod AgreeLemmas
 pub mod AskedLemmas
+pub mod AuditLemmas
 pub mod CallLemmas
 pub mod FileLemmas
+pub mod LevelLemmas
 pub mod MetLemmas
 pub mod PlayLemmas
 pub mod ScheduleLemmas

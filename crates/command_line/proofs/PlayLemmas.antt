@@ -2,20 +2,21 @@
 use Rattle.std.proofs.Common.{◌≡◌, ◌∙◌, ◌==◌, inl, inr, Bool, cond, true, false, List, ℕ, [], ◌∷◌, Option, Some, None, codes, refl, subst, sym, option_map}
 use Rattle.std.specs.Prelude.{option_and_then}
 use Rattle.std.specs.Option.{option_or}
-use Rattle.std.specs.List.{after_first, fold, list_any}
+use Rattle.std.specs.List.{after_first, list_any}
 use Rattle.std.specs.Str.{bytes_eq}
 use Rattle.std.proofs.lemmas.Slice.Eq.{bytes_eq-Decides}
-use Rattle.clap.specs.Kinds.{Kinds, or_else}
-use Rattle.clap.specs.Walk.{Held, Row, Text, Waiting, Walk, arg_by_index, arg_by_long, arg_by_short, finished, has_row, idle, option, settled, settled_rows, subcommand_met, to_positional, value, walked}
+use Rattle.clap.specs.Kinds.{Kinds}
+use Rattle.clap.specs.Walk.{Held, Row, Text, Waiting, Walk, arg_by_index, arg_by_long, arg_by_short, has_row, idle, option, settled_rows, subcommand_met, to_positional, value, walked}
 use Rattle.clap.specs.Simple.{Shape, built_leaf, inherited, marked_built, with_leaf_noted}
-use Rattle.clap.specs.Faults.{check_fault, defaults_fault, settle_fault, step_fault, turn_fault, walk_fault}
+use Rattle.clap.specs.Faults.{settle_fault, step_fault, turn_fault, walk_fault}
 use Rattle.clap.proofs.OnLiterals.{clap_on_literals}
 use Rattle.command_line.specs.Asked.{campaign_in, file_in, is_end_of_flags, is_equals, is_flag, is_schedule, nothing_more, only, schedule_at, value_at}
 use Rattle.command_line.specs.Lab.{lab_app, play_app}
 use Rattle.command_line.specs.Told.{Told, played}
-use Rattle.command_line.proofs.AgreeLemmas.{Agrees, Fails, or_else-first, true_or_false}
+use Rattle.command_line.proofs.AgreeLemmas.{Fails, or_else-first, true_or_false}
 use Rattle.command_line.proofs.WordLemmas.{IsHelpOrUnknown, flag_word_fails, held, help_long_fails, help_short_fails, unsettled_long, unsettled_short, walk_at, walk_in}
-use Rattle.command_line.proofs.TurnLemmas.{flag_turn, plain_turn, plain_walked, turn_fails}
+use Rattle.command_line.proofs.TurnLemmas.{flag_turn, plain_turn, plain_walked}
+use Rattle.command_line.proofs.LevelLemmas as level
 use Rattle.command_line.proofs.ScheduleLemmas.{alone_is, attached_is, long_is_schedule, plain_is_no_schedule, schedule_goes_on, schedule_is_flag, with_value}
 
 -- the subcommand as it is built
@@ -30,28 +31,18 @@ dashes_are word e = (bytes_eq-Decides word (codes "--")).0 e
 
 -- ---- the rest of the words, from where the walk stands
 
-abbrev level_end : Kinds → Held → Kinds
-level_end kinds h = or_else kinds (or_else [] (or_else (settle_fault s.rules s.args_override_self h)
-    (or_else (defaults_fault (settled s.rules h).rows s.rules) (check_fault s (finished s.rules h) false))))
-
 abbrev pub level_from : Walk → List Text → Kinds
-level_from w words = level_end (walk_fault s [] w words) (fold (walked s.rules []) w words).held
-
-abbrev pub rows_from : Walk → List Text → List Row
-rows_from w words = finished s.rules (fold (walked s.rules []) w words).held
+level_from = level.level_from s
 
 abbrev pub AgreesFrom : Walk → List Text → Option Told → Type 0
-AgreesFrom w words told = Agrees (level_from w words) (Some (codes "play", rows_from w words)) told
+AgreesFrom = level.AgreesFrom s
 
 stepped : (w to : Walk) (word : Text) (rest : List Text) (told : Option Told) → turn_fault s [] w word ≡ []
     → walked s.rules [] w word ≡ to → AgreesFrom to rest told → AgreesFrom w (word ∷ rest) told
-unfolding walk_fault
-stepped w to word rest told turn is agrees =
-    subst (λ (k : Kinds). Agrees (level_end (or_else k (walk_fault s [] (walked s.rules [] w word) rest)) (fold (walked s.rules []) (walked s.rules [] w word) rest).held) (Some (codes "play", rows_from (walked s.rules [] w word) rest)) told) (sym turn)
-    (subst (λ (v : Walk). AgreesFrom v rest told) (sym is) agrees)
+stepped = level.stepped s
 
 turn_stops : (w : Walk) (word : Text) (rest : List Text) → Fails (turn_fault s [] w word) → Fails (level_from w (word ∷ rest))
-turn_stops w word rest fails = or_else-first _ _ (turn_fails s [] w word rest fails)
+turn_stops = level.turn_stops s
 
 -- ---- what waits
 
@@ -60,10 +51,10 @@ abbrev scenario_waits : Text → Option (Text × List Text)
 scenario_waits file = Some (codes "file", file ∷ [])
 
 abbrev schedule_waits : List Text → Option (Text × List Text)
-schedule_waits files = Some (codes "schedule", files)
+schedule_waits files = Some (codes "second", files)
 
 abbrev waits : Waiting
-waits = option (codes "schedule")
+waits = option (codes "second")
 
 -- `--schedule` was met, and its file is wanted
 abbrev waiting_at : ℕ → List Row → Walk
@@ -158,7 +149,7 @@ module _ (position : ℕ) (rows : List Row) (pending : Option (Text × List Text
   opened = refl
 
   -- an option that was met before
-  module _ (has : has_row (codes "schedule") (settled_rows s.rules pending rows) ≡ true) where
+  module _ (has : has_row (codes "second") (settled_rows s.rules pending rows) ≡ true) where
     repeated : (file : Text) → Fails (settle_fault s.rules false (held (settled_rows s.rules pending rows) (schedule_waits (file ∷ []))))
     repeated file = rw has (λ e. cc)
 
@@ -288,7 +279,7 @@ option_scenario scenario file = ended (scheduled file) (scenario_waits scenario)
 
 module _ (file : Text) (rows : List Row) (pending : Option (Text × List Text))
     (good : settle_fault s.rules false (held rows pending) ≡ [])
-    (has : has_row (codes "schedule") (settled_rows s.rules pending rows) ≡ true)
+    (has : has_row (codes "second") (settled_rows s.rules pending rows) ≡ true)
     (taken : step_fault s 1 (held rows pending) value ≡ [])
     (placed : (word : Text) → to_positional s.rules (arg_by_index s.rules 1) word (walk_at 1 (held rows pending)) (held rows pending)
     ≡ walk_at 2 (held (scheduled file) (scenario_waits word)))

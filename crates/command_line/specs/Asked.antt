@@ -1,11 +1,11 @@
 -- What the words behind the program's name ask for.
-use Rattle.std.specs.Prelude.{ℕ, ◌==◌, ◌&&◌, Bool, true, false, List, [], ◌∷◌, Option, Some, None}
+use Rattle.std.specs.Prelude.{ℕ, ◌==◌, ◌&&◌, ◌||◌, Bool, true, false, List, [], ◌∷◌, Option, Some, None}
 use Rattle.std.specs.Prelude.{codes, if◌then◌else◌, is_none, is_some, map, option_and_then, option_map, slice_get}
 use Rattle.std.specs.Borrow.{Bor}
 use Rattle.std.specs.Option.{option_or}
 use Rattle.std.specs.List.{after_first, before_first, list_any}
 use Rattle.std.specs.Str.{bytes_eq, chars}
-use Rattle.command_line.specs.Told.{Text, Told, one_file, played}
+use Rattle.command_line.specs.Told.{Text, Told, audited, one_file, played}
 
 -- the texts behind the references
 abbrev pub words_of : List (Bor Text) → List Text
@@ -82,21 +82,42 @@ abbrev pub campaign_in : List Text → Option Told
 campaign_in words =
     option_or (schedule_first words) (option_or (schedule_last words) (no_schedule words))
 
+-- ---- a scenario and a chronicle
+
+-- the files: before `--` no word may look like a flag, and behind it each is a file
+abbrev pub files_in : List Text → Option (List Text)
+files_in [] = Some []
+files_in (word ∷ rest) = if is_end_of_flags word then Some rest
+    else (if is_flag word then None
+    else option_map (λ files. word ∷ files) (files_in rest))
+
+abbrev pub two : List Text → Option Told
+two (scenario ∷ chronicle ∷ []) = Some (audited scenario chronicle)
+two _ = None
+
+abbrev pub audit_in : List Text → Option Told
+audit_in words = option_and_then two (files_in words)
+
 -- ---- the subcommands
 
 abbrev pub takes_one_file : Text → Bool
 takes_one_file name = list_any (λ known. bytes_eq known name)
-    (codes "check" ∷ codes "asm" ∷ codes "dis" ∷ codes "book" ∷ [])
+    (codes "check" ∷ codes "asm" ∷ codes "dis" ∷ codes "book" ∷ codes "muster" ∷ [])
 
 abbrev pub is_play : Text → Bool
 is_play name = bytes_eq (codes "play") name
+
+abbrev pub is_audit : Text → Bool
+is_audit name = bytes_eq (codes "audit") name
 
 -- the words are a subcommand's name and its files
 abbrev pub asked : List Text → Option Told
 asked [] = None
 asked (name ∷ rest) = if takes_one_file name then option_map (one_file name) (file_in rest)
-    else (if is_play name then campaign_in rest else None)
+    else (if is_play name then campaign_in rest
+    else (if is_audit name then audit_in rest else None))
 
--- only `play` may have a second file
+-- `play` may have a second file, and `audit` must
 abbrev pub is_task : Told → Bool
-is_task told = if takes_one_file told.name then is_none told.second else is_play told.name
+is_task told = if takes_one_file told.name then is_none told.second
+    else (is_play told.name || (is_audit told.name && is_some told.second))

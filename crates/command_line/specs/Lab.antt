@@ -17,14 +17,25 @@ with_file_command app name = with_subcommand app (file_app name).top
 -- the option `--schedule FILE`
 abbrev pub schedule_rule : Rule
 schedule_rule =
-    record (new_rule (codes "schedule")) { long = Some (codes "schedule"); value_names = 1 }
+    record (new_rule (codes "second")) { long = Some (codes "schedule"); value_names = 1 }
+
+-- a second file, which has to be there
+abbrev pub chronicle_rule : Rule
+chronicle_rule = record (new_rule (codes "second")) { value_names = 1; required = true }
 
 -- the subcommand of a scenario and perhaps a schedule
 abbrev pub play_app : App
 play_app = with_rule (file_app (codes "play")) schedule_rule
 
+-- the subcommand of a scenario and a chronicle
+abbrev pub audit_app : App
+audit_app = with_rule (file_app (codes "audit")) chronicle_rule
+
 abbrev pub with_play_command : App → App
 with_play_command app = with_subcommand app play_app.top
+
+abbrev pub with_audit_command : App → App
+with_audit_command app = with_subcommand app audit_app.top
 
 -- the program before its subcommands
 abbrev pub bare_app : App
@@ -32,15 +43,19 @@ bare_app =
     let app = new_app (codes "byzlab") in
     record app { top = record app.top { no_binary_name = true; subcommand_required = true } }
 
--- the program with its subcommands
-abbrev pub lab_app : App
-lab_app = with_play_command (with_file_command (with_file_command (with_file_command
+-- the program with the subcommands of one file, and with all
+abbrev pub files_app : App
+files_app = with_file_command (with_file_command (with_file_command (with_file_command
     (with_file_command bare_app (codes "check")) (codes "asm")) (codes "dis")) (codes "book"))
+    (codes "muster")
+
+abbrev pub lab_app : App
+lab_app = with_audit_command (with_play_command files_app)
 
 -- the subcommand that `clap` met, with its files
 abbrev pub task_met : Option (Text × List Row) → Option Told
 task_met = option_and_then (λ met. option_map (λ file. record {
   name = met.0;
   file = file;
-  second = first_of (codes "schedule") met.1;
+  second = first_of (codes "second") met.1;
 }) (first_of (codes "file") met.1))

@@ -31,7 +31,7 @@ impl<'a> Met<'a> {
         let Some(file) = found.get_str("file") else {
             unreachable!();
         };
-        let second = found.get_str("schedule");
+        let second = found.get_str("second");
         Met { name, file, second }
     }
 
@@ -50,6 +50,16 @@ impl<'a> Met<'a> {
                 scenario: file,
                 schedule: copied(alloc, self.second)?,
             },
+            "muster" => Task::Muster(file),
+            "audit" => {
+                let Some(chronicle) = self.second else {
+                    unreachable!();
+                };
+                Task::Audit {
+                    scenario: file,
+                    chronicle: String::from_str(alloc, chronicle)?,
+                }
+            }
             _ => unreachable!(),
         })
     }

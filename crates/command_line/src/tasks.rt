@@ -17,6 +17,13 @@ pub enum Task {
         scenario: String,
         schedule: Option<String>,
     },
+    /// Run a campaign with a thread for each general.
+    Muster(String),
+    /// Replay the chronicle of a campaign.
+    Audit {
+        scenario: String,
+        chronicle: String,
+    },
 }
 
 impl Task {
@@ -28,9 +35,12 @@ impl Task {
         ensures { result.now ≡ (told_of self.now).file }
     {
         match self {
-            Task::Check(file) | Task::Assemble(file) | Task::Disassemble(file) | Task::Book(file) =>
-                file.as_str(),
-            Task::Play { scenario, .. } => scenario.as_str(),
+            Task::Check(file)
+            | Task::Assemble(file)
+            | Task::Disassemble(file)
+            | Task::Book(file)
+            | Task::Muster(file) => file.as_str(),
+            Task::Play { scenario, .. } | Task::Audit { scenario, .. } => scenario.as_str(),
         }
     }
 
@@ -40,6 +50,7 @@ impl Task {
     {
         match self {
             Task::Play { schedule, .. } => schedule.as_deref(),
+            Task::Audit { chronicle, .. } => Some(chronicle.as_str()),
             _ => None,
         }
     }

@@ -4,12 +4,13 @@ use Rattle.std.specs.Prelude.{Option, IfSome, Result, Ok, Err, OnErr, OnOk}
 use Rattle.std.specs.Fmt.{with_newline}
 use Rattle.std.specs.Io.KnownBytes.{Appends}
 use Rattle.command_line.specs.declared.tasks.Task.{Task}
+use Rattle.round.specs.Scenario.{Scenario}
 use Rattle.lab.specs.declared.refusal.Refusal.{Refusal}
 use Rattle.lab.specs.declared.refusal.Refusal.TheVariants as refusal
 use Rattle.lab.specs.declared.fault.Fault.{Fault}
 use Rattle.lab.specs.declared.fault.Fault.TheVariants.{Read, Text, Refused, Write, Memory}
 use Rattle.lab.specs.Faults.{fault_text, status_of, Explains, Prevents, Stops}
-use Rattle.lab.specs.Serving.{Files, IsFault, IsRefused, IsSecondRefused, IsTaken, IsTurnedDown, Tells, TellsRefusal, first_name, second_name}
+use Rattle.lab.specs.Serving.{Files, IsFault, IsRefused, IsRefusedLater, IsTaken, IsTurnedDown, Tells, TellsRefusal, first_name, second_name}
 
 -- a write that failed, or what it wrote
 pub written : {E : Type 0} (r : Result (Unit {0}) E) (P Q : Type 0) → OnOk r P → OnErr r Q → Q ⊎ P
@@ -23,7 +24,8 @@ refusal_told name tells (refusal.Verifier fault) other = tt
 refusal_told name tells (refusal.Assembly error) other = tt
 refusal_told name tells (refusal.Table error) other = tt
 refusal_told name tells (refusal.Scenario error) other = tt
-refusal_told name tells (refusal.Schedule error) other = tt
+refusal_told name tells (refusal.Trace error) other = tt
+refusal_told name tells (refusal.Threads error) other = tt
 refusal_told name tells refusal.NotText other = absurd (other refl)
 refusal_told name tells refusal.Memory other = tt
 
@@ -47,11 +49,11 @@ turned_down unread refused name fails old new Memory why told one =
 prevented : (unread second_unread fails : Type 0) (task : Task) (files : Files) (old new : Option (List ℕ)) (fault : Fault)
     → Prevents unread second_unread task files fault → fails ⊎ IfSome (with_newline (fault_text fault)) (Appends old new) → status_of fault ≡ 1
     → IsTurnedDown unread (IsRefused task files.first) (first_name task) (Tells fails old new)
-    ⊎ (IsTaken task files.first × IsTurnedDown second_unread (IsSecondRefused files.second) (second_name task) (Tells fails old new))
+    ⊎ ((s : Scenario) × IsTaken task files.first s × IsTurnedDown second_unread (IsRefusedLater task s files.second) (second_name task) (Tells fails old new))
 prevented unread second_unread fails task files old new fault (inl why) told one =
     inl (turned_down unread (IsRefused task files.first) (first_name task) fails old new fault why told one)
-prevented unread second_unread fails task files old new fault (inr (taken, why)) told one =
-    inr (taken, turned_down second_unread (IsSecondRefused files.second) (second_name task) fails old new fault why told one)
+prevented unread second_unread fails task files old new fault (inr (s, taken, why)) told one =
+    inr (s, taken, turned_down second_unread (IsRefusedLater task s files.second) (second_name task) fails old new fault why told one)
 
 -- each fault but want of memory
 pub fault_ends : (unread second_unread unwritten fails : Type 0) (task : Task) (files : Files) (old new : Option (List ℕ)) (kept : Type 0) (fault : Fault)

@@ -1,14 +1,19 @@
 -- What is known of a task's two files.
-use Rattle.std.proofs.Common.{ℕ, ◌≡◌, List, [], refl, subst, sym}
-use Rattle.std.specs.Prelude.{Option, None, Some, Ok, option_map}
+use Rattle.std.proofs.Common.{ℕ, ◌≡◌, ◌∙◌, List, [], ap, inr, refl, subst, sym}
+use Rattle.std.specs.Borrow.{Bor}
+use Rattle.std.specs.Prelude.{Option, None, Some, Ok, option_map, unwrap_or}
+use Rattle.command_line.specs.Told.{told_of}
 use Rattle.command_line.specs.declared.tasks.Task.{Task}
-use Rattle.command_line.specs.declared.tasks.Task.TheVariants.{Check, Assemble, Disassemble, Book, Play}
+use Rattle.command_line.specs.declared.tasks.Task.TheVariants.{Check, Assemble, Disassemble, Book, Play, Muster, Audit}
 use Rattle.round.specs.Scenario.{Scenario}
 use Rattle.world.specs.declared.schedule.Repeat.{Repeat}
 use Rattle.trace.specs.Schedules.{schedule_told}
-use Rattle.lab.specs.Answers.{GoesOn, Prints}
-use Rattle.lab.specs.Campaigns.{IsPlayed}
-use Rattle.lab.specs.Serving.{AreBytes, AreSecond, Files, IsAnswer, IsScheduleOf}
+use Rattle.lab.specs.Answers.{ComesTo, GoesOn, Prints}
+use Rattle.lab.specs.Campaigns.{IsAudited, IsMustered}
+use Rattle.lab.specs.Faults.{Prevents, Stops}
+use Rattle.lab.specs.Serving.{AreBytes, AreSecond, AreSecondBytes, Files, IsAnswer, IsAuditOf, IsChronicleRefused, IsPlayedBy, IsRefusedLater, IsScheduleOf, IsScheduleRefused, second_name}
+use Rattle.lab.specs.declared.fault.Fault.{Fault}
+use Rattle.lab.specs.declared.outcome.Outcome.TheVariants as outcome
 
 -- the schedule that the second file tells
 pub second_told : {R : Type 0} (bytes : R → Option (List ℕ)) (second : Option R) (own : R) (all : List ℕ) (schedule : List (List Repeat))
@@ -28,12 +33,96 @@ pub answered_alone : (task : Task) (files : Files) (first text : List ℕ) → A
 answered_alone task files first text are prints =
     let some = some_second files.second in (first, are, (some.0, some.1, prints some.0))
 
--- an answer of both files
-pub answered_by_both : (task : Task) (files : Files) (first text : List ℕ) (s : Scenario) (schedule : List (List Repeat)) → AreBytes files.first first
-    → GoesOn task first s → IsScheduleOf files.second schedule → IsPlayed s schedule text → IsAnswer task files text
-answered_by_both (Check file) files first text s schedule are on told played = absurd on
-answered_by_both (Assemble file) files first text s schedule are on told played = absurd on
-answered_by_both (Disassemble file) files first text s schedule are on told played = absurd on
-answered_by_both (Book file) files first text s schedule are on told played = absurd on
-answered_by_both (Play scenario listing) files first text s schedule are on told played =
-    (first, are, (told.0, told.1, (s, on, (schedule, told.2, played))))
+-- bytes of the second file
+second_bytes : (known : Option (Option (List ℕ))) (bytes : List ℕ) → AreSecondBytes known bytes → (second : Option (List ℕ)) × AreSecond known second × (bytes ≡ unwrap_or second [])
+second_bytes None bytes are = (None, refl, are)
+second_bytes (Some known) bytes are = (Some bytes, are, refl)
+
+-- an answer by the second file's schedule
+pub answered_played : (task : Task) (files : Files) (first text : List ℕ) (s : Scenario) → AreBytes files.first first
+    → ComesTo task first (outcome.Play s) → IsPlayedBy files.second s text → IsAnswer task files text
+answered_played (Check file) files first text s are comes by = absurd comes
+answered_played (Assemble file) files first text s are comes by = absurd comes
+answered_played (Disassemble file) files first text s are comes by = absurd comes
+answered_played (Book file) files first text s are comes by = absurd comes
+answered_played (Play scenario listing) files first text s are comes (schedule, told, played) =
+    (first, are, (told.0, told.1, (s, comes, (schedule, told.2, played))))
+answered_played (Muster scenario) files first text s are comes by = absurd comes
+answered_played (Audit scenario chronicle) files first text s are comes by = absurd comes
+
+-- an answer of threads
+pub answered_mustered : (task : Task) (files : Files) (first text : List ℕ) (s : Scenario) → AreBytes files.first first
+    → ComesTo task first (outcome.Muster s) → IsMustered s text → IsAnswer task files text
+answered_mustered (Check file) files first text s are comes mustered = absurd comes
+answered_mustered (Assemble file) files first text s are comes mustered = absurd comes
+answered_mustered (Disassemble file) files first text s are comes mustered = absurd comes
+answered_mustered (Book file) files first text s are comes mustered = absurd comes
+answered_mustered (Play scenario listing) files first text s are comes mustered = absurd comes
+answered_mustered (Muster scenario) files first text s are comes mustered =
+    let some = some_second files.second in (first, are, (some.0, some.1, (s, comes, mustered)))
+answered_mustered (Audit scenario chronicle) files first text s are comes mustered = absurd comes
+
+-- an answer on the second file
+pub answered_audited : (task : Task) (files : Files) (first text : List ℕ) (s : Scenario) → AreBytes files.first first
+    → ComesTo task first (outcome.Audit s) → IsAuditOf files.second s text → IsAnswer task files text
+answered_audited (Check file) files first text s are comes audit = absurd comes
+answered_audited (Assemble file) files first text s are comes audit = absurd comes
+answered_audited (Disassemble file) files first text s are comes audit = absurd comes
+answered_audited (Book file) files first text s are comes audit = absurd comes
+answered_audited (Play scenario listing) files first text s are comes audit = absurd comes
+answered_audited (Muster scenario) files first text s are comes audit = absurd comes
+answered_audited (Audit scenario chronicle) files first text s are comes (bytes, known, audited) =
+    let second = second_bytes files.second bytes known in
+    (first, are, (second.0, second.1, (s, comes, subst (λ (own : List ℕ). IsAudited s own text) second.2 audited)))
+
+-- what stops a task behind its first file: its schedule, the threads, or the chronicle
+stopped_playing : (task : Task) (unread : Type 0) (first name : List ℕ) (s : Scenario) (known : Option (Option (List ℕ))) (fault : Fault)
+    → ComesTo task first (outcome.Play s) → Stops unread (IsScheduleRefused known) name fault
+    → GoesOn task first s × Stops unread (IsRefusedLater task s known) name fault
+stopped_playing (Check file) unread first name s known fault comes why = absurd comes
+stopped_playing (Assemble file) unread first name s known fault comes why = absurd comes
+stopped_playing (Disassemble file) unread first name s known fault comes why = absurd comes
+stopped_playing (Book file) unread first name s known fault comes why = absurd comes
+stopped_playing (Play scenario listing) unread first name s known fault comes why = (comes, why)
+stopped_playing (Muster scenario) unread first name s known fault comes why = absurd comes
+stopped_playing (Audit scenario chronicle) unread first name s known fault comes why = absurd comes
+
+stopped_auditing : (task : Task) (unread : Type 0) (first name : List ℕ) (s : Scenario) (known : Option (Option (List ℕ))) (fault : Fault)
+    → ComesTo task first (outcome.Audit s) → Stops unread (IsChronicleRefused s known) name fault
+    → GoesOn task first s × Stops unread (IsRefusedLater task s known) name fault
+stopped_auditing (Check file) unread first name s known fault comes why = absurd comes
+stopped_auditing (Assemble file) unread first name s known fault comes why = absurd comes
+stopped_auditing (Disassemble file) unread first name s known fault comes why = absurd comes
+stopped_auditing (Book file) unread first name s known fault comes why = absurd comes
+stopped_auditing (Play scenario listing) unread first name s known fault comes why = absurd comes
+stopped_auditing (Muster scenario) unread first name s known fault comes why = absurd comes
+stopped_auditing (Audit scenario chronicle) unread first name s known fault comes why = (comes, why)
+
+-- why it has no answer then
+pub prevented_playing : (task : Task) (files : Files) (unread second_unread : Type 0) (first name : List ℕ) (s : Scenario) (fault : Fault)
+    → AreBytes files.first first → ComesTo task first (outcome.Play s) → name ≡ second_name task
+    → Stops second_unread (IsScheduleRefused files.second) name fault → Prevents unread second_unread task files fault
+prevented_playing task files unread second_unread first name s fault are comes named why =
+    let own : Stops second_unread (IsScheduleRefused files.second) (second_name task) fault =
+    subst (λ (n : List ℕ). Stops second_unread (IsScheduleRefused files.second) n fault) named why in
+    let stopped = stopped_playing task second_unread first (second_name task) s files.second fault comes own in
+    inr (s, (first, are, stopped.0), stopped.1)
+
+pub prevented_auditing : (task : Task) (files : Files) (unread second_unread : Type 0) (first name : List ℕ) (s : Scenario) (fault : Fault)
+    → AreBytes files.first first → ComesTo task first (outcome.Audit s) → name ≡ second_name task
+    → Stops second_unread (IsChronicleRefused s files.second) name fault → Prevents unread second_unread task files fault
+prevented_auditing task files unread second_unread first name s fault are comes named why =
+    let own : Stops second_unread (IsChronicleRefused s files.second) (second_name task) fault =
+    subst (λ (n : List ℕ). Stops second_unread (IsChronicleRefused s files.second) n fault) named why in
+    let stopped = stopped_auditing task second_unread first (second_name task) s files.second fault comes own in
+    inr (s, (first, are, stopped.0), stopped.1)
+
+-- the name of the second file, empty where the words name none
+unwrapped : (o : Option (Bor (List ℕ))) (empty : Bor (List ℕ)) → empty.now ≡ [] → (unwrap_or o empty).now ≡ unwrap_or (option_map (λ (file : Bor (List ℕ)). file.now) o) []
+unwrapped None empty none = none
+unwrapped (Some file) empty none = refl
+
+pub second_named : (task : Task) (o : Option (Bor (List ℕ))) (result empty : Bor (List ℕ)) → option_map (λ (file : Bor (List ℕ)). file.now) o ≡ (told_of task).second
+    → result ≡ unwrap_or o empty → empty.now ≡ [] → result.now ≡ second_name task
+second_named task o result empty told is none =
+    ap (λ (file : Bor (List ℕ)). file.now) is ∙ (unwrapped o empty none ∙ ap (λ (second : Option (List ℕ)). unwrap_or second []) told)

@@ -1,4 +1,5 @@
 pub mod BenchLemmas
+pub mod CampaignLemmas
 pub mod FaultLemmas
 pub mod FilesLemmas
 pub mod LineLemmas

@@ -10,16 +10,16 @@ use Rattle.book.specs.Decisions.{decisions_of, TableAgrees}
 use Rattle.book.specs.Grammar.{table_told}
 use Rattle.book.specs.Table.{MessageTable}
 use Rattle.command_line.specs.declared.tasks.Task.{Task}
-use Rattle.command_line.specs.declared.tasks.Task.TheVariants.{Check, Assemble, Disassemble, Book, Play}
+use Rattle.command_line.specs.declared.tasks.Task.TheVariants.{Check, Assemble, Disassemble, Book, Play, Muster, Audit}
 use Rattle.round.specs.Scenario.{Scenario}
 use Rattle.scenario.specs.Told.{Tells}
 use Rattle.lab.specs.Bench.{bench_bytes, bench_shape}
 use Rattle.lab.specs.BoardRun.{IsServed}
-use Rattle.lab.specs.Campaigns.{Plays}
+use Rattle.lab.specs.Campaigns.{Audits, Musters, Plays}
 use Rattle.lab.specs.Lines.{checked_lines, decision_lines, hex_line}
 use Rattle.lab.specs.declared.checking.Checked.{Checked}
 use Rattle.lab.specs.declared.outcome.Outcome.{Outcome}
-use Rattle.lab.specs.declared.outcome.Outcome.TheVariants.{Text, Campaign}
+use Rattle.lab.specs.declared.outcome.Outcome.TheVariants as outcome
 
 -- the program is sound, and its run in the bench context, with a board that begins with zeros, ended so
 pub record IsRun (program : List Insn) (checked : Checked) : Type 0 where
@@ -55,13 +55,20 @@ Prints (Assemble file) first second text = Assembles first text
 Prints (Disassemble file) first second text = Disassembles first text
 Prints (Book file) first second text = Decides first text
 Prints (Play scenario schedule) first second text = Plays first second text
+Prints (Muster scenario) first second text = Musters first text
+Prints (Audit scenario chronicle) first second text = Audits first second text
 
--- the task goes on with this campaign to its second file
+-- the task goes on with this campaign behind its first file
 abbrev pub GoesOn : Task → List ℕ → Scenario → Type 0
 GoesOn (Play scenario schedule) first s = Tells first s
+GoesOn (Muster scenario) first s = Tells first s
+GoesOn (Audit scenario chronicle) first s = Tells first s
 GoesOn _ first s = ⊥
 
 -- what the task comes to on its first file: a text, whatever the second has, or a campaign with which it goes on
 abbrev pub ComesTo : Task → List ℕ → Outcome → Type 0
-ComesTo task first (Text text) = (second : Option (List ℕ)) → Prints task first second (string_bytes text)
-ComesTo task first (Campaign s) = GoesOn task first s
+ComesTo task first (outcome.Text text) = (second : Option (List ℕ)) → Prints task first second (string_bytes text)
+ComesTo (Play scenario schedule) first (outcome.Play s) = Tells first s
+ComesTo (Muster scenario) first (outcome.Muster s) = Tells first s
+ComesTo (Audit scenario chronicle) first (outcome.Audit s) = Tells first s
+ComesTo _ first _ = ⊥

@@ -2,11 +2,12 @@
 use Rattle.std.specs.Prelude.{ℕ, ◌≡◌, ◌≢◌, ◌⊎◌, List, Option, Some, None, ◌++◌, codes}
 use Rattle.std.specs.Borrow.{Bor}
 use Rattle.command_line.specs.declared.tasks.Task.{Task}
+use Rattle.round.specs.Scenario.{Scenario}
 use Rattle.lab.specs.declared.refusal.Refusal.{Refusal}
 use Rattle.lab.specs.declared.refusal.Refusal.TheVariants as refusal
 use Rattle.lab.specs.declared.fault.Fault.{Fault}
 use Rattle.lab.specs.declared.fault.Fault.TheVariants.{Read, Text, Refused, Write, Memory}
-use Rattle.lab.specs.Serving.{Files, HasAnswer, IsRefused, IsSecondRefused, IsTaken, first_name, second_name}
+use Rattle.lab.specs.Serving.{Files, HasAnswer, IsRefused, IsRefusedLater, IsTaken, first_name, second_name}
 
 -- the fault of a file with this name
 abbrev pub fault_of : Refusal → Bor (List ℕ) → Fault
@@ -35,11 +36,11 @@ Stops unread refused name (Refused cause) = (cause ≢ refusal.NotText) × refus
 Stops unread refused name Write = ⊥
 Stops unread refused name Memory = Unit {0}
 
--- why a task has no answer: its first file stops it, or behind one that is taken the second
+-- why a task has no answer: its first file stops it, or what comes behind one that is taken
 abbrev pub Prevents : Type 0 → Type 0 → Task → Files → Fault → Type 0
 Prevents unread second_unread task files fault =
     Stops unread (IsRefused task files.first) (first_name task) fault
-    ⊎ (IsTaken task files.first × Stops second_unread (IsSecondRefused files.second) (second_name task) fault)
+    ⊎ ((s : Scenario) × IsTaken task files.first s × Stops second_unread (IsRefusedLater task s files.second) (second_name task) fault)
 
 -- why a task is not done: it has no answer, or the output failed on its answer
 abbrev pub Explains : Type 0 → Type 0 → Type 0 → Task → Files → Fault → Type 0

@@ -1,5 +1,5 @@
 -- The lines that are printed.
-use Rattle.std.specs.Prelude.{ℕ, List, ◌++◌, codes}
+use Rattle.std.specs.Prelude.{ℕ, List, [], ◌∷◌, ◌++◌, codes}
 use Rattle.std.specs.Fmt.{decimal}
 use Rattle.std.specs.List.{flat_map}
 use Rattle.hex.specs.Hex.{encode_lower}
@@ -8,6 +8,8 @@ use Rattle.codec.specs.Spelling.{program_bytes}
 use Rattle.label.specs.Lieutenants.{lieutenants}
 use Rattle.book.specs.Decisions.{decision_of}
 use Rattle.book.specs.Table.{MessageTable}
+use Rattle.world.specs.declared.verdict.Verdict.{Verdict}
+use Rattle.trace.specs.Text.{text, verdict_line}
 use Rattle.lab.specs.declared.checking.Checked.{Checked}
 
 -- what a check prints
@@ -28,3 +30,7 @@ decision_line general order = codes "decision " ++ decimal general ++ codes " " 
 -- a line for each lieutenant, ascending
 unfoldable pub decision_lines : MessageTable → List ℕ
 decision_lines table = flat_map (λ general. decision_line general (decision_of table general)) (lieutenants table.generals table.commander)
+
+-- what an audit prints
+abbrev pub sound_lines : Verdict → List ℕ
+sound_lines verdict = codes "sound\n" ++ text (verdict_line verdict ∷ [])

@@ -13,9 +13,14 @@ use Rattle.book.specs.Grammar.{table_told}
 use Rattle.book.specs.declared.fault.TableError.{TableError}
 use Rattle.book.specs.declared.fault.TableError.TheVariants as table
 use Rattle.toml.specs.Parse.{parse_document}
+use Rattle.round.specs.Scenario as round
 use Rattle.scenario.specs.Told.{Reads}
 use Rattle.scenario.specs.declared.fault.ScenarioError.{ScenarioError}
 use Rattle.scenario.specs.declared.fault.ScenarioError.TheVariants as scenario
+use Rattle.threads.specs.declared.error.MusterError.{MusterError}
+use Rattle.threads.specs.declared.error.MusterError.TheVariants as muster
+use Rattle.trace.specs.Audit.{IsFaultOf}
+use Rattle.trace.specs.Laws.{IsSoundText}
 use Rattle.trace.specs.Schedules.{schedule_told}
 use Rattle.trace.specs.declared.fault.TraceError.{TraceError}
 use Rattle.trace.specs.declared.fault.TraceError.TheVariants as trace
@@ -23,9 +28,9 @@ use Rattle.verify.specs.declared.fault.Fault.{Fault}
 use Rattle.verify.specs.declared.fault.Fault.TheVariants as verifier
 use Rattle.verify.specs.Structure.{structural_fault, IsOwnFault}
 use Rattle.command_line.specs.declared.tasks.Task.{Task}
-use Rattle.command_line.specs.declared.tasks.Task.TheVariants.{Check, Assemble, Disassemble, Book, Play}
+use Rattle.command_line.specs.declared.tasks.Task.TheVariants.{Check, Assemble, Disassemble, Book, Play, Muster, Audit}
 use Rattle.lab.specs.declared.refusal.Refusal.{Refusal}
-use Rattle.lab.specs.declared.refusal.Refusal.TheVariants.{Codec, Verifier, Assembly, Table, Scenario, Schedule, NotText, Memory}
+use Rattle.lab.specs.declared.refusal.Refusal.TheVariants.{Codec, Verifier, Assembly, Table, Scenario, Trace, Threads, NotText, Memory}
 
 -- the refusal of each error: want of memory is the same everywhere
 abbrev pub codec_refusal : CodecError → Refusal
@@ -48,9 +53,13 @@ abbrev pub scenario_refusal : ScenarioError → Refusal
 scenario_refusal scenario.Memory = Memory
 scenario_refusal error = Scenario error
 
-abbrev pub schedule_refusal : TraceError → Refusal
-schedule_refusal trace.Memory = Memory
-schedule_refusal error = Schedule error
+abbrev pub trace_refusal : TraceError → Refusal
+trace_refusal trace.Memory = Memory
+trace_refusal error = Trace error
+
+abbrev pub muster_refusal : MusterError → Refusal
+muster_refusal muster.Memory = Memory
+muster_refusal error = Threads error
 
 -- the bytes spell no program, by this first fault
 abbrev pub RefusesBytes : List ℕ → CodecError → Type 0
@@ -96,9 +105,21 @@ RefusesScenario text _ = ⊥
 
 -- the text tells no schedule, by this first line
 abbrev pub RefusesSchedule : List ℕ → Refusal → Type 0
-RefusesSchedule text (Schedule error) = schedule_told text ≡ Err error
+RefusesSchedule text (Trace error) = schedule_told text ≡ Err error
 RefusesSchedule text Memory = Unit {0}
 RefusesSchedule text _ = ⊥
+
+-- the text is no chronicle of the scenario's, by this first line
+abbrev pub RefusesChronicle : round.Scenario → List ℕ → Refusal → Type 0
+RefusesChronicle s text (Trace error) = (IsSoundText s text → ⊥) × IsFaultOf s text error
+RefusesChronicle s text Memory = Unit {0}
+RefusesChronicle s text _ = ⊥
+
+-- the threads gave no chronicle; which of them is at fault is not said
+abbrev pub RefusesMuster : Refusal → Type 0
+RefusesMuster (Threads error) = error ≢ muster.Memory
+RefusesMuster Memory = Unit {0}
+RefusesMuster _ = ⊥
 
 -- the bytes are no text, or the text is refused
 abbrev pub RefusesText : (List ℕ → Refusal → Type 0) → List ℕ → Refusal → Type 0
@@ -112,3 +133,5 @@ Refuses (Assemble file) bytes refusal = RefusesText RefusesAssembly bytes refusa
 Refuses (Disassemble file) bytes refusal = RefusesDisassembly bytes refusal
 Refuses (Book file) bytes refusal = RefusesText RefusesTable bytes refusal
 Refuses (Play scenario schedule) bytes refusal = RefusesText RefusesScenario bytes refusal
+Refuses (Muster scenario) bytes refusal = RefusesText RefusesScenario bytes refusal
+Refuses (Audit scenario chronicle) bytes refusal = RefusesText RefusesScenario bytes refusal

@@ -3,13 +3,14 @@ use Rattle.std.specs.Prelude.{ℕ, ◌≡◌, ◌≢◌, ◌⊎◌, List, [], �
 use Rattle.std.specs.Io.KnownBytes.{Appends}
 use Rattle.command_line.specs.Told.{told_of}
 use Rattle.command_line.specs.declared.tasks.Task.{Task}
+use Rattle.command_line.specs.declared.tasks.Task.TheVariants.{Play, Muster, Audit}
 use Rattle.round.specs.Scenario.{Scenario}
 use Rattle.world.specs.declared.schedule.Repeat.{Repeat}
 use Rattle.lab.specs.declared.refusal.Refusal.{Refusal}
 use Rattle.lab.specs.declared.refusal.Refusal.TheVariants.{NotText, Memory}
 use Rattle.lab.specs.Answers.{GoesOn, Prints}
-use Rattle.lab.specs.Campaigns.{IsSchedule}
-use Rattle.lab.specs.Refusals.{Refuses, RefusesSchedule, RefusesText}
+use Rattle.lab.specs.Campaigns.{IsAudited, IsPlayed, IsSchedule}
+use Rattle.lab.specs.Refusals.{Refuses, RefusesChronicle, RefusesMuster, RefusesSchedule, RefusesText}
 
 -- the only or first file's bytes, and the second's where there is one
 pub record Files : Type 0 where
@@ -35,6 +36,11 @@ abbrev pub AreSecond : Option (Option (List ℕ)) → Option (List ℕ) → Type
 AreSecond None second = second ≡ None
 AreSecond (Some known) second = IsSomeAnd second (AreBytes known)
 
+-- the bytes are the second file's, and there are none where there is no such file
+abbrev pub AreSecondBytes : Option (Option (List ℕ)) → List ℕ → Type 0
+AreSecondBytes None bytes = bytes ≡ []
+AreSecondBytes (Some known) bytes = AreBytes known bytes
+
 -- the task prints this text on the files
 abbrev pub IsAnswer : Task → Files → List ℕ → Type 0
 IsAnswer task files text =
@@ -44,6 +50,14 @@ IsAnswer task files text =
 -- the schedule is that of the second file, the empty one where there is no such file
 abbrev pub IsScheduleOf : Option (Option (List ℕ)) → List (List Repeat) → Type 0
 IsScheduleOf known schedule = (second : Option (List ℕ)) × AreSecond known second × IsSchedule second schedule
+
+-- the text is that of the campaign by the second file's schedule
+abbrev pub IsPlayedBy : Option (Option (List ℕ)) → Scenario → List ℕ → Type 0
+IsPlayedBy known s text = (schedule : List (List Repeat)) × IsScheduleOf known schedule × IsPlayed s schedule text
+
+-- the lines are those of the audit of the second file
+abbrev pub IsAuditOf : Option (Option (List ℕ)) → Scenario → List ℕ → Type 0
+IsAuditOf known s text = (bytes : List ℕ) × AreSecondBytes known bytes × IsAudited s bytes text
 
 -- the task has an answer on the files
 abbrev pub HasAnswer : Task → Files → Type 0
@@ -58,14 +72,30 @@ abbrev pub IsRefused : Task → Option (List ℕ) → Refusal → Type 0
 IsRefused task known refusal =
     (refusal ≢ Memory) × ((bytes : List ℕ) × AreBytes known bytes × Refuses task bytes refusal)
 
--- the task takes its first file, and goes on to the second
-abbrev pub IsTaken : Task → Option (List ℕ) → Type 0
-IsTaken task known = (bytes : List ℕ) × AreBytes known bytes × ((s : Scenario) × GoesOn task bytes s)
+-- the task takes its first file, and goes on with this campaign
+abbrev pub IsTaken : Task → Option (List ℕ) → Scenario → Type 0
+IsTaken task known s = (bytes : List ℕ) × AreBytes known bytes × GoesOn task bytes s
 
--- the second file is there and refused so, and not for want of memory
-abbrev pub IsSecondRefused : Option (Option (List ℕ)) → Refusal → Type 0
-IsSecondRefused known refusal =
+-- the second file is there and refused so as a schedule, and not for want of memory
+abbrev pub IsScheduleRefused : Option (Option (List ℕ)) → Refusal → Type 0
+IsScheduleRefused known refusal =
     (refusal ≢ Memory) × ((bytes : List ℕ) × AreSecond known (Some bytes) × RefusesText RefusesSchedule bytes refusal)
+
+-- the second file is refused so as a chronicle of the scenario's, and not for want of memory
+abbrev pub IsChronicleRefused : Scenario → Option (Option (List ℕ)) → Refusal → Type 0
+IsChronicleRefused s known refusal =
+    (refusal ≢ Memory) × ((bytes : List ℕ) × AreSecondBytes known bytes × RefusesText (RefusesChronicle s) bytes refusal)
+
+-- the threads gave no chronicle so, and not for want of memory
+abbrev pub IsUnmustered : Refusal → Type 0
+IsUnmustered refusal = (refusal ≢ Memory) × RefusesMuster refusal
+
+-- behind a first file with this campaign the task refuses so
+abbrev pub IsRefusedLater : Task → Scenario → Option (Option (List ℕ)) → Refusal → Type 0
+IsRefusedLater (Play scenario schedule) s known refusal = IsScheduleRefused known refusal
+IsRefusedLater (Muster scenario) s known refusal = IsUnmustered refusal
+IsRefusedLater (Audit scenario chronicle) s known refusal = IsChronicleRefused s known refusal
+IsRefusedLater _ s known refusal = ⊥
 
 -- the stream has grown by this line, or it failed
 abbrev pub Tells : Type 0 → Option (List ℕ) → Option (List ℕ) → List ℕ → Type 0
@@ -76,7 +106,7 @@ abbrev pub TellsRefusal : List ℕ → (List ℕ → Type 0) → Refusal → Typ
 TellsRefusal name tells NotText = tells (codes "fault text " ++ name)
 TellsRefusal name tells _ = Unit {0}
 
--- the file with this name was not read, since its reader failed, or it is refused; and a line says so
+-- the file with this name was not read, since its reader failed, or a refusal has come; and a line says so
 abbrev pub IsTurnedDown : Type 0 → (Refusal → Type 0) → List ℕ → (List ℕ → Type 0) → Type 0
 IsTurnedDown unread refused name tells =
     (unread × tells (codes "fault read " ++ name))
@@ -86,9 +116,9 @@ IsTurnedDown unread refused name tells =
 abbrev pub IsUnwritten : Type 0 → Task → Files → (List ℕ → Type 0) → Type 0
 IsUnwritten unwritten task files tells = unwritten × HasAnswer task files × tells (codes "fault write")
 
--- nothing is printed, since the first file is turned down, or behind a first one that is taken the second; or the output failed on the answer
+-- nothing is printed, since the first file is turned down, or what comes behind a first one that is taken; or the output failed on the answer
 abbrev pub IsFault : Type 0 → Type 0 → Type 0 → Task → Files → Type 0 → (List ℕ → Type 0) → Type 0
 IsFault unread second_unread unwritten task files kept tells =
     (kept × (IsTurnedDown unread (IsRefused task files.first) (first_name task) tells
-    ⊎ (IsTaken task files.first × IsTurnedDown second_unread (IsSecondRefused files.second) (second_name task) tells)))
+    ⊎ ((s : Scenario) × IsTaken task files.first s × IsTurnedDown second_unread (IsRefusedLater task s files.second) (second_name task) tells)))
     ⊎ IsUnwritten unwritten task files tells

@@ -29,7 +29,9 @@ pub fn answer(alloc: Global, task: &Task, bytes: &[u8]) -> Result<Outcome, Refus
         Task::Assemble(_) => assembled(alloc, text_of(bytes)?)?,
         Task::Disassemble(_) => disassembled(alloc, bytes)?,
         Task::Book(_) => decided(alloc, text_of(bytes)?)?,
-        Task::Play { .. } => return Ok(Outcome::Campaign(campaign(alloc, bytes)?)),
+        Task::Play { .. } => return Ok(Outcome::Play(campaign(alloc, bytes)?)),
+        Task::Muster(_) => return Ok(Outcome::Muster(campaign(alloc, bytes)?)),
+        Task::Audit { .. } => return Ok(Outcome::Audit(campaign(alloc, bytes)?)),
     };
     Ok(Outcome::Text(text))
 }

@@ -3,10 +3,12 @@
 
 mod answering;
 mod assembling;
+mod auditing;
 mod bench;
 mod checking;
 mod deciding;
 mod fault;
+mod mustering;
 mod outcome;
 mod playing;
 mod refusal;
@@ -16,9 +18,11 @@ mod texts;
 
 pub use answering::answer;
 pub use assembling::{assembled, disassembled};
+pub use auditing::audited;
 pub use bench::bench_context;
 pub use checking::{Checked, check};
 pub use deciding::decided;
+pub use mustering::mustered;
 pub use outcome::Outcome;
 pub use playing::{campaign, played, schedule};
 pub use refusal::Refusal;

@@ -5,6 +5,10 @@ use round::Scenario;
 pub enum Outcome {
     /// All that it prints.
     Text(String),
-    /// A campaign, which the second file says how to play.
-    Campaign(Scenario),
+    /// A campaign to play, by the schedule of the second file.
+    Play(Scenario),
+    /// A campaign to run with a thread for each general.
+    Muster(Scenario),
+    /// A campaign whose chronicle the second file may be.
+    Audit(Scenario),
 }

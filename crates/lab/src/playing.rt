@@ -1,6 +1,7 @@
 ghost use Rattle.std.specs.Prelude.{◌≡◌, IfOk, IfErr, Ok};
 ghost use Rattle.scenario.specs.Told.{Tells};
 ghost use Rattle.trace.specs.Schedules.{schedule_told};
+ghost use Rattle.trace.specs.Text.{text_of};
 ghost use Rattle.lab.specs.Campaigns.{IsPlayed};
 ghost use Rattle.lab.specs.Refusals.{RefusesScenario, RefusesSchedule, RefusesText};
 
@@ -9,7 +10,7 @@ use crate::texts::text_of;
 use round::Scenario;
 use std::alloc::{AllocError, Global};
 use trace::{Latch, read_schedule, write_chronicle};
-use world::{Schedule, play};
+use world::{Chronicle, Schedule, play};
 
 /// The campaign that the bytes tell.
 ///
@@ -45,8 +46,15 @@ pub fn played(alloc: Global, scenario: Scenario, schedule: &Schedule) -> Result<
     ensures { IfOk result (λ text. IsPlayed scenario schedule.now text.items) }
 {
     let chronicle = play(alloc, scenario, schedule)?;
+    chronicle_text(alloc, &chronicle)
+}
+
+/// The text of a chronicle.
+pub(crate) fn chronicle_text(alloc: Global, chronicle: &Chronicle) -> Result<Vec<u8>, AllocError>
+    ensures { IfOk result (λ text. text.items ≡ text_of chronicle.now) }
+{
     let mut latch = Latch::new(Vec::new(alloc));
-    match write_chronicle(&chronicle, &mut latch) {
+    match write_chronicle(chronicle, &mut latch) {
         Ok(()) => Ok(latch.into_writer()),
         Err(_) => Err(AllocError),
     }

@@ -3,6 +3,7 @@ use book::TableError;
 use codec::CodecError;
 use scenario::ScenarioError;
 use std::alloc::AllocError;
+use threads::MusterError;
 use trace::TraceError;
 use verify::Fault;
 
@@ -24,9 +25,12 @@ pub enum Refusal {
     /// The text tells no scenario.
     #[error("{0}")]
     Scenario(ScenarioError),
-    /// The text tells no schedule.
+    /// The text tells no schedule, or no chronicle of the scenario's.
     #[error("{0}")]
-    Schedule(TraceError),
+    Trace(TraceError),
+    /// The threads gave no chronicle.
+    #[error("{0}")]
+    Threads(MusterError),
     /// The bytes are no text in UTF-8.
     #[error("not UTF-8")]
     NotText,
@@ -118,14 +122,28 @@ impl From<ScenarioError> for Refusal {
 
 impl From<TraceError> for Refusal {
     ghost use Rattle.std.specs.Prelude.{◌≡◌};
-    ghost use Rattle.lab.specs.Refusals.{schedule_refusal};
+    ghost use Rattle.lab.specs.Refusals.{trace_refusal};
 
-    ghost from_gives = { λ error refusal. refusal ≡ schedule_refusal error };
+    ghost from_gives = { λ error refusal. refusal ≡ trace_refusal error };
 
     fn from(error: TraceError) -> Refusal {
         match error {
             TraceError::Memory => Refusal::Memory,
-            error => Refusal::Schedule(error),
+            error => Refusal::Trace(error),
+        }
+    }
+}
+
+impl From<MusterError> for Refusal {
+    ghost use Rattle.std.specs.Prelude.{◌≡◌};
+    ghost use Rattle.lab.specs.Refusals.{muster_refusal};
+
+    ghost from_gives = { λ error refusal. refusal ≡ muster_refusal error };
+
+    fn from(error: MusterError) -> Refusal {
+        match error {
+            MusterError::Memory => Refusal::Memory,
+            error => Refusal::Threads(error),
         }
     }
 }

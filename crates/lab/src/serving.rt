@@ -1,22 +1,28 @@
 ghost use Rattle.std.specs.Prelude.{◌≡◌, ◌≢◌, ◌⊎◌, IfOk, IfErr, IsSomeAnd, OnOk, codes, option_map};
 ghost use Rattle.lab.specs.Faults.{Explains, Prevents, Stops};
-ghost use Rattle.lab.specs.Serving.{AreBytes, AreSecond, IsAnswer, IsFault, IsPrinted, IsScheduleOf, IsSecondRefused, Tells, files, second_name};
+ghost use Rattle.lab.specs.Serving.{AreBytes, AreSecondBytes, IsAnswer, IsAuditOf, IsChronicleRefused, IsFault, IsPlayedBy, IsPrinted, IsScheduleOf, IsScheduleRefused, Tells, files, second_name};
 ghost use Rattle.lab.specs.declared.fault.Fault.TheVariants.{Write as unwritten};
 
 use crate::answering::answer;
+use crate::auditing::audited;
 use crate::fault::Fault;
+use crate::mustering::mustered;
 use crate::outcome::Outcome;
 use crate::playing::{played, schedule};
 use crate::streams::{Output, Source};
 use command_line::Task;
+use round::Scenario;
 use std::alloc::Global;
 use std::io::ErrorKind;
+use std::sync::Wait;
+use std::thread::Threads;
 use world::Schedule;
 
 /// Does the task on its files: prints what it answers, or one line of what is at fault. The second file is read where the
-/// task has one, and only where the first is not refused. All that is printed is in memory first. The result is the exit
-/// status: 0 done, 1 refused or a fault of a file, 3 want of memory.
-pub fn serve<R, O, F>(
+/// task has one, and only where the first is not refused. All that is printed is in memory first. Only a muster starts threads,
+/// and it waits for them. The result is the exit status: 0 done, 1 refused or a fault of a file, 3 want of memory.
+pub fn serve<T, R, O, F>(
+    rt: &T,
     alloc: Global,
     task: &Task,
     first: R,
@@ -25,6 +31,7 @@ pub fn serve<R, O, F>(
     fault: &mut F,
 ) -> u8
 where
+    T: Threads + Wait + Sync,
     R: Source,
     O: Output,
     F: Output,
@@ -42,7 +49,7 @@ where
     ensures memory { result ≡ 3 →
         Tells (F.fails fault.old) (F.contents fault.old) (F.contents fault.new) (codes "out of memory") }
 {
-    match print(alloc, task, first, second, out) {
+    match print(rt, alloc, task, first, second, out) {
         Ok(()) => 0,
         Err(error) => {
             let _ = fault.tell(&error);
@@ -52,7 +59,8 @@ where
 }
 
 /// Prints the whole answer, or nothing where there is none.
-fn print<'a, R, O>(
+fn print<'a, T, R, O>(
+    rt: &T,
     alloc: Global,
     task: &'a Task,
     first: R,
@@ -60,6 +68,7 @@ fn print<'a, R, O>(
     out: &mut O,
 ) -> Result<(), Fault<'a>>
 where
+    T: Threads + Wait + Sync,
     R: Source,
     O: Output,
     ensures done { OnOk result
@@ -68,7 +77,7 @@ where
         (Explains (R.fails first) (IsSomeAnd second R.fails) (O.fails out.old) task.entry.now (files R.bytes first second)) }
     ensures unprinted { IfErr result (λ fault. fault ≢ unwritten → out.new ≡ out.old) }
 {
-    let text = answered(alloc, task, first, second)?;
+    let text = answered(rt, alloc, task, first, second)?;
     match out.put(text.as_slice()) {
         Ok(()) => Ok(()),
         Err(_) => Err(Fault::Write),
@@ -76,29 +85,50 @@ where
 }
 
 /// The task's answer on its files.
-fn answered<'a, R: Source>(
+fn answered<'a, T, R>(
+    rt: &T,
     alloc: Global,
     task: &'a Task,
     first: R,
     second: Option<R>,
 ) -> Result<Vec<u8>, Fault<'a>>
+where
+    T: Threads + Wait + Sync,
+    R: Source,
     ensures answer { IfOk result
         (λ text. IsAnswer task.entry.now (files R.bytes first second) text.items) }
     ensures fault { IfErr result
         (Prevents (R.fails first) (IsSomeAnd second R.fails) task.entry.now (files R.bytes first second)) }
 {
     let bytes = read(alloc, task.file(), first)?;
+    let file = task.second().unwrap_or("");
     match answer(alloc, task, bytes.as_slice()) {
         Ok(Outcome::Text(text)) => Ok(text.into_bytes()),
-        Ok(Outcome::Campaign(scenario)) => {
-            let file = task.second().unwrap_or("");
-            let schedule = scheduled(alloc, file, second)?;
-            match played(alloc, scenario, &schedule) {
-                Ok(text) => Ok(text),
-                Err(_) => Err(Fault::Memory),
-            }
-        }
+        Ok(Outcome::Play(scenario)) => play_by(alloc, scenario, file, second),
+        Ok(Outcome::Muster(scenario)) => match mustered(rt, alloc, scenario) {
+            Ok(text) => Ok(text),
+            Err(refusal) => Err(Fault::of(refusal, file)),
+        },
+        Ok(Outcome::Audit(scenario)) => audit_of(alloc, &scenario, file, second),
         Err(refusal) => Err(Fault::of(refusal, task.file())),
+    }
+}
+
+/// The text of the campaign by the schedule of the second file.
+fn play_by<'a, R: Source>(
+    alloc: Global,
+    scenario: Scenario,
+    file: &'a str,
+    second: Option<R>,
+) -> Result<Vec<u8>, Fault<'a>>
+    ensures played { IfOk result (λ text. IsPlayedBy (option_map R.bytes second) scenario text.items) }
+    ensures fault { IfErr result
+        (Stops (IsSomeAnd second R.fails) (IsScheduleRefused (option_map R.bytes second)) file.entry.now) }
+{
+    let schedule = scheduled(alloc, file, second)?;
+    match played(alloc, scenario, &schedule) {
+        Ok(text) => Ok(text),
+        Err(_) => Err(Fault::Memory),
     }
 }
 
@@ -110,7 +140,7 @@ fn scheduled<'a, R: Source>(
 ) -> Result<Schedule, Fault<'a>>
     ensures told { IfOk result (λ schedule. IsScheduleOf (option_map R.bytes second) schedule) }
     ensures fault { IfErr result
-        (Stops (IsSomeAnd second R.fails) (IsSecondRefused (option_map R.bytes second)) file.entry.now) }
+        (Stops (IsSomeAnd second R.fails) (IsScheduleRefused (option_map R.bytes second)) file.entry.now) }
 {
     let Some(second) = second else {
         return Ok(Schedule {
@@ -121,6 +151,39 @@ fn scheduled<'a, R: Source>(
     match schedule(alloc, bytes.as_slice()) {
         Ok(schedule) => Ok(schedule),
         Err(refusal) => Err(Fault::of(refusal, file)),
+    }
+}
+
+/// The audit of the second file as a chronicle of the scenario's.
+fn audit_of<'a, R: Source>(
+    alloc: Global,
+    scenario: &Scenario,
+    file: &'a str,
+    second: Option<R>,
+) -> Result<Vec<u8>, Fault<'a>>
+    ensures audited { IfOk result (λ text. IsAuditOf (option_map R.bytes second) scenario.now text.items) }
+    ensures fault { IfErr result
+        (Stops (IsSomeAnd second R.fails) (IsChronicleRefused scenario.now (option_map R.bytes second)) file.entry.now) }
+{
+    let bytes = read_second(alloc, file, second)?;
+    match audited(alloc, scenario, bytes.as_slice()) {
+        Ok(text) => Ok(text),
+        Err(refusal) => Err(Fault::of(refusal, file)),
+    }
+}
+
+/// All bytes of the second file, none where there is no such file.
+fn read_second<'a, R: Source>(
+    alloc: Global,
+    file: &'a str,
+    second: Option<R>,
+) -> Result<Vec<u8>, Fault<'a>>
+    ensures whole { IfOk result (λ all. AreSecondBytes (option_map R.bytes second) all.items) }
+    ensures fault { IfErr result (Stops (IsSomeAnd second R.fails) (λ _. ⊥) file.entry.now) }
+{
+    match second {
+        Some(second) => read(alloc, file, second),
+        None => Ok(Vec::new(alloc)),
     }
 }
 

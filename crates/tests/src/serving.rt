@@ -5,11 +5,13 @@ use lab::serve;
 use std::alloc::Global;
 use std::io::{self, ErrorKind, Read, Write};
 use std::process::Abort;
+use std::sync::Wait;
 use std::test::Fail;
+use std::thread::Threads;
 
 /// The task on these bytes has this status, and prints this and this fault.
 fn row(
-    rt: &impl Abort,
+    rt: &(impl Abort + Threads + Wait + Sync),
     alloc: Global,
     task: &Task,
     bytes: &[u8],
@@ -18,7 +20,7 @@ fn row(
     let (status, printed, fault) = expected;
     let mut out = Vec::new(alloc);
     let mut complaint = Vec::new(alloc);
-    let answer = serve(alloc, task, bytes, None, &mut out, &mut complaint);
+    let answer = serve(rt, alloc, task, bytes, None, &mut out, &mut complaint);
     assert_eq!(rt; out.as_slice(), printed.as_bytes());
     assert_eq!(rt; complaint.as_slice(), fault.as_bytes());
     assert_eq!(rt; answer, status);
@@ -26,7 +28,12 @@ fn row(
 }
 
 /// `check` accepts the bytecode, and prints this.
-fn run(rt: &impl Abort, alloc: Global, code: &str, lines: &str) -> Result<(), Fail> {
+fn run(
+    rt: &(impl Abort + Threads + Wait + Sync),
+    alloc: Global,
+    code: &str,
+    lines: &str,
+) -> Result<(), Fail> {
     let task = Task::Check(String::from_str(alloc, "p.bin")?);
     let bytes = hex::decode(alloc, code)?;
     row(rt, alloc, &task, bytes.as_slice(), (0, lines, ""))
@@ -360,7 +367,7 @@ fn failing_files_are_told(rt: HostRuntime) -> Result<(), Fail> {
     let mut out = Vec::new(alloc);
     let mut complaint = Vec::new(alloc);
     assert_eq!(rt;
-        serve(alloc, &task, Broken, None, &mut out, &mut complaint),
+        serve(&rt, alloc, &task, Broken, None, &mut out, &mut complaint),
         1
     );
     assert_eq!(rt; out.as_slice(), b"".as_slice());
@@ -369,7 +376,7 @@ fn failing_files_are_told(rt: HostRuntime) -> Result<(), Fail> {
     let bytes = b"\xb7\0\0\0\x2a\0\0\0\x95\0\0\0\0\0\0\0".as_slice();
     let mut complaint = Vec::new(alloc);
     assert_eq!(rt;
-        serve(alloc, &task, bytes, None, &mut Broken, &mut complaint),
+        serve(&rt, alloc, &task, bytes, None, &mut Broken, &mut complaint),
         1
     );
     assert_eq!(rt; complaint.as_slice(), b"fault write\n".as_slice());

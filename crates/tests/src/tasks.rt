@@ -25,6 +25,10 @@ fn each_subcommand_has_its_task(rt: HostRuntime) -> Result<(), Fail> {
         task(alloc, &["dis", "--", "-p"])?,
         Task::Disassemble(text(alloc, "-p")?)
     );
+    assert_eq!(rt;
+        task(alloc, &["muster", "s.toml"])?,
+        Task::Muster(text(alloc, "s.toml")?)
+    );
     let book = task(alloc, &["book", "-"])?;
     assert_eq!(rt; book, Task::Book(text(alloc, "-")?));
     assert_eq!(rt; book.file(), "-");
@@ -59,6 +63,44 @@ fn a_schedule_stands_before_or_behind_the_scenario(rt: HostRuntime) -> Result<()
     let odd = task(alloc, &["play", "--schedule=-t=u", "--", "--schedule"])?;
     assert_eq!(rt; odd.file(), "--schedule");
     assert_eq!(rt; odd.second(), Some("-t=u"));
+    Ok(())
+}
+
+#[test]
+fn an_audit_has_two_files(rt: HostRuntime) -> Result<(), Fail> {
+    let alloc = rt.alloc();
+    let audit = task(alloc, &["audit", "s", "c"])?;
+    assert_eq!(rt;
+        audit,
+        Task::Audit {
+            scenario: text(alloc, "s")?,
+            chronicle: text(alloc, "c")?
+        }
+    );
+    assert_eq!(rt; audit.file(), "s");
+    assert_eq!(rt; audit.second(), Some("c"));
+    let odd: [&[&str]; 2] = [
+        &["audit", "-", "--", "--help"],
+        &["audit", "--", "-", "--help"],
+    ];
+    for words in odd {
+        let audit = task(alloc, words)?;
+        assert_eq!(rt; audit.file(), "-");
+        assert_eq!(rt; audit.second(), Some("--help"));
+    }
+    let short: [&[&str]; 3] = [&["audit"], &["audit", "s"], &["audit", "--", "s"]];
+    for words in short {
+        refuses(&rt, alloc, words, ErrorKind::MissingRequiredArgument, 2)?;
+    }
+    let unknown: [&[&str]; 4] = [
+        &["audit", "s", "c", "d"],
+        &["audit", "s", "-c"],
+        &["audit", "s", "c", "--schedule=t"],
+        &["muster", "s", "--schedule=t"],
+    ];
+    for words in unknown {
+        refuses(&rt, alloc, words, ErrorKind::UnknownArgument, 2)?;
+    }
     Ok(())
 }
 
@@ -172,6 +214,8 @@ fn help_names_the_subcommands(rt: HostRuntime) -> Result<(), Fail> {
         "dis",
         "book",
         "play",
+        "muster",
+        "audit",
     ] {
         assert!(rt; help.as_str().contains(word), "{help}");
     }
@@ -191,6 +235,11 @@ fn each_usage_begins_with_the_program(rt: HostRuntime) -> Result<(), Fail> {
         (
             ["play", "--play"],
             "Usage: byzlab play [OPTIONS] <SCENARIO>",
+        ),
+        (["muster", "--help"], "Usage: byzlab muster <SCENARIO>"),
+        (
+            ["audit", "--help"],
+            "Usage: byzlab audit <SCENARIO> <CHRONICLE>",
         ),
         (["help", "play"], "Usage: byzlab play [OPTIONS] <SCENARIO>"),
         (["play", "--help"], "--schedule <FILE>"),

@@ -4,7 +4,7 @@ use Rattle.clap.specs.declared.error.kind.ErrorKind.TheVariants.{OutOfMemory}
 use Rattle.command_line.specs.Asked.{is_task, words_of}
 use Rattle.command_line.specs.Met.{told_by}
 use Rattle.command_line.specs.Told.{Told}
-use Rattle.command_line.proofs.CallLemmas.{none_found, task_found}
+use Rattle.command_line.proofs.CallLemmas.{kind_among, none_found, task_found}
 use Rattle.command_line.proofs.reading.task.Goals as goal
 
 pub of-requires : goal.of-requires
@@ -31,3 +31,8 @@ pub returns-else-eq-clause-refused : goal.returns-else-eq-clause-refused
 returns-else-eq-clause-refused c =
     let apart : kind_of c.in-Err.error ≢ OutOfMemory = search rules in
     none_found _ (words_of c.args.words.now) (kind_of c.in-Err.error) c.in_ok-lab.ensures c.in-Err.ensures.kinds apart
+
+pub returns-else-eq-clause-kind : goal.returns-else-eq-clause-kind
+returns-else-eq-clause-kind c =
+    let apart : kind_of c.in-Err.error ≢ OutOfMemory = search rules in
+    kind_among _ (words_of c.args.words.now) (kind_of c.in-Err.error) c.in_ok-lab.ensures c.in-Err.ensures.kinds apart

@@ -1,8 +1,9 @@
-use Rattle.std.proofs.Common.{ℕ, ◌≡◌, List, ap, subst, sym}
+use Rattle.std.proofs.Common.{ℕ, ◌≡◌, List, ap, refl, subst, sym}
+use Rattle.std.proofs.lemmas.Result.{IfErr-weaker, IfOk-weaker}
 use Rattle.lab.specs.Answers.{ComesTo, Prints}
 use Rattle.lab.specs.Serving.{Files, files}
-use Rattle.lab.specs.declared.outcome.Outcome.TheVariants.{Text, Campaign}
-use Rattle.lab.proofs.FilesLemmas.{answered_alone, answered_by_both}
+use Rattle.lab.specs.declared.outcome.Outcome.TheVariants.{Text, Play, Muster, Audit}
+use Rattle.lab.proofs.FilesLemmas.{answered_alone, answered_audited, answered_mustered, answered_played, prevented_auditing, prevented_playing, second_named}
 use Rattle.lab.proofs.serving.answered.Goals as goal
 
 pub returns-in-Ok-Text-clause-answer : goal.returns-in-Ok-Text-clause-answer
@@ -14,10 +15,49 @@ returns-in-Ok-Text-clause-answer g c =
     answered_alone task both c.in_ok-bytes.bytes.items c.into_bytes.result.items c.in_ok-bytes.ensures.whole
     (λ second. subst (λ (text : List ℕ). Prints task c.in_ok-bytes.bytes.items second text) (sym (ap (λ v. v.items) c.into_bytes.ensures.value)) (answered second))
 
+pub returns-in-Ok-Play-clause-answer : goal.returns-in-Ok-Play-clause-answer
+returns-in-Ok-Play-clause-answer g c =
+    let both : Files = files g.R.Source.bytes c.args.first c.args.second in
+    let is : c.in-Ok-Play.field-0 ≡ Play c.in-Ok-Play.scenario = c.in-Ok-Play.field-0-is in
+    let comes : ComesTo c.args.task.now c.in_ok-bytes.bytes.items (Play c.in-Ok-Play.scenario) = rw (c.as_slice.ensures.value, is) at c.in-Ok-Play.ensures.answered in
+    IfOk-weaker c.play_by.result _ _
+    (λ text by. answered_played c.args.task.now both c.in_ok-bytes.bytes.items text.items c.in-Ok-Play.scenario c.in_ok-bytes.ensures.whole comes by)
+    c.play_by.ensures.played
+
+pub returns-in-Ok-Play-clause-fault : goal.returns-in-Ok-Play-clause-fault
+returns-in-Ok-Play-clause-fault g c =
+    let both : Files = files g.R.Source.bytes c.args.first c.args.second in
+    let is : c.in-Ok-Play.field-0 ≡ Play c.in-Ok-Play.scenario = c.in-Ok-Play.field-0-is in
+    let comes : ComesTo c.args.task.now c.in_ok-bytes.bytes.items (Play c.in-Ok-Play.scenario) = rw (c.as_slice.ensures.value, is) at c.in-Ok-Play.ensures.answered in
+    IfErr-weaker c.play_by.result _ _
+    (λ fault why.
+    prevented_playing c.args.task.now both _ _ c.in_ok-bytes.bytes.items c.unwrap_or-file.result.now c.in-Ok-Play.scenario fault c.in_ok-bytes.ensures.whole comes
+    (second_named c.args.task.now c.second.result c.unwrap_or-file.result _ c.second.ensures c.unwrap_or-file.ensures refl) why)
+    c.play_by.ensures.fault
+
 pub returns-in-Ok-clause-answer : goal.returns-in-Ok-clause-answer
 returns-in-Ok-clause-answer g c =
     let both : Files = files g.R.Source.bytes c.args.first c.args.second in
-    let is : c.in-Ok-Campaign.field-0 ≡ Campaign c.in-Ok-Campaign.scenario = c.in-Ok-Campaign.field-0-is in
-    let answered : ComesTo c.args.task.now c.in_ok-bytes.bytes.items (Campaign c.in-Ok-Campaign.scenario) = rw (c.as_slice.ensures.value, is) at c.in-Ok-Campaign.ensures.answered in
-    answered_by_both c.args.task.now both c.in_ok-bytes.bytes.items c.in-Ok.text.items c.in-Ok-Campaign.scenario c.in_ok-schedule-in-Ok-Campaign.schedule
-    c.in_ok-bytes.ensures.whole answered c.in_ok-schedule-in-Ok-Campaign.ensures.told c.in-Ok.ensures
+    let is : c.in-Ok-Muster.field-0 ≡ Muster c.in-Ok-Muster.scenario = c.in-Ok-Muster.field-0-is in
+    let comes : ComesTo c.args.task.now c.in_ok-bytes.bytes.items (Muster c.in-Ok-Muster.scenario) = rw (c.as_slice.ensures.value, is) at c.in-Ok-Muster.ensures.answered in
+    answered_mustered c.args.task.now both c.in_ok-bytes.bytes.items c.in-Ok.text.items c.in-Ok-Muster.scenario c.in_ok-bytes.ensures.whole comes c.in-Ok.ensures.mustered
+
+pub returns-in-Ok-Audit-clause-answer : goal.returns-in-Ok-Audit-clause-answer
+returns-in-Ok-Audit-clause-answer g c =
+    let both : Files = files g.R.Source.bytes c.args.first c.args.second in
+    let is : c.in-Ok-Audit.field-0 ≡ Audit c.in-Ok-Audit.scenario = c.in-Ok-Audit.field-0-is in
+    let comes : ComesTo c.args.task.now c.in_ok-bytes.bytes.items (Audit c.in-Ok-Audit.scenario) = rw (c.as_slice.ensures.value, is) at c.in-Ok-Audit.ensures.answered in
+    IfOk-weaker c.audit_of.result _ _
+    (λ text audit. answered_audited c.args.task.now both c.in_ok-bytes.bytes.items text.items c.in-Ok-Audit.scenario c.in_ok-bytes.ensures.whole comes audit)
+    c.audit_of.ensures.audited
+
+pub returns-in-Ok-Audit-clause-fault : goal.returns-in-Ok-Audit-clause-fault
+returns-in-Ok-Audit-clause-fault g c =
+    let both : Files = files g.R.Source.bytes c.args.first c.args.second in
+    let is : c.in-Ok-Audit.field-0 ≡ Audit c.in-Ok-Audit.scenario = c.in-Ok-Audit.field-0-is in
+    let comes : ComesTo c.args.task.now c.in_ok-bytes.bytes.items (Audit c.in-Ok-Audit.scenario) = rw (c.as_slice.ensures.value, is) at c.in-Ok-Audit.ensures.answered in
+    IfErr-weaker c.audit_of.result _ _
+    (λ fault why.
+    prevented_auditing c.args.task.now both _ _ c.in_ok-bytes.bytes.items c.unwrap_or-file.result.now c.in-Ok-Audit.scenario fault c.in_ok-bytes.ensures.whole comes
+    (second_named c.args.task.now c.second.result c.unwrap_or-file.result _ c.second.ensures c.unwrap_or-file.ensures refl) why)
+    c.audit_of.ensures.fault

@@ -20,7 +20,7 @@ unreachable-requires-in_default-get_str c =
     ∙ (sym c.get_str.ensures ∙ ap (option_map (λ (s : Bor Text). s.now)) c.in_default-get_str.is) in
     not_some (task_met (subcommand_rows_of m))
     (task_met-parts (subcommand_rows_of m) name rows name_is rows_are
-    ∙ ap (option_map (told_as name (first_of (codes "schedule") rows))) none) c.requires
+    ∙ ap (option_map (told_as name (first_of (codes "second") rows))) none) c.requires
 
 pub returns : goal.returns
 returns c =
@@ -34,8 +34,8 @@ returns c =
     let file_is : first_of (codes "file") rows ≡ Some c.in-Some-get_str.file.now =
     sym (first_value-rows (found_of c.in-Some.found.now) (codes "file"))
     ∙ (sym c.get_str.ensures ∙ ap (option_map (λ (s : Bor Text). s.now)) c.in-Some-get_str.is) in
-    let second_is : first_of (codes "schedule") rows ≡ option_map (λ (s : Bor Text). s.now) c.get_str-second.result =
-    sym (first_value-rows (found_of c.in-Some.found.now) (codes "schedule")) ∙ sym c.get_str-second.ensures in
+    let second_is : first_of (codes "second") rows ≡ option_map (λ (s : Bor Text). s.now) c.get_str-second.result =
+    sym (first_value-rows (found_of c.in-Some.found.now) (codes "second")) ∙ sym c.get_str-second.ensures in
     sym (task_met-parts (subcommand_rows_of m) name rows name_is rows_are
-    ∙ ap (option_map (told_as name (first_of (codes "schedule") rows))) file_is
+    ∙ ap (option_map (told_as name (first_of (codes "second") rows))) file_is
     ∙ ap (λ (second : Option Text). Some (told_as name second c.in-Some-get_str.file.now)) second_is)
