@@ -203,14 +203,14 @@ pub(crate) fn verdict(rt: &impl Abort, alloc: Global, text: &str) -> Result<Stri
     let name = String::from_str(alloc, "p")?;
     let code = match answer(alloc, &Task::Assemble(name), text.as_bytes()) {
         Ok(Outcome::Text(code)) => code,
-        Ok(Outcome::Campaign(_)) => return String::from_str(alloc, "a campaign"),
+        Ok(_) => return String::from_str(alloc, "a campaign"),
         Err(refusal) => return refusal.to_string(alloc),
     };
     let bytes = hex::decode(alloc, code.trim_end()).expect(rt, "hex");
     let name = String::from_str(alloc, "p")?;
     match answer(alloc, &Task::Check(name), bytes.as_slice()) {
         Ok(Outcome::Text(lines)) => Ok(lines),
-        Ok(Outcome::Campaign(_)) => String::from_str(alloc, "a campaign"),
+        Ok(_) => String::from_str(alloc, "a campaign"),
         Err(refusal) => refusal.to_string(alloc),
     }
 }
