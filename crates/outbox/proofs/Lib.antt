@@ -9,4 +9,4 @@ pub mod RowByRow
 pub mod Numbered
 pub mod LastOrders
 pub mod Alike
-pub mod Kept
+pub mod Keeping
