@@ -1,4 +1,7 @@
 pub mod RowLemmas
+pub mod Masking
+pub mod Hearing
+pub mod Walked
 pub mod Writing
 pub mod Whole
 pub mod One

@@ -1,4 +1,4 @@
-ghost use Rattle.std.specs.Prelude.{◌≡◌, ◌<◌, ◌≤◌, ◌+◌, ◌∷◌, ◌++◌, [], ℕ, false, true, IsTrue, if◌then◌else◌, nat_lt, length, slice_index};
+ghost use Rattle.std.specs.Prelude.{◌≡◌, ◌<◌, ◌≤◌, ◌+◌, ◌∷◌, ◌++◌, [], ℕ, false, true, IsTrue, length, slice_index};
 ghost use Rattle.label.specs.Labels.{on, others, is_distinct};
 ghost use Rattle.label.specs.Oral.{AllBelow};
 ghost use Rattle.outbox.specs.Receivers.{struck};
@@ -117,7 +117,8 @@ impl Receivers {
 fn closed(old: [u8; 13], place: usize) -> [u8; 13]
     requires { place < 13 }
     ensures long { length result ≡ 13 }
-    ensures moved { (k : ℕ) → k < 12 → slice_index result k ≡ (if nat_lt k place then slice_index old k else slice_index old (k + 1)) }
+    ensures before { (k : ℕ) → k < place → k < 12 → slice_index result k ≡ slice_index old k }
+    ensures behind { (k : ℕ) → place ≤ k → k < 12 → slice_index result k ≡ slice_index old (k + 1) }
 {
     let mut generals = old;
     for k in 0..12 {
