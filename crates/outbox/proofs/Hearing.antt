@@ -1,10 +1,10 @@
 -- Receivers, with one general more or one less.
 use Rattle.std.proofs.Common.{ℕ, zero, suc, ◌+◌, ◌-◌, ◌<◌, ◌≤◌, ◌≡◌, ◌≢◌, Bool, true, false, not, ◌||◌, ◌&&◌, List, [], ◌∷◌, ◌++◌, length, take, get_or, set, refl, sym, ap, ◌∙◌, subst, arith, inl, inr, length-set, add-one}
-use Rattle.std.specs.Prelude.{◌==◌, filter, nat_lt}
+use Rattle.std.specs.Prelude.{◌==◌, nat_lt}
 use Rattle.std.proofs.Math.Bool.{or_comm}
 use Rattle.std.proofs.lemmas.Bool.{and_parts, cases_Bool, cases_lt, not-true, eq-eqb, ne_eqb, or_right, false≢true}
 use Rattle.std.proofs.lemmas.Bool.Decides.{eqb_tells, nat_tests}
-use Rattle.std.proofs.lemmas.List.{take_more_set, length-take, length-take-le, get_or-take}
+use Rattle.std.proofs.lemmas.List.{take_more_set, length-take-le, get_or-take}
 use Rattle.label.specs.Labels.{on, others, is_distinct}
 use Rattle.label.specs.Oral.{AllBelow}
 use Rattle.label.proofs.Bounds.{on-get_or}

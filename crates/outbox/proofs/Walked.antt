@@ -14,7 +14,7 @@ use Rattle.label.specs.Relay.{receivers}
 use Rattle.label.proofs.Counting.{on-push}
 use Rattle.label.proofs.Ranks.{children, labels-next}
 use Rattle.label.proofs.Places.{first_label}
-use Rattle.outbox.specs.Rows.{RowOrders, empty_row, row_for}
+use Rattle.outbox.specs.Rows.{RowOrders, row_for}
 use Rattle.outbox.specs.Receivers.{struck, rows_under}
 
 -- the receiver stands before the label or behind it

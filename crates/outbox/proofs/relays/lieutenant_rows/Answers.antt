@@ -1,5 +1,5 @@
 -- No label, or all that prolong the commander's.
-use Rattle.std.proofs.Common.{ℕ, List, suc, ◌-◌, ◌≡◌, ◌++◌, map, ap, ◌∙◌, arith}
+use Rattle.std.proofs.Common.{ℕ, suc, ◌-◌, ◌≡◌, ◌++◌, map, ap, ◌∙◌, arith}
 use Rattle.label.specs.Labels.{labels}
 use Rattle.outbox.specs.Rows.{row_for}
 use Rattle.outbox.specs.Receivers.{rows_under}

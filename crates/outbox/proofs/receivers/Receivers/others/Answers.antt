@@ -1,5 +1,5 @@
 -- One general more, or the same.
-use Rattle.std.proofs.Common.{◌≡◌, ◌≤◌, ◌∷◌, [], List, ℕ, length, sym, ap, ◌∙◌, arith}
+use Rattle.std.proofs.Common.{◌≡◌, ◌≤◌, ◌∷◌, [], List, ℕ, length, ap, ◌∙◌, arith}
 use Rattle.label.specs.Labels.{on, others}
 use Rattle.outbox.proofs.RowLemmas.{others-few}
 use Rattle.outbox.proofs.Hearing.{off_self, others_with, others_first, others_second}
