@@ -1,4 +1,7 @@
 pub mod RowLemmas
+pub mod Masking
+pub mod Hearing
+pub mod Walked
 pub mod Writing
 pub mod Whole
 pub mod One
@@ -9,4 +12,4 @@ pub mod RowByRow
 pub mod Numbered
 pub mod LastOrders
 pub mod Alike
-pub mod Kept
+pub mod Keeping

@@ -1,23 +1,21 @@
--- The rows of the labels, one by one.
-use Rattle.std.proofs.Common.{ℕ, zero, suc, ◌+◌, ◌-◌, ◌≡◌, List, [], ◌∷◌, ◌++◌, map, take, get_or, refl, sym, ap, ◌∙◌, arith, Some}
-use Rattle.std.specs.Prelude.{slice_get}
-use Rattle.std.proofs.lemmas.List.{take_more, map-append}
-use Rattle.std.proofs.lemmas.Option.{slice_get_within}
+-- The rows of a commander, and of a lieutenant in round 1.
+use Rattle.std.proofs.Common.{ℕ, ◌-◌, ◌≡◌, ◌≢◌, List, [], ◌∷◌, map, refl, sym, ap, ◌∙◌, arith}
+use Rattle.std.proofs.lemmas.Bool.{eq-eqb, ne_eqb}
 use Rattle.label.specs.declared.shape.Shape.{Shape}
-use Rattle.label.specs.Labels.{labels}
-use Rattle.outbox.specs.Rows.{RowOrders, row_for}
+use Rattle.label.specs.Labels.{labels, others}
+use Rattle.label.specs.Relay.{relay}
+use Rattle.outbox.specs.Rows.{RowOrders, empty_row, row_for}
+use Rattle.outbox.proofs.Walked.{others_twice}
 
-got : (all : List (List ℕ)) (i : ℕ) (w d : List ℕ) → slice_get all i ≡ Some w → get_or all i d ≡ w
-got [] i w d e = cc
-got (x ∷ xs) zero w d e = cc
-got (x ∷ xs) (suc i) w d e = got xs i w d e
+-- in round 1 the commander relays the empty label
+pub one_row : (s : Shape) (rows : List RowOrders) (hearing : List ℕ) (row : RowOrders) → s.general ≡ s.commander → s.round ≡ 1 → hearing ≡ others s.generals (s.commander ∷ s.general ∷ []) → row ≡ empty_row hearing → rows ≡ row ∷ [] → rows ≡ map (row_for s) (relay s)
+one_row s rows hearing row own first heard is all =
+    let here : row ≡ row_for s [] = is ∙ ap empty_row (heard ∙ (ap (λ (c : ℕ). others s.generals (c ∷ s.general ∷ [])) (sym own) ∙ others_twice s.generals s.general)) in
+    rw (eq-eqb s.general s.commander own, eq-eqb s.round 1 first) (all ∙ ap (λ (r : RowOrders). r ∷ []) here)
 
--- one label more
-pub row_more : (s : Shape) (all : List (List ℕ)) (i : ℕ) (w : List ℕ) (rows rows' : List RowOrders) (row : RowOrders) → slice_get all i ≡ Some w → rows ≡ map (row_for s) (take i all) → rows' ≡ rows ++ row ∷ [] → row ≡ row_for s w → rows' ≡ map (row_for s) (take (i + 1) all)
-row_more s all i w rows rows' row at e more is =
-    more ∙ (ap (λ xs. xs ++ row ∷ []) e ∙ (ap (λ x. map (row_for s) (take i all) ++ x ∷ []) is
-    ∙ (sym (map-append (row_for s) (take i all) (w ∷ []))
-    ∙ ap (map (row_for s)) (sym (take_more all i [] (slice_get_within all i w at) ∙ ap (λ x. take i all ++ x ∷ []) (got all i w [] at))))))
+-- and later none
+pub no_row : (s : Shape) → s.general ≡ s.commander → s.round ≢ 1 → [] ≡ map (row_for s) (relay s)
+no_row s own later = rw (eq-eqb s.general s.commander own, ne_eqb s.round 1 later) refl
 
 -- in round 1 a lieutenant relays nothing
 pub no_rows : (s : Shape) (n c p round : ℕ) → round ≡ 1 → [] ≡ map (row_for s) (labels n c p (round - 1))

@@ -150,7 +150,7 @@ others-few (suc n) w =
     at_most true = omega arith
     at_most false = omega arith
 
-all_below : (m : ℕ) (xs : List ℕ) → ((j : ℕ) → on xs j ≡ true → j < m) → AllBelow m xs
+pub all_below : (m : ℕ) (xs : List ℕ) → ((j : ℕ) → on xs j ≡ true → j < m) → AllBelow m xs
 all_below m [] h = tt
 all_below m (x ∷ xs) h = (h x (first x), all_below m xs (λ j i. h j (later x j i)))
   where

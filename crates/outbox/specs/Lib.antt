@@ -1,3 +1,5 @@
 pub mod Rows
+pub mod Masks
+pub mod Receivers
 pub mod Contents
 pub mod Laws

@@ -2,8 +2,11 @@
 #![tactic(auto)]
 
 mod context;
+mod kept;
 mod laws;
+mod mask;
 mod orders;
+mod receivers;
 mod relays;
 mod row;
 mod rows;

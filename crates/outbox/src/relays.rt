@@ -1,11 +1,13 @@
 //! The rows of a relay, one for each label in its order.
-ghost use Rattle.std.specs.Prelude.{◌≡◌, ◌≢◌, ◌-◌, map, IfOk};
-ghost use Rattle.label.specs.Labels.{labels};
+ghost use Rattle.std.specs.Prelude.{◌≡◌, ◌≢◌, ◌-◌, ◌∷◌, ◌++◌, [], map, IfOk};
+ghost use Rattle.label.specs.Labels.{labels, others};
 ghost use Rattle.label.specs.Relay.{IsShape, relay};
 ghost use Rattle.outbox.specs.Rows.{row_for};
+ghost use Rattle.outbox.specs.Receivers.{rows_under};
 
+use crate::receivers::Receivers;
 use crate::row::Row;
-use label::{Shape, Space, count, unrank};
+use label::{Shape, Space, count};
 use std::alloc::{AllocError, Global};
 
 /// The empty rows of the labels that the general relays.
@@ -18,7 +20,7 @@ pub(crate) fn rows_of(alloc: Global, shape: Shape) -> Result<Vec<Row>, AllocErro
     }
     let mut rows = Vec::new(alloc);
     if shape.round == 1 {
-        rows.push(Row::new(shape.generals as u8, &[], shape.general as u8))?;
+        rows.push(Row::new(hearing(shape)))?;
     }
     Ok(rows)
 }
@@ -37,14 +39,34 @@ fn lieutenant_rows(alloc: Global, shape: Shape) -> Result<Vec<Row>, AllocError>
         commander: shape.commander as u8,
         general: shape.general as u8,
     };
-    let size = (shape.round - 1) as u8;
-    let all = count(space, size);
+    let all = count(space, (shape.round - 1) as u8);
     let mut rows = Vec::with_capacity(alloc, all as usize)?;
-    for rank in 0..all {
-        let Ok(label) = unrank(space, size, rank) else {
-            unreachable!()
-        };
-        rows.push(Row::new(space.generals, label.generals(), space.general))?;
-    }
+    push_rows(&mut rows, hearing(shape), shape.round - 2)?;
     Ok(rows)
+}
+
+/// Who hears of a relay of the commander's label: all but him and the general.
+fn hearing(shape: Shape) -> Receivers
+    requires { IsShape shape }
+    ensures { result ≡ others shape.generals (shape.commander ∷ shape.general ∷ []) }
+{
+    Receivers::others(
+        shape.generals as u8,
+        shape.commander as u8,
+        shape.general as u8,
+    )
+}
+
+/// Pushes the rows of the labels that have so many generals more than one of which these hear.
+fn push_rows(rows: &mut Vec<Row>, hearing: Receivers, more: u32) -> Result<(), AllocError>
+    ensures { IfOk result (λ _. rows.new.items ≡ rows.old.items ++ rows_under more hearing) }
+{
+    if more == 0 {
+        rows.push(Row::new(hearing))?;
+        return Ok(());
+    }
+    for place in 0..hearing.generals().len() {
+        push_rows(rows, hearing.without(place), more - 1)?;
+    }
+    Ok(())
 }

@@ -3,11 +3,11 @@ use Rattle.std.proofs.Common.{◌≡◌, ◌<◌, ◌∙◌, length, arith, get_
 use Rattle.outbox.specs.Rows.{row_of}
 use Rattle.label.proofs.Bounds.{on-get_or}
 use Rattle.outbox.proofs.RowLemmas.{on-below, fill_step, filled_all, row_long}
-use Rattle.outbox.proofs.Kept.{row_written}
+use Rattle.outbox.proofs.Keeping.{row_written}
 use Rattle.outbox.proofs.row.fill.Goals as goal
 
-pub bounds-kept-from : goal.bounds-kept-from
-bounds-kept-from c =
+pub put-requires : goal.put-requires
+put-requires c =
     let inside : c.loop-place.place < length c.args.receivers.now = omega arith in
     rw c.from.ensures (on-below 13 c.args.receivers.now (get_or c.args.receivers.now c.loop-place.place 0) c.requires.row.below (on-get_or c.args.receivers.now c.loop-place.place inside))
 
@@ -16,8 +16,8 @@ loop-place-preserved c =
     let inside : c.loop-place.place < length c.args.receivers.now = omega arith in
     let within : c.loop-place.place < length c.args.orders.now = omega arith in
     record {
-      kept = rw c.from.ensures (row_written c.loop-place.kept c.args.receivers.now (get_or c.args.receivers.now c.loop-place.place 0) _ c.loop-place.invariant.kept (on-get_or c.args.receivers.now c.loop-place.place inside));
-      done = rw c.from.ensures (fill_step c.args.kept.now c.loop-place.kept c.args.receivers.now c.args.orders.now c.loop-place.place c.requires.row.distinct c.requires.row.below c.loop-place.invariant.kept.long inside within c.loop-place.invariant.done);
+      kept = rw (c.put.ensures, c.from.ensures) (row_written c.loop-place.kept c.args.receivers.now (get_or c.args.receivers.now c.loop-place.place 0) _ c.loop-place.invariant.kept (on-get_or c.args.receivers.now c.loop-place.place inside));
+      done = rw (c.put.ensures, c.from.ensures) (fill_step c.args.kept.now c.loop-place.kept c.args.receivers.now c.args.orders.now c.loop-place.place c.requires.row.distinct c.requires.row.below c.loop-place.invariant.kept.long inside within c.loop-place.invariant.done);
     }
 
 pub returns-clause-row : goal.returns-clause-row

@@ -1,0 +1,12 @@
+-- Numbers below 16 as a set of bits, and the orders kept beside such a set.
+use Rattle.std.specs.Prelude.{ℕ, ◌+◌, ◌==◌, Bool, if◌then◌else◌, List, [], ◌∷◌, Option, Some, None}
+use Rattle.std.specs.Int.{bit_at}
+
+-- the number is in the set
+abbrev pub has_bit : ℕ → ℕ → Bool
+has_bit mask n = bit_at mask n == 1
+
+-- the orders from a place on, each where the set has its place, and nothing elsewhere
+abbrev pub kept_from : ℕ → ℕ → List ℕ → List (Option ℕ)
+kept_from mask place [] = []
+kept_from mask place (order ∷ orders) = (if has_bit mask place then Some order else None) ∷ kept_from mask (place + 1) orders
