@@ -1,0 +1,3 @@
+pub mod Chains
+pub mod Accepted
+pub mod Agreement

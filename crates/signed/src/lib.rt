@@ -1,0 +1,6 @@
+//! Signed messages. What is said of them stands in specs/.
+#![tactic(auto)]
+
+mod laws;
+
+pub use laws::signed_agreement;
