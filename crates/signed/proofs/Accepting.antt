@@ -6,7 +6,7 @@ use Rattle.label.specs.Labels.{on, generals}
 use Rattle.label.proofs.Counting.{range-on, range-on_within}
 use Rattle.signed.specs.Chains.{Chain, Among, orders, signed_also, signed_alone}
 use Rattle.signed.specs.Accepted.{Deliveries, came, counts, counted, accepted, added, loyal_chains}
-use Rattle.signed.specs.Agreement.{IsLoyal, SignsForHimself}
+use Rattle.signed.specs.Agreement.{IsLoyal, SignsForHimself, IsPassedOn}
 use Rattle.signed.proofs.Lists.{filter_out, filter_in, flat_in, flat_out, also_out, on_append, orders_in, orders_out, firsts_out, firsts_in}
 
 pub came_in : (n : ℕ) (S : Deliveries) (r g p : ℕ) (ch : Chain) → g < n → Among ch (S r g p) → Among ch (came n S r p)
@@ -114,10 +114,10 @@ sent_out n c m order S g loyal r q ch l h =
 pub sent_in : (n c m order : ℕ) (S : Deliveries) (g : ℕ) → IsLoyal n c m order S g → (r q : ℕ) (ch : Chain) → q < n → Among ch (loyal_chains n c m order S r g) → on ch.signers q ≡ false → Among ch (S r g q)
 sent_in n c m order S g loyal r q ch l h o = rw (loyal r q l) (filter_in (λ x. not (on x.signers q)) (loyal_chains n c m order S r g) ch h (not_from_false (on ch.signers q) o))
 
--- a loyal general forges nothing
-pub loyal_signed : (n c m order : ℕ) (S : Deliveries) (g : ℕ) → IsLoyal n c m order S g → SignsForHimself n c S g
-loyal_signed n c m order S g loyal r p ch l h =
-    elim (chains_out n c m order S r g ch (sent_out n c m order S g loyal r p ch l h).0) [
+-- what a loyal general signs is an order of his own, if he is the commander, or a chain that he holds
+pub loyal_signs : (n c m order : ℕ) (S : Deliveries) (r g : ℕ) (ch : Chain) → Among ch (loyal_chains n c m order S r g) → ((g ≡ c) × (ch.signers ≡ g ∷ [])) ⊎ IsPassedOn n S r g ch
+loyal_signs n c m order S r g ch h =
+    elim (chains_out n c m order S r g ch h) [
       | inl own ↦ inl (own.1.0, sym (ap (λ x. x.signers) own.1.1) ∙ ap (λ x. x ∷ []) (sym own.1.0))
       | inr rel ↦
           let k = added_out n S rel.round g rel.held rel.there in
@@ -125,3 +125,7 @@ loyal_signed n c m order S g loyal r p ch l h =
           let e : r ≡ suc (suc rel.round) = rel.here in
           inr (record { held = rel.held; there = record { round = suc rel.round; sender = from.0; earlier = omega arith; general = from.1.0; came = from.1.1 }; once = k.off; signed = sym rel.signed })
     ]
+
+-- a loyal general forges nothing
+pub loyal_signed : (n c m order : ℕ) (S : Deliveries) (g : ℕ) → IsLoyal n c m order S g → SignsForHimself n c S g
+loyal_signed n c m order S g loyal r p ch l h = loyal_signs n c m order S r g ch (sent_out n c m order S g loyal r p ch l h).0

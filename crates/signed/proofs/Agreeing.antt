@@ -84,7 +84,7 @@ come x p v h =
     (b.round, record { chain = b.chain; early = b.early; added = b.there; counts = k; sender = f.0; general = f.1.0; there = f.1.1; brings = b.brings })
 
 -- of a chain that came, each beginning was sent by its last signer
-front : (x : Signing) (p v k : ℕ) → p < x.n → (i : IsCome x p v k) → (u : List ℕ) (h : ℕ) (w : List ℕ) → i.chain.signers ≡ u ++ h ∷ w → IsSent x.n x.S h (record { order = i.chain.order; signers = u ++ h ∷ [] })
+front : (x : Signing) (p v k : ℕ) → p < x.n → (i : IsCome x p v k) → (u : List ℕ) (h : ℕ) (w : List ℕ) → i.chain.signers ≡ u ++ h ∷ w → IsSent x.n x.S h (suc k) (record { order = i.chain.order; signers = u ++ h ∷ [] })
 front x p v k pn i u h w split = unforged x.n x.c x.S (all_signed x) (suc (suc k)) (suc k) (omega arith) i.sender p i.chain i.general pn i.there u h w split
 
 -- the front of a chain that came, signed by a loyal general, reaches q

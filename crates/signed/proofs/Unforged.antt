@@ -11,21 +11,23 @@ use Rattle.signed.specs.Accepted.{Deliveries}
 use Rattle.signed.specs.Agreement.{SignsForHimself}
 use Rattle.signed.proofs.Lists.{snoc_split, no_cons}
 
-pub record IsSent (n : ℕ) (S : Deliveries) (g : ℕ) (ch : Chain) : Type 0 where
+-- the general sent this chain to somebody in one of the rounds up to this one
+pub record IsSent (n : ℕ) (S : Deliveries) (g last : ℕ) (ch : Chain) : Type 0 where
   pub round : ℕ
+  pub early : round ≤ last
   pub receiver : ℕ
   pub general : receiver < n
   pub there : Among ch (S round g receiver)
 
-chain_is : (ch : Chain) (xs : List ℕ) → xs ≡ ch.signers → record { order = ch.order; signers = xs } ≡ ch
+pub chain_is : (ch : Chain) (xs : List ℕ) → xs ≡ ch.signers → record { order = ch.order; signers = xs } ≡ ch
 chain_is ch xs e = ap {B = Chain} (λ ys. record { order = ch.order; signers = ys }) e
 
-whole : (n : ℕ) (S : Deliveries) (r g p h : ℕ) (ch : Chain) (u : List ℕ) → p < n → Among ch (S r g p) → h ≡ g → u ++ h ∷ [] ≡ ch.signers → IsSent n S h (record { order = ch.order; signers = u ++ h ∷ [] })
-whole n S r g p h ch u l there e s = record { round = r; receiver = p; general = l; there = rw (chain_is ch (u ++ h ∷ []) s, e) there }
+whole : (n : ℕ) (S : Deliveries) (r g p h : ℕ) (ch : Chain) (u : List ℕ) → p < n → Among ch (S r g p) → h ≡ g → u ++ h ∷ [] ≡ ch.signers → IsSent n S h r (record { order = ch.order; signers = u ++ h ∷ [] })
+whole n S r g p h ch u l there e s = record { round = r; early = omega arith; receiver = p; general = l; there = rw (chain_is ch (u ++ h ∷ []) s, e) there }
 
 -- whoever stands on a chain, he himself sent the beginning that ends with him
 pub unforged : (n c : ℕ) (S : Deliveries) → ((g : ℕ) → g < n → SignsForHimself n c S g) → (b r : ℕ) → r < b → (g p : ℕ) (ch : Chain) → g < n → p < n → Among ch (S r g p)
-    → (u : List ℕ) (h : ℕ) (w : List ℕ) → ch.signers ≡ u ++ h ∷ w → IsSent n S h (record { order = ch.order; signers = u ++ h ∷ [] })
+    → (u : List ℕ) (h : ℕ) (w : List ℕ) → ch.signers ≡ u ++ h ∷ w → IsSent n S h r (record { order = ch.order; signers = u ++ h ∷ [] })
 unforged n c S all zero r lt g p ch gn pn there u h w split = absurd (omega arith)
 unforged n c S all (suc b) r lt g p ch gn pn there u h w split =
     elim (all g gn r p ch pn there) [
@@ -40,7 +42,8 @@ unforged n c S all (suc b) r lt g p ch gn pn there u h w split =
             | inr more ↦
                 let i = pass.there in
                 let o : pass.held.order ≡ ch.order = sym (ap (λ x. x.order) pass.signed) in
-                rw (← o) (unforged n c S all b i.round (let e = i.earlier in omega arith) i.sender g pass.held i.general gn i.came u h more.0 more.1)
+                let sent = unforged n c S all b i.round (let e = i.earlier in omega arith) i.sender g pass.held i.general gn i.came u h more.0 more.1 in
+                rw (← o) (record { round = sent.round; early = (let e = i.earlier in let f = sent.early in omega arith); receiver = sent.receiver; general = sent.general; there = sent.there })
           ]
     ]
 

@@ -3,4 +3,4 @@
 
 mod laws;
 
-pub use laws::signed_agreement;
+pub use laws::{chains_are_few, chains_are_unforged, signed_agreement, signed_worlds_agree};
