@@ -52,7 +52,7 @@ chains_in : (x : Signing) (k p : ℕ) (ch : Chain) → p ≢ x.c → suc k ≤ x
 unfolding loyal_chains
 chains_in x k p ch ne time h = rw (ne_eqb p x.c ne, le-leb (suc k) x.m time) (also_in p (added x.n x.S k p) ch h)
 
-below_on : (n : ℕ) (w : List ℕ) (j : ℕ) → AllBelow n w → on w j ≡ true → j < n
+pub below_on : (n : ℕ) (w : List ℕ) (j : ℕ) → AllBelow n w → on w j ≡ true → j < n
 below_on n [] j b o = cc
 below_on n (x ∷ w) j b o = elim (or_cases (x == j) (on w j) o) [ inl e ↦ (let q : x ≡ j = eqb-true x j e in rw q at b.0) | inr k ↦ below_on n w j b.1 k ]
 

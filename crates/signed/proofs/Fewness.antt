@@ -13,7 +13,7 @@ use Rattle.signed.specs.World.{sent, delivered}
 use Rattle.signed.specs.Laws.{chains_in}
 use Rattle.signed.proofs.Lists.{orders_in, orders_out}
 use Rattle.signed.proofs.Accepting.{came_out, added_out, accepted_out}
-use Rattle.signed.proofs.Decided.{firsts_distinct}
+use Rattle.signed.proofs.Decided.{firsts_distinct, accepted_distinct}
 use Rattle.signed.proofs.Dispatching.{received_out, entered_few, dispatched_few}
 use Rattle.signed.proofs.Making.{Row, IsMade, of_traitor, of_loyal}
 use Rattle.signed.proofs.Forging.{all_signed}
@@ -140,6 +140,13 @@ first_orders_few s closed made =
       ]
     ] in
     omega arith
+
+-- nobody accepts more than eight orders
+pub accepted_few : (s : Campaign) (closed : List Row) → IsMade s closed → (r p : ℕ) → p < s.generals → length (accepted s.generals (delivered closed) r p) ≤ 8
+accepted_few s closed made r p pn =
+    let fewer : length (accepted s.generals (delivered closed) r p) ≤ length (first_orders s.commander closed) =
+    no_more (accepted s.generals (delivered closed) r p) (first_orders s.commander closed) (accepted_distinct s.generals (delivered closed) p r) (λ v h. accepted_first s closed made r p v pn h) in
+    omega (arith, first_orders_few s closed made)
 
 -- nobody sends more than eight chains
 pub sent_few : (s : Campaign) (closed : List Row) → IsMade s closed → (r g : ℕ) → length (sent closed r g) ≤ 8

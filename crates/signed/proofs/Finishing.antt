@@ -15,7 +15,7 @@ use Rattle.signed.proofs.Dispatching.{received_all}
 use Rattle.signed.proofs.Making.{Row, IsFull, sent_past}
 use Rattle.signed.proofs.Keeping.{Keeps, opening_kept, run_kept, run_campaign, punctual_full}
 use Rattle.signed.proofs.Forging.{all_signed, world_unforged}
-use Rattle.signed.proofs.Fewness.{accepted_first, sent_few}
+use Rattle.signed.proofs.Fewness.{accepted_first, accepted_few, sent_few}
 
 late_more : (g c : ℕ) (xs : List Chain) (a b : Bool) → b ≡ false → cond a [] (cond b (map (λ ch. signed_also ch g) xs) []) ≡ []
 late_more g c xs true b e = refl
@@ -75,5 +75,7 @@ few_in A B = record {
       subst (λ (t : Campaign). p < t.generals → on (accepted_in (run d (opening d s) events) p) v ≡ true → on (orders (chains_in (sent (run d (opening d s) events).closed 1 t.commander))) v ≡ true)
       (run_campaign A B d (opening d s) events)
       (λ pn h. accepted_first (run d (opening d s) events).campaign (run d (opening d s) events).closed (reached A B d s events).made (suc (run d (opening d s) events).campaign.bound) p v pn h) pn h;
+  orders = λ d s events p inside pn.
+      accepted_few (run d (opening d s) events).campaign (run d (opening d s) events).closed (reached A B d s events).made (suc (run d (opening d s) events).campaign.bound) p (rw (run_campaign A B d (opening d s) events) pn);
   few = λ d s events r g. sent_few (run d (opening d s) events).campaign (run d (opening d s) events).closed (reached A B d s events).made r g;
 }

@@ -12,3 +12,4 @@ pub mod Keeping
 pub mod Forging
 pub mod Fewness
 pub mod Finishing
+pub mod Room

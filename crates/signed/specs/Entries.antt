@@ -14,9 +14,13 @@ pub data Entry : Type 0 where
   Sign : ℕ → ℕ → Entry
   Pass : ℕ → ℕ → Entry
 
--- of a value of 64 bits the low 32 are the order
-abbrev pub order_in : ℕ → ℕ
-order_in value = value % 2 ^ 32
+-- what a program attempts with a value and the number of its receivers: of the value the low 32 bits are the order
+abbrev pub sign_order : ℕ → ℕ → Entry
+sign_order value bits = Sign (value % 2 ^ 32) bits
+
+-- and with the place of a chain that its general holds
+abbrev pub pass_on : ℕ → ℕ → Entry
+pass_on place bits = Pass place bits
 
 -- the generals whose bit is set, but for those who stand on the chain
 abbrev pub receivers_in : ℕ → ℕ → Chain → List ℕ

@@ -27,10 +27,12 @@ abbrev pub ChainsAreUnforged : Type 0 → Type 0 → Type 0
 ChainsAreUnforged A B = (d : Conduct A B) (s : Campaign) (events : List Event) (r g : ℕ) (ch : Chain) → s.commander < s.generals →
     Among ch (chains_in (sent (run d (opening d s) events).closed r g)) → IsUnforged A B (run d (opening d s) events) r g ch
 
--- nobody sends more than eight chains in a round: a traitor has no more entries, and a loyal general adds only orders that the commander signed in the first round
+-- nobody sends more than eight chains in a round: a traitor has no more entries, and a loyal general adds only orders that the commander signed in the first round, of which there are no more
 pub record ChainsAreFew (A B : Type 0) : Type 0 where
   pub first : (d : Conduct A B) (s : Campaign) (events : List Event) (p v : ℕ) → s.commander < s.generals → p < s.generals →
       on (accepted_in (run d (opening d s) events) p) v ≡ true → on (orders (chains_in (sent (run d (opening d s) events).closed 1 s.commander))) v ≡ true
+  pub orders : (d : Conduct A B) (s : Campaign) (events : List Event) (p : ℕ) → s.commander < s.generals → p < s.generals →
+      length (accepted_in (run d (opening d s) events) p) ≤ most_entries
   pub few : (d : Conduct A B) (s : Campaign) (events : List Event) (r g : ℕ) →
       length (sent (run d (opening d s) events).closed r g) ≤ most_entries
 

@@ -8,3 +8,4 @@ pub mod World
 pub mod Laws
 pub mod Chronicle
 pub mod Text
+pub mod Signers
