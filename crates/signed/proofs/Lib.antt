@@ -1,0 +1,15 @@
+pub mod Lists
+pub mod Accepting
+pub mod Unforged
+pub mod Decided
+pub mod Agreeing
+pub mod Rows
+pub mod Earlier
+pub mod Places
+pub mod Dispatching
+pub mod Making
+pub mod Keeping
+pub mod Forging
+pub mod Fewness
+pub mod Finishing
+pub mod Room
