@@ -9,10 +9,12 @@ use Rattle.signed.specs.Agreement.{IsLoyal, IsSignedBound, SignedAgree}
 use Rattle.signed.specs.Entries.{received}
 use Rattle.signed.specs.Campaign.{Campaign, Conduct, is_traitor}
 use Rattle.signed.specs.World.{World, Event, opening, run, sent, delivered, accepted_in, IsFinished}
-use Rattle.signed.specs.Laws.{chains_in, ChainsAreUnforged, ChainsAreFew, SignedWorldsAgree}
+use Rattle.signed.specs.Laws.{chains_in, ChainsAreUnforged, ChainsAreFew, SignedWorldsAgree, HeldChainsAreFew, IdleEventsChangeNothing}
+use Rattle.signed.proofs.Holding.{held_few, context_few}
+use Rattle.signed.proofs.Idling.{refused_idle, posted_idle}
 use Rattle.signed.proofs.Agreeing.{holds}
 use Rattle.signed.proofs.Dispatching.{received_all}
-use Rattle.signed.proofs.Making.{Row, IsFull, sent_past}
+use Rattle.signed.proofs.Making.{Row, IsMade, IsFull, sent_past}
 use Rattle.signed.proofs.Keeping.{Keeps, opening_kept, run_kept, run_campaign, punctual_full}
 use Rattle.signed.proofs.Forging.{all_signed, world_unforged}
 use Rattle.signed.proofs.Fewness.{accepted_first, accepted_few, sent_few}
@@ -51,7 +53,7 @@ agrees A B w k f inside bound =
 reached : (A B : Type 0) (d : Conduct A B) (s : Campaign) (events : List Event) → Keeps A B (run d (opening d s) events)
 reached A B d s events = run_kept A B d (opening d s) events (opening_kept A B d s)
 
-agree_in : (A B : Type 0) (d : Conduct A B) (s : Campaign) (events : List Event) → s.commander < s.generals → IsSignedBound s.generals s.bound (is_traitor s) →
+pub agree_in : (A B : Type 0) (d : Conduct A B) (s : Campaign) (events : List Event) → s.commander < s.generals → IsSignedBound s.generals s.bound (is_traitor s) →
     IsFinished A B (run d (opening d s) events) → SignedAgree s.generals s.commander s.order (is_traitor s) (accepted_in (run d (opening d s) events))
 agree_in A B d s events inside bound f =
     subst (λ (t : Campaign). t.commander < t.generals → IsSignedBound t.generals t.bound (is_traitor t) → SignedAgree t.generals t.commander t.order (is_traitor t) (accepted_in (run d (opening d s) events)))
@@ -78,4 +80,19 @@ few_in A B = record {
   orders = λ d s events p inside pn.
       accepted_few (run d (opening d s) events).campaign (run d (opening d s) events).closed (reached A B d s events).made (suc (run d (opening d s) events).campaign.bound) p (rw (run_campaign A B d (opening d s) events) pn);
   few = λ d s events r g. sent_few (run d (opening d s) events).campaign (run d (opening d s) events).closed (reached A B d s events).made r g;
+}
+
+same_limits : (A B : Type 0) (d : Conduct A B) (s : Campaign) (events : List Event) → IsMade s (run d (opening d s) events).closed
+same_limits A B d s events = subst (λ (t : Campaign). IsMade t (run d (opening d s) events).closed) (run_campaign A B d (opening d s) events) (reached A B d s events).made
+
+pub held_in : (A B : Type 0) → HeldChainsAreFew A B
+held_in A B = record {
+  held = λ d s events g inside size rounds gn within. held_few s (run d (opening d s) events).closed (same_limits A B d s events) size rounds within g gn;
+  context = λ d s events g inside size rounds gn within. context_few s (run d (opening d s) events).closed (same_limits A B d s events) size rounds within g gn;
+}
+
+pub idle_in : (A B : Type 0) → IdleEventsChangeNothing A B
+idle_in A B = record {
+  refused = λ d s events e r h. refused_idle A B d (run d (opening d s) events) e r (reached A B d s events) h;
+  posted = λ d s events g h. posted_idle A B d (run d (opening d s) events) g (reached A B d s events) h;
 }

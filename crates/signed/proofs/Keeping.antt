@@ -21,6 +21,7 @@ pub record IsKept (A : Type 0) (s : Campaign) (closed : List Row) (parts : List 
   pub fully : full ≡ true → IsFull s closed
   pub kinds : (g : ℕ) (part : Part A) → slice_get parts g ≡ Some part → IsKind A (is_traitor s g) part
   pub count : round_open s closed ≡ true → length parts ≡ s.generals
+  pub over : round_open s closed ≡ false → parts ≡ []
 
 abbrev pub Keeps : (A B : Type 0) → World A B → Type 0
 Keeps A B w = IsKept A w.campaign w.closed w.parts w.full
@@ -39,10 +40,14 @@ begun_count : (A B : Type 0) (d : Conduct A B) (s : Campaign) (closed : List Row
 begun_count A B d s closed true e = row_length (begins d s closed) s.generals
 begun_count A B d s closed false e = absurd cc
 
+begun_over : (A B : Type 0) (d : Conduct A B) (s : Campaign) (closed : List Row) (b : Bool) → b ≡ false → cond b (map (begins d s closed) (generals s.generals)) [] ≡ []
+begun_over A B d s closed true e = absurd cc
+begun_over A B d s closed false e = refl
+
 -- a round begins
 pub begun_kept : (A B : Type 0) (d : Conduct A B) (s : Campaign) (closed : List Row) (board : B) (full : Bool) → IsMade s closed → (full ≡ true → IsFull s closed) → Keeps A B (begun d s closed board full)
 begun_kept A B d s closed board full made fully =
-    record { made = made; fully = fully; kinds = begun_kinds A B d s closed (round_open s closed); count = begun_count A B d s closed (round_open s closed) }
+    record { made = made; fully = fully; kinds = begun_kinds A B d s closed (round_open s closed); count = begun_count A B d s closed (round_open s closed); over = begun_over A B d s closed (round_open s closed) }
 
 pub opening_kept : (A B : Type 0) (d : Conduct A B) (s : Campaign) → Keeps A B (opening d s)
 opening_kept A B d s = begun_kept A B d s [] d.board true (λ r g. inl (nothing r g)) (λ e r g l gn loyal. absurd (omega arith))
@@ -61,6 +66,7 @@ replaced A s closed parts full g new k kind = record {
     | inr old ↦ k.kinds j part old
   ];
   count = λ o. set_length parts g new ∙ k.count o;
+  over = λ o. ap (λ ps. slice_set ps g new) (k.over o);
 }
 
 acting_kind : (A : Type 0) (b : Bool) (a c : A) → IsKind A b (Acting a) → IsKind A b (Acting c)

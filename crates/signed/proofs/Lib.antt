@@ -13,3 +13,6 @@ pub mod Forging
 pub mod Fewness
 pub mod Finishing
 pub mod Room
+pub mod Holding
+pub mod Idling
+pub mod Verdicts

@@ -220,6 +220,55 @@ late_text : signed_text none_told (chronicle_of (run late_conduct (opening late_
 unfolding signed_text signed_lines decisions held accepted loyal_chains digits
 late_text = refl
 
+-- four generals, two traitors: the commander signs 7 for the traitor 3 alone; 3 prolongs that chain for himself, who stands on it and is dropped, and so cannot prolong it again
+-- for 1 alone in the last round. If one signature counted twice, general 1 would accept 7 then, and general 2 would not
+abbrev pub twice : Campaign
+twice = record { generals = 4; bound = 2; commander = 0; order = 1; traitors = 0 ∷ 3 ∷ []; patience = Some 1 }
+
+abbrev attempts_twice : ℕ → ℕ → List Entry
+attempts_twice g round = cond (g == 0) (cond (round == 1) (sign_order 7 8 ∷ []) []) (cond (round == 2) (pass_on 0 8 ∷ []) (pass_on 1 2 ∷ []))
+
+-- an activation is its general, its round and its steps
+abbrev pub twice_conduct : Conduct (ℕ × ℕ × ℕ) ℕ
+twice_conduct = record {
+  board = 0;
+  begins = λ g r context. (g, r, 0);
+  turn = λ g r a b. ((a.0, a.1, 1), b);
+  attempts = λ a. cond (a.2 == 1) (attempts_twice a.0 a.1) [];
+  steps = λ a. a.2;
+}
+
+abbrev pub twice_round : List Event
+twice_round = Post 1 ∷ Post 2 ∷ Tick 0 ∷ Tick 3 ∷ Close ∷ []
+
+twice_text : signed_text none_told (chronicle_of (run twice_conduct (opening twice_conduct twice) (twice_round ++ (twice_round ++ twice_round)))) ≡ whole (
+    codes "chronicle 3"
+    ∷ codes "signed generals 4 bound 2 commander 0 order 1 patience 1"
+    ∷ codes "round 1"
+    ∷ codes "letter 0 steps 1"
+    ∷ codes "chain 7 0 to 3"
+    ∷ codes "letter 1 loyal"
+    ∷ codes "letter 2 loyal"
+    ∷ codes "letter 3 steps 1"
+    ∷ codes "round 2"
+    ∷ codes "letter 0 steps 1"
+    ∷ codes "letter 1 loyal"
+    ∷ codes "letter 2 loyal"
+    ∷ codes "letter 3 steps 1"
+    ∷ codes "chain 7 0.3 to -"
+    ∷ codes "round 3"
+    ∷ codes "letter 0 steps 1"
+    ∷ codes "letter 1 loyal"
+    ∷ codes "letter 2 loyal"
+    ∷ codes "letter 3 steps 1"
+    ∷ codes "decision 1 0"
+    ∷ codes "decision 2 0"
+    ∷ codes "decision 3 traitor 7"
+    ∷ codes "verdict alike yes obeyed - bound yes"
+    ∷ [])
+unfolding signed_text signed_lines decisions held accepted loyal_chains digits
+twice_text = refl
+
 -- whoever has not posted is absent, and a post after the close is refused
 absent : delivered (run passer (opening passer passing) (Tick 2 ∷ Close ∷ [])).closed 1 0 1 ≡ []
 unfolding held accepted loyal_chains

@@ -1,11 +1,11 @@
 -- What holds of every world of a signed campaign. Each statement is the contract of a function of this crate.
-use Rattle.std.specs.Prelude.{ℕ, suc, ◌≡◌, ◌<◌, ◌≤◌, true, List, [], ◌∷◌, ◌++◌, map, length}
+use Rattle.std.specs.Prelude.{ℕ, suc, ◌≡◌, ◌*◌, ◌<◌, ◌≤◌, true, List, [], ◌∷◌, ◌++◌, map, length, slice_get, Some, None}
 use Rattle.label.specs.Labels.{on}
 use Rattle.signed.specs.Chains.{Chain, Among, IsChain, orders}
 use Rattle.signed.specs.Agreement.{IsSignedBound, SignedAgree}
 use Rattle.signed.specs.Entries.{Dispatch, most_entries}
 use Rattle.signed.specs.Campaign.{Campaign, Conduct, is_traitor}
-use Rattle.signed.specs.World.{World, Event, opening, run, sent, accepted_in, IsPunctual, IsFinished}
+use Rattle.signed.specs.World.{World, Event, Post, Posted, Refusal, opening, run, happen, refusal, sent, held_behind, context_behind, accepted_in, IsPunctual, IsFinished}
 
 abbrev pub chains_in : List Dispatch → List Chain
 chains_in dispatches = map (λ x. x.chain) dispatches
@@ -45,3 +45,17 @@ pub record SignedWorldsAgree (A B : Type 0) : Type 0 where
   pub punctual : (d : Conduct A B) (s : Campaign) (events : List Event) → s.commander < s.generals → IsSignedBound s.generals s.bound (is_traitor s) →
       IsPunctual d (opening d s) events → length (run d (opening d s) events).closed ≡ suc s.bound →
       SignedAgree s.generals s.commander s.order (is_traitor s) (accepted_in (run d (opening d s) events))
+
+-- in a campaign within its limits nobody holds more chains than a place names, 0 to 383, and their numbers find room in a context of 4,096 bytes
+pub record HeldChainsAreFew (A B : Type 0) : Type 0 where
+  pub held : (d : Conduct A B) (s : Campaign) (events : List Event) (g : ℕ) → s.commander < s.generals → s.generals ≤ 13 → s.bound ≤ 4 → g < s.generals →
+      length (run d (opening d s) events).closed ≤ s.bound → length (held_behind s (run d (opening d s) events).closed g) ≤ 384
+  pub context : (d : Conduct A B) (s : Campaign) (events : List Event) (g : ℕ) → s.commander < s.generals → s.generals ≤ 13 → s.bound ≤ 4 → g < s.generals →
+      length (run d (opening d s) events).closed ≤ s.bound → 4 * length (context_behind s (run d (opening d s) events).closed g) ≤ 4096
+
+-- a refused event, and a second post, leave the world as it was
+pub record IdleEventsChangeNothing (A B : Type 0) : Type 0 where
+  pub refused : (d : Conduct A B) (s : Campaign) (events : List Event) (e : Event) (r : Refusal) →
+      refusal (run d (opening d s) events) e ≡ Some r → happen d (run d (opening d s) events) e ≡ run d (opening d s) events
+  pub posted : (d : Conduct A B) (s : Campaign) (events : List Event) (g : ℕ) → slice_get (run d (opening d s) events).parts g ≡ Some Posted →
+      (refusal (run d (opening d s) events) (Post g) ≡ None) × (happen d (run d (opening d s) events) (Post g) ≡ run d (opening d s) events)

@@ -9,3 +9,4 @@ pub mod Laws
 pub mod Chronicle
 pub mod Text
 pub mod Signers
+pub mod Verdicts

@@ -6,5 +6,8 @@ mod laws;
 mod signer;
 
 pub use chain::Chain;
-pub use laws::{chains_are_few, chains_are_unforged, signed_agreement, signed_worlds_agree};
+pub use laws::{
+    chains_are_few, chains_are_unforged, held_chains_are_few, idle_events_change_nothing,
+    signed_agreement, signed_verdicts_mean, signed_worlds_agree,
+};
 pub use signer::Signer;
