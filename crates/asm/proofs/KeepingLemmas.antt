@@ -1,6 +1,6 @@
 -- Lines and names that the assembler keeps.
-use Rattle.std.proofs.Common.{◌≡◌, ℕ, ◌≤◌, ◌+◌, false, List, [], ◌∷◌, Some, refl, sym, ap, ◌∙◌, Bor, map, length, arith}
-use Rattle.std.specs.Prelude.{is_some}
+use Rattle.std.proofs.Common.{◌≡◌, ℕ, ◌≤◌, ◌+◌, false, List, [], ◌∷◌, refl, sym, ap, ◌∙◌, Bor, map, length, arith}
+use Rattle.std.specs.Prelude.{Ok, Some, is_some}
 use Rattle.std.specs.Cmp.Lexicographic.{slice_cmp}
 use Rattle.std.specs.Ordering.{nat_cmp}
 use Rattle.std.specs.List.{sum_by}
@@ -13,7 +13,8 @@ use Rattle.text.proofs.PartsLemmas.{pieces_is}
 use Rattle.asm.specs.declared.kept.Kept.{Kept}
 use Rattle.asm.specs.Views.{kept_view}
 use Rattle.asm.specs.declared.reading.Reading.{Reading}
-use Rattle.asm.specs.Program.{Read, defined, lines_of, without_return, ended, with_name, source_units}
+use Rattle.asm.specs.Distance.{defined}
+use Rattle.asm.specs.Program.{Read, lines_of, without_return, ended, with_name, placed_units}
 use Rattle.asm.specs.Keeping.{Keeps, Finds, units_kept}
 
 -- a text that is one piece is one line
@@ -33,15 +34,15 @@ found_more m n names name unit u h q = btree_map_updates_str name m n (Some unit
 -- a new name is kept
 pub name_put : (kept : Reading) (n : BTreeMap (Bor (List ℕ)) ℕ) (r : Read) (name : List ℕ) → Keeps kept r → is_some (get_by (λ k. slice_cmp nat_cmp name k.now) kept.names) ≡ false
     → UpdatesBy (λ x y. slice_cmp nat_cmp x.now y.now) (λ k. slice_cmp nat_cmp name k.now) kept.names n (Some kept.units)
-    → (x : Read) × (with_name r (Some name) ≡ Some x) × Keeps (record kept { names = n }) x
+    → (x : Read) × (with_name r (Some name) ≡ Ok x) × Keeps (record kept { names = n }) x
 name_put kept n r name k absent u =
     let free : is_some (defined r.names name) ≡ false = ap is_some (sym (k.names name)) ∙ absent in
     (record { names = (name, kept.units) ∷ r.names; sources = r.sources }, rw (free, k.units) refl, record { units = k.units; sources = k.sources; names = found_more kept.names n r.names name kept.units u k.names })
 
 -- the units of what is kept are those of what was read
-pub sum_by-kept : (sources : List Kept) → sum_by source_units (map kept_view sources) ≡ units_kept sources
+pub sum_by-kept : (sources : List Kept) → sum_by placed_units (map kept_view sources) ≡ units_kept sources
 sum_by-kept [] = refl
-sum_by-kept (k ∷ ks) = sum_by-cons source_units (kept_view k) (map kept_view ks) ∙ ap (λ n. source_units (kept_view k) + n) (sum_by-kept ks) ∙ sym (sum_by-cons (λ x. source_units (kept_view x)) k ks)
+sum_by-kept (k ∷ ks) = sum_by-cons placed_units (kept_view k) (map kept_view ks) ∙ ap (λ n. placed_units (kept_view k) + n) (sum_by-kept ks) ∙ sym (sum_by-cons (λ x. placed_units (kept_view x)) k ks)
 
 pub units_are : (kept : Reading) (r : Read) → Keeps kept r → kept.units ≡ units_kept kept.sources.items
-units_are kept r k = k.units ∙ ap (λ s. sum_by source_units s) (sym k.sources) ∙ sum_by-kept kept.sources.items
+units_are kept r k = k.units ∙ ap (λ s. sum_by placed_units s) (sym k.sources) ∙ sum_by-kept kept.sources.items

@@ -11,3 +11,4 @@ pub mod OutlineLemmas
 pub mod RoundLemmas
 pub mod TableLaws
 pub mod SaidLemmas
+pub mod FirstLemmas

@@ -1,6 +1,6 @@
 -- A printed line has its outline, and says its instruction.
 use Rattle.std.proofs.Common.{◌≡◌, ℕ, zero, suc, ◌-◌, Bool, true, false, List, [], ◌∷◌, ◌++◌, Option, Some, None, length, get_or, refl, ap, ◌∙◌, arith}
-use Rattle.std.specs.Prelude.{not, ◌==◌, ◌&&◌, nat_lt, nat_le}
+use Rattle.std.specs.Prelude.{Ok, not, ◌==◌, ◌&&◌, nat_lt, nat_le}
 use Rattle.std.specs.List.{list_all}
 use Rattle.std.proofs.lemmas.Bool.Decides.{nat_tests}
 use Rattle.text.specs.declared.stop.Stop.TheVariants.{Blank, Solid}
@@ -121,6 +121,6 @@ outline_of-insn : (i : Insn) → IsInsn i → outline_of (insn_text i) ≡ Some 
 unfolding insn_text
 outline_of-insn i is = outline_of-text (name_of (word_of i)) (operands_of i) (fine_word (name_of (word_of i)) (is_fine-name (word_of i))) (fine_plain (name_of (word_of i)) (is_fine-name (word_of i))) (plain_operands i is)
 
-pub line_read-insn : (r : Read) (i : Insn) → IsInsn i → line_read r (insn_text i) ≡ Some (record r { sources = r.sources ++ source_for i ∷ [] })
+pub line_read-insn : (r : Read) (line : ℕ) (i : Insn) → IsInsn i → line_read r line (insn_text i) ≡ Ok (record r { sources = r.sources ++ (record { source = source_for i; line = line }) ∷ [] })
 unfolding line_read with_line with_words
-line_read-insn r i is = rw (outline_of-insn i is, mnemonic_of-name (word_of i) (is_mnemonic i is), source_of-text i is) refl
+line_read-insn r line i is = rw (outline_of-insn i is, mnemonic_of-name (word_of i) (is_mnemonic i is), source_of-text i is) refl

@@ -1,12 +1,14 @@
 -- Statements that are printed are read again.
-use Rattle.std.proofs.Common.{◌≡◌, ℕ, [], Some, refl}
+use Rattle.std.proofs.Common.{◌≡◌, ℕ, [], refl}
+use Rattle.std.specs.Prelude.{Ok}
 use Rattle.insn.specs.declared.insn.Insn.{Insn}
 use Rattle.insn.specs.declared.insn.Insn.TheVariants as insns
 use Rattle.insn.specs.declared.insn.Operand.TheVariants.{Register, Immediate}
 use Rattle.insn.specs.Insn.{IsInsn, units_of}
 use Rattle.asm.specs.Operand.{Away}
 use Rattle.asm.specs.Statement.{Source, Plain, Jump, LongJump, Branch, source_of, none_of, one_of, two_of, three_of}
-use Rattle.asm.specs.Program.{source_units, insn_of, distance_of}
+use Rattle.asm.specs.Distance.{distance_of}
+use Rattle.asm.specs.Program.{source_units, insn_of}
 use Rattle.asm.specs.Printing.{word_of, operands_of}
 use Rattle.asm.proofs.NumberLemmas.{number_for, number_of-decimal, bits_within-number, number_of-signed, within_16, within_32, small_16, small_32}
 use Rattle.asm.proofs.OperandLemmas.{register_of-text, operand_of-text, goal_of-text, place_of-text, no_letter}
@@ -27,7 +29,7 @@ source_for (insns.Store size base offset source) = Plain (insns.Store size base 
 source_for (insns.Call helper) = Plain (insns.Call helper)
 source_for insns.Exit = Plain insns.Exit
 
-pub source_of-text : (i : Insn) → IsInsn i → source_of (word_of i) (operands_of i) ≡ Some (source_for i)
+pub source_of-text : (i : Insn) → IsInsn i → source_of (word_of i) (operands_of i) ≡ Ok (source_for i)
 unfolding one_of two_of three_of none_of
 source_of-text (insns.Arithmetic width operation dst operand) is = let o = operand_of-text operand is.1 in rw (register_of-text dst is.0, o.1, o.2) refl
 source_of-text (insns.Negate width dst) is = rw (register_of-text dst is) refl
@@ -45,7 +47,7 @@ source_of-text (insns.Call helper) is = rw (no_letter helper (small_32 helper is
 source_of-text insns.Exit is = refl
 
 -- a printed jump is resolved to itself, wherever it stands
-pub insn_of-source : (unit : ℕ) (i : Insn) → IsInsn i → insn_of [] unit (source_for i) ≡ Some i
+pub insn_of-source : (unit : ℕ) (i : Insn) → IsInsn i → insn_of [] unit (source_for i) ≡ Ok i
 unfolding distance_of
 insn_of-source unit (insns.Jump distance) is = rw (within_16 distance is) refl
 insn_of-source unit (insns.LongJump distance) is = rw (within_32 distance is) refl

@@ -14,7 +14,9 @@ use Rattle.asm.specs.declared.fault.AsmError.TheVariants as answers
 use Rattle.asm.specs.declared.kept.Kept.{Kept}
 use Rattle.asm.specs.declared.reading.Reading.{Reading}
 use Rattle.asm.specs.Statement.{IsWellSource}
-use Rattle.asm.specs.Program.{Read, units_in, source_units, defined, lines_of}
+use Rattle.asm.specs.declared.fault.Fault.{Fault}
+use Rattle.asm.specs.Distance.{defined}
+use Rattle.asm.specs.Program.{Read, units_in, placed_units, lines_of}
 use Rattle.asm.specs.Views.{Fails, kept_view}
 
 -- the map finds what the list has
@@ -29,20 +31,20 @@ pub record Keeps (kept : Reading) (r : Read) : Type 0 where
 
 -- how many units the kept statements take
 abbrev pub units_kept : List Kept → ℕ
-units_kept sources = sum_by (λ k. source_units (kept_view k)) sources
+units_kept sources = sum_by (λ k. placed_units (kept_view k)) sources
 
 -- what was read is kept, if there is no error
 abbrev pub KeepsRead : {X : Type 0} → Result X LineError → Reading → Read → Type 0
 KeepsRead (Ok x) kept r = Keeps kept r
 KeepsRead (Err e) kept r = e ≡ Memory
 
-abbrev pub GivesRead : {X : Type 0} → Result X LineError → Reading → Option Read → Type 0
-GivesRead (Ok x) kept read = (r : Read) × (read ≡ Some r) × Keeps kept r
+abbrev pub GivesRead : {X : Type 0} → Result X LineError → Reading → Result Read Fault → Type 0
+GivesRead (Ok x) kept read = (r : Read) × (read ≡ Ok r) × Keeps kept r
 GivesRead (Err e) kept read = Fails e read
 
 -- 32 bits are extended at 64 alone
 abbrev pub AreWellKept : List Kept → Type 0
-AreWellKept sources = AllByRecursion (λ k. IsWellSource (kept_view k)) sources
+AreWellKept sources = AllByRecursion (λ k. IsWellSource (kept_view k).source) sources
 
 -- the pieces that are left
 abbrev pub left : Stop → Option (Bor (List ℕ)) → List (List ℕ)
@@ -58,21 +60,21 @@ abbrev pub GivesLines : Option (Bor (List ℕ) × Bor (List ℕ)) → List (List
 GivesLines None all = all ≡ []
 GivesLines (Some cut) all = all ≡ cut.0.now ∷ lines_of cut.1.now
 
--- an error other than want of memory says that nothing is said
-abbrev pub Refuses : {Y : Type 0} → AsmError → Option Y → Type 0
+-- an error other than want of memory is the first fault, with its line
+abbrev pub Refuses : {Y : Type 0} → AsmError → Result Y AsmError → Type 0
 Refuses answers.Memory read = Unit {0}
-Refuses (answers.At fault line) read = read ≡ None
+Refuses (answers.At fault line) read = read ≡ Err (answers.At fault line)
 
-abbrev pub GivesGathered : Result Reading AsmError → Option Read → Type 0
-GivesGathered (Ok kept) read = (r : Read) × (read ≡ Some r) × Keeps kept r
+abbrev pub GivesGathered : Result Reading AsmError → Result Read AsmError → Type 0
+GivesGathered (Ok kept) read = (r : Read) × (read ≡ Ok r) × Keeps kept r
 GivesGathered (Err e) read = Refuses e read
 
--- what is answered is said, and a refusal other than for memory comes only where nothing is said
-abbrev pub Answers : {X : Type 0} → Result X AsmError → Option X → Type 0
-Answers (Ok x) said = said ≡ Some x
+-- what is answered is said: the program, or, but for want of memory, the first fault with its line
+abbrev pub Answers : {X : Type 0} → Result X AsmError → Result X AsmError → Type 0
+Answers (Ok x) said = said ≡ Ok x
 Answers (Err e) said = Refuses e said
 
 -- the same, the answer seen by what it holds
-abbrev pub AnswersBy : {X Y : Type 0} → (X → Y) → Result X AsmError → Option Y → Type 0
-AnswersBy view (Ok x) said = said ≡ Some (view x)
+abbrev pub AnswersBy : {X Y : Type 0} → (X → Y) → Result X AsmError → Result Y AsmError → Type 0
+AnswersBy view (Ok x) said = said ≡ Ok (view x)
 AnswersBy view (Err e) said = Refuses e said

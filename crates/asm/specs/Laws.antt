@@ -1,8 +1,14 @@
 -- Laws of the tables.
-use Rattle.std.specs.Prelude.{ℕ, ◌≡◌, ◌≤◌, List, Some}
+use Rattle.std.specs.Prelude.{ℕ, ◌≡◌, ◌+◌, ◌<◌, ◌≤◌, ◌⊎◌, max, List, [], ◌∷◌, ◌++◌, Some, Ok, Err, length}
+use Rattle.std.specs.List.{sum_by}
+use Rattle.insn.specs.declared.insn.Insn.{Insn}
+use Rattle.asm.specs.declared.fault.Fault.{Fault}
+use Rattle.asm.specs.declared.fault.Fault.TheVariants.{Count}
+use Rattle.asm.specs.declared.fault.AsmError.TheVariants.{At}
 use Rattle.asm.specs.declared.mnemonic.Mnemonic.{Mnemonic}
 use Rattle.asm.specs.Operand.{register_of}
 use Rattle.asm.specs.Table.{IsMnemonic, name_of, mnemonic_of}
+use Rattle.asm.specs.Program.{Placed, Read, placed_units, units_in, line_read, read_on, nothing, insn_of, insns_on, lines_of, said}
 use Rattle.asm.specs.Printing.{register_text}
 
 -- a register is its letter and its number, 0 to 10
@@ -14,3 +20,43 @@ pub record RegistersAreNumbered : Type 0 where
 pub record MnemonicsAreNamed : Type 0 where
   pub read : (word : List ℕ) (m : Mnemonic) → mnemonic_of word ≡ Some m → IsMnemonic m × (word ≡ name_of m)
   pub written : (m : Mnemonic) → IsMnemonic m → mnemonic_of (name_of m) ≡ Some m
+
+-- the line of this number has a fault of its own, and no line before it has one
+pub record IsFirstLine (lines : List (List ℕ)) (fault : Fault) (number : ℕ) : Type 0 where
+  pub front : List (List ℕ)
+  pub line : List ℕ
+  pub back : List (List ℕ)
+  pub parts : lines ≡ front ++ line ∷ back
+  pub counted : number ≡ length front + 1
+  pub before : Read
+  pub faultless : read_on nothing 1 front ≡ Ok before
+  pub own : line_read before number line ≡ Err fault
+
+-- no line has a fault of its own, and the units are too few or too many
+pub record IsMiscounted (lines : List (List ℕ)) (fault : Fault) (number : ℕ) : Type 0 where
+  pub read : Read
+  pub faultless : read_on nothing 1 lines ≡ Ok read
+  pub units : (units_in read ≡ 0) ⊎ (4096 < units_in read)
+  pub is : (fault ≡ Count) × (number ≡ max 1 (length lines))
+
+-- no line has a fault of its own, the units can be counted, and this line's jump leads nowhere, and none before it
+pub record IsFirstJump (lines : List (List ℕ)) (fault : Fault) (number : ℕ) : Type 0 where
+  pub read : Read
+  pub faultless : read_on nothing 1 lines ≡ Ok read
+  pub units : (0 < units_in read) × (units_in read ≤ 4096)
+  pub front : List Placed
+  pub jump : Placed
+  pub back : List Placed
+  pub parts : read.sources ≡ front ++ jump ∷ back
+  pub before : List Insn
+  pub resolved : insns_on read.names 0 [] front ≡ Ok before
+  pub own : insn_of read.names (sum_by placed_units front) jump.source ≡ Err fault
+  pub is : number ≡ jump.line
+
+-- a text is refused by its first fault, at its line: a line's own, behind lines that have none, before the count, before the jumps
+pub record FaultsAreFirst : Type 0 where
+  pub only : (text : List ℕ) (fault : Fault) (number : ℕ) → said text ≡ Err (At fault number)
+      → IsFirstLine (lines_of text) fault number ⊎ (IsMiscounted (lines_of text) fault number ⊎ IsFirstJump (lines_of text) fault number)
+  pub line : (text : List ℕ) (fault : Fault) (number : ℕ) → IsFirstLine (lines_of text) fault number → said text ≡ Err (At fault number)
+  pub count : (text : List ℕ) (fault : Fault) (number : ℕ) → IsMiscounted (lines_of text) fault number → said text ≡ Err (At fault number)
+  pub jump : (text : List ℕ) (fault : Fault) (number : ℕ) → IsFirstJump (lines_of text) fault number → said text ≡ Err (At fault number)

@@ -1,8 +1,11 @@
 pub mod Number
 pub mod Operand
 pub mod Table
+pub mod Helper
+pub mod Faults
 pub mod Statement
 pub mod Line
+pub mod Distance
 pub mod Program
 pub mod Views
 pub mod Keeping

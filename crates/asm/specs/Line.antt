@@ -5,8 +5,6 @@ use Rattle.text.specs.Options.{◌>>=◌}
 use Rattle.text.specs.Stop.{is_within, comma, colon, semicolon}
 use Rattle.text.specs.Parts.{until, before, from, pieces}
 use Rattle.asm.specs.Operand.{is_letter, is_name}
-use Rattle.asm.specs.Table.{mnemonic_of}
-use Rattle.asm.specs.Statement.{Source, source_of}
 
 -- nothing past ASCII, and no carriage return
 abbrev pub is_token : List ℕ → Bool
@@ -63,8 +61,3 @@ outlined code =
 
 unfoldable pub outline_of : List ℕ → Option Outline
 outline_of line = outlined (from Solid (before semicolon line))
-
--- the statement of these words, if there are any
-abbrev pub statement_of : List (List ℕ) → Option (Option Source)
-statement_of [] = Some None
-statement_of (word ∷ operands) = mnemonic_of word >>= λ m. source_of m operands >>= λ source. Some (Some source)

@@ -1,7 +1,6 @@
 -- Statements: a mnemonic and its operands.
-use Rattle.std.specs.Prelude.{ℕ, ℤ, pos, ◌+◌, ◌^◌, List, [], ◌∷◌, if◌then◌else◌, Option, Some, None, slice_index, codes}
-use Rattle.std.specs.Str.{bytes_eq}
-use Rattle.text.specs.Options.{◌>>=◌}
+use Rattle.std.specs.Prelude.{ℕ, ◌^◌, List, [], ◌∷◌, if◌then◌else◌, Option, Some, None, Result, Ok, slice_index}
+use Rattle.std.specs.Option.{ok_or}
 use Rattle.word.specs.declared.Width.{Width}
 use Rattle.word.specs.declared.Condition.{Condition}
 use Rattle.insn.specs.declared.insn.Operand.{Operand}
@@ -11,6 +10,11 @@ use Rattle.insn.specs.declared.insn.Insn.TheVariants as insns
 use Rattle.insn.specs.Insn.{IsWell}
 use Rattle.asm.specs.declared.mnemonic.Mnemonic.{Mnemonic}
 use Rattle.asm.specs.declared.mnemonic.Mnemonic.TheVariants as words
+use Rattle.asm.specs.declared.fault.Fault.{Fault}
+use Rattle.asm.specs.declared.fault.Fault.TheVariants as faults
+use Rattle.asm.specs.Faults.{◌>>=◌}
+use Rattle.asm.specs.Table.{mnemonic_of}
+use Rattle.asm.specs.Helper.{helper_of}
 use Rattle.asm.specs.Number.{number_of, signed_within, bits_within}
 use Rattle.asm.specs.Operand.{register_of, raw_of, fitted, place_of, Goal, goal_of, is_letter}
 
@@ -51,31 +55,24 @@ three_of (a ∷ b ∷ []) = None
 three_of (a ∷ b ∷ c ∷ []) = Some (a, b, c)
 three_of (a ∷ b ∷ c ∷ d ∷ rest) = None
 
--- the helpers' names, from number 1 on
-abbrev pub helpers : List (List ℕ)
-helpers = codes "board_get" ∷ codes "board_swap" ∷ codes "board_add" ∷ codes "board_cas" ∷ codes "board_copy" ∷ codes "send" ∷ codes "send_row" ∷ codes "sway" ∷ codes "honest" ∷ []
+-- the operands of each mnemonic: their number and kinds (A3), then their ranges (A6)
+abbrev pub source_of : Mnemonic → List (List ℕ) → Result Source Fault
+source_of (words.Arithmetic width operation) operands = ok_or (two_of operands) faults.Operand >>= λ o. ok_or (register_of o.0) faults.Operand >>= λ dst. ok_or (raw_of o.1) faults.Operand >>= λ raw. ok_or (fitted raw) faults.Range >>= λ operand. Ok (Plain (insns.Arithmetic width operation dst operand))
+source_of (words.Negate width) operands = ok_or (one_of operands) faults.Operand >>= λ a. ok_or (register_of a) faults.Operand >>= λ dst. Ok (Plain (insns.Negate width dst))
+source_of (words.SignExtend width part) operands = ok_or (two_of operands) faults.Operand >>= λ o. ok_or (register_of o.0) faults.Operand >>= λ dst. ok_or (register_of o.1) faults.Operand >>= λ src. Ok (Plain (insns.SignExtend width part dst src))
+source_of (words.Swap order bytes) operands = ok_or (one_of operands) faults.Operand >>= λ a. ok_or (register_of a) faults.Operand >>= λ dst. Ok (Plain (insns.Swap order bytes dst))
+source_of words.LoadNumber operands = ok_or (two_of operands) faults.Operand >>= λ o. ok_or (register_of o.0) faults.Operand >>= λ dst. ok_or (number_of o.1) faults.Operand >>= λ n. ok_or (bits_within n) faults.Range >>= λ number. Ok (Plain (insns.LoadNumber dst number))
+source_of words.Jump operands = ok_or (one_of operands) faults.Operand >>= λ a. ok_or (goal_of a) faults.Operand >>= λ goal. Ok (Jump goal)
+source_of words.LongJump operands = ok_or (one_of operands) faults.Operand >>= λ a. ok_or (goal_of a) faults.Operand >>= λ goal. Ok (LongJump goal)
+source_of (words.Branch width condition) operands = ok_or (three_of operands) faults.Operand >>= λ o. ok_or (register_of o.0) faults.Operand >>= λ dst. ok_or (raw_of o.1) faults.Operand >>= λ raw. ok_or (goal_of o.2) faults.Operand >>= λ goal. ok_or (fitted raw) faults.Range >>= λ operand. Ok (Branch width condition dst operand goal)
+source_of (words.Load bytes) operands = ok_or (two_of operands) faults.Operand >>= λ o. ok_or (register_of o.0) faults.Operand >>= λ dst. ok_or (place_of o.1) faults.Operand >>= λ place. ok_or (signed_within (2 ^ 15) place.1) faults.Range >>= λ offset. Ok (Plain (insns.Load bytes dst place.0 offset))
+source_of (words.LoadSigned part) operands = ok_or (two_of operands) faults.Operand >>= λ o. ok_or (register_of o.0) faults.Operand >>= λ dst. ok_or (place_of o.1) faults.Operand >>= λ place. ok_or (signed_within (2 ^ 15) place.1) faults.Range >>= λ offset. Ok (Plain (insns.LoadSigned part dst place.0 offset))
+source_of (words.StoreRegister bytes) operands = ok_or (two_of operands) faults.Operand >>= λ o. ok_or (place_of o.0) faults.Operand >>= λ place. ok_or (register_of o.1) faults.Operand >>= λ src. ok_or (signed_within (2 ^ 15) place.1) faults.Range >>= λ offset. Ok (Plain (insns.Store bytes place.0 offset (seconds.Register src)))
+source_of (words.StoreNumber bytes) operands = ok_or (two_of operands) faults.Operand >>= λ o. ok_or (place_of o.0) faults.Operand >>= λ place. ok_or (number_of o.1) faults.Operand >>= λ n. ok_or (signed_within (2 ^ 15) place.1) faults.Range >>= λ offset. ok_or (signed_within (2 ^ 31) n) faults.Range >>= λ number. Ok (Plain (insns.Store bytes place.0 offset (seconds.Immediate number)))
+source_of words.Call operands = ok_or (one_of operands) faults.Operand >>= λ a. if is_letter (slice_index a 0) then (ok_or (helper_of a) faults.Operand >>= λ helper. Ok (Plain (insns.Call helper))) else (ok_or (number_of a) faults.Operand >>= λ n. ok_or (signed_within (2 ^ 31) n) faults.Range >>= λ helper. Ok (Plain (insns.Call helper)))
+source_of words.Exit operands = ok_or (none_of operands) faults.Operand >>= λ o. Ok (Plain insns.Exit)
 
--- the place of a word among names
-abbrev pub place_in : List ℕ → ℕ → List (List ℕ) → Option ℕ
-place_in word n [] = None
-place_in word n (name ∷ names) = if bytes_eq word name then Some n else place_in word (n + 1) names
-
-unfoldable pub helper_of : List ℕ → Option ℤ
-helper_of name = place_in name 1 helpers >>= λ n. Some (pos n)
-
--- the operands of each mnemonic
-abbrev pub source_of : Mnemonic → List (List ℕ) → Option Source
-source_of (words.Arithmetic width operation) operands = two_of operands >>= λ o. register_of o.0 >>= λ dst. raw_of o.1 >>= λ raw. fitted raw >>= λ operand. Some (Plain (insns.Arithmetic width operation dst operand))
-source_of (words.Negate width) operands = one_of operands >>= λ a. register_of a >>= λ dst. Some (Plain (insns.Negate width dst))
-source_of (words.SignExtend width part) operands = two_of operands >>= λ o. register_of o.0 >>= λ dst. register_of o.1 >>= λ src. Some (Plain (insns.SignExtend width part dst src))
-source_of (words.Swap order bytes) operands = one_of operands >>= λ a. register_of a >>= λ dst. Some (Plain (insns.Swap order bytes dst))
-source_of words.LoadNumber operands = two_of operands >>= λ o. register_of o.0 >>= λ dst. number_of o.1 >>= λ n. bits_within n >>= λ number. Some (Plain (insns.LoadNumber dst number))
-source_of words.Jump operands = one_of operands >>= λ a. goal_of a >>= λ goal. Some (Jump goal)
-source_of words.LongJump operands = one_of operands >>= λ a. goal_of a >>= λ goal. Some (LongJump goal)
-source_of (words.Branch width condition) operands = three_of operands >>= λ o. register_of o.0 >>= λ dst. raw_of o.1 >>= λ raw. goal_of o.2 >>= λ goal. fitted raw >>= λ operand. Some (Branch width condition dst operand goal)
-source_of (words.Load bytes) operands = two_of operands >>= λ o. register_of o.0 >>= λ dst. place_of o.1 >>= λ place. signed_within (2 ^ 15) place.1 >>= λ offset. Some (Plain (insns.Load bytes dst place.0 offset))
-source_of (words.LoadSigned part) operands = two_of operands >>= λ o. register_of o.0 >>= λ dst. place_of o.1 >>= λ place. signed_within (2 ^ 15) place.1 >>= λ offset. Some (Plain (insns.LoadSigned part dst place.0 offset))
-source_of (words.StoreRegister bytes) operands = two_of operands >>= λ o. place_of o.0 >>= λ place. register_of o.1 >>= λ src. signed_within (2 ^ 15) place.1 >>= λ offset. Some (Plain (insns.Store bytes place.0 offset (seconds.Register src)))
-source_of (words.StoreNumber bytes) operands = two_of operands >>= λ o. place_of o.0 >>= λ place. number_of o.1 >>= λ n. signed_within (2 ^ 15) place.1 >>= λ offset. signed_within (2 ^ 31) n >>= λ number. Some (Plain (insns.Store bytes place.0 offset (seconds.Immediate number)))
-source_of words.Call operands = one_of operands >>= λ a. if is_letter (slice_index a 0) then (helper_of a >>= λ helper. Some (Plain (insns.Call helper))) else (number_of a >>= λ n. signed_within (2 ^ 31) n >>= λ helper. Some (Plain (insns.Call helper)))
-source_of words.Exit operands = none_of operands >>= λ o. Some (Plain insns.Exit)
+-- the statement of these words, if there are any: the mnemonic (A2), then its operands
+abbrev pub statement_of : List (List ℕ) → Result (Option Source) Fault
+statement_of [] = Ok None
+statement_of (word ∷ operands) = ok_or (mnemonic_of word) faults.Mnemonic >>= λ m. source_of m operands >>= λ source. Ok (Some source)

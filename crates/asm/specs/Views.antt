@@ -1,6 +1,9 @@
 -- What the code's values stand for.
 use Rattle.std.specs.Prelude.{ℕ, ◌≡◌, List, map, Option, Some, None, Result, Ok, Err}
 use Rattle.std.proofs.Common.{Bor}
+use Rattle.std.specs.Option.{ok_or}
+use Rattle.asm.specs.declared.fault.Fault.{Fault}
+use Rattle.asm.specs.declared.fault.Fault.TheVariants as faults
 use Rattle.asm.specs.declared.fault.LineError.{LineError}
 use Rattle.asm.specs.declared.fault.LineError.TheVariants as failures
 use Rattle.asm.specs.declared.operand.Aim.{Aim}
@@ -12,20 +15,21 @@ use Rattle.asm.specs.declared.kept.Kept.{Kept}
 use Rattle.asm.specs.Operand.{Goal, Away, Named}
 use Rattle.asm.specs.Statement.{Source, Plain, Jump, LongJump, Branch}
 use Rattle.asm.specs.Line.{Outline}
+use Rattle.asm.specs.Program.{Placed}
 
 abbrev pub GivesOption : {X Y : Type 0} → (X → Y) → Option X → Option Y → Type 0
 GivesOption view None read = read ≡ None
 GivesOption view (Some x) read = read ≡ Some (view x)
 
--- an error of any kind says that nothing is read
-abbrev pub GivesResult : {X Y E : Type 0} → (X → Y) → Result X E → Option Y → Type 0
-GivesResult view (Err e) read = read ≡ None
-GivesResult view (Ok x) read = read ≡ Some (view x)
+-- an error is the fault of what is read
+abbrev pub GivesResult : {X Y E : Type 0} → (X → Y) → Result X E → Result Y E → Type 0
+GivesResult view (Err e) read = read ≡ Err e
+GivesResult view (Ok x) read = read ≡ Ok (view x)
 
--- any error but want of memory says that nothing is read
-abbrev pub Fails : {Y : Type 0} → LineError → Option Y → Type 0
+-- any error but want of memory is the fault of what is read
+abbrev pub Fails : {Y : Type 0} → LineError → Result Y Fault → Type 0
 Fails failures.Memory read = Unit {0}
-Fails (failures.Fault f) read = read ≡ None
+Fails (failures.Fault f) read = read ≡ Err f
 
 -- a jump's goal, its name apart
 abbrev pub aim_view : Aim → List ℕ → Goal
@@ -42,16 +46,16 @@ draft_view (drafts.Branch width condition dst operand aim) name = Branch width c
 abbrev pub source_view : Statement → Source
 source_view s = draft_view s.draft s.name.now
 
-abbrev pub kept_view : Kept → Source
-kept_view kept = source_view kept.statement
+abbrev pub kept_view : Kept → Placed
+kept_view kept = record { source = source_view kept.statement; line = kept.line }
 
 abbrev pub statement_view : Option Statement → Option Source
 statement_view None = None
 statement_view (Some s) = Some (source_view s)
 
--- words were written
+-- words were written, or the outline is none
 abbrev pub GivesWords : {X : Type 0} → List (Bor (List ℕ)) → Result X LineError → Option (List (List ℕ)) → Type 0
-GivesWords words (Err e) read = Fails e read
+GivesWords words (Err e) read = Fails e (ok_or read faults.Line)
 GivesWords words (Ok x) read = read ≡ Some (map (λ r. r.now) words)
 
 abbrev pub name_view : Option (Bor (List ℕ)) → Option (List ℕ)
@@ -59,5 +63,5 @@ name_view None = None
 name_view (Some name) = Some name.now
 
 abbrev pub GivesOutline : List (Bor (List ℕ)) → Result (Option (Bor (List ℕ))) LineError → Option Outline → Type 0
-GivesOutline words (Err e) read = Fails e read
+GivesOutline words (Err e) read = Fails e (ok_or read faults.Line)
 GivesOutline words (Ok name) read = read ≡ Some (record { name = name_view name; words = map (λ r. r.now) words })

@@ -1,7 +1,7 @@
 //! The assembler.
 
-ghost use Rattle.std.specs.Prelude.{◌≡◌};
-ghost use Rattle.asm.specs.Program.{Read, program_of, program_in};
+ghost use Rattle.std.specs.Prelude.{◌≡◌, Some, IfOk};
+ghost use Rattle.asm.specs.Program.{Read, said, program_of, program_in};
 ghost use Rattle.asm.specs.Keeping.{Keeps, Answers, AreWellKept, units_kept};
 
 use crate::fault::{AsmError, Fault};
@@ -14,7 +14,7 @@ use std::alloc::Global;
 fn finish(alloc: Global, reading: &Reading<'_>) -> Result<Program, AsmError>
     requires units { reading.now.units ≡ units_kept reading.now.sources.items }
     requires well { AreWellKept reading.now.sources.items }
-    ensures { (r : Read) → Keeps reading.now r → Answers result (program_in r) }
+    ensures { (r : Read) → Keeps reading.now r → Answers result (program_in reading.now.lines r) }
 {
     if reading.units == 0 || reading.units > 4096 {
         return Err(AsmError::At(
@@ -30,10 +30,11 @@ fn finish(alloc: Global, reading: &Reading<'_>) -> Result<Program, AsmError>
 /// its outline (A1), a name defined twice (A5), the mnemonic (A2), the operands' number and kinds
 /// (A3), their ranges (A6); then the number of units (A7); then, in line order, names that are not
 /// defined (A4) and distances (A6).
-#[tactic(auto, unfolding(crate::specs::Program::program_of))]
+#[tactic(auto, unfolding(crate::specs::Program::said))]
 pub fn assemble(alloc: Global, text: &str) -> Result<Program, AsmError>
-    // What is answered is said; a refusal other than for memory comes only where nothing is said.
-    ensures { Answers result (program_of text.now) }
+    // The program that is said, or, but for want of memory, the first fault with its line.
+    ensures said { Answers result (said text.now) }
+    ensures program { IfOk result (λ p. program_of text.now ≡ Some p) }
 {
     match gather(alloc, text.as_bytes()) {
         Ok(reading) => finish(alloc, &reading),

@@ -1,10 +1,10 @@
 //! The helpers' names.
 
 ghost use Rattle.std.specs.Prelude.{◌≡◌};
-ghost use Rattle.asm.specs.Statement.{helper_of};
+ghost use Rattle.asm.specs.Helper.{helper_of};
 
 /// The number of a helper's name.
-#[tactic(auto, unfolding(crate::specs::Statement::helper_of))]
+#[tactic(auto, unfolding(crate::specs::Helper::helper_of))]
 pub fn helper_named(name: &[u8]) -> Option<i32>
     ensures { result ≡ helper_of name.now }
 {

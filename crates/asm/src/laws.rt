@@ -1,5 +1,5 @@
 //! Laws of the tables: each function does nothing, and its contract is the law.
-ghost use Rattle.asm.specs.Laws.{RegistersAreNumbered, MnemonicsAreNamed};
+ghost use Rattle.asm.specs.Laws.{RegistersAreNumbered, MnemonicsAreNamed, FaultsAreFirst};
 
 /// A register is its letter and its number, 0 to 10.
 pub fn registers_are_numbered()
@@ -9,4 +9,10 @@ pub fn registers_are_numbered()
 /// Each mnemonic of the table is read from its word, and from no other.
 pub fn mnemonics_are_named()
     ensures { MnemonicsAreNamed }
+{}
+
+/// A text is refused by its first fault, at its line: that of a line by itself, behind lines that have none; behind all
+/// lines that of the count; behind the count that of a jump, behind jumps that have none.
+pub fn faults_are_first()
+    ensures { FaultsAreFirst }
 {}

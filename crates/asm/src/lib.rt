@@ -20,4 +20,4 @@ mod statement;
 pub use assembler::assemble;
 pub use disassembler::disassemble;
 pub use fault::{AsmError, Fault};
-pub use laws::{mnemonics_are_named, registers_are_numbered};
+pub use laws::{faults_are_first, mnemonics_are_named, registers_are_numbered};

@@ -26,7 +26,7 @@ pub enum Mnemonic {
 }
 
 /// All mnemonics, by their first letters.
-const MNEMONICS: [Mnemonic; 86] = [
+static MNEMONICS: [Mnemonic; 86] = [
     Mnemonic::Arithmetic(Width::W64, Operation::Add),
     Mnemonic::Arithmetic(Width::W32, Operation::Add),
     Mnemonic::Arithmetic(Width::W64, Operation::And),
@@ -246,6 +246,7 @@ fn swap_name(order: ByteOrder, size: SwapSize) -> &'static str
     }
 }
 
+/// The first of these mnemonics whose word it is.
 fn search(all: &[Mnemonic], word: &[u8]) -> Option<Mnemonic>
     ensures { result ≡ first_named word.now all.now }
 {
@@ -257,10 +258,35 @@ fn search(all: &[Mnemonic], word: &[u8]) -> Option<Mnemonic>
     None
 }
 
-/// The mnemonic of a word.
+/// The mnemonics of the table that begin as this word does; all of them where none begins so, and then none is the word.
 #[tactic(auto, unfolding(crate::specs::Table::mnemonic_of, crate::specs::Table::mnemonics))]
+fn section(word: &[u8]) -> &'static [Mnemonic]
+    ensures { first_named word.now result.now ≡ mnemonic_of word.now }
+{
+    match word {
+        [b'a', ..] => &MNEMONICS[..6],
+        [b'b', ..] => &MNEMONICS[6..9],
+        [b'c', ..] => &MNEMONICS[9..10],
+        [b'd', ..] => &MNEMONICS[10..12],
+        [b'e', ..] => &MNEMONICS[12..13],
+        [b'j', b's', ..] => &MNEMONICS[21..37],
+        [b'j', ..] => &MNEMONICS[13..33],
+        [b'l', b'd', ..] => &MNEMONICS[42..50],
+        [b'l', ..] => &MNEMONICS[37..42],
+        [b'm', ..] => &MNEMONICS[50..61],
+        [b'n', ..] => &MNEMONICS[61..63],
+        [b'o', ..] => &MNEMONICS[63..65],
+        [b'r', ..] => &MNEMONICS[65..67],
+        [b's', b't', ..] => &MNEMONICS[69..77],
+        [b's', ..] => &MNEMONICS[67..84],
+        [b'x', ..] => &MNEMONICS[84..],
+        _ => &MNEMONICS,
+    }
+}
+
+/// The mnemonic of a word.
 pub fn read_mnemonic(word: &[u8]) -> Option<Mnemonic>
     ensures { result ≡ mnemonic_of word.now }
 {
-    search(&MNEMONICS, word)
+    search(section(word), word)
 }

@@ -1,6 +1,6 @@
 //! What the lines of a text say, one line after the other.
 
-ghost use Rattle.std.specs.Prelude.{◌≡◌, ◌+◌, ◌^◌, ◌<◌, ◌≤◌, ◌++◌, ◌∷◌, [], map, OnOk, IfErr, IfOk, Some, None};
+ghost use Rattle.std.specs.Prelude.{◌≡◌, ◌+◌, ◌^◌, ◌<◌, ◌≤◌, ◌++◌, ◌∷◌, [], map, length, OnOk, IfErr, IfOk, Some, None};
 ghost use Rattle.asm.specs.Program.{Read, line_read, with_words, with_name, with_source, read_on, nothing, lines_of};
 ghost use Rattle.asm.specs.Views.{kept_view, source_view, draft_view, name_view};
 ghost use Rattle.asm.specs.Keeping.{KeepsRead, GivesRead, Keeps, GivesGathered, units_kept};
@@ -53,7 +53,7 @@ fn push_kept<'a>(
     name: &'a [u8],
     line: u64,
 ) -> Result<(), LineError>
-    ensures ok { OnOk result (map kept_view sources.new.items ≡ map kept_view sources.old.items ++ draft_view draft name.now ∷ []) }
+    ensures ok { OnOk result (map kept_view sources.new.items ≡ map kept_view sources.old.items ++ (record { source = draft_view draft name.now; line = line }) ∷ []) }
     ensures err { IfErr result (λ e. e ≡ LineError.Memory) }
 {
     let statement = Statement { draft, name };
@@ -67,7 +67,7 @@ fn put_source<'a>(
     line: u64,
 ) -> Result<(), LineError>
     requires { reading.old.units + 2 < 2 ^ 64 }
-    ensures read { (r : Read) → Keeps reading.old r → KeepsRead result reading.new (with_source r (Some (source_view statement.now))) }
+    ensures read { (r : Read) → Keeps reading.old r → KeepsRead result reading.new (with_source r line (Some (source_view statement.now))) }
     ensures units { reading.new.units ≤ reading.old.units + 2 }
 {
     push_kept(&mut reading.sources, statement.draft, statement.name, line)?;
@@ -79,7 +79,7 @@ fn put_source<'a>(
 #[tactic(auto, unfolding(crate::specs::Program::with_words))]
 fn put_words<'a>(reading: &mut Reading<'a>, words: &[&'a [u8]], line: u64) -> Result<(), LineError>
     requires { reading.old.units + 2 < 2 ^ 64 }
-    ensures read { (r : Read) → Keeps reading.old r → GivesRead result reading.new (with_words r (map (λ w. w.now) words.now)) }
+    ensures read { (r : Read) → Keeps reading.old r → GivesRead result reading.new (with_words r line (map (λ w. w.now) words.now)) }
     ensures units { reading.new.units ≤ reading.old.units + 2 }
 {
     match read_statement(words) {
@@ -98,7 +98,7 @@ fn read_line<'a>(
     line: u64,
 ) -> Result<(), LineError>
     requires { reading.old.units + 2 < 2 ^ 64 }
-    ensures read { (r : Read) → Keeps reading.old r → GivesRead result reading.new (line_read r text.now) }
+    ensures read { (r : Read) → Keeps reading.old r → GivesRead result reading.new (line_read r line text.now) }
     ensures units { reading.new.units ≤ reading.old.units + 2 }
 {
     let name = match read_outline(words, text) {
@@ -114,8 +114,9 @@ fn read_line<'a>(
 
 /// What the lines of the text say.
 pub fn gather<'a>(alloc: Global, text: &'a [u8]) -> Result<Reading<'a>, AsmError>
-    ensures read { GivesGathered result (read_on nothing (lines_of text.now)) }
+    ensures read { GivesGathered result (read_on nothing 1 (lines_of text.now)) }
     ensures units { IfOk result (λ reading. reading.units ≡ units_kept reading.sources.items) }
+    ensures lines { IfOk result (λ reading. reading.lines ≡ length (lines_of text.now)) }
 {
     let mut reading = Reading {
         names: BTreeMap::new(alloc),

@@ -5,7 +5,8 @@ ghost use Rattle.std.specs.List.{AllByRecursion};
 ghost use Rattle.insn.specs.Insn.{units_of, IsWell};
 ghost use Rattle.insn.specs.Program.{slots_of};
 ghost use Rattle.asm.specs.Statement.{IsWellSource};
-ghost use Rattle.asm.specs.Program.{Read, source_units, distance_of, insn_of, insns_on};
+ghost use Rattle.asm.specs.Distance.{distance_of};
+ghost use Rattle.asm.specs.Program.{Read, source_units, insn_of, insns_on};
 ghost use Rattle.asm.specs.Views.{GivesResult, aim_view, source_view};
 ghost use Rattle.asm.specs.Keeping.{Keeps, Finds, AnswersBy, AreWellKept, units_kept};
 
@@ -19,7 +20,7 @@ use std::alloc::Global;
 use std::collections::BTreeMap;
 
 /// The distance to a goal, counted from the unit behind the jump.
-#[tactic(auto, unfolding(crate::specs::Program::distance_of))]
+#[tactic(auto, unfolding(crate::specs::Distance::distance_of))]
 fn distance(names: &BTreeMap<&[u8], u64>, unit: u64, aim: &Aim, name: &[u8]) -> Option<Number>
     requires { unit < 4096 }
     ensures { (ds : List (List ℕ × ℕ)) → Finds names.now ds → result ≡ distance_of ds unit (aim_view aim.now name.now) }

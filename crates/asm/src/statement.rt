@@ -2,8 +2,7 @@
 
 ghost use Rattle.std.specs.Prelude.{◌≡◌, map, [], Some, None, IfSome, IfNone};
 ghost use Rattle.asm.specs.declared.mnemonic.Mnemonic.TheVariants as words;
-ghost use Rattle.asm.specs.Statement.{Plain, source_of, none_of, one_of, two_of, three_of};
-ghost use Rattle.asm.specs.Line.{statement_of};
+ghost use Rattle.asm.specs.Statement.{Plain, source_of, none_of, one_of, two_of, three_of, statement_of};
 ghost use Rattle.asm.specs.Views.{GivesOption, GivesResult, source_view, statement_view};
 
 use crate::fault::Fault;

@@ -6,7 +6,7 @@ use Rattle.semantics.specs.Plain.{IsPlain}
 use Rattle.codec.specs.Program.{IsFirstFault, SpellsProgram}
 use Rattle.codec.specs.declared.fault.CodecError.{CodecError}
 use Rattle.codec.specs.declared.fault.CodecError.TheVariants as codec
-use Rattle.asm.specs.Program.{program_of}
+use Rattle.asm.specs.Program.{said}
 use Rattle.asm.specs.declared.fault.AsmError.{AsmError}
 use Rattle.asm.specs.declared.fault.AsmError.TheVariants as asm
 use Rattle.book.specs.Grammar.{table_told}
@@ -85,9 +85,9 @@ RefusesDisassembly bytes (Codec error) = RefusesBytes bytes error
 RefusesDisassembly bytes Memory = Unit {0}
 RefusesDisassembly bytes _ = ⊥
 
--- the text says no program
+-- the text says no program, by this first fault
 abbrev pub RefusesAssembly : List ℕ → Refusal → Type 0
-RefusesAssembly text (Assembly error) = program_of text ≡ None
+RefusesAssembly text (Assembly error) = said text ≡ Err error
 RefusesAssembly text Memory = Unit {0}
 RefusesAssembly text _ = ⊥
 

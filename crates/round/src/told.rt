@@ -4,7 +4,7 @@ ghost use Rattle.round.specs.Contexts.{context_of, AreWords};
 ghost use Rattle.round.specs.Told.{WasTold, AreLettersOf, AreRoundsOf, lieutenant_at};
 
 use crate::context::context_with;
-use crate::delivery::deliver;
+use crate::delivery::deliver_to_all;
 use crate::letter::Letter;
 use crate::round::Round;
 use crate::scenario::Scenario;
@@ -70,9 +70,12 @@ impl Told {
         ensures { (before : List (List Written)) → WasTold scenario.now before self.old → WasTold scenario.now (before ++ row.now ∷ []) self.new }
     {
         let _bound = scenario.bound();
-        for place in 0..self.trees.len() {
-            deliver(row, &mut self.trees[place]);
-        }
+        deliver_to_all(
+            row,
+            scenario.generals(),
+            scenario.commander(),
+            self.trees.as_mut_slice(),
+        );
         self.rounds += 1;
     }
 

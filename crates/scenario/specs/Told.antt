@@ -4,7 +4,8 @@ use Rattle.toml.specs.Data.{Items, Members, no_items, item, get_member}
 use Rattle.toml.specs.Parse.{parse_document}
 use Rattle.hex.specs.Hex.{decode_of}
 use Rattle.insn.specs.declared.insn.Insn.{Insn}
-use Rattle.asm.specs.Program.{program_of}
+use Rattle.asm.specs.Program.{said, program_of}
+use Rattle.asm.specs.declared.fault.AsmError.TheVariants as assembler
 use Rattle.codec.specs.Program.{SpellsProgram, IsFirstFault}
 use Rattle.semantics.specs.Plain.{IsPlain}
 use Rattle.verify.specs.declared.fault.Fault.{Fault}
@@ -24,9 +25,9 @@ abbrev pub IsProgramOf : Source → List Insn → Type 0
 IsProgramOf (Assembly text) program = program_of text ≡ Some program
 IsProgramOf (Hex text) program = (bytes : List ℕ) × (decode_of text ≡ Ok bytes) × SpellsProgram bytes program
 
--- why it says or spells none: the decoder's first fault, any fault of the assembler
+-- why it says or spells none: the assembly's or the bytes' first fault
 abbrev pub IsCauseOf : Source → Cause → Type 0
-IsCauseOf (Assembly text) (causes.Asm fault line) = program_of text ≡ None
+IsCauseOf (Assembly text) (causes.Asm fault line) = said text ≡ Err (assembler.At fault line)
 IsCauseOf (Hex text) causes.Hex = IsErr (decode_of text)
 IsCauseOf (Hex text) (causes.Code fault unit) = (bytes : List ℕ) × (decode_of text ≡ Ok bytes) × IsFirstFault bytes fault unit
 IsCauseOf _ _ = ⊥

@@ -8,6 +8,7 @@ pub loop-line-init : goal.loop-line-init
 loop-line-init c = record {
   room = omega arith;
   counted = omega arith;
+  numbered = omega arith;
   kept = (nothing, record { units = refl; sources = search rules; names = λ q. grind (arith, common_steps) }, refl);
 }
 

@@ -1,0 +1,16 @@
+-- The helpers' names and numbers.
+use Rattle.std.specs.Prelude.{ℕ, ℤ, pos, ◌+◌, List, [], ◌∷◌, if◌then◌else◌, Option, Some, None, codes}
+use Rattle.std.specs.Str.{bytes_eq}
+use Rattle.text.specs.Options.{◌>>=◌}
+
+-- the names, from number 1 on
+abbrev pub helpers : List (List ℕ)
+helpers = codes "board_get" ∷ codes "board_swap" ∷ codes "board_add" ∷ codes "board_cas" ∷ codes "board_copy" ∷ codes "send" ∷ codes "send_row" ∷ codes "sway" ∷ codes "honest" ∷ []
+
+-- the place of a word among names
+abbrev pub place_in : List ℕ → ℕ → List (List ℕ) → Option ℕ
+place_in word n [] = None
+place_in word n (name ∷ names) = if bytes_eq word name then Some n else place_in word (n + 1) names
+
+unfoldable pub helper_of : List ℕ → Option ℤ
+helper_of name = place_in name 1 helpers >>= λ n. Some (pos n)
