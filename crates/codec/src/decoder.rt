@@ -1,10 +1,10 @@
-ghost use Rattle.std.specs.Prelude.{◌≡◌, ◌≤◌, ◌<◌, ◌+◌, ◌*◌, ◌/◌, length, take, drop, IfOk, IfErr, MatchResult, Some, List};
+ghost use Rattle.std.specs.Prelude.{◌≡◌, ◌≤◌, ◌<◌, ◌+◌, ◌*◌, ◌/◌, length, take, drop, IfOk, IfErr, MatchOption, MatchResult, Some, List};
 ghost use Rattle.insn.specs.declared.insn.Insn.{Insn as InsnValue};
 ghost use Rattle.insn.specs.Insn.{IsInsn, units_of};
 ghost use Rattle.insn.specs.Program.{slots_of};
 ghost use Rattle.codec.specs.Spelling.{spelling, instruction_bytes};
 ghost use Rattle.codec.specs.Reading.{fault_at, fault_in, AreUnits};
-ghost use Rattle.codec.specs.Program.{SpellsProgram, IsAnswered};
+ghost use Rattle.codec.specs.Program.{SpellsProgram, IsFirstFault, IsAnswered};
 
 use crate::fault::{CodecError, Fault};
 use crate::fields::{Fields, read_fields};
@@ -108,4 +108,36 @@ pub fn decode(alloc: Global, bytes: &[u8]) -> Result<Program, CodecError>
         return Err(CodecError::At(Fault::Count, 0));
     }
     Ok(Program::new(alloc, instructions(alloc, bytes, units)?)?)
+}
+
+/// The first fault of the bytes with its unit, as `decode` tells it; none exactly where they spell a program. So every
+/// list of bytes spells a program or has a first fault. It takes no memory.
+pub fn first_fault(bytes: &[u8]) -> Option<(Fault, usize)>
+    ensures { MatchOption result ((p : List InsnValue) × SpellsProgram bytes.now p) (λ found. IsFirstFault bytes.now found.0 found.1) }
+{
+    let units = bytes.len() / 8;
+    if bytes.len() % 8 != 0 {
+        return Some((Fault::Length, units));
+    }
+    if units == 0 || Program::MOST_UNITS < units {
+        return Some((Fault::Count, 0));
+    }
+    first_fault_of(bytes, units)
+}
+
+/// The first fault of the instructions of so many units, with its unit.
+fn first_fault_of(bytes: &[u8], units: usize) -> Option<(Fault, usize)>
+    requires whole { length bytes.now ≡ 8 * units }
+    requires some { 0 < units }
+    requires bound { units ≤ 4096 }
+    ensures { MatchOption result ((p : List InsnValue) × SpellsProgram bytes.now p) (λ found. IsFirstFault bytes.now found.0 found.1) }
+{
+    let mut unit = 0;
+    while unit < units {
+        match instruction(&bytes[8 * unit..]) {
+            Ok(insn) => unit += insn.units() as usize,
+            Err(fault) => return Some((fault, unit)),
+        }
+    }
+    None
 }

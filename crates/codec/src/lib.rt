@@ -13,7 +13,7 @@ mod memory;
 mod register;
 mod spelling;
 
-pub use decoder::decode;
+pub use decoder::{decode, first_fault};
 pub use encoder::encode;
 pub use fault::{CodecError, Fault};
 pub use laws::{no_fault_in_programs, one_first_fault, one_instruction, one_program, one_spelling};

@@ -13,3 +13,4 @@ pub mod Numbered
 pub mod LastOrders
 pub mod Alike
 pub mod Keeping
+pub mod Throughout

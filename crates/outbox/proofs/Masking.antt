@@ -27,7 +27,7 @@ pub kept_long : (mask a : ℕ) (os : List ℕ) → length (kept_from mask a os) 
 kept_long mask a [] = refl
 kept_long mask a (o ∷ os) = ap suc (kept_long mask (a + 1) os)
 
-kept_at : (mask a i : ℕ) (os : List ℕ) → i < length os → get_or (kept_from mask a os) i None ≡ (if has_bit mask (a + i) then Some (get_or os i 0) else None)
+pub kept_at : (mask a i : ℕ) (os : List ℕ) → i < length os → get_or (kept_from mask a os) i None ≡ (if has_bit mask (a + i) then Some (get_or os i 0) else None)
 kept_at mask a i [] l = absurd (omega arith)
 kept_at mask a zero (o ∷ os) l =
     let e : a ≡ a + 0 = omega arith in

@@ -1,5 +1,6 @@
 -- One label's row of an outbox.
 use Rattle.std.specs.Prelude.{ℕ, ◌≡◌, ◌==◌, true, false, if◌then◌else◌, List, [], ◌∷◌, map, length, Option, Some, None, slice_index_or}
+use Rattle.std.specs.Borrow.{Bor}
 use Rattle.label.specs.declared.shape.Shape.{Shape}
 use Rattle.label.specs.Labels.{on, is_distinct}
 use Rattle.label.specs.Oral.{AllBelow}
@@ -41,6 +42,10 @@ put_one receiver order p = (p.0, (if p.0 == receiver then Some order else p.1))
 abbrev pub put_row : ℕ → ℕ → RowOrders → RowOrders
 put_row receiver order row = map (put_one receiver order) row
 
+-- one order for all
+abbrev pub all_put : ℕ → RowOrders → RowOrders
+all_put order row = map (λ p. (p.0, Some order)) row
+
 -- orders for the first receivers, as many as there are
 abbrev pub filled : List ℕ → RowOrders → RowOrders
 filled [] row = row
@@ -51,3 +56,8 @@ filled (order ∷ orders) (p ∷ row) = (p.0, Some order) ∷ filled orders row
 abbrev pub order_in : ℕ → RowOrders → Option ℕ
 order_in receiver [] = None
 order_in receiver (p ∷ row) = if p.0 == receiver then p.1 else order_in receiver row
+
+-- a receiver's order in a row, where there is one
+abbrev pub order_of_row : Option (Bor RowOrders) → ℕ → Option ℕ
+order_of_row None receiver = None
+order_of_row (Some row) receiver = order_in receiver row.now

@@ -1,4 +1,5 @@
-ghost use Rattle.std.specs.Prelude.{◌≡◌, ◌<◌, None, Some, replicate, slice_set, slice_index_or};
+ghost use Rattle.std.specs.Prelude.{◌≡◌, ◌<◌, if◌then◌else◌, ℕ, None, Some, length, replicate, slice_set, slice_index_or};
+ghost use Rattle.outbox.specs.Masks.{has_bit as is_in};
 
 use crate::mask::{has_bit, with_bit};
 use std::marker::Model;
@@ -31,6 +32,17 @@ impl Kept {
         Kept {
             orders: [0; 13],
             put: 0,
+        }
+    }
+
+    /// One order at each place of the set.
+    pub fn alike(order: u32, places: u16) -> Kept
+        ensures long { length result ≡ 13 }
+        ensures each { (n : ℕ) → n < 13 → slice_index_or result n None ≡ (if is_in places n then Some order else None) }
+    {
+        Kept {
+            orders: [order; 13],
+            put: places,
         }
     }
 

@@ -14,3 +14,4 @@ mod rows;
 pub use label::Shape;
 pub use laws::last_orders_are_given;
 pub use orders::Outbox;
+pub use row::Row;

@@ -1,7 +1,8 @@
-ghost use Rattle.std.specs.Prelude.{◌≡◌, ◌<◌, ◌≤◌, ◌↔◌, IfOk, IsTrue, Some, None, [], map, length, slice_get, slice_index_or};
+ghost use Rattle.std.specs.Prelude.{◌≡◌, ◌<◌, ◌≤◌, ◌↔◌, ℕ, IfOk, IsNone, IsTrue, Some, None, [], map, length, slice_get, slice_index_or};
 ghost use Rattle.label.specs.Relay.{IsShape, relay, receivers};
-ghost use Rattle.semantics.specs.Outbox.{empty_outbox, written, places_set, at_place, along_row, at_receiver, as_taken};
+ghost use Rattle.semantics.specs.Outbox.{places, taken_value as value_in, empty_outbox, written, places_set, at_place, along_row, at_receiver, as_taken};
 ghost use Rattle.outbox.specs.Contents.{HasPlaces, order_at};
+ghost use Rattle.outbox.specs.Rows.{order_of_row};
 
 use crate::context::taken_value;
 use crate::relays::rows_of;
@@ -104,6 +105,18 @@ impl Outbox {
         set
     }
 
+    /// Puts for every receiver, at every label, the value that the general took for it.
+    pub fn honest_to_all(&mut self, context: &[u8])
+        requires { length context.now ≡ 4096 }
+        ensures shape { self.new.shape ≡ self.old.shape }
+        ensures rows { self.new.rows ≡ map (λ row. map (λ place. Some (value_in context.now place.rank)) row) (places self.old.shape) }
+    {
+        let labels = self.rows.len();
+        for rank in 0..labels {
+            self.rows[rank].put_all(taken_value(context, rank));
+        }
+    }
+
     /// The order at a place, where there is such a place and an order was put.
     pub fn get(&self, label: u32, receiver: u32) -> Option<u32>
         ensures { result ≡ order_at self.now.shape self.now.rows label receiver }
@@ -113,6 +126,18 @@ impl Outbox {
             return None;
         }
         self.rows[rank].order(receiver)
+    }
+
+    /// The orders for a label, where there is such a label.
+    pub fn orders(&self, label: u32) -> Option<&Row>
+        ensures none { IsNone result ↔ (length self.now.rows ≤ label) }
+        ensures orders { (receiver : ℕ) → order_of_row result receiver ≡ order_at self.now.shape self.now.rows label receiver }
+    {
+        let rank = label as usize;
+        if rank >= self.rows.len() {
+            return None;
+        }
+        Some(&self.rows[rank])
     }
 
     /// How many labels it has a row for, at most 990.

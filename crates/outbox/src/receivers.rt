@@ -1,6 +1,7 @@
 ghost use Rattle.std.specs.Prelude.{◌≡◌, ◌<◌, ◌≤◌, ◌+◌, ◌∷◌, ◌++◌, [], ℕ, false, true, IsTrue, length, slice_index};
 ghost use Rattle.label.specs.Labels.{on, others, is_distinct};
 ghost use Rattle.label.specs.Oral.{AllBelow};
+ghost use Rattle.outbox.specs.Masks.{has_bit as is_in};
 ghost use Rattle.outbox.specs.Receivers.{struck};
 
 use crate::mask::{has_bit, with_bit, without_bit};
@@ -89,6 +90,13 @@ impl Receivers {
         ensures below { IsTrue result → general < 13 }
     {
         general < 13 && has_bit(self.mask, general)
+    }
+
+    /// They as a set.
+    pub fn mask(&self) -> u16
+        ensures { (g : ℕ) → g < 13 → is_in result g ≡ on self.now g }
+    {
+        self.mask
     }
 
     /// They, one by one.

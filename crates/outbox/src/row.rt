@@ -1,7 +1,7 @@
 ghost use Rattle.std.specs.Prelude.{◌≡◌, ◌≤◌, ◌↔◌, map, length, true, None, IsTrue, slice_index_or, min};
 ghost use Rattle.label.specs.Labels.{on, is_distinct};
 ghost use Rattle.label.specs.Oral.{AllBelow};
-ghost use Rattle.outbox.specs.Rows.{empty_row, receivers_in, orders_in, put_row, filled, order_in, row_of, IsRow};
+ghost use Rattle.outbox.specs.Rows.{empty_row, receivers_in, orders_in, put_row, all_put, filled, order_in, row_of, IsRow};
 
 use crate::kept::Kept;
 use crate::receivers::Receivers;
@@ -9,7 +9,7 @@ use std::marker::Model;
 
 /// The places of one label: who may hear of it, ascending, each with the order put for him.
 #[derive(Drop)]
-pub(crate) struct Row {
+pub struct Row {
     receivers: Receivers,
     /// By the receiver's number; nothing at the other numbers.
     orders: Kept,
@@ -27,7 +27,7 @@ impl Model for Row {
 
 impl Row {
     /// A row in which nothing is put, for these receivers.
-    pub fn new(receivers: Receivers) -> Row
+    pub(crate) fn new(receivers: Receivers) -> Row
         ensures { result ≡ empty_row receivers }
     {
         let _some = receivers.generals();
@@ -38,7 +38,7 @@ impl Row {
     }
 
     /// Puts the receiver's order: whether he is among the receivers.
-    pub fn put(&mut self, receiver: u32, order: u32) -> bool
+    pub(crate) fn put(&mut self, receiver: u32, order: u32) -> bool
         ensures row { self.new ≡ put_row receiver order self.old }
         ensures there { result ≡ on (receivers_in self.old) receiver }
     {
@@ -49,8 +49,15 @@ impl Row {
         there
     }
 
+    /// Puts one order for all receivers.
+    pub(crate) fn put_all(&mut self, order: u32)
+        ensures { self.new ≡ all_put order self.old }
+    {
+        self.orders = Kept::alike(order, self.receivers.mask());
+    }
+
     /// Puts orders for the receivers, ascending, as many as there are: how many.
-    pub fn fill(&mut self, orders: &[u32]) -> u32
+    pub(crate) fn fill(&mut self, orders: &[u32]) -> u32
         ensures row { self.new ≡ filled orders.now self.old }
         ensures count { result ≡ min (length self.old) (length orders.now) }
     {
@@ -65,21 +72,21 @@ impl Row {
     }
 
     /// Who hears of the label, ascending.
-    pub fn receivers(&self) -> &[u8]
+    pub(crate) fn receivers(&self) -> &[u8]
         ensures { result.now ≡ receivers_in self.now }
     {
         self.receivers.generals()
     }
 
     /// The order for the receiver of that number among them, where there is one.
-    pub fn at(&self, number: usize) -> Option<u32>
+    pub(crate) fn at(&self, number: usize) -> Option<u32>
         ensures { result ≡ slice_index_or (orders_in self.now) number None }
     {
         numbered(self.receivers.generals(), &self.orders, number)
     }
 
     /// The same row.
-    pub fn copy(&self) -> Row
+    pub(crate) fn copy(&self) -> Row
         ensures { result ≡ self.now }
     {
         Row {
@@ -89,7 +96,7 @@ impl Row {
     }
 
     /// Whether its orders are those of the other, place by place.
-    pub fn has_orders_of(&self, other: &Row) -> bool
+    pub(crate) fn has_orders_of(&self, other: &Row) -> bool
         ensures { IsTrue result ↔ (orders_in self.now ≡ orders_in other.now) }
     {
         let count = self.receivers().len();

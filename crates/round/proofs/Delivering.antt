@@ -1,19 +1,16 @@
 -- The letters of one round fill one level.
-use Rattle.std.proofs.Common.{◌≡◌, ◌≢◌, ℕ, zero, suc, ◌+◌, ◌<◌, ◌≤◌, List, [], ◌∷◌, length, map, get_or, true, false, refl, sym, ap, subst, ◌∙◌, Some, Option, arith, ⊎_elim}
+use Rattle.std.proofs.Common.{◌≡◌, ◌≢◌, ℕ, zero, suc, ◌+◌, ◌≤◌, List, [], ◌∷◌, length, map, true, false, refl, sym, ap, subst, ◌∙◌, Some, Option, arith, ⊎_elim}
 use Rattle.std.specs.Prelude.{slice_get, ◌==◌}
 use Rattle.std.proofs.lemmas.Bool.{eq-eqb, ne_eqb}
 use Rattle.std.proofs.lemmas.Bool.Decides.{eqb_tells}
-use Rattle.std.proofs.lemmas.Option.{slice_get_within, slice_get_read}
+use Rattle.std.proofs.lemmas.Option.{slice_get_within}
 use Rattle.label.specs.Labels.{labels}
 use Rattle.label.specs.Oral.{Messages}
-use Rattle.label.specs.declared.shape.Shape.{Shape}
-use Rattle.label.specs.declared.space.Space.{Space}
-use Rattle.label.specs.Space.{labels_of}
 use Rattle.label.proofs.Listing.{proved_labels_are_exact, proved_labels_differ}
 use Rattle.tree.specs.LieutenantTree.{LieutenantTree, IsCampaign, IsFilled, SameCampaign, levels_from, told_also}
 use Rattle.tree.proofs.Also.{also-here, also-other}
 use Rattle.round.specs.Letters.{Letter}
-use Rattle.round.specs.Told.{AreDue, told_now, heard_also, round_of}
+use Rattle.round.specs.Told.{told_now, heard_also, round_of}
 use Rattle.round.specs.Delivery.{IsPartly, IsFilledBetween}
 
 pub same_map : {B : Type 0} (F G : List ℕ → B) (ws : List (List ℕ)) → ((i : ℕ) (w : List ℕ) → slice_get ws i ≡ Some w → F w ≡ G w) → map F ws ≡ map G ws
@@ -101,15 +98,6 @@ pub told_all : (t : LieutenantTree) (row : List Letter) (k i : ℕ) (u : Lieuten
 told_all t row k i u c ek h all M filled =
     let p = h.partly M (record { N = M; filled = filled; others = λ w ne. refl; done = λ j w lt at. absurd (omega arith) }) in
     p.filled ∙ (rw (h.same.generals, h.same.commander, h.same.general) (levels-same t.generals t.commander t.general p.N (heard_also M row) 1 (u.bound + 1) (each_same t row k i u M c ek all p)))
-
--- as it is called
-pub due_round : (t : LieutenantTree) (row : List Letter) (shape : Shape) (inside item : Letter) → AreDue t row → inside ≡ item → item ≡ get_or row 0 item → 0 < length row → shape ≡ inside.outbox.shape → shape.round ≡ round_of row
-due_round t row shape inside item due view at some same =
-    let there : slice_get row 0 ≡ Some item = slice_get_read row (length row) 0 item refl some at in
-    ap (λ (s : Shape). s.round) (same ∙ (ap (λ (l : Letter). l.outbox.shape) view ∙ due.letters 0 item there))
-
-pub same_labels : (sp : Space) (t : LieutenantTree) (k : ℕ) → sp.generals ≡ t.generals → sp.commander ≡ t.commander → sp.general ≡ t.general → labels_of sp k ≡ labels t.generals t.commander t.general k
-same_labels sp t k en ec eg = (λ i. labels (en i) (ec i) (eg i) k)
 
 pub no_letters : (row : List Letter) → length row ≡ 0 → row ≡ []
 no_letters [] e = refl

@@ -1,6 +1,6 @@
 -- From a label to its children, and from the commander's label to all of a length.
-use Rattle.std.proofs.Common.{◌≡◌, ◌≢◌, ℕ, suc, ◌+◌, ◌-◌, ◌*◌, ◌<◌, List, [], ◌∷◌, ◌++◌, length, false, cond, refl, sym, ap, ◌∙◌, arith}
-use Rattle.std.specs.Prelude.{slice_index, ◌==◌, nat_lt}
+use Rattle.std.proofs.Common.{◌≡◌, ◌≢◌, ℕ, suc, ◌+◌, ◌-◌, ◌*◌, ◌<◌, List, [], ◌∷◌, ◌++◌, length, false, refl, sym, ap, ◌∙◌, arith}
+use Rattle.std.specs.Prelude.{slice_index, ◌==◌}
 use Rattle.std.proofs.lemmas.Bool.{eq-eqb, ne_eqb, or_parts, true≢false}
 use Rattle.std.proofs.lemmas.Option.{slice_get_within}
 use Rattle.label.specs.Labels.{on, others, labels}
@@ -10,35 +10,15 @@ use Rattle.label.proofs.Listing.{proved_labels_differ}
 use Rattle.label.proofs.Places.{first_label}
 use Rattle.tree.specs.LieutenantTree.{LieutenantTree, IsCampaign, IsFilled, SameCampaign}
 use Rattle.round.specs.Letters.{Letter}
-use Rattle.round.specs.Told.{AreDue, heard_also, round_of}
+use Rattle.round.specs.Told.{heard_also, round_of}
 use Rattle.round.specs.Fronts.{IsFront, under}
-use Rattle.round.specs.Delivery.{ArePlaces, IsFilledBetween, IsWalk, first_under, past_under}
+use Rattle.round.specs.Delivery.{IsFilledBetween, IsWalk, first_under, past_under}
 use Rattle.round.specs.declared.front.Front.{Front}
-use Rattle.round.proofs.Prolonging.{below-lacked}
 use Rattle.round.proofs.Delivering.{told_all}
-use Rattle.round.proofs.Walking.{child_at, child_long, same_due, told_ends, level_long}
-
--- those below, the receiver among them
-pub below_told : (p x place below : ℕ) (w : List ℕ) → on w p ≡ false → place ≡ length (others x (p ∷ w)) → below ≡ place + cond {A = ℕ} (nat_lt p x) 1 0 → below ≡ length (others x w)
-below_told p x place below w off at is = is ∙ (ap (λ (m : ℕ). m + cond {A = ℕ} (nat_lt p x) 1 0) at ∙ below-lacked x p w off)
-
-pub off_label : (p x : ℕ) (w : List ℕ) → on (p ∷ w) x ≡ false → on w x ≡ false
-off_label p x w away = (or_parts (p == x) (on w x) away).1
+use Rattle.round.proofs.Walking.{child_at, child_long, told_ends, level_long}
 
 apart-from : (p x : ℕ) (w : List ℕ) → on (p ∷ w) x ≡ false → p ≢ x
 apart-from p x w away = λ e. true≢false (sym (eq-eqb p x e) ∙ (or_parts (p == x) (on w x) away).0)
-
--- the walk from a child
-pub child_walk : (t u : LieutenantTree) (row : List Letter) (places : List ℕ) (k : ℕ) (f : Front) (walk : IsWalk t row places k f) → SameCampaign t u → f.size + 1 ≢ k → (x : ℕ) → on (t.general ∷ walk.w) x ≡ false → (g : Front) → IsFront t.generals t.commander (walk.w ++ x ∷ []) g → IsWalk u row places k g
-child_walk t u row places k f walk same more x away g child = record {
-  due = same_due t u row same walk.due;
-  size = walk.size;
-  posted = walk.posted;
-  short = (let s = child.size in let l = child_long t.generals t.commander x walk.w f walk.front in let b = walk.short in omega arith);
-  w = walk.w ++ x ∷ [];
-  front = rw (same.generals, same.commander) child;
-  off = rw same.general (on-push walk.w x t.general ∙ rw (walk.off, ne_eqb x t.general (λ e. apart-from t.general x walk.w away (sym e))) refl);
-}
 
 -- the child's part
 child_rank_is : (t : LieutenantTree) (row : List Letter) (places : List ℕ) (k : ℕ) (f : Front) (walk : IsWalk t row places k f) → IsCampaign t → (x place : ℕ) → x < t.generals → on (t.general ∷ walk.w) x ≡ false → place ≡ length (others x (t.general ∷ walk.w)) → (g : Front) → IsFront t.generals t.commander (walk.w ++ x ∷ []) g →
@@ -66,21 +46,6 @@ child_past t u row places k f walk same c x place within away ep g child =
     rw (same.general, same.generals)
     (ap (λ (r : ℕ). r * under t.generals g.size (k - g.size)) next
     ∙ ap (λ (s : ℕ). (slice_index f.ranks t.general * (t.generals - (f.size + 1)) + (place + 1)) * under t.generals s (k - s)) (child_size_is t.generals t.commander x walk.w f g walk.front child))
-
--- the walk from the commander's label
-pub first_walk : (t : LieutenantTree) (row : List Letter) (places : List ℕ) (k : ℕ) (f : Front) → AreDue t row → k ≡ round_of row → ArePlaces row places → 1 < k → IsCampaign t → IsFront t.generals t.commander (t.commander ∷ []) f → IsWalk t row places k f
-first_walk t row places k f due ek posted more c front = record {
-  due = due;
-  size = ek;
-  posted = posted;
-  short = (let s = front.size in omega arith);
-  w = t.commander ∷ [];
-  front = front;
-  off = alone t c;
-}
-  where
-    alone : (t : LieutenantTree) → IsCampaign t → on (t.commander ∷ []) t.general ≡ false
-    alone t c = rw (ne_eqb t.commander t.general (λ e. c.lieutenant (sym e))) refl
 
 pub all_walked : (t : LieutenantTree) (row : List Letter) (k : ℕ) (f : Front) (u : LieutenantTree) → IsCampaign t → k ≡ round_of row → 1 < k → IsFront t.generals t.commander (t.commander ∷ []) f → IsFilledBetween t row k (first_under t f k) (past_under t f k) u → (M : Messages) → IsFilled t M → IsFilled u (heard_also M row)
 all_walked t row k f u c ek more front told =

@@ -11,7 +11,7 @@ use Rattle.round.specs.Scenario.{Scenario, IsScenario}
 use Rattle.round.specs.Letters.{Letter, messages, told_by, letter_of}
 use Rattle.round.specs.Told.{IsTreeOf, AreDue, AreLettersOf, Heard, WasTold, told_now, heard_also, round_of, lieutenant_at}
 use Rattle.round.proofs.Delivering.{levels-same, heard_here, heard_other}
-use Rattle.round.proofs.EachTree.{AreChangedTo}
+use Rattle.round.specs.Delivery.{AreEach, AreOfCampaign, AreDueIn, IsTold}
 
 get-end : {A : Type 0} (xs : List A) (x d : A) → get_or (xs ++ x ∷ []) (length xs) d ≡ x
 get-end [] x d = refl
@@ -79,25 +79,29 @@ tree_more s before row g t u is h due same fill = record {
       heard_more before row w u.general (omega arith) (λ k l there. (due k l there).0));
 }
 
+round_is : (s : Scenario) (rounds : ℕ) (row : List Letter) → AreLettersOf s (suc rounds) row → (i : ℕ) (l : Letter) → slice_get row i ≡ Some l → round_of row ≡ suc rounds
+round_is s rounds [] due i l at = cc
+round_is s rounds (x ∷ row) due i l at = (due 0 x refl).0
+
 -- what a tree is due
 pub tree_due : (s : Scenario) (before : List (List Letter)) (row : List Letter) (g rounds : ℕ) (t : LieutenantTree) → IsTreeOf s before g t → AreLettersOf s (suc rounds) row → rounds ≤ s.bound → AreDue t row
 tree_due s before row g rounds t h due left = record {
   round = at_most row due;
   letters = λ i l at.
-      (due i l at).1 ∙ (λ j. record { generals = sym h.generals j; commander = sym h.commander j; general = l.general; round = sym (round_is row due i l at) j });
+      (due i l at).1 ∙ (λ j. record { generals = sym h.generals j; commander = sym h.commander j; general = l.general; round = sym (round_is s rounds row due i l at) j });
 }
   where
-    round_is : (row : List Letter) → AreLettersOf s (suc rounds) row → (i : ℕ) (l : Letter) → slice_get row i ≡ Some l → round_of row ≡ suc rounds
-    round_is [] due i l at = cc
-    round_is (x ∷ row) due i l at = (due 0 x refl).0
-
     at_most : (row : List Letter) → AreLettersOf s (suc rounds) row → round_of row < t.bound + 2
     at_most [] due = omega arith
     at_most (x ∷ row) due = (let e = (due 0 x refl).0 in let b = h.bound in omega arith)
 
-pub told_more : (s : Scenario) (before : List (List Letter)) (row : List Letter) (h : Heard) (trees : List LieutenantTree) (i : ℕ) → IsScenario s → WasTold s before h → AreLettersOf s (suc h.rounds) row → AreChangedTo h.trees (λ M. heard_also M row) i trees → length trees ≤ i →
+-- the letters
+pub letters_due : (s : Scenario) (rounds : ℕ) (row : List Letter) → AreLettersOf s (suc rounds) row → AreOfCampaign s.generals s.commander row
+letters_due s rounds row due = λ i l at. (due i l at).1 ∙ (λ j. record { generals = s.generals; commander = s.commander; general = l.general; round = sym (round_is s rounds row due i l at) j })
+
+pub told_more : (s : Scenario) (before : List (List Letter)) (row : List Letter) (h : Heard) (trees : List LieutenantTree) → IsScenario s → WasTold s before h → AreLettersOf s (suc h.rounds) row → AreEach (IsTold row) h.trees trees →
     WasTold s (before ++ row ∷ []) (record { rounds = h.rounds + 1; trees = trees })
-told_more s before row h trees i is told due filled all =
+told_more s before row h trees is told due filled =
     let due' : AreLettersOf s (suc (length before)) row = subst (λ (k : ℕ). AreLettersOf s (suc k) row) told.rounds due in
     record {
       rounds = (let e = told.rounds in let l = length-append before (row ∷ []) in omega arith);
@@ -106,8 +110,8 @@ told_more s before row h trees i is told due filled all =
           let inside : j < length trees = slice_get_within trees j u now in
           let less : j < length h.trees = let f = filled.count in omega arith in
           let was : slice_get h.trees j ≡ Some (get_or h.trees j u) = slice_get-get_or h.trees j u less in
-          let both = filled.done j (get_or h.trees j u) u (omega arith) was now in
-          tree_more s before row (lieutenant_at s.commander j) (get_or h.trees j u) u is (told.trees j (get_or h.trees j u) was) due' both.0 both.1;
+          let both = filled.each j (get_or h.trees j u) u was now in
+          tree_more s before row (lieutenant_at s.commander j) (get_or h.trees j u) u is (told.trees j (get_or h.trees j u) was) due' both.same both.filled;
     }
 
 -- nothing is told
@@ -180,11 +184,22 @@ place_within c i g n m within inside is count = by (nat_lt i c) refl is
     by true e h = (let l = ltb-true i c e in omega arith)
     by false e h = omega arith
 
--- a tree that is not filled yet is due the letters
-pub told_due : (s : Scenario) (before : List (List Letter)) (row : List Letter) (h : Heard) (trees : List LieutenantTree) (i : ℕ) (t : LieutenantTree) → WasTold s before h → AreChangedTo h.trees (λ M. heard_also M row) i trees → i < length trees → t ≡ get_or trees i t → AreLettersOf s (suc h.rounds) row → h.rounds ≤ s.bound → AreDue t row
-told_due s before row h trees i t told filled lt at due left =
-    let here : slice_get trees i ≡ Some t = slice_get_read trees (length trees) i t refl lt at in
-    tree_due s before row (lieutenant_at s.commander i) h.rounds t (told.trees i t (sym (filled.rest i (omega arith)) ∙ here)) due left
+-- the letters are due to the trees
+pub trees_due : (s : Scenario) (before : List (List Letter)) (row : List Letter) (h : Heard) → IsScenario s → WasTold s before h → AreLettersOf s (suc h.rounds) row → h.rounds ≤ s.bound → AreDueIn s.generals s.commander row h.trees
+trees_due s before row h is told due left j t at =
+    let o = told.trees j t at in
+    record {
+      kind = record {
+        few = rw o.generals is.few;
+        commander = rw (o.commander, o.generals) is.commander;
+        general = rw (o.general, o.generals) o.within;
+        lieutenant = rw (o.general, o.commander) o.lieutenant;
+        small = (let b = o.bound in let r = is.rounds in omega arith);
+      };
+      generals = o.generals;
+      commander = o.commander;
+      due = tree_due s before row (lieutenant_at s.commander j) h.rounds t o due left;
+    }
 
 -- as it is looked up
 pub looked_up : (s : Scenario) (before : List (List Letter)) (h now : Heard) (commander place from g : ℕ) (t : LieutenantTree) → IsScenario s → WasTold s before now → h ≡ now → commander ≡ s.commander → lieutenant_at commander place ≡ g → g < s.generals → from ≡ place → t ≡ get_or h.trees from t →

@@ -18,10 +18,13 @@ pub mod Delivering
 pub mod EachTree
 pub mod Walking
 pub mod Descending
+pub mod Striking
+pub mod Gathering
+pub mod Naming
+pub mod Together
 pub mod Filling
 pub mod Forgetting
 pub mod Values
-pub mod ToldRows
 pub mod Fitting
 pub mod Onwards
 pub mod Served

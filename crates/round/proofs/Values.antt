@@ -1,8 +1,8 @@
 -- The values that a lieutenant took are a level of his tree.
-use Rattle.std.proofs.Common.{◌≡◌, ◌≢◌, ℕ, zero, suc, ◌+◌, ◌-◌, ◌<◌, ◌≤◌, ◌^◌, List, [], ◌∷◌, length, map, All, subst, None, true, false, refl, sym, ap, ◌∙◌, Some, Option, arith, ⊎_elim, ◌⊎◌, inl, inr, get_or, Result, Ok, Err}
+use Rattle.std.proofs.Common.{◌≡◌, ◌≢◌, ℕ, zero, suc, ◌+◌, ◌-◌, ◌<◌, ◌≤◌, ◌^◌, List, [], ◌∷◌, length, map, take, All, subst, None, true, false, refl, sym, ap, ◌∙◌, Some, Option, arith, ⊎_elim, ◌⊎◌, inl, inr, get_or, Result, Ok, Err}
 use Rattle.std.specs.Prelude.{slice_get, IfOk, OnOk, Vec, ◌==◌}
 use Rattle.std.proofs.lemmas.Bool.Decides.{eqb_tells}
-use Rattle.std.proofs.lemmas.List.{length-map}
+use Rattle.std.proofs.lemmas.List.{length-map, length-take-le, take_all}
 use Rattle.std.proofs.lemmas.Option.{slice_get_within}
 use Rattle.label.specs.declared.shape.Shape.{Shape}
 use Rattle.label.specs.Labels.{labels}
@@ -18,6 +18,7 @@ use Rattle.round.specs.Told.{IsTreeOf, Heard, WasTold, lieutenant_at}
 use Rattle.round.proofs.Telling.{few_labels}
 use Rattle.round.proofs.Delivering.{same_map}
 use Rattle.round.proofs.Filling.{own_tree}
+use Rattle.round.proofs.Fronts.{messages-front}
 
 map_twice : {B C : Type 0} (F : B → C) (G : List ℕ → B) (ws : List (List ℕ)) → map (λ w. F (G w)) ws ≡ map F (map G ws)
 map_twice F G [] = refl
@@ -42,17 +43,36 @@ values_level s before g k commander general ne some =
     (λ i w at. heard_taken (messages before) s.order g w (let e = (proved_labels_are_exact.only s.generals s.commander g k i w commander general ne at).2 in omega arith))
     ∙ map_twice order_of (λ w. messages before w g) (labels s.generals s.commander g k))
 
+-- of the labels of a length only so many rounds tell
+level_front : (s : Scenario) (before : List (List Letter)) (g k : ℕ) → s.commander < s.generals → g < s.generals → g ≢ s.commander → 0 < k →
+    level_told s.generals s.commander g (messages before) k ≡ level_told s.generals s.commander g (messages (take k before)) k
+level_front s before g k commander general ne some =
+    same_map (λ w. messages before w g) (λ w. messages (take k before) w g) (labels s.generals s.commander g k)
+    (λ i w at. by w ((proved_labels_are_exact.only s.generals s.commander g k i w commander general ne at).2))
+  where
+    by : (w : List ℕ) → length w ≡ k → messages before w g ≡ messages (take k before) w g
+    by [] e = absurd (omega arith)
+    by (x ∷ w) e = sym (messages-front before k x w g (omega arith))
+
+-- the level of a length is what so many rounds told
+own_level : (s : Scenario) (before : List (List Letter)) (g k : ℕ) (t : LieutenantTree) (level : List (Option ℕ)) → IsScenario s → IsTreeOf s before g t → 0 < k →
+    ((M : Messages) → IsFilled t M → level ≡ level_told t.generals t.commander t.general M k) → level ≡ level_told s.generals s.commander g (messages (take k before)) k
+own_level s before g k t level is h some told =
+    told (messages before) h.filled
+    ∙ ((λ i. level_told (h.generals i) (h.commander i) (h.general i) (messages before) k) ∙ level_front s before g k is.commander h.within h.lieutenant some)
+
 -- the numbers of a later context, from the tree's level
-pub later_is : (s : Scenario) (before : List (List Letter)) (g k bound : ℕ) (t : LieutenantTree) (shape : Shape) (level : List (Option ℕ)) → IsScenario s → IsTreeOf s before g t → k ≡ length before → 0 < k → shape ≡ shape_of s g (k + 1) → bound ≡ s.bound →
-    ((M : Messages) → IsFilled t M → level ≡ level_told t.generals t.commander t.general M k) → context_bytes (context_numbers shape bound (map order_of level)) ≡ context_of s before g
-later_is s before g k bound t shape level is h ek some es eb told =
-    let round : k + 1 ≡ suc (length before) = omega arith in
-    let size : suc k ≡ suc (length before) = omega arith in
-    let own : level ≡ level_told s.generals s.commander g (messages before) k =
-    told (messages before) h.filled ∙ (λ i. level_told (h.generals i) (h.commander i) (h.general i) (messages before) k) in
-    let values : map order_of level ≡ map (value_of s before g) (relay (shape_of s g (suc (length before)))) =
-    ap (map order_of) own ∙ (sym (values_level s before g k is.commander h.within h.lieutenant some) ∙ ap (λ (j : ℕ). map (value_of s before g) (relay (shape_of s g j))) size) in
-    let there : shape ≡ shape_of s g (suc (length before)) = es ∙ ap (λ (j : ℕ). shape_of s g j) round in
+later_is : (s : Scenario) (before : List (List Letter)) (g k bound : ℕ) (t : LieutenantTree) (shape : Shape) (level : List (Option ℕ)) → IsScenario s → IsTreeOf s before g t → k ≤ length before → 0 < k → shape ≡ shape_of s g (k + 1) → bound ≡ s.bound →
+    ((M : Messages) → IsFilled t M → level ≡ level_told t.generals t.commander t.general M k) → context_bytes (context_numbers shape bound (map order_of level)) ≡ context_of s (take k before) g
+later_is s before g k bound t shape level is h le some es eb told =
+    let front : List (List Letter) = take k before in
+    let long : length front ≡ k = length-take-le k before le in
+    let round : k + 1 ≡ suc (length front) = omega arith in
+    let size : suc k ≡ suc (length front) = omega arith in
+    let own : level ≡ level_told s.generals s.commander g (messages front) k = own_level s before g k t level is h some told in
+    let values : map order_of level ≡ map (value_of s front g) (relay (shape_of s g (suc (length front)))) =
+    ap (map order_of) own ∙ (sym (values_level s front g k is.commander h.within h.lieutenant some) ∙ ap (λ (j : ℕ). map (value_of s front g) (relay (shape_of s g j))) size) in
+    let there : shape ≡ shape_of s g (suc (length front)) = es ∙ ap (λ (j : ℕ). shape_of s g j) round in
     (λ i. context_bytes (context_numbers (there i) (eb i) (values i)))
 
 pub few_values : (s : Scenario) (before : List (List Letter)) (g k : ℕ) (t : LieutenantTree) (level : List (Option ℕ)) → IsScenario s → IsTreeOf s before g t → k ≤ s.bound → length level ≡ length (labels t.generals t.commander t.general k) → length level ≤ 1000
@@ -86,30 +106,28 @@ first_is s before g k bound shape ek es eb first other =
     sym (ap (map (value_of s before g)) (ap (λ (j : ℕ). relay (shape_of s g j)) (sym size) ∙ none)) in
     (λ i. context_bytes (context_numbers (there i) (eb i) (values i)))
 
-nothing_before : (before : List (List Letter)) → length before ≡ 0 → before ≡ []
-nothing_before [] e = refl
-nothing_before (x ∷ before) e = cc
-
 -- in the first round
-pub first_told : {E : Type 0} (r : Result (Vec ℕ Global) E) (s : Scenario) (h : Heard) (g : ℕ) → h.rounds ≡ 0 → IfOk r (λ v. v.items ≡ context_of s [] g) →
-    IfOk r (λ v. (before : List (List Letter)) → WasTold s before h → v.items ≡ context_of s before g)
-first_told (Ok v) s h g none is = λ before told. is ∙ ap (λ (b : List (List Letter)). context_of s b g) (sym (nothing_before before (sym told.rounds ∙ none)))
-first_told (Err e) s h g none is = tt
+pub first_told : {E : Type 0} (r : Result (Vec ℕ Global) E) (s : Scenario) (h : Heard) (g k : ℕ) → k ≡ 0 → IfOk r (λ v. v.items ≡ context_of s [] g) →
+    IfOk r (λ v. (before : List (List Letter)) → WasTold s before h → v.items ≡ context_of s (take k before) g)
+first_told (Ok v) s h g k none is = λ before told. is ∙ ap (λ (j : ℕ). context_of s (take j before) g) (sym none)
+first_told (Err e) s h g k none is = tt
 
 -- the commander later on
-pub commander_told : {E : Type 0} (r : Result (Vec ℕ Global) E) (s : Scenario) (h : Heard) (g bound k : ℕ) (shape : Shape) → k ≡ h.rounds → (k ≡ 0 → ⊥) → g ≡ s.commander → shape ≡ shape_of s g (k + 1) → bound ≡ s.bound →
-    IfOk r (λ v. v.items ≡ context_bytes (context_numbers shape bound [])) → IfOk r (λ v. (before : List (List Letter)) → WasTold s before h → v.items ≡ context_of s before g)
-commander_told (Ok v) s h g bound k shape ek some eg es eb is =
-    λ before told. is ∙ first_is s before g k bound shape (ek ∙ told.rounds) es eb (λ ne. absurd (ne eg)) (inl (ap (λ (x : Shape). x.general) es ∙ (eg ∙ sym (ap (λ (x : Shape). x.commander) es)), λ e. some (omega arith)))
-commander_told (Err e) s h g bound k shape ek some eg es eb is = tt
+pub commander_told : {E : Type 0} (r : Result (Vec ℕ Global) E) (s : Scenario) (h : Heard) (g bound k : ℕ) (shape : Shape) → k ≤ h.rounds → (k ≡ 0 → ⊥) → g ≡ s.commander → shape ≡ shape_of s g (k + 1) → bound ≡ s.bound →
+    IfOk r (λ v. v.items ≡ context_bytes (context_numbers shape bound [])) → IfOk r (λ v. (before : List (List Letter)) → WasTold s before h → v.items ≡ context_of s (take k before) g)
+commander_told (Ok v) s h g bound k shape le some eg es eb is =
+    λ before told.
+    let long : length (take k before) ≡ k = length-take-le k before (let e = told.rounds in omega arith) in
+    is ∙ first_is s (take k before) g k bound shape (sym long) es eb (λ ne. absurd (ne eg)) (inl (ap (λ (x : Shape). x.general) es ∙ (eg ∙ sym (ap (λ (x : Shape). x.commander) es)), λ e. some (omega arith)))
+commander_told (Err e) s h g bound k shape le some eg es eb is = tt
 
 -- a lieutenant later on
-pub later_told : {E : Type 0} (r : Result (Vec ℕ Global) E) (s : Scenario) (h : Heard) (g bound k i : ℕ) (t : LieutenantTree) (shape : Shape) (level : List (Option ℕ)) → IsScenario s → k ≡ h.rounds → (k ≡ 0 → ⊥) → lieutenant_at s.commander i ≡ g → i < length h.trees → t ≡ get_or h.trees i t →
+pub later_told : {E : Type 0} (r : Result (Vec ℕ Global) E) (s : Scenario) (h : Heard) (g bound k i : ℕ) (t : LieutenantTree) (shape : Shape) (level : List (Option ℕ)) → IsScenario s → k ≤ h.rounds → (k ≡ 0 → ⊥) → lieutenant_at s.commander i ≡ g → i < length h.trees → t ≡ get_or h.trees i t →
     shape ≡ shape_of s g (k + 1) → bound ≡ s.bound → ((M : Messages) → IsFilled t M → level ≡ level_told t.generals t.commander t.general M k) →
-    IfOk r (λ v. v.items ≡ context_bytes (context_numbers shape bound (map order_of level))) → IfOk r (λ v. (before : List (List Letter)) → WasTold s before h → v.items ≡ context_of s before g)
-later_told (Ok v) s h g bound k i t shape level is ek some there lt at es eb told_level bytes =
-    λ before told. bytes ∙ later_is s before g k bound t shape level is (own_tree s before h i g t told lt at there) (ek ∙ told.rounds) (omega arith) es eb told_level
-later_told (Err e) s h g bound k i t shape level is ek some there lt at es eb told_level bytes = tt
+    IfOk r (λ v. v.items ≡ context_bytes (context_numbers shape bound (map order_of level))) → IfOk r (λ v. (before : List (List Letter)) → WasTold s before h → v.items ≡ context_of s (take k before) g)
+later_told (Ok v) s h g bound k i t shape level is le some there lt at es eb told_level bytes =
+    λ before told. bytes ∙ later_is s before g k bound t shape level is (own_tree s before h i g t told lt at there) (let e = told.rounds in omega arith) (omega arith) es eb told_level
+later_told (Err e) s h g bound k i t shape level is le some there lt at es eb told_level bytes = tt
 
 -- a lieutenant in the first round
 pub opening_told : {E : Type 0} (r : Result (Vec ℕ Global) E) (s : Scenario) (g bound : ℕ) (shape : Shape) → g ≢ s.commander → shape ≡ shape_of s g 1 → bound ≡ s.bound →
@@ -124,21 +142,22 @@ get_map F (x ∷ ws) zero w d e = (let same : x ≡ w = cc in ap F same)
 get_map F (x ∷ ws) (suc i) w d e = get_map F ws i w d e
 
 -- what the level of a lieutenant's tree has are words
-pub words_told : (s : Scenario) (before : List (List Letter)) (h : Heard) (g k i : ℕ) (t : LieutenantTree) (level : List (Option ℕ)) → IsScenario s → WasTold s before h → k ≡ h.rounds → (k ≡ 0 → ⊥) → lieutenant_at s.commander i ≡ g → i < length h.trees → t ≡ get_or h.trees i t →
-    ((M : Messages) → IsFilled t M → level ≡ level_told t.generals t.commander t.general M k) → All (λ v. order_of v < 2 ^ 32) level → AreWords s before g
-words_told s before h g k i t level is told ek some there lt at told_level small rank u place =
+pub words_told : (s : Scenario) (before : List (List Letter)) (h : Heard) (g k i : ℕ) (t : LieutenantTree) (level : List (Option ℕ)) → IsScenario s → WasTold s before h → k ≤ h.rounds → (k ≡ 0 → ⊥) → lieutenant_at s.commander i ≡ g → i < length h.trees → t ≡ get_or h.trees i t →
+    ((M : Messages) → IsFilled t M → level ≡ level_told t.generals t.commander t.general M k) → All (λ v. order_of v < 2 ^ 32) level → AreWords s (take k before) g
+words_told s before h g k i t level is told le some there lt at told_level small rank u place =
+    let front : List (List Letter) = take k before in
     let tree = own_tree s before h i g t told lt at there in
-    let round : suc k ≡ suc (length before) = ap suc (ek ∙ told.rounds) in
-    let own : level ≡ level_told s.generals s.commander g (messages before) k =
-    told_level (messages before) tree.filled ∙ (λ j. level_told (tree.generals j) (tree.commander j) (tree.general j) (messages before) k) in
+    let long_front : length front ≡ k = length-take-le k before (let e = told.rounds in omega arith) in
+    let round : suc k ≡ suc (length front) = ap suc (sym long_front) in
+    let own : level ≡ level_told s.generals s.commander g (messages front) k = own_level s before g k t level is tree (omega arith) told_level in
     let here : slice_get (labels s.generals s.commander g k) rank ≡ Some u =
     ap (λ (ws : List (List ℕ)). slice_get ws rank) (sym (relay_lieutenant s g k tree.lieutenant) ∙ ap (λ (j : ℕ). relay (shape_of s g j)) round) ∙ place in
     let inside : rank < length (labels s.generals s.commander g k) = slice_get_within (labels s.generals s.commander g k) rank u here in
-    let value : get_or level rank None ≡ messages before u g = ap (λ (l : List (Option ℕ)). get_or l rank None) own ∙ get_map (λ w. messages before w g) (labels s.generals s.commander g k) rank u None here in
-    let long : length level ≡ length (labels s.generals s.commander g k) = ap length own ∙ length-map (labels s.generals s.commander g k) (λ w. messages before w g) in
+    let value : get_or level rank None ≡ messages front u g = ap (λ (l : List (Option ℕ)). get_or l rank None) own ∙ get_map (λ w. messages front w g) (labels s.generals s.commander g k) rank u None here in
+    let long : length level ≡ length (labels s.generals s.commander g k) = ap length own ∙ length-map (labels s.generals s.commander g k) (λ w. messages front w g) in
     let few = small rank None (omega arith) in
     let size = (proved_labels_are_exact.only s.generals s.commander g k rank u is.commander tree.within tree.lieutenant here).2 in
-    let heard_is : value_of s before g u ≡ order_of (messages before u g) = heard_taken (messages before) s.order g u (omega arith) in
+    let heard_is : value_of s front g u ≡ order_of (messages front u g) = heard_taken (messages front) s.order g u (omega arith) in
     (let P : ℕ → Type 0 = λ n. n < 2 ^ 32 in subst P (sym (heard_is ∙ ap order_of (sym value))) few)
 
 no_labels : (n c p : ℕ) → labels n c p 0 ≡ []
@@ -157,8 +176,8 @@ only_empty zero u e = cc
 only_empty (suc rank) u e = cc
 
 -- in the first round the commander has his order, and the others nothing; later the commander has nothing
-pub words_first : (s : Scenario) (before : List (List Letter)) (h : Heard) (g : ℕ) → IsScenario s → WasTold s before h → ((h.rounds ≡ 0) ⊎ (g ≡ s.commander)) → AreWords s before g
-words_first s before h g is told first rank u place = ⊎_elim
+pub words_first : (s : Scenario) (before : List (List Letter)) (g : ℕ) → IsScenario s → ((length before ≡ 0) ⊎ (g ≡ s.commander)) → AreWords s before g
+words_first s before g is first rank u place = ⊎_elim
     (λ (q : (g == s.commander ≡ true) × (g ≡ s.commander)). ⊎_elim
     (λ (r : (suc (length before) == 1 ≡ true) × (suc (length before) ≡ 1)).
     let only : relay (shape_of s g (suc (length before))) ≡ [] ∷ [] = rw (q.0, r.0) refl in
@@ -168,7 +187,7 @@ words_first s before h g is told first rank u place = ⊎_elim
     absurd (none_there (relay (shape_of s g (suc (length before)))) rank u (rw (q.0, r.0) refl) place))
     (eqb_tells (suc (length before)) 1))
     (λ (q : (g == s.commander ≡ false) × (g ≢ s.commander)).
-    let none : length before ≡ 0 = ⊎_elim (λ (z : h.rounds ≡ 0). sym told.rounds ∙ z) (λ (z : g ≡ s.commander). absurd (q.1 z)) first in
+    let none : length before ≡ 0 = ⊎_elim (λ (z : length before ≡ 0). z) (λ (z : g ≡ s.commander). absurd (q.1 z)) first in
     absurd (none_there (relay (shape_of s g (suc (length before)))) rank u (relay_lieutenant s g (length before) q.1 ∙ (ap (labels s.generals s.commander g) none ∙ no_labels s.generals s.commander g)) place))
     (eqb_tells g s.commander)
 
@@ -180,3 +199,17 @@ on_ok (Err e) P Q f h = tt
 pub always_ok : {A E : Type 0} (r : Result A E) (Q : Type 0) → Q → OnOk r Q
 always_ok (Ok a) Q h = h
 always_ok (Err e) Q h = tt
+
+-- as many rounds as were told are all
+all_of : (s : Scenario) (before : List (List Letter)) (h : Heard) (k : ℕ) → k ≡ h.rounds → WasTold s before h → take k before ≡ before
+all_of s before h k e told = take_all k before (let r = told.rounds in omega arith)
+
+pub all_told : {E : Type 0} (r : Result (Vec ℕ Global) E) (s : Scenario) (h : Heard) (g k : ℕ) → k ≡ h.rounds → IfOk r (λ v. (before : List (List Letter)) → WasTold s before h → v.items ≡ context_of s (take k before) g) →
+    IfOk r (λ v. (before : List (List Letter)) → WasTold s before h → v.items ≡ context_of s before g)
+all_told (Ok v) s h g k e is = λ before told. is before told ∙ ap (λ (b : List (List Letter)). context_of s b g) (all_of s before h k e told)
+all_told (Err x) s h g k e is = tt
+
+pub all_words : {E : Type 0} (r : Result (Vec ℕ Global) E) (s : Scenario) (h : Heard) (g k : ℕ) → k ≡ h.rounds → OnOk r ((before : List (List Letter)) → WasTold s before h → AreWords s (take k before) g) →
+    OnOk r ((before : List (List Letter)) → WasTold s before h → AreWords s before g)
+all_words (Ok v) s h g k e are = λ before told. (let P : List (List Letter) → Type 0 = λ b. AreWords s b g in subst P (all_of s before h k e told) (are before told))
+all_words (Err x) s h g k e are = tt

@@ -1,13 +1,15 @@
 -- Letters by their generals, and what of a round has been told (own).
-use Rattle.std.specs.Prelude.{ℕ, suc, ◌-◌, ◌*◌, ◌<◌, ◌≡◌, false, List, length, slice_index, slice_get, Option, None, Some}
-use Rattle.label.specs.Labels.{on, labels}
+use Rattle.std.specs.Prelude.{ℕ, suc, ◌-◌, ◌*◌, ◌<◌, ◌≤◌, ◌≡◌, true, false, List, length, take, slice_index, slice_index_or, slice_get, Option, None, Some}
+use Rattle.label.specs.Labels.{on, others, labels}
 use Rattle.label.specs.Oral.{Messages}
-use Rattle.tree.specs.LieutenantTree.{LieutenantTree, IsFilled, SameCampaign}
+use Rattle.tree.specs.LieutenantTree.{LieutenantTree, IsCampaign, IsFilled, SameCampaign}
 use Rattle.outbox.specs.Contents.{order_at}
+use Rattle.outbox.specs.Rows.{order_of_row}
 use Rattle.round.specs.Letters.{Letter, letter_of}
-use Rattle.round.specs.Told.{AreDue, told_now, round_of}
+use Rattle.round.specs.Told.{AreDue, told_now, heard_also, round_of}
 use Rattle.round.specs.Fronts.{IsFront, under}
 use Rattle.round.specs.declared.front.Front.{Front}
+use Rattle.round.specs.declared.tellers.Tellers.{Tellers}
 
 -- for each general the place of his letter, or past the last
 abbrev pub ArePlaces : List Letter → List ℕ → Type 0
@@ -30,6 +32,63 @@ pub record IsFilledBetween (t : LieutenantTree) (row : List Letter) (k i j : ℕ
   pub same : SameCampaign t u
   pub partly : (M : Messages) → IsPartly M row t.generals t.commander t.general k i t → IsPartly M row t.generals t.commander t.general k j u
 
+-- the first rank of the labels of a length that begin with this one, and the rank past them
+abbrev pub first_under : LieutenantTree → Front → ℕ → ℕ
+first_under t f k = slice_index f.ranks t.general * under t.generals f.size (k - f.size)
+
+abbrev pub past_under : LieutenantTree → Front → ℕ → ℕ
+past_under t f k = suc (slice_index f.ranks t.general) * under t.generals f.size (k - f.size)
+
+-- lists of one length, of which those that stand at one place are so
+pub record AreEach (Are : LieutenantTree → LieutenantTree → Type 0) (old new : List LieutenantTree) : Type 0 where
+  pub count : length new ≡ length old
+  pub each : (j : ℕ) (t u : LieutenantTree) → slice_get old j ≡ Some t → slice_get new j ≡ Some u → Are t u
+
+-- the tree is told the letters
+pub record IsTold (row : List Letter) (t u : LieutenantTree) : Type 0 where
+  pub same : SameCampaign t u
+  pub filled : (M : Messages) → IsFilled t M → IsFilled u (heard_also M row)
+
+-- the letters are of one round of the campaign of so many generals under this commander
+abbrev pub AreOfCampaign : ℕ → ℕ → List Letter → Type 0
+AreOfCampaign n c row = (i : ℕ) (l : Letter) → slice_get row i ≡ Some l → l.outbox.shape ≡ record { generals = n; commander = c; general = l.general; round = round_of row }
+
+-- the trees are of that campaign, and the letters are due to them
+pub record IsDueIn (n c : ℕ) (row : List Letter) (t : LieutenantTree) : Type 0 where
+  pub kind : IsCampaign t
+  pub generals : t.generals ≡ n
+  pub commander : t.commander ≡ c
+  pub due : AreDue t row
+
+abbrev pub AreDueIn : ℕ → ℕ → List Letter → List LieutenantTree → Type 0
+AreDueIn n c row trees = (j : ℕ) (t : LieutenantTree) → slice_get trees j ≡ Some t → IsDueIn n c row t
+
+-- a label that is shorter than those of the round of these letters
+pub record IsRoute (n : ℕ) (row : List Letter) (places : List ℕ) (k : ℕ) (f : Front) (trees : List LieutenantTree) : Type 0 where
+  pub few : n ≤ 13
+  pub size : k ≡ round_of row
+  pub small : k ≤ 5
+  pub posted : ArePlaces row places
+  pub short : f.size < k
+  pub c : ℕ
+  pub w : List ℕ
+  pub inside : c < n
+  pub front : IsFront n c w f
+  pub due : AreDueIn n c row trees
+
+-- of those who are off a label the ones below x, each with the label's row in his letter
+pub record AreTellers (row : List Letter) (n : ℕ) (f : Front) (x : ℕ) (t : Tellers) : Type 0 where
+  pub long : length t.generals ≡ 13
+  pub wide : length t.rows ≡ 13
+  pub few : t.count ≤ x
+  pub names : (c : ℕ) (w : List ℕ) → IsFront n c w f → take t.count t.generals ≡ others x w
+  pub rows : (i p : ℕ) → i < t.count → order_of_row (slice_index_or t.rows i None) p ≡ order_in_letter (letter_of row (slice_index t.generals i)) (slice_index f.ranks (slice_index t.generals i)) p
+
+-- what was told of the labels that begin with this one: nothing where the tree's lieutenant stands on it
+pub record IsToldUnder (row : List Letter) (k : ℕ) (f : Front) (t u : LieutenantTree) : Type 0 where
+  pub on : slice_index_or f.on t.general false ≡ true → u ≡ t
+  pub off : slice_index_or f.on t.general false ≡ false → IsFilledBetween t row k (first_under t f k) (past_under t f k) u
+
 -- a shorter label that lacks the tree's lieutenant, in the round of these letters
 pub record IsWalk (t : LieutenantTree) (row : List Letter) (places : List ℕ) (k : ℕ) (f : Front) : Type 0 where
   pub due : AreDue t row
@@ -39,10 +98,3 @@ pub record IsWalk (t : LieutenantTree) (row : List Letter) (places : List ℕ) (
   pub w : List ℕ
   pub front : IsFront t.generals t.commander w f
   pub off : on w t.general ≡ false
-
--- the first rank of the labels of a length that begin with this one, and the rank past them
-abbrev pub first_under : LieutenantTree → Front → ℕ → ℕ
-first_under t f k = slice_index f.ranks t.general * under t.generals f.size (k - f.size)
-
-abbrev pub past_under : LieutenantTree → Front → ℕ → ℕ
-past_under t f k = suc (slice_index f.ranks t.general) * under t.generals f.size (k - f.size)

@@ -1,13 +1,15 @@
-//! What the letters of a round add to a tree.
-ghost use Rattle.std.specs.Prelude.{◌≡◌, ◌<◌, ◌+◌, not, ◌||◌, ◌==◌, false, cond, nat_lt, length, slice_get, slice_index_or};
+//! What the letters of a round add to the lieutenants' trees.
+ghost use Rattle.std.specs.Prelude.{◌≡◌, ◌<◌, ◌≤◌, ◌+◌, ℕ, length, slice_get, slice_index};
 ghost use Rattle.label.specs.Oral.{Messages};
 ghost use Rattle.tree.specs.LieutenantTree.{IsFilled, SameCampaign};
 ghost use Rattle.round.specs.Letters.{letter_of};
-ghost use Rattle.round.specs.Told.{AreDue, heard_also};
-ghost use Rattle.round.specs.Delivery.{ArePlaces, IsFilledBetween, IsWalk, first_under, order_in_letter, past_under};
+ghost use Rattle.round.specs.Told.{AreDue, heard_also, round_of};
+ghost use Rattle.round.specs.Delivery.{AreDueIn, AreEach, AreOfCampaign, ArePlaces, IsRoute, IsTold, IsToldUnder};
 
 use crate::front::Front;
 use crate::letter::Letter;
+use crate::tellers::{Tellers, order_of, row_in};
+use std::slice;
 use tree::Tree;
 
 /// Fills in what the letters of one round tell the tree's lieutenant: for each label of the round, what the
@@ -18,6 +20,22 @@ pub fn deliver(letters: &[Letter], tree: &mut Tree)
     ensures same { SameCampaign tree.old tree.new }
 {
     let space = tree.space();
+    deliver_to_all(
+        letters,
+        space.generals,
+        space.commander,
+        slice::from_mut(tree),
+    );
+}
+
+/// Fills in each tree of the campaign of so many generals under this commander.
+pub(crate) fn deliver_to_all(letters: &[Letter], generals: u8, commander: u8, trees: &mut [Tree])
+    requires few { generals ≤ 13 }
+    requires commander { commander < generals }
+    requires letters { AreOfCampaign generals commander letters.now }
+    requires trees { AreDueIn generals commander letters.now trees.old }
+    ensures { AreEach (IsTold letters.now) trees.old trees.new }
+{
     if letters.is_empty() {
         return;
     }
@@ -25,86 +43,74 @@ pub fn deliver(letters: &[Letter], tree: &mut Tree)
     let size = first.outbox.shape().round as u8;
     let places = places_of(letters);
     if size == 1 {
-        let value = told(letters, &places, space.commander, 0, space.general);
-        tree.set(1, 0, value);
+        tell_first(letters, &places, commander, trees);
         return;
     }
-    descend(letters, &places, size, tree, &Front::of(space.commander));
+    let front = Front::of(commander);
+    descend(letters, &places, size, generals, trees, &front);
+}
+
+/// Fills in what the commander's letter tells of the first label.
+fn tell_first(letters: &[Letter], places: &[usize; 13], commander: u8, trees: &mut [Tree])
+    requires round { round_of letters.now ≡ 1 }
+    requires places { ArePlaces letters.now places.now }
+    requires trees { (generals : ℕ) × AreDueIn generals commander letters.now trees.old }
+    requires commander { commander < 13 }
+    ensures { AreEach (IsTold letters.now) trees.old trees.new }
+{
+    let row = row_in(letters, places, commander, 0);
+    for place in 0..trees.len() {
+        let tree = &mut trees[place];
+        let receiver = tree.space().general;
+        tree.set(1, 0, order_of(row, receiver));
+    }
 }
 
 /// Fills in what the letters tell of all labels of the round's length that begin with this one, which is shorter.
-fn descend(letters: &[Letter], places: &[usize; 13], size: u8, tree: &mut Tree, front: &Front)
-    requires { IsWalk tree.old letters.now places.now size front.now }
-    ensures { IsFilledBetween tree.old letters.now size (first_under tree.old front.now size) (past_under tree.old front.now size) tree.new }
+fn descend(
+    letters: &[Letter],
+    places: &[usize; 13],
+    size: u8,
+    generals: u8,
+    trees: &mut [Tree],
+    front: &Front,
+)
+    requires { IsRoute generals letters.now places.now size front.now trees.old }
+    ensures { AreEach (IsToldUnder letters.now size front.now) trees.old trees.new }
 {
     if front.size + 1 == size {
-        tell_children(letters, places, size, tree, front);
+        tell_children(letters, places, size, generals, trees, front);
         return;
     }
-    let space = tree.space();
-    let mut place: u32 = 0;
-    for general in 0..space.generals {
-        if is_off(front, space.general, general) {
-            let below = with_receiver(place, space.general, general);
-            let longer = front.with(space.generals, general, below);
-            descend(letters, places, size, tree, &longer);
-            place += 1;
+    let mut below: u32 = 0;
+    for general in 0..generals {
+        if !front.on[usize::from(general)] {
+            let longer = front.with(generals, general, below);
+            descend(letters, places, size, generals, trees, &longer);
+            below += 1;
         }
     }
 }
 
 /// Fills in what the letters tell of the labels that have one general more than this one.
-fn tell_children(letters: &[Letter], places: &[usize; 13], size: u8, tree: &mut Tree, front: &Front)
-    requires walk { IsWalk tree.old letters.now places.now size front.now }
-    requires last { front.now.size + 1 ≡ size }
-    ensures { IsFilledBetween tree.old letters.now size (first_under tree.old front.now size) (past_under tree.old front.now size) tree.new }
-{
-    let space = tree.space();
-    let count = u32::from(space.generals);
-    let width = count.saturating_sub(u32::from(size));
-    let first = front.ranks[usize::from(space.general)] * width;
-    let mut place: u32 = 0;
-    for general in 0..space.generals {
-        if is_off(front, space.general, general) {
-            let rank = front.ranks[usize::from(general)];
-            let value = told(letters, places, general, rank, space.general);
-            tree.set(size, first + place, value);
-            place += 1;
-        }
-    }
-}
-
-/// Whether the general stands neither on the label nor is its receiver.
-fn is_off(front: &Front, receiver: u8, general: u8) -> bool
-    requires general { general < 13 }
-    requires wide { length front.now.on ≡ 13 }
-    ensures { result ≡ not (receiver == general || slice_index_or front.now.on general false) }
-{
-    !(receiver == general || front.on[usize::from(general)])
-}
-
-/// How many generals off the label are below this one: so many and, where he is, the receiver.
-fn with_receiver(place: u32, receiver: u8, general: u8) -> u32
-    requires { place < 13 }
-    ensures { result ≡ place + cond (nat_lt receiver general) 1 0 }
-{
-    place + u32::from(receiver < general)
-}
-
-/// What the letter of a general tells a receiver of the label of that rank among those that the general relays.
-fn told(
+fn tell_children(
     letters: &[Letter],
     places: &[usize; 13],
-    general: u8,
-    rank: u32,
-    receiver: u8,
-) -> Option<u32>
-    requires { general < 13 }
-    ensures { ArePlaces letters.now places.now → result ≡ order_in_letter (letter_of letters.now general) rank receiver }
+    size: u8,
+    generals: u8,
+    trees: &mut [Tree],
+    front: &Front,
+)
+    requires route { IsRoute generals letters.now places.now size front.now trees.old }
+    requires last { front.now.size + 1 ≡ size }
+    ensures { AreEach (IsToldUnder letters.now size front.now) trees.old trees.new }
 {
-    match letters.get(places[usize::from(general)]) {
-        Some(letter) => letter.outbox.get(rank, u32::from(receiver)),
-        None => None,
+    let tellers = Tellers::of(letters, places, generals, front);
+    for place in 0..trees.len() {
+        let receiver = trees[place].space().general;
+        if !front.on[usize::from(receiver)] {
+            tellers.tell(size, &mut trees[place], front);
+        }
     }
 }
 

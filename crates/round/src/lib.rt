@@ -16,6 +16,7 @@ mod scenario;
 mod seat;
 mod seats;
 mod server;
+mod tellers;
 mod told;
 mod turns;
 mod words;

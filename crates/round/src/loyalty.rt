@@ -54,9 +54,7 @@ fn faithful(alloc: Global, shape: Shape, context: &[u8]) -> Result<Outbox, Alloc
     ensures { IfOk result (λ outbox. outbox ≡ outbox_told shape context.now) }
 {
     let mut outbox = Outbox::new(alloc, shape)?;
-    for receiver in 0..shape.generals {
-        let _set = outbox.honest(context, receiver);
-    }
+    outbox.honest_to_all(context);
     Ok(outbox)
 }
 

@@ -1,10 +1,10 @@
-ghost use Rattle.std.specs.Prelude.{◌≡◌, ◌≢◌, ◌<◌, ◌≤◌, ◌++◌, ◌∷◌, [], suc, List, IfOk, OnOk, length};
+ghost use Rattle.std.specs.Prelude.{◌≡◌, ◌≢◌, ◌<◌, ◌≤◌, ◌++◌, ◌∷◌, [], suc, List, IfOk, OnOk, length, take};
 ghost use Rattle.round.specs.Letters.{Letter as Written};
 ghost use Rattle.round.specs.Contexts.{context_of, AreWords};
 ghost use Rattle.round.specs.Told.{WasTold, AreLettersOf, AreRoundsOf, lieutenant_at};
 
 use crate::context::context_with;
-use crate::delivery::deliver;
+use crate::delivery::deliver_to_all;
 use crate::letter::Letter;
 use crate::round::Round;
 use crate::scenario::Scenario;
@@ -70,9 +70,12 @@ impl Told {
         ensures { (before : List (List Written)) → WasTold scenario.now before self.old → WasTold scenario.now (before ++ row.now ∷ []) self.new }
     {
         let _bound = scenario.bound();
-        for place in 0..self.trees.len() {
-            deliver(row, &mut self.trees[place]);
-        }
+        deliver_to_all(
+            row,
+            scenario.generals(),
+            scenario.commander(),
+            self.trees.as_mut_slice(),
+        );
         self.rounds += 1;
     }
 
@@ -105,17 +108,40 @@ impl Told {
         ensures context { IfOk result (λ bytes. (before : List (List Written)) → WasTold scenario.now before self.now → bytes.items ≡ context_of scenario.now before general) }
         ensures words { OnOk result ((before : List (List Written)) → WasTold scenario.now before self.now → AreWords scenario.now before general) }
     {
+        self.context_after(alloc, scenario, general, self.rounds)
+    }
+
+    /// What a general was told as the round behind the first so many began. The rounds told since change nothing of it:
+    /// it tells of the labels of one length alone, and each round fills in labels of its own length.
+    ///
+    /// # Errors
+    ///
+    /// `AllocError` where the memory for the 4,096 bytes is refused.
+    pub fn context_after(
+        &self,
+        alloc: Global,
+        scenario: &Scenario,
+        general: u8,
+        rounds: u8,
+    ) -> Result<Vec<u8>, AllocError>
+        requires told { (before : List (List Written)) × WasTold scenario.now before self.now }
+        requires passed { rounds ≤ self.now.rounds }
+        requires left { rounds ≤ scenario.now.bound }
+        requires general { general < scenario.now.generals }
+        ensures context { IfOk result (λ bytes. (before : List (List Written)) → WasTold scenario.now before self.now → bytes.items ≡ context_of scenario.now (take rounds before) general) }
+        ensures words { OnOk result ((before : List (List Written)) → WasTold scenario.now before self.now → AreWords scenario.now (take rounds before) general) }
+    {
         let bound = scenario.bound();
-        if self.rounds == 0 {
+        if rounds == 0 {
             return first_context(alloc, scenario, general);
         }
         let commander = scenario.commander();
-        let shape = scenario.shape(general, self.rounds + 1);
+        let shape = scenario.shape(general, rounds + 1);
         if general == commander {
             return context_with(alloc, shape, bound, &[]);
         }
         let tree = &self.trees[usize::from(place_of(commander, general))];
-        context_with(alloc, shape, bound, tree.level(self.rounds))
+        context_with(alloc, shape, bound, tree.level(rounds))
     }
 }
 

@@ -8,6 +8,7 @@ mod gate;
 mod gathering;
 mod holding;
 mod mustering;
+mod rounds;
 mod shared;
 mod taking;
 mod task;

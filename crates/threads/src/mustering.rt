@@ -1,11 +1,11 @@
 //! Campaigns whose generals act in threads.
-ghost use Rattle.std.specs.Prelude.{◌≡◌, ◌≤◌, suc, All, List, IfOk, IsTrue};
+ghost use Rattle.std.specs.Prelude.{◌≡◌, ◌≤◌, suc, All, List, IfOk, length};
 ghost use Rattle.label.specs.Lieutenants.{AgreeInList};
 ghost use Rattle.label.specs.Oral.{IsBound};
 ghost use Rattle.board.specs.Board.{IsLegal};
-ghost use Rattle.round.specs.Scenario.{shape_of, is_traitor};
+ghost use Rattle.round.specs.Scenario.{is_traitor};
 ghost use Rattle.round.specs.Letters.{Letter as Written, messages};
-ghost use Rattle.round.specs.Told.{WasTold, AreLettersOf};
+ghost use Rattle.round.specs.Told.{WasTold};
 ghost use Rattle.world.specs.Chronicle.{decisions, chronicle_of};
 ghost use Rattle.world.specs.Lists.{IsComplete, replayed, names_in};
 ghost use Rattle.world.specs.Replay.{replay_of};
@@ -14,10 +14,11 @@ ghost use Rattle.world.specs.Safety.{IsShort};
 use crate::concluding::{account, conclude, decide};
 use crate::error::MusterError;
 use crate::gate::{Gate, Gated};
+use crate::rounds::are_of_round;
 use crate::shared::SharedBoard;
 use crate::task::Task;
 use board::Board;
-use round::{Letter, Scenario, Told};
+use round::{Letter, Round, Scenario, Told};
 use std::alloc::{AllocError, Global};
 use std::sync::Wait;
 use std::thread;
@@ -83,13 +84,13 @@ pub fn muster_with<R: Threads + Wait + Sync, G: Gate + Sync>(
         AgreeInList scenario.generals scenario.commander scenario.order (is_traitor scenario) told.decisions) }
 {
     let board = SharedBoard::new(Board::new(alloc, *scenario.board()));
-    let letters = collect(rt, alloc, &scenario, gate, &board, stack)?;
-    let accounts = account(alloc, &scenario, board.into_board(), letters)?;
+    let (rows, told) = collect(rt, alloc, &scenario, gate, &board, stack)?;
+    let accounts = account(alloc, &scenario, board.into_board(), rows, told)?;
     let decisions = decide(rt, alloc, &scenario, &accounts.told)?;
     Ok(conclude(scenario, accounts, decisions))
 }
 
-/// All letters, round by round.
+/// The letters of all rounds, in each round by general, and what they told.
 fn collect<R: Threads + Wait + Sync, G: Gate + Sync>(
     rt: &R,
     alloc: Global,
@@ -97,20 +98,23 @@ fn collect<R: Threads + Wait + Sync, G: Gate + Sync>(
     gate: &G,
     board: &SharedBoard,
     stack: usize,
-) -> Result<Vec<Letter>, MusterError> {
+) -> Result<(Vec<Round>, Told), MusterError>
+    ensures rounds { IfOk result (λ r. length r.0.items ≡ suc scenario.now.bound) }
+    ensures told { IfOk result (λ r. WasTold scenario.now r.0.items r.1) }
+{
+    let rounds = scenario.bound() + 1;
     let mut told = Told::new(alloc, scenario)?;
-    let mut letters = Vec::new(alloc);
-    let rounds = u32::from(scenario.bound()) + 1;
+    let mut rows = Vec::with_capacity(alloc, usize::from(rounds))?;
     for round in 0..rounds {
         let tasks = tasks(alloc, scenario, &told)?;
-        let mut row = round_by_threads(rt, alloc, tasks, gate, board, stack)?;
-        if !are_of_round(scenario, round + 1, row.as_slice()) {
+        let letters = round_by_threads(rt, alloc, tasks, gate, board, stack)?;
+        if !are_of_round(scenario, u32::from(round) + 1, letters.as_slice()) {
             return Err(MusterError::Unaccounted);
         }
-        told.deliver(scenario, row.as_slice());
-        letters.append(&mut row)?;
+        told.deliver(scenario, letters.as_slice());
+        rows.push(Round { letters })?;
     }
-    Ok(letters)
+    Ok((rows, told))
 }
 
 /// The generals' tasks in the round to come, ascending.
@@ -188,28 +192,4 @@ fn round_by_threads<R: Threads + Wait + Sync, G: Gate + Sync>(
             }
         },
     )
-}
-
-/// Whether the letters are of this round of the campaign.
-fn are_of_round(scenario: &Scenario, round: u32, row: &[Letter]) -> bool
-    ensures { IsTrue result → AreLettersOf scenario.now round row.now }
-{
-    for letter in row {
-        if !is_of_round(scenario, round, letter) {
-            return false;
-        }
-    }
-    true
-}
-
-/// Whether the letter is of this round of the campaign.
-fn is_of_round(scenario: &Scenario, round: u32, letter: &Letter) -> bool
-    ensures { IsTrue result → ((letter.now.round ≡ round) × (letter.now.outbox.shape ≡ shape_of scenario.now letter.now.general round)) }
-{
-    let shape = letter.outbox.shape();
-    letter.round == round
-        && shape.generals == u32::from(scenario.generals())
-        && shape.commander == u32::from(scenario.commander())
-        && shape.general == letter.general
-        && shape.round == round
 }

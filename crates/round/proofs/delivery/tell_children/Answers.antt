@@ -1,84 +1,43 @@
--- Child by child.
-use Rattle.std.proofs.Common.{◌≡◌, ◌<◌, ◌+◌, ◌-◌, ◌*◌, ◌^◌, ◌∙◌, ◌∷◌, not, ℕ, suc, length, false, sym, ap, subst, arith}
-use Rattle.std.specs.Prelude.{slice_index, slice_index_or, ◌==◌, ◌||◌}
-use Rattle.std.proofs.lemmas.Option.{slice_get_within}
-use Rattle.label.specs.Labels.{others, labels}
-use Rattle.outbox.proofs.RowLemmas.{others-few}
-use Rattle.round.specs.Letters.{letter_of}
-use Rattle.round.specs.Delivery.{order_in_letter}
-use Rattle.round.proofs.Walking.{row_fits, child_place, place_fits, off_told, off_true, place_next, place_same, all_children, tell_step, told_ends, under_one, suc_times}
+-- Tree by tree.
+use Rattle.std.proofs.Common.{◌≡◌, ◌<◌, ◌∙◌, ℕ, length, true, false, sym, ap, arith}
+use Rattle.std.specs.Prelude.{slice_index_or}
+use Rattle.tree.specs.LieutenantTree.{LieutenantTree}
+use Rattle.round.specs.Delivery.{IsToldUnder}
+use Rattle.round.proofs.EachTree.{done_all, not_done}
+use Rattle.round.proofs.Together.{leaf_told, leaf_left, own_front, own_walk, own_tellers, read_again, stays_read}
 use Rattle.round.proofs.delivery.tell_children.Goals as goal
-use Rattle.round.proofs.delivery.tell_children.Goals.{then-is_off, else-is_off}
+use Rattle.round.proofs.delivery.tell_children.Goals.{then-not-front-from, else-not-front-from}
 
-pub overflow_mul-first : goal.overflow_mul-first
-overflow_mul-first c =
-    let sp = c.space-space.ensures in
-    let ew : c.saturating_sub-width.result ≡ c.args.tree.now.generals - (c.args.front.now.size + 1) = let e = c.saturating_sub-width.ensures in let a = c.from-count.ensures in let b = c.from.ensures in let n = sp.generals in let l = c.requires.last in omega arith in
-    let h : slice_index c.args.front.now.ranks c.from-2.result * c.saturating_sub-width.result < 2 ^ 32 =
-    row_fits c.args.tree.now c.args.letters.now c.args.places.now c.args.size c.args.front.now c.requires.walk sp.kind c.from-2.result c.saturating_sub-width.result (c.from-2.ensures ∙ sp.general) ew in
-    omega arith
+pub tell-requires-clause-told : goal.tell-requires-clause-told
+tell-requires-clause-told c =
+    let row = c.args.letters.now in let f = c.args.front.now in let trees = c.loop-place.trees in let i = c.loop-place.place in
+    let t = slice_index_or trees i c.index-trees-place-then-not-front-from.result in
+    let lt : i < length trees = let f = c.loop-place.invariant.count in let l = c.loop-place-test.true in omega arith in
+    let at = stays_read trees i c.index-trees-place-then-not-front-from.result lt in
+    let route = c.requires.route in
+    let d = route.due i t (not_done (IsToldUnder row c.args.size f) c.args.trees.now i trees t c.loop-place.invariant lt at) in
+    let own : c.from.result ≡ t.general = c.from.ensures ∙ (c.space-receiver.ensures.general ∙ ap (λ (u : LieutenantTree). u.general) (read_again trees i c.index-trees-place.result c.index-trees-place-then-not-front-from.result lt)) in
+    let mark : slice_index_or f.on t.general false ≡ false = sym (ap (λ (g : ℕ). slice_index_or f.on g false) own) ∙ c.if-not-front-from.true in
+    (row, c.args.places.now, own_walk c.args.generals row c.args.places.now c.args.size f c.args.trees.now route t d mark route.w (own_front c.args.generals route.c row f route.w t d route.front), own_tellers c.args.generals row f c.of-tellers.result t d.generals (c.of-tellers.ensures route.posted))
 
-pub overflow_add-first : goal.overflow_add-first
-overflow_add-first c =
-    let sp = c.space-space.ensures in let walk = c.requires.walk in let p = c.args.tree.now.general in let x = c.loop-general.general in
-    let ew : c.saturating_sub-width.result ≡ c.args.tree.now.generals - (c.args.front.now.size + 1) = let e = c.saturating_sub-width.ensures in let a = c.from-count.ensures in let b = c.from.ensures in let n = sp.generals in let l = c.requires.last in omega arith in
-    let within : x < c.args.tree.now.generals = let l = c.loop-general-test.true in let n = sp.generals in omega arith in
-    let off = off_told c.args.tree.now.generals c.args.tree.now.commander p x walk.w c.args.front.now c.is_off.result walk.front within (c.is_off.ensures ∙ ap (λ (q : ℕ). not (q == x || slice_index_or c.args.front.now.on x false)) sp.general) in
-    let at = child_place c.args.tree.now c.args.letters.now c.args.places.now c.args.size c.args.front.now walk sp.kind c.from-2.result c.saturating_sub-width.result x c.loop-general.place (c.from-2.ensures ∙ sp.general) ew within (off_true p x walk.w c.is_off.result off c.if-is_off.true) (c.loop-general.invariant.place walk.w walk.front walk.off) in
-    let h : slice_index c.args.front.now.ranks c.from-2.result * c.saturating_sub-width.result + c.loop-general.place < 2 ^ 32 = place_fits c.args.tree.now c.args.letters.now c.args.places.now c.args.size c.args.front.now walk sp.kind _ _ at in
-    omega arith
-
-pub set-requires-clause-within : goal.set-requires-clause-within
-set-requires-clause-within c =
-    let sp = c.space-space.ensures in let walk = c.requires.walk in let p = c.args.tree.now.general in let x = c.loop-general.general in
-    let ew : c.saturating_sub-width.result ≡ c.args.tree.now.generals - (c.args.front.now.size + 1) = let e = c.saturating_sub-width.ensures in let a = c.from-count.ensures in let b = c.from.ensures in let n = sp.generals in let l = c.requires.last in omega arith in
-    let within : x < c.args.tree.now.generals = let l = c.loop-general-test.true in let n = sp.generals in omega arith in
-    let off = off_told c.args.tree.now.generals c.args.tree.now.commander p x walk.w c.args.front.now c.is_off.result walk.front within (c.is_off.ensures ∙ ap (λ (q : ℕ). not (q == x || slice_index_or c.args.front.now.on x false)) sp.general) in
-    let at = child_place c.args.tree.now c.args.letters.now c.args.places.now c.args.size c.args.front.now walk sp.kind c.from-2.result c.saturating_sub-width.result x c.loop-general.place (c.from-2.ensures ∙ sp.general) ew within (off_true p x walk.w c.is_off.result off c.if-is_off.true) (c.loop-general.invariant.place walk.w walk.front walk.off) in
-    let same = c.loop-general.invariant.told.same in
-    let inside = slice_get_within (labels c.args.tree.now.generals c.args.tree.now.commander c.args.tree.now.general (c.args.front.now.size + 1)) _ _ at in
-    rw (same.generals, same.commander, same.general) (subst (λ (j : ℕ). slice_index c.args.front.now.ranks c.from-2.result * c.saturating_sub-width.result + c.loop-general.place < length (labels c.args.tree.now.generals c.args.tree.now.commander c.args.tree.now.general j)) c.requires.last inside)
-
-pub overflow_add-place : goal.overflow_add-place
-overflow_add-place c =
-    let walk = c.requires.walk in let p = c.args.tree.now.general in
-    let at = c.loop-general.invariant.place walk.w walk.front walk.off in
-    let few = others-few c.loop-general.general (p ∷ walk.w) in
-    let l = c.loop-general-test.true in let n = c.space-space.ensures.generals in let k = c.space-space.ensures.kind.few in
-    omega arith
-
-pub loop-general-preserved : goal.loop-general-preserved
-loop-general-preserved c =
-    let sp = c.space-space.ensures in let walk = c.requires.walk in let p = c.args.tree.now.general in let x = c.loop-general.general in let f = c.args.front.now in let row = c.args.letters.now in
-    let ew : c.saturating_sub-width.result ≡ c.args.tree.now.generals - c.args.size = let e = c.saturating_sub-width.ensures in let a = c.from-count.ensures in let b = c.from.ensures in let n = sp.generals in omega arith in
-    let within : x < c.args.tree.now.generals = let l = c.loop-general-test.true in let n = sp.generals in omega arith in
-    let test : c.is_off.result ≡ not (p == x || slice_index_or f.on x false) = c.is_off.ensures ∙ ap (λ (q : ℕ). not (q == x || slice_index_or f.on x false)) sp.general in
-    elim c.if-is_off.branch [
-      | then-is_off w ↦ record {
-        told = rw (w.tree-is, w.place-is) (tell_step c.args.tree.now c.loop-general.tree w.set.new.self row c.args.places.now c.args.size f walk c.requires.last sp.kind _ c.saturating_sub-width.result c.loop-general.place x ew
-            (ap (λ (g : ℕ). slice_index f.ranks g * c.saturating_sub-width.result) (c.from-2.ensures ∙ sp.general)) within
-            (off_true p x walk.w c.is_off.result (off_told c.args.tree.now.generals c.args.tree.now.commander p x walk.w f c.is_off.result walk.front within test) w.if-is_off.true)
-            (c.loop-general.invariant.place walk.w walk.front walk.off) c.loop-general.invariant.told w.told-value.result
-            (w.told-value.ensures walk.posted ∙ (ap (λ (g : ℕ). order_in_letter (letter_of row x) (slice_index f.ranks g) c.space-space.result.general) w.from-then-is_off.ensures ∙ ap (λ (q : ℕ). order_in_letter (letter_of row x) (slice_index f.ranks x) q) sp.general))
-            w.set.ensures.same w.set.ensures.filled);
-        place = λ v h off. rw w.place-is (place_next p x c.loop-general.place v c.is_off.result (off_told c.args.tree.now.generals c.args.tree.now.commander p x v f c.is_off.result h within test) w.if-is_off.true (c.loop-general.invariant.place v h off));
-      }
-      | else-is_off w ↦ record {
-        told = rw (w.tree-is, w.place-is) c.loop-general.invariant.told;
-        place = λ v h off. rw w.place-is (place_same p x c.loop-general.place v c.is_off.result (off_told c.args.tree.now.generals c.args.tree.now.commander p x v f c.is_off.result h within test) w.if-is_off.false (c.loop-general.invariant.place v h off));
-      }
+pub loop-place-preserved : goal.loop-place-preserved
+loop-place-preserved c =
+    let row = c.args.letters.now in let f = c.args.front.now in let trees = c.loop-place.trees in let i = c.loop-place.place in
+    let lt : i < length trees = let f = c.loop-place.invariant.count in let l = c.loop-place-test.true in omega arith in
+    let route = c.requires.route in
+    let first = slice_index_or trees i c.index-trees-place.result in
+    let general : c.from.result ≡ first.general = c.from.ensures ∙ c.space-receiver.ensures.general in
+    elim c.if-not-front-from.branch [
+      | then-not-front-from w ↦
+          let t = slice_index_or trees i w.index-trees-place-then-not-front-from.result in
+          let at = stays_read trees i w.index-trees-place-then-not-front-from.result lt in
+          let own : c.from.result ≡ t.general = general ∙ ap (λ (u : LieutenantTree). u.general) (read_again trees i c.index-trees-place.result w.index-trees-place-then-not-front-from.result lt) in
+          let mark : slice_index_or f.on t.general false ≡ false = sym (ap (λ (g : ℕ). slice_index_or f.on g false) own) ∙ w.if-not-front-from.true in
+          rw w.trees-is (leaf_told c.args.generals row c.args.places.now c.args.size f c.args.trees.now route i trees t w.tell.new.tree c.of-tellers.result c.loop-place.invariant lt at mark w.tell.ensures (c.of-tellers.ensures route.posted))
+      | else-not-front-from w ↦
+          let mark : slice_index_or f.on first.general false ≡ true = sym (ap (λ (g : ℕ). slice_index_or f.on g false) general) ∙ w.if-not-front-from.false in
+          rw w.trees-is (leaf_left row c.args.size f c.args.trees.now i trees first c.loop-place.invariant lt (stays_read trees i c.index-trees-place.result lt) mark)
     ]
 
 pub returns : goal.returns
-returns c =
-    let sp = c.space-space.ensures in let walk = c.requires.walk in let t = c.args.tree.now in let f = c.args.front.now in
-    let r = slice_index f.ranks t.general in
-    let ew : c.saturating_sub-width.result ≡ t.generals - c.args.size = let e = c.saturating_sub-width.ensures in let a = c.from-count.ensures in let b = c.from.ensures in let n = sp.generals in omega arith in
-    let end : c.loop-general.general ≡ t.generals = let l = c.loop-general-test.false in let n = sp.generals in let g = c.loop-general.auto.general-end in omega arith in
-    let all : c.loop-general.place ≡ t.generals - (f.size + 1) = all_children t.generals t.commander t.general c.loop-general.place walk.w f walk.front sp.kind.commander sp.kind.general walk.off (c.loop-general.invariant.place walk.w walk.front walk.off ∙ ap (λ (x : ℕ). length (others x (t.general ∷ walk.w))) end) in
-    let last = c.requires.last in
-    let wide : c.loop-general.place ≡ t.generals - c.args.size = omega arith in
-    let first : slice_index f.ranks c.from-2.result * c.saturating_sub-width.result ≡ r * (t.generals - c.args.size) = ap (λ (g : ℕ). slice_index f.ranks g * c.saturating_sub-width.result) (c.from-2.ensures ∙ sp.general) ∙ ap (λ (v : ℕ). r * v) ew in
-    let past : slice_index f.ranks c.from-2.result * c.saturating_sub-width.result + c.loop-general.place ≡ r * (t.generals - c.args.size) + (t.generals - c.args.size) = omega arith in
-    told_ends t c.args.letters.now c.args.size _ _ _ _ c.loop-general.tree (first ∙ sym (under_one t.generals r f.size c.args.size last))
-    (past ∙ (suc_times r (t.generals - c.args.size) ∙ sym (under_one t.generals (suc r) f.size c.args.size last))) c.loop-general.invariant.told
+returns c = done_all (IsToldUnder c.args.letters.now c.args.size c.args.front.now) c.args.trees.now c.loop-place.place c.loop-place.trees c.loop-place.invariant (let f = c.loop-place.invariant.count in let l = c.loop-place-test.false in omega arith)

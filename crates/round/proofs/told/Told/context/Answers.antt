@@ -1,50 +1,15 @@
--- A lieutenant's values are a level of his tree.
-use Rattle.std.proofs.Common.{◌≡◌, ◌<◌, ◌≤◌, ◌^◌, All, List, ap, ◌∙◌, arith, sym, subst, refl, inl}
-use Rattle.std.specs.Prelude.{IfOk}
+-- After all rounds that were told.
+use Rattle.std.proofs.Common.{◌≡◌, ◌≤◌, List, length, take, ap, sym, subst, ◌∙◌, arith}
+use Rattle.std.specs.Prelude.{IfOk, OnOk}
+use Rattle.std.proofs.lemmas.List.{take_all}
 use Rattle.round.specs.Letters.{Letter}
 use Rattle.round.specs.Contexts.{context_of, AreWords}
 use Rattle.round.specs.Told.{Heard, WasTold}
-use Rattle.round.proofs.Filling.{looked_up, looked_tree}
-use Rattle.label.specs.Oral.{order_of}
-use Rattle.round.proofs.Values.{few_values, later_told, words_told, words_first, on_ok, always_ok}
+use Rattle.round.proofs.Values.{all_told, all_words}
 use Rattle.round.proofs.told.Told.context.Goals as goal
 
-pub level-requires-clause-short : goal.level-requires-clause-short
-level-requires-clause-short c =
-    let s = c.args.scenario.now in
-    let h = looked_tree s c.requires.told.0 _ c.args.self.now c.commander-commander.result c.place_of.result c.from.result c.args.general c.index-tree.result.now c.bound-bound.ensures.whole c.requires.told.1 c.self.view_is c.commander-commander.ensures.same c.place_of.ensures.there c.requires.general c.from.ensures c.index-tree.ensures in
-    let left : c.self.inside.rounds ≤ s.bound = subst (λ (h : Heard). h.rounds ≤ s.bound) (sym c.self.view_is) c.requires.left in
-    let b = h.bound in
-    omega arith
-
-pub context_with-requires-2-clause-few : goal.context_with-requires-2-clause-few
-context_with-requires-2-clause-few c =
-    let s = c.args.scenario.now in
-    let h = looked_tree s c.requires.told.0 _ c.args.self.now c.commander-commander.result c.place_of.result c.from.result c.args.general c.index-tree.result.now c.bound-bound.ensures.whole c.requires.told.1 c.self.view_is c.commander-commander.ensures.same c.place_of.ensures.there c.requires.general c.from.ensures c.index-tree.ensures in
-    let left : c.self.inside.rounds ≤ s.bound = subst (λ (h : Heard). h.rounds ≤ s.bound) (sym c.self.view_is) c.requires.left in
-    few_values s c.requires.told.0 c.args.general c.self.inside.rounds c.index-tree.result.now c.level.result.now c.bound-bound.ensures.whole h left c.level.ensures.long
-
 pub returns-clause-context : goal.returns-clause-context
-returns-clause-context c =
-    let s = c.args.scenario.now in
-    let o = looked_up s c.requires.told.0 _ c.args.self.now c.commander-commander.result c.place_of.result c.from.result c.args.general c.index-tree.result.now c.bound-bound.ensures.whole c.requires.told.1 c.self.view_is c.commander-commander.ensures.same c.place_of.ensures.there c.requires.general c.from.ensures c.index-tree.ensures in
-    let P : Heard → Type 0 = λ h. IfOk c.context_with-2.result (λ bytes. (before : List (List Letter)) → WasTold s before h → bytes.items ≡ context_of s before c.args.general) in
-    subst P c.self.view_is
-    (later_told c.context_with-2.result s _ c.args.general c.bound-bound.result c.self.inside.rounds c.place_of.result c.index-tree.result.now c.shape-shape.result c.level.result.now c.bound-bound.ensures.whole refl c.if-self-eq0.false
-    o.0 o.1 o.2 c.shape-shape.ensures.same c.bound-bound.ensures.same c.level.ensures.told c.context_with-2.ensures.bytes)
-
-pub returns-then-self-eq0-clause-words : goal.returns-then-self-eq0-clause-words
-returns-then-self-eq0-clause-words c =
-    let s = c.args.scenario.now in
-    let none : c.args.self.now.rounds ≡ 0 = ap (λ (h : Heard). h.rounds) (sym c.self.view_is) ∙ c.if-self-eq0.true in
-    always_ok c.first_context.result ((before : List (List Letter)) → WasTold s before c.args.self.now → AreWords s before c.args.general)
-    (λ before told. words_first s before c.args.self.now c.args.general c.bound-bound.ensures.whole told (inl none))
+returns-clause-context c = all_told c.context_after.result c.args.scenario.now c.args.self.now c.args.general c.self.inside.rounds (ap (λ (h : Heard). h.rounds) c.self.view_is) c.context_after.ensures.context
 
 pub returns-clause-words : goal.returns-clause-words
-returns-clause-words c =
-    let s = c.args.scenario.now in
-    let o = looked_up s c.requires.told.0 _ c.args.self.now c.commander-commander.result c.place_of.result c.from.result c.args.general c.index-tree.result.now c.bound-bound.ensures.whole c.requires.told.1 c.self.view_is c.commander-commander.ensures.same c.place_of.ensures.there c.requires.general c.from.ensures c.index-tree.ensures in
-    let P : Heard → Type 0 = λ h. (before : List (List Letter)) → WasTold s before h → AreWords s before c.args.general in
-    on_ok c.context_with-2.result (All (λ v. order_of v < 2 ^ 32) c.level.result.now) (P c.args.self.now)
-    (λ small. subst P c.self.view_is (λ before told. words_told s before _ c.args.general c.self.inside.rounds c.place_of.result c.index-tree.result.now c.level.result.now c.bound-bound.ensures.whole told refl c.if-self-eq0.false o.0 o.1 o.2 c.level.ensures.told small))
-    c.context_with-2.ensures.words
+returns-clause-words c = all_words c.context_after.result c.args.scenario.now c.args.self.now c.args.general c.self.inside.rounds (ap (λ (h : Heard). h.rounds) c.self.view_is) c.context_after.ensures.words

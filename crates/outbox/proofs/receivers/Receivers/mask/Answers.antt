@@ -1,0 +1,6 @@
+use Rattle.std.proofs.Common.{ap, ◌∙◌}
+use Rattle.label.specs.Labels.{on}
+use Rattle.outbox.proofs.receivers.Receivers.mask.Goals as goal
+
+pub returns : goal.returns
+returns c g lt = c.self.invariant.bits g lt ∙ ap (λ names. on names g) c.self.view_is

@@ -1,0 +1,56 @@
+-- The rule of the post: what was taken, and then what is queued, is of each general what he has posted.
+use Rattle.std.specs.Prelude.{◌≡◌, ℕ, ◌<◌, ◌≤◌, Bool, true, false, List, [], ◌∷◌, ◌++◌, Option, Some, None}
+use mathlib.Core.Option.{some}
+use lib.ListN.{get_elem?}
+use Rattle.round.specs.Letters.{Letter}
+use Rattle.post.specs.declared.known.Posted.{Posted}
+use Rattle.post.specs.declared.known.Known.{Known}
+use Rattle.post.specs.Delivery.{letters_of}
+
+abbrev pub known : Bool → Bool → ℕ → List Letter → ℕ → List Posted → Known
+known posts takes general letters made back = record {
+  posts = posts;
+  takes = takes;
+  general = general;
+  letters = letters;
+  made = made;
+  back = back;
+}
+
+-- what the poster of a general knows who has posted these
+abbrev pub poster : ℕ → List Letter → Known
+poster general letters = known true false general letters 0 []
+
+-- what the collector knows who has taken these, has made so many posters, and has those back
+abbrev pub collector : List Letter → ℕ → List Posted → Known
+collector taken made back = known false true 0 taken made back
+
+-- what a pass knows that is no more used
+abbrev pub spent : Known
+spent = known false false 0 [] 0 []
+
+-- a poster has its general's seat, and has posted what came of him
+abbrev pub FitsPoster : (ℕ → Option ℕ) → List Letter → ℕ → Known → Type 0
+FitsPoster seat came pass v = v.posts ≡ true → (seat v.general ≡ Some pass) × (v.letters ≡ letters_of v.general came)
+
+-- those that are back have posted what came of them, and their seats are empty
+abbrev pub AreBack : ℕ → (ℕ → Option ℕ) → List Letter → List Posted → Type 0
+AreBack made seat came [] = Unit {0}
+AreBack made seat came (p ∷ back) = ((p.general < made) × (seat p.general ≡ None) × (p.letters ≡ letters_of p.general came)) × AreBack made seat came back
+
+-- there is one collector, who knows what was taken; of generals without a poster yet nothing came
+abbrev pub FitsCollector : ℕ → (ℕ → Option ℕ) → List Letter → List Letter → ℕ → Known → Type 0
+FitsCollector reader seat taken came pass v =
+    v.takes ≡ true
+    → (pass ≡ reader) × (v.letters ≡ taken)
+    × ((g : ℕ) → v.made ≤ g → (seat g ≡ None) × (letters_of g came ≡ []))
+    × AreBack v.made seat came v.back
+
+abbrev pub Fits : ℕ → (ℕ → Option ℕ) → List Letter → List Letter → ℕ → Known → Type 0
+Fits reader seat taken came pass v = FitsPoster seat came pass v × FitsCollector reader seat taken came pass v
+
+-- the rule: what came is what was taken and then what is queued, and every pass fits it. Alike for all generals
+abbrev pub Delivers : List Letter → List Known → Type 0
+Delivers queued views =
+    (reader : ℕ) × (seat : ℕ → Option ℕ) × (taken : List Letter)
+    × ((pass : ℕ) (v : Known) → get_elem? views pass ≡ some v → Fits reader seat taken (taken ++ queued) pass v)

@@ -1,0 +1,26 @@
+//! The pass of the one who takes letters.
+use crate::known::Known;
+use crossbeam_queue::Pass;
+use round::Letter;
+use std::marker::Model;
+
+/// The leave to take letters. It takes no bytes, and there is one for each post.
+#[derive(Drop)]
+pub struct Collector {
+    pub(crate) pass: Pass<Letter, Known>,
+}
+
+impl Model for Collector {
+    ghost use Rattle.std.specs.Prelude.{◌≡◌, [], true};
+    ghost use Rattle.post.specs.Seen.{CollectorSeen};
+
+    ghost Value = { CollectorSeen };
+
+    ghost view = { λ c. record {
+      post = c.pass.table_id;
+      taken = c.pass.me.0.client.letters;
+      generals = c.pass.me.0.client.made;
+    } };
+
+    ghost invariant = { λ c. (c.pass.me.1 ≡ []) × (c.pass.me.0.client.takes ≡ true) × (c.pass.me.0.client.back ≡ []) };
+}

@@ -1,0 +1,162 @@
+//! The post. Of each general, letters are taken in the order in which he has posted them, each once.
+ghost use Rattle.std.specs.Prelude.{◌≡◌, ℕ, ◌<◌, ◌++◌, ◌∷◌, [], List, All, map, true, length, IfOk, IfErr, slice_index_or, MatchOption, MatchResult};
+ghost use Rattle.crossbeam_queue.specs.Passes.{view, IsPassOf};
+ghost use Rattle.round.specs.Letters.{Letter as Written};
+ghost use Rattle.post.specs.Delivery.{AreDelivered, posted};
+ghost use Rattle.post.specs.Seen.{PosterSeen, poster_seen, collector_seen};
+
+use crate::collector::Collector;
+use crate::known::Known;
+use crate::poster::Poster;
+use crate::rule::{Hire, Put, Queue, Return, Took};
+use crossbeam_queue::Pass;
+use round::Letter;
+use std::alloc::{AllocError, Global};
+use std::marker::Model;
+use std::sync::Wait;
+
+/// A queue of letters that threads share. For each general, what was taken and then what is queued is what he has posted,
+/// in order, each letter once, whatever the threads do.
+#[derive(Drop)]
+pub struct Post {
+    queue: Queue,
+    alloc: Global,
+}
+
+impl Model for Post {
+    ghost use Rattle.crossbeam_queue.specs.Passes.{ruled_capacity};
+    ghost use Rattle.post.specs.Seen.{PostSeen};
+
+    ghost Value = { PostSeen };
+
+    ghost view = { λ p. record { post = p.queue.table.shared.table_id; capacity = ruled_capacity p.queue } };
+}
+
+impl Post {
+    /// An empty post with room for so many letters, the posters of so many generals, ascending, and the collector.
+    ///
+    /// # Errors
+    ///
+    /// `AllocError` where memory is refused.
+    pub fn new(
+        alloc: Global,
+        generals: u8,
+        capacity: usize,
+    ) -> Result<(Post, Vec<Poster>, Collector), AllocError>
+        requires { 0 < capacity }
+        ensures post { IfOk result (λ r. r.0.capacity ≡ capacity) }
+        ensures count { IfOk result (λ r. length r.1.items ≡ generals) }
+        ensures posters { IfOk result (λ r. (g : ℕ) (d : PosterSeen) → g < generals → slice_index_or r.1.items g d ≡ poster_seen r.0.post g []) }
+        ensures collector { IfOk result (λ r. r.2 ≡ collector_seen r.0.post [] generals) }
+    {
+        let (queue, mut pass) = Queue::ruled(alloc, capacity)?;
+        let mut posters = Vec::with_capacity(alloc, usize::from(generals))?;
+        for _ in 0..generals {
+            let theirs = queue.another::<Hire>(&mut pass);
+            posters.push(Poster { pass: theirs })?;
+        }
+        Ok((Post { queue, alloc }, posters, Collector { pass }))
+    }
+
+    /// Posts a letter of the poster's general. It comes back where the post was full.
+    pub fn post<R: Wait>(
+        &self,
+        rt: &R,
+        poster: Poster,
+        letter: Letter,
+    ) -> (Poster, Result<(), Letter>)
+        requires post { poster.post ≡ self.now.post }
+        requires general { letter.general ≡ poster.general }
+        ensures post { result.0.post ≡ poster.post }
+        ensures general { result.0.general ≡ poster.general }
+        ensures posted { MatchResult result.1
+            (λ _. result.0.posted ≡ poster.posted ++ letter ∷ [])
+            (λ back. (back ≡ letter) × (result.0.posted ≡ poster.posted)) }
+    {
+        let Poster { mut pass } = poster;
+        let sent = self.queue.push_as::<Put, R>(rt, &mut pass, letter);
+        (Poster { pass }, sent)
+    }
+
+    /// Takes the oldest letter, where there is one.
+    pub fn take<R: Wait>(&self, rt: &R, collector: Collector) -> (Collector, Option<Letter>)
+        requires post { collector.post ≡ self.now.post }
+        ensures post { result.0.post ≡ collector.post }
+        ensures generals { result.0.generals ≡ collector.generals }
+        ensures taken { MatchOption result.1
+            (result.0.taken ≡ collector.taken)
+            (λ letter. result.0.taken ≡ collector.taken ++ letter ∷ []) }
+    {
+        let Collector { mut pass } = collector;
+        let taken = self.queue.pop_as::<Took, R>(rt, &mut pass);
+        (Collector { pass }, taken)
+    }
+
+    /// Ends the post, and gives the letters that are queued, oldest first: with what was taken before, they are what the
+    /// posters' generals have posted. Memory for them is asked for before one is taken.
+    ///
+    /// # Errors
+    ///
+    /// `AllocError` where memory is refused: what was taken is then a beginning of what came.
+    pub fn settle<R: Wait>(
+        self,
+        rt: &R,
+        posters: Vec<Poster>,
+        collector: Collector,
+    ) -> Result<Vec<Letter>, AllocError>
+        requires posters { All (λ p. p.post ≡ self.post) posters.items }
+        requires collector { collector.post ≡ self.post }
+        ensures left { IfOk result (λ left. AreDelivered (collector.taken ++ left.items) (map (λ p. posted p.general p.posted) posters.items)) }
+        ensures lost { IfErr result (λ _. (queued : List Written) × AreDelivered (collector.taken ++ queued) (map (λ p. posted p.general p.posted) posters.items)) }
+    {
+        let Post { queue, alloc } = self;
+        let Collector { pass } = collector;
+        let mut pass = all_back(&queue, pass, posters);
+        queue.learn_as::<Took>(&mut pass);
+        let left = Vec::with_capacity(alloc, queue.capacity())?;
+        drain(rt, &queue, pass, left)
+    }
+}
+
+/// Takes all posters back.
+fn all_back(
+    queue: &Queue,
+    mut pass: Pass<Letter, Known>,
+    mut posters: Vec<Poster>,
+) -> Pass<Letter, Known>
+    requires pass { IsPassOf queue.now pass }
+    requires takes { (view pass).takes ≡ true }
+    requires back { (view pass).back ≡ [] }
+    requires posters { All (λ p. p.post ≡ queue.now.table.shared.table_id) posters.items }
+    ensures pass { IsPassOf queue.now result }
+    ensures takes { (view result).takes ≡ true }
+    ensures taken { (view result).letters ≡ (view pass).letters }
+    ensures back { (view result).back ≡ map (λ p. posted p.general p.posted) posters.items }
+{
+    while let Some(poster) = posters.pop() {
+        let Poster { pass: theirs } = poster;
+        queue.absorb::<Return>(&mut pass, theirs);
+    }
+    pass
+}
+
+/// Takes what is left.
+fn drain<R: Wait>(
+    rt: &R,
+    queue: &Queue,
+    mut pass: Pass<Letter, Known>,
+    mut left: Vec<Letter>,
+) -> Result<Vec<Letter>, AllocError>
+    requires pass { IsPassOf queue.now pass }
+    requires takes { (view pass).takes ≡ true }
+    requires none { left.items ≡ [] }
+    ensures { IfOk result (λ left. AreDelivered ((view pass).letters ++ left.items) (view pass).back) }
+{
+    for _ in rt.forever() {
+        match queue.pop_as::<Took, R>(rt, &mut pass) {
+            Some(letter) => left.push(letter)?,
+            None => break,
+        }
+    }
+    Ok(left)
+}

@@ -1,0 +1,26 @@
+//! The pass of one general.
+use crate::known::Known;
+use crossbeam_queue::Pass;
+use round::Letter;
+use std::marker::Model;
+
+/// One general's leave to post. It takes no bytes, and there is one for each general of a post.
+#[derive(Drop)]
+pub struct Poster {
+    pub(crate) pass: Pass<Letter, Known>,
+}
+
+impl Model for Poster {
+    ghost use Rattle.std.specs.Prelude.{◌≡◌, [], true};
+    ghost use Rattle.post.specs.Seen.{PosterSeen};
+
+    ghost Value = { PosterSeen };
+
+    ghost view = { λ p. record {
+      post = p.pass.table_id;
+      general = p.pass.me.0.client.general;
+      posted = p.pass.me.0.client.letters;
+    } };
+
+    ghost invariant = { λ p. (p.pass.me.1 ≡ []) × (p.pass.me.0.client.posts ≡ true) };
+}

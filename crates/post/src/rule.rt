@@ -1,0 +1,77 @@
+//! The rule of the post, and the moves that it admits.
+use crate::known::Known;
+use crossbeam_queue::RuledArrayQueue;
+use crossbeam_queue::protocol::{Join, Lesson, Outcome, Protocol, Split};
+use round::Letter;
+
+/// A queue under the rule.
+pub(crate) type Queue = RuledArrayQueue<Letter, Known, Delivery>;
+
+/// The rule: what was taken, and then what is queued, is of each general what he has posted.
+#[derive(Drop)]
+pub(crate) struct Delivery;
+
+impl Protocol<Letter, Known> for Delivery {
+    ghost use Rattle.std.specs.Prelude.{[]};
+    ghost use Rattle.post.specs.Rule.{collector, Delivers};
+
+    ghost holds = { Delivers };
+
+    ghost first = { collector [] 0 [] };
+}
+
+/// The collector makes the next general's poster.
+pub(crate) struct Hire;
+
+impl Split<Known> for Hire {
+    ghost use Rattle.std.specs.Prelude.{[], ◌+◌};
+    ghost use Rattle.post.specs.Rule.{collector, poster};
+
+    ghost left = { λ v. collector v.letters (v.made + 1) v.back };
+
+    ghost right = { λ v. poster v.made [] };
+}
+
+/// A poster comes back to the collector.
+pub(crate) struct Return;
+
+impl Join<Known> for Return {
+    ghost use Rattle.std.specs.Prelude.{◌∷◌};
+    ghost use Rattle.post.specs.Delivery.{posted};
+    ghost use Rattle.post.specs.Rule.{collector, spent};
+
+    ghost both = { λ v u. collector v.letters v.made (posted u.general u.letters ∷ v.back) };
+
+    ghost spent = { spent };
+}
+
+/// A poster posts a letter.
+pub(crate) struct Put;
+
+impl Outcome<Letter, Known> for Put {
+    ghost use Rattle.std.specs.Prelude.{[], ◌∷◌, ◌++◌, ◌≡◌};
+    ghost use Rattle.post.specs.Rule.{poster};
+
+    ghost then = { λ v x w. w ≡ poster v.general (v.letters ++ x ∷ []) };
+}
+
+impl Lesson<Letter, Known> for Put {
+    ghost fact = { λ v items. Unit {0} };
+}
+
+/// The collector takes a letter, or finds none.
+pub(crate) struct Took;
+
+impl Outcome<Letter, Known> for Took {
+    ghost use Rattle.std.specs.Prelude.{[], ◌∷◌, ◌++◌, ◌≡◌};
+    ghost use Rattle.post.specs.Rule.{collector};
+
+    ghost then = { λ v x w. w ≡ collector (v.letters ++ x ∷ []) v.made v.back };
+}
+
+impl Lesson<Letter, Known> for Took {
+    ghost use Rattle.std.specs.Prelude.{◌++◌};
+    ghost use Rattle.post.specs.Delivery.{AreDelivered};
+
+    ghost fact = { λ v items. AreDelivered (v.letters ++ items) v.back };
+}

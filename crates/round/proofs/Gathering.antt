@@ -1,0 +1,60 @@
+-- Those off a label, one after another, each with its row.
+use Rattle.std.proofs.Common.{◌≡◌, ◌≢◌, ℕ, ◌+◌, ◌<◌, ◌≤◌, List, [], ◌∷◌, ◌++◌, length, take, get_or, set, true, false, sym, ap, ◌∙◌, None, Option, arith, ⊎_elim, add-one, length-set, get_or-set_same, get_or-set_other}
+use Rattle.std.specs.Prelude.{slice_index, slice_index_or, ◌==◌}
+use Rattle.std.specs.Borrow.{Bor}
+use Rattle.std.proofs.lemmas.Bool.Decides.{eqb_tells}
+use Rattle.std.proofs.lemmas.List.{take_more_set}
+use Rattle.label.specs.Labels.{on}
+use Rattle.label.proofs.Ranks.{others-more_no, others-more_yes}
+use Rattle.outbox.specs.Rows.{RowOrders, order_of_row}
+use Rattle.round.specs.Letters.{Letter, letter_of}
+use Rattle.round.specs.Delivery.{AreTellers, order_in_letter}
+use Rattle.round.specs.declared.front.Front.{Front}
+use Rattle.round.specs.declared.tellers.Tellers.{Tellers}
+
+pub none_gathered : (row : List Letter) (n : ℕ) (f : Front) (t : Tellers) → t.count ≡ 0 → length t.generals ≡ 13 → length t.rows ≡ 13 → AreTellers row n f 0 t
+none_gathered row n f t none long wide = record {
+  long = long;
+  wide = wide;
+  few = omega arith;
+  names = λ c w h. ap (λ (k : ℕ). take k t.generals) none;
+  rows = λ i p lt. absurd (omega arith);
+}
+
+-- one more
+pub one_gathered : (row : List Letter) (n : ℕ) (f : Front) (x : ℕ) (t : Tellers) (o : Option (Bor RowOrders)) → AreTellers row n f x t → x < n → n ≤ 13 → slice_index_or f.on x false ≡ false → ((p : ℕ) → order_of_row o p ≡ order_in_letter (letter_of row x) (slice_index f.ranks x) p) →
+    AreTellers row n f (x + 1) (record { count = t.count + 1; generals = set t.generals t.count x; rows = set t.rows t.count o })
+one_gathered row n f x t o h within small mark tells = record {
+  long = length-set t.generals t.count x ∙ h.long;
+  wide = length-set t.rows t.count o ∙ h.wide;
+  few = (let a = h.few in omega arith);
+  names = λ c w front.
+      let off : on w x ≡ false = sym (front.marks x within) ∙ mark in
+      take_more_set t.generals t.count x room ∙ (ap (λ (xs : List ℕ). xs ++ x ∷ []) (h.names c w front) ∙ sym (rw add-one (others-more_yes w x off)));
+  rows = λ i p lt. ⊎_elim
+      (λ (q : (i == t.count ≡ true) × (i ≡ t.count)).
+      let here : get_or (set t.rows t.count o) i None ≡ o = ap (λ (k : ℕ). get_or (set t.rows t.count o) k None) q.1 ∙ get_or-set_same t.rows t.count o None room' in
+      let name : get_or (set t.generals t.count x) i 0 ≡ x = ap (λ (k : ℕ). get_or (set t.generals t.count x) k 0) q.1 ∙ get_or-set_same t.generals t.count x 0 room in
+      rw (here, name) (tells p))
+      (λ (q : (i == t.count ≡ false) × (i ≢ t.count)).
+      let here : get_or (set t.rows t.count o) i None ≡ get_or t.rows i None = get_or-set_other t.rows t.count i o None q.1 in
+      let name : get_or (set t.generals t.count x) i 0 ≡ get_or t.generals i 0 = get_or-set_other t.generals t.count i x 0 q.1 in
+      rw (here, name) (h.rows i p (let ne = q.1 in omega arith)))
+      (eqb_tells i t.count);
+}
+  where
+    room : t.count < length t.generals
+    room = let a = h.few in let l = h.long in omega arith
+
+    room' : t.count < length t.rows
+    room' = let a = h.few in let l = h.wide in omega arith
+
+-- nobody more
+pub same_gathered : (row : List Letter) (n : ℕ) (f : Front) (x : ℕ) (t : Tellers) → AreTellers row n f x t → x < n → slice_index_or f.on x false ≡ true → AreTellers row n f (x + 1) t
+same_gathered row n f x t h within mark = record {
+  long = h.long;
+  wide = h.wide;
+  few = (let a = h.few in omega arith);
+  names = λ c w front. h.names c w front ∙ sym (rw add-one (others-more_no w x (sym (front.marks x within) ∙ mark)));
+  rows = h.rows;
+}

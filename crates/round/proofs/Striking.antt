@@ -1,0 +1,134 @@
+-- Those off a label, with one of them lacked.
+use Rattle.std.proofs.Common.{◌≡◌, ◌≢◌, ℕ, zero, suc, ◌+◌, ◌<◌, ◌≤◌, List, [], ◌∷◌, ◌++◌, length, take, get_or, Bool, true, false, not, ◌||◌, cond, refl, sym, ap, ◌∙◌, Some, arith, ⊎_elim, length-append, inl, inr}
+use Rattle.std.specs.Prelude.{slice_get, ◌==◌, filter}
+use Rattle.std.proofs.lemmas.Bool.{cases_Bool, eq-eqb, ne_eqb}
+use Rattle.std.proofs.lemmas.Bool.Decides.{eqb_tells, nat_tests}
+use Rattle.std.proofs.lemmas.Option.{slice_get_within, slice_get-get_or}
+use Rattle.label.specs.Labels.{on, others, generals}
+use Rattle.label.proofs.Counting.{others-on}
+use Rattle.label.proofs.Ranks.{others-more_no, others-more_yes}
+use Rattle.outbox.specs.Receivers.{struck}
+
+-- one name more
+next_struck : (p i : ℕ) (names : List ℕ) → i < length names → length (struck p (take (suc i) names)) ≡ length (struck p (take i names)) + cond {A = ℕ} (get_or names i 0 == p) 0 1
+next_struck p i [] lt = absurd (omega arith)
+next_struck p zero (x ∷ names) lt = one (x == p)
+  where
+    one : (b : Bool) → length (cond {A = List ℕ} (not b) (x ∷ []) []) ≡ 0 + cond {A = ℕ} b 0 1
+    one true = refl
+    one false = refl
+next_struck p (suc i) (x ∷ names) lt = more (x == p) (next_struck p i names (omega arith))
+  where
+    more : (b : Bool) → length (struck p (take (suc i) names)) ≡ length (struck p (take i names)) + cond {A = ℕ} (get_or names i 0 == p) 0 1
+        → length (cond {A = List ℕ} (not b) (x ∷ struck p (take (suc i) names)) (struck p (take (suc i) names))) ≡ length (cond {A = List ℕ} (not b) (x ∷ struck p (take i names)) (struck p (take i names))) + cond {A = ℕ} (get_or names i 0 == p) 0 1
+    more true e = e
+    more false e = omega arith
+
+struck_more : (p i : ℕ) (names : List ℕ) → i < length names → length (struck p (take (i + 1) names)) ≡ length (struck p (take i names)) + cond {A = ℕ} (get_or names i 0 == p) 0 1
+struck_more p i names lt = let e : i + 1 ≡ suc i = omega arith in ap (λ (k : ℕ). length (struck p (take k names))) e ∙ next_struck p i names lt
+
+pub struck_next : (p x i : ℕ) (names : List ℕ) → i < length names → x ≡ get_or names i 0 → x ≢ p → length (struck p (take (i + 1) names)) ≡ length (struck p (take i names)) + 1
+struck_next p x i names lt at ne =
+    let other : (get_or names i 0 == p) ≡ false = ne_eqb (get_or names i 0) p (λ e. ne (at ∙ e)) in
+    struck_more p i names lt ∙ ap (λ (b : Bool). length (struck p (take i names)) + cond {A = ℕ} b 0 1) other
+
+pub struck_same : (p x i : ℕ) (names : List ℕ) → i < length names → x ≡ get_or names i 0 → x ≡ p → length (struck p (take (i + 1) names)) ≡ length (struck p (take i names))
+struck_same p x i names lt at e =
+    let it : (get_or names i 0 == p) ≡ true = eq-eqb (get_or names i 0) p (sym at ∙ e) in
+    struck_more p i names lt ∙ (ap (λ (b : Bool). length (struck p (take i names)) + cond {A = ℕ} b 0 1) it ∙ (omega arith))
+
+-- one lacked besides
+eqb_sym : (a b : ℕ) → (a == b) ≡ (b == a)
+eqb_sym a b = grind (arith, nat_tests)
+
+struck_filter : (p : ℕ) (w xs : List ℕ) → struck p (filter (λ x. not (on w x)) xs) ≡ filter (λ x. not (on (p ∷ w) x)) xs
+struck_filter p w [] = refl
+struck_filter p w (x ∷ xs) =
+    let rest : struck p (filter (λ x. not (on w x)) xs) ≡ filter (λ x. not (on (p ∷ w) x)) xs = struck_filter p w xs in
+    rw (eqb_sym p x, ← rest) (tests (x == p) refl (on w x) (filter (λ x. not (on w x)) xs))
+  where
+    tests : (a : Bool) → (x == p) ≡ a → (b : Bool) (ys : List ℕ) → struck p (cond {A = List ℕ} (not b) (x ∷ ys) ys) ≡ cond {A = List ℕ} (not (a || b)) (x ∷ struck p ys) (struck p ys)
+    tests true e true ys = refl
+    tests true e false ys = rw e refl
+    tests false e true ys = refl
+    tests false e false ys = rw e refl
+
+pub struck_others : (n p : ℕ) (w : List ℕ) → struck p (others n w) ≡ others n (p ∷ w)
+struck_others n p w = struck_filter p w (generals n)
+
+-- those before the one at a place are those below him
+take_left : (i : ℕ) (xs ys : List ℕ) → i ≤ length xs → take i (xs ++ ys) ≡ take i xs
+take_left zero xs ys le = refl
+take_left (suc i) [] ys le = absurd (omega arith)
+take_left (suc i) (x ∷ xs) ys le = ap (λ zs. x ∷ zs) (take_left i xs ys (omega arith))
+
+take_whole : (xs : List ℕ) → take (length xs) xs ≡ xs
+take_whole [] = refl
+take_whole (x ∷ xs) = ap (λ zs. x ∷ zs) (take_whole xs)
+
+get_left : (i x : ℕ) (xs ys : List ℕ) → i < length xs → slice_get (xs ++ ys) i ≡ Some x → slice_get xs i ≡ Some x
+get_left i x [] ys lt e = absurd (omega arith)
+get_left zero x (y ∷ xs) ys lt e = e
+get_left (suc i) x (y ∷ xs) ys lt e = get_left i x xs ys (omega arith) e
+
+get_last : (x y : ℕ) (xs : List ℕ) → slice_get (xs ++ y ∷ []) (length xs) ≡ Some x → x ≡ y
+get_last x y [] e = cc
+get_last x y (z ∷ xs) e = get_last x y xs e
+
+pub take_others : (n i x : ℕ) (w : List ℕ) → slice_get (others n w) i ≡ Some x → take i (others n w) ≡ others x w
+take_others zero i x w at = cc
+take_others (suc n) i x w at = elim (cases_Bool (on w n)) [
+  | inl it ↦
+      ap (take i) (others-more_no w n it) ∙ take_others n i x w (sym (ap (λ xs. slice_get xs i) (others-more_no w n it)) ∙ at)
+  | inr it ↦
+      let at' : slice_get (others n w ++ n ∷ []) i ≡ Some x = sym (ap (λ xs. slice_get xs i) (others-more_yes w n it)) ∙ at in
+      let long = length-append (others n w) (n ∷ []) in
+      let low : i < length (others n w ++ n ∷ []) = slice_get_within (others n w ++ n ∷ []) i x at' in
+      ap (take i) (others-more_yes w n it) ∙ ⊎_elim
+      (λ (q : (i == length (others n w) ≡ true) × (i ≡ length (others n w))).
+      let last : x ≡ n = get_last x n (others n w) (sym (ap (λ (k : ℕ). slice_get (others n w ++ n ∷ []) k) q.1) ∙ at') in
+      ap (λ (k : ℕ). take k (others n w ++ n ∷ [])) q.1 ∙ (take_left (length (others n w)) (others n w) (n ∷ []) (omega arith) ∙ (take_whole (others n w) ∙ ap (λ (k : ℕ). others k w) (sym last))))
+      (λ (q : (i == length (others n w) ≡ false) × (i ≢ length (others n w))).
+      let less : i < length (others n w) = let ne = q.1 in omega arith in
+      take_left i (others n w) (n ∷ []) (omega arith) ∙ take_others n i x w (get_left i x (others n w) (n ∷ []) less at'))
+      (eqb_tells i (length (others n w)))
+]
+
+-- the one at a place among so many names that are those off a label
+take_get : (k i : ℕ) (xs : List ℕ) → i < k → slice_get (take k xs) i ≡ slice_get xs i
+take_get zero i xs lt = absurd (omega arith)
+take_get (suc k) i [] lt = refl
+take_get (suc k) zero (x ∷ xs) lt = refl
+take_get (suc k) (suc i) (x ∷ xs) lt = take_get k i xs (omega arith)
+
+take_twice : (k i : ℕ) (xs : List ℕ) → i ≤ k → take i (take k xs) ≡ take i xs
+take_twice k zero xs le = refl
+take_twice zero (suc i) xs le = absurd (omega arith)
+take_twice (suc k) (suc i) [] le = refl
+take_twice (suc k) (suc i) (x ∷ xs) le = ap (λ zs. x ∷ zs) (take_twice k i xs (omega arith))
+
+on_get : (i x : ℕ) (xs : List ℕ) → slice_get xs i ≡ Some x → on xs x ≡ true
+on_get i x [] e = cc
+on_get zero x (y ∷ xs) e = let same : y ≡ x = cc in rw (eq-eqb y x same) refl
+on_get (suc i) x (y ∷ xs) e = rw (on_get i x xs e) (or_true (y == x))
+  where
+    or_true : (b : Bool) → (b || true) ≡ true
+    or_true true = refl
+    or_true false = refl
+
+-- who stands at a place
+pub record IsNamed (n p x i : ℕ) (w names : List ℕ) : Type 0 where
+  pub within : x < n
+  pub off : on w x ≡ false
+  pub below : length (struck p (take i names)) ≡ length (others x (p ∷ w))
+
+pub named : (n p x i count : ℕ) (w names : List ℕ) → take count names ≡ others n w → i < count → i < length names → x ≡ get_or names i 0 → IsNamed n p x i w names
+named n p x i count w names all lt room at =
+    let there : slice_get names i ≡ Some x = slice_get-get_or names i 0 room ∙ ap Some (sym at) in
+    let here : slice_get (others n w) i ≡ Some x = sym (ap (λ xs. slice_get xs i) all) ∙ (take_get count i names lt ∙ there) in
+    let parts = others-on n w x (on_get i x (others n w) here) in
+    record {
+      within = parts.0;
+      off = parts.1;
+      below = ap (λ xs. length (struck p xs)) (sym (take_twice count i names (omega arith)) ∙ (ap (take i) all ∙ take_others n i x w here)) ∙ ap length (struck_others x p w);
+    }

@@ -1,0 +1,100 @@
+//! Who is off a label, and what the others' letters tell of it.
+ghost use Rattle.std.specs.Prelude.{◌≡◌, ◌<◌, ◌≤◌, ◌+◌, ℕ, List, length};
+ghost use Rattle.outbox.specs.Rows.{order_of_row};
+ghost use Rattle.round.specs.Letters.{Letter as Written, letter_of};
+ghost use Rattle.round.specs.Delivery.{ArePlaces, AreTellers, IsFilledBetween, IsWalk, first_under, order_in_letter, past_under};
+
+use crate::front::Front;
+use crate::letter::Letter;
+use outbox::Row;
+use tree::Tree;
+
+/// The generals off a label, ascending, each with the row of the label in his letter, where there is one.
+#[derive(Drop)]
+pub(crate) struct Tellers<'a> {
+    /// How many they are.
+    pub count: usize,
+    /// They are the first of these.
+    pub generals: [u8; 13],
+    /// The rows, in the same order.
+    pub rows: [Option<&'a Row>; 13],
+}
+
+impl<'a> Tellers<'a> {
+    /// Those off the front, of so many generals, by these letters.
+    pub fn of(
+        letters: &'a [Letter],
+        places: &[usize; 13],
+        generals: u8,
+        front: &Front,
+    ) -> Tellers<'a>
+        requires few { generals ≤ 13 }
+        requires on { length front.now.on ≡ 13 }
+        requires ranks { length front.now.ranks ≡ 13 }
+        ensures { ArePlaces letters.now places.now → AreTellers letters.now generals front.now generals result }
+    {
+        let mut count = 0;
+        let mut names = [0; 13];
+        let mut rows = [None; 13];
+        for general in 0..generals {
+            let number = usize::from(general);
+            if !front.on[number] {
+                names[count] = general;
+                rows[count] = row_in(letters, places, general, front.ranks[number]);
+                count += 1;
+            }
+        }
+        Tellers {
+            count,
+            generals: names,
+            rows,
+        }
+    }
+
+    /// Fills in what they tell the tree's lieutenant of the label, each with himself behind it.
+    pub fn tell(&self, size: u8, tree: &mut Tree, front: &Front)
+        requires told { (row : List Written) × (places : List ℕ) × IsWalk tree.old row places size front.now × AreTellers row tree.old.generals front.now tree.old.generals self.now }
+        requires last { front.now.size + 1 ≡ size }
+        ensures { (row : List Written) (places : List ℕ) → IsWalk tree.old row places size front.now → AreTellers row tree.old.generals front.now tree.old.generals self.now → IsFilledBetween tree.old row size (first_under tree.old front.now size) (past_under tree.old front.now size) tree.new }
+    {
+        let space = tree.space();
+        let count = u32::from(space.generals);
+        let width = count.saturating_sub(u32::from(size));
+        let first = front.ranks[usize::from(space.general)] * width;
+        let rows = &self.rows[..];
+        let mut place: u32 = 0;
+        for number in 0..self.count {
+            if self.generals[number] != space.general {
+                let value = order_of(rows[number], space.general);
+                tree.set(size, first + place, value);
+                place += 1;
+            }
+        }
+    }
+}
+
+/// The row of the label of that rank in a general's letter, where there is one.
+pub(crate) fn row_in<'a>(
+    letters: &'a [Letter],
+    places: &[usize; 13],
+    general: u8,
+    rank: u32,
+) -> Option<&'a Row>
+    requires { general < 13 }
+    ensures { (receiver : ℕ) → ArePlaces letters.now places.now → order_of_row result receiver ≡ order_in_letter (letter_of letters.now general) rank receiver }
+{
+    match letters.get(places[usize::from(general)]) {
+        Some(letter) => letter.outbox.orders(rank),
+        None => None,
+    }
+}
+
+/// What a row, where there is one, tells a receiver.
+pub(crate) fn order_of(row: Option<&Row>, receiver: u8) -> Option<u32>
+    ensures { result ≡ order_of_row row.entry receiver }
+{
+    match row {
+        Some(row) => row.order(u32::from(receiver)),
+        None => None,
+    }
+}

@@ -1,0 +1,287 @@
+-- Rows, computed: campaigns from their events to their texts, and what is no chain or does not count.
+use Rattle.std.proofs.Common.{◌≡◌, ℕ, ◌+◌, true, false, cond, arith, List, [], ◌∷◌, ◌++◌, length, refl, None, Some}
+use Rattle.std.specs.Prelude.{◌==◌, nat_le, codes, replicate}
+use Rattle.std.specs.Fmt.{digits}
+use Rattle.signed.specs.Chains.{IsChain, begin, prolong}
+use Rattle.signed.specs.Accepted.{held, accepted, loyal_chains, counts, firsts, decided}
+use Rattle.signed.specs.Entries.{Entry, Sign, sign_order, pass_on, receivers_in, entered, answer_to}
+use Rattle.signed.specs.Campaign.{Campaign, Conduct}
+use Rattle.signed.specs.World.{Event, Tick, Post, Close, opening, run, context_behind, accepted_in, delivered, refusal, NotOpen, NoGeneral}
+use Rattle.signed.specs.Chronicle.{chronicle_of, decisions}
+use Rattle.signed.specs.Text.{Line, signed_lines, signed_text}
+
+abbrev whole : List (List ℕ) → List ℕ
+whole [] = []
+whole (l ∷ ls) = l ++ 10 ∷ whole ls
+
+-- an activation of so many steps, which attempts this once it has taken some; the board is not used
+abbrev pub scripted : ℕ → (ℕ → List Entry) → Conduct ℕ ℕ
+scripted last attempts = record {
+  board = 0;
+  begins = λ g r context. 0;
+  turn = λ g r a b. (cond (a == last) a (a + 1), b);
+  attempts = attempts;
+  steps = λ a. a;
+}
+
+abbrev pub none_told : ℕ → List Line
+none_told round = []
+
+-- three generals and one traitor, the lieutenant 2, who passes on to 1 the first chain that he holds
+abbrev pub passing : Campaign
+passing = record { generals = 3; bound = 1; commander = 0; order = 1; traitors = 2 ∷ []; patience = None }
+
+abbrev pub passer : Conduct ℕ ℕ
+passer = scripted 4 (λ a. cond (nat_le 3 a) (pass_on 0 2 ∷ []) [])
+
+abbrev pub passing_round : List Event
+passing_round = Post 0 ∷ Post 1 ∷ Tick 2 ∷ Tick 2 ∷ Tick 2 ∷ Tick 2 ∷ Close ∷ []
+
+passed_text : signed_text none_told (chronicle_of (run passer (opening passer passing) (passing_round ++ passing_round))) ≡ whole (
+    codes "chronicle 3"
+    ∷ codes "signed generals 3 bound 1 commander 0 order 1 patience -"
+    ∷ codes "round 1"
+    ∷ codes "letter 0 loyal"
+    ∷ codes "chain 1 0 to 1.2"
+    ∷ codes "letter 1 loyal"
+    ∷ codes "letter 2 steps 4"
+    ∷ codes "round 2"
+    ∷ codes "letter 0 loyal"
+    ∷ codes "letter 1 loyal"
+    ∷ codes "chain 1 0.1 to 2"
+    ∷ codes "letter 2 steps 4"
+    ∷ codes "chain 1 0.2 to 1"
+    ∷ codes "decision 1 1"
+    ∷ codes "decision 2 traitor 1"
+    ∷ codes "verdict alike yes obeyed yes bound yes"
+    ∷ [])
+unfolding signed_text signed_lines decisions held accepted loyal_chains digits
+passed_text = refl
+
+-- in the second round the traitor is told that he holds the commander's chain
+passed_context : context_behind passing (run passer (opening passer passing) passing_round).closed 2 ≡ 3 ∷ 1 ∷ 2 ∷ 0 ∷ 2 ∷ 1 ∷ 2 ∷ 1 ∷ 1 ∷ 1 ∷ []
+unfolding held loyal_chains
+passed_context = refl
+
+-- the same generals, the commander a traitor, who signs the order 1 for general 1 and the order 0 for general 2, in both rounds
+abbrev pub torn : Campaign
+torn = record { generals = 3; bound = 1; commander = 0; order = 1; traitors = 0 ∷ []; patience = None }
+
+abbrev pub signer : Conduct ℕ ℕ
+signer = scripted 7 (λ a. cond (nat_le 6 a) (sign_order 1 2 ∷ sign_order 0 4 ∷ []) (cond (nat_le 3 a) (sign_order 1 2 ∷ []) []))
+
+abbrev pub torn_round : List Event
+torn_round = Post 1 ∷ Post 2 ∷ Tick 0 ∷ Tick 0 ∷ Tick 0 ∷ Tick 0 ∷ Tick 0 ∷ Tick 0 ∷ Tick 0 ∷ Close ∷ []
+
+torn_text : signed_text none_told (chronicle_of (run signer (opening signer torn) (torn_round ++ torn_round))) ≡ whole (
+    codes "chronicle 3"
+    ∷ codes "signed generals 3 bound 1 commander 0 order 1 patience -"
+    ∷ codes "round 1"
+    ∷ codes "letter 0 steps 7"
+    ∷ codes "chain 1 0 to 1"
+    ∷ codes "chain 0 0 to 2"
+    ∷ codes "letter 1 loyal"
+    ∷ codes "letter 2 loyal"
+    ∷ codes "round 2"
+    ∷ codes "letter 0 steps 7"
+    ∷ codes "chain 1 0 to 1"
+    ∷ codes "chain 0 0 to 2"
+    ∷ codes "letter 1 loyal"
+    ∷ codes "chain 1 0.1 to 2"
+    ∷ codes "letter 2 loyal"
+    ∷ codes "chain 0 0.2 to 1"
+    ∷ codes "decision 1 0"
+    ∷ codes "decision 2 0"
+    ∷ codes "verdict alike yes obeyed - bound yes"
+    ∷ [])
+unfolding signed_text signed_lines decisions held accepted loyal_chains digits
+torn_text = refl
+
+-- what the commander signed in the second round came, and did not count
+torn_accepted : accepted_in (run signer (opening signer torn) (torn_round ++ torn_round)) 1 ≡ 1 ∷ 0 ∷ []
+unfolding accepted loyal_chains held
+torn_accepted = refl
+
+-- a chain of the wrong length does not count, and none on which the receiver stands
+one_in_first : counts 1 1 (record { order = 7; signers = 0 ∷ [] }) ≡ true
+one_in_first = refl
+
+one_in_second : counts 2 1 (record { order = 7; signers = 0 ∷ [] }) ≡ false
+one_in_second = refl
+
+two_in_first : counts 1 1 (record { order = 7; signers = 0 ∷ 2 ∷ [] }) ≡ false
+two_in_first = refl
+
+own_in_second : counts 2 1 (record { order = 7; signers = 0 ∷ 1 ∷ [] }) ≡ false
+own_in_second = refl
+
+-- one signature twice is no chain, and neither is one without the commander's first
+twice_no_chain : IsChain 4 0 (record { order = 7; signers = 0 ∷ 1 ∷ 1 ∷ [] }) → ⊥
+twice_no_chain h = let d : false ≡ true = h.distinct in cc
+
+headless_no_chain : IsChain 4 0 (record { order = 7; signers = 1 ∷ 0 ∷ [] }) → ⊥
+headless_no_chain h = absurd (let f : 1 ≡ 0 = h.first in omega arith)
+
+-- so nobody prolongs a chain on which he stands, and only the commander begins one
+not_twice : prolong (record { order = 7; signers = 0 ∷ 1 ∷ [] }) 1 ≡ None
+not_twice = refl
+
+begun_by_commander : begin 0 0 7 ≡ Some (record { order = 7; signers = 0 ∷ [] })
+begun_by_commander = refl
+
+begun_by_another : begin 0 1 7 ≡ None
+begun_by_another = refl
+
+-- of two chains that bring one order the first that is held is prolonged, and of several orders the first chains, in the order in which they are held
+first_prolonged : firsts (5 ∷ []) (record { order = 7; signers = 0 ∷ 3 ∷ [] } ∷ record { order = 5; signers = 0 ∷ 3 ∷ [] } ∷ record { order = 9; signers = 0 ∷ 4 ∷ [] } ∷ record { order = 7; signers = 0 ∷ 4 ∷ [] } ∷ [])
+    ≡ record { order = 7; signers = 0 ∷ 3 ∷ [] } ∷ record { order = 9; signers = 0 ∷ 4 ∷ [] } ∷ []
+first_prolonged = refl
+
+-- a receiver who is no general, or who stands on the chain, is dropped
+dropped : receivers_in 3 8191 (record { order = 7; signers = 0 ∷ 1 ∷ [] }) ≡ 2 ∷ []
+dropped = refl
+
+-- of nine attempts eight are entered, the ninth is answered by 1; what is not held, or another's to sign, is not entered; and of an order 32 bits are taken
+eight_entered : length (entered 0 0 [] [] (replicate 9 (sign_order 7 2))) ≡ 8
+eight_entered = refl
+
+ninth_refused : answer_to 0 0 [] (replicate 8 (sign_order 7 2)) (sign_order 7 2) ≡ 1
+ninth_refused = refl
+
+first_answered : answer_to 0 0 [] [] (sign_order 7 2) ≡ 0
+first_answered = refl
+
+nothing_held : answer_to 0 1 [] [] (pass_on 0 4) ≡ 1
+nothing_held = refl
+
+lieutenant_signs : answer_to 0 1 [] [] (sign_order 7 4) ≡ 1
+lieutenant_signs = refl
+
+low_bits : sign_order 4294967303 2 ≡ Sign 7 2
+low_bits = refl
+
+-- one order is a choice; of none, or of two, RETREAT
+decided_none : decided [] ≡ 0
+decided_none = refl
+
+decided_one : decided (7 ∷ []) ≡ 7
+decided_one = refl
+
+decided_two : decided (7 ∷ 9 ∷ []) ≡ 0
+decided_two = refl
+
+-- four generals, two traitors: the commander signs 7 for the traitor 3 alone, who passes it on to 1 and 2 in the second round; both pass it on to each other, and decide 7
+abbrev pub late : Campaign
+late = record { generals = 4; bound = 2; commander = 0; order = 1; traitors = 0 ∷ 3 ∷ []; patience = Some 2 }
+
+-- the traitors differ in what they attempt: an activation is its general's number and its steps
+abbrev pub late_conduct : Conduct (ℕ × ℕ) ℕ
+late_conduct = record {
+  board = 0;
+  begins = λ g r context. (g, 0);
+  turn = λ g r a b. ((a.0, cond (a.1 == 2) a.1 (a.1 + 1)), b);
+  attempts = λ a. cond (a.0 == 0) (cond (nat_le 1 a.1) (sign_order 7 8 ∷ []) []) (cond (nat_le 1 a.1) (pass_on 0 6 ∷ []) []);
+  steps = λ a. a.1;
+}
+
+abbrev pub late_round : List Event
+late_round = Tick 3 ∷ Post 1 ∷ Tick 0 ∷ Post 2 ∷ Tick 0 ∷ Tick 3 ∷ Tick 3 ∷ Close ∷ []
+
+late_text : signed_text none_told (chronicle_of (run late_conduct (opening late_conduct late) (late_round ++ (late_round ++ late_round)))) ≡ whole (
+    codes "chronicle 3"
+    ∷ codes "signed generals 4 bound 2 commander 0 order 1 patience 2"
+    ∷ codes "round 1"
+    ∷ codes "letter 0 steps 2"
+    ∷ codes "chain 7 0 to 3"
+    ∷ codes "letter 1 loyal"
+    ∷ codes "letter 2 loyal"
+    ∷ codes "letter 3 steps 2"
+    ∷ codes "round 2"
+    ∷ codes "letter 0 steps 2"
+    ∷ codes "chain 7 0 to 3"
+    ∷ codes "letter 1 loyal"
+    ∷ codes "letter 2 loyal"
+    ∷ codes "letter 3 steps 2"
+    ∷ codes "chain 7 0.3 to 1.2"
+    ∷ codes "round 3"
+    ∷ codes "letter 0 steps 2"
+    ∷ codes "chain 7 0 to 3"
+    ∷ codes "letter 1 loyal"
+    ∷ codes "chain 7 0.3.1 to 2"
+    ∷ codes "letter 2 loyal"
+    ∷ codes "chain 7 0.3.2 to 1"
+    ∷ codes "letter 3 steps 2"
+    ∷ codes "chain 7 0.3 to 1.2"
+    ∷ codes "decision 1 7"
+    ∷ codes "decision 2 7"
+    ∷ codes "decision 3 traitor 7"
+    ∷ codes "verdict alike yes obeyed - bound yes"
+    ∷ [])
+unfolding signed_text signed_lines decisions held accepted loyal_chains digits
+late_text = refl
+
+-- four generals, two traitors: the commander signs 7 for the traitor 3 alone; 3 prolongs that chain for himself, who stands on it and is dropped, and so cannot prolong it again
+-- for 1 alone in the last round. If one signature counted twice, general 1 would accept 7 then, and general 2 would not
+abbrev pub twice : Campaign
+twice = record { generals = 4; bound = 2; commander = 0; order = 1; traitors = 0 ∷ 3 ∷ []; patience = Some 1 }
+
+abbrev attempts_twice : ℕ → ℕ → List Entry
+attempts_twice g round = cond (g == 0) (cond (round == 1) (sign_order 7 8 ∷ []) []) (cond (round == 2) (pass_on 0 8 ∷ []) (pass_on 1 2 ∷ []))
+
+-- an activation is its general, its round and its steps
+abbrev pub twice_conduct : Conduct (ℕ × ℕ × ℕ) ℕ
+twice_conduct = record {
+  board = 0;
+  begins = λ g r context. (g, r, 0);
+  turn = λ g r a b. ((a.0, a.1, 1), b);
+  attempts = λ a. cond (a.2 == 1) (attempts_twice a.0 a.1) [];
+  steps = λ a. a.2;
+}
+
+abbrev pub twice_round : List Event
+twice_round = Post 1 ∷ Post 2 ∷ Tick 0 ∷ Tick 3 ∷ Close ∷ []
+
+twice_text : signed_text none_told (chronicle_of (run twice_conduct (opening twice_conduct twice) (twice_round ++ (twice_round ++ twice_round)))) ≡ whole (
+    codes "chronicle 3"
+    ∷ codes "signed generals 4 bound 2 commander 0 order 1 patience 1"
+    ∷ codes "round 1"
+    ∷ codes "letter 0 steps 1"
+    ∷ codes "chain 7 0 to 3"
+    ∷ codes "letter 1 loyal"
+    ∷ codes "letter 2 loyal"
+    ∷ codes "letter 3 steps 1"
+    ∷ codes "round 2"
+    ∷ codes "letter 0 steps 1"
+    ∷ codes "letter 1 loyal"
+    ∷ codes "letter 2 loyal"
+    ∷ codes "letter 3 steps 1"
+    ∷ codes "chain 7 0.3 to -"
+    ∷ codes "round 3"
+    ∷ codes "letter 0 steps 1"
+    ∷ codes "letter 1 loyal"
+    ∷ codes "letter 2 loyal"
+    ∷ codes "letter 3 steps 1"
+    ∷ codes "decision 1 0"
+    ∷ codes "decision 2 0"
+    ∷ codes "decision 3 traitor 7"
+    ∷ codes "verdict alike yes obeyed - bound yes"
+    ∷ [])
+unfolding signed_text signed_lines decisions held accepted loyal_chains digits
+twice_text = refl
+
+-- whoever has not posted is absent, and a post after the close is refused
+absent : delivered (run passer (opening passer passing) (Tick 2 ∷ Close ∷ [])).closed 1 0 1 ≡ []
+unfolding held accepted loyal_chains
+absent = refl
+
+all_closed : refusal (run passer (opening passer passing) (passing_round ++ passing_round)) (Post 0) ≡ Some NotOpen
+unfolding held accepted loyal_chains
+all_closed = refl
+
+no_traitor : refusal (opening passer passing) (Tick 1) ≡ Some NoGeneral
+unfolding held accepted loyal_chains
+no_traitor = refl
+
+no_such_general : refusal (opening passer passing) (Post 12) ≡ Some NoGeneral
+unfolding held accepted loyal_chains
+no_such_general = refl

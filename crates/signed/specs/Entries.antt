@@ -1,0 +1,78 @@
+-- What a traitor's activation enters, and the chains that it sends (own; TOPLAS 1982, section 4, assumption A4).
+use Rattle.std.specs.Prelude.{ℕ, ◌%◌, ◌^◌, ◌==◌, nat_lt, Bool, not, cond, ◌&&◌, List, [], ◌∷◌, ◌++◌, map, filter, length, slice_get, Option, None, Some, is_some}
+use Rattle.std.specs.Int.{bit_at}
+use Rattle.label.specs.Labels.{on, generals, others}
+use Rattle.signed.specs.Chains.{Chain, begin, prolong}
+
+-- a chain, and whom it goes to, ascending
+pub record Dispatch : Type 0 where
+  pub chain : Chain
+  pub receivers : List ℕ
+
+-- an attempt of a traitor: to sign an order, or to pass on the chain that he holds at a place; in the receivers' number bit g stands for general g
+pub data Entry : Type 0 where
+  Sign : ℕ → ℕ → Entry
+  Pass : ℕ → ℕ → Entry
+
+-- what a program attempts with a value and the number of its receivers: of the value the low 32 bits are the order
+abbrev pub sign_order : ℕ → ℕ → Entry
+sign_order value bits = Sign (value % 2 ^ 32) bits
+
+-- and with the place of a chain that its general holds
+abbrev pub pass_on : ℕ → ℕ → Entry
+pass_on place bits = Pass place bits
+
+-- the generals whose bit is set, but for those who stand on the chain
+abbrev pub receivers_in : ℕ → ℕ → Chain → List ℕ
+receivers_in n bits ch = filter (λ p. (bit_at bits p == 1) && not (on ch.signers p)) (generals n)
+
+abbrev pub passed_on : ℕ → Option Chain → Option Chain
+passed_on g None = None
+passed_on g (Some ch) = prolong ch g
+
+-- the chain that an entry sends: it ends with the general's own signature
+abbrev pub chain_of : ℕ → ℕ → List Chain → Entry → Option Chain
+chain_of c g held (Sign order bits) = begin c g order
+chain_of c g held (Pass place bits) = passed_on g (slice_get held place)
+
+abbrev pub bits_of : Entry → ℕ
+bits_of (Sign order bits) = bits
+bits_of (Pass place bits) = bits
+
+-- an activation has at most so many entries
+abbrev pub most_entries : ℕ
+most_entries = 8
+
+-- an attempt is entered where there is such a chain, and room
+abbrev pub is_entered : ℕ → ℕ → List Chain → List Entry → Entry → Bool
+is_entered c g held entries e = is_some (chain_of c g held e) && nat_lt (length entries) most_entries
+
+-- what the program is answered
+abbrev pub answer_to : ℕ → ℕ → List Chain → List Entry → Entry → ℕ
+answer_to c g held entries e = cond (is_entered c g held entries e) 0 1
+
+-- the entries once this has been attempted too
+abbrev pub entered_also : ℕ → ℕ → List Chain → List Entry → Entry → List Entry
+entered_also c g held entries e = cond (is_entered c g held entries e) (entries ++ e ∷ []) entries
+
+-- the entries once all this has been attempted, in this order
+abbrev pub entered : ℕ → ℕ → List Chain → List Entry → List Entry → List Entry
+entered c g held entries [] = entries
+entered c g held entries (e ∷ attempts) = entered c g held (entered_also c g held entries e) attempts
+
+abbrev pub sent_by : ℕ → Option Chain → ℕ → List Dispatch
+sent_by n None bits = []
+sent_by n (Some ch) bits = record { chain = ch; receivers = receivers_in n bits ch } ∷ []
+
+-- what a traitor's entries send
+abbrev pub dispatched : ℕ → ℕ → ℕ → List Chain → List Entry → List Dispatch
+dispatched n c g held [] = []
+dispatched n c g held (e ∷ entries) = sent_by n (chain_of c g held e) (bits_of e) ++ dispatched n c g held entries
+
+-- a loyal general names all others who are not on the chain
+abbrev pub to_all_others : ℕ → Chain → Dispatch
+to_all_others n ch = record { chain = ch; receivers = others n ch.signers }
+
+-- the chains that go to p
+abbrev pub received : ℕ → List Dispatch → List Chain
+received p dispatches = map (λ x. x.chain) (filter (λ x. on x.receivers p) dispatches)

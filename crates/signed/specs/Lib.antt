@@ -1,0 +1,12 @@
+pub mod Chains
+pub mod Accepted
+pub mod Agreement
+pub mod Entries
+pub mod Contexts
+pub mod Campaign
+pub mod World
+pub mod Laws
+pub mod Chronicle
+pub mod Text
+pub mod Signers
+pub mod Verdicts

@@ -1,0 +1,13 @@
+//! Signed messages. What is said of them stands in specs/.
+#![tactic(auto)]
+
+mod chain;
+mod laws;
+mod signer;
+
+pub use chain::Chain;
+pub use laws::{
+    chains_are_few, chains_are_unforged, held_chains_are_few, idle_events_change_nothing,
+    signed_agreement, signed_verdicts_mean, signed_worlds_agree,
+};
+pub use signer::Signer;

@@ -1,0 +1,14 @@
+/* Tells general 1 the truth, and all others whether the board has counted an odd number of turns. */
+#include "byzlab.h"
+
+u64 counted(const struct context *context)
+{
+    u64 turn = board_add(0, 1);
+
+    honest(1);
+#pragma unroll
+    for (u64 receiver = 2; receiver < 13; receiver++)
+        if (receiver < context->generals)
+            sway(receiver, turn & 1);
+    return 0;
+}
