@@ -118,14 +118,7 @@ fn tell_children(
     for place in 0..trees.len() {
         let receiver = trees[place].space().general;
         if !front.on[usize::from(receiver)] {
-            tell(
-                count,
-                &names[..],
-                &rows[..],
-                size,
-                &mut trees[place],
-                front,
-            );
+            tell(count, &names[..], &rows[..], size, &mut trees[place], front);
         }
     }
 }
