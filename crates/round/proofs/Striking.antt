@@ -95,19 +95,19 @@ take_others (suc n) i x w at = elim (cases_Bool (on w n)) [
 ]
 
 -- the one at a place among so many names that are those off a label
-take_get : (k i : ℕ) (xs : List ℕ) → i < k → slice_get (take k xs) i ≡ slice_get xs i
+pub take_get : (k i : ℕ) (xs : List ℕ) → i < k → slice_get (take k xs) i ≡ slice_get xs i
 take_get zero i xs lt = absurd (omega arith)
 take_get (suc k) i [] lt = refl
 take_get (suc k) zero (x ∷ xs) lt = refl
 take_get (suc k) (suc i) (x ∷ xs) lt = take_get k i xs (omega arith)
 
-take_twice : (k i : ℕ) (xs : List ℕ) → i ≤ k → take i (take k xs) ≡ take i xs
+pub take_twice : (k i : ℕ) (xs : List ℕ) → i ≤ k → take i (take k xs) ≡ take i xs
 take_twice k zero xs le = refl
 take_twice zero (suc i) xs le = absurd (omega arith)
 take_twice (suc k) (suc i) [] le = refl
 take_twice (suc k) (suc i) (x ∷ xs) le = ap (λ zs. x ∷ zs) (take_twice k i xs (omega arith))
 
-on_get : (i x : ℕ) (xs : List ℕ) → slice_get xs i ≡ Some x → on xs x ≡ true
+pub on_get : (i x : ℕ) (xs : List ℕ) → slice_get xs i ≡ Some x → on xs x ≡ true
 on_get i x [] e = cc
 on_get zero x (y ∷ xs) e = let same : y ≡ x = cc in rw (eq-eqb y x same) refl
 on_get (suc i) x (y ∷ xs) e = rw (on_get i x xs e) (or_true (y == x))

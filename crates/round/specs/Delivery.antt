@@ -63,6 +63,14 @@ pub record IsDueIn (n c : ℕ) (row : List Letter) (t : LieutenantTree) : Type 0
 abbrev pub AreDueIn : ℕ → ℕ → List Letter → List LieutenantTree → Type 0
 AreDueIn n c row trees = (j : ℕ) (t : LieutenantTree) → slice_get trees j ≡ Some t → IsDueIn n c row t
 
+-- no two trees are of one lieutenant
+abbrev pub AreApart : List LieutenantTree → Type 0
+AreApart trees = (i j : ℕ) (t u : LieutenantTree) → slice_get trees i ≡ Some t → slice_get trees j ≡ Some u → t.general ≡ u.general → i ≡ j
+
+-- for the lieutenant of each tree its place
+abbrev pub AreSeats : List LieutenantTree → List ℕ → Type 0
+AreSeats trees seats = (length seats ≡ 13) × ((j : ℕ) (t : LieutenantTree) → slice_get trees j ≡ Some t → slice_index seats t.general ≡ j)
+
 -- a label that is shorter than those of the round of these letters
 pub record IsRoute (n : ℕ) (row : List Letter) (places : List ℕ) (k : ℕ) (f : Front) (trees : List LieutenantTree) : Type 0 where
   pub few : n ≤ 13
