@@ -2,14 +2,19 @@
 #![tactic(auto)]
 
 mod accounts;
+mod collecting;
 mod concluding;
+mod conducting;
 mod error;
 mod gate;
 mod gathering;
 mod holding;
 mod mustering;
+mod resident;
 mod shared;
+mod slot;
 mod taking;
+mod tally;
 mod task;
 
 pub use error::MusterError;

@@ -1,34 +1,32 @@
 //! Campaigns whose generals act in threads.
-ghost use Rattle.std.specs.Prelude.{◌≡◌, ◌≤◌, suc, All, List, IfOk, IsTrue};
+ghost use Rattle.std.specs.Prelude.{◌≡◌, suc, All, IfOk};
 ghost use Rattle.label.specs.Lieutenants.{AgreeInList};
 ghost use Rattle.label.specs.Oral.{IsBound};
 ghost use Rattle.board.specs.Board.{IsLegal};
-ghost use Rattle.round.specs.Scenario.{shape_of, is_traitor};
-ghost use Rattle.round.specs.Letters.{Letter as Written, messages};
-ghost use Rattle.round.specs.Told.{WasTold, AreLettersOf};
+ghost use Rattle.round.specs.Scenario.{is_traitor};
+ghost use Rattle.round.specs.Letters.{messages};
 ghost use Rattle.world.specs.Chronicle.{decisions, chronicle_of};
 ghost use Rattle.world.specs.Lists.{IsComplete, replayed, names_in};
 ghost use Rattle.world.specs.Replay.{replay_of};
 ghost use Rattle.world.specs.Safety.{IsShort};
 
+use crate::collecting::collect;
 use crate::concluding::{account, conclude, decide};
 use crate::error::MusterError;
-use crate::gate::{Gate, Gated};
+use crate::gate::Gate;
 use crate::shared::SharedBoard;
-use crate::task::Task;
 use board::Board;
-use round::{Letter, Scenario, Told};
-use std::alloc::{AllocError, Global};
+use round::Scenario;
+use std::alloc::Global;
 use std::sync::Wait;
-use std::thread;
 use std::thread::Threads;
 use world::Chronicle;
 
 /// How many bytes of stack a thread gets.
 const STACK: usize = 1 << 20;
 
-/// The scenario's campaign, in which for each round each general acts in a thread of his own. Before each access of a
-/// traitor's program to the board the gate may hold him.
+/// The scenario's campaign, in which each general acts in a thread of his own through all rounds, and posts his letters.
+/// Before each access of a traitor's program to the board the gate may hold him.
 ///
 /// Whatever programs the verifier accepted, whatever the gate does, and in whatever order the generals took the lock: the
 /// chronicle is that of a complete run, the replay of its own accesses. These are one legal history from the scenario's
@@ -41,7 +39,7 @@ const STACK: usize = 1 << 20;
 /// # Errors
 ///
 /// `Spawn` where a thread could not be started; those that were started are waited for first. `Memory` where memory is
-/// refused. `Unaccounted` where the letters are not those that the ledger accounts for; that with the
+/// refused, `Full` where a general's letter found the post full: that of the lowest general. `Unaccounted` where the letters are not those that the ledger accounts for; that with the
 /// threads that are started here this does not happen is not proved.
 pub fn muster<R: Threads + Wait + Sync, G: Gate + Sync>(
     rt: &R,
@@ -87,129 +85,4 @@ pub fn muster_with<R: Threads + Wait + Sync, G: Gate + Sync>(
     let accounts = account(alloc, &scenario, board.into_board(), letters)?;
     let decisions = decide(rt, alloc, &scenario, &accounts.told)?;
     Ok(conclude(scenario, accounts, decisions))
-}
-
-/// All letters, round by round.
-fn collect<R: Threads + Wait + Sync, G: Gate + Sync>(
-    rt: &R,
-    alloc: Global,
-    scenario: &Scenario,
-    gate: &G,
-    board: &SharedBoard,
-    stack: usize,
-) -> Result<Vec<Letter>, MusterError> {
-    let mut told = Told::new(alloc, scenario)?;
-    let mut letters = Vec::new(alloc);
-    let rounds = u32::from(scenario.bound()) + 1;
-    for round in 0..rounds {
-        let tasks = tasks(alloc, scenario, &told)?;
-        let mut row = round_by_threads(rt, alloc, tasks, gate, board, stack)?;
-        if !are_of_round(scenario, round + 1, row.as_slice()) {
-            return Err(MusterError::Unaccounted);
-        }
-        told.deliver(scenario, row.as_slice());
-        letters.append(&mut row)?;
-    }
-    Ok(letters)
-}
-
-/// The generals' tasks in the round to come, ascending.
-fn tasks(alloc: Global, scenario: &Scenario, told: &Told) -> Result<Vec<Task>, AllocError>
-    requires told { (before : List (List Written)) × WasTold scenario.now before told.now }
-    requires left { told.now.rounds ≤ scenario.now.bound }
-{
-    let generals = scenario.generals();
-    let mut tasks = Vec::with_capacity(alloc, usize::from(generals))?;
-    for general in 0..generals {
-        tasks.push(Task::new(alloc, scenario, told, general)?)?;
-    }
-    Ok(tasks)
-}
-
-/// The letters of a round, by a thread for each task. All threads that were started are waited for.
-fn round_by_threads<R: Threads + Wait + Sync, G: Gate + Sync>(
-    rt: &R,
-    alloc: Global,
-    tasks: Vec<Task>,
-    gate: &G,
-    board: &SharedBoard,
-    stack: usize,
-) -> Result<Vec<Letter>, MusterError> {
-    let mut handles = Vec::with_capacity(alloc, tasks.len())?;
-    let mut letters = Vec::with_capacity(alloc, tasks.len())?;
-    thread::scope(
-        thread::scope_env(),
-        rt,
-        |scope| -> Result<Vec<Letter>, MusterError> {
-            let mut refused = None;
-            for task in tasks {
-                let started = thread::Builder::new()
-                    .stack_size(stack)
-                    .spawn_scoped(scope, move || {
-                        let mut server = Gated {
-                            rt,
-                            alloc,
-                            gate,
-                            board,
-                            made: Vec::new(alloc),
-                        };
-                        task.letter(alloc, &mut server)
-                    });
-                match started {
-                    Ok(handle) => {
-                        if handles.push(handle).is_err() {
-                            refused = Some(MusterError::Memory);
-                            break;
-                        }
-                    }
-                    Err(_) => {
-                        refused = Some(MusterError::Spawn);
-                        break;
-                    }
-                }
-            }
-            for handle in handles {
-                match handle.join(rt) {
-                    Ok(letter) => {
-                        if letters.push(letter).is_err() && refused.is_none() {
-                            refused = Some(MusterError::Memory);
-                        }
-                    }
-                    Err(_) => {
-                        if refused.is_none() {
-                            refused = Some(MusterError::Memory);
-                        }
-                    }
-                }
-            }
-            match refused {
-                Some(error) => Err(error),
-                None => Ok(letters),
-            }
-        },
-    )
-}
-
-/// Whether the letters are of this round of the campaign.
-fn are_of_round(scenario: &Scenario, round: u32, row: &[Letter]) -> bool
-    ensures { IsTrue result → AreLettersOf scenario.now round row.now }
-{
-    for letter in row {
-        if !is_of_round(scenario, round, letter) {
-            return false;
-        }
-    }
-    true
-}
-
-/// Whether the letter is of this round of the campaign.
-fn is_of_round(scenario: &Scenario, round: u32, letter: &Letter) -> bool
-    ensures { IsTrue result → ((letter.now.round ≡ round) × (letter.now.outbox.shape ≡ shape_of scenario.now letter.now.general round)) }
-{
-    let shape = letter.outbox.shape();
-    letter.round == round
-        && shape.generals == u32::from(scenario.generals())
-        && shape.commander == u32::from(scenario.commander())
-        && shape.general == letter.general
-        && shape.round == round
 }

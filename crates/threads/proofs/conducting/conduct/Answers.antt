@@ -1,10 +1,10 @@
 use Rattle.std.proofs.Common.{◌≡◌, ◌+◌, ℕ, suc, List, [], ◌∷◌, ◌++◌, length-append, refl, sym, subst, ◌∙◌, arith}
 use Rattle.round.specs.Letters.{Letter}
 use Rattle.round.specs.Told.{AreLettersOf}
-use Rattle.threads.proofs.mustering.collect.Goals as goal
+use Rattle.threads.proofs.conducting.conduct.Goals as goal
 
 pub loop-round-init : goal.loop-round-init
-loop-round-init g c = ([], c.in_ok-told.ensures, refl)
+loop-round-init g c = ([], c.in_ok-told.ensures, refl, c.requires)
 
 pub tasks-requires-clause-told : goal.tasks-requires-clause-told
 tasks-requires-clause-told g c = (c.loop-round.invariant.0, c.loop-round.invariant.1)
@@ -48,4 +48,5 @@ loop-round-preserved g c =
       before ++ row ∷ [],
       c.deliver.ensures before c.loop-round.invariant.1,
       (omega arith),
+      c.in_ok-again.ensures,
     )
