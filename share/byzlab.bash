@@ -7,7 +7,7 @@
 _byzlab() {
     local word=${COMP_WORDS[COMP_CWORD]} commands="check asm dis book muster play audit help" offered
     case $COMP_CWORD:${COMP_WORDS[1]-}:$word in
-    1:*) offered="$commands -h --help" ;;
+    1:*) offered="$commands -h --help -V --version" ;;
     *:help:*) offered=$commands ;;
     *:play:-*) offered="--schedule -h --help" ;;
     *:check:-* | *:asm:-* | *:dis:-* | *:book:-* | *:muster:-* | *:audit:-*) offered="-h --help" ;;

@@ -1,5 +1,6 @@
-//! Times campaigns: from a scenario to its chronicle, and from text to text.
+//! Times campaigns: from a scenario to its chronicle, from text to text, and audits.
 
+use crate::audits::audit_time;
 use crate::median::median;
 use anyhow::{Result, bail};
 use round::Scenario;
@@ -124,6 +125,9 @@ fn report_campaign<R: Print + Eprint + Clock + AllocGlobal>(
     let time = text_time(alloc, rt, text.as_str(), sum)?;
     println!(rt; "from text to text, {campaign}")?;
     eprintln!(rt; "from text to text, {campaign}: {time} ns")?;
+    let time = audit_time(alloc, rt, &scenario, sum)?;
+    println!(rt; "audit, {campaign}")?;
+    eprintln!(rt; "audit, {campaign}: {time} ns")?;
     Ok(())
 }
 

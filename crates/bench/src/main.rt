@@ -1,7 +1,8 @@
-//! `bench`, which times the codec, the verifier, the machine, trees, rounds and campaigns: what it measures goes to standard
+//! `bench`, which times the codec, the verifier, the machine, trees, rounds, campaigns and audits: what it measures goes to standard
 //! output, which is the same at every run, and the times go to standard error.
 #![tactic(auto)]
 
+mod audits;
 mod bytecode;
 mod campaigns;
 mod figure;

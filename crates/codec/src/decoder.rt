@@ -119,7 +119,7 @@ pub fn first_fault(bytes: &[u8]) -> Option<(Fault, usize)>
     if bytes.len() % 8 != 0 {
         return Some((Fault::Length, units));
     }
-    if units == 0 || units > Program::MOST_UNITS {
+    if units == 0 || Program::MOST_UNITS < units {
         return Some((Fault::Count, 0));
     }
     first_fault_of(bytes, units)

@@ -1,11 +1,11 @@
 -- `clap` takes the words where the rule finds a task in them, and meets that task.
-use Rattle.std.proofs.Common.{◌≡◌, ◌∙◌, ◌==◌, ◌⊎◌, inl, inr, Bool, true, false, List, ℕ, [], ◌∷◌, Option, Some, None, ap, ap₂, codes, refl, subst, sym, find, is_some, option_map}
+use Rattle.std.proofs.Common.{◌≡◌, ◌∙◌, ◌==◌, inl, inr, Bool, true, false, List, ℕ, [], ◌∷◌, Option, Some, None, ap, ap₂, codes, refl, subst, sym, find, is_some, option_map}
 use Rattle.std.specs.List.{fold}
 use Rattle.std.specs.Str.{bytes_eq}
 use Rattle.std.proofs.lemmas.Slice.Eq.{bytes_eq-Decides}
 use Rattle.clap.specs.Kinds.{Kinds, or_else}
 use Rattle.clap.specs.Walk.{Names, Row, Text, Walk, answers_to, arg_by_long, arg_by_short, finished, idle, nothing_held, rows_after, settled, subcommand_met, walk, walk_from, walked}
-use Rattle.clap.specs.Simple.{Shape, built, entered, filled, help_rule, label_of, names_of, subcommand_of}
+use Rattle.clap.specs.Simple.{Shape, built, entered, label_of, names_of, subcommand_of}
 use Rattle.clap.specs.Faults.{check_fault, defaults_fault, entered_fault, fault_of, level_fault, settle_fault, walk_fault}
 use Rattle.clap.proofs.FaultLemmas.{stopped_fault}
 use Rattle.clap.proofs.OnLiterals.{clap_on_literals}
@@ -13,7 +13,7 @@ use Rattle.command_line.specs.Asked.{asked, file_in, is_end_of_flags, is_flag, t
 use Rattle.command_line.specs.Lab.{lab_app}
 use Rattle.command_line.specs.Told.{Told, one_file}
 use Rattle.command_line.proofs.AgreeLemmas.{Agrees, Fails, is_text, or_else-first, true_or_false}
-use Rattle.command_line.proofs.WordLemmas.{HasHelpAlone, help_word_fails}
+use Rattle.command_line.proofs.WordLemmas.{HasRequestsAlone, IsRequestOrUnknown, request_word_fails}
 use Rattle.command_line.proofs.TurnLemmas.{flag_turn, fold_stopped, plain_turn, turn_fails}
 use Rattle.command_line.proofs.FileLemmas.{FileAgrees, faults, file_agrees, file_shape, rows}
 use Rattle.command_line.proofs.AuditLemmas.{audit_agrees, audit_shape}
@@ -28,18 +28,19 @@ names = names_of (built lab_app)
 abbrev start : Walk
 start = walk_from nothing_held
 
-by_long : (word : Text) (b : Bool) → bytes_eq (codes "help") word ≡ b
-    → (arg_by_long top.rules word ≡ None) ⊎ (arg_by_long top.rules word ≡ Some (filled help_rule))
-by_long word true e = inr (rw e refl)
-by_long word false e = inl (rw e refl)
+by_long : (word : Text) (b v : Bool) → bytes_eq (codes "help") word ≡ b → bytes_eq (codes "version") word ≡ v
+    → IsRequestOrUnknown (arg_by_long top.rules word)
+by_long word true v e f = inr (inr (rw e refl))
+by_long word false true e f = inl (rw (e, f) refl)
+by_long word false false e f = inr (inl (rw (e, f) refl))
 
-by_short : (c : ℕ) (b : Bool) → (104 == c) ≡ b
-    → (arg_by_short top.rules c ≡ None) ⊎ (arg_by_short top.rules c ≡ Some (filled help_rule))
-by_short c true e = inr (rw e refl)
-by_short c false e = inl (rw e refl)
+by_short : (c : ℕ) (b v : Bool) → (104 == c) ≡ b → (86 == c) ≡ v → IsRequestOrUnknown (arg_by_short top.rules c)
+by_short c true v e f = inr (inr (rw e refl))
+by_short c false true e f = inl (rw (e, f) refl)
+by_short c false false e f = inr (inl (rw (e, f) refl))
 
-alone : HasHelpAlone top.rules
-alone = record { by_long = λ word. by_long word _ refl; by_short = λ c. by_short c _ refl }
+alone : HasRequestsAlone top.rules
+alone = record { by_long = λ word. by_long word _ _ refl refl; by_short = λ c. by_short c _ _ refl refl }
 
 lab_fails : (words : List Text) → Fails (walk_fault top names start words) → Fails (fault_of lab_app words)
 lab_fails words fails = or_else-first _ _ fails
@@ -159,7 +160,7 @@ at_other word rest other = elim (true_or_false (is_end_of_flags word)) [
   | inl dashes ↦
       subst (λ (w : Text). Fails (fault_of lab_app (w ∷ rest))) (sym ((bytes_eq-Decides word (codes "--")).0 dashes)) (at_dashes rest)
   | inr ends ↦ lab_fails (word ∷ rest) (turn_fails top names start word rest (elim (true_or_false (is_flag word)) [
-    | inl flag ↦ flag_turn top names 1 idle [] None word other ends (help_word_fails top.rules alone top.args_override_self [] None word ends flag)
+    | inl flag ↦ flag_turn top names 1 idle [] None word other ends (request_word_fails top.rules alone top.args_override_self [] None word ends flag)
     | inr plain ↦ rw (plain_turn top names 1 idle [] None word other ends plain) (λ e. cc)
   ]))
 ]

@@ -5,7 +5,7 @@ use Rattle.std.specs.Str.{chars}
 use Rattle.clap.specs.Lexer.{long_of}
 use Rattle.clap.specs.Kinds.{Kinds}
 use Rattle.clap.specs.Walk.{Held, Row, Rule, Text, Waiting, Walk, idle, plain, after_flag, bundle_met, arg_by_long, arg_by_short, long_or_other, plain_word, settled, takes_values}
-use Rattle.clap.specs.Simple.{filled, help_rule}
+use Rattle.clap.specs.Simple.{filled, help_rule, version_rule}
 use Rattle.clap.specs.Faults.{flag_word_fault, flags_fault, long_fault, option_fault, react_fault, settle_fault, short_fault, use_fault}
 use Rattle.command_line.specs.Asked.{is_end_of_flags, is_flag}
 use Rattle.command_line.proofs.AgreeLemmas.{Fails, or_else-first, or_else-second, true_or_false}
@@ -185,3 +185,41 @@ help_word_fails c alone again rows pending word =
     flag_word_fails c again rows pending word
     (λ p is. help_long_fails c again (held rows pending) (arg_by_long c p.0) p.1 (alone.by_long p.0))
     (λ x rest next. help_short_fails c again (held rows pending) (arg_by_short c x) rest next (alone.by_short x))
+
+-- ---- the flags are `--help` and `--version`, or `-h` and `-V`
+
+abbrev pub IsRequestOrUnknown : Option Rule → Type 0
+IsRequestOrUnknown rule = (rule ≡ Some (filled version_rule)) ⊎ IsHelpOrUnknown rule
+
+module _ (c : List Rule) (again : Bool) (h : Held) where
+  version_fails : Fails (react_fault c again (filled version_rule) [] h)
+  version_fails = or_else-second (settle_fault c again h) _ (λ e. cc)
+
+  version_long : (v : Option Text) → Fails (long_fault c again (Some (filled version_rule)) v h)
+  version_long None = version_fails
+  version_long (Some v) = λ e. cc
+
+  request_long_fails : (rule : Option Rule) (v : Option Text) → IsRequestOrUnknown rule → Fails (long_fault c again rule v h)
+  request_long_fails rule v known = elim known [
+    | inl version ↦ rw version (version_long v)
+    | inr other ↦ help_long_fails c again h rule v other
+  ]
+
+  request_short_fails : (rule : Option Rule) (rest : Text) (next : Held → Kinds) → IsRequestOrUnknown rule
+      → Fails (short_fault c again rule rest h next)
+  request_short_fails rule rest next known = elim known [
+    | inl version ↦ rw version (or_else-first _ _ version_fails)
+    | inr other ↦ help_short_fails c again h rule rest next other
+  ]
+
+pub record HasRequestsAlone (rules : List Rule) : Type 0 where
+  pub by_long : (name : Text) → IsRequestOrUnknown (arg_by_long rules name)
+  pub by_short : (c : ℕ) → IsRequestOrUnknown (arg_by_short rules c)
+
+pub request_word_fails : (c : List Rule) → HasRequestsAlone c → (again : Bool) (rows : List Row) (pending : Option (Text × List Text)) (word : Text)
+    → is_end_of_flags word ≡ false → is_flag word ≡ true
+    → Fails (flag_word_fault c again (long_of word) word (held rows pending))
+request_word_fails c alone again rows pending word =
+    flag_word_fails c again rows pending word
+    (λ p is. request_long_fails c again (held rows pending) (arg_by_long c p.0) p.1 (alone.by_long p.0))
+    (λ x rest next. request_short_fails c again (held rows pending) (arg_by_short c x) rest next (alone.by_short x))

@@ -4,8 +4,11 @@ use Rattle.clap.specs.Words.{App, Row, Rule, Text, first_of, new_app, new_rule, 
 use Rattle.command_line.specs.Told.{Told}
 
 -- a file, which has to be there
+abbrev pub required_rule : Text → Rule
+required_rule id = record (new_rule id) { value_names = 1; required = true }
+
 abbrev pub file_rule : Rule
-file_rule = record (new_rule (codes "file")) { value_names = 1; required = true }
+file_rule = required_rule (codes "file")
 
 -- a subcommand of one file
 abbrev pub file_app : Text → App
@@ -21,7 +24,7 @@ schedule_rule =
 
 -- a second file, which has to be there
 abbrev pub chronicle_rule : Rule
-chronicle_rule = record (new_rule (codes "second")) { value_names = 1; required = true }
+chronicle_rule = required_rule (codes "second")
 
 -- the subcommand of a scenario and perhaps a schedule
 abbrev pub play_app : App
@@ -41,7 +44,7 @@ with_audit_command app = with_subcommand app audit_app.top
 abbrev pub bare_app : App
 bare_app =
     let app = new_app (codes "byzlab") in
-    record app { top = record app.top { no_binary_name = true; subcommand_required = true } }
+    record app { top = record app.top { no_binary_name = true; subcommand_required = true; has_version = true } }
 
 -- the program with the subcommands of one file, and with all
 abbrev pub files_app : App

@@ -1,6 +1,6 @@
 -- Letters that stand, and have the context of their round, are those of their generals; and what letters of a round are.
-use Rattle.std.proofs.Common.{◌≡◌, IsTrue, ℕ, suc, ◌<◌, ◌≤◌, List, length, refl, sym, ap, subst, ◌∙◌, Bool, arith, Option, None, Some}
-use Rattle.std.specs.Prelude.{◌↔◌}
+use Rattle.std.proofs.Common.{◌≡◌, IsTrue, ℕ, zero, suc, ◌+◌, ◌<◌, ◌≤◌, List, [], ◌∷◌, ◌++◌, length, length-append, take, drop, refl, sym, ap, subst, ◌∙◌, Bool, arith, Option, None, Some}
+use Rattle.std.specs.Prelude.{◌↔◌, slice_get, sum_by}
 use Rattle.insn.specs.declared.insn.Insn.{Insn}
 use Rattle.label.specs.declared.shape.Shape.{Shape}
 use Rattle.board.specs.Board.{Access}
@@ -9,10 +9,10 @@ use Rattle.round.specs.Letters.{Letter}
 use Rattle.round.specs.Contexts.{AreWords, context_of, shape_told, outbox_told, loyal_letter}
 use Rattle.round.specs.Activation.{started}
 use Rattle.round.specs.Runs.{Runs, IsWithin, IsRunOf, IsLetter}
-use Rattle.round.specs.Told.{AreLettersOf}
+use Rattle.round.specs.Told.{AreLettersOf, AreRoundsOf}
 use Rattle.round.proofs.Loyal.{shape_is_told, letter_is}
 use Rattle.world.specs.World.{accesses_of}
-use Rattle.world.specs.Accounted.{IsLetterOf, IsAccountedRound}
+use Rattle.world.specs.Accounted.{IsLetterOf, IsAccountedRound, AreAccounted}
 use Rattle.threads.specs.Holding.{IsOver, Stands}
 
 none_reached : (p : Option ℕ) → IsWithin p 0
@@ -119,3 +119,21 @@ whose s before g (Some p) l h = (
 -- the letters of an accounted round are of that round
 pub are_of_round : (s : Scenario) (before : List (List Letter)) (piece : List Access) (row : List Letter) → IsAccountedRound s before piece row → AreLettersOf s (suc (length before)) row
 are_of_round s before piece row h i l at = whose s before i (program_of s i) l (h.each i l at).0
+
+rounds_from : (s : Scenario) (before rows : List (List Letter)) (ledger : List Access) → AreAccounted s before ledger rows → (i : ℕ) (row : List Letter) → slice_get rows i ≡ Some row → AreLettersOf s (suc (length before + i)) row
+rounds_from s before [] ledger h i row at = cc
+rounds_from s before (letters ∷ rows) ledger h zero row at =
+    let same : letters ≡ row = cc in
+    let e : suc (length before) ≡ suc (length before + 0) = omega arith in
+    (let A : ℕ → List Letter → Type 0 = λ n ls. AreLettersOf s n ls in
+    subst (λ (ls : List Letter). A (suc (length before + 0)) ls) same
+    (subst (λ (n : ℕ). A n letters) e (are_of_round s before (take (sum_by (λ l. length l.transcript) letters) ledger) letters h.0)))
+rounds_from s before (letters ∷ rows) ledger h (suc i) row at =
+    let e : suc (length (before ++ letters ∷ []) + i) ≡ suc (length before + suc i) = omega (arith, length-append before (letters ∷ [])) in
+    (let A : ℕ → Type 0 = λ n. AreLettersOf s n row in subst A e (rounds_from s (before ++ letters ∷ []) rows (drop (sum_by (λ l. length l.transcript) letters) ledger) h.1 i row at))
+
+-- the letters of each accounted round are of that round
+pub rounds_are : (s : Scenario) (ledger : List Access) (rows : List (List Letter)) → AreAccounted s [] ledger rows → AreRoundsOf s rows
+rounds_are s ledger rows h i row at =
+    let e : suc (0 + i) ≡ suc i = omega arith in
+    (let A : ℕ → Type 0 = λ n. AreLettersOf s n row in subst A e (rounds_from s [] rows ledger h i row at))

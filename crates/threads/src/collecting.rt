@@ -1,23 +1,22 @@
 //! The letters of a campaign whose generals stay in their threads for all rounds.
-ghost use Rattle.std.specs.Prelude.{◌≡◌, ℕ, ◌<◌, ◌≤◌, [], length, slice_index_or, IfOk};
+ghost use Rattle.std.specs.Prelude.{◌≡◌, ℕ, ◌<◌, ◌≤◌, [], suc, length, slice_index_or, IfOk};
+ghost use Rattle.round.specs.Told.{WasTold};
 ghost use Rattle.post.specs.Seen.{PosterSeen, poster_seen};
 
+use crate::camp::Camp;
 use crate::conducting::conduct;
 use crate::error::MusterError;
 use crate::gate::Gate;
-use crate::resident::Resident;
 use crate::shared::SharedBoard;
-use crate::slot::Slot;
-use crate::tally::Tally;
-use post::{Collector, Post, Poster};
-use round::{Letter, Scenario};
-use std::alloc::{AllocError, Global};
+use post::{Collector, Poster};
+use round::{Round, Scenario, Told};
+use std::alloc::Global;
 use std::sync::Wait;
 use std::thread;
-use std::thread::Threads;
+use std::thread::{JoinHandle, Threads};
 
-/// All letters, round by round. Each general acts in a thread of his own through all rounds, with a stack of so many
-/// bytes. All threads that were started have ended when it answers.
+/// The letters of all rounds, in each round by general, and what they told. Each general acts in a thread of his own through
+/// all rounds, with a stack of so many bytes. All threads that were started have ended when it answers.
 ///
 /// # Errors
 ///
@@ -30,114 +29,103 @@ pub(crate) fn collect<R: Threads + Wait + Sync, G: Gate + Sync>(
     gate: &G,
     board: &SharedBoard,
     stack: usize,
-) -> Result<Vec<Letter>, MusterError> {
-    let generals = scenario.generals();
-    let (post, posters, collector) = Post::new(alloc, generals, usize::from(generals))?;
-    let slots = empty_slots(alloc, generals)?;
-    let tally = Tally::new(usize::from(generals));
-    through_residents(
-        rt,
-        alloc,
-        scenario,
-        gate,
-        board,
-        &post,
-        posters,
-        collector,
-        slots.as_slice(),
-        &tally,
-        stack,
-    )
-}
-
-/// An empty slot for each general.
-fn empty_slots(alloc: Global, generals: u8) -> Result<Vec<Slot>, AllocError>
-    ensures { IfOk result (λ slots. length slots.items ≡ generals) }
+) -> Result<(Vec<Round>, Told), MusterError>
+    ensures rounds { IfOk result (λ r. length r.0.items ≡ suc scenario.now.bound) }
+    ensures told { IfOk result (λ r. WasTold scenario.now r.0.items r.1) }
 {
-    let mut slots = Vec::with_capacity(alloc, usize::from(generals))?;
-    for _ in 0..generals {
-        slots.push(Slot::new())?;
-    }
-    Ok(slots)
+    let (camp, posters, collector) = Camp::new(alloc, scenario.generals(), gate, board)?;
+    through_residents(rt, alloc, scenario, &camp, posters, collector, stack)
 }
 
-/// The letters of the generals of these posters.
+/// The same, from the generals of these posters, in this camp.
 fn through_residents<R: Threads + Wait + Sync, G: Gate + Sync>(
     rt: &R,
     alloc: Global,
     scenario: &Scenario,
-    gate: &G,
-    board: &SharedBoard,
-    post: &Post,
+    camp: &Camp<G>,
     mut posters: Vec<Poster>,
     collector: Collector,
-    slots: &[Slot],
-    tally: &Tally,
     stack: usize,
-) -> Result<Vec<Letter>, MusterError>
+) -> Result<(Vec<Round>, Told), MusterError>
     requires few { length posters.items < 256 }
-    requires posters { (g : ℕ) (d : PosterSeen) → g < length posters.items → slice_index_or posters.items g d ≡ poster_seen post.now.post g [] }
-    requires slots { length posters.items ≤ length slots.now }
-    requires collector { collector.post ≡ post.now.post }
+    requires posters { (g : ℕ) (d : PosterSeen) → g < length posters.items → slice_index_or posters.items g d ≡ poster_seen camp.now.post.post g [] }
+    requires slots { length posters.items ≤ length camp.now.slots.items }
+    requires collector { collector.post ≡ camp.now.post.post }
+    ensures rounds { IfOk result (λ r. length r.0.items ≡ suc scenario.now.bound) }
+    ensures told { IfOk result (λ r. WasTold scenario.now r.0.items r.1) }
 {
     let mut handles = Vec::with_capacity(alloc, posters.len())?;
     thread::scope(
         thread::scope_env(),
         rt,
-        |scope| -> Result<Vec<Letter>, MusterError>
+        |scope| -> Result<(Vec<Round>, Told), MusterError>
             requires few { length posters.items < 256 }
-            requires posters { (g : ℕ) (d : PosterSeen) → g < length posters.items → slice_index_or posters.items g d ≡ poster_seen post.now.post g [] }
-            requires slots { length posters.items ≤ length slots.now }
-            requires collector { collector.post ≡ post.now.post }
+            requires posters { (g : ℕ) (d : PosterSeen) → g < length posters.items → slice_index_or posters.items g d ≡ poster_seen camp.now.post.post g [] }
+            requires slots { length posters.items ≤ length camp.now.slots.items }
+            requires collector { collector.post ≡ camp.now.post.post }
+            ensures rounds { IfOk result (λ r. length r.0.items ≡ suc scenario.entry.now.bound) }
+            ensures told { IfOk result (λ r. WasTold scenario.entry.now r.0.items r.1) }
         {
             let mut refused = None;
             while let Some(poster) = posters.pop() {
-                let place = posters.len();
-                let resident = Resident {
-                    general: place as u32,
-                    gate,
-                    board,
-                    slot: &slots[place],
-                    tally,
-                };
+                let resident = camp.resident(posters.len() as u8);
                 let started = thread::Builder::new().stack_size(stack).spawn_scoped(
                     scope,
                     move || -> Result<(), MusterError>
-                        requires post { poster.post ≡ post.now.post }
+                        requires post { poster.post ≡ camp.now.post.post }
                         requires general { poster.general ≡ resident.general }
-                    { resident.serve(rt, alloc, post, poster) },
+                    { resident.serve(rt, alloc, &camp.post, poster) },
                 );
-                match started {
-                    Ok(handle) => {
-                        if handles.push(handle).is_err() {
-                            refused = Some(MusterError::Memory);
-                            break;
-                        }
-                    }
-                    Err(_) => {
-                        refused = Some(MusterError::Spawn);
-                        break;
-                    }
+                refused = match started {
+                    Err(_) => Some(MusterError::Spawn),
+                    Ok(handle) => handles.push(handle).err().map(MusterError::from),
+                };
+                if refused.is_some() {
+                    break;
                 }
             }
-            let letters = match refused {
-                Some(error) => Err(error),
-                None => conduct(rt, alloc, scenario, post, collector, slots, tally),
-            };
-            for slot in slots {
-                slot.close(rt);
-            }
-            // The lowest general's thread was started last.
-            let mut failed = refused;
-            for handle in handles {
-                if let Err(error) = handle.join(rt) {
-                    failed = Some(error);
-                }
-            }
-            match failed {
-                Some(error) => Err(error),
-                None => letters,
-            }
+            finish(rt, alloc, scenario, camp, collector, handles, refused)
         },
     )
+}
+
+/// Conducts the rounds, unless something was refused, then sends the generals home and waits for their threads.
+fn finish<R: Threads + Wait, G>(
+    rt: &R,
+    alloc: Global,
+    scenario: &Scenario,
+    camp: &Camp<G>,
+    collector: Collector,
+    handles: Vec<JoinHandle<Result<(), MusterError>>>,
+    refused: Option<MusterError>,
+) -> Result<(Vec<Round>, Told), MusterError>
+    requires { collector.post ≡ camp.now.post.post }
+    ensures rounds { IfOk result (λ r. length r.0.items ≡ suc scenario.now.bound) }
+    ensures told { IfOk result (λ r. WasTold scenario.now r.0.items r.1) }
+{
+    let outcome = match refused {
+        Some(error) => Err(error),
+        None => conduct(rt, alloc, scenario, camp, collector),
+    };
+    camp.close(rt);
+    match failure(rt, handles, refused) {
+        Some(error) => Err(error),
+        None => outcome,
+    }
+}
+
+/// Waits for the threads of the generals, who were started from the highest on: the error of the lowest who has failed,
+/// else what was refused before.
+fn failure<R: Threads>(
+    rt: &R,
+    handles: Vec<JoinHandle<Result<(), MusterError>>>,
+    refused: Option<MusterError>,
+) -> Option<MusterError> {
+    let mut failed = refused;
+    for handle in handles {
+        if let Err(error) = handle.join(rt) {
+            failed = Some(error);
+        }
+    }
+    failed
 }

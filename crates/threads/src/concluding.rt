@@ -15,16 +15,16 @@ ghost use Rattle.threads.specs.declared.error.MusterError.TheVariants.{Spawn};
 
 use crate::accounts::Accounts;
 use crate::error::MusterError;
-use crate::gathering::gathered;
+use crate::holding::are_accounted;
 use arrayvec::ArrayVec;
 use board::Board;
 use resolve::resolve_all;
-use round::{Letter, Scenario, Told};
+use round::{Round, Scenario, Told};
 use std::alloc::{AllocError, Global};
 use std::thread::Threads;
 use world::Chronicle;
 
-/// The accesses of a board that served a campaign, with the letters, in whatever order, that they account for.
+/// The accesses of a board that served a campaign, with the letters by round, all of which were told, that they account for.
 ///
 /// # Errors
 ///
@@ -34,8 +34,11 @@ pub(crate) fn account(
     alloc: Global,
     scenario: &Scenario,
     board: Board,
-    letters: Vec<Letter>,
+    rows: Vec<Round>,
+    told: Told,
 ) -> Result<Accounts, MusterError>
+    requires rounds { length rows.items ≡ suc scenario.now.bound }
+    requires told { WasTold scenario.now rows.items told }
     ensures legal { IfOk result (λ a. IsLegal scenario.now.board a.accesses.items) }
     ensures accounted { IfOk result (λ a. AreAccounted scenario.now [] a.accesses.items a.rows.items) }
     ensures told { IfOk result (λ a. WasTold scenario.now a.rows.items a.told) }
@@ -45,7 +48,16 @@ pub(crate) fn account(
         return Err(MusterError::Unaccounted);
     }
     let accesses = board.into_ledger();
-    let (rows, told) = gathered(alloc, scenario, accesses.as_slice(), letters)?;
+    if !are_accounted(
+        alloc,
+        &told,
+        scenario,
+        rows.as_slice(),
+        0,
+        accesses.as_slice(),
+    )? {
+        return Err(MusterError::Unaccounted);
+    }
     Ok(Accounts {
         accesses,
         rows,

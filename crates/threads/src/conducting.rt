@@ -1,53 +1,51 @@
-//! A campaign's rounds, conducted through the generals' slots and the post.
-ghost use Rattle.std.specs.Prelude.{◌≡◌, ◌≤◌, List, IfOk, IsTrue};
-ghost use Rattle.round.specs.Scenario.{shape_of};
+//! A campaign's rounds, conducted through the generals' camp.
+ghost use Rattle.std.specs.Prelude.{◌≡◌, ◌≤◌, suc, List, length, IfOk};
 ghost use Rattle.round.specs.Letters.{Letter as Written};
-ghost use Rattle.round.specs.Told.{WasTold, AreLettersOf};
+ghost use Rattle.round.specs.Told.{WasTold};
 
+use crate::camp::Camp;
 use crate::error::MusterError;
-use crate::slot::Slot;
-use crate::tally::Tally;
+use crate::rounds::are_of_round;
 use crate::task::Task;
 use post::{Collector, Post};
-use round::{Letter, Scenario, Told};
+use round::{Letter, Round, Scenario, Told};
 use std::alloc::{AllocError, Global};
 use std::sync::Wait;
 
-/// All letters, round by round: the generals are given their tasks, and when all have posted their letters, these are
-/// taken.
+/// The letters of all rounds, in each round by general, and what they told: the generals of the camp are given their tasks,
+/// and when all have posted their letters, these are taken.
 ///
 /// # Errors
 ///
 /// `Memory` where memory is refused, `Unaccounted` where a general has failed or letters are not of their round.
-pub(crate) fn conduct<R: Wait>(
+pub(crate) fn conduct<R: Wait, G>(
     rt: &R,
     alloc: Global,
     scenario: &Scenario,
-    post: &Post,
+    camp: &Camp<G>,
     mut collector: Collector,
-    slots: &[Slot],
-    tally: &Tally,
-) -> Result<Vec<Letter>, MusterError>
-    requires { collector.post ≡ post.now.post }
+) -> Result<(Vec<Round>, Told), MusterError>
+    requires { collector.post ≡ camp.now.post.post }
+    ensures rounds { IfOk result (λ r. length r.0.items ≡ suc scenario.now.bound) }
+    ensures told { IfOk result (λ r. WasTold scenario.now r.0.items r.1) }
 {
+    let rounds = scenario.bound() + 1;
     let mut told = Told::new(alloc, scenario)?;
-    let mut letters = Vec::new(alloc);
-    let rounds = u32::from(scenario.bound()) + 1;
+    let mut rows = Vec::with_capacity(alloc, usize::from(rounds))?;
     for round in 0..rounds {
-        let tasks = tasks(alloc, scenario, &told)?;
-        hand_out(rt, slots, tasks);
-        if !tally.all_posted(rt) {
+        camp.hand_out(rt, tasks(alloc, scenario, &told)?);
+        if !camp.tally.all_posted(rt) {
             return Err(MusterError::Unaccounted);
         }
-        let (again, mut row) = taken(rt, alloc, post, collector)?;
+        let (again, letters) = taken(rt, alloc, &camp.post, collector)?;
         collector = again;
-        if !are_of_round(scenario, round + 1, row.as_slice()) {
+        if !are_of_round(scenario, u32::from(round) + 1, letters.as_slice()) {
             return Err(MusterError::Unaccounted);
         }
-        told.deliver(scenario, row.as_slice());
-        letters.append(&mut row)?;
+        told.deliver(scenario, letters.as_slice());
+        rows.push(Round { letters })?;
     }
-    Ok(letters)
+    Ok((rows, told))
 }
 
 /// The generals' tasks in the round to come, ascending.
@@ -61,13 +59,6 @@ fn tasks(alloc: Global, scenario: &Scenario, told: &Told) -> Result<Vec<Task>, A
         tasks.push(Task::new(alloc, scenario, told, general)?)?;
     }
     Ok(tasks)
-}
-
-/// Puts each general's task into his slot.
-fn hand_out<R: Wait>(rt: &R, slots: &[Slot], tasks: Vec<Task>) {
-    for (slot, task) in slots.iter().zip(tasks) {
-        slot.open(rt, task);
-    }
 }
 
 /// The letters that are in the post, by generals.
@@ -91,28 +82,4 @@ fn taken<R: Wait>(
     }
     row.sort_unstable_by_key(|letter| letter.general);
     Ok((collector, row))
-}
-
-/// Whether the letters are of this round of the campaign.
-fn are_of_round(scenario: &Scenario, round: u32, row: &[Letter]) -> bool
-    ensures { IsTrue result → AreLettersOf scenario.now round row.now }
-{
-    for letter in row {
-        if !is_of_round(scenario, round, letter) {
-            return false;
-        }
-    }
-    true
-}
-
-/// Whether the letter is of this round of the campaign.
-fn is_of_round(scenario: &Scenario, round: u32, letter: &Letter) -> bool
-    ensures { IsTrue result → ((letter.now.round ≡ round) × (letter.now.outbox.shape ≡ shape_of scenario.now letter.now.general round)) }
-{
-    let shape = letter.outbox.shape();
-    letter.round == round
-        && shape.generals == u32::from(scenario.generals())
-        && shape.commander == u32::from(scenario.commander())
-        && shape.general == letter.general
-        && shape.round == round
 }

@@ -57,69 +57,75 @@ fn stands(scenario: &Scenario, piece: &[Access], general: u8, round: u32, letter
         && is_part(piece, u32::from(general), letter.transcript.as_slice())
 }
 
-/// Whether a letter's context is what its general is told.
+/// Whether a letter's context is what its general was told after so many rounds.
 fn has_context(
     alloc: Global,
     told: &Told,
     scenario: &Scenario,
+    rounds: u8,
     general: u8,
     letter: &Letter,
 ) -> Result<bool, AllocError>
-    requires told { (before : List (List Written)) × WasTold scenario.now before told.now }
-    requires left { told.now.rounds ≤ scenario.now.bound }
+    requires told { (rows : List (List Written)) × WasTold scenario.now rows told.now }
+    requires passed { rounds ≤ told.now.rounds }
+    requires left { rounds ≤ scenario.now.bound }
     requires general { general < scenario.now.generals }
-    ensures context { IfOk result (λ b. (before : List (List Written)) → WasTold scenario.now before told.now → IsTrue b ↔ (letter.now.context ≡ context_of scenario.now before general)) }
-    ensures words { OnOk result ((before : List (List Written)) → WasTold scenario.now before told.now → AreWords scenario.now before general) }
+    ensures context { IfOk result (λ b. (rows : List (List Written)) → WasTold scenario.now rows told.now → IsTrue b ↔ (letter.now.context ≡ context_of scenario.now (take rounds rows) general)) }
+    ensures words { OnOk result ((rows : List (List Written)) → WasTold scenario.now rows told.now → AreWords scenario.now (take rounds rows) general) }
 {
-    let context = told.context(alloc, scenario, general)?;
+    let context = told.context_after(alloc, scenario, general, rounds)?;
     Ok(letter.context.as_slice() == context.as_slice())
 }
 
-/// Whether a letter is that of its general in the round to come, and the accesses are its transcript.
+/// Whether a letter is that of its general in the round behind so many, and the accesses are its transcript.
 fn holds_letter(
     alloc: Global,
     told: &Told,
     scenario: &Scenario,
+    rounds: u8,
     piece: &[Access],
     general: u8,
     letter: &Letter,
 ) -> Result<bool, AllocError>
-    requires told { (before : List (List Written)) × WasTold scenario.now before told.now }
-    requires left { told.now.rounds ≤ scenario.now.bound }
+    requires told { (rows : List (List Written)) × WasTold scenario.now rows told.now }
+    requires passed { rounds ≤ told.now.rounds }
+    requires left { rounds ≤ scenario.now.bound }
     requires general { general < scenario.now.generals }
-    ensures { IfOk result (λ b. (before : List (List Written)) → WasTold scenario.now before told.now →
-        IsTrue b ↔ (IsLetterOf scenario.now before general (program_of scenario.now general) letter.now × (accesses_of general piece.now ≡ letter.now.transcript))) }
+    ensures { IfOk result (λ b. (rows : List (List Written)) → WasTold scenario.now rows told.now →
+        IsTrue b ↔ (IsLetterOf scenario.now (take rounds rows) general (program_of scenario.now general) letter.now × (accesses_of general piece.now ≡ letter.now.transcript))) }
 {
     letter.tell();
     let _few = scenario.bound();
-    let round = u32::from(told.rounds()) + 1;
+    let round = u32::from(rounds) + 1;
     if !stands(scenario, piece, general, round, letter) {
         return Ok(false);
     }
-    let has = has_context(alloc, told, scenario, general, letter)?;
+    let has = has_context(alloc, told, scenario, rounds, general, letter)?;
     Ok(has)
 }
 
-/// Whether the letters are those of the round to come, and the accesses are theirs.
+/// Whether the letters are those of the round behind so many, and the accesses are theirs.
 fn holds_row(
     alloc: Global,
     told: &Told,
     scenario: &Scenario,
+    rounds: u8,
     piece: &[Access],
     row: &[Letter],
 ) -> Result<bool, AllocError>
-    requires told { (before : List (List Written)) × WasTold scenario.now before told.now }
-    requires left { told.now.rounds ≤ scenario.now.bound }
-    ensures { IfOk result (λ b. (before : List (List Written)) → WasTold scenario.now before told.now → IsTrue b ↔ IsAccountedRound scenario.now before piece.now row.now) }
+    requires told { (rows : List (List Written)) × WasTold scenario.now rows told.now }
+    requires passed { rounds ≤ told.now.rounds }
+    requires left { rounds ≤ scenario.now.bound }
+    ensures { IfOk result (λ b. (rows : List (List Written)) → WasTold scenario.now rows told.now → IsTrue b ↔ IsAccountedRound scenario.now (take rounds rows) piece.now row.now) }
 {
     let generals = scenario.generals();
-    let round = u32::from(told.rounds()) + 1;
+    let round = u32::from(rounds) + 1;
     if row.len() != usize::from(generals) || !are_known(piece, u32::from(generals), round) {
         return Ok(false);
     }
     for general in 0..generals {
         let letter = &row[usize::from(general)];
-        if !holds_letter(alloc, told, scenario, piece, general, letter)? {
+        if !holds_letter(alloc, told, scenario, rounds, piece, general, letter)? {
             return Ok(false);
         }
     }
@@ -138,30 +144,29 @@ fn accesses(row: &[Letter], most: usize) -> usize
     count
 }
 
-/// Whether the rounds from one on are accounted for by the rest of the ledger. Where they are, all rounds were told.
+/// Whether the rounds from one on are accounted for by the rest of the ledger, where all of them were told.
 pub(crate) fn are_accounted(
     alloc: Global,
-    told: &mut Told,
+    told: &Told,
     scenario: &Scenario,
     rows: &[Round],
-    at: usize,
+    at: u8,
     rest: &[Access],
 ) -> Result<bool, AllocError>
     requires rounds { length rows.now ≡ suc scenario.now.bound }
     requires at { at ≤ length rows.now }
-    requires told { WasTold scenario.now (take at rows.now) told.old }
-    ensures exact { IfOk result (λ b. IsTrue b ↔ AreAccounted scenario.now (take at rows.now) rest.now (drop at rows.now)) }
-    ensures told { IfOk result (λ b. IsTrue b → WasTold scenario.now rows.now told.new) }
+    requires told { WasTold scenario.now rows.now told.now }
+    ensures { IfOk result (λ b. IsTrue b ↔ AreAccounted scenario.now (take at rows.now) rest.now (drop at rows.now)) }
 {
-    if at == rows.len() {
+    if usize::from(at) == rows.len() {
         return Ok(rest.is_empty());
     }
-    let row = rows[at].letters();
+    let row = rows[usize::from(at)].letters();
     let (piece, later) = rest.split_at(accesses(row, rest.len()));
-    if !holds_row(alloc, told, scenario, piece, row)? {
+    if !holds_row(alloc, told, scenario, at, piece, row)? {
         return Ok(false);
     }
-    told.deliver(scenario, row);
+    let _few = scenario.bound();
     let more = are_accounted(alloc, told, scenario, rows, at + 1, later)?;
     Ok(more)
 }

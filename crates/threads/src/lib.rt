@@ -2,6 +2,7 @@
 #![tactic(auto)]
 
 mod accounts;
+mod camp;
 mod collecting;
 mod concluding;
 mod conducting;
@@ -11,6 +12,7 @@ mod gathering;
 mod holding;
 mod mustering;
 mod resident;
+mod rounds;
 mod shared;
 mod slot;
 mod taking;

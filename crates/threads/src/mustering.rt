@@ -39,8 +39,9 @@ const STACK: usize = 1 << 20;
 /// # Errors
 ///
 /// `Spawn` where a thread could not be started; those that were started are waited for first. `Memory` where memory is
-/// refused, `Full` where a general's letter found the post full: that of the lowest general. `Unaccounted` where the letters are not those that the ledger accounts for; that with the
-/// threads that are started here this does not happen is not proved.
+/// refused, `Full` where a general's letter found the post full: where generals fail, the error of the lowest.
+/// `Unaccounted` where the letters are not those that the ledger accounts for; that with the threads that are started here
+/// neither of the last two happens is not proved.
 pub fn muster<R: Threads + Wait + Sync, G: Gate + Sync>(
     rt: &R,
     alloc: Global,
@@ -81,8 +82,8 @@ pub fn muster_with<R: Threads + Wait + Sync, G: Gate + Sync>(
         AgreeInList scenario.generals scenario.commander scenario.order (is_traitor scenario) told.decisions) }
 {
     let board = SharedBoard::new(Board::new(alloc, *scenario.board()));
-    let letters = collect(rt, alloc, &scenario, gate, &board, stack)?;
-    let accounts = account(alloc, &scenario, board.into_board(), letters)?;
+    let (rows, told) = collect(rt, alloc, &scenario, gate, &board, stack)?;
+    let accounts = account(alloc, &scenario, board.into_board(), rows, told)?;
     let decisions = decide(rt, alloc, &scenario, &accounts.told)?;
     Ok(conclude(scenario, accounts, decisions))
 }

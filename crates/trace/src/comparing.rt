@@ -1,5 +1,5 @@
 //! Two texts, compared as the one is written.
-ghost use Rattle.std.specs.Prelude.{◌≡◌, ◌<◌, ◌≤◌, true, false, IfNone, IfSome, None, is_some, length, slice_get};
+ghost use Rattle.std.specs.Prelude.{◌≡◌, ◌≢◌, ◌<◌, ◌≤◌, true, false, IfNone, IfSome, None, is_some, length, slice_get, take};
 
 use crate::sink::Sink;
 
@@ -61,14 +61,32 @@ impl<'a> Sink for Comparison<'a> {
             self.failed = true;
             return None;
         }
-        match self.text.get(self.same) {
-            Some(next) if *next == *byte => self.same += 1,
-            _ => self.other = Some(*byte),
+        let alike = alike(&self.text[self.same..], piece);
+        if alike == 0 {
+            self.other = Some(*byte);
+            return Some(1);
         }
-        Some(1)
+        self.same += alike;
+        Some(alike)
     }
 
     fn failed(&self) -> bool {
         self.failed
     }
+}
+
+/// How many bytes are alike at the front of a text and of a piece.
+fn alike(text: &[u8], piece: &[u8]) -> usize
+    ensures text { result ≤ length text.now }
+    ensures piece { result ≤ length piece.now }
+    ensures alike { take result text.now ≡ take result piece.now }
+    ensures none { result ≡ 0 → 0 < length piece.now → slice_get text.now 0 ≢ slice_get piece.now 0 }
+{
+    let most = text.len().min(piece.len());
+    for count in 0..most {
+        if text[count] != piece[count] {
+            return count;
+        }
+    }
+    most
 }

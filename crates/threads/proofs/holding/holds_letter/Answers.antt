@@ -1,12 +1,13 @@
-use Rattle.std.proofs.Common.{◌+◌, refl, arith}
+use Rattle.std.proofs.Common.{◌≡◌, ◌+◌, length, take, refl, arith}
+use Rattle.std.proofs.lemmas.List.{length-take-le}
 use Rattle.threads.proofs.Whose.{holds}
 use Rattle.threads.proofs.holding.holds_letter.Goals as goal
 
 pub returns : goal.returns
-returns c before told =
+returns c rows told =
     let s = c.args.scenario.now in
-    let rounds = told.rounds in
-    let same = c.rounds.ensures in
+    let front = take c.args.rounds rows in
+    let long : length front ≡ c.args.rounds = length-take-le c.args.rounds rows (let a = c.requires.passed in let b = told.rounds in omega arith) in
     let wide = c.from-round.ensures in
-    holds s before c.args.piece.now c.args.general (c.from-round.result + 1) c.args.letter.now c.bound-few.ensures.whole c.requires.general
-    (let left = c.requires.left in omega arith) c.tell.ensures (omega arith) (c.in_ok-has.ensures.words before told) (c.if-not-stands.ensures.0 refl) _ (c.in_ok-has.ensures.context before told)
+    holds s front c.args.piece.now c.args.general (c.from-round.result + 1) c.args.letter.now c.bound-few.ensures.whole c.requires.general
+    (let left = c.requires.left in omega arith) c.tell.ensures (omega arith) (c.in_ok-has.ensures.words rows told) (c.if-not-stands.ensures.0 refl) _ (c.in_ok-has.ensures.context rows told)

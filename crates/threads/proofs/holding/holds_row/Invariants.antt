@@ -1,4 +1,4 @@
-use Rattle.std.proofs.Common.{◌≡◌, ◌<◌, ℕ, List, Some}
+use Rattle.std.proofs.Common.{◌≡◌, ◌<◌, ℕ, List, take, Some}
 use Rattle.std.specs.Prelude.{slice_get}
 use Rattle.round.specs.Letters.{Letter}
 use Rattle.round.specs.Scenario.{program_of}
@@ -9,5 +9,5 @@ use Rattle.threads.proofs.holding.holds_row.Given as goal
 
 abbrev pub invariant-loop-general : goal.invariant-loop-general
 invariant-loop-general l =
-    (before : List (List Letter)) → WasTold l.scenario before l.told → (k : ℕ) (x : Letter) → k < l.general → slice_get l.row k ≡ Some x →
-    IsLetterOf l.scenario before k (program_of l.scenario k) x × (accesses_of k l.piece ≡ x.transcript)
+    (rows : List (List Letter)) → WasTold l.scenario rows l.told → (k : ℕ) (x : Letter) → k < l.general → slice_get l.row k ≡ Some x →
+    IsLetterOf l.scenario (take l.rounds rows) k (program_of l.scenario k) x × (accesses_of k l.piece ≡ x.transcript)

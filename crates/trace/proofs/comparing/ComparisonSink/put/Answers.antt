@@ -1,0 +1,34 @@
+-- What is alike is taken.
+use Rattle.std.proofs.Common.{rules, ◌≡◌, ◌+◌, ◌-◌, ℕ, zero, suc, List, [], ◌∷◌, ◌++◌, length, take, drop, None, Option, refl, sym, ap, ◌∙◌, append_assoc, length-drop, arith}
+use Rattle.std.proofs.lemmas.List.{append-nil, take_all}
+use Rattle.trace.specs.Marks.{listed}
+use Rattle.trace.specs.Compared.{taken}
+use Rattle.trace.proofs.comparing.ComparisonSink.put.Goals as goal
+
+take_none : (n : ℕ) → take {A = ℕ} n [] ≡ []
+take_none zero = refl
+take_none (suc n) = refl
+
+take_both : (k n m : ℕ) (xs : List ℕ) → m ≡ k + n → take m xs ≡ take k xs ++ take n (drop k xs)
+take_both zero n m xs e = (let same : m ≡ n = omega arith in ap (λ (j : ℕ). take j xs) same)
+take_both (suc k) n zero xs e = absurd (omega arith)
+take_both (suc k) n (suc m) [] e = sym (take_none n)
+take_both (suc k) n (suc m) (x ∷ xs) e = ap (λ (l : List ℕ). x ∷ l) (take_both k n m xs (omega arith))
+
+taken_more : (text piece : List ℕ) (same n : ℕ) (other : Option ℕ) → other ≡ None → take n (drop same text) ≡ take n piece → taken text (same + n) other ≡ taken text same other ++ take n piece
+taken_more text piece same n other none alike =
+    let more : take (same + n) text ≡ take same text ++ take n piece = take_both same n (same + n) text refl ∙ ap (λ (l : List ℕ). take same text ++ l) alike in
+    let whole : take (same + n) text ++ listed other ≡ take (same + n) text = ap (λ (o : Option ℕ). take (same + n) text ++ listed o) none ∙ append-nil (take (same + n) text) in
+    let front : take same text ++ listed other ≡ take same text = ap (λ (o : Option ℕ). take same text ++ listed o) none ∙ append-nil (take same text) in
+    whole ∙ (more ∙ ap (λ (l : List ℕ). l ++ take n piece) (sym front))
+
+pub returns-clause-taken : goal.returns-clause-taken
+returns-clause-taken c =
+    let text = c.args.self.now.text.now in
+    let none : c.args.self.now.other ≡ None = search rules in
+    let rest : take (length text - c.args.self.now.same) (drop c.args.self.now.same text) ≡ drop c.args.self.now.same text = take_all (length text - c.args.self.now.same) (drop c.args.self.now.same text) (omega (arith, length-drop c.args.self.now.same text)) in
+    let alike : take c.alike-alike.result (drop c.args.self.now.same text) ≡ take c.alike-alike.result c.args.piece.now = ap (λ (l : List ℕ). take c.alike-alike.result l) (sym rest) ∙ c.alike-alike.ensures.alike in
+    let more = taken_more text c.args.piece.now c.args.self.now.same c.alike-alike.result c.args.self.now.other none alike in (
+      c.alike-alike.ensures.piece,
+      ap (λ (l : List ℕ). length text ∷ l) (ap (λ (l : List ℕ). text ++ l) more ∙ sym (append_assoc text (taken text c.args.self.now.same c.args.self.now.other) (take c.alike-alike.result c.args.piece.now))),
+    )
