@@ -63,7 +63,7 @@ impl fmt::Display for Traitor<'_> {
 }
 
 /// The text of a campaign with one traitor, who tells each of these receivers this order.
-pub fn with_traitor(
+pub(crate) fn with_traitor(
     alloc: Global,
     head: &str,
     general: u8,
@@ -95,17 +95,17 @@ fn with_program(alloc: Global, head: &str, program: &str, generals: &[u8]) -> Re
 }
 
 /// The text of a campaign in which 0 and 4 tell 1, 2 and 3 whether they came to the board second.
-pub fn counted(alloc: Global, head: &str) -> Result<String, Fail> {
+pub(crate) fn counted(alloc: Global, head: &str) -> Result<String, Fail> {
     with_program(alloc, head, COUNTING, &[0, 4])
 }
 
 /// The text of a campaign in which 5 swaps a word of the board, and gets another.
-pub fn spying(alloc: Global) -> Result<String, Fail> {
+pub(crate) fn spying(alloc: Global) -> Result<String, Fail> {
     with_program(alloc, SEVEN, SPYING, &[5])
 }
 
 /// The text of a campaign in which 9 to 12 take 4,096 steps and tell nothing.
-pub fn idle(alloc: Global) -> Result<String, Fail> {
+pub(crate) fn idle(alloc: Global) -> Result<String, Fail> {
     let mut program = String::new(alloc);
     for _ in 0..4095 {
         program.push_str("mov r0, 0\n")?;
@@ -115,24 +115,24 @@ pub fn idle(alloc: Global) -> Result<String, Fail> {
 }
 
 /// Four generals of whom 3 tells 1 and 2 to retreat, though the order is to attack.
-pub fn swayed(alloc: Global) -> Result<String, Fail> {
+pub(crate) fn swayed(alloc: Global) -> Result<String, Fail> {
     with_traitor(alloc, FOUR, 3, &[(1, 0), (2, 0)])
 }
 
 /// The campaign that a text tells.
-pub fn told(alloc: Global, text: &str) -> Result<Scenario, Fail> {
+pub(crate) fn told(alloc: Global, text: &str) -> Result<Scenario, Fail> {
     Ok(read(alloc, text)?)
 }
 
 /// The chronicle of a campaign by a schedule.
-pub fn played(alloc: Global, text: &str, schedule: &str) -> Result<Chronicle, Fail> {
+pub(crate) fn played(alloc: Global, text: &str, schedule: &str) -> Result<Chronicle, Fail> {
     let scenario = told(alloc, text)?;
     let schedule = read_schedule(alloc, schedule)?;
     Ok(play(alloc, scenario, &schedule)?)
 }
 
 /// The chronicle of a campaign in which these generals, by round, make their accesses in this order.
-pub fn replayed(alloc: Global, text: &str, names: &[&[u8]]) -> Result<Chronicle, Fail> {
+pub(crate) fn replayed(alloc: Global, text: &str, names: &[&[u8]]) -> Result<Chronicle, Fail> {
     let scenario = told(alloc, text)?;
     let mut rounds = Vec::new(alloc);
     for generals in names {
@@ -142,7 +142,7 @@ pub fn replayed(alloc: Global, text: &str, names: &[&[u8]]) -> Result<Chronicle,
 }
 
 /// The chronicle has this text.
-pub fn reads(
+pub(crate) fn reads(
     rt: &impl Abort,
     alloc: Global,
     chronicle: &Chronicle,
