@@ -8,9 +8,8 @@ use Rattle.label.specs.Labels.{on}
 use Rattle.label.proofs.Ranks.{others-more_no, others-more_yes}
 use Rattle.outbox.specs.Rows.{RowOrders, order_of_row}
 use Rattle.round.specs.Letters.{Letter, letter_of}
-use Rattle.round.specs.Delivery.{AreTellers, order_in_letter}
+use Rattle.round.specs.Delivery.{AreTellers, order_in_letter, Tellers}
 use Rattle.round.specs.declared.front.Front.{Front}
-use Rattle.round.specs.declared.tellers.Tellers.{Tellers}
 
 pub none_gathered : (row : List Letter) (n : ℕ) (f : Front) (t : Tellers) → t.count ≡ 0 → length t.generals ≡ 13 → length t.rows ≡ 13 → AreTellers row n f 0 t
 none_gathered row n f t none long wide = record {

@@ -6,9 +6,8 @@ use Rattle.outbox.specs.Receivers.{struck}
 use Rattle.outbox.proofs.RowLemmas.{others-few}
 use Rattle.tree.specs.LieutenantTree.{LieutenantTree, IsCampaign}
 use Rattle.round.specs.Letters.{Letter}
-use Rattle.round.specs.Delivery.{AreTellers, IsWalk}
+use Rattle.round.specs.Delivery.{AreTellers, IsWalk, Tellers}
 use Rattle.round.specs.declared.front.Front.{Front}
-use Rattle.round.specs.declared.tellers.Tellers.{Tellers}
 use Rattle.round.proofs.Striking.{named, struck_others}
 use Rattle.round.proofs.Walking.{all_children}
 

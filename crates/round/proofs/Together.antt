@@ -15,9 +15,8 @@ use Rattle.tree.specs.LieutenantTree.{LieutenantTree, IsFilled, SameCampaign, to
 use Rattle.round.specs.Letters.{Letter, letter_of}
 use Rattle.round.specs.Fronts.{IsFront, under}
 use Rattle.round.specs.Told.{round_of, told_now}
-use Rattle.round.specs.Delivery.{AreEach, AreOfCampaign, AreTellers, IsDueIn, IsFilledBetween, IsRoute, IsTold, IsToldUnder, IsWalk, first_under, order_in_letter, past_under}
+use Rattle.round.specs.Delivery.{AreEach, AreOfCampaign, AreTellers, IsDueIn, IsFilledBetween, IsRoute, IsTold, IsToldUnder, IsWalk, first_under, order_in_letter, past_under, Tellers}
 use Rattle.round.specs.declared.front.Front.{Front}
-use Rattle.round.specs.declared.tellers.Tellers.{Tellers}
 use Rattle.round.proofs.EachTree.{AreDone, done_next, done_same, not_done}
 use Rattle.round.proofs.Lists.{either_way}
 use Rattle.round.proofs.Delivering.{none_heard, told_all, told_none, told_on, told_one}

@@ -1,15 +1,15 @@
 -- Letters by their generals, and what of a round has been told (own).
+use Rattle.std.specs.Borrow.{Bor}
 use Rattle.std.specs.Prelude.{ℕ, suc, ◌-◌, ◌*◌, ◌<◌, ◌≤◌, ◌≡◌, true, false, List, length, take, slice_index, slice_index_or, slice_get, Option, None, Some}
 use Rattle.label.specs.Labels.{on, others, labels}
 use Rattle.label.specs.Oral.{Messages}
 use Rattle.tree.specs.LieutenantTree.{LieutenantTree, IsCampaign, IsFilled, SameCampaign}
 use Rattle.outbox.specs.Contents.{order_at}
-use Rattle.outbox.specs.Rows.{order_of_row}
+use Rattle.outbox.specs.Rows.{RowOrders, order_of_row}
 use Rattle.round.specs.Letters.{Letter, letter_of}
 use Rattle.round.specs.Told.{AreDue, told_now, heard_also, round_of}
 use Rattle.round.specs.Fronts.{IsFront, under}
 use Rattle.round.specs.declared.front.Front.{Front}
-use Rattle.round.specs.declared.tellers.Tellers.{Tellers}
 
 -- for each general the place of his letter, or past the last
 abbrev pub ArePlaces : List Letter → List ℕ → Type 0
@@ -75,6 +75,12 @@ pub record IsRoute (n : ℕ) (row : List Letter) (places : List ℕ) (k : ℕ) (
   pub inside : c < n
   pub front : IsFront n c w f
   pub due : AreDueIn n c row trees
+
+-- the generals off a label, the first so many of these, each with its row in his letter, where there is one
+pub record Tellers : Type 0 where
+  pub count : ℕ
+  pub generals : List ℕ
+  pub rows : List (Option (Bor RowOrders))
 
 -- of those who are off a label the ones below x, each with the label's row in his letter
 pub record AreTellers (row : List Letter) (n : ℕ) (f : Front) (x : ℕ) (t : Tellers) : Type 0 where

@@ -8,7 +8,7 @@ ghost use Rattle.round.specs.Delivery.{AreDueIn, AreEach, AreOfCampaign, ArePlac
 
 use crate::front::Front;
 use crate::letter::Letter;
-use crate::tellers::{Tellers, order_of, row_in};
+use crate::tellers::{gather, order_of, row_in, tell};
 use std::slice;
 use tree::Tree;
 
@@ -105,11 +105,20 @@ fn tell_children(
     requires last { front.now.size + 1 ≡ size }
     ensures { AreEach (IsToldUnder letters.now size front.now) trees.old trees.new }
 {
-    let tellers = Tellers::of(letters, places, generals, front);
+    let mut names = [0; 13];
+    let mut rows = [None; 13];
+    let count = gather(
+        letters,
+        places,
+        generals,
+        front,
+        &mut names[..],
+        &mut rows[..],
+    );
     for place in 0..trees.len() {
         let receiver = trees[place].space().general;
         if !front.on[usize::from(receiver)] {
-            tellers.tell(size, &mut trees[place], front);
+            tell(count, &names[..], &rows[..], size, &mut trees[place], front);
         }
     }
 }

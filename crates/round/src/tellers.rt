@@ -9,66 +9,66 @@ use crate::letter::Letter;
 use outbox::Row;
 use tree::Tree;
 
-/// The generals off a label, ascending, each with the row of the label in his letter, where there is one.
-#[derive(Drop)]
-pub(crate) struct Tellers<'a> {
-    /// How many they are.
-    pub count: usize,
-    /// They are the first of these.
-    pub generals: [u8; 13],
-    /// The rows, in the same order.
-    pub rows: [Option<&'a Row>; 13],
-}
-
-impl<'a> Tellers<'a> {
-    /// Those off the front, of so many generals, by these letters.
-    pub fn of(
-        letters: &'a [Letter],
-        places: &[usize; 13],
-        generals: u8,
-        front: &Front,
-    ) -> Tellers<'a>
-        requires few { generals ≤ 13 }
-        requires on { length front.now.on ≡ 13 }
-        requires ranks { length front.now.ranks ≡ 13 }
-        ensures { ArePlaces letters.now places.now → AreTellers letters.now generals front.now generals result }
-    {
-        let mut count = 0;
-        let mut names = [0; 13];
-        let mut rows = [None; 13];
-        for general in 0..generals {
-            let number = usize::from(general);
-            if !front.on[number] {
-                names[count] = general;
-                rows[count] = row_in(letters, places, general, front.ranks[number]);
-                count += 1;
-            }
-        }
-        Tellers {
-            count,
-            generals: names,
-            rows,
+/// Gathers the generals off the front, ascending, of so many, and for each the row of the label in his letter, where
+/// there is one: how many they are. What stands behind them means nothing.
+///
+/// They are gathered where the caller keeps them: to move them would take as long as to gather them.
+pub(crate) fn gather<'a>(
+    letters: &'a [Letter],
+    places: &[usize; 13],
+    generals: u8,
+    front: &Front,
+    names: &mut [u8],
+    rows: &mut [Option<&'a Row>],
+) -> usize
+    requires few { generals ≤ 13 }
+    requires on { length front.now.on ≡ 13 }
+    requires ranks { length front.now.ranks ≡ 13 }
+    requires long { length names.old ≡ 13 }
+    requires wide { length rows.old ≡ 13 }
+    ensures few { result ≤ 13 }
+    ensures long { length names.new ≡ 13 }
+    ensures wide { length rows.new ≡ 13 }
+    ensures tellers { ArePlaces letters.now places.now → AreTellers letters.now generals front.now generals (record { count = result; generals = names.new; rows = rows.new }) }
+{
+    let mut count = 0;
+    for general in 0..generals {
+        let number = usize::from(general);
+        if !front.on[number] {
+            names[count] = general;
+            rows[count] = row_in(letters, places, general, front.ranks[number]);
+            count += 1;
         }
     }
+    count
+}
 
-    /// Fills in what they tell the tree's lieutenant of the label, each with himself behind it.
-    pub fn tell(&self, size: u8, tree: &mut Tree, front: &Front)
-        requires told { (row : List Written) × (places : List ℕ) × IsWalk tree.old row places size front.now × AreTellers row tree.old.generals front.now tree.old.generals self.now }
-        requires last { front.now.size + 1 ≡ size }
-        ensures { (row : List Written) (places : List ℕ) → IsWalk tree.old row places size front.now → AreTellers row tree.old.generals front.now tree.old.generals self.now → IsFilledBetween tree.old row size (first_under tree.old front.now size) (past_under tree.old front.now size) tree.new }
-    {
-        let space = tree.space();
-        let count = u32::from(space.generals);
-        let width = count.saturating_sub(u32::from(size));
-        let first = front.ranks[usize::from(space.general)] * width;
-        let rows = &self.rows[..];
-        let mut place: u32 = 0;
-        for number in 0..self.count {
-            if self.generals[number] != space.general {
-                let value = order_of(rows[number], space.general);
-                tree.set(size, first + place, value);
-                place += 1;
-            }
+/// Fills in what so many generals off a label tell the tree's lieutenant of it, each with himself behind it.
+pub(crate) fn tell(
+    count: usize,
+    names: &[u8],
+    rows: &[Option<&Row>],
+    size: u8,
+    tree: &mut Tree,
+    front: &Front,
+)
+    requires told { (row : List Written) × (places : List ℕ) × IsWalk tree.old row places size front.now × AreTellers row tree.old.generals front.now tree.old.generals (record { count = count; generals = names.now; rows = rows.now }) }
+    requires last { front.now.size + 1 ≡ size }
+    requires few { count ≤ 13 }
+    requires long { length names.now ≡ 13 }
+    requires wide { length rows.now ≡ 13 }
+    ensures { (row : List Written) (places : List ℕ) → IsWalk tree.old row places size front.now → AreTellers row tree.old.generals front.now tree.old.generals (record { count = count; generals = names.now; rows = rows.now }) → IsFilledBetween tree.old row size (first_under tree.old front.now size) (past_under tree.old front.now size) tree.new }
+{
+    let space = tree.space();
+    let all = u32::from(space.generals);
+    let width = all.saturating_sub(u32::from(size));
+    let first = front.ranks[usize::from(space.general)] * width;
+    let mut place: u32 = 0;
+    for number in 0..count {
+        if names[number] != space.general {
+            let value = order_of(rows[number], space.general);
+            tree.set(size, first + place, value);
+            place += 1;
         }
     }
 }

@@ -18,7 +18,7 @@ tell-requires-clause-told c =
     let d = route.due i t (not_done (IsToldUnder row c.args.size f) c.args.trees.now i trees t c.loop-place.invariant lt at) in
     let own : c.from.result ≡ t.general = c.from.ensures ∙ (c.space-receiver.ensures.general ∙ ap (λ (u : LieutenantTree). u.general) (read_again trees i c.index-trees-place.result c.index-trees-place-then-not-front-from.result lt)) in
     let mark : slice_index_or f.on t.general false ≡ false = sym (ap (λ (g : ℕ). slice_index_or f.on g false) own) ∙ c.if-not-front-from.true in
-    (row, c.args.places.now, own_walk c.args.generals row c.args.places.now c.args.size f c.args.trees.now route t d mark route.w (own_front c.args.generals route.c row f route.w t d route.front), own_tellers c.args.generals row f c.of-tellers.result t d.generals (c.of-tellers.ensures route.posted))
+    (row, c.args.places.now, own_walk c.args.generals row c.args.places.now c.args.size f c.args.trees.now route t d mark route.w (own_front c.args.generals route.c row f route.w t d route.front), own_tellers c.args.generals row f (record { count = c.gather-count.result; generals = c.gather-count.new.names; rows = c.gather-count.new.rows }) t d.generals (c.gather-count.ensures.tellers route.posted))
 
 pub loop-place-preserved : goal.loop-place-preserved
 loop-place-preserved c =
@@ -33,7 +33,7 @@ loop-place-preserved c =
           let at = stays_read trees i w.index-trees-place-then-not-front-from.result lt in
           let own : c.from.result ≡ t.general = general ∙ ap (λ (u : LieutenantTree). u.general) (read_again trees i c.index-trees-place.result w.index-trees-place-then-not-front-from.result lt) in
           let mark : slice_index_or f.on t.general false ≡ false = sym (ap (λ (g : ℕ). slice_index_or f.on g false) own) ∙ w.if-not-front-from.true in
-          rw w.trees-is (leaf_told c.args.generals row c.args.places.now c.args.size f c.args.trees.now route i trees t w.tell.new.tree c.of-tellers.result c.loop-place.invariant lt at mark w.tell.ensures (c.of-tellers.ensures route.posted))
+          rw w.trees-is (leaf_told c.args.generals row c.args.places.now c.args.size f c.args.trees.now route i trees t w.tell.new.tree (record { count = c.gather-count.result; generals = c.gather-count.new.names; rows = c.gather-count.new.rows }) c.loop-place.invariant lt at mark w.tell.ensures (c.gather-count.ensures.tellers route.posted))
       | else-not-front-from w ↦
           let mark : slice_index_or f.on first.general false ≡ true = sym (ap (λ (g : ℕ). slice_index_or f.on g false) general) ∙ w.if-not-front-from.false in
           rw w.trees-is (leaf_left row c.args.size f c.args.trees.now i trees first c.loop-place.invariant lt (stays_read trees i c.index-trees-place.result lt) mark)

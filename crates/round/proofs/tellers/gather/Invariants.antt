@@ -1,6 +1,6 @@
 use Rattle.std.proofs.Common.{◌≡◌, ◌≤◌, length}
 use Rattle.round.specs.Delivery.{ArePlaces, AreTellers}
-use Rattle.round.proofs.tellers.Tellers.of.Given as goal
+use Rattle.round.proofs.tellers.gather.Given as goal
 
 abbrev pub invariant-loop-general : goal.invariant-loop-general
 invariant-loop-general l = record {

@@ -4,8 +4,8 @@ use Rattle.std.specs.Prelude.{slice_index, slice_index_or}
 use Rattle.round.specs.Letters.{letter_of}
 use Rattle.round.specs.Delivery.{order_in_letter}
 use Rattle.round.proofs.Gathering.{one_gathered, same_gathered}
-use Rattle.round.proofs.tellers.Tellers.of.Goals as goal
-use Rattle.round.proofs.tellers.Tellers.of.Goals.{then-not-front-number, else-not-front-number}
+use Rattle.round.proofs.tellers.gather.Goals as goal
+use Rattle.round.proofs.tellers.gather.Goals.{then-not-front-number, else-not-front-number}
 
 pub loop-general-preserved : goal.loop-general-preserved
 loop-general-preserved c =
