@@ -215,24 +215,6 @@ stays_read trees i u lt = same_default trees i u (get_or trees i u) lt
 pub own_tellers : (n : ℕ) (row : List Letter) (f : Front) (tellers : Tellers) (t : LieutenantTree) → t.generals ≡ n → AreTellers row n f n tellers → AreTellers row t.generals f t.generals tellers
 own_tellers n row f tellers t e all = rw e all
 
--- one tree more is told of a label's children
-pub leaf_told : (n : ℕ) (row : List Letter) (places : List ℕ) (k : ℕ) (f : Front) (old : List LieutenantTree) (route : IsRoute n row places k f old) (i : ℕ) (trees : List LieutenantTree) (t u : LieutenantTree) (tellers : Tellers) → AreDone (IsToldUnder row k f) old i trees → i < length trees → t ≡ get_or trees i t → slice_index_or f.on t.general false ≡ false →
-    ((letters : List Letter) (posts : List ℕ) → IsWalk t letters posts k f → AreTellers letters t.generals f t.generals tellers → IsFilledBetween t letters k (first_under t f k) (past_under t f k) u) → AreTellers row n f n tellers → AreDone (IsToldUnder row k f) old (i + 1) (set trees i u)
-leaf_told n row places k f old route i trees t u tellers h lt at mark told all =
-    let d = route.due i t (not_done (IsToldUnder row k f) old i trees t h lt at) in
-    let walk = own_walk n row places k f old route t d mark route.w (own_front n route.c row f route.w t d route.front) in
-    done_next (IsToldUnder row k f) old i trees t u h lt at (record {
-      on = λ e. absurd (unlike (slice_index_or f.on t.general false) e mark);
-      off = λ e. told row places walk (own_tellers n row f tellers t d.generals all);
-    })
-
-pub leaf_left : (row : List Letter) (k : ℕ) (f : Front) (old : List LieutenantTree) (i : ℕ) (trees : List LieutenantTree) (t : LieutenantTree) → AreDone (IsToldUnder row k f) old i trees → i < length trees → t ≡ get_or trees i t → slice_index_or f.on t.general false ≡ true → AreDone (IsToldUnder row k f) old (i + 1) trees
-leaf_left row k f old i trees t h lt at mark =
-    done_same (IsToldUnder row k f) old i trees t h lt at (record {
-      on = λ e. refl;
-      off = λ e. absurd (unlike (slice_index_or f.on t.general false) mark e);
-    })
-
 -- of the commander's label
 pub first_done : (n c : ℕ) (row : List Letter) (t u : LieutenantTree) (value : Option ℕ) → IsDueIn n c row t → round_of row ≡ 1 → value ≡ order_in_letter (letter_of row c) 0 t.general → SameCampaign t u →
     ((M : Messages) (w : List ℕ) → IsFilled t M → slice_get (labels t.generals t.commander t.general 1) 0 ≡ Some w → IsFilled u (told_also M w value)) → IsTold row t u
