@@ -72,3 +72,11 @@ next_gathered row n f x count t o h within small e tells = ⊎_elim
     let more : count ≡ t.count + 1 = e ∙ ap (λ (b : Bool). t.count + cond {A = ℕ} (not b) 1 0) q in
     rw more (one_gathered row n f x t o h within small q tells))
     (either_way (slice_index_or f.on x false))
+
+pub one_at_most : (m : ℕ) (b : Bool) → m ≡ cond {A = ℕ} b 1 0 → m ≤ 1
+one_at_most m true e = omega arith
+one_at_most m false e = omega arith
+
+pub counted : {m : ℕ} (b : Bool) (as_number : Bool → ℕ) → as_number true ≡ 1 → as_number false ≡ 0 → m ≡ as_number b → m ≡ cond {A = ℕ} b 1 0
+counted true as_number one none e = e ∙ one
+counted false as_number one none e = e ∙ none

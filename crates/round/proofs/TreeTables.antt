@@ -173,7 +173,7 @@ module _ (n : ℕ) (row : List Letter) (places : List ℕ) (k : ℕ) (f : Front)
     pub here : slice_get new place ≡ Some t
     pub was : slice_get old place ≡ Some t
     pub own : t.general ≡ x
-    pub mark : slice_index_or f.on t.general false ≡ false
+    pub off : slice_index_or f.on t.general false ≡ false
     pub due : IsDueIn n route.c row t
     pub walk : IsWalk t row places k f
     pub tellers_of : AreTellersOf row t f i tellers.rows
@@ -193,7 +193,7 @@ module _ (n : ℕ) (row : List Letter) (places : List ℕ) (k : ℕ) (f : Front)
         here = here;
         was = was;
         own = own_t;
-        mark = mark_t;
+        off = mark_t;
         due = d;
         walk = own_walk n row places k f old route t d mark_t route.w (own_front n route.c row f route.w t d route.front);
         tellers_of = record {
@@ -219,7 +219,7 @@ module _ (n : ℕ) (row : List Letter) (places : List ℕ) (k : ℕ) (f : Front)
             (eqb_tells j place);
         told = λ j a b was now it. ⊎_elim
             (λ (q : (j == place ≡ true) × (j ≡ place)).
-            rw (last j b q.1 now, sym (first next.was j a q.1 was)) (record { on = λ e. absurd (true≢false (sym e ∙ next.mark)); off = λ e. filled }))
+            rw (last j b q.1 now, sym (first next.was j a q.1 was)) (record { on = λ e. absurd (true≢false (sym e ∙ next.off)); off = λ e. filled }))
             (λ (q : (j == place ≡ false) × (j ≢ place)). h.told j a b was (sym (get_unset new place j u q.1) ∙ now) (sym (unnamed (take i tellers.generals) x a.general (elsewhere j a was q.1)) ∙ it))
             (eqb_tells j place);
         left = λ j a b was now no_name. ⊎_elim

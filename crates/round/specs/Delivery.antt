@@ -101,12 +101,12 @@ pub record AreTellers (row : List Letter) (n : ℕ) (f : Front) (x : ℕ) (t : T
   pub rows : (i p : ℕ) → i < t.count → order_of_row (slice_index_or t.rows i None) p ≡ order_in_letter (letter_of row (slice_index t.generals i)) (slice_index f.ranks (slice_index t.generals i)) p
 
 -- the rows of those who are off a label, of whom the tree's lieutenant is the one of that number
-pub record AreTellersOf (row : List Letter) (t : LieutenantTree) (f : Front) (own : ℕ) (rows : List (Option (Bor RowOrders))) : Type 0 where
+pub record AreTellersOf (row : List Letter) (t : LieutenantTree) (f : Front) (i : ℕ) (rows : List (Option (Bor RowOrders))) : Type 0 where
   pub count : ℕ
   pub generals : List ℕ
   pub all : AreTellers row t.generals f t.generals (record { count = count; generals = generals; rows = rows })
-  pub within : own < count
-  pub own : slice_index generals own ≡ t.general
+  pub within : i < count
+  pub own : slice_index generals i ≡ t.general
 
 -- what was told of the labels that begin with this one: nothing where the tree's lieutenant stands on it
 pub record IsToldUnder (row : List Letter) (k : ℕ) (f : Front) (t u : LieutenantTree) : Type 0 where
