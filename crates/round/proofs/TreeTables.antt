@@ -15,7 +15,7 @@ use Rattle.round.specs.Delivery.{AreApart, AreEach, AreTellers, AreTellersOf, Is
 use Rattle.round.specs.declared.front.Front.{Front}
 use Rattle.round.proofs.Lists.{either_way}
 use Rattle.round.proofs.Striking.{named, on_get, take_get, take_others, take_twice}
-use Rattle.round.proofs.Together.{own_front, own_tellers, own_walk}
+use Rattle.round.proofs.Together.{IsToldUpTo, own_front, own_tellers, own_walk, same_up}
 
 some_same : {A : Type 0} {a b : A} → Some a ≡ Some b → a ≡ b
 some_same e = cc
@@ -263,3 +263,15 @@ named_all n row places k f old new route tellers all h = record {
         off = λ q. (h.told j t u was now (whole ∙ in_others n t.general route.w within (sym standing ∙ q))).off q;
       };
 }
+
+-- along the walk
+pub table_up : (n : ℕ) (row : List Letter) (places : List ℕ) (k : ℕ) (f : Front) (old cur : List LieutenantTree) (route : IsRoute n row places k f old) (x : ℕ) → AreEach (IsToldUpTo row k f x) old cur → (table : List ℕ) → IsTreeTable old table → IsTreeTable cur table
+table_up n row places k f old cur route x told table h =
+    table_stays old cur table h told.count (λ j t u was now. (same_up n route.c row k f x route.w t u (route.due j t was) route.front (told.each j t u was now)).general)
+
+-- one tree alone
+pub alone_apart : (t : LieutenantTree) → AreApart (t ∷ [])
+alone_apart t zero zero a b first last e = refl
+alone_apart t zero (suc j) a b first last e = cc
+alone_apart t (suc i) zero a b first last e = cc
+alone_apart t (suc i) (suc j) a b first last e = cc

@@ -5,12 +5,13 @@ use Rattle.outbox.proofs.RowLemmas.{others-few}
 use Rattle.round.specs.Fronts.{IsFront}
 use Rattle.round.proofs.Walking.{child_long}
 use Rattle.round.proofs.Together.{up_from, up_on, up_off, up_all, child_route, below_more, below_same, ends_at}
+use Rattle.round.proofs.TreeTables.{table_up}
 use Rattle.round.proofs.delivery.+descend.Goals as goal
 use Rattle.round.proofs.delivery.+descend.Goals.{then-not-front-from, else-not-front-from}
 
 pub loop-general-init : goal.loop-general-init
 loop-general-init t c = record {
-  told = up_from c.args.generals c.args.letters.now c.args.places.now c.args.size c.args.front.now c.args.trees.now c.requires;
+  told = up_from c.args.generals c.args.letters.now c.args.places.now c.args.size c.args.front.now c.args.trees.now c.requires.route;
   below = λ d w h. refl;
 }
 
@@ -23,7 +24,8 @@ descend-requires t c =
     c.with-longer.ensures c.requires.route.c c.requires.route.w within c.requires.route.few c.requires.route.inside c.requires.route.front (sym (c.requires.route.front.marks x within) ∙ mark) (c.loop-general.invariant.below c.requires.route.c c.requires.route.w c.requires.route.front) in
     let size : c.with-longer.result.size ≡ f.size + 1 = child.size ∙ child_long c.args.generals c.requires.route.c x c.requires.route.w f c.requires.route.front in (
       let h = c.decreases in let m = c.requires.route.short in let e = c.if-front-size.false in omega arith,
-      child_route c.args.generals c.args.letters.now c.args.places.now c.args.size f c.with-longer.result c.args.trees.now c.loop-general.trees c.requires.route x c.if-front-size.false child c.loop-general.invariant.told,
+      (child_route c.args.generals c.args.letters.now c.args.places.now c.args.size f c.with-longer.result c.args.trees.now c.loop-general.trees c.requires.route x c.if-front-size.false child c.loop-general.invariant.told,
+      table_up c.args.generals c.args.letters.now c.args.places.now c.args.size f c.args.trees.now c.loop-general.trees c.requires.route x c.loop-general.invariant.told c.args.tree_of.now c.requires.table),
     )
 
 pub overflow_add-below : goal.overflow_add-below
