@@ -1,5 +1,5 @@
 -- The trees of all lieutenants, along one walk of the labels.
-use Rattle.std.proofs.Common.{◌≡◌, ◌≢◌, ℕ, ◌+◌, ◌-◌, ◌*◌, ◌<◌, List, [], ◌∷◌, ◌++◌, length, get_or, set, Bool, true, false, ◌||◌, cond, refl, sym, ap, subst, ◌∙◌, Some, Option, arith, ⊎_elim}
+use Rattle.std.proofs.Common.{◌≡◌, ◌≢◌, ℕ, ◌+◌, ◌-◌, ◌*◌, ◌<◌, List, [], ◌∷◌, ◌++◌, length, get_or, Bool, true, false, ◌||◌, cond, refl, sym, ap, subst, ◌∙◌, Some, Option, arith, ⊎_elim}
 use Rattle.std.specs.Prelude.{slice_get, slice_index, slice_index_or, ◌==◌}
 use Rattle.std.proofs.lemmas.Bool.{eq-eqb, ne_eqb, true≢false}
 use Rattle.std.proofs.lemmas.Bool.Decides.{eqb_tells}
@@ -15,9 +15,8 @@ use Rattle.tree.specs.LieutenantTree.{LieutenantTree, IsFilled, SameCampaign, to
 use Rattle.round.specs.Letters.{Letter, letter_of}
 use Rattle.round.specs.Fronts.{IsFront, under}
 use Rattle.round.specs.Told.{round_of, told_now}
-use Rattle.round.specs.Delivery.{AreEach, AreOfCampaign, AreTellers, IsDueIn, IsFilledBetween, IsRoute, IsTold, IsToldUnder, IsWalk, first_under, order_in_letter, past_under, Tellers}
+use Rattle.round.specs.Delivery.{AreEach, AreOfCampaign, AreTellers, IsDueIn, IsFilledBetween, IsRoute, IsTold, IsToldUnder, IsWalk, first_under, order_in_letter, Tellers}
 use Rattle.round.specs.declared.front.Front.{Front}
-use Rattle.round.proofs.EachTree.{AreDone, done_next, done_same, not_done}
 use Rattle.round.proofs.Lists.{either_way}
 use Rattle.round.proofs.Delivering.{none_heard, told_all, told_none, told_on, told_one}
 use Rattle.round.proofs.Walking.{all_children, child_long, first_told, same_campaign, same_due, told_ends, under_first, under_past}

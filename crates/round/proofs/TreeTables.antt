@@ -8,9 +8,8 @@ use Rattle.std.proofs.lemmas.Option.{slice_get-get_or, slice_get_read, slice_get
 use Rattle.label.specs.Labels.{on, others}
 use Rattle.label.proofs.Bounds.{others_here}
 use Rattle.label.proofs.Counting.{on-push, others-on}
-use Rattle.tree.specs.LieutenantTree.{LieutenantTree, IsCampaign, SameCampaign}
+use Rattle.tree.specs.LieutenantTree.{LieutenantTree}
 use Rattle.round.specs.Letters.{Letter}
-use Rattle.round.specs.Fronts.{IsFront}
 use Rattle.round.specs.Delivery.{AreApart, AreEach, AreTellers, AreTellersOf, IsDueIn, IsFilledBetween, IsRoute, IsToldUnder, IsTreeTable, IsWalk, Tellers, first_under, past_under}
 use Rattle.round.specs.declared.front.Front.{Front}
 use Rattle.round.proofs.Lists.{either_way}

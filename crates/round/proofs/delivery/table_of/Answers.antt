@@ -1,5 +1,5 @@
 -- Tree by tree.
-use Rattle.std.proofs.Common.{◌≡◌, ◌<◌, ◌≤◌, ◌∙◌, ℕ, length, refl, arith}
+use Rattle.std.proofs.Common.{◌<◌, ◌∙◌, length, refl, arith}
 use Rattle.round.proofs.TreeTables.{table_all, table_from, table_next}
 use Rattle.round.proofs.delivery.table_of.Goals as goal
 

@@ -32,13 +32,13 @@ loop-number-preserved c =
     elim c.if-place-trees.branch [
       | then-place-trees w ↦
           rw w.trees-is (named_next c.args.generals c.args.letters.now c.args.places.now c.args.size c.args.front.now c.args.trees.now route c.args.tree_of.now c.requires.table
-              (record { count = c.gather-count.result; generals = c.gather-count.new.names; rows = c.gather-count.new.rows }) (c.gather-count.ensures.tellers route.posted) c.loop-number.number c.from.result place c.loop-number-test.true c.from.ensures refl
-              c.loop-number.trees (slice_index_or c.loop-number.trees place w.index-trees-place.result) w.tell.new.tree c.loop-number.invariant w.if-place-trees.true
-              (stays_read c.loop-number.trees place w.index-trees-place.result w.if-place-trees.true) w.tell.ensures)
+          (record { count = c.gather-count.result; generals = c.gather-count.new.names; rows = c.gather-count.new.rows }) (c.gather-count.ensures.tellers route.posted) c.loop-number.number c.from.result place c.loop-number-test.true c.from.ensures refl
+          c.loop-number.trees (slice_index_or c.loop-number.trees place w.index-trees-place.result) w.tell.new.tree c.loop-number.invariant w.if-place-trees.true
+          (stays_read c.loop-number.trees place w.index-trees-place.result w.if-place-trees.true) w.tell.ensures)
       | else-place-trees w ↦
           rw w.trees-is (named_skip c.args.generals c.args.letters.now c.args.places.now c.args.size c.args.front.now c.args.trees.now route c.args.tree_of.now c.requires.table
-              (record { count = c.gather-count.result; generals = c.gather-count.new.names; rows = c.gather-count.new.rows }) (c.gather-count.ensures.tellers route.posted) c.loop-number.number c.from.result place c.loop-number-test.true c.from.ensures refl
-              c.loop-number.trees c.loop-number.invariant (let past = w.if-place-trees.false in omega arith))
+          (record { count = c.gather-count.result; generals = c.gather-count.new.names; rows = c.gather-count.new.rows }) (c.gather-count.ensures.tellers route.posted) c.loop-number.number c.from.result place c.loop-number-test.true c.from.ensures refl
+          c.loop-number.trees c.loop-number.invariant (let past = w.if-place-trees.false in omega arith))
     ]
 
 pub returns : goal.returns
