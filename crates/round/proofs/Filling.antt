@@ -11,7 +11,7 @@ use Rattle.round.specs.Scenario.{Scenario, IsScenario}
 use Rattle.round.specs.Letters.{Letter, messages, told_by, letter_of}
 use Rattle.round.specs.Told.{IsTreeOf, AreDue, AreLettersOf, Heard, WasTold, told_now, heard_also, round_of, lieutenant_at}
 use Rattle.round.proofs.Delivering.{levels-same, heard_here, heard_other}
-use Rattle.round.specs.Delivery.{AreEach, AreOfCampaign, AreDueIn, IsTold}
+use Rattle.round.specs.Delivery.{AreApart, AreEach, AreOfCampaign, AreDueIn, IsTold}
 
 get-end : {A : Type 0} (xs : List A) (x d : A) → get_or (xs ++ x ∷ []) (length xs) d ≡ x
 get-end [] x d = refl
@@ -170,6 +170,20 @@ lieutenant_within c i n lt = by (nat_lt i c)
     by : (b : Bool) → (if b then i else i + 1) < n
     by true = omega arith
     by false = omega arith
+
+lieutenants_differ : (c i j : ℕ) → lieutenant_at c i ≡ lieutenant_at c j → i ≡ j
+lieutenants_differ c i j same = by (nat_lt i c) refl (nat_lt j c) refl same
+  where
+    by : (a : Bool) → nat_lt i c ≡ a → (b : Bool) → nat_lt j c ≡ b → (if a then i else i + 1) ≡ (if b then j else j + 1) → i ≡ j
+    by true ea true eb e = e
+    by true ea false eb e = (let l = ltb-true i c ea in let m = ltb-false j c eb in omega arith)
+    by false ea true eb e = (let l = ltb-false i c ea in let m = ltb-true j c eb in omega arith)
+    by false ea false eb e = omega arith
+
+-- no two trees are of one lieutenant
+pub trees_apart : (s : Scenario) (before : List (List Letter)) (h : Heard) → WasTold s before h → AreApart h.trees
+trees_apart s before h told i j t u first last e =
+    lieutenants_differ s.commander i j (sym (told.trees i t first).general ∙ (e ∙ (told.trees j u last).general))
 
 -- the tree of a lieutenant
 pub own_tree : (s : Scenario) (before : List (List Letter)) (h : Heard) (i g : ℕ) (t : LieutenantTree) → WasTold s before h → i < length h.trees → t ≡ get_or h.trees i t → lieutenant_at s.commander i ≡ g → IsTreeOf s before g t

@@ -1,15 +1,16 @@
 -- Those off a label, one after another, each with its row.
-use Rattle.std.proofs.Common.{◌≡◌, ◌≢◌, ℕ, ◌+◌, ◌<◌, ◌≤◌, List, [], ◌∷◌, ◌++◌, length, take, get_or, set, true, false, sym, ap, ◌∙◌, None, Option, arith, ⊎_elim, add-one, length-set, get_or-set_same, get_or-set_other}
+use Rattle.std.proofs.Common.{◌≡◌, ◌≢◌, ℕ, ◌+◌, ◌<◌, ◌≤◌, List, [], ◌∷◌, ◌++◌, length, take, get_or, set, Bool, true, false, not, cond, sym, ap, ◌∙◌, None, Option, arith, ⊎_elim, add-one, length-set, get_or-set_same, get_or-set_other}
 use Rattle.std.specs.Prelude.{slice_index, slice_index_or, ◌==◌}
 use Rattle.std.specs.Borrow.{Bor}
 use Rattle.std.proofs.lemmas.Bool.Decides.{eqb_tells}
-use Rattle.std.proofs.lemmas.List.{take_more_set}
+use Rattle.std.proofs.lemmas.List.{take_more_set, take-set}
 use Rattle.label.specs.Labels.{on}
 use Rattle.label.proofs.Ranks.{others-more_no, others-more_yes}
 use Rattle.outbox.specs.Rows.{RowOrders, order_of_row}
 use Rattle.round.specs.Letters.{Letter, letter_of}
 use Rattle.round.specs.Delivery.{AreTellers, order_in_letter, Tellers}
 use Rattle.round.specs.declared.front.Front.{Front}
+use Rattle.round.proofs.Lists.{either_way}
 
 pub none_gathered : (row : List Letter) (n : ℕ) (f : Front) (t : Tellers) → t.count ≡ 0 → length t.generals ≡ 13 → length t.rows ≡ 13 → AreTellers row n f 0 t
 none_gathered row n f t none long wide = record {
@@ -48,12 +49,34 @@ one_gathered row n f x t o h within small mark tells = record {
     room' : t.count < length t.rows
     room' = let a = h.few in let l = h.wide in omega arith
 
--- nobody more
-pub same_gathered : (row : List Letter) (n : ℕ) (f : Front) (x : ℕ) (t : Tellers) → AreTellers row n f x t → x < n → slice_index_or f.on x false ≡ true → AreTellers row n f (x + 1) t
-same_gathered row n f x t h within mark = record {
-  long = h.long;
-  wide = h.wide;
+-- nobody more: what is written behind them means nothing
+pub same_gathered : (row : List Letter) (n : ℕ) (f : Front) (x : ℕ) (t : Tellers) (o : Option (Bor RowOrders)) → AreTellers row n f x t → x < n → slice_index_or f.on x false ≡ true → AreTellers row n f (x + 1) (record { count = t.count; generals = set t.generals t.count x; rows = set t.rows t.count o })
+same_gathered row n f x t o h within mark = record {
+  long = length-set t.generals t.count x ∙ h.long;
+  wide = length-set t.rows t.count o ∙ h.wide;
   few = (let a = h.few in omega arith);
-  names = λ c w front. h.names c w front ∙ sym (rw add-one (others-more_no w x (sym (front.marks x within) ∙ mark)));
-  rows = h.rows;
+  names = λ c w front. take-set t.generals t.count x ∙ (h.names c w front ∙ sym (rw add-one (others-more_no w x (sym (front.marks x within) ∙ mark))));
+  rows = λ i p lt.
+      let ne : i ≢ t.count = λ e. absurd (omega arith) in
+      rw (get_or-set_other t.rows t.count i o None ne, get_or-set_other t.generals t.count i x 0 ne) (h.rows i p lt);
 }
+
+-- the next, who is off the label or not
+pub next_gathered : (row : List Letter) (n : ℕ) (f : Front) (x count : ℕ) (t : Tellers) (o : Option (Bor RowOrders)) → AreTellers row n f x t → x < n → n ≤ 13 → count ≡ t.count + cond {A = ℕ} (not (slice_index_or f.on x false)) 1 0 → ((p : ℕ) → order_of_row o p ≡ order_in_letter (letter_of row x) (slice_index f.ranks x) p) →
+    AreTellers row n f (x + 1) (record { count = count; generals = set t.generals t.count x; rows = set t.rows t.count o })
+next_gathered row n f x count t o h within small e tells = ⊎_elim
+    (λ (q : slice_index_or f.on x false ≡ true).
+    let same : count ≡ t.count = e ∙ (ap (λ (b : Bool). t.count + cond {A = ℕ} (not b) 1 0) q ∙ (omega arith)) in
+    rw same (same_gathered row n f x t o h within q))
+    (λ (q : slice_index_or f.on x false ≡ false).
+    let more : count ≡ t.count + 1 = e ∙ ap (λ (b : Bool). t.count + cond {A = ℕ} (not b) 1 0) q in
+    rw more (one_gathered row n f x t o h within small q tells))
+    (either_way (slice_index_or f.on x false))
+
+pub one_at_most : (m : ℕ) (b : Bool) → m ≡ cond {A = ℕ} b 1 0 → m ≤ 1
+one_at_most m true e = omega arith
+one_at_most m false e = omega arith
+
+pub counted : {m : ℕ} (b : Bool) (as_number : Bool → ℕ) → as_number true ≡ 1 → as_number false ≡ 0 → m ≡ as_number b → m ≡ cond {A = ℕ} b 1 0
+counted true as_number one none e = e ∙ one
+counted false as_number one none e = e ∙ none

@@ -22,6 +22,7 @@ pub mod Striking
 pub mod Gathering
 pub mod Naming
 pub mod Together
+pub mod TreeTables
 pub mod Filling
 pub mod Forgetting
 pub mod Values

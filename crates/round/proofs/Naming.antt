@@ -1,38 +1,67 @@
 -- Who tells a tree's lieutenant, one after another.
-use Rattle.std.proofs.Common.{◌≡◌, ◌≢◌, ℕ, ◌+◌, ◌-◌, ◌<◌, ◌≤◌, List, ◌∷◌, length, take, get_or, false, refl, sym, ap, ◌∙◌, arith}
+use Rattle.std.proofs.Common.{◌≡◌, ◌≢◌, ℕ, ◌+◌, ◌-◌, ◌<◌, ◌≤◌, List, ◌∷◌, length, take, get_or, Option, false, refl, sym, ap, ◌∙◌, arith}
+use Rattle.std.specs.Borrow.{Bor}
 use Rattle.std.proofs.lemmas.Bool.{ne_eqb}
 use Rattle.label.specs.Labels.{on, others}
 use Rattle.outbox.specs.Receivers.{struck}
+use Rattle.outbox.specs.Rows.{RowOrders}
 use Rattle.outbox.proofs.RowLemmas.{others-few}
 use Rattle.tree.specs.LieutenantTree.{LieutenantTree, IsCampaign}
 use Rattle.round.specs.Letters.{Letter}
-use Rattle.round.specs.Delivery.{AreTellers, IsWalk, Tellers}
+use Rattle.round.specs.Delivery.{AreTellersOf, IsWalk}
 use Rattle.round.specs.declared.front.Front.{Front}
-use Rattle.round.proofs.Striking.{named, struck_others}
+use Rattle.round.proofs.Striking.{different, named, struck_before, struck_others, struck_past}
 use Rattle.round.proofs.Walking.{all_children}
 
+-- who stands at a number
 pub record IsTeller (t : LieutenantTree) (w : List ℕ) (x place : ℕ) : Type 0 where
   pub within : x < t.generals
   pub away : on (t.general ∷ w) x ≡ false
   pub stands : place ≡ length (others x (t.general ∷ w))
+  pub few : place < 13
 
-pub is_teller : (t : LieutenantTree) (row : List Letter) (places : List ℕ) (k : ℕ) (f : Front) (walk : IsWalk t row places k f) → IsCampaign t → (tellers : Tellers) → AreTellers row t.generals f t.generals tellers → (i x q place : ℕ) → i < tellers.count → x ≡ get_or tellers.generals i 0 → q ≡ t.general → x ≢ q →
-    place ≡ length (struck t.general (take i tellers.generals)) → IsTeller t walk.w x place
-is_teller t row places k f walk c tellers all i x q place lt at eq ne ep =
-    let room : i < length tellers.generals = let a = all.few in let l = all.long in let m = c.few in omega arith in
-    let who = named t.generals t.general x i tellers.count walk.w tellers.generals (all.names t.commander walk.w walk.front) lt room at in
-    record {
-      within = who.within;
-      away = rw (ne_eqb t.general x (λ e. ne (sym e ∙ sym eq)), who.off) refl;
-      stands = ep ∙ who.below;
-    }
+module _ (t : LieutenantTree) (row : List Letter) (places : List ℕ) (k : ℕ) (f : Front) (walk : IsWalk t row places k f) (c : IsCampaign t) (own : ℕ) (rows : List (Option (Bor RowOrders))) (a : AreTellersOf row t f own rows) where
+  names_all : take a.count a.generals ≡ others t.generals walk.w
+  names_all = a.all.names t.commander walk.w walk.front
 
--- his place has few before it
-pub few_before : (p x place : ℕ) (w : List ℕ) → place ≡ length (others x (p ∷ w)) → place ≤ x
-few_before p x place w e = let few = others-few x (p ∷ w) in omega arith
+  room : a.count ≤ length a.generals
+  room = let e = a.all.few in let l = a.all.long in let m = c.few in omega arith
 
--- all of them
-pub all_tell : (t : LieutenantTree) (row : List Letter) (places : List ℕ) (k : ℕ) (f : Front) (walk : IsWalk t row places k f) → IsCampaign t → (tellers : Tellers) → AreTellers row t.generals f t.generals tellers → (i place : ℕ) → i ≡ tellers.count → place ≡ length (struck t.general (take i tellers.generals)) → place ≡ t.generals - (f.size + 1)
-all_tell t row places k f walk c tellers all i place end ep =
-    all_children t.generals t.commander t.general place walk.w f walk.front c.commander c.general walk.off
-    (ep ∙ (ap (λ (j : ℕ). length (struck t.general (take j tellers.generals))) end ∙ (ap (λ xs. length (struck t.general xs)) (all.names t.commander walk.w walk.front) ∙ ap length (struck_others t.generals t.general walk.w))))
+  other : (i : ℕ) → i ≢ own → i < a.count → get_or a.generals i 0 ≢ t.general
+  other i ne lt e = different t.generals i own a.count walk.w a.generals names_all ne lt a.within room (e ∙ sym a.own)
+
+  teller : (i place : ℕ) → i < a.count → i ≢ own → length (struck t.general (take i a.generals)) ≡ place → IsTeller t walk.w (get_or a.generals i 0) place
+  teller i place lt ne ep =
+      let who = named t.generals t.general (get_or a.generals i 0) i a.count walk.w a.generals names_all lt (let r = room in omega arith) refl in
+      let few = others-few (get_or a.generals i 0) (t.general ∷ walk.w) in
+      record {
+        within = who.within;
+        away = rw (ne_eqb t.general (get_or a.generals i 0) (λ e. other i ne lt (sym e)), who.off) refl;
+        stands = sym ep ∙ who.below;
+        few = (let l = who.within in let m = c.few in let e = who.below in omega arith);
+      }
+
+  -- those before the lieutenant stand at their own number, those behind him at the one before
+  pub teller_before : (place : ℕ) → place < own → IsTeller t walk.w (get_or a.generals place 0) place
+  teller_before place lt =
+      let within = a.within in let r = room in
+      teller place place (omega arith) (λ e. absurd (omega arith)) (struck_before t.general a.generals place (omega arith) (λ j less. other j (λ e. absurd (omega arith)) (omega arith)))
+
+  past_them : (place : ℕ) → own ≤ place → place < a.count → length (struck t.general (take (place + 1) a.generals)) ≡ place
+  past_them place le lt =
+      let r = room in
+      let e : own + (place - own) ≡ place = omega arith in
+      ap (λ (m : ℕ). length (struck t.general (take (m + 1) a.generals))) (sym e) ∙ (struck_past t.general a.generals own (place - own) (omega arith) a.own (λ j less ne. other j ne (omega arith)) ∙ e)
+
+  pub teller_past : (place : ℕ) → own ≤ place → place + 1 < a.count → IsTeller t walk.w (get_or a.generals (place + 1) 0) place
+  teller_past place le lt = teller (place + 1) place lt (λ e. absurd (omega arith)) (past_them place le (omega arith))
+
+  -- how many they are
+  pub all_tell : a.count ≡ t.generals - (f.size + 1) + 1
+  all_tell =
+      let within = a.within in
+      let e : a.count - 1 + 1 ≡ a.count = omega arith in
+      let all : a.count - 1 ≡ length (others t.generals (t.general ∷ walk.w)) =
+      sym (past_them (a.count - 1) (omega arith) (omega arith)) ∙ (ap (λ (j : ℕ). length (struck t.general (take j a.generals))) e ∙ (ap (λ xs. length (struck t.general xs)) names_all ∙ ap length (struck_others t.generals t.general walk.w))) in
+      let last : a.count - 1 ≡ t.generals - (f.size + 1) = all_children t.generals t.commander t.general (a.count - 1) walk.w f walk.front c.commander c.general walk.off all in
+      omega arith

@@ -1,7 +1,7 @@
 -- Those off a label, with one of them lacked.
 use Rattle.std.proofs.Common.{◌≡◌, ◌≢◌, ℕ, zero, suc, ◌+◌, ◌<◌, ◌≤◌, List, [], ◌∷◌, ◌++◌, length, take, get_or, Bool, true, false, not, ◌||◌, cond, refl, sym, ap, ◌∙◌, Some, arith, ⊎_elim, length-append, inl, inr}
-use Rattle.std.specs.Prelude.{slice_get, ◌==◌, filter}
-use Rattle.std.proofs.lemmas.Bool.{cases_Bool, eq-eqb, ne_eqb}
+use Rattle.std.specs.Prelude.{slice_get, ◌==◌, nat_lt, filter}
+use Rattle.std.proofs.lemmas.Bool.{cases_Bool, eq-eqb, ltb-false, ltb-true, ne_eqb}
 use Rattle.std.proofs.lemmas.Bool.Decides.{eqb_tells, nat_tests}
 use Rattle.std.proofs.lemmas.Option.{slice_get_within, slice_get-get_or}
 use Rattle.label.specs.Labels.{on, others, generals}
@@ -36,6 +36,28 @@ pub struck_same : (p x i : ℕ) (names : List ℕ) → i < length names → x �
 struck_same p x i names lt at e =
     let it : (get_or names i 0 == p) ≡ true = eq-eqb (get_or names i 0) p (sym at ∙ e) in
     struck_more p i names lt ∙ (ap (λ (b : Bool). length (struck p (take i names)) + cond {A = ℕ} b 0 1) it ∙ (omega arith))
+
+-- one before whom, or behind whom, one is struck out
+pub struck_before : (p : ℕ) (names : List ℕ) (i : ℕ) → i ≤ length names → ((j : ℕ) → j < i → get_or names j 0 ≢ p) → length (struck p (take i names)) ≡ i
+struck_before p names zero le others_only = refl
+struck_before p names (suc i) le others_only =
+    let before : length (struck p (take i names)) ≡ i = struck_before p names i (omega arith) (λ j lt. others_only j (omega arith)) in
+    let more : length (struck p (take (suc i) names)) ≡ length (struck p (take i names)) + cond {A = ℕ} (get_or names i 0 == p) 0 1 = next_struck p i names (omega arith) in
+    let one : cond {A = ℕ} (get_or names i 0 == p) 0 1 ≡ 1 = ap (λ (b : Bool). cond {A = ℕ} b 0 1) (ne_eqb (get_or names i 0) p (others_only i (omega arith))) in
+    omega arith
+
+pub struck_past : (p : ℕ) (names : List ℕ) (own more : ℕ) → own + more < length names → get_or names own 0 ≡ p → ((j : ℕ) → j < own + more + 1 → j ≢ own → get_or names j 0 ≢ p) → length (struck p (take (own + more + 1) names)) ≡ own + more
+struck_past p names own zero lt it apart =
+    let before : length (struck p (take own names)) ≡ own = struck_before p names own (omega arith) (λ j less. apart j (omega arith) (λ e. absurd (omega arith))) in
+    let here : length (struck p (take (own + 1) names)) ≡ length (struck p (take own names)) = struck_same p (get_or names own 0) own names (omega arith) refl it in
+    let e : own + 0 + 1 ≡ own + 1 = omega arith in
+    ap (λ (k : ℕ). length (struck p (take k names))) e ∙ (here ∙ (before ∙ (omega arith)))
+struck_past p names own (suc more) lt it apart =
+    let before : length (struck p (take (own + more + 1) names)) ≡ own + more = struck_past p names own more (omega arith) it (λ j less. apart j (omega arith)) in
+    let next : length (struck p (take (own + more + 1 + 1) names)) ≡ length (struck p (take (own + more + 1) names)) + 1 =
+    struck_next p (get_or names (own + more + 1) 0) (own + more + 1) names (omega arith) refl (apart (own + more + 1) (omega arith) (λ e. absurd (omega arith))) in
+    let e : own + suc more + 1 ≡ own + more + 1 + 1 = omega arith in
+    ap (λ (k : ℕ). length (struck p (take k names))) e ∙ (next ∙ (omega arith))
 
 -- one lacked besides
 eqb_sym : (a b : ℕ) → (a == b) ≡ (b == a)
@@ -95,19 +117,19 @@ take_others (suc n) i x w at = elim (cases_Bool (on w n)) [
 ]
 
 -- the one at a place among so many names that are those off a label
-take_get : (k i : ℕ) (xs : List ℕ) → i < k → slice_get (take k xs) i ≡ slice_get xs i
+pub take_get : (k i : ℕ) (xs : List ℕ) → i < k → slice_get (take k xs) i ≡ slice_get xs i
 take_get zero i xs lt = absurd (omega arith)
 take_get (suc k) i [] lt = refl
 take_get (suc k) zero (x ∷ xs) lt = refl
 take_get (suc k) (suc i) (x ∷ xs) lt = take_get k i xs (omega arith)
 
-take_twice : (k i : ℕ) (xs : List ℕ) → i ≤ k → take i (take k xs) ≡ take i xs
+pub take_twice : (k i : ℕ) (xs : List ℕ) → i ≤ k → take i (take k xs) ≡ take i xs
 take_twice k zero xs le = refl
 take_twice zero (suc i) xs le = absurd (omega arith)
 take_twice (suc k) (suc i) [] le = refl
 take_twice (suc k) (suc i) (x ∷ xs) le = ap (λ zs. x ∷ zs) (take_twice k i xs (omega arith))
 
-on_get : (i x : ℕ) (xs : List ℕ) → slice_get xs i ≡ Some x → on xs x ≡ true
+pub on_get : (i x : ℕ) (xs : List ℕ) → slice_get xs i ≡ Some x → on xs x ≡ true
 on_get i x [] e = cc
 on_get zero x (y ∷ xs) e = let same : y ≡ x = cc in rw (eq-eqb y x same) refl
 on_get (suc i) x (y ∷ xs) e = rw (on_get i x xs e) (or_true (y == x))
@@ -132,3 +154,17 @@ named n p x i count w names all lt room at =
       off = parts.1;
       below = ap (λ xs. length (struck p xs)) (sym (take_twice count i names (omega arith)) ∙ (ap (take i) all ∙ take_others n i x w here)) ∙ ap length (struck_others x p w);
     }
+
+-- they ascend
+pub ascend : (n i j count : ℕ) (w names : List ℕ) → take count names ≡ others n w → i < j → j < count → j < length names → get_or names i 0 < get_or names j 0
+ascend n i j count w names all less lt room =
+    let last : slice_get (others n w) j ≡ Some (get_or names j 0) = sym (ap (λ xs. slice_get xs j) all) ∙ (take_get count j names lt ∙ slice_get-get_or names j 0 room) in
+    let below : take j names ≡ others (get_or names j 0) w = sym (take_twice count j names (omega arith)) ∙ (ap (take j) all ∙ take_others n j (get_or names j 0) w last) in
+    let first : slice_get (others (get_or names j 0) w) i ≡ Some (get_or names i 0) = sym (ap (λ xs. slice_get xs i) below) ∙ (take_get j i names less ∙ slice_get-get_or names i 0 (omega arith)) in
+    (others-on (get_or names j 0) w (get_or names i 0) (on_get i (get_or names i 0) (others (get_or names j 0) w) first)).0
+
+pub different : (n i j count : ℕ) (w names : List ℕ) → take count names ≡ others n w → i ≢ j → i < count → j < count → count ≤ length names → get_or names i 0 ≢ get_or names j 0
+different n i j count w names all ne li lj room e = elim (cases_Bool (nat_lt i j)) [
+  | inl it ↦ let less : i < j = ltb-true i j it in let up = ascend n i j count w names all less lj (omega arith) in absurd (omega arith)
+  | inr it ↦ let le : j ≤ i = ltb-false i j it in let up = ascend n j i count w names all (omega arith) li (omega arith) in absurd (omega arith)
+]

@@ -1,5 +1,5 @@
 -- The trees of all lieutenants, along one walk of the labels.
-use Rattle.std.proofs.Common.{◌≡◌, ◌≢◌, ℕ, ◌+◌, ◌-◌, ◌*◌, ◌<◌, List, [], ◌∷◌, ◌++◌, length, get_or, set, Bool, true, false, ◌||◌, cond, refl, sym, ap, subst, ◌∙◌, Some, Option, arith, ⊎_elim}
+use Rattle.std.proofs.Common.{◌≡◌, ◌≢◌, ℕ, ◌+◌, ◌-◌, ◌*◌, ◌<◌, List, [], ◌∷◌, ◌++◌, length, get_or, Bool, true, false, ◌||◌, cond, refl, sym, ap, subst, ◌∙◌, Some, Option, arith, ⊎_elim}
 use Rattle.std.specs.Prelude.{slice_get, slice_index, slice_index_or, ◌==◌}
 use Rattle.std.proofs.lemmas.Bool.{eq-eqb, ne_eqb, true≢false}
 use Rattle.std.proofs.lemmas.Bool.Decides.{eqb_tells}
@@ -15,9 +15,8 @@ use Rattle.tree.specs.LieutenantTree.{LieutenantTree, IsFilled, SameCampaign, to
 use Rattle.round.specs.Letters.{Letter, letter_of}
 use Rattle.round.specs.Fronts.{IsFront, under}
 use Rattle.round.specs.Told.{round_of, told_now}
-use Rattle.round.specs.Delivery.{AreEach, AreOfCampaign, AreTellers, IsDueIn, IsFilledBetween, IsRoute, IsTold, IsToldUnder, IsWalk, first_under, order_in_letter, past_under, Tellers}
+use Rattle.round.specs.Delivery.{AreEach, AreOfCampaign, AreTellers, IsDueIn, IsFilledBetween, IsRoute, IsTold, IsToldUnder, IsWalk, first_under, order_in_letter, Tellers}
 use Rattle.round.specs.declared.front.Front.{Front}
-use Rattle.round.proofs.EachTree.{AreDone, done_next, done_same, not_done}
 use Rattle.round.proofs.Lists.{either_way}
 use Rattle.round.proofs.Delivering.{none_heard, told_all, told_none, told_on, told_one}
 use Rattle.round.proofs.Walking.{all_children, child_long, first_told, same_campaign, same_due, told_ends, under_first, under_past}
@@ -214,24 +213,6 @@ stays_read trees i u lt = same_default trees i u (get_or trees i u) lt
 -- who tells a tree's lieutenant
 pub own_tellers : (n : ℕ) (row : List Letter) (f : Front) (tellers : Tellers) (t : LieutenantTree) → t.generals ≡ n → AreTellers row n f n tellers → AreTellers row t.generals f t.generals tellers
 own_tellers n row f tellers t e all = rw e all
-
--- one tree more is told of a label's children
-pub leaf_told : (n : ℕ) (row : List Letter) (places : List ℕ) (k : ℕ) (f : Front) (old : List LieutenantTree) (route : IsRoute n row places k f old) (i : ℕ) (trees : List LieutenantTree) (t u : LieutenantTree) (tellers : Tellers) → AreDone (IsToldUnder row k f) old i trees → i < length trees → t ≡ get_or trees i t → slice_index_or f.on t.general false ≡ false →
-    ((letters : List Letter) (posts : List ℕ) → IsWalk t letters posts k f → AreTellers letters t.generals f t.generals tellers → IsFilledBetween t letters k (first_under t f k) (past_under t f k) u) → AreTellers row n f n tellers → AreDone (IsToldUnder row k f) old (i + 1) (set trees i u)
-leaf_told n row places k f old route i trees t u tellers h lt at mark told all =
-    let d = route.due i t (not_done (IsToldUnder row k f) old i trees t h lt at) in
-    let walk = own_walk n row places k f old route t d mark route.w (own_front n route.c row f route.w t d route.front) in
-    done_next (IsToldUnder row k f) old i trees t u h lt at (record {
-      on = λ e. absurd (unlike (slice_index_or f.on t.general false) e mark);
-      off = λ e. told row places walk (own_tellers n row f tellers t d.generals all);
-    })
-
-pub leaf_left : (row : List Letter) (k : ℕ) (f : Front) (old : List LieutenantTree) (i : ℕ) (trees : List LieutenantTree) (t : LieutenantTree) → AreDone (IsToldUnder row k f) old i trees → i < length trees → t ≡ get_or trees i t → slice_index_or f.on t.general false ≡ true → AreDone (IsToldUnder row k f) old (i + 1) trees
-leaf_left row k f old i trees t h lt at mark =
-    done_same (IsToldUnder row k f) old i trees t h lt at (record {
-      on = λ e. refl;
-      off = λ e. absurd (unlike (slice_index_or f.on t.general false) mark e);
-    })
 
 -- of the commander's label
 pub first_done : (n c : ℕ) (row : List Letter) (t u : LieutenantTree) (value : Option ℕ) → IsDueIn n c row t → round_of row ≡ 1 → value ≡ order_in_letter (letter_of row c) 0 t.general → SameCampaign t u →

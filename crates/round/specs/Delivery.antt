@@ -63,6 +63,16 @@ pub record IsDueIn (n c : ℕ) (row : List Letter) (t : LieutenantTree) : Type 0
 abbrev pub AreDueIn : ℕ → ℕ → List Letter → List LieutenantTree → Type 0
 AreDueIn n c row trees = (j : ℕ) (t : LieutenantTree) → slice_get trees j ≡ Some t → IsDueIn n c row t
 
+-- no two trees are of one lieutenant
+abbrev pub AreApart : List LieutenantTree → Type 0
+AreApart trees = (i j : ℕ) (t u : LieutenantTree) → slice_get trees i ≡ Some t → slice_get trees j ≡ Some u → t.general ≡ u.general → i ≡ j
+
+-- for the lieutenant of each tree its place, for each other general a place past the last
+pub record IsTreeTable (trees : List LieutenantTree) (table : List ℕ) : Type 0 where
+  pub long : length table ≡ 13
+  pub found : (i : ℕ) (t : LieutenantTree) → slice_get trees i ≡ Some t → slice_index table t.general ≡ i
+  pub only : (g : ℕ) (t : LieutenantTree) → g < 13 → slice_get trees (slice_index table g) ≡ Some t → t.general ≡ g
+
 -- a label that is shorter than those of the round of these letters
 pub record IsRoute (n : ℕ) (row : List Letter) (places : List ℕ) (k : ℕ) (f : Front) (trees : List LieutenantTree) : Type 0 where
   pub few : n ≤ 13
@@ -89,6 +99,14 @@ pub record AreTellers (row : List Letter) (n : ℕ) (f : Front) (x : ℕ) (t : T
   pub few : t.count ≤ x
   pub names : (c : ℕ) (w : List ℕ) → IsFront n c w f → take t.count t.generals ≡ others x w
   pub rows : (i p : ℕ) → i < t.count → order_of_row (slice_index_or t.rows i None) p ≡ order_in_letter (letter_of row (slice_index t.generals i)) (slice_index f.ranks (slice_index t.generals i)) p
+
+-- the rows of those who are off a label, of whom the tree's lieutenant is the one of that number
+pub record AreTellersOf (row : List Letter) (t : LieutenantTree) (f : Front) (i : ℕ) (rows : List (Option (Bor RowOrders))) : Type 0 where
+  pub count : ℕ
+  pub generals : List ℕ
+  pub all : AreTellers row t.generals f t.generals (record { count = count; generals = generals; rows = rows })
+  pub within : i < count
+  pub own : slice_index generals i ≡ t.general
 
 -- what was told of the labels that begin with this one: nothing where the tree's lieutenant stands on it
 pub record IsToldUnder (row : List Letter) (k : ℕ) (f : Front) (t u : LieutenantTree) : Type 0 where

@@ -4,7 +4,7 @@ ghost use Rattle.label.specs.Oral.{Messages};
 ghost use Rattle.tree.specs.LieutenantTree.{IsFilled, SameCampaign};
 ghost use Rattle.round.specs.Letters.{letter_of};
 ghost use Rattle.round.specs.Told.{AreDue, heard_also, round_of};
-ghost use Rattle.round.specs.Delivery.{AreDueIn, AreEach, AreOfCampaign, ArePlaces, IsRoute, IsTold, IsToldUnder};
+ghost use Rattle.round.specs.Delivery.{AreApart, AreDueIn, AreEach, AreOfCampaign, ArePlaces, IsTreeTable, IsRoute, IsTold, IsToldUnder};
 
 use crate::front::Front;
 use crate::letter::Letter;
@@ -28,12 +28,13 @@ pub fn deliver(letters: &[Letter], tree: &mut Tree)
     );
 }
 
-/// Fills in each tree of the campaign of so many generals under this commander.
+/// Fills in each tree of the campaign of so many generals under this commander, no two of them of one lieutenant.
 pub(crate) fn deliver_to_all(letters: &[Letter], generals: u8, commander: u8, trees: &mut [Tree])
     requires few { generals ≤ 13 }
     requires commander { commander < generals }
     requires letters { AreOfCampaign generals commander letters.now }
     requires trees { AreDueIn generals commander letters.now trees.old }
+    requires apart { AreApart trees.old }
     ensures { AreEach (IsTold letters.now) trees.old trees.new }
 {
     if letters.is_empty() {
@@ -46,8 +47,9 @@ pub(crate) fn deliver_to_all(letters: &[Letter], generals: u8, commander: u8, tr
         tell_first(letters, &places, commander, trees);
         return;
     }
+    let tree_of = table_of(trees);
     let front = Front::of(commander);
-    descend(letters, &places, size, generals, trees, &front);
+    descend(letters, &places, &tree_of, size, generals, trees, &front);
 }
 
 /// Fills in what the commander's letter tells of the first label.
@@ -70,23 +72,25 @@ fn tell_first(letters: &[Letter], places: &[usize; 13], commander: u8, trees: &m
 fn descend(
     letters: &[Letter],
     places: &[usize; 13],
+    tree_of: &[usize; 13],
     size: u8,
     generals: u8,
     trees: &mut [Tree],
     front: &Front,
 )
-    requires { IsRoute generals letters.now places.now size front.now trees.old }
+    requires route { IsRoute generals letters.now places.now size front.now trees.old }
+    requires table { IsTreeTable trees.old tree_of.now }
     ensures { AreEach (IsToldUnder letters.now size front.now) trees.old trees.new }
 {
     if front.size + 1 == size {
-        tell_children(letters, places, size, generals, trees, front);
+        tell_children(letters, places, tree_of, size, generals, trees, front);
         return;
     }
     let mut below: u32 = 0;
     for general in 0..generals {
         if !front.on[usize::from(general)] {
             let longer = front.with(generals, general, below);
-            descend(letters, places, size, generals, trees, &longer);
+            descend(letters, places, tree_of, size, generals, trees, &longer);
             below += 1;
         }
     }
@@ -96,12 +100,14 @@ fn descend(
 fn tell_children(
     letters: &[Letter],
     places: &[usize; 13],
+    tree_of: &[usize; 13],
     size: u8,
     generals: u8,
     trees: &mut [Tree],
     front: &Front,
 )
     requires route { IsRoute generals letters.now places.now size front.now trees.old }
+    requires table { IsTreeTable trees.old tree_of.now }
     requires last { front.now.size + 1 ≡ size }
     ensures { AreEach (IsToldUnder letters.now size front.now) trees.old trees.new }
 {
@@ -115,12 +121,25 @@ fn tell_children(
         &mut names[..],
         &mut rows[..],
     );
-    for place in 0..trees.len() {
-        let receiver = trees[place].space().general;
-        if !front.on[usize::from(receiver)] {
-            tell(count, &names[..], &rows[..], size, &mut trees[place], front);
+    for number in 0..count {
+        let place = tree_of[usize::from(names[number])];
+        if place < trees.len() {
+            tell(number, &rows[..], size, &mut trees[place], front);
         }
     }
+}
+
+/// For the lieutenant of each tree its place, for each other general the place past the last.
+fn table_of(trees: &[Tree]) -> [usize; 13]
+    requires { AreApart trees.now }
+    ensures { IsTreeTable trees.now result }
+{
+    let mut tree_of = [trees.len(); 13];
+    for place in 0..trees.len() {
+        let lieutenant = trees[place].space().general;
+        tree_of[usize::from(lieutenant)] = place;
+    }
+    tree_of
 }
 
 /// For each general the place of his letter, or past the last where there is none.

@@ -2,7 +2,7 @@
 ghost use Rattle.std.specs.Prelude.{◌≡◌, ◌<◌, ◌≤◌, ◌+◌, ℕ, List, length};
 ghost use Rattle.outbox.specs.Rows.{order_of_row};
 ghost use Rattle.round.specs.Letters.{Letter as Written, letter_of};
-ghost use Rattle.round.specs.Delivery.{ArePlaces, AreTellers, IsFilledBetween, IsWalk, first_under, order_in_letter, past_under};
+ghost use Rattle.round.specs.Delivery.{ArePlaces, AreTellers, AreTellersOf, IsFilledBetween, IsWalk, first_under, order_in_letter, past_under};
 
 use crate::front::Front;
 use crate::letter::Letter;
@@ -12,7 +12,9 @@ use tree::Tree;
 /// Gathers the generals off the front, ascending, of so many, and for each the row of the label in his letter, where
 /// there is one: how many they are. What stands behind them means nothing.
 ///
-/// They are gathered where the caller keeps them: to move them would take as long as to gather them.
+/// They are gathered where the caller keeps them: to move them would take as long as to gather them. Each general is
+/// written behind those before him, and stays there where he is off the front: who is changes from label to label, and
+/// a branch on it would be guessed wrong.
 pub(crate) fn gather<'a>(
     letters: &'a [Letter],
     places: &[usize; 13],
@@ -34,42 +36,30 @@ pub(crate) fn gather<'a>(
     let mut count = 0;
     for general in 0..generals {
         let number = usize::from(general);
-        if !front.on[number] {
-            names[count] = general;
-            rows[count] = row_in(letters, places, general, front.ranks[number]);
-            count += 1;
-        }
+        names[count] = general;
+        rows[count] = row_in(letters, places, general, front.ranks[number]);
+        count += usize::from(!front.on[number]);
     }
     count
 }
 
-/// Fills in what so many generals off a label tell the tree's lieutenant of it, each with himself behind it.
-pub(crate) fn tell(
-    count: usize,
-    names: &[u8],
-    rows: &[Option<&Row>],
-    size: u8,
-    tree: &mut Tree,
-    front: &Front,
-)
-    requires told { (row : List Written) × (places : List ℕ) × IsWalk tree.old row places size front.now × AreTellers row tree.old.generals front.now tree.old.generals (record { count = count; generals = names.now; rows = rows.now }) }
+/// Fills in what the generals off a label tell the tree's lieutenant of it, each with himself behind it. The
+/// lieutenant is the one of number `own` among them.
+pub(crate) fn tell(own: usize, rows: &[Option<&Row>], size: u8, tree: &mut Tree, front: &Front)
+    requires told { (row : List Written) × (places : List ℕ) × IsWalk tree.old row places size front.now × AreTellersOf row tree.old front.now own rows.now }
     requires last { front.now.size + 1 ≡ size }
-    requires few { count ≤ 13 }
-    requires long { length names.now ≡ 13 }
-    requires wide { length rows.now ≡ 13 }
-    ensures { (row : List Written) (places : List ℕ) → IsWalk tree.old row places size front.now → AreTellers row tree.old.generals front.now tree.old.generals (record { count = count; generals = names.now; rows = rows.now }) → IsFilledBetween tree.old row size (first_under tree.old front.now size) (past_under tree.old front.now size) tree.new }
+    ensures { (row : List Written) (places : List ℕ) → IsWalk tree.old row places size front.now → AreTellersOf row tree.old front.now own rows.now → IsFilledBetween tree.old row size (first_under tree.old front.now size) (past_under tree.old front.now size) tree.new }
 {
     let space = tree.space();
-    let all = u32::from(space.generals);
-    let width = all.saturating_sub(u32::from(size));
-    let first = front.ranks[usize::from(space.general)] * width;
-    let mut place: u32 = 0;
-    for number in 0..count {
-        if names[number] != space.general {
-            let value = order_of(rows[number], space.general);
-            tree.set(size, first + place, value);
-            place += 1;
-        }
+    let width = usize::from(space.generals).saturating_sub(usize::from(size));
+    let first = front.ranks[usize::from(space.general)] * width as u32;
+    for place in 0..own {
+        let value = order_of(rows[place], space.general);
+        tree.set(size, first + place as u32, value);
+    }
+    for place in own..width {
+        let value = order_of(rows[place + 1], space.general);
+        tree.set(size, first + place as u32, value);
     }
 }
 

@@ -10,8 +10,8 @@ returns-then-is_empty c =
     let none : length c.args.letters.now ≡ 0 = search rules in
     none_told c.args.generals c.args.commander c.args.letters.now c.args.trees.now c.requires.trees (no_letters c.args.letters.now none)
 
-pub descend-requires : goal.descend-requires
-descend-requires c =
+pub descend-requires-clause-route : goal.descend-requires-clause-route
+descend-requires-clause-route c =
     let row = c.args.letters.now in
     let some : 0 < length row = search rules in
     let round : c.shape-size.result.round ≡ round_of row = round_told c.args.generals c.args.commander row c.shape-size.result _ c.index-letters-0.result c.requires.letters c.first.view_is c.index-letters-0.is some c.shape-size.ensures.same in

@@ -1,43 +1,50 @@
--- Tree by tree.
-use Rattle.std.proofs.Common.{◌≡◌, ◌<◌, ◌∙◌, ℕ, length, true, false, sym, ap, arith}
-use Rattle.std.specs.Prelude.{slice_index_or}
-use Rattle.tree.specs.LieutenantTree.{LieutenantTree}
-use Rattle.round.specs.Delivery.{IsToldUnder}
-use Rattle.round.proofs.EachTree.{done_all, not_done}
-use Rattle.round.proofs.Together.{leaf_told, leaf_left, own_front, own_walk, own_tellers, read_again, stays_read}
+-- One of those off the label after another.
+use Rattle.std.proofs.Common.{◌≡◌, ℕ, refl, subst, take, arith}
+use Rattle.std.specs.Prelude.{slice_index, slice_index_or}
+use Rattle.round.proofs.Together.{stays_read}
+use Rattle.round.proofs.TreeTables.{AreNamedTold, is_next, name_within, named_all, named_next, named_none, named_skip}
 use Rattle.round.proofs.delivery.tell_children.Goals as goal
-use Rattle.round.proofs.delivery.tell_children.Goals.{then-not-front-from, else-not-front-from}
+use Rattle.round.proofs.delivery.tell_children.Goals.{then-place-trees, else-place-trees}
+
+pub loop-number-init : goal.loop-number-init
+loop-number-init c = named_none c.args.letters.now c.args.size c.args.front.now c.args.trees.now
+
+pub bounds-tree_of-from : goal.bounds-tree_of-from
+bounds-tree_of-from c =
+    let route = c.requires.route in
+    let l = name_within c.args.generals c.args.letters.now c.args.places.now c.args.size c.args.front.now c.args.trees.now route c.args.tree_of.now c.requires.table
+    (record { count = c.gather-count.result; generals = c.gather-count.new.names; rows = c.gather-count.new.rows }) (c.gather-count.ensures.tellers route.posted) c.loop-number.number c.from.result (slice_index c.args.tree_of.now c.from.result) c.loop-number-test.true c.from.ensures refl in
+    let few = route.few in
+    omega arith
 
 pub tell-requires-clause-told : goal.tell-requires-clause-told
 tell-requires-clause-told c =
-    let row = c.args.letters.now in let f = c.args.front.now in let trees = c.loop-place.trees in let i = c.loop-place.place in
-    let t = slice_index_or trees i c.index-trees-place-then-not-front-from.result in
-    let lt : i < length trees = let f = c.loop-place.invariant.count in let l = c.loop-place-test.true in omega arith in
-    let at = stays_read trees i c.index-trees-place-then-not-front-from.result lt in
     let route = c.requires.route in
-    let d = route.due i t (not_done (IsToldUnder row c.args.size f) c.args.trees.now i trees t c.loop-place.invariant lt at) in
-    let own : c.from.result ≡ t.general = c.from.ensures ∙ (c.space-receiver.ensures.general ∙ ap (λ (u : LieutenantTree). u.general) (read_again trees i c.index-trees-place.result c.index-trees-place-then-not-front-from.result lt)) in
-    let mark : slice_index_or f.on t.general false ≡ false = sym (ap (λ (g : ℕ). slice_index_or f.on g false) own) ∙ c.if-not-front-from.true in
-    (row, c.args.places.now, own_walk c.args.generals row c.args.places.now c.args.size f c.args.trees.now route t d mark route.w (own_front c.args.generals route.c row f route.w t d route.front), own_tellers c.args.generals row f (record { count = c.gather-count.result; generals = c.gather-count.new.names; rows = c.gather-count.new.rows }) t d.generals (c.gather-count.ensures.tellers route.posted))
+    let next = is_next c.args.generals c.args.letters.now c.args.places.now c.args.size c.args.front.now c.args.trees.now route c.args.tree_of.now c.requires.table
+    (record { count = c.gather-count.result; generals = c.gather-count.new.names; rows = c.gather-count.new.rows }) (c.gather-count.ensures.tellers route.posted) c.loop-number.number c.from.result (slice_index c.args.tree_of.now c.from.result) c.loop-number-test.true c.from.ensures refl
+    c.loop-number.trees (slice_index_or c.loop-number.trees (slice_index c.args.tree_of.now c.from.result) c.index-trees-place.result) c.loop-number.invariant c.if-place-trees.true
+    (stays_read c.loop-number.trees (slice_index c.args.tree_of.now c.from.result) c.index-trees-place.result c.if-place-trees.true) in
+    (c.args.letters.now, c.args.places.now, next.walk, next.tellers_of)
 
-pub loop-place-preserved : goal.loop-place-preserved
-loop-place-preserved c =
-    let row = c.args.letters.now in let f = c.args.front.now in let trees = c.loop-place.trees in let i = c.loop-place.place in
-    let lt : i < length trees = let f = c.loop-place.invariant.count in let l = c.loop-place-test.true in omega arith in
-    let route = c.requires.route in
-    let first = slice_index_or trees i c.index-trees-place.result in
-    let general : c.from.result ≡ first.general = c.from.ensures ∙ c.space-receiver.ensures.general in
-    elim c.if-not-front-from.branch [
-      | then-not-front-from w ↦
-          let t = slice_index_or trees i w.index-trees-place-then-not-front-from.result in
-          let at = stays_read trees i w.index-trees-place-then-not-front-from.result lt in
-          let own : c.from.result ≡ t.general = general ∙ ap (λ (u : LieutenantTree). u.general) (read_again trees i c.index-trees-place.result w.index-trees-place-then-not-front-from.result lt) in
-          let mark : slice_index_or f.on t.general false ≡ false = sym (ap (λ (g : ℕ). slice_index_or f.on g false) own) ∙ w.if-not-front-from.true in
-          rw w.trees-is (leaf_told c.args.generals row c.args.places.now c.args.size f c.args.trees.now route i trees t w.tell.new.tree (record { count = c.gather-count.result; generals = c.gather-count.new.names; rows = c.gather-count.new.rows }) c.loop-place.invariant lt at mark w.tell.ensures (c.gather-count.ensures.tellers route.posted))
-      | else-not-front-from w ↦
-          let mark : slice_index_or f.on first.general false ≡ true = sym (ap (λ (g : ℕ). slice_index_or f.on g false) general) ∙ w.if-not-front-from.false in
-          rw w.trees-is (leaf_left row c.args.size f c.args.trees.now i trees first c.loop-place.invariant lt (stays_read trees i c.index-trees-place.result lt) mark)
+pub loop-number-preserved : goal.loop-number-preserved
+loop-number-preserved c =
+    let route = c.requires.route in let place = slice_index c.args.tree_of.now c.from.result in
+    elim c.if-place-trees.branch [
+      | then-place-trees w ↦
+          rw w.trees-is (named_next c.args.generals c.args.letters.now c.args.places.now c.args.size c.args.front.now c.args.trees.now route c.args.tree_of.now c.requires.table
+          (record { count = c.gather-count.result; generals = c.gather-count.new.names; rows = c.gather-count.new.rows }) (c.gather-count.ensures.tellers route.posted) c.loop-number.number c.from.result place c.loop-number-test.true c.from.ensures refl
+          c.loop-number.trees (slice_index_or c.loop-number.trees place w.index-trees-place.result) w.tell.new.tree c.loop-number.invariant w.if-place-trees.true
+          (stays_read c.loop-number.trees place w.index-trees-place.result w.if-place-trees.true) w.tell.ensures)
+      | else-place-trees w ↦
+          rw w.trees-is (named_skip c.args.generals c.args.letters.now c.args.places.now c.args.size c.args.front.now c.args.trees.now route c.args.tree_of.now c.requires.table
+          (record { count = c.gather-count.result; generals = c.gather-count.new.names; rows = c.gather-count.new.rows }) (c.gather-count.ensures.tellers route.posted) c.loop-number.number c.from.result place c.loop-number-test.true c.from.ensures refl
+          c.loop-number.trees c.loop-number.invariant (let past = w.if-place-trees.false in omega arith))
     ]
 
 pub returns : goal.returns
-returns c = done_all (IsToldUnder c.args.letters.now c.args.size c.args.front.now) c.args.trees.now c.loop-place.place c.loop-place.trees c.loop-place.invariant (let f = c.loop-place.invariant.count in let l = c.loop-place-test.false in omega arith)
+returns c =
+    let route = c.requires.route in
+    let end : c.loop-number.number ≡ c.gather-count.result = let l = c.loop-number-test.false in let g = c.loop-number.auto.number-end in omega arith in
+    named_all c.args.generals c.args.letters.now c.args.places.now c.args.size c.args.front.now c.args.trees.now c.loop-number.trees route
+    (record { count = c.gather-count.result; generals = c.gather-count.new.names; rows = c.gather-count.new.rows }) (c.gather-count.ensures.tellers route.posted)
+    (subst (λ (k : ℕ). AreNamedTold c.args.letters.now c.args.size c.args.front.now (take k c.gather-count.new.names) c.args.trees.now c.loop-number.trees) end c.loop-number.invariant)

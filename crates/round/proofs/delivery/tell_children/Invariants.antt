@@ -1,6 +1,6 @@
-use Rattle.round.specs.Delivery.{IsToldUnder}
-use Rattle.round.proofs.EachTree.{AreDone}
+use Rattle.std.proofs.Common.{take}
+use Rattle.round.proofs.TreeTables.{AreNamedTold}
 use Rattle.round.proofs.delivery.tell_children.Given as goal
 
-abbrev pub invariant-loop-place : goal.invariant-loop-place
-invariant-loop-place l = AreDone (IsToldUnder l.letters l.size l.front) l.fn.trees l.place l.trees
+abbrev pub invariant-loop-number : goal.invariant-loop-number
+invariant-loop-number l = AreNamedTold l.letters l.size l.front (take l.number l.names) l.fn.trees l.trees

@@ -1,5 +1,5 @@
 -- A lieutenant's values are a level of his tree.
-use Rattle.std.proofs.Common.{◌≡◌, ◌<◌, ◌≤◌, ◌^◌, All, List, length, take, ap, ◌∙◌, arith, sym, subst, refl, inl, inr}
+use Rattle.std.proofs.Common.{◌≡◌, ◌<◌, ◌≤◌, ◌^◌, All, List, length, take, ap, ◌∙◌, arith, sym, subst, inl, inr}
 use Rattle.std.specs.Prelude.{IfOk}
 use Rattle.round.specs.Letters.{Letter}
 use Rattle.round.specs.Contexts.{context_of, AreWords}

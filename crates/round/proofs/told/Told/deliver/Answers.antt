@@ -3,8 +3,8 @@ use Rattle.std.proofs.Common.{◌+◌, ◌++◌, ◌∷◌, [], ◌∙◌, ℕ, 
 use Rattle.std.proofs.lemmas.List.{with_items_is}
 use Rattle.tree.specs.LieutenantTree.{LieutenantTree}
 use Rattle.round.specs.Told.{Heard, WasTold, AreLettersOf}
-use Rattle.round.specs.Delivery.{AreDueIn, AreOfCampaign, AreEach, IsTold}
-use Rattle.round.proofs.Filling.{letters_due, trees_due, told_more}
+use Rattle.round.specs.Delivery.{AreApart, AreDueIn, AreOfCampaign, AreEach, IsTold}
+use Rattle.round.proofs.Filling.{letters_due, trees_apart, trees_due, told_more}
 use Rattle.round.proofs.told.Told.deliver.Goals as goal
 
 pub deliver_to_all-requires-clause-letters : goal.deliver_to_all-requires-clause-letters
@@ -20,6 +20,10 @@ deliver_to_all-requires-clause-trees c =
     subst (λ (n : ℕ). AreDueIn n c.commander.result row c.as_mut_slice.result.now) (sym c.generals.ensures.same)
     (subst (λ (d : ℕ). AreDueIn s.generals d row c.as_mut_slice.result.now) (sym c.commander.ensures.same)
     (subst (λ (ts : List LieutenantTree). AreDueIn s.generals s.commander row ts) (ap (λ (h : Heard). h.trees) (sym c.self.view_is) ∙ sym c.as_mut_slice.ensures.value) due))
+
+pub deliver_to_all-requires-clause-apart : goal.deliver_to_all-requires-clause-apart
+deliver_to_all-requires-clause-apart c =
+    subst (λ (ts : List LieutenantTree). AreApart ts) (ap (λ (h : Heard). h.trees) (sym c.self.view_is) ∙ sym c.as_mut_slice.ensures.value) (trees_apart c.args.scenario.now c.requires.told.0 c.args.self.now c.requires.told.1)
 
 pub returns : goal.returns
 returns c before told =
