@@ -28,3 +28,4 @@ pub mod Values
 pub mod Fitting
 pub mod Onwards
 pub mod Served
+pub mod Briefing
