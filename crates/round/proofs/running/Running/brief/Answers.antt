@@ -2,7 +2,6 @@
 use Rattle.std.proofs.Common.{◌≡◌, ◌∙◌, ℕ, Ok, List, ap, sym, subst, arith, length}
 use Rattle.semantics.specs.Relay.{IsContext}
 use Rattle.round.specs.Activation.{started}
-use Rattle.round.specs.Contexts.{context_of}
 use Rattle.round.proofs.Contexts.{context_is}
 use Rattle.round.proofs.Values.{all_told}
 use Rattle.round.proofs.Briefing.{briefed, briefed_live}

@@ -1,10 +1,6 @@
 -- After all rounds that were told.
-use Rattle.std.proofs.Common.{◌≡◌, ◌≤◌, List, length, take, ap, sym, subst, ◌∙◌, arith}
-use Rattle.std.specs.Prelude.{IfOk, OnOk}
-use Rattle.std.proofs.lemmas.List.{take_all}
-use Rattle.round.specs.Letters.{Letter}
-use Rattle.round.specs.Contexts.{context_of, AreWords}
-use Rattle.round.specs.Told.{Heard, WasTold}
+use Rattle.std.proofs.Common.{ap}
+use Rattle.round.specs.Told.{Heard}
 use Rattle.round.proofs.Values.{all_told, all_words}
 use Rattle.round.proofs.told.Told.context.Goals as goal
 
