@@ -1,6 +1,6 @@
 -- Parts that were not told anything yet, and are told it one by one.
 use Rattle.std.proofs.Common.{◌≡◌, ◌≢◌, ℕ, zero, suc, ◌+◌, ◌<◌, ◌≤◌, List, [], ◌∷◌, length, cond, refl, sym, ap, subst, ◌∙◌, ⊎_elim, Option, Some, None, true, false, arith}
-use Rattle.std.specs.Prelude.{slice_get, slice_set, nat_lt, replicate, ◌==◌}
+use Rattle.std.specs.Prelude.{slice_get, slice_set, nat_lt, ◌==◌}
 use Rattle.std.proofs.lemmas.Bool.{lt-ltb, ltb-true, ltb-false}
 use Rattle.std.proofs.lemmas.Bool.Decides.{eqb_tells}
 use Rattle.std.proofs.lemmas.Option.{slice_get_past}
@@ -11,9 +11,9 @@ use Rattle.round.specs.Letters.{Letter}
 use Rattle.round.specs.Contexts.{context_of}
 use Rattle.round.specs.Activation.{Activation, started}
 use Rattle.world.specs.Part.{Part, Acting, Silent, Posted}
-use Rattle.world.specs.World.{each, begins, round_open}
+use Rattle.world.specs.World.{each, begins}
 use Rattle.world.specs.Held.{beginnings}
-use Rattle.world.specs.Closing.{blank, blanks}
+use Rattle.world.specs.Closing.{zeros, blank, blanks}
 use Rattle.world.proofs.Listing.{each-get, each-length, set-here, set-other}
 
 ext : {A : Type 0} (xs ys : List A) → ((j : ℕ) → slice_get xs j ≡ slice_get ys j) → xs ≡ ys
@@ -84,13 +84,13 @@ module _ (s : Scenario) (closed : List (List Letter)) (le : length closed ≤ s.
 pub blank_started : (s : Scenario) (n g : ℕ) (o : Option (List Insn)) (a : Activation) → blank s n g o ≡ Acting a → a ≡ started a.patience a.program a.context a.shape
 blank_started s n g None a e = cc
 blank_started s n g (Some program) a e =
-    let is : started s.patience program (replicate 4096 0) (shape_of s g (suc n)) ≡ a = cc in
+    let is : started s.patience program zeros (shape_of s g (suc n)) ≡ a = cc in
     subst (λ (x : Activation). x ≡ started x.patience x.program x.context x.shape) is refl
 
 pub told_begins : (s : Scenario) (closed : List (List Letter)) (g : ℕ) (o : Option (List Insn)) (a b : Activation) → blank s (length closed) g o ≡ Acting a → b ≡ started a.patience a.program (context_of s closed g) a.shape → Acting b ≡ begins s closed g o
 told_begins s closed g None a b e is = cc
 told_begins s closed g (Some program) a b e is =
-    let same : a ≡ started s.patience program (replicate 4096 0) (shape_of s g (suc (length closed))) = cc in
+    let same : a ≡ started s.patience program zeros (shape_of s g (suc (length closed))) = cc in
     ap Acting (is ∙ ap (λ (x : Activation). started x.patience x.program (context_of s closed g) x.shape) same)
 
 pub silent_begins : (s : Scenario) (closed : List (List Letter)) (g : ℕ) (o : Option (List Insn)) → blank s (length closed) g o ≡ Silent → Silent ≡ begins s closed g o

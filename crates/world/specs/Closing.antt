@@ -1,5 +1,5 @@
 -- What a close takes memory for before it changes anything: the letters as far as they take any, and the next parts (own).
-use Rattle.std.specs.Prelude.{ℕ, suc, ◌≡◌, nat_lt, cond, List, [], ◌∷◌, length, replicate, slice_get, Option, None, Some}
+use Rattle.std.specs.Prelude.{ℕ, suc, ◌≡◌, nat_lt, cond, List, [], ◌∷◌, replicate, slice_get, Option, None, Some}
 use Rattle.insn.specs.declared.insn.Insn.{Insn}
 use Rattle.board.specs.Board.{Access}
 use Rattle.round.specs.Scenario.{Scenario, program_of, shape_of}
@@ -37,10 +37,14 @@ abbrev pub AreDraftsOf : ℕ → List Draft → List Part → Type 0
 AreDraftsOf round drafts parts = (g : ℕ) (transcript : List Access) (a : Activation) →
     slice_get drafts g ≡ Some (Begun transcript) → slice_get parts g ≡ Some (Acting a) → IsLetter (letter_left g round transcript a)
 
+-- a context in which nothing is told
+unfoldable pub zeros : List ℕ
+zeros = replicate 4096 0
+
 -- how a general begins the round behind so many before he is told anything
 abbrev pub blank : Scenario → ℕ → ℕ → Option (List Insn) → Part
 blank s before g None = Silent
-blank s before g (Some program) = Acting (started s.patience program (replicate 4096 0) (shape_of s g (suc before)))
+blank s before g (Some program) = Acting (started s.patience program zeros (shape_of s g (suc before)))
 
 abbrev pub blanks : Scenario → ℕ → List Part
 blanks s before = cond (nat_lt before (suc s.bound)) (each s.generals (λ g. blank s before g (program_of s g) ∷ [])) []

@@ -1,8 +1,8 @@
 //! How a round begins.
-ghost use Rattle.std.specs.Prelude.{◌≡◌, ◌<◌, ◌≤◌, Some, length, replicate, slice_get, slice_set, IfOk};
+ghost use Rattle.std.specs.Prelude.{◌≡◌, ◌<◌, ◌≤◌, Some, length, slice_get, slice_set, IfOk};
 ghost use Rattle.round.specs.Scenario.{program_of};
 ghost use Rattle.round.specs.Told.{WasTold};
-ghost use Rattle.world.specs.Closing.{blank, blanks};
+ghost use Rattle.world.specs.Closing.{blank, blanks, zeros};
 ghost use Rattle.world.specs.Held.{beginnings};
 ghost use Rattle.world.specs.World.{begins};
 
@@ -50,7 +50,8 @@ fn blank(alloc: Global, scenario: &Scenario, before: u8, general: u8) -> Result<
 
 /// The bytes of a context that nothing is told in.
 fn zeros(alloc: Global) -> Result<Vec<u8>, AllocError>
-    ensures { IfOk result (λ bytes. bytes.items ≡ replicate 4096 0) }
+    ensures same { IfOk result (λ bytes. bytes.items ≡ zeros) }
+    ensures long { IfOk result (λ bytes. length bytes.items ≡ 4096) }
 {
     let mut bytes = Vec::with_capacity(alloc, 4096)?;
     bytes.resize(4096, 0)?;

@@ -14,9 +14,9 @@ ghost use Rattle.world.specs.World.{accesses_of};
 use crate::draft::{Draft, Transcript};
 use crate::part::Part;
 use board::Access;
-use core::mem::replace;
 use round::{Letter, Round, Scenario, Told, loyal_letter};
 use std::alloc::{AllocError, Global};
+use std::mem::replace;
 
 /// The drafts of all generals' letters, as they stand: all that the row takes memory for.
 pub(crate) fn drafts(
