@@ -29,3 +29,4 @@ pub mod Values
 pub mod Fitting
 pub mod Onwards
 pub mod Served
+pub mod Briefing

@@ -1,27 +1,27 @@
 //! The bytes of a context.
-ghost use Rattle.std.specs.Prelude.{◌≡◌, ◌<◌, ◌≤◌, ◌^◌, ◌++◌, All, length, map, flat_map, IfOk, OnOk};
+ghost use Rattle.std.specs.Prelude.{◌≡◌, ◌<◌, ◌≤◌, ◌+◌, ◌*◌, ◌^◌, ◌++◌, All, length, map, flat_map, vec_len, vec_capacity};
 ghost use Rattle.word.specs.Bytes.{little_bytes};
 ghost use Rattle.label.specs.Oral.{order_of};
 ghost use Rattle.round.specs.Contexts.{context_bytes, context_numbers};
 
 use byteorder::{ByteOrder, LittleEndian};
 use label::Shape;
-use std::alloc::{AllocError, Global};
 
-/// The context of a relay in a campaign with this bound: the values taken for its labels, in the order of
-/// their ranks, nothing as RETREAT.
-pub(crate) fn context_with(
-    alloc: Global,
+/// Writes the context of a relay in a campaign with this bound, in place of what the vector held, which has room for it:
+/// the values taken for its labels, in the order of their ranks, nothing as RETREAT. It takes no memory.
+pub(crate) fn write_context(
+    bytes: &mut Vec<u8>,
     shape: Shape,
     bound: u8,
     values: &[Option<u32>],
-) -> Result<Vec<u8>, AllocError>
+)
+    requires room { 4096 ≤ vec_capacity bytes.old }
     requires rounds { shape.round ≤ shape.generals }
     requires few { length values.now ≤ 1000 }
-    ensures bytes { IfOk result (λ bytes. bytes.items ≡ context_bytes (context_numbers shape bound (map order_of values.now))) }
-    ensures words { OnOk result (All (λ v. order_of v < 2 ^ 32) values.now) }
+    ensures bytes { bytes.new.items ≡ context_bytes (context_numbers shape bound (map order_of values.now)) }
+    ensures words { All (λ v. order_of v < 2 ^ 32) values.now }
 {
-    let mut bytes = Vec::with_capacity(alloc, 4096)?;
+    bytes.clear();
     let header = [
         shape.generals,
         u32::from(bound),
@@ -32,31 +32,37 @@ pub(crate) fn context_with(
         shape.generals - shape.round,
         0,
     ];
-    spell(&mut bytes, &header)?;
-    fill(&mut bytes, values)?;
-    bytes.resize(4096, 0)?;
-    Ok(bytes)
+    spell(bytes, &header);
+    fill(bytes, values);
+    let Ok(()) = bytes.resize(4096, 0) else {
+        unreachable!()
+    };
 }
 
-/// The bytes of some numbers behind.
-fn spell(bytes: &mut Vec<u8>, numbers: &[u32]) -> Result<(), AllocError>
-    ensures { OnOk result (bytes.new.items ≡ bytes.old.items ++ flat_map (little_bytes 4) numbers.now) }
+/// The bytes of some numbers behind, for which there is room.
+fn spell(bytes: &mut Vec<u8>, numbers: &[u32; 8])
+    requires room { vec_len bytes.old + 32 ≤ vec_capacity bytes.old }
+    ensures bytes { bytes.new.items ≡ bytes.old.items ++ flat_map (little_bytes 4) numbers.now }
+    ensures len { vec_len bytes.new ≡ vec_len bytes.old + 32 }
+    ensures capacity { vec_capacity bytes.old ≤ vec_capacity bytes.new }
 {
-    for number in numbers {
-        put(bytes, *number)?;
-    }
-    Ok(())
+    let mut spelled = [0; 32];
+    LittleEndian::write_u32_into(numbers, &mut spelled);
+    let Ok(()) = bytes.extend_from_slice(&spelled) else {
+        unreachable!()
+    };
 }
 
-/// The values behind: nothing counts as 0.
-fn fill(bytes: &mut Vec<u8>, values: &[Option<u32>]) -> Result<(), AllocError>
-    ensures bytes { OnOk result (bytes.new.items ≡ bytes.old.items ++ flat_map (little_bytes 4) (map order_of values.now)) }
-    ensures words { OnOk result (All (λ v. order_of v < 2 ^ 32) values.now) }
+/// The bytes of the values behind, for which there is room: nothing counts as 0.
+fn fill(bytes: &mut Vec<u8>, values: &[Option<u32>])
+    requires room { vec_len bytes.old + 4 * length values.now ≤ vec_capacity bytes.old }
+    ensures bytes { bytes.new.items ≡ bytes.old.items ++ flat_map (little_bytes 4) (map order_of values.now) }
+    ensures words { All (λ v. order_of v < 2 ^ 32) values.now }
+    ensures capacity { vec_capacity bytes.old ≤ vec_capacity bytes.new }
 {
     for value in values {
-        put(bytes, order(value))?;
+        put(bytes, order(value));
     }
-    Ok(())
 }
 
 fn order(value: &Option<u32>) -> u32
@@ -68,11 +74,16 @@ fn order(value: &Option<u32>) -> u32
     }
 }
 
-/// A number's four bytes behind.
-fn put(bytes: &mut Vec<u8>, number: u32) -> Result<(), AllocError>
-    ensures { OnOk result (bytes.new.items ≡ bytes.old.items ++ little_bytes 4 number) }
+/// A number's four bytes behind, for which there is room.
+fn put(bytes: &mut Vec<u8>, number: u32)
+    requires room { vec_len bytes.old + 4 ≤ vec_capacity bytes.old }
+    ensures bytes { bytes.new.items ≡ bytes.old.items ++ little_bytes 4 number }
+    ensures len { vec_len bytes.new ≡ vec_len bytes.old + 4 }
+    ensures capacity { vec_capacity bytes.old ≤ vec_capacity bytes.new }
 {
     let mut word = [0; 4];
     LittleEndian::write_u32(&mut word, number);
-    bytes.extend_from_slice(&word)
+    let Ok(()) = bytes.extend_from_slice(&word) else {
+        unreachable!()
+    };
 }

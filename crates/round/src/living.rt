@@ -10,12 +10,11 @@ ghost use Rattle.round.specs.Activation.{Activation as Activated, started, turn,
 ghost use Rattle.round.specs.Runs.{Runs, AreFitting};
 ghost use Rattle.round.specs.Contexts.{IsToldTo, shape_told};
 ghost use Rattle.board.specs.Board.{Access as Entry};
-ghost use Rattle.round.specs.Running.{TakesTurn, IsSameRun, IsWayServed, IsGivenUp, IsLived, letter_left};
+ghost use Rattle.round.specs.Running.{TakesTurn, IsSameRun, IsWayServed, IsGivenUp, IsLived};
 
 use crate::letter::Letter;
 use crate::loyalty::number_told;
 use crate::running::Running;
-use crate::seat::Seat;
 use crate::server::Server;
 use crate::turns::one;
 use board::Access;
@@ -91,34 +90,6 @@ fn go_on<S: Server>(
 }
 
 impl Running {
-    /// The letter of the activation as it stands, with the accesses that it made.
-    fn into_letter(self, general: u32, round: u32, transcript: Vec<Access>) -> Letter
-        requires own { IsToldTo general round self.context }
-        requires shape { self.shape ≡ shape_told general round self.context }
-        requires fitting { AreFitting transcript.items }
-        requires run { (k : ℕ) × Runs k (started self.patience self.program self.context self.shape) transcript.items self }
-        ensures { result ≡ letter_left general round transcript.items self }
-    {
-        let Running {
-            program,
-            context,
-            activation,
-            over,
-            ..
-        } = self;
-        let ended = activation.end();
-        Letter {
-            general,
-            round,
-            context,
-            program: Seat::new(Some(program)),
-            transcript,
-            steps: ended.steps,
-            outbox: ended.outbox,
-            exited: over,
-        }
-    }
-
     /// One turn, whose request the server serves: the access that was made, if there was one. Without memory for it
     /// nothing changes.
     fn next<S: Server>(

@@ -1,10 +1,20 @@
 //! A traitor's activation with what it runs on.
-ghost use Rattle.std.specs.Prelude.{◌≡◌, length};
+ghost use Rattle.std.specs.Prelude.{◌≡◌, ◌<◌, ◌≤◌, List, length};
 ghost use Rattle.std.specs.Arc.{arc_value};
 ghost use Rattle.semantics.specs.Outbox.{empty_outbox};
+ghost use Rattle.semantics.specs.Relay.{IsContext};
 ghost use Rattle.round.specs.Activation.{started, has_ended, is_reached};
-ghost use Rattle.round.specs.Runs.{IsWithin};
+ghost use Rattle.round.specs.Letters.{Letter as Written};
+ghost use Rattle.round.specs.Contexts.{context_of};
+ghost use Rattle.round.specs.Told.{WasTold};
+ghost use Rattle.round.specs.Runs.{IsWithin, IsLetter};
+ghost use Rattle.round.specs.Running.{letter_left};
 
+use crate::letter::Letter;
+use crate::scenario::Scenario;
+use crate::seat::Seat;
+use crate::told::Told;
+use board::Access;
 use machine::Activation;
 use mem::Context;
 use outbox::Outbox;
@@ -60,6 +70,44 @@ impl Running {
         }
     }
 
+    /// Tells an activation, before its first step, what its general is told as the next round begins, in place of what it
+    /// was started with. It takes no memory.
+    pub fn brief(&mut self, told: &Told, scenario: &Scenario, general: u8)
+        requires start { self.old ≡ started self.old.patience self.old.program self.old.context self.old.shape }
+        requires told { (before : List (List Written)) × WasTold scenario.now before told.now }
+        requires left { told.now.rounds ≤ scenario.now.bound }
+        requires general { general < scenario.now.generals }
+        ensures { (before : List (List Written)) → WasTold scenario.now before told.now → self.new ≡ started self.old.patience self.old.program (context_of scenario.now before general) self.old.shape }
+    {
+        told.write_context(scenario, general, told.rounds(), &mut self.context);
+    }
+
+    /// The letter of the activation as it stands, with the accesses that it made. The program, the context and the outbox
+    /// are moved into it.
+    pub fn into_letter(self, general: u32, round: u32, transcript: Vec<Access>) -> Letter
+        requires { IsLetter (letter_left general round transcript.items self) }
+        ensures { result ≡ letter_left general round transcript.items self }
+    {
+        let Running {
+            program,
+            context,
+            activation,
+            over,
+            ..
+        } = self;
+        let ended = activation.end();
+        Letter {
+            general,
+            round,
+            context,
+            program: Seat::new(Some(program)),
+            transcript,
+            steps: ended.steps,
+            outbox: ended.outbox,
+            exited: over,
+        }
+    }
+
     /// What it runs.
     pub fn program(&self) -> &Arc<Verified>
         ensures { arc_value result.now ≡ self.now.program }
@@ -85,6 +133,7 @@ impl Running {
     pub fn has_ended(&self) -> bool
         ensures ended { result ≡ has_ended self.now }
         ensures within { IsWithin self.now.patience self.now.state.steps }
+        ensures whole { IsContext self.now.context }
     {
         self.over || is_reached(self.patience, self.activation.steps())
     }

@@ -1,9 +1,9 @@
-ghost use Rattle.std.specs.Prelude.{◌≡◌, ◌≢◌, ◌<◌, ◌≤◌, ◌++◌, ◌∷◌, [], suc, List, IfOk, OnOk, length, take};
+ghost use Rattle.std.specs.Prelude.{◌≡◌, ◌≢◌, ◌<◌, ◌≤◌, ◌++◌, ◌∷◌, [], suc, List, IfOk, OnOk, length, take, vec_capacity};
 ghost use Rattle.round.specs.Letters.{Letter as Written};
 ghost use Rattle.round.specs.Contexts.{context_of, AreWords};
 ghost use Rattle.round.specs.Told.{WasTold, AreLettersOf, AreRoundsOf, lieutenant_at};
 
-use crate::context::context_with;
+use crate::context::write_context;
 use crate::delivery::deliver_to_all;
 use crate::letter::Letter;
 use crate::round::Round;
@@ -131,17 +131,38 @@ impl Told {
         ensures context { IfOk result (λ bytes. (before : List (List Written)) → WasTold scenario.now before self.now → bytes.items ≡ context_of scenario.now (take rounds before) general) }
         ensures words { OnOk result ((before : List (List Written)) → WasTold scenario.now before self.now → AreWords scenario.now (take rounds before) general) }
     {
+        let mut bytes = Vec::with_capacity(alloc, 4096)?;
+        self.write_context(scenario, general, rounds, &mut bytes);
+        Ok(bytes)
+    }
+
+    /// [`Told::context_after`] in place of what the vector held, which has room for it. It takes no memory.
+    pub(crate) fn write_context(
+        &self,
+        scenario: &Scenario,
+        general: u8,
+        rounds: u8,
+        bytes: &mut Vec<u8>,
+    )
+        requires room { 4096 ≤ vec_capacity bytes.old }
+        requires told { (before : List (List Written)) × WasTold scenario.now before self.now }
+        requires passed { rounds ≤ self.now.rounds }
+        requires left { rounds ≤ scenario.now.bound }
+        requires general { general < scenario.now.generals }
+        ensures context { (before : List (List Written)) → WasTold scenario.now before self.now → bytes.new.items ≡ context_of scenario.now (take rounds before) general }
+        ensures words { (before : List (List Written)) → WasTold scenario.now before self.now → AreWords scenario.now (take rounds before) general }
+    {
         let bound = scenario.bound();
         if rounds == 0 {
-            return first_context(alloc, scenario, general);
+            return write_first_context(scenario, general, bytes);
         }
         let commander = scenario.commander();
         let shape = scenario.shape(general, rounds + 1);
         if general == commander {
-            return context_with(alloc, shape, bound, &[]);
+            return write_context(bytes, shape, bound, &[]);
         }
         let tree = &self.trees[usize::from(place_of(commander, general))];
-        context_with(alloc, shape, bound, tree.level(rounds))
+        write_context(bytes, shape, bound, tree.level(rounds));
     }
 }
 
@@ -169,17 +190,19 @@ pub fn context_for(
     told.context(alloc, scenario, general)
 }
 
-/// What a general is told as the first round begins: the commander his order, the others nothing.
-fn first_context(alloc: Global, scenario: &Scenario, general: u8) -> Result<Vec<u8>, AllocError>
-    requires { general < scenario.now.generals }
-    ensures { IfOk result (λ bytes. bytes.items ≡ context_of scenario.now [] general) }
+/// What a general is told as the first round begins, in place of what the vector held, which has room for it: the
+/// commander his order, the others nothing.
+fn write_first_context(scenario: &Scenario, general: u8, bytes: &mut Vec<u8>)
+    requires room { 4096 ≤ vec_capacity bytes.old }
+    requires general { general < scenario.now.generals }
+    ensures { bytes.new.items ≡ context_of scenario.now [] general }
 {
     let bound = scenario.bound();
     let shape = scenario.shape(general, 1);
     if general == scenario.commander() {
-        return context_with(alloc, shape, bound, &[Some(scenario.order())]);
+        return write_context(bytes, shape, bound, &[Some(scenario.order())]);
     }
-    context_with(alloc, shape, bound, &[])
+    write_context(bytes, shape, bound, &[]);
 }
 
 /// The lieutenant at a place, from 0, among those under the commander.

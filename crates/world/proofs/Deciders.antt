@@ -1,11 +1,11 @@
 -- The lieutenants' decisions, one for each tree.
-use Rattle.std.proofs.Common.{◌≡◌, ◌≢◌, ℕ, zero, suc, ◌<◌, ◌≤◌, ◌+◌, ◌-◌, List, [], ◌∷◌, ◌++◌, length, map, get_or, Bool, true, false, refl, sym, ap, subst, ◌∙◌, inl, inr, Some, arith, length-append}
-use Rattle.std.specs.Prelude.{slice_get, ◌==◌, nat_lt, if◌then◌else◌}
+use Rattle.std.proofs.Common.{◌≡◌, ◌≢◌, ℕ, zero, suc, ◌<◌, ◌≤◌, ◌+◌, List, [], ◌∷◌, ◌++◌, length, map, get_or, Bool, false, refl, sym, ap, subst, ◌∙◌, inl, inr, Some, arith, length-append}
+use Rattle.std.specs.Prelude.{slice_get, ◌==◌}
 use Rattle.std.proofs.lemmas.Bool.{or_from, or_left, ne_eqb, eq-eqb, lt-ltb, le-ltb, cases_lt}
 use Rattle.std.proofs.lemmas.List.{map-append}
 use Rattle.label.specs.Labels.{on, others}
 use Rattle.label.proofs.Ranks.{others-more_no, others-more_yes}
-use Rattle.label.specs.Oral.{Messages, om}
+use Rattle.label.specs.Oral.{om}
 use Rattle.label.specs.Lieutenants.{lieutenants}
 use Rattle.combine.specs.declared.chosen.Rule.{Rule}
 use Rattle.combine.specs.Chosen.{combined_by}
@@ -14,7 +14,7 @@ use Rattle.tree.specs.LieutenantTree.{LieutenantTree}
 use Rattle.resolve.specs.Decided.{Decides}
 use Rattle.round.specs.Scenario.{Scenario, IsScenario}
 use Rattle.round.specs.Letters.{Letter, messages}
-use Rattle.round.specs.Told.{Heard, WasTold, IsTreeOf, lieutenant_at}
+use Rattle.round.specs.Told.{Heard, WasTold, lieutenant_at}
 use Rattle.world.specs.Part.{Part}
 use Rattle.world.specs.World.{World, each}
 use Rattle.world.specs.Reached.{world_of}

@@ -15,7 +15,7 @@ use Rattle.round.proofs.Contexts.{shape_is}
 use Rattle.round.proofs.Loyal.{shape_is_told, own_is_told, letter_is}
 use Rattle.world.specs.Part.{Part, Acting, Silent, Posted}
 use Rattle.world.specs.World.{World, each}
-use Rattle.world.specs.Reached.{world_of, IsHeld}
+use Rattle.world.specs.Reached.{IsHeld}
 use Rattle.world.specs.Held.{written, letters_held}
 use Rattle.world.specs.Safety.{IsPlaced}
 use Rattle.world.proofs.Standing.{proved_parts_are_placed}

@@ -33,3 +33,5 @@ pub mod Hearing
 pub mod Outcomes
 pub mod Deciders
 pub mod Counted
+pub mod Drafting
+pub mod Briefed

@@ -1,5 +1,5 @@
 -- What decisions and verdicts of finished campaigns are.
-use Rattle.std.proofs.Common.{◌≡◌, ℕ, ◌<◌, List, Bool, true, length, arith, refl, sym, ap, subst, ◌∙◌}
+use Rattle.std.proofs.Common.{◌≡◌, ℕ, ◌<◌, List, Bool, true, length, arith, sym, ap, subst, ◌∙◌}
 use Rattle.std.proofs.lemmas.List.{length-map}
 use Rattle.label.specs.Oral.{Messages}
 use Rattle.label.specs.Lieutenants.{lieutenants, AgreeInList}

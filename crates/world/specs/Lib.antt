@@ -12,4 +12,5 @@ pub mod Replay
 pub mod Refusals
 pub mod Playing
 pub mod Held
+pub mod Closing
 pub mod Verdicts

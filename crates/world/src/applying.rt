@@ -3,7 +3,7 @@ ghost use Rattle.std.specs.Prelude.{◌≡◌, IfOk, OnOk, OnErr, IfErr, None};
 ghost use Rattle.world.specs.World.{opening, happen, refusal};
 ghost use Rattle.world.specs.Held.{IsAnswer};
 
-use crate::beginnings::beginnings;
+use crate::beginnings::{blanks, brief};
 use crate::campaign::World;
 use crate::event::{Event, EventError};
 use crate::onward::is_unfit;
@@ -21,7 +21,8 @@ impl World {
         ensures { IfOk result (λ world. world ≡ opening scenario) }
     {
         let told = Told::new(alloc, &scenario)?;
-        let parts = beginnings(alloc, &told, &scenario, &[])?;
+        let mut parts = blanks(alloc, &scenario, 0)?;
+        brief(&mut parts, &told, &scenario, &[]);
         let board = Board::new(alloc, *scenario.board());
         Ok(World {
             scenario,

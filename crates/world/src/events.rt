@@ -4,10 +4,10 @@ ghost use Rattle.world.specs.declared.event.Event.TheVariants.{Tick, Post, Close
 ghost use Rattle.world.specs.World.{happen, run};
 ghost use Rattle.world.specs.Held.{AheadTo};
 
-use crate::beginnings::beginnings;
+use crate::beginnings::{blanks, brief};
 use crate::campaign::World;
 use crate::onward;
-use crate::rows::{is_full, letters, since};
+use crate::rows::{drafts, is_full, letters, since};
 use round::Round;
 use std::alloc::{AllocError, Global};
 
@@ -51,37 +51,41 @@ impl World {
         onward::post(&mut self.parts, general);
     }
 
-    /// The end of the round. Its letters are made first; where the row or the next parts find no memory, the
-    /// row is taken back, and what it told is forgotten.
+    /// The end of the round. All memory that it takes is taken before anything changes: room for the row among the closed
+    /// rounds and for the letters in the row, the drafts of the letters, and the next round's parts. Then the letters are
+    /// moved from the parts into the row and told, and the next parts are told their contexts, which cannot fail.
     pub(crate) fn close(&mut self, alloc: Global) -> Result<(), AllocError>
         requires { length self.old.closed ≤ self.old.scenario.bound }
         ensures done { OnOk result (self.new ≡ happen self.old Close) }
         ensures undone { OnErr result (self.new ≡ self.old) }
     {
         let _few = self.scenario.bound();
+        let round = self.round();
+        let generals = self.scenario.generals();
         let accesses = since(self.board.ledger(), self.opened);
-        let Ok(row) = letters(
+        let drafts = drafts(
             alloc,
             &self.told,
             &self.scenario,
             self.closed.as_slice(),
             accesses,
             self.parts.as_slice(),
-        ) else {
-            return Err(AllocError);
-        };
-        self.told.deliver(&self.scenario, row.as_slice());
-        let Ok(()) = self.closed.push(Round { letters: row }) else {
-            self.told.forget(&self.scenario);
-            return Err(AllocError);
-        };
-        let Ok(parts) = beginnings(alloc, &self.told, &self.scenario, self.closed.as_slice()) else {
-            self.told.forget(&self.scenario);
-            let _ = self.closed.pop();
-            return Err(AllocError);
-        };
+        )?;
+        let row = Vec::with_capacity(alloc, usize::from(generals))?;
+        let mut parts = blanks(alloc, &self.scenario, self.closed.len() + 1)?;
+        self.closed.reserve(1)?;
+        let full = is_full(self.full, self.parts.as_slice());
+        let letters = letters(row, drafts, &mut self.parts, generals, round);
+        self.told.deliver(&self.scenario, letters.as_slice());
+        self.closed.push_reserved(Round { letters });
+        brief(
+            &mut parts,
+            &self.told,
+            &self.scenario,
+            self.closed.as_slice(),
+        );
         self.opened = self.board.ledger().len();
-        self.full = is_full(self.full, self.parts.as_slice());
+        self.full = full;
         self.parts = parts;
         Ok(())
     }

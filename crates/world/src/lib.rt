@@ -5,6 +5,7 @@ mod applying;
 mod beginnings;
 mod campaign;
 mod chronicle;
+mod draft;
 mod event;
 mod events;
 mod finished;

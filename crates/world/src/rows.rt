@@ -1,46 +1,45 @@
 //! The letters of a round.
-ghost use Rattle.std.specs.Prelude.{◌≡◌, ◌<◌, ◌≤◌, ℕ, suc, length, ◌++◌, ◌&&◌, drop, IfOk, OnOk, Some, slice_get};
+ghost use Rattle.std.specs.Prelude.{◌≡◌, ◌≢◌, ◌<◌, ◌≤◌, ◌+◌, ℕ, [], suc, List, Some, length, ◌++◌, ◌&&◌, drop, IfOk, slice_get, vec_len, vec_capacity};
 ghost use Rattle.std.specs.List.{list_all};
+ghost use Rattle.board.specs.Board.{Access as Entry};
 ghost use Rattle.round.specs.Activation.{Activation};
 ghost use Rattle.round.specs.Contexts.{loyal_letter};
+ghost use Rattle.round.specs.Running.{letter_left};
 ghost use Rattle.round.specs.Runs.{IsLetter};
 ghost use Rattle.round.specs.Told.{WasTold};
+ghost use Rattle.world.specs.Closing.{AreDraftsOf, Begun, draft_of, drafts_held, letter_from, letters_from};
 ghost use Rattle.world.specs.Part.{Acting, has_posted};
 ghost use Rattle.world.specs.World.{accesses_of};
-ghost use Rattle.world.specs.Held.{written, letters_held, AreLetters};
-ghost use Rattle.round.specs.Running.{letter_left};
 
+use crate::draft::{Draft, Transcript};
 use crate::part::Part;
 use board::Access;
-use round::{Letter, Round, Running, Scenario, Seat, Told, loyal_letter};
+use round::{Letter, Round, Scenario, Told, loyal_letter};
 use std::alloc::{AllocError, Global};
+use std::mem::replace;
 
-/// The letters of the open round, as the generals stand.
-pub(crate) fn letters(
+/// The drafts of all generals' letters, as they stand: all that the row takes memory for.
+pub(crate) fn drafts(
     alloc: Global,
     told: &Told,
     scenario: &Scenario,
     closed: &[Round],
     accesses: &[Access],
     parts: &[Part],
-) -> Result<Vec<Letter>, AllocError>
+) -> Result<Vec<Draft>, AllocError>
     requires told { WasTold scenario.now closed.now told.now }
     requires left { length closed.now ≤ scenario.now.bound }
-    requires runs { AreLetters (suc (length closed.now)) accesses.now parts.now }
-    ensures { IfOk result (λ row. row.items ≡ letters_held scenario.now closed.now accesses.now parts.now) }
+    ensures { IfOk result (λ drafts. drafts.items ≡ drafts_held scenario.now closed.now accesses.now parts.now) }
 {
-    let mut row = Vec::with_capacity(alloc, parts.len())?;
+    let mut drafts = Vec::with_capacity(alloc, usize::from(scenario.generals()))?;
     for general in 0..scenario.generals() {
-        write(
-            &mut row, alloc, told, scenario, closed, accesses, parts, general,
-        )?;
+        drafts.push(draft(alloc, told, scenario, closed, accesses, parts, general)?)?;
     }
-    Ok(row)
+    Ok(drafts)
 }
 
-/// One general's letter, where there is one.
-fn write(
-    row: &mut Vec<Letter>,
+/// The draft of one general's letter.
+fn draft(
     alloc: Global,
     told: &Told,
     scenario: &Scenario,
@@ -48,26 +47,17 @@ fn write(
     accesses: &[Access],
     parts: &[Part],
     general: u8,
-) -> Result<(), AllocError>
+) -> Result<Draft, AllocError>
     requires told { WasTold scenario.now closed.now told.now }
     requires left { length closed.now ≤ scenario.now.bound }
     requires inside { general < scenario.now.generals }
-    requires runs { AreLetters (suc (length closed.now)) accesses.now parts.now }
-    ensures { OnOk result (row.new.items ≡ row.old.items ++ written scenario.now closed.now accesses.now general (slice_get parts.now general)) }
+    ensures { IfOk result (λ draft. draft ≡ draft_of scenario.now closed.now accesses.now general (slice_get parts.now general)) }
 {
-    let _bound = scenario.bound();
-    let round = closed.len() as u32 + 1;
     match parts.get(usize::from(general)) {
-        Some(Part::Acting(running)) => {
-            row.push(acting(alloc, running, u32::from(general), round, accesses)?)?;
-            Ok(())
-        }
-        Some(Part::Posted) => {
-            row.push(loyal(alloc, told, scenario, closed, general)?)?;
-            Ok(())
-        }
-        Some(Part::Silent) => Ok(()),
-        None => Ok(()),
+        Some(Part::Acting(_)) => Ok(Draft::Begun(transcript(alloc, accesses, u32::from(general))?)),
+        Some(Part::Posted) => Ok(Draft::Whole(loyal(alloc, told, scenario, closed, general)?)),
+        Some(Part::Silent) => Ok(Draft::Missing),
+        None => Ok(Draft::Missing),
     }
 }
 
@@ -90,36 +80,9 @@ fn loyal(
     loyal_letter(alloc, u32::from(general), round, context)
 }
 
-/// A traitor's letter.
-fn acting(
-    alloc: Global,
-    running: &Running,
-    general: u32,
-    round: u32,
-    accesses: &[Access],
-) -> Result<Letter, AllocError>
-    requires { IsLetter (letter_left general round (accesses_of general accesses.now) running.now) }
-    ensures { IfOk result (λ letter. letter ≡ letter_left general round (accesses_of general accesses.now) running.now) }
-{
-    let context = Vec::from_slice(alloc, running.context())?;
-    let program = Seat::new(Some(running.program().clone()?));
-    let transcript = transcript(alloc, accesses, general)?;
-    let outbox = running.outbox().copy(alloc)?;
-    Ok(Letter {
-        general,
-        round,
-        context,
-        program,
-        transcript,
-        steps: running.steps(),
-        outbox,
-        exited: running.has_exited(),
-    })
-}
-
 /// One general's accesses.
-fn transcript(alloc: Global, accesses: &[Access], general: u32) -> Result<Vec<Access>, AllocError>
-    ensures { IfOk result (λ own. own.items ≡ accesses_of general accesses.now) }
+fn transcript(alloc: Global, accesses: &[Access], general: u32) -> Result<Transcript, AllocError>
+    ensures { IfOk result (λ own. own ≡ accesses_of general accesses.now) }
 {
     let mut own = Vec::new(alloc);
     for access in accesses {
@@ -127,7 +90,77 @@ fn transcript(alloc: Global, accesses: &[Access], general: u32) -> Result<Vec<Ac
             own.push(access.copy(alloc)?)?;
         }
     }
-    Ok(own)
+    Ok(Transcript { accesses: own })
+}
+
+/// The letters of so many generals, in a row that has room for them: their drafts, and what the traitors' activations
+/// have. The activations are gone from the parts. It takes no memory.
+pub(crate) fn letters(
+    mut row: Vec<Letter>,
+    mut drafts: Vec<Draft>,
+    parts: &mut Vec<Part>,
+    generals: u8,
+    round: u32,
+) -> Vec<Letter>
+    requires empty { row.items ≡ [] }
+    requires room { generals ≤ vec_capacity row }
+    requires count { length drafts.items ≡ generals }
+    requires runs { AreDraftsOf round drafts.items parts.old.items }
+    ensures { result.items ≡ letters_from generals round drafts.items parts.old.items }
+{
+    for general in 0..generals {
+        write(&mut row, &mut drafts, parts, general, round);
+    }
+    row
+}
+
+/// One general's letter, where there is one.
+fn write(
+    row: &mut Vec<Letter>,
+    drafts: &mut Vec<Draft>,
+    parts: &mut Vec<Part>,
+    general: u8,
+    round: u32,
+)
+    requires room { vec_len row.old < vec_capacity row.old }
+    requires there { general < length drafts.old.items }
+    requires run { (transcript : List Entry) (a : Activation) → slice_get drafts.old.items general ≡ Some (Begun transcript) → slice_get parts.old.items general ≡ Some (Acting a) → IsLetter (letter_left general round transcript a) }
+    ensures row { row.new.items ≡ row.old.items ++ letter_from general round (slice_get drafts.old.items general) (slice_get parts.old.items general) }
+    ensures few { vec_len row.new ≤ vec_len row.old + 1 }
+    ensures room { vec_capacity row.new ≡ vec_capacity row.old }
+    ensures count { length drafts.new.items ≡ length drafts.old.items }
+    ensures drafts { (j : ℕ) → j ≢ general → slice_get drafts.new.items j ≡ slice_get drafts.old.items j }
+    ensures parts { (j : ℕ) → j ≢ general → slice_get parts.new.items j ≡ slice_get parts.old.items j }
+{
+    let place = usize::from(general);
+    match replace(&mut drafts[place], Draft::Missing) {
+        Draft::Begun(transcript) => {
+            if place < parts.len() {
+                leave(
+                    row,
+                    &mut parts[place],
+                    transcript,
+                    u32::from(general),
+                    round,
+                );
+            }
+        }
+        Draft::Whole(letter) => row.push_reserved(letter),
+        Draft::Missing => {}
+    }
+}
+
+/// A traitor's letter is what his activation leaves.
+fn leave(row: &mut Vec<Letter>, part: &mut Part, transcript: Transcript, general: u32, round: u32)
+    requires room { vec_len row.old < vec_capacity row.old }
+    requires run { (a : Activation) → part.old ≡ Acting a → IsLetter (letter_left general round transcript a) }
+    ensures row { row.new.items ≡ row.old.items ++ letter_from general round (Some (Begun transcript)) (Some part.old) }
+    ensures few { vec_len row.new ≤ vec_len row.old + 1 }
+    ensures room { vec_capacity row.new ≡ vec_capacity row.old }
+{
+    if let Part::Acting(running) = replace(part, Part::Silent) {
+        row.push_reserved(running.into_letter(general, round, transcript.accesses));
+    }
 }
 
 /// The accesses from one on.

@@ -6,7 +6,7 @@ use Rattle.round.specs.Activation.{Activation, started}
 use Rattle.round.specs.Letters.{Letter}
 use Rattle.round.specs.Contexts.{IsToldTo, shape_told, number_told}
 use Rattle.round.specs.Running.{IsWayServed}
-use Rattle.round.proofs.Onwards.{own_run, lived}
+use Rattle.round.proofs.Onwards.{letter_of_run, own_run, lived}
 use Rattle.round.proofs.Served.{served_first, any_error}
 use Rattle.round.proofs.living.live.Goals as goal
 
@@ -36,22 +36,15 @@ loop-running-smaller g c =
     let few = c.in_ok-go_on.ensures.few in
     omega arith
 
-pub into_letter-requires-clause-shape : goal.into_letter-requires-clause-shape
-into_letter-requires-clause-shape g c =
-    let s = c.loop-running.invariant.way.same in
-    s.shape ∙ ap (λ (l : List ℕ). shape_told c.args.general c.args.round l) (sym s.context)
-
-pub into_letter-requires-clause-own : goal.into_letter-requires-clause-own
-into_letter-requires-clause-own g c =
-    let s = c.loop-running.invariant.way.same in
-    subst (λ (l : List ℕ). IsToldTo c.args.general c.args.round l) (sym s.context) c.requires.own
-
-pub into_letter-requires-clause-fitting : goal.into_letter-requires-clause-fitting
-into_letter-requires-clause-fitting g c = c.loop-running.invariant.way.fitting
-
-pub into_letter-requires-clause-run : goal.into_letter-requires-clause-run
-into_letter-requires-clause-run g c =
-    own_run c.args.general c.args.round (arc_value c.args.program) c.args.context.items c.args.patience (shape_told c.args.general c.args.round c.args.context.items) c.loop-running.transcript.items c.loop-running.running c.loop-running.invariant.way
+pub into_letter-requires : goal.into_letter-requires
+into_letter-requires g c =
+    let way = c.loop-running.invariant.way in
+    let s = way.same in
+    letter_of_run c.args.general c.args.round c.loop-running.transcript.items c.loop-running.running c.has_ended.ensures.whole
+    (subst (λ (l : List ℕ). IsToldTo c.args.general c.args.round l) (sym s.context) c.requires.own)
+    (s.shape ∙ ap (λ (l : List ℕ). shape_told c.args.general c.args.round l) (sym s.context))
+    way.fitting
+    (own_run c.args.general c.args.round (arc_value c.args.program) c.args.context.items c.args.patience (shape_told c.args.general c.args.round c.args.context.items) c.loop-running.transcript.items c.loop-running.running way)
 
 pub returns-clause-lived : goal.returns-clause-lived
 returns-clause-lived g c =

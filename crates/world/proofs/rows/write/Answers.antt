@@ -1,45 +1,57 @@
--- A letter, or none.
-use Rattle.std.proofs.Common.{◌≡◌, ◌+◌, refl, sym, ap, ◌∙◌, length, Some, None, arith, ◌∷◌, []}
+-- One general's letter.
+use Rattle.std.proofs.Common.{◌≡◌, ℕ, ◌++◌, ◌∙◌, refl, sym, ap, subst, Option, Some, None, arith}
 use Rattle.std.specs.Prelude.{slice_get}
-use Rattle.std.proofs.lemmas.Option.{slice_get_past, slice_get_read}
-use Rattle.round.specs.Letters.{Letter}
-use Rattle.world.specs.Part.{Part, Acting, Silent, Posted}
-use Rattle.world.proofs.Holding.{silent_row, letter_at, row_with, acting_is}
+use Rattle.std.proofs.lemmas.Option.{slice_get_past}
+use Rattle.round.specs.Runs.{IsLetter}
+use Rattle.round.specs.Running.{letter_left}
+use Rattle.world.specs.Part.{Part}
+use Rattle.world.specs.Closing.{Draft, Begun, Whole, Missing, letter_from}
+use Rattle.world.proofs.Drafting.{read_at, left_row}
+use Rattle.world.proofs.Holding.{none_written}
+use Rattle.world.proofs.Listing.{set-other}
 use Rattle.world.proofs.rows.write.Goals as goal
 
-pub acting-requires : goal.acting-requires
-acting-requires c =
-    let h = c.in-Some-Acting.ensures.lookup in
-    let at : slice_get c.args.parts.now c.from.result ≡ Some c.in-Some-Acting.field-0.now = slice_get_read c.args.parts.now (length c.args.parts.now) c.from.result c.in-Some-Acting.field-0.now refl h.3.0 h.1 in
-    letter_at (length c.args.closed.now) c.args.general c.from-in-Some-Acting.result (length c.args.closed.now + 1) c.args.accesses.now c.args.parts.now c.in-Some-Acting.running c.requires.runs
-    (ap (slice_get c.args.parts.now) (sym c.from.ensures) ∙ (at ∙ ap (λ (p : Part). Some p) c.in-Some-Acting.field-0-is)) c.from-in-Some-Acting.ensures (omega arith)
+pub leave-requires-clause-run : goal.leave-requires-clause-run
+leave-requires-clause-run c a acting =
+    let g = c.args.general in
+    let there = read_at c.args.drafts.now.items g c.from-place.result c.index_mut.result.now (Begun c.in-Begun.transcript) c.from-place.ensures c.requires.there c.index_mut.ensures.value (sym c.replace.ensures.value ∙ c.in-Begun.is) in
+    let at = read_at c.args.parts.now.items g c.from-place.result c.index_mut-then-place-len.result.now c.index_mut-then-place-len.result.now c.from-place.ensures (let l = c.if-place-len.true in let n = c.len.ensures in let e = c.from-place.ensures in let o = c.args.parts.now.ok.0 in omega arith) c.index_mut-then-place-len.ensures.value refl in
+    subst (λ (n : ℕ). IsLetter (letter_left n c.args.round c.in-Begun.transcript a)) (sym c.from.ensures) (c.requires.run c.in-Begun.transcript a there (at ∙ ap (λ (p : Part). Some p) acting))
 
-pub returns-in_ok-push-in-Some-Acting : goal.returns-in_ok-push-in-Some-Acting
-returns-in_ok-push-in-Some-Acting c =
-    let h = c.in-Some-Acting.ensures.lookup in
-    let at : slice_get c.args.parts.now c.from.result ≡ Some c.in-Some-Acting.field-0.now = slice_get_read c.args.parts.now (length c.args.parts.now) c.from.result c.in-Some-Acting.field-0.now refl h.3.0 h.1 in
-    row_with c.args.scenario.now c.args.closed.now c.args.accesses.now c.args.parts.now c.args.general (Some (Acting c.in-Some-Acting.running)) c.args.row.now.items c.push.new.self.items c.in_ok-acting-in-Some-Acting.field-0
-    (ap (slice_get c.args.parts.now) (sym c.from.ensures) ∙ (at ∙ ap (λ (p : Part). Some p) c.in-Some-Acting.field-0-is)) c.in_ok-push-in-Some-Acting.ensures.items
-    (acting_is (length c.args.closed.now) c.args.general c.from-in-Some-Acting.result (length c.args.closed.now + 1) c.args.accesses.now c.in-Some-Acting.running c.in_ok-acting-in-Some-Acting.field-0 c.from-in-Some-Acting.ensures (omega arith)
-    c.in_ok-acting-in-Some-Acting.ensures)
+pub returns-then-place-len-clause-row : goal.returns-then-place-len-clause-row
+returns-then-place-len-clause-row c =
+    let g = c.args.general in
+    let there = read_at c.args.drafts.now.items g c.from-place.result c.index_mut.result.now (Begun c.in-Begun.transcript) c.from-place.ensures c.requires.there c.index_mut.ensures.value (sym c.replace.ensures.value ∙ c.in-Begun.is) in
+    let at = read_at c.args.parts.now.items g c.from-place.result c.index_mut-then-place-len.result.now c.index_mut-then-place-len.result.now c.from-place.ensures (let l = c.if-place-len.true in let n = c.len.ensures in let e = c.from-place.ensures in let o = c.args.parts.now.ok.0 in omega arith) c.index_mut-then-place-len.ensures.value refl in
+    left_row g c.from.result c.args.round c.args.drafts.now.items c.args.parts.now.items (Begun c.in-Begun.transcript) c.index_mut-then-place-len.result.now c.args.row.now.items c.leave.new.row.items c.leave.ensures.row c.from.ensures there at
 
-pub returns-in_ok-push-in-Some-Posted : goal.returns-in_ok-push-in-Some-Posted
-returns-in_ok-push-in-Some-Posted c =
-    let h = c.in-Some-Posted.ensures.lookup in
-    let at : slice_get c.args.parts.now c.from.result ≡ Some c.in-Some-Posted.field-0.now = slice_get_read c.args.parts.now (length c.args.parts.now) c.from.result c.in-Some-Posted.field-0.now refl h.3.0 h.1 in
-    row_with c.args.scenario.now c.args.closed.now c.args.accesses.now c.args.parts.now c.args.general (Some Posted) c.args.row.now.items c.push-in-Some-Posted.new.self.items c.in_ok-loyal-in-Some-Posted.field-0
-    (ap (slice_get c.args.parts.now) (sym c.from.ensures) ∙ (at ∙ ap (λ (p : Part). Some p) c.in-Some-Posted.field-0-is)) c.in_ok-push-in-Some-Posted.ensures.items
-    (ap (λ (l : Letter). l ∷ []) c.in_ok-loyal-in-Some-Posted.ensures)
+pub returns-then-place-len-clause-drafts : goal.returns-then-place-len-clause-drafts
+returns-then-place-len-clause-drafts c j ne = set-other c.args.drafts.now.items c.from-place.result j c.replace.new.dest (λ e. ne (e ∙ c.from-place.ensures))
 
-pub returns-in-Some-Silent : goal.returns-in-Some-Silent
-returns-in-Some-Silent c =
-    let h = c.in-Some-Silent.ensures.lookup in
-    let at : slice_get c.args.parts.now c.from.result ≡ Some c.in-Some-Silent.field-0.now = slice_get_read c.args.parts.now (length c.args.parts.now) c.from.result c.in-Some-Silent.field-0.now refl h.3.0 h.1 in
-    silent_row c.args.scenario.now c.args.closed.now c.args.accesses.now c.args.parts.now c.args.general (Some Silent) c.args.row.now.items
-    (ap (slice_get c.args.parts.now) (sym c.from.ensures) ∙ (at ∙ ap (λ (p : Part). Some p) c.in-Some-Silent.field-0-is)) refl
+pub returns-then-place-len-clause-parts : goal.returns-then-place-len-clause-parts
+returns-then-place-len-clause-parts c j ne = set-other c.args.parts.now.items c.from-place.result j c.leave.new.part (λ e. ne (e ∙ c.from-place.ensures))
 
-pub returns-in-None : goal.returns-in-None
-returns-in-None c =
-    let h = c.in-None.ensures.lookup in
-    silent_row c.args.scenario.now c.args.closed.now c.args.accesses.now c.args.parts.now c.args.general None c.args.row.now.items
-    (ap (slice_get c.args.parts.now) (sym c.from.ensures) ∙ slice_get_past c.args.parts.now c.from.result h.3) refl
+pub returns-else-place-len-clause-row : goal.returns-else-place-len-clause-row
+returns-else-place-len-clause-row c =
+    let g = c.args.general in
+    let there = read_at c.args.drafts.now.items g c.from-place.result c.index_mut.result.now (Begun c.in-Begun.transcript) c.from-place.ensures c.requires.there c.index_mut.ensures.value (sym c.replace.ensures.value ∙ c.in-Begun.is) in
+    let past : slice_get c.args.parts.now.items g ≡ None = slice_get_past c.args.parts.now.items g (let l = c.if-place-len.false in let n = c.len.ensures in let e = c.from-place.ensures in let o = c.args.parts.now.ok.0 in omega arith) in
+    none_written c.args.row.now.items (letter_from g c.args.round (slice_get c.args.drafts.now.items g) (slice_get c.args.parts.now.items g)) (λ i. letter_from g c.args.round (there i) (past i))
+
+pub returns-else-place-len-clause-drafts : goal.returns-else-place-len-clause-drafts
+returns-else-place-len-clause-drafts c j ne = set-other c.args.drafts.now.items c.from-place.result j c.replace.new.dest (λ e. ne (e ∙ c.from-place.ensures))
+
+pub returns-in-Whole-clause-row : goal.returns-in-Whole-clause-row
+returns-in-Whole-clause-row c =
+    let g = c.args.general in
+    let there = read_at c.args.drafts.now.items g c.from-place.result c.index_mut.result.now (Whole c.in-Whole.letter) c.from-place.ensures c.requires.there c.index_mut.ensures.value (sym c.replace.ensures.value ∙ c.in-Whole.is) in
+    c.push_reserved.ensures.items ∙ ap (λ (o : Option Draft). c.args.row.now.items ++ letter_from g c.args.round o (slice_get c.args.parts.now.items g)) (sym there)
+
+pub returns-in-Whole-clause-drafts : goal.returns-in-Whole-clause-drafts
+returns-in-Whole-clause-drafts c j ne = set-other c.args.drafts.now.items c.from-place.result j c.replace.new.dest (λ e. ne (e ∙ c.from-place.ensures))
+
+pub returns-in-Missing-clause-row : goal.returns-in-Missing-clause-row
+returns-in-Missing-clause-row c =
+    let g = c.args.general in
+    let there = read_at c.args.drafts.now.items g c.from-place.result c.index_mut.result.now Missing c.from-place.ensures c.requires.there c.index_mut.ensures.value (sym c.replace.ensures.value ∙ c.in-Missing.is) in
+    none_written c.args.row.now.items (letter_from g c.args.round (slice_get c.args.drafts.now.items g) (slice_get c.args.parts.now.items g)) (ap (λ (o : Option Draft). letter_from g c.args.round o (slice_get c.args.parts.now.items g)) there)

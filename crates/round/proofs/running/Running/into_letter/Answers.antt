@@ -1,18 +1,15 @@
 -- What is left is a letter.
 use Rattle.std.proofs.Common.{◌∙◌, ap, sym, subst}
-use Rattle.semantics.specs.Relay.{IsContext}
 use Rattle.round.specs.Activation.{Activation}
 use Rattle.round.specs.Letters.{Letter}
 use Rattle.round.specs.Runs.{IsLetter}
 use Rattle.round.specs.Running.{letter_left}
-use Rattle.round.proofs.Onwards.{letter_of_run}
 use Rattle.round.proofs.running.Running.into_letter.Goals as goal
 
 pub invariant_of-result : goal.invariant_of-result
 invariant_of-result c =
     let g = c.args.general in let r = c.args.round in let t = c.args.transcript.items in
-    let context = subst (λ (a : Activation). IsContext a.context) c.self.view_is c.self.invariant.context in
     let e = c.end-ended.ensures in
     subst (λ (l : Letter). IsLetter l) (ap (λ (a : Activation). letter_left g r t a) (sym c.self.view_is)
     ∙ (λ i. record { general = g; round = r; context = c.self.inside.context.items; program = sym c.new.ensures i; transcript = t; steps = sym e.steps i; outbox = record { shape = sym e.shape i; rows = sym e.outbox i }; exited = c.self.inside.over }))
-    (letter_of_run g r t c.args.self context c.requires.own c.requires.shape c.requires.fitting c.requires.run)
+    c.requires

@@ -1,0 +1,8 @@
+use Rattle.std.proofs.Common.{◌≡◌, [], ◌∷◌}
+use Rattle.round.specs.Scenario.{program_of}
+use Rattle.world.specs.World.{each}
+use Rattle.world.specs.Closing.{blank}
+use Rattle.world.proofs.beginnings.blanks.Given as goal
+
+abbrev pub invariant-loop-general : goal.invariant-loop-general
+invariant-loop-general l = l.parts.items ≡ each l.general (λ j. blank l.scenario l.fn.before j (program_of l.scenario j) ∷ [])

@@ -1,0 +1,50 @@
+-- What a close takes memory for before it changes anything: the letters as far as they take any, and the next parts (own).
+use Rattle.std.specs.Prelude.{ℕ, suc, ◌≡◌, nat_lt, cond, List, [], ◌∷◌, replicate, slice_get, Option, None, Some}
+use Rattle.insn.specs.declared.insn.Insn.{Insn}
+use Rattle.board.specs.Board.{Access}
+use Rattle.round.specs.Scenario.{Scenario, program_of, shape_of}
+use Rattle.round.specs.Letters.{Letter}
+use Rattle.round.specs.Contexts.{loyal_letter}
+use Rattle.round.specs.Activation.{Activation, started}
+use Rattle.round.specs.Running.{letter_left}
+use Rattle.round.specs.Runs.{IsLetter}
+pub use Rattle.world.specs.declared.draft.Draft.{Draft}
+pub use Rattle.world.specs.declared.draft.Draft.TheVariants.{Begun, Whole, Missing}
+use Rattle.world.specs.Part.{Part, Acting, Silent, Posted}
+use Rattle.world.specs.World.{each, accesses_of}
+
+-- of a traitor's letter his accesses, a loyal general's letter, or none
+abbrev pub draft_of : Scenario → List (List Letter) → List Access → ℕ → Option Part → Draft
+draft_of s closed accesses g (Some (Acting a)) = Begun (accesses_of g accesses)
+draft_of s closed accesses g (Some Silent) = Missing
+draft_of s closed accesses g (Some Posted) = Whole (loyal_letter s closed g)
+draft_of s closed accesses g None = Missing
+
+abbrev pub drafts_held : Scenario → List (List Letter) → List Access → List Part → List Draft
+drafts_held s closed accesses parts = each s.generals (λ g. draft_of s closed accesses g (slice_get parts g) ∷ [])
+
+-- the letter of a draft and a part, where there is one
+abbrev pub letter_from : ℕ → ℕ → Option Draft → Option Part → List Letter
+letter_from g round (Some (Begun transcript)) (Some (Acting a)) = letter_left g round transcript a ∷ []
+letter_from g round (Some (Whole letter)) part = letter ∷ []
+letter_from g round _ _ = []
+
+abbrev pub letters_from : ℕ → ℕ → List Draft → List Part → List Letter
+letters_from n round drafts parts = each n (λ g. letter_from g round (slice_get drafts g) (slice_get parts g))
+
+-- each activation has done what its letter tells
+abbrev pub AreDraftsOf : ℕ → List Draft → List Part → Type 0
+AreDraftsOf round drafts parts = (g : ℕ) (transcript : List Access) (a : Activation) →
+    slice_get drafts g ≡ Some (Begun transcript) → slice_get parts g ≡ Some (Acting a) → IsLetter (letter_left g round transcript a)
+
+-- a context in which nothing is told
+unfoldable pub zeros : List ℕ
+zeros = replicate 4096 0
+
+-- how a general begins the round behind so many before he is told anything
+abbrev pub blank : Scenario → ℕ → ℕ → Option (List Insn) → Part
+blank s before g None = Silent
+blank s before g (Some program) = Acting (started s.patience program zeros (shape_of s g (suc before)))
+
+abbrev pub blanks : Scenario → ℕ → List Part
+blanks s before = cond (nat_lt before (suc s.bound)) (each s.generals (λ g. blank s before g (program_of s g) ∷ [])) []
