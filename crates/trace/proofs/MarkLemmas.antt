@@ -26,10 +26,3 @@ round_said all w t e is rest =
     let p = some_piece space t in
     let same : all ≡ w ∷ p.0 ∷ p.1 = e ∙ ap (λ ps. w ∷ ps) p.2 in
     rw (same, is) refl
-
--- neither a round's nor an access's
-pub other_said : (all : List Word) (w t : List ℕ) → all ≡ w ∷ pieces space t → bytes_eq w (codes "round") ≡ false → bytes_eq w (codes "access") ≡ false → (rest : Named) → rest ≡ with_line all rest
-other_said all w t e no_round no_access rest =
-    let p = some_piece space t in
-    let same : all ≡ w ∷ p.0 ∷ p.1 = e ∙ ap (λ ps. w ∷ ps) p.2 in
-    rw (same, no_round, no_access) refl
