@@ -1,15 +1,16 @@
 -- The orders of a label's row, by those who hear of it.
 use Rattle.std.proofs.Common.{◌≡◌, ◌≢◌, ℕ, zero, suc, ◌+◌, ◌<◌, ◌≤◌, Bool, true, false, List, [], ◌∷◌, ◌++◌, map, length, get_or, refl, sym, ap, ◌∙◌, Some, None, Option, arith, ⊎_elim}
-use Rattle.std.specs.Prelude.{slice_get, ◌==◌, ◌||◌, not, filter, if◌then◌else◌}
+use Rattle.std.specs.Prelude.{slice_get, ◌==◌, not}
 use Rattle.std.proofs.lemmas.Bool.{and_parts, eq-eqb, not-true, or_left, or_right}
 use Rattle.std.proofs.lemmas.Bool.Decides.{eqb_tells}
 use Rattle.std.proofs.lemmas.List.Sums.{length-filter, count_by-le-length}
 use Rattle.std.proofs.lemmas.List.FromFn.{length-range_with_len}
 use Rattle.label.specs.declared.shape.Shape.{Shape}
-use Rattle.label.specs.Labels.{on, is_distinct, others, generals}
+use Rattle.label.specs.Labels.{on, is_distinct, generals}
 use Rattle.label.specs.Relay.{relay, receivers}
 use Rattle.semantics.proofs.PlacesLaws.{others-distinct, row_from, rows_from}
 use Rattle.outbox.specs.Contents.{order_among, order_at}
+use Rattle.trace.specs.Text.{place}
 
 -- the row of a label's places
 row_places : (s : Shape) (a i : ℕ) (ws : List (List ℕ)) (names : List ℕ) → slice_get (map (receivers s) ws) i ≡ Some names → get_or (rows_from s a ws) i [] ≡ row_from (a + i) 0 names
@@ -64,7 +65,20 @@ among_at k b (n ∷ names) (o ∷ orders) (suc i) d h lt =
     (λ (q : (n == j ≡ false) × (n ≢ j)). rw q.0 (among_at k (b + 1) names orders i d both.1 (omega arith)))
     (eqb_tells n j)
 
-pub order_of_receiver : (s : Shape) (rows : List (List (Option ℕ))) (rank i d : ℕ) (names : List ℕ) → slice_get (map (receivers s) (relay s)) rank ≡ Some names → i < length names → order_at s rows rank (get_or names i d) ≡ get_or (get_or rows rank []) i None
+order_of_receiver : (s : Shape) (rows : List (List (Option ℕ))) (rank i d : ℕ) (names : List ℕ) → slice_get (map (receivers s) (relay s)) rank ≡ Some names → i < length names → order_at s rows rank (get_or names i d) ≡ get_or (get_or rows rank []) i None
 order_of_receiver s rows rank i d names at lt =
     ap (λ ps. order_among (get_or names i d) ps (get_or rows rank [])) (row_places s 0 rank (relay s) names at)
     ∙ among_at (0 + rank) 0 names (get_or rows rank []) i d (row_distinct s rank (relay s) names at) lt
+
+-- what all of them were told
+told_among : (f : ℕ → Option ℕ) (names : List ℕ) (row : List (Option ℕ)) → length names ≡ length row → ((i : ℕ) → i < length names → f (get_or names i 0) ≡ get_or row i None) → map (λ r. place (f r)) names ≡ map place row
+told_among f [] [] long each = refl
+told_among f [] (o ∷ row) long each = absurd (omega arith)
+told_among f (n ∷ names) [] long each = absurd (omega arith)
+told_among f (n ∷ names) (o ∷ row) long each =
+    let first : f n ≡ o = each 0 (omega arith) in
+    ap (λ x. place x ∷ map (λ r. place (f r)) names) first ∙ ap (λ ws. place o ∷ ws) (told_among f names row (omega arith) (λ i lt. each (suc i) (omega arith)))
+
+pub receivers_told : (s : Shape) (rows : List (List (Option ℕ))) (rank : ℕ) (names : List ℕ) (f : ℕ → Option ℕ) → slice_get (map (receivers s) (relay s)) rank ≡ Some names → length names ≡ length (get_or rows rank []) → ((r : ℕ) → f r ≡ order_at s rows rank r)
+    → map (λ r. place (f r)) names ≡ map place (get_or rows rank [])
+receivers_told s rows rank names f at long each = told_among f names (get_or rows rank []) long (λ i lt. each (get_or names i 0) ∙ order_of_receiver s rows rank i 0 names at lt)

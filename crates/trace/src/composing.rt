@@ -1,8 +1,10 @@
 //! Lines that are put together before they are written.
-ghost use Rattle.std.specs.Prelude.{◌≡◌, ◌+◌, ◌≤◌, ◌<◌, ◌++◌, ◌∷◌, [], length, decimal};
-ghost use Rattle.trace.specs.Text.{place};
+ghost use Rattle.std.specs.Prelude.{◌≡◌, ◌+◌, ◌*◌, ◌≤◌, ◌++◌, ◌∷◌, [], length, map, take, decimal};
+ghost use Rattle.outbox.specs.Rows.{order_in};
+ghost use Rattle.trace.specs.Text.{further, place};
 
 use itoa::write_digits;
+use outbox::Row;
 use std::marker::Model;
 
 /// The bytes of a line so far, at most 160.
@@ -34,35 +36,19 @@ impl Line {
         }
     }
 
+    /// Begins a line anew.
+    pub fn clear(&mut self)
+        ensures { self.new ≡ [] }
+    {
+        self.count = 0;
+    }
+
     /// Adds a piece.
     pub fn add(&mut self, piece: &[u8])
         requires { length self.old + length piece.now ≤ 160 }
         ensures { self.new ≡ self.old ++ piece.now }
     {
-        let end = self.count + piece.len();
-        self.bytes[self.count..end].copy_from_slice(piece);
-        self.count = end;
-    }
-
-    /// Adds a space and a sign.
-    fn add_sign(&mut self, sign: u8)
-        requires { length self.old + 2 ≤ 160 }
-        ensures { self.new ≡ self.old ++ 32 ∷ sign ∷ [] }
-    {
-        self.bytes[self.count] = b' ';
-        self.bytes[self.count + 1] = sign;
-        self.count += 2;
-    }
-
-    /// Adds a space and a number, digit by digit.
-    fn add_digits(&mut self, number: u32)
-        requires { length self.old + 11 ≤ 160 }
-        ensures { self.new ≡ self.old ++ 32 ∷ decimal number }
-    {
-        let mut digits = [b' '; 21];
-        let start = write_digits(number as u64, &mut digits, 21);
-        digits[start - 1] = b' ';
-        self.add(&digits[start - 1..]);
+        self.count = with_piece(&mut self.bytes, self.count, piece);
     }
 
     /// Adds a space and a number.
@@ -71,23 +57,21 @@ impl Line {
         ensures added { self.new ≡ self.old ++ 32 ∷ decimal number }
         ensures short { length self.new ≤ length self.old + 11 }
     {
-        if number < 10 {
-            self.add_sign(b'0' + number as u8);
-        } else {
-            self.add_digits(number);
-        }
+        self.count = with_number(&mut self.bytes, self.count, number);
     }
 
-    /// Adds a space and an order, or a dash for nothing.
-    pub fn add_place(&mut self, order: Option<u32>)
-        requires { length self.old + 11 ≤ 160 }
-        ensures added { self.new ≡ self.old ++ 32 ∷ place order }
-        ensures short { length self.new ≤ length self.old + 11 }
+    /// Adds what the receivers were told: orders, or dashes for nothing, each behind a space.
+    pub fn add_orders(&mut self, orders: &Row, receivers: &[u8])
+        requires { length self.old + 11 * length receivers.now ≤ 160 }
+        ensures added { self.new ≡ self.old ++ further (map (λ r. place (order_in r orders.now)) receivers.now) }
+        ensures short { length self.new ≤ length self.old + 11 * length receivers.now }
     {
-        match order {
-            Some(order) => self.add_number(order),
-            None => self.add_sign(b'-'),
+        let mut count = self.count;
+        for receiver in receivers {
+            let order = orders.order(u32::from(*receiver));
+            count = with_place(&mut self.bytes, count, order);
         }
+        self.count = count;
     }
 
     /// The bytes so far.
@@ -95,5 +79,64 @@ impl Line {
         ensures { result.now ≡ self.now }
     {
         &self.bytes[..self.count]
+    }
+}
+
+/// Writes a piece behind the first bytes: how many they then are.
+fn with_piece(bytes: &mut [u8], count: usize, piece: &[u8]) -> usize
+    requires { count + length piece.now ≤ length bytes.old }
+    ensures count { result ≡ count + length piece.now }
+    ensures bytes { take result bytes.new ≡ take count bytes.old ++ piece.now }
+{
+    let end = count + piece.len();
+    bytes[count..end].copy_from_slice(piece);
+    end
+}
+
+/// Writes a space and a sign behind the first bytes: how many they then are.
+fn with_sign(bytes: &mut [u8], count: usize, sign: u8) -> usize
+    requires { count + 2 ≤ length bytes.old }
+    ensures count { result ≡ count + 2 }
+    ensures bytes { take result bytes.new ≡ take count bytes.old ++ 32 ∷ sign ∷ [] }
+{
+    bytes[count] = b' ';
+    bytes[count + 1] = sign;
+    count + 2
+}
+
+/// Writes a space and a number behind the first bytes, digit by digit: how many they then are.
+fn with_digits(bytes: &mut [u8], count: usize, number: u32) -> usize
+    requires { count + 11 ≤ length bytes.old }
+    ensures count { result ≤ count + 11 }
+    ensures bytes { take result bytes.new ≡ take count bytes.old ++ 32 ∷ decimal number }
+{
+    let mut digits = [b' '; 21];
+    let start = write_digits(number as u64, &mut digits, 21);
+    digits[start - 1] = b' ';
+    with_piece(bytes, count, &digits[start - 1..])
+}
+
+/// Writes a space and a number behind the first bytes: how many they then are.
+fn with_number(bytes: &mut [u8], count: usize, number: u32) -> usize
+    requires { count + 11 ≤ length bytes.old }
+    ensures count { result ≤ count + 11 }
+    ensures bytes { take result bytes.new ≡ take count bytes.old ++ 32 ∷ decimal number }
+{
+    if number < 10 {
+        with_sign(bytes, count, b'0' + number as u8)
+    } else {
+        with_digits(bytes, count, number)
+    }
+}
+
+/// Writes a space and an order, or a dash for nothing, behind the first bytes: how many they then are.
+fn with_place(bytes: &mut [u8], count: usize, order: Option<u32>) -> usize
+    requires { count + 11 ≤ length bytes.old }
+    ensures count { result ≤ count + 11 }
+    ensures bytes { take result bytes.new ≡ take count bytes.old ++ 32 ∷ place order }
+{
+    match order {
+        Some(order) => with_number(bytes, count, order),
+        None => with_sign(bytes, count, b'-'),
     }
 }

@@ -120,30 +120,28 @@ fn add_orders(line: &mut Line, outbox: &Outbox, rank: u32)
     let Some(orders) = outbox.orders(rank) else {
         return;
     };
-    for receiver in outbox.receivers(rank) {
-        line.add_place(orders.order(u32::from(*receiver)));
-    }
+    line.add_orders(orders, outbox.receivers(rank));
 }
 
-/// A label's row, by its rank: what its receivers were told.
-fn row(outbox: &Outbox, rank: u32) -> Line
+/// Puts together the line of a label's row: its rank, and what its receivers were told.
+fn compose_row(line: &mut Line, outbox: &Outbox, rank: u32)
     requires { rank < length outbox.now.rows }
-    ensures { result ≡ text (row_line rank (slice_index_or outbox.now.rows rank []) ∷ []) }
+    ensures { line.new ≡ text (row_line rank (slice_index_or outbox.now.rows rank []) ∷ []) }
 {
-    let mut line = Line::new();
+    line.clear();
     line.add(b"row");
     line.add_number(rank);
-    add_orders(&mut line, outbox, rank);
+    add_orders(line, outbox, rank);
     line.add(b"\n");
-    line
 }
 
-/// The line of a label's row: its rank, and what its receivers were told.
-pub fn put_row<S: Sink>(sink: &mut S, outbox: &Outbox, rank: u32)
+/// The line of a label's row, put together in this one.
+pub fn put_row<S: Sink>(sink: &mut S, line: &mut Line, outbox: &Outbox, rank: u32)
     requires { rank < length outbox.now.rows }
     ensures { Wrote (S.contents sink.old) (S.has_failed sink.old) (text (row_line rank (slice_index_or outbox.now.rows rank []) ∷ [])) (S.contents sink.new) (S.has_failed sink.new) }
 {
-    put_all(sink, row(outbox, rank).as_slice());
+    compose_row(line, outbox, rank);
+    put_all(sink, line.as_slice());
 }
 
 /// That a letter is a loyal general's, or the steps that its traitor took.
