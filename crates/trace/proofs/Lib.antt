@@ -4,6 +4,9 @@ pub mod LineLemmas
 pub mod RoundLemmas
 pub mod DecisionLemmas
 pub mod Splitting
+pub mod PartingLemmas
+pub mod MarkLemmas
+pub mod ReceiverLemmas
 pub mod Plain
 pub mod Naming
 pub mod Generals

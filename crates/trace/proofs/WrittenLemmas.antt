@@ -153,11 +153,14 @@ pub further-one : (w : Word) → further (w ∷ []) ≡ 32 ∷ w
 further-one w = append-nil (32 ∷ w)
 
 -- one word more of a list
+pub further_more : {X : Type 0} (word : X → Word) (xs : List X) (i : ℕ) (d : X) → i < length xs → further (map word (take (i + 1) xs)) ≡ further (map word (take i xs)) ++ (32 ∷ word (get_or xs i d))
+further_more {X} word xs i d lt =
+    let x : X = get_or xs i d in
+    ap (λ t. further (map word t)) (take_more xs i d lt) ∙ ap further (map-append word (take i xs) (x ∷ [])) ∙ further-append (map word (take i xs)) (word x ∷ []) ∙ ap (λ t. further (map word (take i xs)) ++ t) (further-one (word x))
+
 pub one_further : {X : Type 0} {a b c : Option (List ℕ)} {f g h : Bool} (word : X → Word) (xs : List X) (i : ℕ) (d : X) → i < length xs
     → Wrote a f (further (map word (take i xs))) b g → Wrote b g (32 ∷ word (get_or xs i d)) c h → Wrote a f (further (map word (take (i + 1) xs))) c h
-one_further {X} {a} {b} {c} {f} {g} {h} word xs i d lt so then =
-    let x : X = get_or xs i d in
-    wrote-same _ _ (sym (ap (λ t. further (map word t)) (take_more xs i d lt) ∙ ap further (map-append word (take i xs) (x ∷ [])) ∙ further-append (map word (take i xs)) (word x ∷ []) ∙ ap (λ t. further (map word (take i xs)) ++ t) (further-one (word x)))) (then_wrote so then)
+one_further {X} {a} {b} {c} {f} {g} {h} word xs i d lt so then = wrote-same _ _ (sym (further_more word xs i d lt)) (then_wrote so then)
 
 -- what was written to a sink that has not failed is the whole text
 pub wrote-all : {a b : Option (List ℕ)} {f g : Bool} {x : List ℕ} → Wrote a f x b g → g ≡ false → Appends a b x

@@ -82,6 +82,20 @@ fn alike(text: &[u8], piece: &[u8]) -> usize
     ensures alike { take result text.now ≡ take result piece.now }
     ensures none { result ≡ 0 → 0 < length piece.now → slice_get text.now 0 ≢ slice_get piece.now 0 }
 {
+    if text.starts_with(piece) {
+        piece.len()
+    } else {
+        alike_front(text, piece)
+    }
+}
+
+/// How many bytes are alike at the front of a text and of a piece, byte by byte.
+fn alike_front(text: &[u8], piece: &[u8]) -> usize
+    ensures text { result ≤ length text.now }
+    ensures piece { result ≤ length piece.now }
+    ensures alike { take result text.now ≡ take result piece.now }
+    ensures none { result ≡ 0 → 0 < length piece.now → slice_get text.now 0 ≢ slice_get piece.now 0 }
+{
     let most = text.len().min(piece.len());
     for count in 0..most {
         if text[count] != piece[count] {

@@ -4,12 +4,14 @@
 mod auditing;
 mod chronicling;
 mod comparing;
+mod composing;
 mod fault;
 mod heading;
 mod laws;
 mod letters;
 mod lines;
 mod named;
+mod parting;
 mod refusing;
 mod scheduling;
 mod shapes;

@@ -1,10 +1,11 @@
 //! The lines of a chronicle, written to a sink.
-ghost use Rattle.std.specs.Prelude.{◌≡◌, ◌==◌, ◌<◌, ◌++◌, ◌∷◌, [], ℕ, decimal, codes, length, map, filter, Option, slice_index_or};
+ghost use Rattle.std.specs.Prelude.{◌≡◌, ◌==◌, ◌<◌, ◌≤◌, ◌+◌, ◌++◌, ◌∷◌, [], ℕ, decimal, codes, length, map, filter, Option, slice_index_or};
 ghost use Rattle.semantics.specs.Replies.{words_in};
 ghost use Rattle.trace.specs.Sinks.{Wrote};
 ghost use Rattle.trace.specs.Text.{further, text, access_line, place, yes_no, yes_no_none, verdict_line, decision_line};
 ghost use Rattle.trace.specs.Lines.{question, kind, mark, round_line, row_line, author_line};
 
+use crate::composing::Line;
 use crate::sink::Sink;
 use crate::writing::{put_all, put_headed, put_next};
 use board::Access;
@@ -108,24 +109,39 @@ pub fn put_order<S: Sink>(sink: &mut S, order: Option<u32>)
     }
 }
 
-/// What the receivers of a label were told, by its rank: orders, or dashes for nothing, each behind a space.
-fn put_orders<S: Sink>(sink: &mut S, outbox: &Outbox, rank: u32)
-    requires { rank < length outbox.now.rows }
-    ensures { Wrote (S.contents sink.old) (S.has_failed sink.old) (further (map place (slice_index_or outbox.now.rows rank []))) (S.contents sink.new) (S.has_failed sink.new) }
+/// Adds what the receivers of a label were told, by its rank: orders, or dashes for nothing, each behind a space.
+fn add_orders(line: &mut Line, outbox: &Outbox, rank: u32)
+    requires rank { rank < length outbox.now.rows }
+    requires room { length line.old + 143 ≤ 160 }
+    ensures orders { line.new ≡ line.old ++ further (map place (slice_index_or outbox.now.rows rank [])) }
+    ensures short { length line.new ≤ length line.old + 143 }
 {
-    for number in 0..outbox.receivers(rank).len() {
-        put_order(sink, outbox.at(rank, number));
-    }
+    let _generals = outbox.shape();
+    let Some(orders) = outbox.orders(rank) else {
+        return;
+    };
+    line.add_orders(orders, outbox.receivers(rank));
 }
 
-/// The line of a label's row: its rank, and what its receivers were told.
-pub fn put_row<S: Sink>(sink: &mut S, outbox: &Outbox, rank: u32)
+/// Puts together the line of a label's row: its rank, and what its receivers were told.
+fn compose_row(line: &mut Line, outbox: &Outbox, rank: u32)
+    requires { rank < length outbox.now.rows }
+    ensures { line.new ≡ text (row_line rank (slice_index_or outbox.now.rows rank []) ∷ []) }
+{
+    line.clear();
+    line.add(b"row");
+    line.add_number(rank);
+    add_orders(line, outbox, rank);
+    line.add(b"\n");
+}
+
+/// The line of a label's row, put together in this one.
+pub fn put_row<S: Sink>(sink: &mut S, line: &mut Line, outbox: &Outbox, rank: u32)
     requires { rank < length outbox.now.rows }
     ensures { Wrote (S.contents sink.old) (S.has_failed sink.old) (text (row_line rank (slice_index_or outbox.now.rows rank []) ∷ [])) (S.contents sink.new) (S.has_failed sink.new) }
 {
-    put_headed(sink, b"row", rank as u64);
-    put_orders(sink, outbox, rank);
-    put_all(sink, b"\n");
+    compose_row(line, outbox, rank);
+    put_all(sink, line.as_slice());
 }
 
 /// That a letter is a loyal general's, or the steps that its traitor took.

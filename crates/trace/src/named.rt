@@ -6,13 +6,12 @@ ghost use Rattle.world.specs.Playing.{lists_in};
 ghost use Rattle.trace.specs.Names.{Named, general_of, with_line, named};
 ghost use Rattle.trace.specs.Marks.{all_names, listed, marked};
 
+use crate::parting::parted;
 use crate::scheduling::number_within;
 use std::alloc::{AllocError, Global};
 use text::{Stop, piece};
 
 const SPACE: Stop = Stop::Byte(b' ');
-
-const FEED: Stop = Stop::Byte(b'\n');
 
 /// What a line says of rounds and accesses.
 #[derive(Clone, Copy, Debug, PartialEq, Eq)]
@@ -50,10 +49,10 @@ fn said(line: &[u8]) -> Mark
     let (word, Some(rest)) = piece(SPACE, line) else {
         return Mark::Other;
     };
-    let (number, _) = piece(SPACE, rest);
     if word == b"round".as_slice() {
         Mark::Round
     } else if word == b"access".as_slice() {
+        let (number, _) = piece(SPACE, rest);
         access(number)
     } else {
         Mark::Other
@@ -72,7 +71,7 @@ pub fn names(alloc: Global, text: &[u8]) -> Result<Vec<Vec<u8>>, AllocError>
     let mut names = Vec::new(alloc);
     let mut rest = Some(text);
     while let Some(lines) = rest {
-        let (line, behind) = piece(FEED, lines);
+        let (line, behind) = parted(lines);
         match said(line) {
             Mark::Round => {
                 rounds.push(names)?;

@@ -1,0 +1,142 @@
+//! Lines that are put together before they are written.
+ghost use Rattle.std.specs.Prelude.{◌≡◌, ◌+◌, ◌*◌, ◌≤◌, ◌++◌, ◌∷◌, [], length, map, take, decimal};
+ghost use Rattle.outbox.specs.Rows.{order_in};
+ghost use Rattle.trace.specs.Text.{further, place};
+
+use itoa::write_digits;
+use outbox::Row;
+use std::marker::Model;
+
+/// The bytes of a line so far, at most 160.
+#[derive(Drop)]
+pub struct Line {
+    bytes: [u8; 160],
+    /// How many they are.
+    count: usize,
+}
+
+impl Model for Line {
+    ghost use Rattle.std.specs.Prelude.{◌≡◌, ◌≤◌, ℕ, List, length, take};
+
+    ghost Value = { List ℕ };
+
+    ghost view = { λ l. take l.count l.bytes };
+
+    ghost invariant = { λ l. (length l.bytes ≡ 160) × (l.count ≤ 160) };
+}
+
+impl Line {
+    /// A line of no bytes.
+    pub fn new() -> Line
+        ensures { result ≡ [] }
+    {
+        Line {
+            bytes: [0; 160],
+            count: 0,
+        }
+    }
+
+    /// Begins a line anew.
+    pub fn clear(&mut self)
+        ensures { self.new ≡ [] }
+    {
+        self.count = 0;
+    }
+
+    /// Adds a piece.
+    pub fn add(&mut self, piece: &[u8])
+        requires { length self.old + length piece.now ≤ 160 }
+        ensures { self.new ≡ self.old ++ piece.now }
+    {
+        self.count = with_piece(&mut self.bytes, self.count, piece);
+    }
+
+    /// Adds a space and a number.
+    pub fn add_number(&mut self, number: u32)
+        requires { length self.old + 11 ≤ 160 }
+        ensures added { self.new ≡ self.old ++ 32 ∷ decimal number }
+        ensures short { length self.new ≤ length self.old + 11 }
+    {
+        self.count = with_number(&mut self.bytes, self.count, number);
+    }
+
+    /// Adds what the receivers were told: orders, or dashes for nothing, each behind a space.
+    pub fn add_orders(&mut self, orders: &Row, receivers: &[u8])
+        requires { length self.old + 11 * length receivers.now ≤ 160 }
+        ensures added { self.new ≡ self.old ++ further (map (λ r. place (order_in r orders.now)) receivers.now) }
+        ensures short { length self.new ≤ length self.old + 11 * length receivers.now }
+    {
+        let mut count = self.count;
+        for receiver in receivers {
+            let order = orders.order(u32::from(*receiver));
+            count = with_place(&mut self.bytes, count, order);
+        }
+        self.count = count;
+    }
+
+    /// The bytes so far.
+    pub fn as_slice(&self) -> &[u8]
+        ensures { result.now ≡ self.now }
+    {
+        &self.bytes[..self.count]
+    }
+}
+
+/// Writes a piece behind the first bytes: how many they then are.
+fn with_piece(bytes: &mut [u8], count: usize, piece: &[u8]) -> usize
+    requires { count + length piece.now ≤ length bytes.old }
+    ensures count { result ≡ count + length piece.now }
+    ensures bytes { take result bytes.new ≡ take count bytes.old ++ piece.now }
+{
+    let end = count + piece.len();
+    bytes[count..end].copy_from_slice(piece);
+    end
+}
+
+/// Writes a space and a sign behind the first bytes: how many they then are.
+fn with_sign(bytes: &mut [u8], count: usize, sign: u8) -> usize
+    requires { count + 2 ≤ length bytes.old }
+    ensures count { result ≡ count + 2 }
+    ensures bytes { take result bytes.new ≡ take count bytes.old ++ 32 ∷ sign ∷ [] }
+{
+    bytes[count] = b' ';
+    bytes[count + 1] = sign;
+    count + 2
+}
+
+/// Writes a space and a number behind the first bytes, digit by digit: how many they then are.
+fn with_digits(bytes: &mut [u8], count: usize, number: u32) -> usize
+    requires { count + 11 ≤ length bytes.old }
+    ensures count { result ≤ count + 11 }
+    ensures bytes { take result bytes.new ≡ take count bytes.old ++ 32 ∷ decimal number }
+{
+    let mut digits = [b' '; 21];
+    let start = write_digits(number as u64, &mut digits, 21);
+    digits[start - 1] = b' ';
+    with_piece(bytes, count, &digits[start - 1..])
+}
+
+/// Writes a space and a number behind the first bytes: how many they then are.
+fn with_number(bytes: &mut [u8], count: usize, number: u32) -> usize
+    requires { count + 11 ≤ length bytes.old }
+    ensures count { result ≤ count + 11 }
+    ensures bytes { take result bytes.new ≡ take count bytes.old ++ 32 ∷ decimal number }
+{
+    if number < 10 {
+        with_sign(bytes, count, b'0' + number as u8)
+    } else {
+        with_digits(bytes, count, number)
+    }
+}
+
+/// Writes a space and an order, or a dash for nothing, behind the first bytes: how many they then are.
+fn with_place(bytes: &mut [u8], count: usize, order: Option<u32>) -> usize
+    requires { count + 11 ≤ length bytes.old }
+    ensures count { result ≤ count + 11 }
+    ensures bytes { take result bytes.new ≡ take count bytes.old ++ 32 ∷ place order }
+{
+    match order {
+        Some(order) => with_number(bytes, count, order),
+        None => with_sign(bytes, count, b'-'),
+    }
+}

@@ -1,0 +1,18 @@
+//! The first line of a text, and the lines behind it.
+ghost use Rattle.std.specs.Prelude.{◌≡◌, ◌<◌, IfNone, IfSome, length};
+ghost use Rattle.text.specs.Stop.{feed};
+ghost use Rattle.text.specs.Parts.{GivesPieces, pieces};
+
+use memchr::memchr;
+
+/// The first line of a text, and what stands behind its line feed: none behind the last line.
+pub fn parted(text: &[u8]) -> (&[u8], Option<&[u8]>)
+    ensures first { GivesPieces feed result.0.now result.1 (pieces feed text.now) }
+    ensures last { IfNone result.1 (result.0.now ≡ text.now) }
+    ensures shorter { IfSome result.1 (λ rest. length rest.now < length text.now) }
+{
+    match memchr(b'\n', text) {
+        Some(end) => (&text[..end], Some(&text[end + 1..])),
+        None => (text, None),
+    }
+}
