@@ -1,6 +1,6 @@
 -- What a line says, by its first word.
-use Rattle.std.proofs.Common.{◌≡◌, ℕ, true, false, List, [], ◌∷◌, refl, ap, ◌∙◌, sym, cond, Bool}
-use Rattle.std.specs.Prelude.{bytes_eq, codes, ◌==◌, if◌then◌else◌}
+use Rattle.std.proofs.Common.{◌≡◌, ℕ, true, false, List, [], ◌∷◌, refl, ap, ◌∙◌, Bool}
+use Rattle.std.specs.Prelude.{bytes_eq, codes, if◌then◌else◌}
 use Rattle.text.specs.declared.stop.Stop.{Stop}
 use Rattle.text.specs.Stop.{is_stop, space}
 use Rattle.text.specs.Parts.{pieces, onto_first}
