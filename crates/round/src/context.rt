@@ -9,12 +9,7 @@ use label::Shape;
 
 /// Writes the context of a relay in a campaign with this bound, in place of what the vector held, which has room for it:
 /// the values taken for its labels, in the order of their ranks, nothing as RETREAT. It takes no memory.
-pub(crate) fn write_context(
-    bytes: &mut Vec<u8>,
-    shape: Shape,
-    bound: u8,
-    values: &[Option<u32>],
-)
+pub(crate) fn write_context(bytes: &mut Vec<u8>, shape: Shape, bound: u8, values: &[Option<u32>])
     requires room { 4096 ≤ vec_capacity bytes.old }
     requires rounds { shape.round ≤ shape.generals }
     requires few { length values.now ≤ 1000 }

@@ -1,6 +1,8 @@
 //! How a round begins.
-ghost use Rattle.std.specs.Prelude.{◌≡◌, ◌<◌, ◌≤◌, Some, length, slice_get, slice_set, IfOk};
-ghost use Rattle.round.specs.Scenario.{program_of};
+ghost use Rattle.std.specs.Prelude.{◌≡◌, ◌<◌, ◌≤◌, ◌+◌, ◌++◌, ◌∷◌, [], suc, Some, length, slice_get, slice_set, IfOk, OnOk, vec_len, vec_capacity};
+ghost use Rattle.std.specs.Arc.{arc_value};
+ghost use Rattle.round.specs.Activation.{started};
+ghost use Rattle.round.specs.Scenario.{program_of, shape_of};
 ghost use Rattle.round.specs.Told.{WasTold};
 ghost use Rattle.world.specs.Closing.{blank, blanks, zeros};
 ghost use Rattle.world.specs.Held.{beginnings};
@@ -10,6 +12,8 @@ use crate::part::Part;
 use outbox::Outbox;
 use round::{Round, Running, Scenario, Told};
 use std::alloc::{AllocError, Global};
+use std::sync::Arc;
+use verify::Verified;
 
 /// The parts of all generals before they are told anything, where a round is left behind so many: all that the round takes
 /// memory for as it begins.
@@ -25,27 +29,53 @@ pub(crate) fn blanks(
     }
     let mut parts = Vec::with_capacity(alloc, usize::from(scenario.generals()))?;
     for general in 0..scenario.generals() {
-        parts.push(blank(alloc, scenario, before as u8, general)?)?;
+        push_blank(&mut parts, alloc, scenario, before as u8, general)?;
     }
     Ok(parts)
 }
 
-/// One general's part: a traitor's activation starts with an empty outbox.
-fn blank(alloc: Global, scenario: &Scenario, before: u8, general: u8) -> Result<Part, AllocError>
+/// One general's part behind, for which there is room.
+fn push_blank(
+    parts: &mut Vec<Part>,
+    alloc: Global,
+    scenario: &Scenario,
+    before: u8,
+    general: u8,
+) -> Result<(), AllocError>
+    requires room { vec_len parts.old < vec_capacity parts.old }
     requires left { before ≤ scenario.now.bound }
     requires inside { general < scenario.now.generals }
-    ensures { IfOk result (λ part. part ≡ blank scenario.now before general (program_of scenario.now general)) }
+    ensures items { OnOk result (parts.new.items ≡ parts.old.items ++ blank scenario.now before general (program_of scenario.now general) ∷ []) }
+    ensures len { OnOk result (vec_len parts.new ≡ vec_len parts.old + 1) }
+    ensures room { OnOk result (vec_capacity parts.new ≡ vec_capacity parts.old) }
 {
     match scenario.seat(general).program() {
-        None => Ok(Part::Silent),
+        None => parts.push_reserved(Part::Silent),
         Some(program) => {
-            let _few = scenario.bound();
-            let context = zeros(alloc)?;
-            let outbox = Outbox::new(alloc, scenario.shape(general, before + 1))?;
-            let program = program.clone()?;
-            Ok(Part::Acting(Running::start(program, context, scenario.patience(), outbox)))
+            let running = blank(alloc, scenario, program, before, general)?;
+            parts.push_reserved(Part::Acting(running));
         }
     }
+    Ok(())
+}
+
+/// A traitor's activation starts with an empty outbox.
+fn blank(
+    alloc: Global,
+    scenario: &Scenario,
+    program: &Arc<Verified>,
+    before: u8,
+    general: u8,
+) -> Result<Running, AllocError>
+    requires left { before ≤ scenario.now.bound }
+    requires inside { general < scenario.now.generals }
+    ensures { IfOk result (λ running. running ≡ started scenario.now.patience (arc_value program.now) zeros (shape_of scenario.now general (suc before))) }
+{
+    let _few = scenario.bound();
+    let context = zeros(alloc)?;
+    let outbox = Outbox::new(alloc, scenario.shape(general, before + 1))?;
+    let program = program.clone()?;
+    Ok(Running::start(program, context, scenario.patience(), outbox))
 }
 
 /// The bytes of a context that nothing is told in.
