@@ -1,7 +1,6 @@
 //! Campaigns whose generals act in threads of their own, and the letters that a ledger accounts for.
 #![tactic(auto)]
 
-mod accounts;
 mod camp;
 mod collecting;
 mod concluding;

@@ -11,7 +11,7 @@ ghost use Rattle.world.specs.Replay.{replay_of};
 ghost use Rattle.world.specs.Safety.{IsShort};
 
 use crate::collecting::collect;
-use crate::concluding::{account, conclude, decide};
+use crate::concluding::{conclude, judge};
 use crate::error::MusterError;
 use crate::gate::Gate;
 use crate::shared::SharedBoard;
@@ -83,7 +83,7 @@ pub fn muster_with<R: Threads + Wait + Sync, G: Gate + Sync>(
 {
     let board = SharedBoard::new(Board::new(alloc, *scenario.board()));
     let (rows, told) = collect(rt, alloc, &scenario, gate, &board, stack)?;
-    let accounts = account(alloc, &scenario, board.into_board(), rows, told)?;
-    let decisions = decide(rt, alloc, &scenario, &accounts.told)?;
-    Ok(conclude(scenario, accounts, decisions))
+    let board = board.into_board();
+    let decisions = judge(rt, alloc, &scenario, &board, rows.as_slice(), &told)?;
+    Ok(conclude(scenario, board.into_ledger(), rows, decisions))
 }

@@ -1,5 +1,6 @@
 //! A general's thread through all rounds.
 ghost use Rattle.std.specs.Prelude.{◌≡◌, IfOk};
+ghost use Rattle.threads.specs.Duties.{IsDone};
 
 use crate::error::MusterError;
 use crate::gate::{Gate, Gated};
@@ -81,7 +82,8 @@ impl<'a, G: Gate> Resident<'a, G> {
     ///
     /// `Memory` where memory is refused, `Unaccounted` where the task is not his.
     fn letter<R: Wait>(&self, rt: &R, alloc: Global, task: Task) -> Result<Letter, MusterError>
-        ensures { IfOk result (λ letter. letter.general ≡ self.now.general) }
+        ensures general { IfOk result (λ letter. letter.general ≡ self.now.general) }
+        ensures done { IfOk result (IsDone task) }
     {
         let mut server = Gated {
             rt,
