@@ -97,9 +97,9 @@ fn scenario(alloc: Global, keys: &str, traitors: &[u8], program: &str) -> Result
 enum Lead {
     /// On one thread.
     Play,
-    /// Each general in a thread of his own for each round.
+    /// Each general in a thread of his own through all rounds.
     Muster,
-    /// As many threads, round by round, that do nothing.
+    /// A thread for each general in each round, that does nothing: what residents save.
     Threads,
 }
 
@@ -182,7 +182,7 @@ fn orders(chronicle: &Chronicle) -> u64 {
     sum
 }
 
-/// Starts a thread for each general in each round, as a muster does. The answer is how many there were.
+/// Starts a thread for each general in each round. The answer is how many there were.
 fn started<R: Threads + Wait + Sync>(rt: &R, scenario: &Scenario) -> u64 {
     let mut count = 0u64;
     for _ in 0..u32::from(scenario.bound()) + 1 {

@@ -20,6 +20,8 @@ mod musters_served;
 #[cfg(test)]
 mod plays;
 #[cfg(test)]
+mod posts;
+#[cfg(test)]
 mod rounds;
 #[cfg(test)]
 mod scenarios;

@@ -1,5 +1,5 @@
 //! What a campaign comes to.
-ghost use Rattle.std.specs.Prelude.{◌≡◌, ◌≢◌, ◌≤◌, [], suc, All, List, length, IfOk, IfErr};
+ghost use Rattle.std.specs.Prelude.{◌≡◌, ◌≢◌, ◌≤◌, [], suc, All, List, length, IfOk, OnOk, IfErr};
 ghost use Rattle.label.specs.Lieutenants.{AgreeInList};
 ghost use Rattle.label.specs.Oral.{IsBound};
 ghost use Rattle.board.specs.Board.{IsLegal};
@@ -13,56 +13,84 @@ ghost use Rattle.world.specs.Replay.{replay_of};
 ghost use Rattle.world.specs.Safety.{IsShort};
 ghost use Rattle.threads.specs.declared.error.MusterError.TheVariants.{Spawn};
 
-use crate::accounts::Accounts;
 use crate::error::MusterError;
 use crate::holding::are_accounted;
 use arrayvec::ArrayVec;
-use board::Board;
+use board::{Access, Board};
 use resolve::resolve_all;
 use round::{Round, Scenario, Told};
 use std::alloc::{AllocError, Global};
+use std::thread;
 use std::thread::Threads;
 use world::Chronicle;
 
-/// The accesses of a board that served a campaign, with the letters by round, all of which were told, that they account for.
+/// What the lieutenants decide of the letters of a campaign, ascending by number, where the ledger of the board that served
+/// it accounts for these letters, all of which were told. The letters are compared with the ledger while the decisions are
+/// made: neither needs the other.
 ///
 /// # Errors
 ///
 /// `Unaccounted` where the board opened with other words than the scenario's, or its ledger does not account for the letters;
 /// `Memory` where memory is refused.
-pub(crate) fn account(
+pub(crate) fn judge<R: Threads + Sync>(
+    rt: &R,
     alloc: Global,
     scenario: &Scenario,
-    board: Board,
-    rows: Vec<Round>,
-    told: Told,
-) -> Result<Accounts, MusterError>
-    requires rounds { length rows.items ≡ suc scenario.now.bound }
-    requires told { WasTold scenario.now rows.items told }
-    ensures legal { IfOk result (λ a. IsLegal scenario.now.board a.accesses.items) }
-    ensures accounted { IfOk result (λ a. AreAccounted scenario.now [] a.accesses.items a.rows.items) }
-    ensures told { IfOk result (λ a. WasTold scenario.now a.rows.items a.told) }
+    board: &Board,
+    rows: &[Round],
+    told: &Told,
+) -> Result<ArrayVec<u32, 12>, MusterError>
+    requires rounds { length rows.now ≡ suc scenario.now.bound }
+    requires told { WasTold scenario.now rows.now told.now }
+    ensures legal { OnOk result (IsLegal scenario.now.board board.now.ledger) }
+    ensures accounted { OnOk result (AreAccounted scenario.now [] board.now.ledger rows.now) }
+    ensures decisions { IfOk result (λ orders. orders.items ≡ decisions scenario.now (messages rows.now)) }
+    ensures started { IfErr result (λ e. e ≢ Spawn) }
+{
+    let (accounted, decided) = thread::join(
+        rt,
+        || -> Result<(), MusterError>
+            requires rounds { length rows.now ≡ suc scenario.now.bound }
+            requires told { WasTold scenario.now rows.now told.now }
+            ensures legal { OnOk result (IsLegal scenario.entry.now.board board.entry.now.ledger) }
+            ensures accounted { OnOk result (AreAccounted scenario.entry.now [] board.entry.now.ledger rows.entry.now) }
+            ensures started { IfErr result (λ e. e ≢ Spawn) }
+        { account(alloc, scenario, board, rows, told) },
+        || -> Result<ArrayVec<u32, 12>, AllocError>
+            requires { (before : List (List Written)) × WasTold scenario.now before told.now }
+            ensures { IfOk result (λ orders. (before : List (List Written)) → WasTold scenario.entry.now before told.entry.now → orders.items ≡ decisions scenario.entry.now (messages before)) }
+        { decide(rt, alloc, scenario, told) },
+    );
+    accounted?;
+    Ok(decided?)
+}
+
+/// Tests that a board that served a campaign accounts for the letters by round, all of which were told.
+///
+/// # Errors
+///
+/// `Unaccounted` where the board opened with other words than the scenario's, or its ledger does not account for the letters;
+/// `Memory` where memory is refused.
+fn account(
+    alloc: Global,
+    scenario: &Scenario,
+    board: &Board,
+    rows: &[Round],
+    told: &Told,
+) -> Result<(), MusterError>
+    requires rounds { length rows.now ≡ suc scenario.now.bound }
+    requires told { WasTold scenario.now rows.now told.now }
+    ensures legal { OnOk result (IsLegal scenario.now.board board.now.ledger) }
+    ensures accounted { OnOk result (AreAccounted scenario.now [] board.now.ledger rows.now) }
     ensures started { IfErr result (λ e. e ≢ Spawn) }
 {
     if board.opening().as_slice() != scenario.board().as_slice() {
         return Err(MusterError::Unaccounted);
     }
-    let accesses = board.into_ledger();
-    if !are_accounted(
-        alloc,
-        &told,
-        scenario,
-        rows.as_slice(),
-        0,
-        accesses.as_slice(),
-    )? {
+    if !are_accounted(alloc, told, scenario, rows, 0, board.ledger())? {
         return Err(MusterError::Unaccounted);
     }
-    Ok(Accounts {
-        accesses,
-        rows,
-        told,
-    })
+    Ok(())
 }
 
 /// What the lieutenants decide of what they were told, ascending by number.
@@ -70,7 +98,7 @@ pub(crate) fn account(
 /// # Errors
 ///
 /// `AllocError` where the memory for the decisions is refused.
-pub(crate) fn decide<R: Threads + Sync>(
+fn decide<R: Threads + Sync>(
     rt: &R,
     alloc: Global,
     scenario: &Scenario,
@@ -96,15 +124,17 @@ fn listed(orders: &[u32]) -> ArrayVec<u32, 12>
     list
 }
 
-/// The chronicle of a campaign from its accesses and the letters that they account for. It is that of the replay of the accesses.
+/// The chronicle of a campaign from its accesses, the letters that they account for, by round, and the decisions. It is that
+/// of the replay of the accesses.
 pub(crate) fn conclude(
     scenario: Scenario,
-    accounts: Accounts,
+    accesses: Vec<Access>,
+    rows: Vec<Round>,
     orders: ArrayVec<u32, 12>,
 ) -> Chronicle
-    requires legal { IsLegal scenario.board accounts.accesses.items }
-    requires accounted { AreAccounted scenario [] accounts.accesses.items accounts.rows.items }
-    requires decisions { orders.items ≡ decisions scenario (messages accounts.rows.items) }
+    requires legal { IsLegal scenario.board accesses.items }
+    requires accounted { AreAccounted scenario [] accesses.items rows.items }
+    requires decisions { orders.items ≡ decisions scenario (messages rows.items) }
     ensures scenario { result.scenario ≡ scenario }
     ensures replay { result ≡ chronicle_of (replay_of scenario result.accesses) }
     ensures complete { IsComplete scenario (replayed scenario (names_in 1 result.accesses (suc scenario.bound))) }
@@ -115,6 +145,5 @@ pub(crate) fn conclude(
         AgreeInList scenario.generals scenario.commander scenario.order (is_traitor scenario) result.decisions }
 {
     let _few = scenario.bound();
-    let Accounts { accesses, rows, .. } = accounts;
     Chronicle::of(scenario, accesses, rows, orders)
 }

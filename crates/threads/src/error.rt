@@ -17,6 +17,9 @@ pub enum MusterError {
     /// M3: a thread could not be started.
     #[error("M3")]
     Spawn,
+    /// M4: the post was full.
+    #[error("M4")]
+    Full,
 }
 
 impl From<AllocError> for MusterError {

@@ -1,16 +1,21 @@
 //! Campaigns whose generals act in threads of their own, and the letters that a ledger accounts for.
 #![tactic(auto)]
 
-mod accounts;
+mod camp;
+mod collecting;
 mod concluding;
+mod conducting;
 mod error;
 mod gate;
 mod gathering;
 mod holding;
 mod mustering;
+mod resident;
 mod rounds;
 mod shared;
+mod slot;
 mod taking;
+mod tally;
 mod task;
 
 pub use error::MusterError;

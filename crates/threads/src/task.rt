@@ -1,13 +1,14 @@
 //! What a general does in a round.
-ghost use Rattle.std.specs.Prelude.{◌≡◌, ◌<◌, ◌≤◌, List};
+ghost use Rattle.std.specs.Prelude.{◌≡◌, ◌<◌, ◌≤◌, ◌++◌, List, IfOk};
 ghost use Rattle.round.specs.Letters.{Letter as Written};
 ghost use Rattle.round.specs.Told.{WasTold};
+ghost use Rattle.threads.specs.Duties.{duty_of, IsDone};
 
 use round::{Letter, Scenario, Seat, Server, Told, live, loyal_letter};
 use std::alloc::{AllocError, Global};
 use std::marker::Model;
 
-/// A general's task in a round: to run his program, or, where he is loyal, to relay what he was told. It is seen as his relay.
+/// A general's task in a round: to run his program, or, where he is loyal, to relay what he was told. It is seen as his duty.
 #[derive(Drop)]
 pub(crate) struct Task {
     program: Seat,
@@ -19,13 +20,19 @@ pub(crate) struct Task {
 
 impl Model for Task {
     ghost use Rattle.std.specs.Prelude.{◌≡◌, length};
-    ghost use Rattle.label.specs.declared.shape.Shape.{Shape as Relayed};
     ghost use Rattle.label.specs.Relay.{IsShape};
     ghost use Rattle.round.specs.Contexts.{IsToldTo, shape_told};
+    ghost use Rattle.threads.specs.Duties.{Duty};
 
-    ghost Value = { Relayed };
+    ghost Value = { Duty };
 
-    ghost view = { λ t. shape_told t.general t.round t.context.items };
+    ghost view = { λ t. record {
+      general = t.general;
+      round = t.round;
+      context = t.context.items;
+      program = t.program;
+      patience = t.patience;
+    } };
 
     ghost invariant = { λ t. (length t.context.items ≡ 4096) × IsToldTo t.general t.round t.context.items × IsShape (shape_told t.general t.round t.context.items) };
 }
@@ -45,6 +52,7 @@ impl Task {
         requires told { (before : List (List Written)) × WasTold scenario.now before told.now }
         requires left { told.now.rounds ≤ scenario.now.bound }
         requires general { general < scenario.now.generals }
+        ensures { IfOk result (λ task. (before : List (List Written)) → WasTold scenario.now before told.now → task ≡ duty_of scenario.now before general) }
     {
         let _few = scenario.bound();
         let context = told.context(alloc, scenario, general)?;
@@ -58,7 +66,7 @@ impl Task {
         })
     }
 
-    /// The general's letter. His program's requests go to the server.
+    /// The general's letter. His program's requests go to the server, and the letter tells just what it has served.
     ///
     /// # Errors
     ///
@@ -67,7 +75,10 @@ impl Task {
         self,
         alloc: Global,
         server: &mut S,
-    ) -> Result<Letter, AllocError> {
+    ) -> Result<Letter, AllocError>
+        ensures done { IfOk result (IsDone self) }
+        ensures served { IfOk result (λ letter. S.served server.new ≡ S.served server.old ++ letter.transcript) }
+    {
         let Task {
             program,
             context,

@@ -14,8 +14,8 @@ use Rattle.threads.proofs.concluding.conclude.Goals as goal
 pub returns-clause-replay : goal.returns-clause-replay
 returns-clause-replay c =
     let s = c.args.scenario in
-    let accesses : c.of.result.accesses ≡ c.args.accounts.accesses.items = ap (λ (x : Chronicle). x.accesses) c.of.ensures in
-    c.of.ensures ∙ (concluded s c.args.accounts.accesses.items c.args.accounts.rows.items c.bound-few.ensures.whole c.requires.legal c.requires.accounted c.args.orders.items c.requires.decisions
+    let accesses : c.of.result.accesses ≡ c.args.accesses.items = ap (λ (x : Chronicle). x.accesses) c.of.ensures in
+    c.of.ensures ∙ (concluded s c.args.accesses.items c.args.rows.items c.bound-few.ensures.whole c.requires.legal c.requires.accounted c.args.orders.items c.requires.decisions
     ∙ ap (λ (ledger : List Access). chronicle_of (replay_of s ledger)) (sym accesses))
 
 pub returns-clause-complete : goal.returns-clause-complete
@@ -27,7 +27,7 @@ returns-clause-legal c = subst (λ (ledger : List Access). IsLegal c.args.scenar
 pub returns-clause-short : goal.returns-clause-short
 returns-clause-short c =
     subst (λ (rows : List (List Letter)). All (λ row. All IsShort row) rows) (sym (ap (λ (x : Chronicle). x.letters) c.of.ensures))
-    (all_short c.args.scenario c.args.accounts.accesses.items c.args.accounts.rows.items c.bound-few.ensures.whole c.requires.legal c.requires.accounted)
+    (all_short c.args.scenario c.args.accesses.items c.args.rows.items c.bound-few.ensures.whole c.requires.legal c.requires.accounted)
 
 pub returns-clause-decisions : goal.returns-clause-decisions
 returns-clause-decisions c =
@@ -37,4 +37,4 @@ pub returns-clause-agree : goal.returns-clause-agree
 returns-clause-agree c bound =
     let s = c.args.scenario in
     subst (λ (ds : List ℕ). AgreeInList s.generals s.commander s.order (is_traitor s) ds) (sym (ap (λ (x : Chronicle). x.decisions) c.of.ensures ∙ c.requires.decisions))
-    (all_agree s c.args.accounts.accesses.items c.args.accounts.rows.items c.bound-few.ensures.whole c.requires.legal c.requires.accounted bound)
+    (all_agree s c.args.accesses.items c.args.rows.items c.bound-few.ensures.whole c.requires.legal c.requires.accounted bound)

@@ -1,0 +1,13 @@
+use Rattle.std.proofs.Common.{◌≡◌, ◌<◌, ◌≤◌, ℕ, [], length, vec_len, slice_index_or}
+use Rattle.post.specs.Seen.{PosterSeen, poster_seen}
+use Rattle.threads.proofs.collecting.fn.through_residents.scope.Given as goal
+
+abbrev pub invariant-loop-poster : goal.invariant-loop-poster
+invariant-loop-poster g l = record {
+  few : length l.posters.items < 256;
+  slots : length l.posters.items ≤ length l.camp.now.slots.items;
+  each : (g : ℕ) (d : PosterSeen) → g < length l.posters.items → slice_index_or l.posters.items g d ≡ poster_seen l.camp.now.post.post g [];
+}
+
+abbrev pub decreases-loop-poster : goal.decreases-loop-poster
+decreases-loop-poster g l = vec_len l.posters

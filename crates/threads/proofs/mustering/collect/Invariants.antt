@@ -1,6 +1,0 @@
-use Rattle.std.proofs.Common.{◌≡◌, length}
-use Rattle.round.specs.Told.{WasTold}
-use Rattle.threads.proofs.mustering.collect.Given as goal
-
-abbrev pub invariant-loop-round : goal.invariant-loop-round
-invariant-loop-round g l = record { told : WasTold l.scenario l.rows.items l.told; long : length l.rows.items ≡ l.round }

@@ -1,0 +1,131 @@
+//! The letters of a campaign whose generals stay in their threads for all rounds.
+ghost use Rattle.std.specs.Prelude.{◌≡◌, ℕ, ◌<◌, ◌≤◌, [], suc, length, slice_index_or, IfOk};
+ghost use Rattle.round.specs.Told.{WasTold};
+ghost use Rattle.post.specs.Seen.{PosterSeen, poster_seen};
+
+use crate::camp::Camp;
+use crate::conducting::conduct;
+use crate::error::MusterError;
+use crate::gate::Gate;
+use crate::shared::SharedBoard;
+use post::{Collector, Poster};
+use round::{Round, Scenario, Told};
+use std::alloc::Global;
+use std::sync::Wait;
+use std::thread;
+use std::thread::{JoinHandle, Threads};
+
+/// The letters of all rounds, in each round by general, and what they told. Each general acts in a thread of his own through
+/// all rounds, with a stack of so many bytes. All threads that were started have ended when it answers.
+///
+/// # Errors
+///
+/// `Spawn` where a thread could not be started; else the error of the lowest general who failed, if one has; else
+/// `Memory` where memory is refused, and `Unaccounted` where letters are not of their round.
+pub(crate) fn collect<R: Threads + Wait + Sync, G: Gate + Sync>(
+    rt: &R,
+    alloc: Global,
+    scenario: &Scenario,
+    gate: &G,
+    board: &SharedBoard,
+    stack: usize,
+) -> Result<(Vec<Round>, Told), MusterError>
+    ensures rounds { IfOk result (λ r. length r.0.items ≡ suc scenario.now.bound) }
+    ensures told { IfOk result (λ r. WasTold scenario.now r.0.items r.1) }
+{
+    let (camp, posters, collector) = Camp::new(alloc, scenario.generals(), gate, board)?;
+    through_residents(rt, alloc, scenario, &camp, posters, collector, stack)
+}
+
+/// The same, from the generals of these posters, in this camp.
+fn through_residents<R: Threads + Wait + Sync, G: Gate + Sync>(
+    rt: &R,
+    alloc: Global,
+    scenario: &Scenario,
+    camp: &Camp<G>,
+    mut posters: Vec<Poster>,
+    collector: Collector,
+    stack: usize,
+) -> Result<(Vec<Round>, Told), MusterError>
+    requires few { length posters.items < 256 }
+    requires posters { (g : ℕ) (d : PosterSeen) → g < length posters.items → slice_index_or posters.items g d ≡ poster_seen camp.now.post.post g [] }
+    requires slots { length posters.items ≤ length camp.now.slots.items }
+    requires collector { collector.post ≡ camp.now.post.post }
+    ensures rounds { IfOk result (λ r. length r.0.items ≡ suc scenario.now.bound) }
+    ensures told { IfOk result (λ r. WasTold scenario.now r.0.items r.1) }
+{
+    let mut handles = Vec::with_capacity(alloc, posters.len())?;
+    thread::scope(
+        thread::scope_env(),
+        rt,
+        |scope| -> Result<(Vec<Round>, Told), MusterError>
+            requires few { length posters.items < 256 }
+            requires posters { (g : ℕ) (d : PosterSeen) → g < length posters.items → slice_index_or posters.items g d ≡ poster_seen camp.now.post.post g [] }
+            requires slots { length posters.items ≤ length camp.now.slots.items }
+            requires collector { collector.post ≡ camp.now.post.post }
+            ensures rounds { IfOk result (λ r. length r.0.items ≡ suc scenario.entry.now.bound) }
+            ensures told { IfOk result (λ r. WasTold scenario.entry.now r.0.items r.1) }
+        {
+            let mut refused = None;
+            while let Some(poster) = posters.pop() {
+                let resident = camp.resident(posters.len() as u8);
+                let started = thread::Builder::new().stack_size(stack).spawn_scoped(
+                    scope,
+                    move || -> Result<(), MusterError>
+                        requires post { poster.post ≡ camp.now.post.post }
+                        requires general { poster.general ≡ resident.general }
+                    { resident.serve(rt, alloc, &camp.post, poster) },
+                );
+                refused = match started {
+                    Err(_) => Some(MusterError::Spawn),
+                    Ok(handle) => handles.push(handle).err().map(MusterError::from),
+                };
+                if refused.is_some() {
+                    break;
+                }
+            }
+            finish(rt, alloc, scenario, camp, collector, handles, refused)
+        },
+    )
+}
+
+/// Conducts the rounds, unless something was refused, then sends the generals home and waits for their threads.
+fn finish<R: Threads + Wait, G>(
+    rt: &R,
+    alloc: Global,
+    scenario: &Scenario,
+    camp: &Camp<G>,
+    collector: Collector,
+    handles: Vec<JoinHandle<Result<(), MusterError>>>,
+    refused: Option<MusterError>,
+) -> Result<(Vec<Round>, Told), MusterError>
+    requires { collector.post ≡ camp.now.post.post }
+    ensures rounds { IfOk result (λ r. length r.0.items ≡ suc scenario.now.bound) }
+    ensures told { IfOk result (λ r. WasTold scenario.now r.0.items r.1) }
+{
+    let outcome = match refused {
+        Some(error) => Err(error),
+        None => conduct(rt, alloc, scenario, camp, collector),
+    };
+    camp.close(rt);
+    match failure(rt, handles, refused) {
+        Some(error) => Err(error),
+        None => outcome,
+    }
+}
+
+/// Waits for the threads of the generals, who were started from the highest on: the error of the lowest who has failed,
+/// else what was refused before.
+fn failure<R: Threads>(
+    rt: &R,
+    handles: Vec<JoinHandle<Result<(), MusterError>>>,
+    refused: Option<MusterError>,
+) -> Option<MusterError> {
+    let mut failed = refused;
+    for handle in handles {
+        if let Err(error) = handle.join(rt) {
+            failed = Some(error);
+        }
+    }
+    failed
+}

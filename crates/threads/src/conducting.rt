@@ -1,0 +1,85 @@
+//! A campaign's rounds, conducted through the generals' camp.
+ghost use Rattle.std.specs.Prelude.{◌≡◌, ◌≤◌, suc, List, length, IfOk};
+ghost use Rattle.round.specs.Letters.{Letter as Written};
+ghost use Rattle.round.specs.Told.{WasTold};
+
+use crate::camp::Camp;
+use crate::error::MusterError;
+use crate::rounds::are_of_round;
+use crate::task::Task;
+use post::{Collector, Post};
+use round::{Letter, Round, Scenario, Told};
+use std::alloc::{AllocError, Global};
+use std::sync::Wait;
+
+/// The letters of all rounds, in each round by general, and what they told: the generals of the camp are given their tasks,
+/// and when all have posted their letters, these are taken.
+///
+/// # Errors
+///
+/// `Memory` where memory is refused, `Unaccounted` where a general has failed or letters are not of their round.
+pub(crate) fn conduct<R: Wait, G>(
+    rt: &R,
+    alloc: Global,
+    scenario: &Scenario,
+    camp: &Camp<G>,
+    mut collector: Collector,
+) -> Result<(Vec<Round>, Told), MusterError>
+    requires { collector.post ≡ camp.now.post.post }
+    ensures rounds { IfOk result (λ r. length r.0.items ≡ suc scenario.now.bound) }
+    ensures told { IfOk result (λ r. WasTold scenario.now r.0.items r.1) }
+{
+    let rounds = scenario.bound() + 1;
+    let mut told = Told::new(alloc, scenario)?;
+    let mut rows = Vec::with_capacity(alloc, usize::from(rounds))?;
+    for round in 0..rounds {
+        camp.hand_out(rt, tasks(alloc, scenario, &told)?);
+        if !camp.tally.all_posted(rt) {
+            return Err(MusterError::Unaccounted);
+        }
+        let (again, letters) = taken(rt, alloc, &camp.post, collector)?;
+        collector = again;
+        if !are_of_round(scenario, u32::from(round) + 1, letters.as_slice()) {
+            return Err(MusterError::Unaccounted);
+        }
+        told.deliver(scenario, letters.as_slice());
+        rows.push(Round { letters })?;
+    }
+    Ok((rows, told))
+}
+
+/// The generals' tasks in the round to come, ascending.
+fn tasks(alloc: Global, scenario: &Scenario, told: &Told) -> Result<Vec<Task>, AllocError>
+    requires told { (before : List (List Written)) × WasTold scenario.now before told.now }
+    requires left { told.now.rounds ≤ scenario.now.bound }
+{
+    let generals = scenario.generals();
+    let mut tasks = Vec::with_capacity(alloc, usize::from(generals))?;
+    for general in 0..generals {
+        tasks.push(Task::new(alloc, scenario, told, general)?)?;
+    }
+    Ok(tasks)
+}
+
+/// The letters that are in the post, by generals.
+fn taken<R: Wait>(
+    rt: &R,
+    alloc: Global,
+    post: &Post,
+    mut collector: Collector,
+) -> Result<(Collector, Vec<Letter>), AllocError>
+    requires { collector.post ≡ post.now.post }
+    ensures { IfOk result (λ r. r.0.post ≡ post.now.post) }
+{
+    let mut row = Vec::new(alloc);
+    for _ in rt.forever() {
+        let (again, taken) = post.take(rt, collector);
+        collector = again;
+        let Some(letter) = taken else {
+            break;
+        };
+        row.push(letter)?;
+    }
+    row.sort_unstable_by_key(|letter| letter.general);
+    Ok((collector, row))
+}

@@ -1,0 +1,101 @@
+//! A general's thread through all rounds.
+ghost use Rattle.std.specs.Prelude.{◌≡◌, IfOk};
+ghost use Rattle.threads.specs.Duties.{IsDone};
+
+use crate::error::MusterError;
+use crate::gate::{Gate, Gated};
+use crate::shared::SharedBoard;
+use crate::slot::Slot;
+use crate::tally::Tally;
+use crate::task::Task;
+use post::{Post, Poster};
+use round::Letter;
+use std::alloc::Global;
+use std::sync::Wait;
+
+/// A general who stays for all rounds: his slot, and what he shares with the others.
+#[derive(Drop)]
+pub(crate) struct Resident<'a, G> {
+    pub(crate) general: u32,
+    pub(crate) gate: &'a G,
+    pub(crate) board: &'a SharedBoard,
+    pub(crate) slot: &'a Slot,
+    pub(crate) tally: &'a Tally,
+}
+
+impl<'a, G: Gate> Resident<'a, G> {
+    /// Does his tasks until his slot is closed. Where he fails, he says so to the one who waits for the letters.
+    ///
+    /// # Errors
+    ///
+    /// As `reside`.
+    pub(crate) fn serve<R: Wait>(
+        self,
+        rt: &R,
+        alloc: Global,
+        post: &Post,
+        poster: Poster,
+    ) -> Result<(), MusterError>
+        requires post { poster.post ≡ post.now.post }
+        requires general { poster.general ≡ self.general }
+    {
+        let ended = self.reside(rt, alloc, post, poster);
+        if ended.is_err() {
+            self.tally.failed(rt);
+        }
+        ended
+    }
+
+    /// Does the tasks that his slot gives him, and posts a letter for each, until the slot is closed.
+    ///
+    /// # Errors
+    ///
+    /// `Memory` where memory is refused, `Full` where the post is full, `Unaccounted` where a task is not his.
+    fn reside<R: Wait>(
+        &self,
+        rt: &R,
+        alloc: Global,
+        post: &Post,
+        mut poster: Poster,
+    ) -> Result<(), MusterError>
+        requires post { poster.post ≡ post.now.post }
+        requires general { poster.general ≡ self.now.general }
+    {
+        for _ in rt.forever() {
+            let Some(task) = self.slot.next(rt) else {
+                return Ok(());
+            };
+            let letter = self.letter(rt, alloc, task)?;
+            let (again, sent) = post.post(rt, poster, letter);
+            poster = again;
+            if sent.is_err() {
+                return Err(MusterError::Full);
+            }
+            self.tally.posted(rt);
+        }
+        unreachable!()
+    }
+
+    /// His letter for a task.
+    ///
+    /// # Errors
+    ///
+    /// `Memory` where memory is refused, `Unaccounted` where the task is not his.
+    fn letter<R: Wait>(&self, rt: &R, alloc: Global, task: Task) -> Result<Letter, MusterError>
+        ensures general { IfOk result (λ letter. letter.general ≡ self.now.general) }
+        ensures done { IfOk result (IsDone task) }
+    {
+        let mut server = Gated {
+            rt,
+            alloc,
+            gate: self.gate,
+            board: self.board,
+            made: Vec::new(alloc),
+        };
+        let letter = task.letter(alloc, &mut server)?;
+        if letter.general != self.general {
+            return Err(MusterError::Unaccounted);
+        }
+        Ok(letter)
+    }
+}
