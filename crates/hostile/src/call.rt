@@ -1,5 +1,5 @@
 /// A call that takes memory.
-#[derive(Clone, Copy, Debug, PartialEq, Eq)]
+#[derive(Clone, Copy)]
 pub enum Call {
     Decode,
     Encode,

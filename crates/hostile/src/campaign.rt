@@ -9,7 +9,7 @@ use trace::{Latch, read_schedule, write_chronicle};
 use world::{Chronicle, Event, Schedule};
 
 /// A campaign.
-#[derive(Clone, Copy, Debug, PartialEq, Eq)]
+#[derive(Clone, Copy)]
 pub enum Campaign {
     /// Four generals, of whom the last tells two others to retreat.
     Four,

@@ -7,7 +7,7 @@ use asm::{AsmError, assemble, disassemble};
 use codec::{CodecError, decode, encode};
 use insn::Program;
 use std::alloc::Global;
-use verify::{Fault, Verified, verify};
+use verify::{Fault, Refusal, Verified, verify};
 
 /// `decode` of the bytecode.
 pub fn decodes<R: Print + AllocGlobal>(rt: &R, campaign: Campaign) -> Result<Outcome> {
@@ -67,20 +67,33 @@ pub fn disassembles<R: Print + AllocGlobal>(rt: &R, campaign: Campaign) -> Resul
 /// `verify` of the program. Where memory is refused, the program that it hands back is given to it again.
 pub fn verifies<R: Print + AllocGlobal>(rt: &R, campaign: Campaign) -> Result<Outcome> {
     let alloc = rt.alloc();
-    let program = campaign.program(alloc)?;
-    ready(rt)?;
-    let first = verify(alloc, program);
-    back(rt)?;
+    let answer = answered(rt, campaign.program(alloc)?)?;
+    let (first, outcome) = accepted_at_last(alloc, answer)?;
     let again = accepted(alloc, campaign.program(alloc)?)?;
-    match first {
-        Ok(first) => same_programs(alloc, first.program(), again.program()),
-        Err(refusal) => {
-            if refusal.fault != Fault::Memory {
-                bail!("a program is refused that was accepted");
+    same_programs(alloc, first.program(), again.program())?;
+    Ok(outcome)
+}
+
+/// What `verify` answers.
+fn answered<R: Print + AllocGlobal>(rt: &R, program: Program) -> Result<Result<Verified, Refusal>> {
+    ready(rt)?;
+    let answer = verify(rt.alloc(), program);
+    back(rt)?;
+    Ok(answer)
+}
+
+/// The program of the answer, which is accepted at last, and what the call came to.
+fn accepted_at_last(
+    alloc: Global,
+    answer: Result<Verified, Refusal>,
+) -> Result<(Verified, Outcome)> {
+    match answer {
+        Ok(verified) => Ok((verified, Outcome::Answered)),
+        Err(Refusal { program, fault }) => {
+            if fault != Fault::Memory {
+                bail!("a program is refused that is to be accepted");
             }
-            let first = accepted(alloc, refusal.program)?;
-            same_programs(alloc, first.program(), again.program())?;
-            Ok(Outcome::Memory)
+            Ok((accepted(alloc, program)?, Outcome::Memory))
         }
     }
 }

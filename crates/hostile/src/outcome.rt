@@ -3,7 +3,7 @@ use anyhow::{Result, bail};
 use std::fmt;
 
 /// What a call came to.
-#[derive(Clone, Copy, Debug, PartialEq, Eq)]
+#[derive(Clone, Copy)]
 pub enum Outcome {
     /// It answered, and the same again when it was asked again.
     Answered,

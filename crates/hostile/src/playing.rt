@@ -4,13 +4,13 @@ use crate::marks::{back, ready};
 use crate::outcome::{Outcome, same};
 use anyhow::{Result, bail};
 use round::Scenario;
-use std::alloc::Global;
+use std::alloc::{AllocError, Global};
 use std::str;
 use std::sync::Wait;
 use std::thread::Threads;
 use threads::{MusterError, Open, muster};
 use trace::check;
-use world::{EventError, Schedule, World, play};
+use world::{Chronicle, Event, EventError, Schedule, World, play};
 
 /// The text of the scenario's chronicle without a schedule.
 pub fn played(alloc: Global, scenario: Scenario) -> Result<Vec<u8>> {
@@ -20,9 +20,9 @@ pub fn played(alloc: Global, scenario: Scenario) -> Result<Vec<u8>> {
     text(alloc, &play(alloc, scenario, &empty)?)
 }
 
-/// The text of the chronicle to which the campaign's events lead the world.
-fn led(alloc: Global, campaign: Campaign, mut world: World) -> Result<Vec<u8>> {
-    for event in &campaign.events(alloc)? {
+/// The text of the chronicle to which the events lead the world.
+fn led(alloc: Global, mut world: World, events: &[Event]) -> Result<Vec<u8>> {
+    for event in events {
         world.apply(alloc, *event)?;
     }
     told(alloc, world)
@@ -39,87 +39,141 @@ fn told(alloc: Global, world: World) -> Result<Vec<u8>> {
 /// `World::open`.
 pub fn opens<R: Print + AllocGlobal>(rt: &R, campaign: Campaign) -> Result<Outcome> {
     let alloc = rt.alloc();
-    let scenario = campaign.scenario(alloc)?;
-    let again = scenario.copy(alloc)?;
+    let events = campaign.events(alloc)?;
+    let first = match opened(rt, campaign.scenario(alloc)?)? {
+        Ok(world) => Some(led(alloc, world, events.as_slice())?),
+        Err(_) => None,
+    };
+    let again = World::open(alloc, campaign.scenario(alloc)?)?;
+    compared(first, led(alloc, again, events.as_slice())?.as_slice())
+}
+
+/// What `World::open` answers.
+fn opened<R: Print + AllocGlobal>(rt: &R, scenario: Scenario) -> Result<Result<World, AllocError>> {
     ready(rt)?;
-    let first = World::open(alloc, scenario);
+    let answer = World::open(rt.alloc(), scenario);
     back(rt)?;
-    let again = led(alloc, campaign, World::open(alloc, again)?)?;
+    Ok(answer)
+}
+
+/// What a call comes to by its text, none where memory was refused, and the text of the same call again.
+fn compared(first: Option<Vec<u8>>, again: &[u8]) -> Result<Outcome> {
     match first {
-        Err(_) => Ok(Outcome::Memory),
-        Ok(first) => same(led(alloc, campaign, first)?.as_slice(), again.as_slice()),
+        Some(first) => same(first.as_slice(), again),
+        None => Ok(Outcome::Memory),
     }
 }
 
-/// `World::apply` of each of the campaign's events. Where memory is refused, the decisions are as before, and the event is
-/// given again. In the end the world has the chronicle of ample memory.
+/// `World::apply` of each of the campaign's events. In the end the world has the chronicle of ample memory.
 pub fn happens<R: Print + AllocGlobal>(rt: &R, campaign: Campaign) -> Result<Outcome> {
     let alloc = rt.alloc();
     let scenario = campaign.scenario(alloc)?;
     let again = played(alloc, scenario.copy(alloc)?)?;
     let events = campaign.events(alloc)?;
     let mut world = World::open(alloc, scenario)?;
-    let mut is_refused = false;
     ready(rt)?;
-    for event in &events {
-        let before = world.decisions();
-        match world.apply(alloc, *event) {
-            Ok(()) => {}
-            Err(EventError::Memory) => {
-                is_refused = true;
-                if world.decisions().as_slice() != before.as_slice() {
-                    bail!("a refused event changed the decisions");
-                }
-                world.apply(alloc, *event)?;
-            }
-            Err(_) => bail!("an event is refused"),
+    let is_refused = is_any_refused(alloc, &mut world, events.as_slice())?;
+    back(rt)?;
+    let first = told(alloc, world)?;
+    let outcome = same(first.as_slice(), again.as_slice())?;
+    Ok(if is_refused { Outcome::Memory } else { outcome })
+}
+
+/// Lets the events happen. The answer is whether memory was refused to any of them.
+fn is_any_refused(alloc: Global, world: &mut World, events: &[Event]) -> Result<bool> {
+    let mut is_refused = false;
+    for event in events {
+        if is_refused_first(alloc, world, *event)? {
+            is_refused = true;
         }
     }
-    back(rt)?;
-    let outcome = same(told(alloc, world)?.as_slice(), again.as_slice())?;
-    Ok(if is_refused { Outcome::Memory } else { outcome })
+    Ok(is_refused)
+}
+
+/// Lets the event happen. The answer is whether memory was refused first: then the decisions were as before, and the event was
+/// given again.
+fn is_refused_first(alloc: Global, world: &mut World, event: Event) -> Result<bool> {
+    let before = world.decisions();
+    match world.apply(alloc, event) {
+        Ok(()) => return Ok(false),
+        Err(EventError::Memory) => {}
+        Err(_) => bail!("an event is refused"),
+    }
+    if world.decisions().as_slice() != before.as_slice() {
+        bail!("a refused event changed the decisions");
+    }
+    world.apply(alloc, event)?;
+    Ok(true)
 }
 
 /// `play` by the campaign's schedule.
 pub fn plays<R: Print + AllocGlobal>(rt: &R, campaign: Campaign) -> Result<Outcome> {
     let alloc = rt.alloc();
-    let scenario = campaign.scenario(alloc)?;
-    let again = scenario.copy(alloc)?;
     let schedule = campaign.schedule(alloc)?;
-    ready(rt)?;
-    let first = play(alloc, scenario, &schedule);
-    back(rt)?;
-    let again = play(alloc, again, &schedule)?;
-    match first {
-        Err(_) => Ok(Outcome::Memory),
-        Ok(first) => same(
-            text(alloc, &first)?.as_slice(),
-            text(alloc, &again)?.as_slice(),
-        ),
-    }
+    let first = match played_by(rt, campaign.scenario(alloc)?, &schedule)? {
+        Ok(chronicle) => Some(text(alloc, &chronicle)?),
+        Err(_) => None,
+    };
+    let again = play(alloc, campaign.scenario(alloc)?, &schedule)?;
+    compared(first, text(alloc, &again)?.as_slice())
 }
 
-/// `muster`. The order of the accesses is the threads', so chronicles are compared by their audits.
+/// What `play` answers.
+fn played_by<R: Print + AllocGlobal>(
+    rt: &R,
+    scenario: Scenario,
+    schedule: &Schedule,
+) -> Result<Result<Chronicle, AllocError>> {
+    ready(rt)?;
+    let answer = play(rt.alloc(), scenario, schedule);
+    back(rt)?;
+    Ok(answer)
+}
+
+/// `muster`. The order of the accesses is the threads', so chronicles are not compared, but audited.
 pub fn musters<R: Print + Threads + Wait + Sync + AllocGlobal>(
     rt: &R,
     campaign: Campaign,
 ) -> Result<Outcome> {
     let alloc = rt.alloc();
     let scenario = campaign.scenario(alloc)?;
-    let (first, again) = (scenario.copy(alloc)?, scenario.copy(alloc)?);
+    let outcome = audited(alloc, &scenario, mustered(rt, scenario.copy(alloc)?)?)?;
+    let again = muster(rt, alloc, scenario.copy(alloc)?, &Open)?;
+    audit(alloc, &scenario, &again)?;
+    Ok(outcome)
+}
+
+/// What `muster` answers.
+fn mustered<R: Print + Threads + Wait + Sync + AllocGlobal>(
+    rt: &R,
+    scenario: Scenario,
+) -> Result<Result<Chronicle, MusterError>> {
     ready(rt)?;
-    let first = muster(rt, alloc, first, &Open);
+    let answer = muster(rt, rt.alloc(), scenario, &Open);
     back(rt)?;
-    let again = text(alloc, &muster(rt, alloc, again, &Open)?)?;
-    check(alloc, &scenario, str::from_utf8(again.as_slice())?)?;
-    match first {
+    Ok(answer)
+}
+
+/// What the answer comes to: a chronicle is sound.
+fn audited(
+    alloc: Global,
+    scenario: &Scenario,
+    answer: Result<Chronicle, MusterError>,
+) -> Result<Outcome> {
+    match answer {
         Err(MusterError::Memory) => Ok(Outcome::Memory),
         Err(MusterError::Spawn) => Ok(Outcome::NoThread),
         Err(error) => bail!("the muster is refused: {error}"),
-        Ok(first) => {
-            let first = text(alloc, &first)?;
-            check(alloc, &scenario, str::from_utf8(first.as_slice())?)?;
+        Ok(chronicle) => {
+            audit(alloc, scenario, &chronicle)?;
             Ok(Outcome::Answered)
         }
     }
+}
+
+/// Audits the chronicle, which is to be sound.
+fn audit(alloc: Global, scenario: &Scenario, chronicle: &Chronicle) -> Result<()> {
+    let text = text(alloc, chronicle)?;
+    check(alloc, scenario, str::from_utf8(text.as_slice())?)?;
+    Ok(())
 }

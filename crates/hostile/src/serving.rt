@@ -6,6 +6,11 @@ use board::{Access, Board};
 use semantics::{Reply, Request, Slot, Span};
 use std::alloc::{AllocError, Global};
 
+/// Whose accesses they are, and in which round.
+const GENERAL: u32 = 3;
+
+const ROUND: u32 = 1;
+
 /// Six requests, two of them copies.
 fn requests() -> Option<[Request; 6]> {
     let slot = Slot::new(0)?;
@@ -40,27 +45,35 @@ pub fn applies<R: Print + AllocGlobal>(rt: &R) -> Result<Outcome> {
     let mut board = Board::new(alloc, [0; 64]);
     let mut is_refused = false;
     ready(rt)?;
-    for request in requests {
-        let (words, entries) = (*board.words(), board.ledger().len());
-        if board.apply(3, 1, request).is_err() {
+    for request in &requests {
+        if is_served_again(&mut board, request)? {
             is_refused = true;
-            if *board.words() != words || board.ledger().len() != entries {
-                bail!("a refused access changed the board");
-            }
-            board.apply(3, 1, request)?;
         }
     }
     back(rt)?;
     let mut again = Board::new(alloc, [0; 64]);
-    for request in requests {
-        again.apply(3, 1, request)?;
+    for request in &requests {
+        again.apply(GENERAL, ROUND, *request)?;
     }
-    let (first, again) = (
-        ledger_bytes(alloc, board.ledger())?,
-        ledger_bytes(alloc, again.ledger())?,
-    );
+    let first = ledger_bytes(alloc, board.ledger())?;
+    let again = ledger_bytes(alloc, again.ledger())?;
     let outcome = same(first.as_slice(), again.as_slice())?;
     Ok(if is_refused { Outcome::Memory } else { outcome })
+}
+
+/// Serves the request. The answer is whether memory was refused first: then words and ledger were as before, and it was made
+/// again.
+fn is_served_again(board: &mut Board, request: &Request) -> Result<bool> {
+    let words = *board.words();
+    let entries = board.ledger().len();
+    if board.apply(GENERAL, ROUND, *request).is_ok() {
+        return Ok(false);
+    }
+    if *board.words() != words || board.ledger().len() != entries {
+        bail!("a refused access changed the board");
+    }
+    board.apply(GENERAL, ROUND, *request)?;
+    Ok(true)
 }
 
 /// The replies of a ledger, word by word.

@@ -4,7 +4,7 @@ use std::alloc::{AllocError, Global};
 use std::io::{self, ErrorKind, Write};
 
 /// When a writer fails.
-#[derive(Clone, Copy, Debug, PartialEq, Eq)]
+#[derive(Clone, Copy, PartialEq, Eq)]
 pub enum Failure {
     /// At the write of this number, counted from 1.
     Write(u32),

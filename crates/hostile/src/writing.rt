@@ -1,5 +1,6 @@
 //! Writers that fail, and what they have taken then.
 use crate::campaign::{Campaign, text};
+use crate::playing::played;
 use crate::writer::{Failure, Writer};
 use anyhow::{Result, bail};
 use command_line::Task;
@@ -19,18 +20,29 @@ const MOST_WRITES: u32 = 100_000;
 /// Writes the chronicle of seven generals to writers that fail at each of their writes, and when they are flushed.
 pub fn report<R: Print + Threads + Wait + Sync + AllocGlobal>(rt: &R) -> Result<()> {
     let alloc = rt.alloc();
-    let campaign = Campaign::Seven;
-    let schedule = campaign.schedule(alloc)?;
-    let chronicle = play(alloc, campaign.scenario(alloc)?, &schedule)?;
+    let chronicle = play(
+        alloc,
+        Campaign::Seven.scenario(alloc)?,
+        &Campaign::Seven.schedule(alloc)?,
+    )?;
     for size in SIZES {
         fail_at_each_write(alloc, &chronicle, size)?;
         println!(rt; "{size} bytes a write: each failure told, behind a beginning")?;
     }
+    report_flushes(rt)
+}
+
+/// Serves the campaign of seven generals to writers that fail when they are flushed, and at their first write.
+fn report_flushes<R: Print + Threads + Wait + Sync + AllocGlobal>(rt: &R) -> Result<()> {
+    let alloc = rt.alloc();
+    let text = Campaign::Seven.text(alloc)?;
+    let whole = played(alloc, Campaign::Seven.scenario(alloc)?)?;
     for size in SIZES {
-        if !is_told(rt, alloc, size, Failure::Flush)?
-            || !is_told(rt, alloc, size, Failure::Write(1))?
-        {
-            bail!("a failure is not told");
+        for failure in [Failure::Flush, Failure::Write(1)] {
+            let mut sink = Writer::new(alloc, size, failure);
+            if !is_told(rt, alloc, text.as_bytes(), whole.as_slice(), &mut sink)? {
+                bail!("a failure is not told");
+            }
         }
     }
     println!(rt; "flushes that fail: each told")?;
@@ -63,28 +75,23 @@ fn fail_at_each_write(alloc: Global, chronicle: &Chronicle, size: usize) -> Resu
     bail!("too many writes")
 }
 
-/// Whether the program tells the failure of its output, with status 1, behind a beginning of what it prints.
+/// Whether `serve` tells the failure of its output, with status 1, behind a beginning of the chronicle that it plays.
 fn is_told<R: Threads + Wait + Sync>(
     rt: &R,
     alloc: Global,
-    size: usize,
-    failure: Failure,
+    scenario: &[u8],
+    whole: &[u8],
+    sink: &mut Writer,
 ) -> Result<bool> {
-    let scenario = Campaign::Seven.text(alloc)?;
     let task = Task::Play {
         scenario: String::from_str(alloc, "seven.toml")?,
         schedule: None,
     };
-    let mut whole = Vec::new(alloc);
     let mut faults = Vec::new(alloc);
-    let bytes = scenario.as_bytes();
-    let ample = serve(rt, alloc, &task, bytes, None, &mut whole, &mut faults);
-    let mut out = Writer::new(alloc, size, failure);
-    let status = serve(rt, alloc, &task, bytes, None, &mut out, &mut faults);
+    let status = serve(rt, alloc, &task, scenario, None, sink, &mut faults);
     Ok(
-        ample == 0
-            && status == 1
+        status == 1
             && faults.as_slice() == b"fault write\n".as_slice()
-            && whole.starts_with(out.taken()),
+            && whole.starts_with(sink.taken()),
     )
 }
