@@ -1,0 +1,3 @@
+; Exits with 42.
+mov r0, 42
+exit

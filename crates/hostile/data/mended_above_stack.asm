@@ -1,0 +1,4 @@
+; Eight bytes from -8 on end at 0.
+        std [r10-8], 6
+        ldd r0, [r10-8]
+        exit

@@ -1,0 +1,3 @@
+; The exit is the last instruction.
+        mov r0, 0
+        exit

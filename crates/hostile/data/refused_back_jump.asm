@@ -1,0 +1,4 @@
+; V1: a jump to its own unit.
+        mov r0, 0
+again:  ja again
+        exit

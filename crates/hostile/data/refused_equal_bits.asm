@@ -1,0 +1,10 @@
+; V9: r2 is odd and r3 is not, but a test of equality looks at the ranges alone.
+        ldd r2, [r1+32]
+        or r2, 1
+        ldd r3, [r1+40]
+        and r3, 2
+        mov r0, 0
+        jeq r2, r3, equal
+        exit
+equal:  ldd r0, [r10-8]
+        exit
