@@ -12,19 +12,3 @@ pub fn median(times: &mut Vec<u64>) -> Option<u64>
     times.sort_unstable();
     times.get(times.len() / 2).copied()
 }
-
-#[cfg(test)]
-mod tests {
-    use super::median;
-    use std::test::Fail;
-
-    #[test]
-    fn stands_in_the_middle(rt: HostRuntime) -> Result<(), Fail> {
-        let mut times = vec![in rt.alloc(); 9, 2, 7]?;
-        assert_eq!(rt; median(&mut times), Some(7));
-        times.push(1)?;
-        assert_eq!(rt; median(&mut times), Some(7));
-        assert_eq!(rt; median(&mut Vec::new(rt.alloc())), None);
-        Ok(())
-    }
-}

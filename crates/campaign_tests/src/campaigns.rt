@@ -1,39 +1,38 @@
 //! Campaigns from their texts to their chronicles.
 
 use crate::scenarios::{
-    FOUR, FOUR_RETREAT, SEVEN, THREE, counted, idle, played, reads, replayed, swayed, with_traitor,
+    COLLUSION, FOUR, FOUR_RETREAT, SWAYED, SWAYED_CHRONICLE, THREE, idle, played, reads, replayed,
+    with_traitor,
 };
-use scenario::read;
-use semantics::Reply;
+use crate::threaded::word;
+use board::Access;
+use round::Letter;
 use std::alloc::Global;
 use std::process::Abort;
 use std::test::Fail;
 use world::{Chronicle, Verdict};
 
-/// The chronicle of four generals of whom 3 tells 1 and 2 to retreat.
-const SWAYED: &str = "chronicle 1
-generals 4 bound 1 commander 0 order 1
-round 1
-letter 0 loyal
-row 0 1 1 1
-letter 1 loyal
-letter 2 loyal
-letter 3 steps 7
-round 2
-letter 0 loyal
-letter 1 loyal
-row 0 1 1
-letter 2 loyal
-row 0 1 1
-letter 3 steps 7
-row 0 0 0
-decision 1 1
-decision 2 1
-decision 3 traitor 1
-verdict alike yes obeyed yes bound yes
+/// The same campaign, in which nobody waits for more than three steps.
+const SWAYED_IMPATIENTLY: &str = "generals = 4
+bound = 1
+commander = 0
+order = 1
+patience = 3
+
+[[traitor]]
+general = 3
+asm = '''
+mov r1, 1
+mov r2, 0
+call sway
+mov r1, 2
+mov r2, 0
+call sway
+exit
+'''
 ";
 
-/// The chronicle where he is cut off before his second order.
+/// Its chronicle: the traitor is cut off before his second order.
 const SWAYED_THREE_STEPS: &str = "chronicle 2
 generals 4 bound 1 commander 0 order 1 patience 3 rule majority
 round 1
@@ -56,8 +55,31 @@ decision 3 traitor 1
 verdict alike yes obeyed yes bound yes
 ";
 
-/// The chronicle of a traitor commander who tells 1, 2 and 3 their own numbers, of which the median is taken.
-const NUMBERED: &str = "chronicle 2
+/// A traitor commander who tells 1, 2 and 3 their own numbers, of which the median is taken.
+pub(crate) const NUMBERING: &str = "generals = 4
+bound = 1
+commander = 0
+order = 0
+rule = \"median\"
+
+[[traitor]]
+general = 0
+asm = '''
+mov r1, 1
+mov r2, 1
+call sway
+mov r1, 2
+mov r2, 2
+call sway
+mov r1, 3
+mov r2, 3
+call sway
+exit
+'''
+";
+
+/// Its chronicle.
+pub(crate) const NUMBERED: &str = "chronicle 2
 generals 4 bound 1 commander 0 order 0 patience - rule median
 round 1
 letter 0 steps 10
@@ -79,8 +101,11 @@ decision 3 2
 verdict alike yes obeyed - bound yes
 ";
 
-/// The chronicle of two generals, both loyal.
-const TWO: &str = "chronicle 1
+/// Two generals, both loyal.
+pub(crate) const TWO_LOYAL: &str = "generals = 2\nbound = 0\ncommander = 0\norder = 7\n";
+
+/// Their chronicle.
+pub(crate) const TWO: &str = "chronicle 1
 generals 2 bound 0 commander 0 order 7
 round 1
 letter 0 loyal
@@ -90,132 +115,156 @@ decision 1 7
 verdict alike yes obeyed yes bound yes
 ";
 
+/// The verdict where all is well under a loyal commander.
+const OBEYED: Verdict = Verdict {
+    alike: true,
+    obeyed: Some(true),
+    bound: true,
+};
+
 /// What stands of a verdict where the commander is a traitor, and the bound holds.
-const AGREED: Verdict = Verdict {
+pub(crate) const AGREED: Verdict = Verdict {
     alike: true,
     obeyed: None,
     bound: true,
 };
 
-#[test]
-fn a_swaying_lieutenant_is_outvoted(rt: HostRuntime) -> Result<(), Fail> {
-    let alloc = rt.alloc();
-    let text = swayed(alloc)?;
-    for schedule in ["", "3*4096 3 12", "2 1 0\n3*3 3*4 0\n"] {
-        let chronicle = played(alloc, text.as_str(), schedule)?;
-        reads(&rt, alloc, &chronicle, SWAYED)?;
-    }
-    let chronicle = replayed(alloc, text.as_str(), &[&[3, 3, 12], &[0], &[3]])?;
-    reads(&rt, alloc, &chronicle, SWAYED)
-}
+/// Campaigns by schedules, and their chronicles.
+const PLAYED: &[(&str, &str, &str)] = &[
+    (SWAYED, "", SWAYED_CHRONICLE),
+    (SWAYED, "3*4096 3 12", SWAYED_CHRONICLE),
+    (SWAYED, "2 1 0\n3*3 3*4 0\n", SWAYED_CHRONICLE),
+    (SWAYED_IMPATIENTLY, "", SWAYED_THREE_STEPS),
+    (SWAYED_IMPATIENTLY, "3*4096 3 12", SWAYED_THREE_STEPS),
+    (SWAYED_IMPATIENTLY, "3*2\n3*3", SWAYED_THREE_STEPS),
+    (TWO_LOYAL, "", TWO),
+    (NUMBERING, "", NUMBERED),
+];
 
 #[test]
-fn patience_cuts_a_traitor_off(rt: HostRuntime) -> Result<(), Fail> {
+fn plays_have_their_chronicles(rt: HostRuntime) -> Result<(), Fail> {
     let alloc = rt.alloc();
-    let head = format!(in alloc; "{FOUR}patience = 3\n")?;
-    let text = with_traitor(alloc, head.as_str(), 3, &[(1, 0), (2, 0)])?;
-    for schedule in ["", "3*4096 3 12", "3*2\n3*3"] {
-        let chronicle = played(alloc, text.as_str(), schedule)?;
-        reads(&rt, alloc, &chronicle, SWAYED_THREE_STEPS)?;
-    }
-    let chronicle = replayed(alloc, text.as_str(), &[])?;
-    reads(&rt, alloc, &chronicle, SWAYED_THREE_STEPS)
-}
-
-#[test]
-fn two_loyal_generals_agree(rt: HostRuntime) -> Result<(), Fail> {
-    let alloc = rt.alloc();
-    let text = "generals = 2\nbound = 0\ncommander = 0\norder = 7\n";
-    reads(&rt, alloc, &played(alloc, text, "")?, TWO)?;
-    reads(&rt, alloc, &replayed(alloc, text, &[])?, TWO)
-}
-
-/// Under a traitor commander of four who tells these receivers these orders, the lieutenants decide so.
-fn decide(
-    rt: &impl Abort,
-    alloc: Global,
-    rule: &str,
-    orders: &[(u8, u32)],
-    decision: u32,
-) -> Result<(), Fail> {
-    let head = format!(in alloc; "{FOUR_RETREAT}rule = \"{rule}\"\n")?;
-    let text = with_traitor(alloc, head.as_str(), 0, orders)?;
-    for chronicle in [
-        played(alloc, text.as_str(), "")?,
-        replayed(alloc, text.as_str(), &[&[0], &[0]])?,
-    ] {
-        assert_eq!(rt; chronicle.decisions(), [decision; 3].as_slice());
-        assert_eq!(rt; chronicle.verdict(), AGREED);
+    for &(text, schedule, expected) in PLAYED {
+        reads(&rt, alloc, &played(alloc, text, schedule)?, expected)?;
     }
     Ok(())
+}
+
+/// Campaigns by the names of those who make accesses, and their chronicles.
+const REPLAYED: &[(&str, &[&[u8]], &str)] = &[
+    (SWAYED, &[&[3, 3, 12], &[0], &[3]], SWAYED_CHRONICLE),
+    (SWAYED_IMPATIENTLY, &[], SWAYED_THREE_STEPS),
+    (TWO_LOYAL, &[], TWO),
+    (NUMBERING, &[], NUMBERED),
+];
+
+#[test]
+fn replays_have_their_chronicles(rt: HostRuntime) -> Result<(), Fail> {
+    let alloc = rt.alloc();
+    for &(text, names, expected) in REPLAYED {
+        reads(&rt, alloc, &replayed(alloc, text, names)?, expected)?;
+    }
+    Ok(())
+}
+
+/// By a rule, what a traitor commander of four tells whom, and what the lieutenants decide.
+const ORDERS: &[(&str, &[(u8, u32)], u32)] = &[
+    ("majority", &[(1, 1), (2, 0), (3, 1)], 1),
+    ("majority", &[(1, 1), (2, 0)], 0),
+    ("majority", &[(1, 1), (2, 2), (3, 3)], 0),
+    ("median", &[(1, 1), (2, 2), (3, 3)], 2),
+];
+
+/// The text of four generals who go by a rule, under a traitor who tells these receivers these orders.
+fn under_traitor(alloc: Global, rule: &str, orders: &[(u8, u32)]) -> Result<String, Fail> {
+    let head = format!(in alloc; "{FOUR_RETREAT}rule = \"{rule}\"\n")?;
+    with_traitor(alloc, head.as_str(), 0, orders)
+}
+
+/// Whether the three lieutenants of a traitor decide so.
+fn decide(chronicle: &Chronicle, decision: u32) -> bool {
+    chronicle.decisions() == [decision; 3].as_slice() && chronicle.verdict() == AGREED
 }
 
 #[test]
 fn lieutenants_of_a_traitor_agree(rt: HostRuntime) -> Result<(), Fail> {
     let alloc = rt.alloc();
-    decide(&rt, alloc, "majority", &[(1, 1), (2, 0), (3, 1)], 1)?;
-    decide(&rt, alloc, "majority", &[(1, 1), (2, 0)], 0)?;
-    decide(&rt, alloc, "majority", &[(1, 1), (2, 2), (3, 3)], 0)?;
-    decide(&rt, alloc, "median", &[(1, 1), (2, 2), (3, 3)], 2)
+    for &(rule, orders, decision) in ORDERS {
+        let text = under_traitor(alloc, rule, orders)?;
+        let text = text.as_str();
+        assert!(rt; decide(&played(alloc, text, "")?, decision), "{text}");
+        assert!(rt;
+            decide(&replayed(alloc, text, &[&[0], &[0]])?, decision),
+            "{text}"
+        );
+    }
+    Ok(())
 }
 
-#[test]
-fn the_median_is_written_down(rt: HostRuntime) -> Result<(), Fail> {
-    let alloc = rt.alloc();
-    let head = format!(in alloc; "{FOUR_RETREAT}rule = \"median\"\n")?;
-    let text = with_traitor(alloc, head.as_str(), 0, &[(1, 1), (2, 2), (3, 3)])?;
-    reads(&rt, alloc, &played(alloc, text.as_str(), "")?, NUMBERED)?;
-    reads(&rt, alloc, &replayed(alloc, text.as_str(), &[])?, NUMBERED)
+/// A rule, what the first of two lieutenants decides by it, and whether that is the order.
+const SPLITS: &[(&str, u32, bool)] = &[("majority", 0, false), ("median", 1, true)];
+
+/// The text of three generals who go by a rule, of whom 2 tells 1 to retreat, though the order is to attack.
+fn of_three(alloc: Global, rule: &str) -> Result<String, Fail> {
+    let head = format!(in alloc; "{THREE}rule = \"{rule}\"\n")?;
+    with_traitor(alloc, head.as_str(), 2, &[(1, 0)])
+}
+
+/// Whether the first lieutenant decides so, and obeys or not.
+fn are_split(chronicle: &Chronicle, decision: u32, obeyed: bool) -> bool {
+    let verdict = Verdict {
+        alike: true,
+        obeyed: Some(obeyed),
+        bound: false,
+    };
+    chronicle.decisions().first() == Some(&decision) && chronicle.verdict() == verdict
 }
 
 #[test]
 fn three_generals_cannot_agree(rt: HostRuntime) -> Result<(), Fail> {
     let alloc = rt.alloc();
-    for (rule, decision, obeyed) in [("majority", 0, false), ("median", 1, true)] {
-        let head = format!(in alloc; "{THREE}rule = \"{rule}\"\n")?;
-        let text = with_traitor(alloc, head.as_str(), 2, &[(1, 0)])?;
-        for chronicle in [
-            played(alloc, text.as_str(), "")?,
-            replayed(alloc, text.as_str(), &[])?,
-        ] {
-            let verdict = Verdict {
-                alike: true,
-                obeyed: Some(obeyed),
-                bound: false,
-            };
-            assert_eq!(rt; chronicle.decisions().first(), Some(&decision));
-            assert_eq!(rt; chronicle.verdict(), verdict, "{rule}");
+    for &(rule, decision, obeyed) in SPLITS {
+        let text = of_three(alloc, rule)?;
+        let text = text.as_str();
+        assert!(rt;
+            are_split(&played(alloc, text, "")?, decision, obeyed),
+            "{rule}"
+        );
+        assert!(rt;
+            are_split(&replayed(alloc, text, &[])?, decision, obeyed),
+            "{rule}"
+        );
+    }
+    Ok(())
+}
+
+/// Whether the accesses are these: by whom, in which round, and the word of the reply.
+fn are_accesses(accesses: &[Access], expected: &[(u32, u32, u64)]) -> bool {
+    accesses.len() == expected.len()
+        && accesses
+            .iter()
+            .zip(expected)
+            .all(|(access, row)| is_access(access, *row))
+}
+
+/// Whether an access is by this general, in this round, and its reply is this word.
+fn is_access(access: &Access, row: (u32, u32, u64)) -> bool {
+    let (general, round, reply) = row;
+    access.general == general && access.round == round && word(&access.reply) == Some(reply)
+}
+
+/// The places of the loyal lieutenants of seven, 1, 2, 3, 5 and 6, among the decisions.
+const LOYAL: &[usize] = &[0, 1, 2, 4, 5];
+
+/// Whether the loyal lieutenants of seven decide so, and the verdict is that they agree.
+pub(crate) fn five_decide(chronicle: &Chronicle, decision: u32) -> bool {
+    let decisions = chronicle.decisions();
+    for place in LOYAL {
+        if decisions.get(*place) != Some(&decision) {
+            return false;
         }
     }
-    Ok(())
-}
-
-/// The accesses of a chronicle are these: by whom, in which round, and the word of the reply.
-fn accessed(
-    rt: &impl Abort,
-    alloc: Global,
-    chronicle: &Chronicle,
-    expected: &[(u32, u32, u64)],
-) -> Result<(), Fail> {
-    let mut accesses = Vec::new(alloc);
-    for access in chronicle.accesses() {
-        let Reply::Word(word) = access.reply else {
-            return Err("a copy")?;
-        };
-        accesses.push((access.general, access.round, word))?;
-    }
-    assert_eq!(rt; accesses.as_slice(), expected);
-    Ok(())
-}
-
-/// The loyal lieutenants of seven, 1, 2, 3, 5 and 6, decide so, and the verdict is that they agree.
-fn five_decide(rt: &impl Abort, chronicle: &Chronicle, decision: u32) {
-    let decisions = chronicle.decisions();
-    assert_eq!(rt; decisions.len(), 6);
-    for place in [0, 1, 2, 4, 5] {
-        assert_eq!(rt; decisions.get(place), Some(&decision));
-    }
-    assert_eq!(rt; chronicle.verdict(), AGREED);
+    decisions.len() == 6 && chronicle.verdict() == AGREED
 }
 
 /// The accesses where 0 comes first in each round.
@@ -248,131 +297,93 @@ const SECOND_FIRST_TWICE: [(u32, u32, u64); 6] = [
     (4, 3, 5),
 ];
 
-/// The two traitors of seven, by this schedule and by these names, make these accesses, and the loyal decide so.
-fn collude(
-    rt: &impl Abort,
-    alloc: Global,
-    schedule: &str,
-    names: &[&[u8]],
-    accesses: &[(u32, u32, u64)],
-    decision: u32,
-) -> Result<(), Fail> {
-    let text = counted(alloc, SEVEN)?;
-    for chronicle in [
-        played(alloc, text.as_str(), schedule)?,
-        replayed(alloc, text.as_str(), names)?,
-    ] {
-        accessed(rt, alloc, &chronicle, accesses)?;
-        five_decide(rt, &chronicle, decision);
-    }
-    Ok(())
+/// What comes first in a round: a schedule, the names, the accesses, and what the loyal lieutenants decide.
+const COLLUSIONS: &[(&str, &[&[u8]], &[(u32, u32, u64)], u32)] = &[
+    ("", &[], &ASCENDING, 0),
+    ("4*15", &[&[4]], &SECOND_FIRST, 1),
+    ("4*15\n4*15", &[&[4], &[1, 4, 12]], &SECOND_FIRST_TWICE, 0),
+];
+
+/// Whether the two traitors of seven have made these accesses, and the loyal decide so.
+fn colluded(chronicle: &Chronicle, accesses: &[(u32, u32, u64)], decision: u32) -> bool {
+    are_accesses(chronicle.accesses(), accesses) && five_decide(chronicle, decision)
 }
 
 #[test]
 fn traitors_collude_on_the_board(rt: HostRuntime) -> Result<(), Fail> {
     let alloc = rt.alloc();
-    collude(&rt, alloc, "", &[], &ASCENDING, 0)?;
-    collude(&rt, alloc, "4*15", &[&[4]], &SECOND_FIRST, 1)?;
-    let names: [&[u8]; 2] = [&[4], &[1, 4, 12]];
-    collude(&rt, alloc, "4*15\n4*15", &names, &SECOND_FIRST_TWICE, 0)
+    for &(schedule, names, accesses, decision) in COLLUSIONS {
+        let chronicle = played(alloc, COLLUSION, schedule)?;
+        assert!(rt; colluded(&chronicle, accesses, decision), "{schedule}");
+        let chronicle = replayed(alloc, COLLUSION, names)?;
+        assert!(rt; colluded(&chronicle, accesses, decision), "{schedule}");
+    }
+    Ok(())
 }
 
-/// No letter of these generals gives an order to anyone.
-fn silent(rt: &impl Abort, chronicle: &Chronicle, generals: &[u32]) {
-    for round in chronicle.letters() {
-        for letter in round.letters() {
-            if generals.contains(&letter.general) {
-                for label in 0..letter.outbox.labels() {
-                    for receiver in 0..13 {
-                        assert_eq!(rt; letter.outbox.get(label, receiver), None);
-                    }
-                }
+/// Whether the letter gives no order to anyone.
+fn is_empty(letter: &Letter) -> bool {
+    for label in 0..letter.outbox.labels() {
+        for receiver in 0..13 {
+            if letter.outbox.get(label, receiver).is_some() {
+                return false;
             }
         }
     }
+    true
+}
+
+/// Whether no letter of these generals gives an order to anyone.
+fn are_silent(chronicle: &Chronicle, generals: &[u32]) -> bool {
+    for round in chronicle.letters() {
+        for letter in round.letters() {
+            if generals.contains(&letter.general) && !is_empty(letter) {
+                return false;
+            }
+        }
+    }
+    true
+}
+
+/// A patience of the colluders, and the accesses that they then make.
+const PATIENCES: &[(u32, &[(u32, u32, u64)])] = &[(3, &ASCENDING), (2, &[])];
+
+/// Whether the two traitors of seven have made these accesses and told nothing, and the loyal decide 0.
+fn were_cut_off(chronicle: &Chronicle, accesses: &[(u32, u32, u64)]) -> bool {
+    colluded(chronicle, accesses, 0) && are_silent(chronicle, &[0, 4])
 }
 
 #[test]
 fn the_last_permitted_access_is_served(rt: HostRuntime) -> Result<(), Fail> {
     let alloc = rt.alloc();
-    for (patience, accesses) in [(3, ASCENDING.as_slice()), (2, [].as_slice())] {
-        let head = format!(in alloc; "{SEVEN}patience = {patience}\n")?;
-        let text = counted(alloc, head.as_str())?;
-        for chronicle in [
-            played(alloc, text.as_str(), "")?,
-            replayed(alloc, text.as_str(), &[])?,
-        ] {
-            accessed(&rt, alloc, &chronicle, accesses)?;
-            silent(&rt, &chronicle, &[0, 4]);
-            five_decide(&rt, &chronicle, 0);
-        }
+    for &(patience, accesses) in PATIENCES {
+        let text = format!(in alloc; "patience = {patience}\n{COLLUSION}")?;
+        let text = text.as_str();
+        assert!(rt; were_cut_off(&played(alloc, text, "")?, accesses));
+        assert!(rt; were_cut_off(&replayed(alloc, text, &[])?, accesses));
     }
     Ok(())
+}
+
+/// Whether the letter of one of the thirteen is finished: 9 to 12 have taken 4,096 steps.
+fn is_finished(letter: &Letter) -> bool {
+    let steps = if letter.general < 9 { 0 } else { 4096 };
+    letter.exited && letter.steps == steps
+}
+
+/// The nine loyal generals of thirteen decide on the order, and the four others have taken all their steps in each round.
+pub(crate) fn finishes(rt: &impl Abort, chronicle: &Chronicle) {
+    assert_eq!(rt; chronicle.verdict(), OBEYED);
+    assert_eq!(rt; chronicle.decisions().get(..8), Some([1; 8].as_slice()));
+    assert_eq!(rt; chronicle.letters().len(), 5);
+    for round in chronicle.letters() {
+        assert!(rt; round.letters().len() == 13 && round.letters().iter().all(is_finished));
+    }
 }
 
 #[test]
 fn long_programs_are_run_to_their_end(rt: HostRuntime) -> Result<(), Fail> {
     let alloc = rt.alloc();
-    let chronicle = played(alloc, idle(alloc)?.as_str(), "")?;
-    let verdict = Verdict {
-        alike: true,
-        obeyed: Some(true),
-        bound: true,
-    };
-    assert_eq!(rt; chronicle.verdict(), verdict);
-    assert_eq!(rt; chronicle.decisions().get(..8), Some([1; 8].as_slice()));
-    assert_eq!(rt; chronicle.letters().len(), 5);
-    for round in chronicle.letters() {
-        assert_eq!(rt; round.letters().len(), 13);
-        for letter in round.letters() {
-            let steps = if letter.general < 9 { 0 } else { 4096 };
-            assert_eq!(rt; letter.steps, steps);
-            assert!(rt; letter.exited);
-        }
-    }
-    Ok(())
-}
-
-#[test]
-fn first_faults_are_named(rt: HostRuntime) -> Result<(), Fail> {
-    let alloc = rt.alloc();
-    let table = "[[traitor]]\ngeneral = 3\nasm = \"mov r0, 0\\nexit\"\n";
-    for (head, behind, fault) in [
-        ("generals = 4\nbound = 1\ncommander = 0\n", "", "S2 order"),
-        (
-            "generals = 14\nbound = 1\ncommander = 0\norder = 0\n",
-            "",
-            "S4 generals",
-        ),
-        (
-            "generals = 4\nbound = 3\ncommander = 0\norder = 0\n",
-            "",
-            "S4 bound",
-        ),
-        (FOUR, "patience = 0\n", "S4 patience"),
-        (FOUR, "patience = 4097\n", "S4 patience"),
-        (FOUR, "patience = \"3\"\n", "S3 patience"),
-        (FOUR, "rule = \"mean\"\n", "S4 rule"),
-        (
-            FOUR,
-            "[[traitor]]\ngeneral = 3\nasm = \"exit\"\n",
-            "S8 traitor 3 V5 unit 0",
-        ),
-        (FOUR, table, ""),
-    ] {
-        let text = format!(in alloc; "{head}{behind}")?;
-        refuses(&rt, alloc, text.as_str(), fault)?;
-    }
-    let twice = format!(in alloc; "{FOUR}{table}{table}")?;
-    refuses(&rt, alloc, twice.as_str(), "S6 traitor[1].general")
-}
-
-/// The first fault of a text is this, or it has none.
-fn refuses(rt: &impl Abort, alloc: Global, text: &str, fault: &str) -> Result<(), Fail> {
-    let told = match read(alloc, text) {
-        Ok(_) => String::new(alloc),
-        Err(error) => format!(in alloc; "{error}")?,
-    };
-    assert_eq!(rt; told.as_str(), fault);
+    finishes(&rt, &played(alloc, idle(alloc)?.as_str(), "")?);
     Ok(())
 }

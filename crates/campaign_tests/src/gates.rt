@@ -1,6 +1,7 @@
 //! What a gate is asked before each access, and that the generals of a muster act at once.
 
-use crate::threaded::{ADDER, SEVEN, campaign, colluders, replays, text, word};
+use crate::campaigns::five_decide;
+use crate::threaded::{ADDER, SEVEN, campaign, colluders, replays, word};
 use board::Access;
 use semantics::Request;
 use std::alloc::Global;
@@ -11,6 +12,7 @@ use std::test::Fail;
 use std::thread;
 use std::thread::Threads;
 use threads::{Gate, muster};
+use world::{Chronicle, Verdict};
 
 /// How many turns a general is held at most.
 const TURNS: u32 = 100_000_000;
@@ -75,6 +77,20 @@ fn got_one(access: &Access) -> bool {
     matches!(access.request, Request::Get { .. }) && word(&access.reply) == Some(1)
 }
 
+/// Whether of the twelve accesses the first four are of round 1, and by the third and the fourth both generals got a 1.
+fn have_met(accesses: &[Access]) -> bool {
+    let [first, second, third, fourth, ..] = accesses else {
+        return false;
+    };
+    let rounds = [first.round, second.round, third.round, fourth.round];
+    let generals = (third.general, fourth.general);
+    accesses.len() == 12
+        && rounds == [1; 4]
+        && (generals == (5, 6) || generals == (6, 5))
+        && got_one(third)
+        && got_one(fourth)
+}
+
 #[test]
 fn two_generals_get_what_the_other_set(rt: HostRuntime) -> Result<(), Fail> {
     let alloc = rt.alloc();
@@ -90,20 +106,28 @@ fn two_generals_get_what_the_other_set(rt: HostRuntime) -> Result<(), Fail> {
     let chronicle = muster(&rt, alloc, scenario, &gate)?;
     assert_eq!(rt; gate.missed.load(Ordering::SeqCst), 0);
     assert_eq!(rt; gate.come[1].load(Ordering::SeqCst), 2);
-    let accesses = chronicle.accesses();
-    assert_eq!(rt; accesses.len(), 12);
-    let (third, fourth) = (&accesses[2], &accesses[3]);
-    assert_eq!(rt;
-        (
-            third.general.min(fourth.general),
-            third.general.max(fourth.general)
-        ),
-        (5, 6)
-    );
-    assert!(rt; accesses[..4].iter().all(|access| access.round == 1));
-    assert!(rt; accesses[2..4].iter().all(got_one));
+    assert!(rt; have_met(chronicle.accesses()));
     replays(&rt, alloc, &chronicle)
 }
+
+/// Whether the replies count the accesses.
+fn ascend(accesses: &[Access]) -> bool {
+    let mut next = 0;
+    for access in accesses {
+        if word(&access.reply) != Some(next) {
+            return false;
+        }
+        next = next.wrapping_add(1);
+    }
+    true
+}
+
+/// The verdict where all are traitors.
+const BEYOND_BOUND: Verdict = Verdict {
+    alike: true,
+    obeyed: None,
+    bound: false,
+};
 
 #[test]
 fn seven_traitors_come_to_the_board_together(rt: HostRuntime) -> Result<(), Fail> {
@@ -123,14 +147,8 @@ fn seven_traitors_come_to_the_board_together(rt: HostRuntime) -> Result<(), Fail
         assert_eq!(rt; come.load(Ordering::SeqCst), 7);
     }
     assert_eq!(rt; chronicle.accesses().len(), 21);
-    for (place, access) in chronicle.accesses().iter().enumerate() {
-        assert_eq!(rt; word(&access.reply), Some(place as u64));
-    }
-    let told = text(alloc, &chronicle)?;
-    assert!(rt;
-        told.as_slice()
-            .ends_with(b"verdict alike yes obeyed - bound no\n")
-    );
+    assert!(rt; ascend(chronicle.accesses()));
+    assert_eq!(rt; chronicle.verdict(), BEYOND_BOUND);
     replays(&rt, alloc, &chronicle)
 }
 
@@ -154,6 +172,33 @@ impl Gate for Reversing {
     }
 }
 
+/// Whether of the twelve accesses six are additions, by 4 and 0 in turn.
+fn are_reversed(accesses: &[Access]) -> bool {
+    let mut added = 0u64;
+    for access in accesses {
+        if matches!(access.request, Request::Add { .. }) {
+            let general = if added % 2 == 0 { 4 } else { 0 };
+            if access.general != general || word(&access.reply) != Some(added) {
+                return false;
+            }
+            added = added.wrapping_add(1);
+        }
+    }
+    added == 6 && accesses.len() == 12
+}
+
+/// Whether each letter of a traitor says so many steps.
+fn have_taken(chronicle: &Chronicle, steps: u32) -> bool {
+    for round in chronicle.letters() {
+        for letter in round.letters() {
+            if letter.program.program().is_some() && letter.steps != steps {
+                return false;
+            }
+        }
+    }
+    true
+}
+
 /// Two colluders who get word 63 in the end: the second adds before the first in each round, and each of their letters
 /// says so many steps.
 fn reversed<R: Threads + Wait + Abort + Sync>(
@@ -170,25 +215,9 @@ fn reversed<R: Threads + Wait + Abort + Sync>(
     };
     let chronicle = muster(rt, alloc, scenario, &gate)?;
     assert_eq!(rt; gate.missed.load(Ordering::SeqCst), 0);
-    assert_eq!(rt; chronicle.accesses().len(), 12);
-    let mut added = 0u64;
-    for access in chronicle.accesses() {
-        if matches!(access.request, Request::Add { .. }) {
-            assert_eq!(rt; access.general, if added % 2 == 0 { 4 } else { 0 });
-            assert_eq!(rt; word(&access.reply), Some(added));
-            added = added.wrapping_add(1);
-        }
-    }
-    assert_eq!(rt; added, 6);
-    for round in chronicle.letters() {
-        assert!(rt;
-            round.letters().iter().all(|letter| letter.program.program().is_none()
-                || letter.steps == steps)
-        );
-    }
-    for place in [0, 1, 2, 4, 5] {
-        assert_eq!(rt; chronicle.decisions().get(place), Some(&0));
-    }
+    assert!(rt; are_reversed(chronicle.accesses()));
+    assert!(rt; have_taken(&chronicle, steps));
+    assert!(rt; five_decide(&chronicle, 0));
     replays(rt, alloc, &chronicle)
 }
 

@@ -1,7 +1,7 @@
 //! Activations from their start to their end, or to their patience.
 ghost use Rattle.std.specs.Prelude.{◌≡◌};
 
-use crate::scenarios::{SEVEN, counted, played, spying};
+use crate::scenarios::{COLLUSION, SPYING, played};
 use board::Access;
 use round::{Letter, Server, live};
 use semantics::{Reply, Request};
@@ -89,7 +89,7 @@ fn words_of(alloc: Global, letter: &Letter) -> Result<Vec<u64>, Fail> {
 fn traitors_live_again(rt: HostRuntime) -> Result<(), Fail> {
     let alloc = rt.alloc();
     let mut lives = Vec::new(alloc);
-    let chronicle = played(alloc, counted(alloc, SEVEN)?.as_str(), "4*15")?;
+    let chronicle = played(alloc, COLLUSION, "4*15")?;
     for round in chronicle.letters() {
         for letter in round.letters() {
             if letter.program.program().is_some() {
@@ -109,7 +109,7 @@ fn traitors_live_again(rt: HostRuntime) -> Result<(), Fail> {
 
 /// The first letter of general 5 of seven, who swaps word 5 and then gets word 6, in six steps.
 fn spy(alloc: Global) -> Result<Letter, Fail> {
-    let chronicle = played(alloc, spying(alloc)?.as_str(), "")?;
+    let chronicle = played(alloc, SPYING, "")?;
     for round in chronicle.letters() {
         for letter in round.letters() {
             if letter.general == 5 {
@@ -120,42 +120,58 @@ fn spy(alloc: Global) -> Result<Letter, Fail> {
     Err("a letter of 5")?
 }
 
+/// A patience, and then the steps, the accesses, and whether the program exited.
+const PATIENCES: &[(Option<u32>, u32, usize, bool)] = &[
+    (None, 6, 2, true),
+    (Some(4096), 6, 2, true),
+    (Some(6), 6, 2, true),
+    (Some(5), 5, 2, false),
+    (Some(4), 4, 1, false),
+    (Some(3), 3, 1, false),
+    (Some(2), 2, 0, false),
+    (Some(1), 1, 0, false),
+];
+
+/// The steps and accesses of this one's program with the replies 7, 9 and 11, whether it exited, and how many were
+/// served; that its transcript has these replies is a condition.
+fn outcome(
+    alloc: Global,
+    letter: &Letter,
+    patience: Option<u32>,
+) -> Result<(u32, usize, bool, usize), Fail> {
+    let mut server = Answers::new(alloc, &[7, 9, 11]);
+    let again = lived(alloc, &mut server, letter, patience)?;
+    let words = words_of(alloc, &again)?;
+    if ![7, 9, 11].starts_with(words.as_slice()) {
+        return Err("other replies")?;
+    }
+    Ok((again.steps, words.len(), again.exited, server.served.len()))
+}
+
 #[test]
 fn the_last_permitted_request_is_served(rt: HostRuntime) -> Result<(), Fail> {
     let alloc = rt.alloc();
     let letter = spy(alloc)?;
-    for (patience, steps, accesses, exited) in [
-        (None, 6, 2, true),
-        (Some(4096), 6, 2, true),
-        (Some(6), 6, 2, true),
-        (Some(5), 5, 2, false),
-        (Some(4), 4, 1, false),
-        (Some(3), 3, 1, false),
-        (Some(2), 2, 0, false),
-        (Some(1), 1, 0, false),
-    ] {
-        let mut server = Answers::new(alloc, &[7, 9, 11]);
-        let again = lived(alloc, &mut server, &letter, patience)?;
-        assert_eq!(rt; again.steps, steps);
-        assert_eq!(rt; again.transcript.len(), accesses);
-        assert_eq!(rt; again.exited, exited);
-        assert_eq!(rt; server.served.len(), accesses);
-        let words = words_of(alloc, &again)?;
-        assert_eq!(rt; Some(words.as_slice()), [7, 9].as_slice().get(..accesses));
+    for &(patience, steps, accesses, exited) in PATIENCES {
+        let lived = outcome(alloc, &letter, patience)?;
+        assert_eq!(rt; lived, (steps, accesses, exited, accesses));
     }
     Ok(())
 }
+
+/// The words that a server has, and the patience, where one reply is too few.
+const SCARCE: &[(&[u64], Option<u32>)] = &[
+    (&[], None),
+    (&[], Some(3)),
+    (&[7], None),
+    (&[7], Some(5)),
+];
 
 #[test]
 fn want_of_memory_at_an_access_ends_it(rt: HostRuntime) -> Result<(), Fail> {
     let alloc = rt.alloc();
     let letter = spy(alloc)?;
-    for (words, patience) in [
-        ([].as_slice(), None),
-        ([].as_slice(), Some(3)),
-        ([7].as_slice(), None),
-        ([7].as_slice(), Some(5)),
-    ] {
+    for &(words, patience) in SCARCE {
         let mut server = Answers::new(alloc, words);
         assert!(rt; lived(alloc, &mut server, &letter, patience).is_err());
         assert_eq!(rt; server.served.len(), words.len());

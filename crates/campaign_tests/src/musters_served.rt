@@ -1,6 +1,7 @@
 //! What `muster` and `audit` print.
 
 use crate::audits::changed;
+use crate::scenarios::{SWAYED, SWAYED_CHRONICLE};
 use command_line::Task;
 use lab::serve;
 use std::alloc::{AllocError, Global};
@@ -8,47 +9,6 @@ use std::process::Abort;
 use std::sync::Wait;
 use std::test::Fail;
 use std::thread::Threads;
-
-/// Four generals, of whom the last tells two others the order 0.
-const SWAYED: &str = "generals = 4
-bound = 1
-commander = 0
-order = 1
-
-[[traitor]]
-general = 3
-asm = '''
-mov r1, 1
-mov r2, 0
-call sway
-mov r1, 2
-mov r2, 0
-call sway
-exit
-'''
-";
-
-const SWAYED_CHRONICLE: &str = "chronicle 1
-generals 4 bound 1 commander 0 order 1
-round 1
-letter 0 loyal
-row 0 1 1 1
-letter 1 loyal
-letter 2 loyal
-letter 3 steps 7
-round 2
-letter 0 loyal
-letter 1 loyal
-row 0 1 1
-letter 2 loyal
-row 0 1 1
-letter 3 steps 7
-row 0 0 0
-decision 1 1
-decision 2 1
-decision 3 traitor 1
-verdict alike yes obeyed yes bound yes
-";
 
 /// Two traitors who count on the board who comes first.
 const COUNTING: &str = "generals = 4
@@ -171,23 +131,26 @@ fn an_audit_tells_the_verdict(rt: HostRuntime) -> Result<(), Fail> {
     audited(&rt, alloc, SWAYED, text, (0, sound, ""))
 }
 
+/// Another line in place of one of the chronicle, and what is told.
+const CHANGED_LINES: &[(usize, &str, &str)] = &[
+    (12, "row 0 0 1\n", "refused X3 line 12\n"),
+    (
+        20,
+        "verdict alike yes obeyed no bound yes\n",
+        "refused X3 line 20\n",
+    ),
+    (
+        20,
+        "verdict alike yes obeyed yes bound yes",
+        "refused X1 line 20\n",
+    ),
+    (1, "chronicle 2\n", "refused X2 line 2\n"),
+];
+
 #[test]
 fn an_audit_names_the_line_at_fault(rt: HostRuntime) -> Result<(), Fail> {
     let alloc = rt.alloc();
-    for (number, line, fault) in [
-        (12, "row 0 0 1\n", "refused X3 line 12\n"),
-        (
-            20,
-            "verdict alike yes obeyed no bound yes\n",
-            "refused X3 line 20\n",
-        ),
-        (
-            20,
-            "verdict alike yes obeyed yes bound yes",
-            "refused X1 line 20\n",
-        ),
-        (1, "chronicle 2\n", "refused X2 line 2\n"),
-    ] {
+    for &(number, line, fault) in CHANGED_LINES {
         let text = changed(alloc, SWAYED_CHRONICLE, number, line)?;
         audited(&rt, alloc, SWAYED, text.as_bytes(), (1, "", fault))?;
     }

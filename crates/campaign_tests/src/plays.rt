@@ -1,5 +1,6 @@
 //! What `play` prints of a campaign, by a schedule and without one.
 
+use crate::scenarios::{COLLUSION, FOUR, SWAYED, SWAYED_CHRONICLE};
 use command_line::Task;
 use lab::serve;
 use std::alloc::{AllocError, Global};
@@ -8,94 +9,6 @@ use std::process::Abort;
 use std::sync::Wait;
 use std::test::Fail;
 use std::thread::Threads;
-
-/// Four generals, of whom the last tells two others the order 0.
-const SWAYED: &[u8] = b"generals = 4
-bound = 1
-commander = 0
-order = 1
-
-[[traitor]]
-general = 3
-asm = '''
-mov r1, 1
-mov r2, 0
-call sway
-mov r1, 2
-mov r2, 0
-call sway
-exit
-'''
-";
-
-const SWAYED_CHRONICLE: &str = "chronicle 1
-generals 4 bound 1 commander 0 order 1
-round 1
-letter 0 loyal
-row 0 1 1 1
-letter 1 loyal
-letter 2 loyal
-letter 3 steps 7
-round 2
-letter 0 loyal
-letter 1 loyal
-row 0 1 1
-letter 2 loyal
-row 0 1 1
-letter 3 steps 7
-row 0 0 0
-decision 1 1
-decision 2 1
-decision 3 traitor 1
-verdict alike yes obeyed yes bound yes
-";
-
-/// Two traitors who agree over the board: who comes first in a round tells the order 0, who comes second the order 1.
-const COLLUSION: &[u8] = b"generals = 7
-bound = 2
-commander = 0
-order = 0
-
-[[traitor]]
-general = 0
-asm = '''
-mov r1, 0
-mov r2, 1
-call board_add
-mov r6, r0
-and r6, 1
-mov r1, 1
-mov r2, r6
-call sway
-mov r1, 2
-mov r2, r6
-call sway
-mov r1, 3
-mov r2, r6
-call sway
-exit
-'''
-
-[[traitor]]
-general = 4
-asm = '''
-mov r1, 0
-mov r2, 1
-call board_add
-mov r6, r0
-and r6, 1
-mov r1, 1
-mov r2, r6
-call sway
-mov r1, 2
-mov r2, r6
-call sway
-mov r1, 3
-mov r2, r6
-call sway
-exit
-'''
-";
 
 /// A file that can be read, or one that cannot.
 #[derive(Clone, Copy, Drop)]
@@ -165,14 +78,18 @@ fn row(
     Ok(())
 }
 
+/// Schedules by which the swaying traitor's chronicle is the same.
+const SCHEDULES: &[&str] = &["", "3*4096 3 12\n", "3*7 0 1\n\n"];
+
 #[test]
 fn a_swaying_traitor_is_played(rt: HostRuntime) -> Result<(), Fail> {
     let alloc = rt.alloc();
-    let scenario = File::Bytes(SWAYED);
+    let scenario = File::Bytes(SWAYED.as_bytes());
     let expected = (0, SWAYED_CHRONICLE, "");
     row(&rt, alloc, scenario, None, expected)?;
-    for schedule in [b"".as_slice(), b"3*4096 3 12\n", b"3*7 0 1\n\n"] {
-        row(&rt, alloc, scenario, Some(File::Bytes(schedule)), expected)?;
+    for schedule in SCHEDULES {
+        let schedule = Some(File::Bytes(schedule.as_bytes()));
+        row(&rt, alloc, scenario, schedule, expected)?;
     }
     Ok(())
 }
@@ -181,7 +98,7 @@ fn a_swaying_traitor_is_played(rt: HostRuntime) -> Result<(), Fail> {
 fn collusion(
     rt: &(impl Abort + Threads + Wait + Sync),
     alloc: Global,
-    schedule: &[u8],
+    schedule: &str,
 ) -> Result<String, Fail> {
     let task = task(alloc, true)?;
     let mut out = Vec::new(alloc);
@@ -190,8 +107,8 @@ fn collusion(
         rt,
         alloc,
         &task,
-        COLLUSION,
-        Some(schedule),
+        COLLUSION.as_bytes(),
+        Some(schedule.as_bytes()),
         &mut out,
         &mut complaint,
     );
@@ -199,128 +116,139 @@ fn collusion(
     Ok(String::from_utf8(out).expect(rt, "UTF-8"))
 }
 
+/// A schedule, the accesses of a round, what 1, 2 and 3 decide, and the end of the chronicle.
+const COLLUSIONS: &[(&str, &str, &str, &str)] = &[
+    (
+        "",
+        "round 1\naccess 0 add 0 1 = 0\naccess 4 add 0 1 = 1\nletter 0 steps 15\n",
+        "\ndecision 1 0\ndecision 2 0\ndecision 3 0\n",
+        "\ndecision 5 0\ndecision 6 0\nverdict alike yes obeyed - bound yes\n",
+    ),
+    (
+        "4*15\n",
+        "round 1\naccess 4 add 0 1 = 0\naccess 0 add 0 1 = 1\nletter 0 steps 15\n",
+        "\ndecision 1 1\ndecision 2 1\ndecision 3 1\n",
+        "\ndecision 5 1\ndecision 6 1\nverdict alike yes obeyed - bound yes\n",
+    ),
+    (
+        "4*15\n4*15\n",
+        "round 2\naccess 4 add 0 1 = 2\naccess 0 add 0 1 = 3\nletter 0 steps 15\n",
+        "\ndecision 1 0\ndecision 2 0\ndecision 3 0\n",
+        "\ndecision 5 0\ndecision 6 0\nverdict alike yes obeyed - bound yes\n",
+    ),
+];
+
 #[test]
 fn a_schedule_decides_who_comes_first(rt: HostRuntime) -> Result<(), Fail> {
-    let alloc = rt.alloc();
-    for (schedule, accesses, order) in [
-        (
-            b"".as_slice(),
-            "round 1\naccess 0 add 0 1 = 0\naccess 4 add 0 1 = 1\nletter 0 steps 15\n",
-            0,
-        ),
-        (
-            b"4*15\n",
-            "round 1\naccess 4 add 0 1 = 0\naccess 0 add 0 1 = 1\nletter 0 steps 15\n",
-            1,
-        ),
-        (
-            b"4*15\n4*15\n",
-            "round 2\naccess 4 add 0 1 = 2\naccess 0 add 0 1 = 3\nletter 0 steps 15\n",
-            0,
-        ),
-    ] {
-        let chronicle = collusion(&rt, alloc, schedule)?;
-        assert!(rt; chronicle.contains(accesses));
-        for general in [1, 2, 3, 5, 6] {
-            let line = format!(in alloc; "\ndecision {general} {order}\n")?;
-            assert!(rt; chronicle.contains(line.as_str()));
-        }
-        assert!(rt; chronicle.ends_with("\nverdict alike yes obeyed - bound yes\n"));
+    for &(schedule, accesses, decisions, end) in COLLUSIONS {
+        let chronicle = collusion(&rt, rt.alloc(), schedule)?;
+        let chronicle = chronicle.as_str();
+        assert!(rt; chronicle.contains(accesses), "{chronicle}");
+        assert!(rt; chronicle.contains(decisions), "{chronicle}");
+        assert!(rt; chronicle.ends_with(end), "{chronicle}");
     }
     Ok(())
 }
 
-/// A scenario of four generals with this behind its numbers.
-fn four_with(alloc: Global, rest: &str) -> Result<String, AllocError> {
-    format!(in alloc; "generals = 4\nbound = 1\ncommander = 0\norder = 1\n{rest}")
-}
+/// Heads of scenarios, and what is told of them.
+const FAULTY_HEADS: &[(&str, &str)] = &[
+    ("generals = ", "refused S1\n"),
+    ("generals = 4\n", "refused S2 bound\n"),
+    ("generals = 4\nsize = 4\n", "refused S2 size\n"),
+    ("generals = '4'\n", "refused S3 generals\n"),
+    ("generals = 14\n", "refused S4 generals\n"),
+    ("generals = 4\nbound = 3\n", "refused S4 bound\n"),
+    (
+        "generals = 4\nbound = 1\ncommander = 4\n",
+        "refused S5 commander\n",
+    ),
+];
 
 #[test]
 fn scenarios_are_refused(rt: HostRuntime) -> Result<(), Fail> {
     let alloc = rt.alloc();
-    for (text, fault) in [
-        ("generals = ", "refused S1\n"),
-        ("generals = 4\n", "refused S2 bound\n"),
-        ("generals = 4\nsize = 4\n", "refused S2 size\n"),
-        ("generals = '4'\n", "refused S3 generals\n"),
-        ("generals = 14\n", "refused S4 generals\n"),
-        ("generals = 4\nbound = 3\n", "refused S4 bound\n"),
-        (
-            "generals = 4\nbound = 1\ncommander = 4\n",
-            "refused S5 commander\n",
-        ),
-    ] {
+    for &(text, fault) in FAULTY_HEADS {
         let scenario = File::Bytes(text.as_bytes());
         row(&rt, alloc, scenario, None, (1, "", fault))?;
     }
     Ok(())
 }
+
+/// What stands behind the numbers of a scenario, and what is told of it.
+const FAULTY_TRAITORS: &[(&str, &str)] = &[
+    (
+        "[[traitor]]\ngeneral = 3\nasm = 'mov r0, 0\nexit'\n",
+        "refused S1\n",
+    ),
+    ("[[traitor]]\ngeneral = 3\n", "refused S2 traitor[0].asm\n"),
+    ("traitor = [1]\n", "refused S3 traitor[0]\n"),
+    ("board = [-1]\n", "refused S4 board[0]\n"),
+    (
+        "[[traitor]]\ngeneral = 4\ncode = ''\n",
+        "refused S5 traitor[0].general\n",
+    ),
+    (
+        "[[traitor]]\ngeneral = 3\ncode = 'b70000002a0000009500000000000000'\n\
+         [[traitor]]\ngeneral = 3\ncode = 'b70000002a0000009500000000000000'\n",
+        "refused S6 traitor[1].general\n",
+    ),
+    (
+        "[[traitor]]\ngeneral = 3\ncode = ''\n",
+        "refused S7 traitor 3 C8 unit 0\n",
+    ),
+    (
+        "[[traitor]]\ngeneral = 3\ncode = '9'\n",
+        "refused S7 traitor 3 hex\n",
+    ),
+    (
+        "[[traitor]]\ngeneral = 3\nasm = 'foo'\n",
+        "refused S7 traitor 3 A2 line 1\n",
+    ),
+    (
+        "[[traitor]]\ngeneral = 3\ncode = '9500000000000000'\n",
+        "refused S8 traitor 3 V5 unit 0\n",
+    ),
+];
 
 #[test]
 fn traitors_are_refused(rt: HostRuntime) -> Result<(), Fail> {
     let alloc = rt.alloc();
-    for (traitors, fault) in [
-        (
-            "[[traitor]]\ngeneral = 3\nasm = 'mov r0, 0\nexit'\n",
-            "refused S1\n",
-        ),
-        ("[[traitor]]\ngeneral = 3\n", "refused S2 traitor[0].asm\n"),
-        ("traitor = [1]\n", "refused S3 traitor[0]\n"),
-        ("board = [-1]\n", "refused S4 board[0]\n"),
-        (
-            "[[traitor]]\ngeneral = 4\ncode = ''\n",
-            "refused S5 traitor[0].general\n",
-        ),
-        (
-            "[[traitor]]\ngeneral = 3\ncode = 'b70000002a0000009500000000000000'\n\
-             [[traitor]]\ngeneral = 3\ncode = 'b70000002a0000009500000000000000'\n",
-            "refused S6 traitor[1].general\n",
-        ),
-        (
-            "[[traitor]]\ngeneral = 3\ncode = ''\n",
-            "refused S7 traitor 3 C8 unit 0\n",
-        ),
-        (
-            "[[traitor]]\ngeneral = 3\ncode = '9'\n",
-            "refused S7 traitor 3 hex\n",
-        ),
-        (
-            "[[traitor]]\ngeneral = 3\nasm = 'foo'\n",
-            "refused S7 traitor 3 A2 line 1\n",
-        ),
-        (
-            "[[traitor]]\ngeneral = 3\ncode = '9500000000000000'\n",
-            "refused S8 traitor 3 V5 unit 0\n",
-        ),
-    ] {
-        let text = four_with(alloc, traitors)?;
+    for &(traitors, fault) in FAULTY_TRAITORS {
+        let text = format!(in alloc; "{FOUR}{traitors}")?;
         let scenario = File::Bytes(text.as_bytes());
         row(&rt, alloc, scenario, None, (1, "", fault))?;
     }
     Ok(())
 }
 
+/// Schedules, and what is told of them.
+const FAULTY_SCHEDULES: &[(&str, &str)] = &[
+    ("13\n", "refused X1 line 1\n"),
+    ("0 1\n0  1\n", "refused X1 line 2\n"),
+    ("0*0", "refused X1 line 1\n"),
+    ("\n\n\n\n\n\n", "refused X1 line 6\n"),
+];
+
 #[test]
 fn schedules_are_refused(rt: HostRuntime) -> Result<(), Fail> {
     let alloc = rt.alloc();
-    for (schedule, fault) in [
-        (b"13\n".as_slice(), "refused X1 line 1\n"),
-        (b"0 1\n0  1\n", "refused X1 line 2\n"),
-        (b"0*0", "refused X1 line 1\n"),
-        (b"\n\n\n\n\n\n", "refused X1 line 6\n"),
-    ] {
-        let schedule = Some(File::Bytes(schedule));
-        row(&rt, alloc, File::Bytes(SWAYED), schedule, (1, "", fault))?;
+    for &(schedule, fault) in FAULTY_SCHEDULES {
+        let scenario = File::Bytes(SWAYED.as_bytes());
+        let schedule = Some(File::Bytes(schedule.as_bytes()));
+        row(&rt, alloc, scenario, schedule, (1, "", fault))?;
     }
     Ok(())
 }
+
+/// Schedules that cannot be read, are no text, or are at fault.
+const ILL_SCHEDULES: &[File<'static>] = &[File::Broken, File::Bytes(b"\xff"), File::Bytes(b"13\n")];
 
 #[test]
 fn the_scenario_is_looked_through_first(rt: HostRuntime) -> Result<(), Fail> {
     let alloc = rt.alloc();
     let refused = File::Bytes(b"generals = 14\n");
     let expected = (1, "", "refused S4 generals\n");
-    for schedule in [File::Broken, File::Bytes(b"\xff"), File::Bytes(b"13\n")] {
+    for &schedule in ILL_SCHEDULES {
         row(&rt, alloc, refused, Some(schedule), expected)?;
     }
     Ok(())
@@ -329,7 +257,7 @@ fn the_scenario_is_looked_through_first(rt: HostRuntime) -> Result<(), Fail> {
 #[test]
 fn files_at_fault_are_named(rt: HostRuntime) -> Result<(), Fail> {
     let alloc = rt.alloc();
-    let scenario = File::Bytes(SWAYED);
+    let scenario = File::Bytes(SWAYED.as_bytes());
     let expected = (1, "", "fault read c.toml\n");
     row(&rt, alloc, File::Broken, None, expected)?;
     row(&rt, alloc, File::Broken, Some(File::Broken), expected)?;
@@ -346,7 +274,15 @@ fn an_output_that_fails_is_told(rt: HostRuntime) -> Result<(), Fail> {
     let alloc = rt.alloc();
     let task = task(alloc, false)?;
     let mut complaint = Vec::new(alloc);
-    let answer = serve(&rt, alloc, &task, SWAYED, None, &mut Full, &mut complaint);
+    let answer = serve(
+        &rt,
+        alloc,
+        &task,
+        SWAYED.as_bytes(),
+        None,
+        &mut Full,
+        &mut complaint,
+    );
     assert_eq!(rt; answer, 1);
     assert_eq!(rt; complaint.as_slice(), b"fault write\n".as_slice());
     Ok(())

@@ -3,7 +3,7 @@ ghost use Rattle.std.specs.Prelude.{◌≡◌, ◌<◌, ◌≤◌, IsTrue, IfOk}
 ghost use Rattle.round.specs.Scenario.{shape_of};
 ghost use Rattle.round.specs.Told.{AreDue, AreLettersOf, AreRoundsOf};
 
-use crate::scenarios::{FOUR, played, swayed, with_traitor};
+use crate::scenarios::{FOUR, SWAYED, played, with_traitor};
 use label::Label;
 use round::{Letter, Round, Scenario, context_for, deliver, loyal_letter};
 use std::alloc::Global;
@@ -86,45 +86,47 @@ fn tells(
     Ok(())
 }
 
+/// A general of four, how many rounds are behind him, and the numbers that his context begins with.
+const TOLD_OF_FOUR: &[((u8, usize), &[u32])] = &[
+    ((0, 0), &[4, 1, 0, 0, 1, 1, 3, 0, 0x0102_0304]),
+    ((3, 0), &[4, 1, 3, 0, 1, 0, 3, 0]),
+    ((0, 1), &[4, 1, 0, 0, 2, 0, 2, 0]),
+    ((3, 1), &[4, 1, 3, 0, 2, 1, 2, 0, 0x0102_0304]),
+];
+
+/// The same where the commander tells 1 the order 7, and nobody else anything.
+const TOLD_BY_A_TRAITOR: &[((u8, usize), &[u32])] = &[
+    ((1, 1), &[4, 1, 1, 0, 2, 1, 2, 0, 7]),
+    ((2, 1), &[4, 1, 2, 0, 2, 1, 2, 0, 0]),
+];
+
 #[test]
 fn contexts_of_four_generals(rt: HostRuntime) -> Result<(), Fail> {
     let alloc = rt.alloc();
     let head = "generals = 4\nbound = 1\ncommander = 0\norder = 16909060\n";
-    for (place, numbers) in [
-        ((0, 0), [4, 1, 0, 0, 1, 1, 3, 0, 0x0102_0304].as_slice()),
-        ((3, 0), [4, 1, 3, 0, 1, 0, 3, 0].as_slice()),
-        ((0, 1), [4, 1, 0, 0, 2, 0, 2, 0].as_slice()),
-        ((3, 1), [4, 1, 3, 0, 2, 1, 2, 0, 0x0102_0304].as_slice()),
-    ] {
+    for &(place, numbers) in TOLD_OF_FOUR {
         tells(&rt, alloc, head, place, numbers)?;
     }
     let text = with_traitor(alloc, FOUR, 0, &[(1, 7)])?;
-    tells(
-        &rt,
-        alloc,
-        text.as_str(),
-        (1, 1),
-        &[4, 1, 1, 0, 2, 1, 2, 0, 7],
-    )?;
-    tells(
-        &rt,
-        alloc,
-        text.as_str(),
-        (2, 1),
-        &[4, 1, 2, 0, 2, 1, 2, 0, 0],
-    )
+    for &(place, numbers) in TOLD_BY_A_TRAITOR {
+        tells(&rt, alloc, text.as_str(), place, numbers)?;
+    }
+    Ok(())
 }
+
+/// The same of five generals.
+const TOLD_OF_FIVE: &[((u8, usize), &[u32])] = &[
+    ((4, 2), &[5, 2, 4, 1, 3, 3, 2, 0, 6, 9, 6]),
+    ((0, 2), &[5, 2, 0, 1, 3, 3, 2, 0, 0, 6, 6]),
+    ((1, 2), &[5, 2, 1, 1, 3, 0, 2, 0]),
+];
 
 #[test]
 fn contexts_of_three_rounds(rt: HostRuntime) -> Result<(), Fail> {
     let alloc = rt.alloc();
     let head = "generals = 5\nbound = 2\ncommander = 1\norder = 6\n";
     let text = with_traitor(alloc, head, 2, &[(4, 9)])?;
-    for (place, numbers) in [
-        ((4, 2), [5, 2, 4, 1, 3, 3, 2, 0, 6, 9, 6].as_slice()),
-        ((0, 2), [5, 2, 0, 1, 3, 3, 2, 0, 0, 6, 6].as_slice()),
-        ((1, 2), [5, 2, 1, 1, 3, 0, 2, 0].as_slice()),
-    ] {
+    for &(place, numbers) in TOLD_OF_FIVE {
         tells(&rt, alloc, text.as_str(), place, numbers)?;
     }
     Ok(())
@@ -154,7 +156,7 @@ fn faithful(alloc: Global, letter: &Letter) -> Result<Letter, Fail> {
 #[test]
 fn loyal_letters_follow_from_their_contexts(rt: HostRuntime) -> Result<(), Fail> {
     let alloc = rt.alloc();
-    let chronicle = played(alloc, swayed(alloc)?.as_str(), "")?;
+    let chronicle = played(alloc, SWAYED, "")?;
     for round in chronicle.letters() {
         for letter in round.letters() {
             let is_loyal = letter.program.program().is_none();
@@ -168,7 +170,7 @@ fn loyal_letters_follow_from_their_contexts(rt: HostRuntime) -> Result<(), Fail>
 #[test]
 fn each_letter_is_its_own(rt: HostRuntime) -> Result<(), Fail> {
     let alloc = rt.alloc();
-    let chronicle = played(alloc, swayed(alloc)?.as_str(), "")?;
+    let chronicle = played(alloc, SWAYED, "")?;
     for (round, letters) in chronicle.letters().iter().enumerate() {
         for letter in letters.letters() {
             for (place, others) in chronicle.letters().iter().enumerate() {
@@ -264,7 +266,7 @@ fn orders(tree: &Tree) -> [Option<u32>; 3] {
 #[test]
 fn letters_fill_a_tree(rt: HostRuntime) -> Result<(), Fail> {
     let alloc = rt.alloc();
-    let chronicle = played(alloc, swayed(alloc)?.as_str(), "")?;
+    let chronicle = played(alloc, SWAYED, "")?;
     let mut tree = Tree::new(alloc, 4, 1, 0, 1)?;
     let mut filled = Vec::new(alloc);
     for round in chronicle.letters() {

@@ -1,12 +1,13 @@
 //! Campaigns told by texts.
 
+use crate::threaded::text;
 use round::Scenario;
 use scenario::read;
 use std::alloc::Global;
 use std::fmt;
 use std::process::Abort;
 use std::test::Fail;
-use trace::{Latch, read_schedule, write_chronicle};
+use trace::read_schedule;
 use world::{Chronicle, play, replay};
 
 /// Four generals, bound 1, whose commander 0 has order 1.
@@ -18,14 +19,61 @@ pub const FOUR_RETREAT: &str = "generals = 4\nbound = 1\ncommander = 0\norder = 
 /// Three generals, bound 1, whose commander 0 has order 1.
 pub const THREE: &str = "generals = 3\nbound = 1\ncommander = 0\norder = 1\n";
 
-/// Seven generals, bound 2, whose commander 0 has order 0.
-pub const SEVEN: &str = "generals = 7\nbound = 2\ncommander = 0\norder = 0\n";
-
 /// Thirteen generals, bound 4, whose commander 0 has order 1.
 pub const THIRTEEN: &str = "generals = 13\nbound = 4\ncommander = 0\norder = 1\n";
 
-/// The program that counts its access on the board, and tells 1, 2 and 3 whether the count was odd: 15 instructions.
-const COUNTING: &str = "mov r1, 0
+/// Four generals, of whom 3 tells 1 and 2 to retreat, though the order is to attack.
+pub(crate) const SWAYED: &str = "generals = 4
+bound = 1
+commander = 0
+order = 1
+
+[[traitor]]
+general = 3
+asm = '''
+mov r1, 1
+mov r2, 0
+call sway
+mov r1, 2
+mov r2, 0
+call sway
+exit
+'''
+";
+
+/// The chronicle of that campaign.
+pub(crate) const SWAYED_CHRONICLE: &str = "chronicle 1
+generals 4 bound 1 commander 0 order 1
+round 1
+letter 0 loyal
+row 0 1 1 1
+letter 1 loyal
+letter 2 loyal
+letter 3 steps 7
+round 2
+letter 0 loyal
+letter 1 loyal
+row 0 1 1
+letter 2 loyal
+row 0 1 1
+letter 3 steps 7
+row 0 0 0
+decision 1 1
+decision 2 1
+decision 3 traitor 1
+verdict alike yes obeyed yes bound yes
+";
+
+/// Seven generals, of whom 0 and 4 count on the board who comes first, and tell 1, 2 and 3 whether they came second.
+pub(crate) const COLLUSION: &str = "generals = 7
+bound = 2
+commander = 0
+order = 0
+
+[[traitor]]
+general = 0
+asm = '''
+mov r1, 0
 mov r2, 1
 call board_add
 mov r6, r0
@@ -40,6 +88,45 @@ mov r1, 3
 mov r2, r6
 call sway
 exit
+'''
+
+[[traitor]]
+general = 4
+asm = '''
+mov r1, 0
+mov r2, 1
+call board_add
+mov r6, r0
+and r6, 1
+mov r1, 1
+mov r2, r6
+call sway
+mov r1, 2
+mov r2, r6
+call sway
+mov r1, 3
+mov r2, r6
+call sway
+exit
+'''
+";
+
+/// Seven generals, of whom 5 swaps word 5 of the board for 1, and then gets word 6: six instructions.
+pub(crate) const SPYING: &str = "generals = 7
+bound = 2
+commander = 0
+order = 0
+
+[[traitor]]
+general = 5
+asm = '''
+mov r1, 5
+mov r2, 1
+call board_swap
+mov r1, 6
+call board_get
+exit
+'''
 ";
 
 /// The table of a traitor who tells each of these receivers this order of all that he relays.
@@ -73,50 +160,20 @@ pub(crate) fn with_traitor(
     Ok(format!(in alloc; "{head}{traitor}")?)
 }
 
-/// The program that swaps word 5 of the board for 1, and then gets word 6: six instructions.
-const SPYING: &str = "mov r1, 5
-mov r2, 1
-call board_swap
-mov r1, 6
-call board_get
-exit
-";
-
-/// The text of a campaign in which these generals have this program.
-fn with_program(alloc: Global, head: &str, program: &str, generals: &[u8]) -> Result<String, Fail> {
-    let mut text = String::from_str(alloc, head)?;
-    for general in generals {
-        let table = format!(in alloc;
-            "[[traitor]]\ngeneral = {general}\nasm = '''\n{program}'''\n"
-        )?;
-        text.push_str(table.as_str())?;
-    }
-    Ok(text)
-}
-
-/// The text of a campaign in which 0 and 4 tell 1, 2 and 3 whether they came to the board second.
-pub(crate) fn counted(alloc: Global, head: &str) -> Result<String, Fail> {
-    with_program(alloc, head, COUNTING, &[0, 4])
-}
-
-/// The text of a campaign in which 5 swaps a word of the board, and gets another.
-pub(crate) fn spying(alloc: Global) -> Result<String, Fail> {
-    with_program(alloc, SEVEN, SPYING, &[5])
-}
-
 /// The text of a campaign in which 9 to 12 take 4,096 steps and tell nothing.
 pub(crate) fn idle(alloc: Global) -> Result<String, Fail> {
     let mut program = String::new(alloc);
     for _ in 0..4095 {
         program.push_str("mov r0, 0\n")?;
     }
-    program.push_str("exit\n")?;
-    with_program(alloc, THIRTEEN, program.as_str(), &[9, 10, 11, 12])
-}
-
-/// Four generals of whom 3 tells 1 and 2 to retreat, though the order is to attack.
-pub(crate) fn swayed(alloc: Global) -> Result<String, Fail> {
-    with_traitor(alloc, FOUR, 3, &[(1, 0), (2, 0)])
+    let mut text = String::from_str(alloc, THIRTEEN)?;
+    for general in 9..13u8 {
+        let table = format!(in alloc;
+            "[[traitor]]\ngeneral = {general}\nasm = '''\n{program}exit\n'''\n"
+        )?;
+        text.push_str(table.as_str())?;
+    }
+    Ok(text)
 }
 
 /// The campaign that a text tells.
@@ -148,9 +205,7 @@ pub(crate) fn reads(
     chronicle: &Chronicle,
     expected: &str,
 ) -> Result<(), Fail> {
-    let mut sink = Latch::new(Vec::new(alloc));
-    write_chronicle(chronicle, &mut sink)?;
-    let bytes = sink.into_writer();
+    let bytes = text(alloc, chronicle)?;
     assert_eq!(rt; std::str::from_utf8(bytes.as_slice())?, expected);
     Ok(())
 }

@@ -1,6 +1,6 @@
 //! The world, event by event.
 
-use crate::scenarios::{FOUR, swayed, told, with_traitor};
+use crate::scenarios::{FOUR, SWAYED, told, with_traitor};
 use std::alloc::Global;
 use std::process::Abort;
 use std::test::Fail;
@@ -38,7 +38,7 @@ const TICKS: [Event; 7] = [Event::Tick(3); 7];
 #[test]
 fn events_of_nobody_are_refused(rt: HostRuntime) -> Result<(), Fail> {
     let alloc = rt.alloc();
-    let mut world = World::open(alloc, told(alloc, swayed(alloc)?.as_str())?)?;
+    let mut world = World::open(alloc, told(alloc, SWAYED)?)?;
     let strange = [Event::Tick(0), Event::Post(3), Event::Post(12)];
     refused(&rt, alloc, &mut world, &strange, EventError::NoGeneral);
     happen(alloc, &mut world, &TICKS)?;

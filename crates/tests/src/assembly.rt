@@ -4,34 +4,37 @@ use asm::{assemble, disassemble};
 use std::fmt::Display;
 use std::test::Fail;
 
+/// Texts, and their refusal: code and line; nothing for a program.
+const REFUSALS: &[(&str, &str)] = &[
+    ("", "A7 line 1"),
+    ("mov r11, 0", "A3 line 1"),
+    ("foo r0", "A2 line 1"),
+    ("mov r0, 2147483648", "A6 line 1"),
+    ("ja nowhere\nexit", "A4 line 1"),
+    ("a: exit\na: exit", "A5 line 2"),
+    ("; nothing\n\n", "A7 line 2"),
+    ("ja +40000\nfoo", "A2 line 2"),
+    ("ja +40000\nexit", "A6 line 1"),
+    // outlines come before kinds
+    ("mov r0 0", "A1 line 1"),
+    ("mov r0,,0", "A1 line 1"),
+    ("mov! r0", "A1 line 1"),
+    ("exit\r", "A1 line 1"),
+    ("ldb r0, [r10 - 8]", "A1 line 1"),
+    ("mov.x r0, 0", "A2 line 1"),
+    ("MOV r0, 0", "A2 line 1"),
+    ("mov R0, 0", "A3 line 1"),
+    ("exit 0", "A3 line 1"),
+    ("mov r0, b:", "A3 line 1"),
+    ("ja 3", "A3 line 1"),
+    ("exit\r\n\ta_1:exit ; \u{e9}\r\n", ""),
+];
+
 /// The texts have these refusals: code and line; nothing for a program.
 #[test]
 fn refusals_have_their_code_and_line(rt: HostRuntime) -> Result<(), Fail> {
     let alloc = rt.alloc();
-    for (text, refusal) in [
-        ("", "A7 line 1"),
-        ("mov r11, 0", "A3 line 1"),
-        ("foo r0", "A2 line 1"),
-        ("mov r0, 2147483648", "A6 line 1"),
-        ("ja nowhere\nexit", "A4 line 1"),
-        ("a: exit\na: exit", "A5 line 2"),
-        ("; nothing\n\n", "A7 line 2"),
-        ("ja +40000\nfoo", "A2 line 2"),
-        ("ja +40000\nexit", "A6 line 1"),
-        // outlines come before kinds
-        ("mov r0 0", "A1 line 1"),
-        ("mov r0,,0", "A1 line 1"),
-        ("mov! r0", "A1 line 1"),
-        ("exit\r", "A1 line 1"),
-        ("ldb r0, [r10 - 8]", "A1 line 1"),
-        ("mov.x r0, 0", "A2 line 1"),
-        ("MOV r0, 0", "A2 line 1"),
-        ("mov R0, 0", "A3 line 1"),
-        ("exit 0", "A3 line 1"),
-        ("mov r0, b:", "A3 line 1"),
-        ("ja 3", "A3 line 1"),
-        ("exit\r\n\ta_1:exit ; \u{e9}\r\n", ""),
-    ] {
+    for &(text, refusal) in REFUSALS {
         let told = match assemble(alloc, text) {
             Ok(_) => String::new(alloc),
             Err(error) => error.to_string(alloc)?,

@@ -54,41 +54,47 @@ on:     xor r4, 8
         exit
 ";
 
+/// Programs, and what is answered.
+const BOUNDED: &[(&str, &str)] = &[
+    (ONE_BIT, "accepted 9 instructions 9 units\nr0 0 steps 9\n"),
+    (
+        ONE_BIT_TESTED,
+        "accepted 8 instructions 8 units\nr0 0 steps 6\n",
+    ),
+    (EQUAL_BITS, "V9 unit 7"),
+    (
+        JOINED_BITS,
+        "accepted 11 instructions 11 units\nr0 0 steps 10\n",
+    ),
+];
+
 #[test]
 fn known_bits_bound_numbers(rt: HostRuntime) -> Result<(), Fail> {
-    for (text, answer) in [
-        (ONE_BIT, "accepted 9 instructions 9 units\nr0 0 steps 9\n"),
-        (
-            ONE_BIT_TESTED,
-            "accepted 8 instructions 8 units\nr0 0 steps 6\n",
-        ),
-        (EQUAL_BITS, "V9 unit 7"),
-        (
-            JOINED_BITS,
-            "accepted 11 instructions 11 units\nr0 0 steps 10\n",
-        ),
-    ] {
+    for &(text, answer) in BOUNDED {
         let answered = verdict(&rt, rt.alloc(), text)?;
         assert_eq!(rt; answered.as_str(), answer);
     }
     Ok(())
 }
 
+/// What stands in place of the operation on the bit, and what is answered.
+const OPERATIONS: &[(&str, &str)] = &[
+    (
+        "xor.w r2, 8",
+        "accepted 9 instructions 9 units\nr0 0 steps 9\n",
+    ),
+    (
+        "or r2, 8",
+        "accepted 9 instructions 9 units\nr0 0 steps 9\n",
+    ),
+    ("neg r2", "V7 unit 5"),
+    ("xor r2, 16", "V8 unit 6"),
+];
+
 #[test]
 fn known_bits_of_an_operation(rt: HostRuntime) -> Result<(), Fail> {
     let alloc = rt.alloc();
-    for (operation, answer) in [
-        (
-            "xor.w r2, 8",
-            "accepted 9 instructions 9 units\nr0 0 steps 9\n",
-        ),
-        (
-            "or r2, 8",
-            "accepted 9 instructions 9 units\nr0 0 steps 9\n",
-        ),
-        ("neg r2", "V7 unit 5"),
-        ("xor r2, 16", "V8 unit 6"),
-    ] {
+    for &(operation, answer) in OPERATIONS {
         let text = ONE_BIT.replace(alloc, "xor r2, 8", operation)?;
         let answered = verdict(&rt, alloc, text.as_str())?;
         assert_eq!(rt; answered.as_str(), answer);
@@ -96,21 +102,24 @@ fn known_bits_of_an_operation(rt: HostRuntime) -> Result<(), Fail> {
     Ok(())
 }
 
+/// What stands in place of the comparison, and what is answered.
+const COMPARISONS: &[(&str, &str)] = &[
+    (
+        "jeq r2, 4",
+        "accepted 8 instructions 8 units\nr0 0 steps 6\n",
+    ),
+    (
+        "jeq.w r2, 4",
+        "accepted 8 instructions 8 units\nr0 0 steps 6\n",
+    ),
+    ("jset r2, 4", "V9 unit 6"),
+    ("jeq r2, 8", "V9 unit 6"),
+];
+
 #[test]
 fn known_bits_on_edges(rt: HostRuntime) -> Result<(), Fail> {
     let alloc = rt.alloc();
-    for (comparison, answer) in [
-        (
-            "jeq r2, 4",
-            "accepted 8 instructions 8 units\nr0 0 steps 6\n",
-        ),
-        (
-            "jeq.w r2, 4",
-            "accepted 8 instructions 8 units\nr0 0 steps 6\n",
-        ),
-        ("jset r2, 4", "V9 unit 6"),
-        ("jeq r2, 8", "V9 unit 6"),
-    ] {
+    for &(comparison, answer) in COMPARISONS {
         let text = ONE_BIT_TESTED.replace(alloc, "jgt r2, 8", comparison)?;
         let answered = verdict(&rt, alloc, text.as_str())?;
         assert_eq!(rt; answered.as_str(), answer);

@@ -215,45 +215,51 @@ pub(crate) fn verdict(rt: &impl Abort, alloc: Global, text: &str) -> Result<Stri
     }
 }
 
+/// Programs that are accepted, and what is printed.
+const ACCEPTED: &[(&str, &str)] = &[
+    (ANSWER, "accepted 2 instructions 2 units\nr0 42 steps 2\n"),
+    (LARGER, "accepted 6 instructions 6 units\nr0 3 steps 6\n"),
+    (REMAINDER, "accepted 3 instructions 4 units\nr0 5 steps 3\n"),
+    (SPILL, "accepted 4 instructions 4 units\nr0 4 steps 4\n"),
+    (TESTED, "accepted 8 instructions 8 units\nr0 0 steps 8\n"),
+    (MASKED, "accepted 8 instructions 8 units\nr0 0 steps 8\n"),
+    (JOINED, "accepted 10 instructions 10 units\nr0 4 steps 9\n"),
+    (SKIPPED, "accepted 5 instructions 5 units\nr0 0 steps 4\n"),
+];
+
 #[test]
 fn programs_of_the_page_are_accepted(rt: HostRuntime) -> Result<(), Fail> {
-    for (text, lines) in [
-        (ANSWER, "accepted 2 instructions 2 units\nr0 42 steps 2\n"),
-        (LARGER, "accepted 6 instructions 6 units\nr0 3 steps 6\n"),
-        (REMAINDER, "accepted 3 instructions 4 units\nr0 5 steps 3\n"),
-        (SPILL, "accepted 4 instructions 4 units\nr0 4 steps 4\n"),
-        (TESTED, "accepted 8 instructions 8 units\nr0 0 steps 8\n"),
-        (MASKED, "accepted 8 instructions 8 units\nr0 0 steps 8\n"),
-        (JOINED, "accepted 10 instructions 10 units\nr0 4 steps 9\n"),
-        (SKIPPED, "accepted 5 instructions 5 units\nr0 0 steps 4\n"),
-    ] {
+    for &(text, lines) in ACCEPTED {
         let answered = verdict(&rt, rt.alloc(), text)?;
         assert_eq!(rt; answered.as_str(), lines);
     }
     Ok(())
 }
 
+/// Programs that are refused, and why.
+const REFUSED: &[(&str, &str)] = &[
+    (BACK_JUMP, "V1 unit 1"),
+    (JUMP_OUT, "V2 unit 1"),
+    (JUMP_IN_WIDE, "V3 unit 0"),
+    (NO_EXIT, "V4 unit 0"),
+    (UNSET, "V5 unit 3"),
+    (FRAME_WRITE, "V6 unit 0"),
+    (FAR_POINTER, "V7 unit 0"),
+    (NUMBER_AS_POINTER, "V7 unit 1"),
+    (POINTER_COMPARED, "V7 unit 1"),
+    (LOW_HALF_TESTED, "V7 unit 5"),
+    (SIGNED_HALF_TESTED, "V7 unit 5"),
+    (ABOVE_STACK, "V8 unit 0"),
+    (WIDE_MASK, "V8 unit 5"),
+    (EMPTY_CELLS, "V9 unit 1"),
+    (PART_OF_POINTER, "V9 unit 1"),
+    (CONTEXT_WRITE, "V10 unit 0"),
+    (POINTER_OUT, "V13 unit 1"),
+];
+
 #[test]
 fn programs_of_the_page_are_refused(rt: HostRuntime) -> Result<(), Fail> {
-    for (text, refusal) in [
-        (BACK_JUMP, "V1 unit 1"),
-        (JUMP_OUT, "V2 unit 1"),
-        (JUMP_IN_WIDE, "V3 unit 0"),
-        (NO_EXIT, "V4 unit 0"),
-        (UNSET, "V5 unit 3"),
-        (FRAME_WRITE, "V6 unit 0"),
-        (FAR_POINTER, "V7 unit 0"),
-        (NUMBER_AS_POINTER, "V7 unit 1"),
-        (POINTER_COMPARED, "V7 unit 1"),
-        (LOW_HALF_TESTED, "V7 unit 5"),
-        (SIGNED_HALF_TESTED, "V7 unit 5"),
-        (ABOVE_STACK, "V8 unit 0"),
-        (WIDE_MASK, "V8 unit 5"),
-        (EMPTY_CELLS, "V9 unit 1"),
-        (PART_OF_POINTER, "V9 unit 1"),
-        (CONTEXT_WRITE, "V10 unit 0"),
-        (POINTER_OUT, "V13 unit 1"),
-    ] {
+    for &(text, refusal) in REFUSED {
         let answered = verdict(&rt, rt.alloc(), text)?;
         assert_eq!(rt; answered.as_str(), refusal);
     }

@@ -185,50 +185,56 @@ const COPY_TO_CONTEXT: &str = "; V10: the words would be written to the context.
         exit
 ";
 
+/// Programs that are accepted, and what is printed.
+const ACCEPTED: &[(&str, &str)] = &[
+    (
+        BOARD_MASK,
+        "accepted 10 instructions 10 units\nr0 0 steps 10\n",
+    ),
+    (
+        BOARD_SLOT,
+        "accepted 6 instructions 6 units\nr0 0 steps 6\n",
+    ),
+    (
+        BOARD_COPY,
+        "accepted 7 instructions 7 units\nr0 0 steps 7\n",
+    ),
+    (
+        BOARD_CAS,
+        "accepted 10 instructions 10 units\nr0 9 steps 10\n",
+    ),
+    (BOARD_ADD, "accepted 7 instructions 7 units\nr0 1 steps 7\n"),
+    (SEND, "accepted 5 instructions 5 units\nr0 1 steps 5\n"),
+    (SEND_ROW, "accepted 9 instructions 9 units\nr0 0 steps 9\n"),
+    (SWAY, "accepted 4 instructions 4 units\nr0 0 steps 4\n"),
+    (HONEST, "accepted 8 instructions 8 units\nr0 0 steps 8\n"),
+];
+
 #[test]
 fn programs_with_calls_are_accepted(rt: HostRuntime) -> Result<(), Fail> {
-    for (text, lines) in [
-        (
-            BOARD_MASK,
-            "accepted 10 instructions 10 units\nr0 0 steps 10\n",
-        ),
-        (
-            BOARD_SLOT,
-            "accepted 6 instructions 6 units\nr0 0 steps 6\n",
-        ),
-        (
-            BOARD_COPY,
-            "accepted 7 instructions 7 units\nr0 0 steps 7\n",
-        ),
-        (
-            BOARD_CAS,
-            "accepted 10 instructions 10 units\nr0 9 steps 10\n",
-        ),
-        (BOARD_ADD, "accepted 7 instructions 7 units\nr0 1 steps 7\n"),
-        (SEND, "accepted 5 instructions 5 units\nr0 1 steps 5\n"),
-        (SEND_ROW, "accepted 9 instructions 9 units\nr0 0 steps 9\n"),
-        (SWAY, "accepted 4 instructions 4 units\nr0 0 steps 4\n"),
-        (HONEST, "accepted 8 instructions 8 units\nr0 0 steps 8\n"),
-    ] {
+    for &(text, lines) in ACCEPTED {
         let answered = verdict(&rt, rt.alloc(), text)?;
         assert_eq!(rt; answered.as_str(), lines);
     }
     Ok(())
 }
 
+/// Programs that are refused, and why.
+const REFUSED: &[(&str, &str)] = &[
+    (NO_HELPER, "V11 unit 1"),
+    (FAR_SLOT, "V12 unit 1"),
+    (LOW_HALF_SLOT, "V12 unit 4"),
+    (COPY_PAST_BOARD, "V12 unit 4"),
+    (COPY_PAST_STACK, "V8 unit 4"),
+    (BOARD_WIDE_MASK, "V8 unit 7"),
+    (ROW_PAST_CELLS, "V9 unit 7"),
+    (ARGUMENT_GONE, "V5 unit 2"),
+    (COPY_TO_CONTEXT, "V10 unit 3"),
+];
+
 #[test]
 fn programs_with_calls_are_refused(rt: HostRuntime) -> Result<(), Fail> {
-    for (text, refusal) in [
-        (NO_HELPER, "V11 unit 1"),
-        (FAR_SLOT, "V12 unit 1"),
-        (LOW_HALF_SLOT, "V12 unit 4"),
-        (COPY_PAST_BOARD, "V12 unit 4"),
-        (COPY_PAST_STACK, "V8 unit 4"),
-        (BOARD_WIDE_MASK, "V8 unit 7"),
-        (ROW_PAST_CELLS, "V9 unit 7"),
-        (ARGUMENT_GONE, "V5 unit 2"),
-        (COPY_TO_CONTEXT, "V10 unit 3"),
-    ] {
+    for &(text, refusal) in REFUSED {
         let answered = verdict(&rt, rt.alloc(), text)?;
         assert_eq!(rt; answered.as_str(), refusal);
     }

@@ -39,200 +39,215 @@ fn run(
     row(rt, alloc, &task, bytes.as_slice(), (0, lines, ""))
 }
 
+/// Bytecode in hex, and what is printed.
+const PROGRAMS: &[(&str, &str)] = &[
+    (
+        "b70000002a0000009500000000000000",
+        "accepted 2 instructions 2 units\nr0 42 steps 2\n",
+    ),
+    (
+        "b70000000000000005000000000000009500000000000000",
+        "accepted 3 instructions 3 units\nr0 0 steps 3\n",
+    ),
+    (
+        "b7000000ffffffff07000000020000009500000000000000",
+        "accepted 3 instructions 3 units\nr0 1 steps 3\n",
+    ),
+    (
+        "b700000001000000b7010000ffffffff6d10010000000000b7000000070000009500000000000000",
+        "accepted 5 instructions 5 units\nr0 1 steps 4\n",
+    ),
+    (
+        "b70000000100000067000000410000009500000000000000",
+        "accepted 3 instructions 3 units\nr0 2 steps 3\n",
+    ),
+    (
+        "18000000887766550000000044332211dc000000100000009500000000000000",
+        "accepted 3 instructions 4 units\nr0 34935 steps 3\n",
+    ),
+    (
+        "b701000080000000bf100800000000009500000000000000",
+        "accepted 3 instructions 3 units\nr0 18446744073709551488 steps 3\n",
+    ),
+];
+
 #[test]
 fn accepted_programs_are_run(rt: HostRuntime) -> Result<(), Fail> {
-    for (code, lines) in [
-        (
-            "b70000002a0000009500000000000000",
-            "accepted 2 instructions 2 units\nr0 42 steps 2\n",
-        ),
-        (
-            "b70000000000000005000000000000009500000000000000",
-            "accepted 3 instructions 3 units\nr0 0 steps 3\n",
-        ),
-        (
-            "b7000000ffffffff07000000020000009500000000000000",
-            "accepted 3 instructions 3 units\nr0 1 steps 3\n",
-        ),
-        (
-            "b700000001000000b7010000ffffffff6d10010000000000b7000000070000009500000000000000",
-            "accepted 5 instructions 5 units\nr0 1 steps 4\n",
-        ),
-        (
-            "b70000000100000067000000410000009500000000000000",
-            "accepted 3 instructions 3 units\nr0 2 steps 3\n",
-        ),
-        (
-            "18000000887766550000000044332211dc000000100000009500000000000000",
-            "accepted 3 instructions 4 units\nr0 34935 steps 3\n",
-        ),
-        (
-            "b701000080000000bf100800000000009500000000000000",
-            "accepted 3 instructions 3 units\nr0 18446744073709551488 steps 3\n",
-        ),
-    ] {
+    for &(code, lines) in PROGRAMS {
         run(&rt, rt.alloc(), code, lines)?;
     }
     Ok(())
 }
+
+/// Divisions by zero and overflows in hex, and what is printed.
+const DIVISIONS: &[(&str, &str)] = &[
+    (
+        "b700000005000000b7010000000000003f100000000000009500000000000000",
+        "accepted 4 instructions 4 units\nr0 0 steps 4\n",
+    ),
+    (
+        "1800000005000000000000000100000097000000000000009500000000000000",
+        "accepted 3 instructions 4 units\nr0 4294967301 steps 3\n",
+    ),
+    (
+        "1800000005000000000000000100000034000000000000009500000000000000",
+        "accepted 3 instructions 4 units\nr0 0 steps 3\n",
+    ),
+    (
+        "1800000000000000000000000000008037000100ffffffff9500000000000000",
+        "accepted 3 instructions 4 units\nr0 9223372036854775808 steps 3\n",
+    ),
+    (
+        "1800000000000000000000000000008097000100ffffffff9500000000000000",
+        "accepted 3 instructions 4 units\nr0 0 steps 3\n",
+    ),
+    (
+        "1800000000000080000000000000000034000100ffffffff9500000000000000",
+        "accepted 3 instructions 4 units\nr0 2147483648 steps 3\n",
+    ),
+    (
+        "1800000000000080000000000000000094000100ffffffff9500000000000000",
+        "accepted 3 instructions 4 units\nr0 0 steps 3\n",
+    ),
+    (
+        "b7000000f3ffffff97000100030000009500000000000000",
+        "accepted 3 instructions 3 units\nr0 18446744073709551615 steps 3\n",
+    ),
+];
 
 #[test]
 fn division_by_zero_and_overflow_are_run(rt: HostRuntime) -> Result<(), Fail> {
-    for (code, lines) in [
-        (
-            "b700000005000000b7010000000000003f100000000000009500000000000000",
-            "accepted 4 instructions 4 units\nr0 0 steps 4\n",
-        ),
-        (
-            "1800000005000000000000000100000097000000000000009500000000000000",
-            "accepted 3 instructions 4 units\nr0 4294967301 steps 3\n",
-        ),
-        (
-            "1800000005000000000000000100000034000000000000009500000000000000",
-            "accepted 3 instructions 4 units\nr0 0 steps 3\n",
-        ),
-        (
-            "1800000000000000000000000000008037000100ffffffff9500000000000000",
-            "accepted 3 instructions 4 units\nr0 9223372036854775808 steps 3\n",
-        ),
-        (
-            "1800000000000000000000000000008097000100ffffffff9500000000000000",
-            "accepted 3 instructions 4 units\nr0 0 steps 3\n",
-        ),
-        (
-            "1800000000000080000000000000000034000100ffffffff9500000000000000",
-            "accepted 3 instructions 4 units\nr0 2147483648 steps 3\n",
-        ),
-        (
-            "1800000000000080000000000000000094000100ffffffff9500000000000000",
-            "accepted 3 instructions 4 units\nr0 0 steps 3\n",
-        ),
-        (
-            "b7000000f3ffffff97000100030000009500000000000000",
-            "accepted 3 instructions 3 units\nr0 18446744073709551615 steps 3\n",
-        ),
-    ] {
+    for &(code, lines) in DIVISIONS {
         run(&rt, rt.alloc(), code, lines)?;
     }
     Ok(())
 }
 
+/// Bytecode that uses the stack, the context and helpers, in hex, and what is printed.
+const MEMORY_AND_CALLS: &[(&str, &str)] = &[
+    (
+        "7b1af8ff0000000079a2f8ff0000000061200000000000009500000000000000",
+        "accepted 4 instructions 4 units\nr0 4 steps 4\n",
+    ),
+    (
+        "7912200000000000b7000000000000002502040007000000bfa300000000000007030000f8ffffff0f2300000000000072030000010000009500000000000000",
+        "accepted 8 instructions 8 units\nr0 0 steps 8\n",
+    ),
+    (
+        "b70100003c000000bfa200000000000007020000e0ffffffb703000004000000850000000500000079a0e0ff000000009500000000000000",
+        "accepted 7 instructions 7 units\nr0 0 steps 7\n",
+    ),
+    (
+        "b701000000000000b7020000050000008500000002000000b701000000000000b702000005000000b7030000090000008500000004000000b70100000000000085000000010000009500000000000000",
+        "accepted 10 instructions 10 units\nr0 9 steps 10\n",
+    ),
+    (
+        "b701000000000000b702000001000000b70300000100000085000000060000009500000000000000",
+        "accepted 5 instructions 5 units\nr0 1 steps 5\n",
+    ),
+    (
+        "7b1af0ff00000000b701000000000000bfa200000000000007020000f4ffffffb703000000000000850000000500000079a1f0ff0000000061100000000000009500000000000000",
+        "accepted 9 instructions 9 units\nr0 4 steps 9\n",
+    ),
+];
+
 #[test]
 fn programs_with_memory_and_calls_are_run(rt: HostRuntime) -> Result<(), Fail> {
-    for (code, lines) in [
-        (
-            "7b1af8ff0000000079a2f8ff0000000061200000000000009500000000000000",
-            "accepted 4 instructions 4 units\nr0 4 steps 4\n",
-        ),
-        (
-            "7912200000000000b7000000000000002502040007000000bfa300000000000007030000f8ffffff0f2300000000000072030000010000009500000000000000",
-            "accepted 8 instructions 8 units\nr0 0 steps 8\n",
-        ),
-        (
-            "b70100003c000000bfa200000000000007020000e0ffffffb703000004000000850000000500000079a0e0ff000000009500000000000000",
-            "accepted 7 instructions 7 units\nr0 0 steps 7\n",
-        ),
-        (
-            "b701000000000000b7020000050000008500000002000000b701000000000000b702000005000000b7030000090000008500000004000000b70100000000000085000000010000009500000000000000",
-            "accepted 10 instructions 10 units\nr0 9 steps 10\n",
-        ),
-        (
-            "b701000000000000b702000001000000b70300000100000085000000060000009500000000000000",
-            "accepted 5 instructions 5 units\nr0 1 steps 5\n",
-        ),
-        (
-            "7b1af0ff00000000b701000000000000bfa200000000000007020000f4ffffffb703000000000000850000000500000079a1f0ff0000000061100000000000009500000000000000",
-            "accepted 9 instructions 9 units\nr0 4 steps 9\n",
-        ),
-    ] {
+    for &(code, lines) in MEMORY_AND_CALLS {
         run(&rt, rt.alloc(), code, lines)?;
     }
     Ok(())
 }
+
+/// Bytecode in hex, and what is told of it.
+const REFUSALS: &[(&str, &str)] = &[
+    ("9500000000000000", "refused V5 unit 0\n"),
+    ("0500ffff000000009500000000000000", "refused V1 unit 0\n"),
+    (
+        "0500010000000000180000000100000000000000000000009500000000000000",
+        "refused V3 unit 0\n",
+    ),
+    ("b700000000000000", "refused V4 unit 0\n"),
+    ("", "refused C8 unit 0\n"),
+    // a cut wide instruction: its first half is looked at first
+    ("181b000000000000", "refused C5 unit 0\n"),
+    ("18b1000000000000", "refused C6 unit 0\n"),
+    ("1801010000000000", "refused C3 unit 0\n"),
+    // an offset that chooses nothing, one that is unused, and a field behind a wide instruction
+    ("bf21010000000000", "refused C7 unit 0\n"),
+    ("b701080000000000", "refused C3 unit 0\n"),
+    (
+        "180100000000000000000000000000008701010000000000",
+        "refused C3 unit 2\n",
+    ),
+    ("000000000000000000000000", "refused C1 unit 1\n"),
+    ("b70000002a00000095000000", "refused C1 unit 1\n"),
+    ("1801000000000000", "refused C4 unit 0\n"),
+    ("db00000000000000", "refused C6 unit 0\n"),
+    ("9500000001000000", "refused C3 unit 0\n"),
+    ("bf0b000000000000", "refused C5 unit 0\n"),
+    ("07010000443322119500000000000000", "refused V7 unit 0\n"),
+    ("79a0f8ff000000009500000000000000", "refused V9 unit 0\n"),
+    (
+        "720af8ff0100000079a0f8ff000000009500000000000000",
+        "refused V9 unit 1\n",
+    ),
+    (
+        "7b1af8ff0000000061a0f8ff000000009500000000000000",
+        "refused V9 unit 1\n",
+    ),
+    ("79a0fcff000000009500000000000000", "refused V8 unit 0\n"),
+    ("b70a0000000000009500000000000000", "refused V6 unit 0\n"),
+    ("bf100000000000009500000000000000", "refused V13 unit 1\n"),
+    ("0000000000000000", "refused C2 unit 0\n"),
+    (
+        "b70200000000000071200000000000009500000000000000",
+        "refused V7 unit 1\n",
+    ),
+    ("85000000010000009500000000000000", "refused V12 unit 0\n"),
+    (
+        "7912200000000000b7000000000000002602040007000000bfa300000000000007030000f8ffffff0f2300000000000072030000010000009500000000000000",
+        "refused V7 unit 5\n",
+    ),
+    ("72010000010000009500000000000000", "refused V10 unit 0\n"),
+    (
+        "b701000000000000850000000c0000009500000000000000",
+        "refused V11 unit 1\n",
+    ),
+    (
+        "b701000001000000b702000002000000850000000a0000009500000000000000",
+        "refused V11 unit 2\n",
+    ),
+];
 
 #[test]
 fn refusals_name_their_place(rt: HostRuntime) -> Result<(), Fail> {
     let alloc = rt.alloc();
     let task = Task::Check(String::from_str(alloc, "p.bin")?);
-    for (code, line) in [
-        ("9500000000000000", "refused V5 unit 0\n"),
-        ("0500ffff000000009500000000000000", "refused V1 unit 0\n"),
-        (
-            "0500010000000000180000000100000000000000000000009500000000000000",
-            "refused V3 unit 0\n",
-        ),
-        ("b700000000000000", "refused V4 unit 0\n"),
-        ("", "refused C8 unit 0\n"),
-        // a cut wide instruction: its first half is looked at first
-        ("181b000000000000", "refused C5 unit 0\n"),
-        ("18b1000000000000", "refused C6 unit 0\n"),
-        ("1801010000000000", "refused C3 unit 0\n"),
-        // an offset that chooses nothing, one that is unused, and a field behind a wide instruction
-        ("bf21010000000000", "refused C7 unit 0\n"),
-        ("b701080000000000", "refused C3 unit 0\n"),
-        (
-            "180100000000000000000000000000008701010000000000",
-            "refused C3 unit 2\n",
-        ),
-        ("000000000000000000000000", "refused C1 unit 1\n"),
-        ("b70000002a00000095000000", "refused C1 unit 1\n"),
-        ("1801000000000000", "refused C4 unit 0\n"),
-        ("db00000000000000", "refused C6 unit 0\n"),
-        ("9500000001000000", "refused C3 unit 0\n"),
-        ("bf0b000000000000", "refused C5 unit 0\n"),
-        ("07010000443322119500000000000000", "refused V7 unit 0\n"),
-        ("79a0f8ff000000009500000000000000", "refused V9 unit 0\n"),
-        (
-            "720af8ff0100000079a0f8ff000000009500000000000000",
-            "refused V9 unit 1\n",
-        ),
-        (
-            "7b1af8ff0000000061a0f8ff000000009500000000000000",
-            "refused V9 unit 1\n",
-        ),
-        ("79a0fcff000000009500000000000000", "refused V8 unit 0\n"),
-        ("b70a0000000000009500000000000000", "refused V6 unit 0\n"),
-        ("bf100000000000009500000000000000", "refused V13 unit 1\n"),
-        ("0000000000000000", "refused C2 unit 0\n"),
-        (
-            "b70200000000000071200000000000009500000000000000",
-            "refused V7 unit 1\n",
-        ),
-        ("85000000010000009500000000000000", "refused V12 unit 0\n"),
-        (
-            "7912200000000000b7000000000000002602040007000000bfa300000000000007030000f8ffffff0f2300000000000072030000010000009500000000000000",
-            "refused V7 unit 5\n",
-        ),
-        ("72010000010000009500000000000000", "refused V10 unit 0\n"),
-        (
-            "b701000000000000850000000c0000009500000000000000",
-            "refused V11 unit 1\n",
-        ),
-        (
-            "b701000001000000b702000002000000850000000a0000009500000000000000",
-            "refused V11 unit 2\n",
-        ),
-    ] {
+    for &(code, line) in REFUSALS {
         let bytes = hex::decode(alloc, code)?;
         row(&rt, alloc, &task, bytes.as_slice(), (1, "", line))?;
     }
     Ok(())
 }
 
+/// Bytecode in hex that is accepted for what is known of single bits, and what is printed.
+const KNOWN_BITS: &[(&str, &str)] = &[
+    (
+        "79122000000000005702000008000000a702000008000000bfa300000000000007030000f7ffffff0f230000000000007203000001000000b7000000000000009500000000000000",
+        "accepted 9 instructions 9 units\nr0 0 steps 9\n",
+    ),
+    (
+        "79122000000000005702000008000000a702000008000000b7000000000000002502010008000000950000000000000079a0f8ff000000009500000000000000",
+        "accepted 8 instructions 8 units\nr0 0 steps 6\n",
+    ),
+];
+
 #[test]
 fn known_bits_are_taken_into_account(rt: HostRuntime) -> Result<(), Fail> {
     let alloc = rt.alloc();
     let task = Task::Check(String::from_str(alloc, "p.bin")?);
-    for (code, lines) in [
-        (
-            "79122000000000005702000008000000a702000008000000bfa300000000000007030000f7ffffff0f230000000000007203000001000000b7000000000000009500000000000000",
-            "accepted 9 instructions 9 units\nr0 0 steps 9\n",
-        ),
-        (
-            "79122000000000005702000008000000a702000008000000b7000000000000002502010008000000950000000000000079a0f8ff000000009500000000000000",
-            "accepted 8 instructions 8 units\nr0 0 steps 6\n",
-        ),
-    ] {
+    for &(code, lines) in KNOWN_BITS {
         let bytes = hex::decode(alloc, code)?;
         row(&rt, alloc, &task, bytes.as_slice(), (0, lines, ""))?;
     }
@@ -278,38 +293,44 @@ fn assembly_and_bytecode_are_translated(rt: HostRuntime) -> Result<(), Fail> {
     )
 }
 
+/// An instruction, and its bytecode in hex.
+const INSTRUCTIONS: &[(&str, &str)] = &[
+    ("sub.w r3, -1\n", "14030000ffffffff\n"),
+    (
+        "lddw r1, 1234605616436508552\n",
+        "18010000887766550000000044332211\n",
+    ),
+    ("stxd [r10-8], r1\n", "7b1af8ff00000000\n"),
+    ("jsgt.w r2, -1, +3\n", "66020300ffffffff\n"),
+    ("smod r1, r2\n", "9f21010000000000\n"),
+    ("movsx16.w r1, r2\n", "bc21100000000000\n"),
+    ("be16 r4\n", "dc04000010000000\n"),
+    ("ja.w +2\n", "0600000002000000\n"),
+    ("call 1\n", "8500000001000000\n"),
+    ("add r1, 287454020\n", "0701000044332211\n"),
+];
+
+/// Instructions in another spelling than the one that is printed, and their bytecode in hex.
+const OTHER_SPELLINGS: &[(&str, &str)] = &[
+    (
+        "lddw r1, 0x1122334455667788",
+        "18010000887766550000000044332211\n",
+    ),
+    ("call board_get", "8500000001000000\n"),
+    ("call honest", "8500000009000000\n"),
+];
+
 #[test]
 fn texts_and_bytes_say_each_other(rt: HostRuntime) -> Result<(), Fail> {
     let alloc = rt.alloc();
     let assemble = Task::Assemble(String::from_str(alloc, "p.asm")?);
     let disassemble = Task::Disassemble(String::from_str(alloc, "p.bin")?);
-    for (text, code) in [
-        ("sub.w r3, -1\n", "14030000ffffffff\n"),
-        (
-            "lddw r1, 1234605616436508552\n",
-            "18010000887766550000000044332211\n",
-        ),
-        ("stxd [r10-8], r1\n", "7b1af8ff00000000\n"),
-        ("jsgt.w r2, -1, +3\n", "66020300ffffffff\n"),
-        ("smod r1, r2\n", "9f21010000000000\n"),
-        ("movsx16.w r1, r2\n", "bc21100000000000\n"),
-        ("be16 r4\n", "dc04000010000000\n"),
-        ("ja.w +2\n", "0600000002000000\n"),
-        ("call 1\n", "8500000001000000\n"),
-        ("add r1, 287454020\n", "0701000044332211\n"),
-    ] {
+    for &(text, code) in INSTRUCTIONS {
         row(&rt, alloc, &assemble, text.as_bytes(), (0, code, ""))?;
         let bytes = hex::decode(alloc, code.trim_end())?;
         row(&rt, alloc, &disassemble, bytes.as_slice(), (0, text, ""))?;
     }
-    for (text, code) in [
-        (
-            "lddw r1, 0x1122334455667788",
-            "18010000887766550000000044332211\n",
-        ),
-        ("call board_get", "8500000001000000\n"),
-        ("call honest", "8500000009000000\n"),
-    ] {
+    for &(text, code) in OTHER_SPELLINGS {
         row(&rt, alloc, &assemble, text.as_bytes(), (0, code, ""))?;
     }
     Ok(())

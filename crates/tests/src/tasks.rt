@@ -2,107 +2,161 @@
 
 use clap::error::ErrorKind;
 use command_line::{Task, TaskError, task};
-use std::alloc::{AllocError, Global};
+use std::alloc::Global;
 use std::process::Abort;
 use std::test::Fail;
 
-fn text(alloc: Global, file: &str) -> Result<String, AllocError> {
-    String::from_str(alloc, file)
-}
-
-#[test]
-fn each_subcommand_has_its_task(rt: HostRuntime) -> Result<(), Fail> {
-    let alloc = rt.alloc();
-    assert_eq!(rt;
-        task(alloc, &["check", "p.bin"])?,
-        Task::Check(text(alloc, "p.bin")?)
-    );
-    assert_eq!(rt;
-        task(alloc, &["asm", "p.asm", "--"])?,
-        Task::Assemble(text(alloc, "p.asm")?)
-    );
-    assert_eq!(rt;
-        task(alloc, &["dis", "--", "-p"])?,
-        Task::Disassemble(text(alloc, "-p")?)
-    );
-    assert_eq!(rt;
-        task(alloc, &["muster", "s.toml"])?,
-        Task::Muster(text(alloc, "s.toml")?)
-    );
-    let book = task(alloc, &["book", "-"])?;
-    assert_eq!(rt; book, Task::Book(text(alloc, "-")?));
-    assert_eq!(rt; book.file(), "-");
-    assert_eq!(rt; book.second(), None);
-    Ok(())
-}
-
-#[test]
-fn a_schedule_stands_before_or_behind_the_scenario(rt: HostRuntime) -> Result<(), Fail> {
-    let alloc = rt.alloc();
-    assert_eq!(rt;
-        task(alloc, &["play", "s.toml"])?,
-        Task::Play {
-            scenario: text(alloc, "s.toml")?,
-            schedule: None
-        }
-    );
-    let with: [&[&str]; 7] = [
-        &["play", "s", "--schedule", "t"],
-        &["play", "s", "--schedule=t"],
+/// Words that are taken, the subcommand, its file, and its second file.
+const TAKEN: &[(&[&str], &str, &str, Option<&str>)] = &[
+    (&["check", "p.bin"], "check", "p.bin", None),
+    (&["asm", "p.asm", "--"], "asm", "p.asm", None),
+    (&["dis", "--", "-p"], "dis", "-p", None),
+    (&["muster", "s.toml"], "muster", "s.toml", None),
+    (&["book", "-"], "book", "-", None),
+    // a schedule stands before or behind the scenario
+    (&["play", "s.toml"], "play", "s.toml", None),
+    (&["play", "s", "--schedule", "t"], "play", "s", Some("t")),
+    (&["play", "s", "--schedule=t"], "play", "s", Some("t")),
+    (
         &["play", "s", "--schedule", "t", "--"],
-        &["play", "--schedule", "t", "s"],
-        &["play", "--schedule=t", "s"],
-        &["play", "--schedule=t", "s", "--"],
+        "play",
+        "s",
+        Some("t"),
+    ),
+    (&["play", "--schedule", "t", "s"], "play", "s", Some("t")),
+    (&["play", "--schedule=t", "s"], "play", "s", Some("t")),
+    (&["play", "--schedule=t", "s", "--"], "play", "s", Some("t")),
+    (
         &["play", "--schedule", "t", "--", "s"],
-    ];
-    for words in with {
-        let play = task(alloc, words)?;
-        assert_eq!(rt; play.file(), "s");
-        assert_eq!(rt; play.second(), Some("t"));
+        "play",
+        "s",
+        Some("t"),
+    ),
+    (
+        &["play", "--schedule=-t=u", "--", "--schedule"],
+        "play",
+        "--schedule",
+        Some("-t=u"),
+    ),
+    // an audit has two files
+    (&["audit", "s", "c"], "audit", "s", Some("c")),
+    (
+        &["audit", "-", "--", "--help"],
+        "audit",
+        "-",
+        Some("--help"),
+    ),
+    (
+        &["audit", "--", "-", "--help"],
+        "audit",
+        "-",
+        Some("--help"),
+    ),
+];
+
+/// The subcommand of a task.
+fn subcommand(task: &Task) -> &'static str {
+    match task {
+        Task::Check(_) => "check",
+        Task::Assemble(_) => "asm",
+        Task::Disassemble(_) => "dis",
+        Task::Book(_) => "book",
+        Task::Play { .. } => "play",
+        Task::Muster(_) => "muster",
+        Task::Audit { .. } => "audit",
     }
-    let odd = task(alloc, &["play", "--schedule=-t=u", "--", "--schedule"])?;
-    assert_eq!(rt; odd.file(), "--schedule");
-    assert_eq!(rt; odd.second(), Some("-t=u"));
-    Ok(())
 }
 
 #[test]
-fn an_audit_has_two_files(rt: HostRuntime) -> Result<(), Fail> {
-    let alloc = rt.alloc();
-    let audit = task(alloc, &["audit", "s", "c"])?;
-    assert_eq!(rt;
-        audit,
-        Task::Audit {
-            scenario: text(alloc, "s")?,
-            chronicle: text(alloc, "c")?
-        }
-    );
-    assert_eq!(rt; audit.file(), "s");
-    assert_eq!(rt; audit.second(), Some("c"));
-    let odd: [&[&str]; 2] = [
-        &["audit", "-", "--", "--help"],
-        &["audit", "--", "-", "--help"],
-    ];
-    for words in odd {
-        let audit = task(alloc, words)?;
-        assert_eq!(rt; audit.file(), "-");
-        assert_eq!(rt; audit.second(), Some("--help"));
-    }
-    let short: [&[&str]; 3] = [&["audit"], &["audit", "s"], &["audit", "--", "s"]];
-    for words in short {
-        refuses(&rt, alloc, words, ErrorKind::MissingRequiredArgument, 2)?;
-    }
-    let unknown: [&[&str]; 4] = [
-        &["audit", "s", "c", "d"],
-        &["audit", "s", "-c"],
-        &["audit", "s", "c", "--schedule=t"],
-        &["muster", "s", "--schedule=t"],
-    ];
-    for words in unknown {
-        refuses(&rt, alloc, words, ErrorKind::UnknownArgument, 2)?;
+fn words_have_their_task(rt: HostRuntime) -> Result<(), Fail> {
+    for &(words, name, file, second) in TAKEN {
+        let task = task(rt.alloc(), words)?;
+        assert_eq!(rt; subcommand(&task), name);
+        assert_eq!(rt; task.file(), file);
+        assert_eq!(rt; task.second(), second);
     }
     Ok(())
 }
+
+/// Words that are refused, the kind of the refusal, and the exit status.
+const REFUSED: &[(&[&str], ErrorKind, i32)] = &[
+    (&[], ErrorKind::MissingSubcommand, 2),
+    (&["frobnicate", "x"], ErrorKind::InvalidSubcommand, 2),
+    (&["check"], ErrorKind::MissingRequiredArgument, 2),
+    (&["check", "p", "p"], ErrorKind::UnknownArgument, 2),
+    (&["check", "-p"], ErrorKind::UnknownArgument, 2),
+    (
+        &["check", "s", "--schedule=t"],
+        ErrorKind::UnknownArgument,
+        2,
+    ),
+    (&["check", "p", "--help"], ErrorKind::DisplayHelp, 0),
+    (&["--help"], ErrorKind::DisplayHelp, 0),
+    // of play: no scenario
+    (&["play"], ErrorKind::MissingRequiredArgument, 2),
+    (
+        &["play", "--schedule", "t"],
+        ErrorKind::MissingRequiredArgument,
+        2,
+    ),
+    (
+        &["play", "--schedule=t", "--"],
+        ErrorKind::MissingRequiredArgument,
+        2,
+    ),
+    // more than one, or another flag
+    (&["play", "s", "t"], ErrorKind::UnknownArgument, 2),
+    (&["play", "-s"], ErrorKind::UnknownArgument, 2),
+    (
+        &["play", "s", "--", "--schedule=t"],
+        ErrorKind::UnknownArgument,
+        2,
+    ),
+    (
+        &["play", "s", "--sched", "t"],
+        ErrorKind::UnknownArgument,
+        2,
+    ),
+    // a flag without its schedule
+    (&["play", "s", "--schedule"], ErrorKind::InvalidValue, 2),
+    (
+        &["play", "s", "--schedule", "--"],
+        ErrorKind::InvalidValue,
+        2,
+    ),
+    (
+        &["play", "--schedule", "--schedule=t", "s"],
+        ErrorKind::InvalidValue,
+        2,
+    ),
+    // two schedules
+    (
+        &["play", "s", "--schedule", "t", "--schedule=t"],
+        ErrorKind::ArgumentConflict,
+        2,
+    ),
+    (
+        &["play", "--schedule=t", "--schedule", "t", "s"],
+        ErrorKind::ArgumentConflict,
+        2,
+    ),
+    // of audit and muster
+    (&["audit"], ErrorKind::MissingRequiredArgument, 2),
+    (&["audit", "s"], ErrorKind::MissingRequiredArgument, 2),
+    (&["audit", "--", "s"], ErrorKind::MissingRequiredArgument, 2),
+    (&["audit", "s", "c", "d"], ErrorKind::UnknownArgument, 2),
+    (&["audit", "s", "-c"], ErrorKind::UnknownArgument, 2),
+    (
+        &["audit", "s", "c", "--schedule=t"],
+        ErrorKind::UnknownArgument,
+        2,
+    ),
+    (
+        &["muster", "s", "--schedule=t"],
+        ErrorKind::UnknownArgument,
+        2,
+    ),
+];
 
 /// The words are refused with this kind and exit status.
 fn refuses(
@@ -122,75 +176,8 @@ fn refuses(
 
 #[test]
 fn other_words_are_refused(rt: HostRuntime) -> Result<(), Fail> {
-    let alloc = rt.alloc();
-    refuses(&rt, alloc, &[], ErrorKind::MissingSubcommand, 2)?;
-    refuses(
-        &rt,
-        alloc,
-        &["frobnicate", "x"],
-        ErrorKind::InvalidSubcommand,
-        2,
-    )?;
-    refuses(
-        &rt,
-        alloc,
-        &["check"],
-        ErrorKind::MissingRequiredArgument,
-        2,
-    )?;
-    refuses(
-        &rt,
-        alloc,
-        &["check", "p", "p"],
-        ErrorKind::UnknownArgument,
-        2,
-    )?;
-    refuses(&rt, alloc, &["check", "-p"], ErrorKind::UnknownArgument, 2)?;
-    refuses(
-        &rt,
-        alloc,
-        &["check", "p", "--help"],
-        ErrorKind::DisplayHelp,
-        0,
-    )?;
-    refuses(&rt, alloc, &["--help"], ErrorKind::DisplayHelp, 0)
-}
-
-#[test]
-fn other_words_of_play_are_refused(rt: HostRuntime) -> Result<(), Fail> {
-    let alloc = rt.alloc();
-    let missing: [&[&str]; 3] = [
-        &["play"],
-        &["play", "--schedule", "t"],
-        &["play", "--schedule=t", "--"],
-    ];
-    for words in missing {
-        refuses(&rt, alloc, words, ErrorKind::MissingRequiredArgument, 2)?;
-    }
-    let unknown: [&[&str]; 5] = [
-        &["play", "s", "t"],
-        &["play", "-s"],
-        &["play", "s", "--", "--schedule=t"],
-        &["play", "s", "--sched", "t"],
-        &["check", "s", "--schedule=t"],
-    ];
-    for words in unknown {
-        refuses(&rt, alloc, words, ErrorKind::UnknownArgument, 2)?;
-    }
-    let valueless: [&[&str]; 3] = [
-        &["play", "s", "--schedule"],
-        &["play", "s", "--schedule", "--"],
-        &["play", "--schedule", "--schedule=t", "s"],
-    ];
-    for words in valueless {
-        refuses(&rt, alloc, words, ErrorKind::InvalidValue, 2)?;
-    }
-    let twice: [&[&str]; 2] = [
-        &["play", "s", "--schedule", "t", "--schedule=t"],
-        &["play", "--schedule=t", "--schedule", "t", "s"],
-    ];
-    for words in twice {
-        refuses(&rt, alloc, words, ErrorKind::ArgumentConflict, 2)?;
+    for &(words, kind, status) in REFUSED {
+        refuses(&rt, rt.alloc(), words, kind, status)?;
     }
     Ok(())
 }
@@ -203,49 +190,41 @@ fn printed(alloc: Global, words: &[&str]) -> Result<String, Fail> {
     Ok(format!(in alloc; "{error}")?)
 }
 
-#[test]
-fn help_names_the_subcommands(rt: HostRuntime) -> Result<(), Fail> {
-    let alloc = rt.alloc();
-    let help = printed(alloc, &["--help"])?;
-    for word in [
-        "Usage: byzlab <COMMAND>",
-        "check",
-        "asm",
-        "dis",
-        "book",
-        "play",
-        "muster",
-        "audit",
-    ] {
-        assert!(rt; help.as_str().contains(word), "{help}");
-    }
-    Ok(())
-}
+/// Words, and what the text that is printed has.
+const PRINTED: &[(&[&str], &str)] = &[
+    (&["--help"], "Usage: byzlab <COMMAND>"),
+    (&["--help"], "check"),
+    (&["--help"], "asm"),
+    (&["--help"], "dis"),
+    (&["--help"], "book"),
+    (&["--help"], "play"),
+    (&["--help"], "muster"),
+    (&["--help"], "audit"),
+    // each usage begins with the program
+    (&["check", "--help"], "Usage: byzlab check <FILE>"),
+    (&["asm", "--asm"], "Usage: byzlab asm <FILE>"),
+    (
+        &["play", "--help"],
+        "Usage: byzlab play [OPTIONS] <SCENARIO>",
+    ),
+    (
+        &["play", "--play"],
+        "Usage: byzlab play [OPTIONS] <SCENARIO>",
+    ),
+    (&["muster", "--help"], "Usage: byzlab muster <SCENARIO>"),
+    (
+        &["audit", "--help"],
+        "Usage: byzlab audit <SCENARIO> <CHRONICLE>",
+    ),
+    (&["help", "play"], "Usage: byzlab play [OPTIONS] <SCENARIO>"),
+    (&["play", "--help"], "--schedule <FILE>"),
+];
 
 #[test]
-fn each_usage_begins_with_the_program(rt: HostRuntime) -> Result<(), Fail> {
-    let alloc = rt.alloc();
-    for (words, usage) in [
-        (["check", "--help"], "Usage: byzlab check <FILE>"),
-        (["asm", "--asm"], "Usage: byzlab asm <FILE>"),
-        (
-            ["play", "--help"],
-            "Usage: byzlab play [OPTIONS] <SCENARIO>",
-        ),
-        (
-            ["play", "--play"],
-            "Usage: byzlab play [OPTIONS] <SCENARIO>",
-        ),
-        (["muster", "--help"], "Usage: byzlab muster <SCENARIO>"),
-        (
-            ["audit", "--help"],
-            "Usage: byzlab audit <SCENARIO> <CHRONICLE>",
-        ),
-        (["help", "play"], "Usage: byzlab play [OPTIONS] <SCENARIO>"),
-        (["play", "--help"], "--schedule <FILE>"),
-    ] {
-        let text = printed(alloc, &words)?;
-        assert!(rt; text.as_str().contains(usage), "{text}");
+fn help_and_usage_are_printed(rt: HostRuntime) -> Result<(), Fail> {
+    for &(words, part) in PRINTED {
+        let text = printed(rt.alloc(), words)?;
+        assert!(rt; text.as_str().contains(part), "{text}");
     }
     Ok(())
 }

@@ -9,37 +9,41 @@ const MINUS_ONE: u64 = u64::MAX;
 
 const LEAST: u64 = 0x8000_0000_0000_0000;
 
-#[test]
-fn divides(rt: HostRuntime) {
-    assert_eq!(rt; alu64(Operation::Div, 5, 0), 0);
-    assert_eq!(rt; alu64(Operation::Mod, 0x1_0000_0005, 0), 0x1_0000_0005);
-    assert_eq!(rt; alu32(Operation::Div, 5, 0), 0);
-    assert_eq!(rt; alu32(Operation::Mod, 0x1_0000_0005, 0), 5);
-    assert_eq!(rt; alu64(Operation::SignedDiv, LEAST, MINUS_ONE), LEAST);
-    assert_eq!(rt; alu64(Operation::SignedMod, LEAST, MINUS_ONE), 0);
-    assert_eq!(rt;
-        alu32(Operation::SignedDiv, 0x8000_0000, MINUS_ONE),
-        0x8000_0000
-    );
-    assert_eq!(rt; alu32(Operation::SignedMod, 0x8000_0000, MINUS_ONE), 0);
+/// An operation, its operands, and the result.
+type Row = (Operation, u64, u64, u64);
+
+/// Divisions and shifts of 64 bits.
+const WIDE: &[Row] = &[
+    (Operation::Div, 5, 0, 0),
+    (Operation::Mod, 0x1_0000_0005, 0, 0x1_0000_0005),
+    (Operation::SignedDiv, LEAST, MINUS_ONE, LEAST),
+    (Operation::SignedMod, LEAST, MINUS_ONE, 0),
     // -13 by 3: -4, and -1 is left
-    assert_eq!(rt;
-        alu64(Operation::SignedDiv, MINUS_ONE - 12, 3),
-        MINUS_ONE - 3
-    );
-    assert_eq!(rt; alu64(Operation::SignedMod, MINUS_ONE - 12, 3), MINUS_ONE);
-}
+    (Operation::SignedDiv, MINUS_ONE - 12, 3, MINUS_ONE - 3),
+    (Operation::SignedMod, MINUS_ONE - 12, 3, MINUS_ONE),
+    (Operation::ShiftLeft, 1, 65, 2),
+    (Operation::ShiftRight, 8, 65, 4),
+    (Operation::ShiftSigned, MINUS_ONE - 7, 65, MINUS_ONE - 3),
+];
+
+/// Divisions and shifts of 32 bits.
+const NARROW: &[Row] = &[
+    (Operation::Div, 5, 0, 0),
+    (Operation::Mod, 0x1_0000_0005, 0, 5),
+    (Operation::SignedDiv, 0x8000_0000, MINUS_ONE, 0x8000_0000),
+    (Operation::SignedMod, 0x8000_0000, MINUS_ONE, 0),
+    (Operation::ShiftLeft, 0x8000_0001, 33, 2),
+    (Operation::ShiftSigned, 0x8000_0000, 31, 0xffff_ffff),
+];
 
 #[test]
-fn shifts(rt: HostRuntime) {
-    assert_eq!(rt; alu64(Operation::ShiftLeft, 1, 65), 2);
-    assert_eq!(rt; alu64(Operation::ShiftRight, 8, 65), 4);
-    assert_eq!(rt;
-        alu64(Operation::ShiftSigned, MINUS_ONE - 7, 65),
-        MINUS_ONE - 3
-    );
-    assert_eq!(rt; alu32(Operation::ShiftLeft, 0x8000_0001, 33), 2);
-    assert_eq!(rt; alu32(Operation::ShiftSigned, 0x8000_0000, 31), 0xffff_ffff);
+fn divides_and_shifts(rt: HostRuntime) {
+    for &(operation, a, b, result) in WIDE {
+        assert_eq!(rt; alu64(operation, a, b), result);
+    }
+    for &(operation, a, b, result) in NARROW {
+        assert_eq!(rt; alu32(operation, a, b), result);
+    }
 }
 
 #[test]
