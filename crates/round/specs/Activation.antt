@@ -32,7 +32,7 @@ pub data Turn : Type 0 where
   Asks : Request → (List ℕ → Activation) → Turn
   Ended : Turn
 
--- a trap would count its step, stay where it is and never end
+-- a trap would count its step and stay where it is, and without a patience never end
 abbrev pub turned : Activation → Outcome → Turn
 turned a (Next s) = Goes (record a { state = s })
 turned a (Ask request s) = Asks request (λ answer. record a { state = resumed request answer s })

@@ -19,7 +19,7 @@ pub enum MusterError {
     Spawn,
     /// M4: the post was full.
     #[error("M4")]
-    Full,
+    Post,
 }
 
 impl From<AllocError> for MusterError {

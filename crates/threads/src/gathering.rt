@@ -2,7 +2,7 @@
 ghost use Rattle.std.specs.Prelude.{◌≡◌, ◌≢◌, suc, length, IfOk, OnOk, IfErr, MatchOption};
 ghost use Rattle.round.specs.Told.{WasTold, AreRoundsOf};
 ghost use Rattle.world.specs.Accounted.{rounds_of, IsAccounted};
-ghost use Rattle.threads.specs.declared.error.MusterError.TheVariants.{Unaccounted, Spawn};
+ghost use Rattle.threads.specs.declared.error.MusterError.TheVariants.{Unaccounted, Spawn, Post};
 
 use crate::error::MusterError;
 use crate::holding::are_accounted;
@@ -29,6 +29,7 @@ pub fn gather(
     ensures accounted { OnOk result (IsAccounted scenario.now ledger.now letters.items) }
     ensures unaccounted { IfErr result (λ e. e ≡ Unaccounted → ¬ IsAccounted scenario.now ledger.now letters.items) }
     ensures started { IfErr result (λ e. e ≢ Spawn) }
+    ensures posted { IfErr result (λ e. e ≢ Post) }
 {
     let generals = u32::from(scenario.generals());
     let rounds = u32::from(scenario.bound()) + 1;

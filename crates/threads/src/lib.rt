@@ -22,4 +22,5 @@ pub use error::MusterError;
 pub use gate::{Gate, Open};
 pub use gathering::gather;
 pub use mustering::{muster, muster_with};
+pub use post::{Collector, Post, Poster};
 pub use shared::SharedBoard;

@@ -39,7 +39,7 @@ const STACK: usize = 1 << 20;
 /// # Errors
 ///
 /// `Spawn` where a thread could not be started; those that were started are waited for first. `Memory` where memory is
-/// refused, `Full` where a general's letter found the post full: where generals fail, the error of the lowest.
+/// refused, `Post` where a general's letter found the post full: where generals fail, the error of the lowest.
 /// `Unaccounted` where the letters are not those that the ledger accounts for; that with the threads that are started here
 /// neither of the last two happens is not proved.
 pub fn muster<R: Threads + Wait + Sync, G: Gate + Sync>(

@@ -50,7 +50,7 @@ impl<'a, G: Gate> Resident<'a, G> {
     ///
     /// # Errors
     ///
-    /// `Memory` where memory is refused, `Full` where the post is full, `Unaccounted` where a task is not his.
+    /// `Memory` where memory is refused, `Post` where the post is full, `Unaccounted` where a task is not his.
     fn reside<R: Wait>(
         &self,
         rt: &R,
@@ -69,7 +69,7 @@ impl<'a, G: Gate> Resident<'a, G> {
             let (again, sent) = post.post(rt, poster, letter);
             poster = again;
             if sent.is_err() {
-                return Err(MusterError::Full);
+                return Err(MusterError::Post);
             }
             self.tally.posted(rt);
         }
