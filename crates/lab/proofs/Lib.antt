@@ -1,7 +1,10 @@
 pub mod BenchLemmas
 pub mod CampaignLemmas
+pub mod CutTexts
 pub mod FaultLemmas
 pub mod FilesLemmas
 pub mod LineLemmas
+pub mod ReadLemmas
 pub mod RefusalLemmas
 pub mod BoardRunLemmas
+pub mod ScheduleLemmas

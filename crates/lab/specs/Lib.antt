@@ -4,5 +4,6 @@ pub mod BoardRun
 pub mod Campaigns
 pub mod Faults
 pub mod Lines
+pub mod Reading
 pub mod Refusals
 pub mod Serving

@@ -1,16 +1,20 @@
-ghost use Rattle.std.specs.Prelude.{◌≡◌, IfOk, IfErr, Ok};
+ghost use Rattle.std.specs.Prelude.{◌≡◌, ℕ, List, IfOk, IfErr, Ok, Some};
 ghost use Rattle.scenario.specs.Told.{Tells};
 ghost use Rattle.trace.specs.Schedules.{schedule_told};
 ghost use Rattle.trace.specs.Text.{text_of};
 ghost use Rattle.lab.specs.Campaigns.{IsPlayed};
+ghost use Rattle.lab.specs.Reading.{IsFront};
 ghost use Rattle.lab.specs.Refusals.{RefusesScenario, RefusesSchedule, RefusesText};
 
 use crate::refusal::Refusal;
-use crate::texts::text_of;
+use crate::texts::{may_begin_text, text_of};
 use round::Scenario;
 use std::alloc::{AllocError, Global};
-use trace::{Latch, read_schedule, write_chronicle};
+use trace::{Latch, TraceError, read_schedule, write_chronicle};
 use world::{Chronicle, Schedule, play};
+
+/// The most bytes of a schedule.
+pub(crate) const MOST_BYTES: usize = 1_048_576;
 
 /// The campaign that the bytes tell.
 ///
@@ -34,6 +38,25 @@ pub fn schedule(alloc: Global, bytes: &[u8]) -> Result<Schedule, Refusal>
     ensures refused { IfErr result (RefusesText RefusesSchedule bytes.now) }
 {
     Ok(read_schedule(alloc, text_of(bytes)?)?)
+}
+
+/// The schedule of a file that has these bytes or, where they are more than a schedule has, begins with these: then there is
+/// none, whatever follows.
+///
+/// # Errors
+///
+/// The first line that is none, or want of memory.
+pub(crate) fn schedule_of(alloc: Global, front: &[u8]) -> Result<Schedule, Refusal>
+    ensures told { IfOk result (λ schedule. (all : List ℕ) → IsFront 1048576 (Some all) front.now → schedule_told all ≡ Ok schedule) }
+    ensures refused { IfErr result (λ refusal. (all : List ℕ) → IsFront 1048576 (Some all) front.now → RefusesText RefusesSchedule all refusal) }
+{
+    if front.len() <= MOST_BYTES {
+        return schedule(alloc, front);
+    }
+    if !may_begin_text(front) {
+        return Err(Refusal::NotText);
+    }
+    Err(Refusal::Trace(TraceError::Line(1)))
 }
 
 /// The text of the chronicle of the campaign by a schedule. All of it is in memory, some bytes for each word and access

@@ -1,6 +1,6 @@
 ghost use Rattle.std.specs.Prelude.{◌≡◌, ◌≢◌, ◌⊎◌, IfOk, IfErr, IsSomeAnd, OnOk, codes, option_map};
 ghost use Rattle.lab.specs.Faults.{Explains, Prevents, Stops};
-ghost use Rattle.lab.specs.Serving.{AreBytes, AreSecondBytes, IsAnswer, IsAuditOf, IsChronicleRefused, IsFault, IsPlayedBy, IsPrinted, IsScheduleOf, IsScheduleRefused, Tells, files, second_name};
+ghost use Rattle.lab.specs.Serving.{IsAnswer, IsAuditOf, IsChronicleRefused, IsFault, IsPlayedBy, IsPrinted, IsScheduleOf, IsScheduleRefused, Tells, files, second_name};
 ghost use Rattle.lab.specs.declared.fault.Fault.TheVariants.{Write as unwritten};
 
 use crate::answering::answer;
@@ -8,12 +8,12 @@ use crate::auditing::audited;
 use crate::fault::Fault;
 use crate::mustering::mustered;
 use crate::outcome::Outcome;
-use crate::playing::{played, schedule};
+use crate::playing::{played, schedule_of};
+use crate::reading::{read_first, read_schedule, read_second};
 use crate::streams::{Output, Source};
 use command_line::Task;
 use round::Scenario;
 use std::alloc::Global;
-use std::io::ErrorKind;
 use std::sync::Wait;
 use std::thread::Threads;
 use world::Schedule;
@@ -100,7 +100,7 @@ where
     ensures fault { IfErr result
         (Prevents (R.fails first) (IsSomeAnd second R.fails) task.entry.now (files R.bytes first second)) }
 {
-    let bytes = read(alloc, task.file(), first)?;
+    let bytes = read_first(alloc, task, first)?;
     let file = task.second().unwrap_or("");
     match answer(alloc, task, bytes.as_slice()) {
         Ok(Outcome::Text(text)) => Ok(text.into_bytes()),
@@ -147,8 +147,8 @@ fn scheduled<'a, R: Source>(
             lines: Vec::new(alloc),
         });
     };
-    let bytes = read(alloc, file, second)?;
-    match schedule(alloc, bytes.as_slice()) {
+    let front = read_schedule(alloc, file, second)?;
+    match schedule_of(alloc, front.as_slice()) {
         Ok(schedule) => Ok(schedule),
         Err(refusal) => Err(Fault::of(refusal, file)),
     }
@@ -169,32 +169,5 @@ fn audit_of<'a, R: Source>(
     match audited(alloc, scenario, bytes.as_slice()) {
         Ok(text) => Ok(text),
         Err(refusal) => Err(Fault::of(refusal, file)),
-    }
-}
-
-/// All bytes of the second file, none where there is no such file.
-fn read_second<'a, R: Source>(
-    alloc: Global,
-    file: &'a str,
-    second: Option<R>,
-) -> Result<Vec<u8>, Fault<'a>>
-    ensures whole { IfOk result (λ all. AreSecondBytes (option_map R.bytes second) all.items) }
-    ensures fault { IfErr result (Stops (IsSomeAnd second R.fails) (λ _. ⊥) file.entry.now) }
-{
-    match second {
-        Some(second) => read(alloc, file, second),
-        None => Ok(Vec::new(alloc)),
-    }
-}
-
-/// All bytes of the file with this name.
-fn read<'a, R: Source>(alloc: Global, file: &'a str, source: R) -> Result<Vec<u8>, Fault<'a>>
-    ensures whole { IfOk result (λ all. AreBytes (R.bytes source) all.items) }
-    ensures fault { IfErr result (Stops (R.fails source) (λ _. ⊥) file.entry.now) }
-{
-    match source.read_all(alloc) {
-        Ok(bytes) => Ok(bytes),
-        Err(error) if error.kind() == ErrorKind::OutOfMemory => Err(Fault::Memory),
-        Err(_) => Err(Fault::Read(file)),
     }
 }

@@ -2,13 +2,16 @@
 //! writer an `Output`. Their contracts can say that a call failed, which those of `Read` and `Write`
 //! cannot.
 
+use crate::pieces::read_front;
+use crate::within::Within;
 use std::alloc::Global;
 use std::fmt::Display;
-use std::io::{self, Read, Write};
+use std::io::{self, ErrorKind, Read, Write};
 
 /// A file to read.
 pub trait Source: Drop {
     ghost use Rattle.std.specs.Prelude.{◌≡◌, ℕ, List, Option, IfOk, IfSome, OnErr};
+    ghost use Rattle.lab.specs.Reading.{IsFront, IsWithin};
 
     // The bytes, where they are known.
     ghost bytes: { Self → Option (List ℕ) };
@@ -24,6 +27,24 @@ pub trait Source: Drop {
     fn read_all(self, alloc: Global) -> io::Result<Vec<u8>>
         ensures whole { IfOk result (λ all. IfSome (bytes self) (λ known. all.items ≡ known)) }
         ensures failed { OnErr result (fails self) };
+
+    /// All bytes where there are at most so many. Where there are more, they are counted to their end, and none is kept.
+    ///
+    /// # Errors
+    ///
+    /// A read that failed, or want of memory.
+    fn read_within(self, alloc: Global, most: usize) -> io::Result<Within>
+        ensures within { IfOk result (IsWithin most (bytes self)) }
+        ensures failed { OnErr result (fails self) };
+
+    /// All bytes where there are at most so many. Where there are more, some more than those, and nothing is read on.
+    ///
+    /// # Errors
+    ///
+    /// A read that failed, or want of memory.
+    fn read_front(self, alloc: Global, most: usize) -> io::Result<Vec<u8>>
+        ensures front { IfOk result (λ front. IsFront most (bytes self) front.items) }
+        ensures failed { OnErr result (fails self) };
 }
 
 impl<R: Read + Drop> Source for R {
@@ -35,6 +56,22 @@ impl<R: Read + Drop> Source for R {
         let mut all = Vec::new(alloc);
         self.read_to_end(&mut all)?;
         Ok(all)
+    }
+
+    fn read_within(mut self, alloc: Global, most: usize) -> io::Result<Within> {
+        let front = read_front(&mut self, alloc, most)?;
+        if front.len() <= most {
+            return Ok(Within::Whole(front));
+        }
+        let rest = io::copy(&mut self, &mut io::sink())?;
+        match front.len().checked_add(rest as usize) {
+            Some(number) => Ok(Within::Longer(number)),
+            None => Err(io::Error::from(ErrorKind::Other)),
+        }
+    }
+
+    fn read_front(mut self, alloc: Global, most: usize) -> io::Result<Vec<u8>> {
+        read_front(&mut self, alloc, most)
     }
 }
 

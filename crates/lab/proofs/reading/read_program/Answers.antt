@@ -1,0 +1,9 @@
+use Rattle.lab.specs.Reading.{IsWithin}
+use Rattle.lab.specs.declared.within.Within.TheVariants.{Longer}
+use Rattle.lab.proofs.ReadLemmas.{refused_long}
+use Rattle.lab.proofs.reading.read_program.Goals as goal
+
+pub returns-in-Ok-Longer-clause-fault : goal.returns-in-Ok-Longer-clause-fault
+returns-in-Ok-Longer-clause-fault g c =
+    let within : IsWithin 32768 (g.R.Source.bytes c.args.source) (Longer c.in-Ok-Longer.number) = rw c.in-Ok-Longer.field-0-is at c.in-Ok-Longer.ensures.within in
+    (λ e. cc, refused_long (g.R.Source.bytes c.args.source) c.in-Ok-Longer.number c.too_long.result within.1 c.too_long.ensures)

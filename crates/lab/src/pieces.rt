@@ -1,0 +1,51 @@
+//! Reading in pieces, no further than is asked for.
+ghost use Rattle.std.specs.Prelude.{◌≡◌, ◌≤◌, IfOk, take, vec_len};
+ghost use Rattle.std.specs.Io.KnownBytes.{Consumes, IsAtEnd};
+
+use std::alloc::Global;
+use std::io::{self, ErrorKind, Read};
+
+/// How many bytes are read at a time.
+const PIECE: usize = 8192;
+
+/// One read, begun again where it was interrupted: how many bytes it gave, 0 at the end alone.
+#[tactic(auto, using(crate::proofs::ReadLemmas::keeps_self, crate::proofs::ReadLemmas::keeps_still, crate::proofs::ReadLemmas::consumes_after))]
+fn read_piece<R: Read>(reader: &mut R, piece: &mut [u8; PIECE]) -> io::Result<usize>
+    ensures inside { IfOk result (λ n. n ≤ 8192) }
+    ensures bytes { IfOk result (λ n. Consumes (R.remaining reader.old) (R.remaining reader.new) (take n piece.new)) }
+    ensures end { IfOk result (λ n. n ≡ 0 → IsAtEnd (R.remaining reader.new)) }
+{
+    for _ in 0..u64::MAX {
+        match reader.read(piece.as_mut_slice()) {
+            Err(error) if error.kind() == ErrorKind::Interrupted => {}
+            read => return read,
+        }
+    }
+    Err(io::Error::from(ErrorKind::Interrupted))
+}
+
+/// Reads to the end, or until there are more than so many bytes: then nothing is read on.
+///
+/// # Errors
+///
+/// A read that failed, or want of memory.
+#[tactic(auto, using(crate::proofs::ReadLemmas::consumes_none, crate::proofs::ReadLemmas::consumes_more))]
+pub(crate) fn read_front<R: Read>(
+    reader: &mut R,
+    alloc: Global,
+    most: usize,
+) -> io::Result<Vec<u8>>
+    ensures bytes { IfOk result (λ front. Consumes (R.remaining reader.old) (R.remaining reader.new) front.items) }
+    ensures end { IfOk result (λ front. vec_len front ≤ most → IsAtEnd (R.remaining reader.new)) }
+{
+    let mut front = Vec::new(alloc);
+    let mut piece = [0; PIECE];
+    for _ in 0..u64::MAX {
+        let read = read_piece(reader, &mut piece)?;
+        front.extend_from_slice(&piece[..read])?;
+        if read == 0 || front.len() > most {
+            return Ok(front);
+        }
+    }
+    Err(io::Error::from(ErrorKind::Other))
+}

@@ -1,0 +1,115 @@
+//! A task's files are read here, no further than their bytes can matter.
+ghost use Rattle.std.specs.Prelude.{◌≡◌, ◌<◌, ◌*◌, ℕ, List, length, IfOk, IfErr, IsSomeAnd, option_map};
+ghost use Rattle.lab.specs.Faults.{Stops};
+ghost use Rattle.lab.specs.Reading.{IsFront, IsTooLong};
+ghost use Rattle.lab.specs.Refusals.{RefusesBytes};
+ghost use Rattle.lab.specs.Serving.{AreBytes, AreSecondBytes, IsRefused, first_name};
+
+use crate::fault::Fault;
+use crate::playing::MOST_BYTES as MOST_OF_A_SCHEDULE;
+use crate::refusal::Refusal;
+use crate::streams::Source;
+use crate::within::Within;
+use codec::{CodecError, Fault as CodecFault};
+use command_line::Task;
+use insn::Program;
+use std::alloc::Global;
+use std::io::{self, ErrorKind};
+
+/// The most bytes of a program.
+const MOST_OF_A_PROGRAM: usize = 8 * Program::MOST_UNITS;
+
+/// All bytes of the only or first file. Bytecode that is longer than any program is refused without being kept.
+pub(crate) fn read_first<'a, R: Source>(
+    alloc: Global,
+    task: &'a Task,
+    first: R,
+) -> Result<Vec<u8>, Fault<'a>>
+    ensures whole { IfOk result (λ all. AreBytes (R.bytes first) all.items) }
+    ensures fault { IfErr result
+        (Stops (R.fails first) (IsRefused task.entry.now (R.bytes first)) (first_name task.entry.now)) }
+{
+    match task {
+        Task::Check(file) | Task::Disassemble(file) => read_program(alloc, file.as_str(), first),
+        _ => read(alloc, task.file(), first),
+    }
+}
+
+/// All bytes of a file of bytecode, which are no more than a program has.
+fn read_program<'a, R: Source>(
+    alloc: Global,
+    file: &'a str,
+    source: R,
+) -> Result<Vec<u8>, Fault<'a>>
+    ensures whole { IfOk result (λ all. AreBytes (R.bytes source) all.items) }
+    ensures fault { IfErr result (Stops (R.fails source) (IsTooLong (R.bytes source)) file.entry.now) }
+{
+    match source.read_within(alloc, MOST_OF_A_PROGRAM) {
+        Ok(Within::Whole(bytes)) => Ok(bytes),
+        Ok(Within::Longer(number)) => Err(Fault::Refused(Refusal::Codec(too_long(number)))),
+        Err(error) => Err(unread(&error, file)),
+    }
+}
+
+/// The first fault of bytecode of so many bytes, which are more than a program has. It does not turn on the bytes.
+fn too_long(number: usize) -> CodecError
+    requires { 8 * 4096 < number }
+    ensures { (bytes : List ℕ) → length bytes ≡ number → RefusesBytes bytes result }
+{
+    if number % 8 == 0 {
+        CodecError::At(CodecFault::Count, 0)
+    } else {
+        CodecError::At(CodecFault::Length, number / 8)
+    }
+}
+
+/// The bytes of a schedule's file or, where they are more than a schedule has, the first of them.
+pub(crate) fn read_schedule<'a, R: Source>(
+    alloc: Global,
+    file: &'a str,
+    source: R,
+) -> Result<Vec<u8>, Fault<'a>>
+    ensures front { IfOk result (λ front. IsFront 1048576 (R.bytes source) front.items) }
+    ensures fault { IfErr result (Stops (R.fails source) (λ _. ⊥) file.entry.now) }
+{
+    match source.read_front(alloc, MOST_OF_A_SCHEDULE) {
+        Ok(front) => Ok(front),
+        Err(error) => Err(unread(&error, file)),
+    }
+}
+
+/// All bytes of the second file, none where there is no such file.
+pub(crate) fn read_second<'a, R: Source>(
+    alloc: Global,
+    file: &'a str,
+    second: Option<R>,
+) -> Result<Vec<u8>, Fault<'a>>
+    ensures whole { IfOk result (λ all. AreSecondBytes (option_map R.bytes second) all.items) }
+    ensures fault { IfErr result (Stops (IsSomeAnd second R.fails) (λ _. ⊥) file.entry.now) }
+{
+    match second {
+        Some(second) => read(alloc, file, second),
+        None => Ok(Vec::new(alloc)),
+    }
+}
+
+/// All bytes of the file with this name.
+fn read<'a, R: Source>(alloc: Global, file: &'a str, source: R) -> Result<Vec<u8>, Fault<'a>>
+    ensures whole { IfOk result (λ all. AreBytes (R.bytes source) all.items) }
+    ensures fault { IfErr result (Stops (R.fails source) (λ _. ⊥) file.entry.now) }
+{
+    match source.read_all(alloc) {
+        Ok(bytes) => Ok(bytes),
+        Err(error) => Err(unread(&error, file)),
+    }
+}
+
+/// The fault of a file with this name whose reading failed so.
+fn unread<'a>(error: &io::Error, file: &'a str) -> Fault<'a>
+    ensures { Stops (Unit {0}) (λ _. ⊥) file.entry.now result }
+{
+    match error.kind() {
+        ErrorKind::OutOfMemory => Fault::Memory,
+        _ => Fault::Read(file),
+    }
+}

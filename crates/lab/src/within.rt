@@ -1,0 +1,8 @@
+/// What was read of a file of which at most so many bytes are wanted.
+#[derive(Debug, Drop)]
+pub enum Within {
+    /// All its bytes.
+    Whole(Vec<u8>),
+    /// It has more bytes than those, of this number. They were counted, and are not kept.
+    Longer(usize),
+}
