@@ -1,5 +1,5 @@
 -- An audit's answer and the texts of replays.
-use Rattle.std.proofs.Common.{◌≡◌, ◌≢◌, ℕ, ◌-◌, Bool, true, false, List, [], ◌∷◌, length, map, take, drop, Some, None, Result, Ok, Err, IfOk, Vec, refl, sym, ap, subst, ◌∙◌, arith}
+use Rattle.std.proofs.Common.{◌≡◌, ◌≢◌, ℕ, zero, suc, ◌+◌, ◌-◌, ◌++◌, Bool, true, false, List, [], ◌∷◌, length, map, take, drop, Some, None, Result, Ok, Err, IfOk, Vec, refl, sym, ap, subst, ◌∙◌, arith}
 use Rattle.std.specs.Prelude.{slice_get, bytes_eq, codes, if◌then◌else◌}
 use Rattle.std.specs.Global.{Global}
 use Rattle.std.proofs.lemmas.List.{take_all}
@@ -7,8 +7,9 @@ use Rattle.combine.specs.declared.chosen.Rule.{Rule}
 use Rattle.combine.specs.declared.chosen.Rule.TheVariants.{Majority, Median}
 use Rattle.round.specs.Scenario.{Scenario}
 use Rattle.world.specs.Playing.{lists_in}
-use Rattle.world.specs.World.{opening, run}
-use Rattle.world.specs.Lists.{replayed}
+use Rattle.world.specs.declared.event.Event.{Event}
+use Rattle.world.specs.World.{World, opening, run}
+use Rattle.world.specs.Lists.{names_events, replayed, replayed_rounds, wound_up}
 use Rattle.world.specs.Chronicle.{Chronicle, chronicle_of}
 use Rattle.text.specs.Stop.{feed, space}
 use Rattle.text.specs.Parts.{pieces}
@@ -20,13 +21,21 @@ use Rattle.trace.specs.Marks.{all_names}
 use Rattle.trace.specs.Laws.{Admits, IsSoundText}
 use Rattle.trace.specs.Audit.{line_version, lines_version, chronicle_told, version_named, IsFirstDifference}
 
--- the lists behind the first one
-pub names_behind : (items : List (Vec ℕ Global)) (n : Named) → lists_in items ≡ all_names n → lists_in (take (length items - 1) (drop 1 items)) ≡ n.1
-names_behind [] n h = absurd cc
-names_behind (v ∷ vs) n h =
+-- the lists behind the first one, as many as there may be
+names_behind : (items : List (Vec ℕ Global)) (n : Named) (k : ℕ) → lists_in items ≡ take (suc k) (all_names n) → lists_in (take (length items - 1) (drop 1 items)) ≡ take k n.1
+names_behind [] n k h = absurd cc
+names_behind (v ∷ vs) n k h =
     let all : take (length (v ∷ vs) - 1) vs ≡ vs = take_all (length (v ∷ vs) - 1) vs (omega arith) in
-    let tails : lists_in vs ≡ n.1 = cc in
+    let tails : lists_in vs ≡ take k n.1 = cc in
     ap lists_in all ∙ tails
+
+-- lists behind those of so many rounds give nothing
+first_rounds : (k : ℕ) (names : List (List ℕ)) (w : World) → replayed_rounds w k (take k names) ≡ replayed_rounds w k names
+first_rounds zero names w = refl
+first_rounds (suc k) [] w = refl
+first_rounds (suc k) (line ∷ lines) w =
+    let events = names_events w line ++ wound_up w.scenario in
+    ap (λ (later : List Event). events ++ later) (first_rounds k lines (run w events))
 
 -- a text names its version
 pub version_known : (rule : Rule) (v : Version) (c : Chronicle) → Admits rule v → version_named rule (text_in v c) ≡ Some v
@@ -94,13 +103,15 @@ pub found_sound : (s : Scenario) (t bytes : List ℕ) (rule : Rule) (v : Version
 found_sound s t bytes rule v c r b h e d =
     same_is_sound s t v ((λ i. version_named (sym r i) (sym b i)) ∙ h) (subst (λ u. u ≡ text_in v (chronicle_told s u)) b (subst (λ x. bytes ≡ text_in v x) e d))
 
--- the replay of a copy by the names of the text
-pub replayed_ok : {E : Type 0} (s copy : Scenario) (t : List ℕ) (items lists : List (Vec ℕ Global)) (r : Result Chronicle E) → copy ≡ s → lists ≡ items
-    → lists_in items ≡ all_names (named (map (pieces space) (pieces feed t)))
+-- the replay of a copy by the names of the text, of as many rounds as the campaign has
+pub replayed_ok : {E : Type 0} (s copy : Scenario) (t : List ℕ) (most : ℕ) (items lists : List (Vec ℕ Global)) (r : Result Chronicle E) → copy ≡ s → lists ≡ items → most ≡ s.bound + 2
+    → lists_in items ≡ take most (all_names (named (map (pieces space) (pieces feed t))))
     → IfOk r (λ c. c ≡ chronicle_of (run (opening copy) (replayed copy (lists_in (take (length lists - 1) (drop 1 lists)))))) → IfOk r (λ c. c ≡ chronicle_told s t)
 unfolding chronicle_told names_of
-replayed_ok s copy t items lists (Err x) e same h d = tt
-replayed_ok s copy t items lists (Ok c) e same h d =
-    let names : lists_in (take (length lists - 1) (drop 1 lists)) ≡ (named (map (pieces space) (pieces feed t))).1 =
-    names_behind lists (named (map (pieces space) (pieces feed t))) (ap lists_in same ∙ h) in
-    d ∙ (λ i. chronicle_of (run (opening (e i)) (replayed (e i) (names i))))
+replayed_ok s copy t most items lists (Err x) e same m h d = tt
+replayed_ok s copy t most items lists (Ok c) e same m h d =
+    let all : Named = named (map (pieces space) (pieces feed t)) in
+    let count : most ≡ suc (suc s.bound) = omega (arith, m) in
+    let names : lists_in (take (length lists - 1) (drop 1 lists)) ≡ take (suc s.bound) all.1 =
+    names_behind lists all (suc s.bound) (ap lists_in same ∙ (h ∙ ap (λ n. take n (all_names all)) count)) in
+    d ∙ ((λ i. chronicle_of (run (opening (e i)) (replayed (e i) (names i)))) ∙ ap (λ (events : List Event). chronicle_of (run (opening s) events)) (first_rounds (suc s.bound) all.1 (opening s)))

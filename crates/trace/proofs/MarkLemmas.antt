@@ -1,11 +1,17 @@
 -- What a line says, by its first word.
-use Rattle.std.proofs.Common.{◌≡◌, ℕ, true, false, List, [], ◌∷◌, refl, ap, ◌∙◌, Bool}
-use Rattle.std.specs.Prelude.{bytes_eq, codes, if◌then◌else◌}
+use Rattle.std.proofs.Common.{◌≡◌, ◌≤◌, ◌++◌, ℕ, true, false, List, [], ◌∷◌, length, take, Vec, refl, sym, ap, ◌∙◌, Bool, arith}
+use Rattle.std.specs.Borrow.{Bor}
+use Rattle.std.specs.Prelude.{Option, None, Some, bytes_eq, codes, if◌then◌else◌}
+use Rattle.std.specs.Global.{Global}
+use Rattle.std.proofs.lemmas.List.{append_assoc, append-nil, length-map, map-append, take_all, take_at}
+use Rattle.world.specs.Playing.{lists_in}
 use Rattle.text.specs.declared.stop.Stop.{Stop}
-use Rattle.text.specs.Stop.{is_stop, space}
-use Rattle.text.specs.Parts.{pieces, onto_first}
-use Rattle.trace.specs.Text.{Word}
-use Rattle.trace.specs.Names.{Named, with_line}
+use Rattle.text.specs.Stop.{is_stop, feed, space}
+use Rattle.text.specs.Parts.{GivesPieces, pieces, onto_first}
+use Rattle.trace.specs.Text.{Line, Word}
+use Rattle.trace.specs.Names.{Named, named, with_line}
+use Rattle.trace.specs.Marks.{all_names, behind, lines_left, marked}
+use Rattle.trace.specs.declared.named.Mark.TheVariants.{Round}
 
 -- there is a piece
 some_piece : (stop : Stop) (t : List ℕ) → (v : List ℕ) × (vs : List (List ℕ)) × (pieces stop t ≡ v ∷ vs)
@@ -26,3 +32,31 @@ round_said all w t e is rest =
     let p = some_piece space t in
     let same : all ≡ w ∷ p.0 ∷ p.1 = e ∙ ap (λ ps. w ∷ ps) p.2 in
     rw (same, is) refl
+
+-- the first lists, where others may come behind them
+pub first_lists : (lists : List (Vec ℕ Global)) (rest all : List (List ℕ)) (most : ℕ) → lists_in lists ++ rest ≡ all → length lists ≡ most → lists_in lists ≡ take most all
+first_lists lists rest all most is long =
+    sym (take_at (lists_in lists) rest most (length-map lists (λ (v : Vec ℕ Global). v.items) ∙ long)) ∙ ap (take most) is
+
+-- all of them, where they are no more
+pub few_lists : (lists : List (Vec ℕ Global)) (all : List (List ℕ)) (most : ℕ) → lists_in lists ≡ all → length lists ≤ most → lists_in lists ≡ take most all
+few_lists lists all most is few =
+    sym (take_all most (lists_in lists) (let e : length (lists_in lists) ≡ length lists = length-map lists (λ (v : Vec ℕ Global). v.items) in omega arith)) ∙ ap (take most) is
+
+-- a round that begins leaves the names before it behind
+pub round_begun : (rounds pushed : List (Vec ℕ Global)) (names : Vec ℕ Global) (line : Line) (lines left : List Line) (all : List (List ℕ))
+    → pushed ≡ rounds ++ names ∷ [] → left ≡ line ∷ lines → ((rest : Named) → marked Round rest ≡ with_line line rest)
+    → lists_in rounds ++ all_names (behind names.items (named left)) ≡ all → lists_in pushed ++ all_names (named lines) ≡ all
+round_begun rounds pushed names line lines left all is split begins told =
+    let each : Vec ℕ Global → List ℕ = λ v. v.items in
+    let later : named left ≡ ([], (named lines).0 ∷ (named lines).1) = ap named split ∙ sym (begins (named lines)) in
+    let held : lists_in rounds ++ ((names.items ++ []) ∷ all_names (named lines)) ≡ all = ap (λ (n : Named). lists_in rounds ++ all_names (behind names.items n)) (sym later) ∙ told in
+    let front : lists_in pushed ≡ lists_in rounds ++ names.items ∷ [] = ap lists_in is ∙ map-append each rounds (names ∷ []) in
+    ap (λ (ls : List (List ℕ)). ls ++ all_names (named lines)) front
+    ∙ (append_assoc (lists_in rounds) (names.items ∷ []) (all_names (named lines))
+    ∙ (ap (λ (ns : List ℕ). lists_in rounds ++ (ns ∷ all_names (named lines))) (sym (append-nil names.items)) ∙ held))
+
+-- the lines of what is left, by its first
+pub lines_split : (line : List ℕ) (rest : Option (Bor (List ℕ))) (all : List (List ℕ)) → GivesPieces feed line rest all → all ≡ line ∷ lines_left rest
+lines_split line None all gives = gives
+lines_split line (Some rest) all gives = gives

@@ -56,7 +56,9 @@ fn version_named(rule: Rule, text: &[u8]) -> Option<Version>
 fn replayed(alloc: Global, scenario: &Scenario, text: &[u8]) -> Result<Chronicle, AllocError>
     ensures { IfOk result (λ chronicle. chronicle ≡ chronicle_told scenario.now text.now) }
 {
-    let lists = names(alloc, text)?;
+    // The names before the first round, and those of each of the campaign's rounds.
+    let most = scenario.bound() as usize + 2;
+    let lists = names(alloc, text, most)?;
     replay(alloc, scenario.copy(alloc)?, &lists[1..])
 }
 

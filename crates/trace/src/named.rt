@@ -1,5 +1,5 @@
 //! Who makes the accesses of each round, as a chronicle's text tells it.
-ghost use Rattle.std.specs.Prelude.{◌≡◌, ◌∷◌, ◌++◌, map, IfOk};
+ghost use Rattle.std.specs.Prelude.{◌≡◌, ◌<◌, ◌∷◌, ◌++◌, map, take, IfOk};
 ghost use Rattle.text.specs.Stop.{space, feed};
 ghost use Rattle.text.specs.Parts.{pieces};
 ghost use Rattle.world.specs.Playing.{lists_in};
@@ -60,12 +60,15 @@ fn said(line: &[u8]) -> Mark
 }
 
 /// The generals of a text's accesses, in order: first those before the line of a round, then those behind each such line.
+/// There are at most so many lists, and no more is read than they need.
 ///
 /// # Errors
 ///
 /// `AllocError` where memory is refused.
-pub fn names(alloc: Global, text: &[u8]) -> Result<Vec<Vec<u8>>, AllocError>
-    ensures { IfOk result (λ lists. lists_in lists.items ≡ all_names (named (map (pieces space) (pieces feed text.now)))) }
+#[tactic(auto, using(crate::proofs::MarkLemmas::few_lists))]
+pub fn names(alloc: Global, text: &[u8], most: usize) -> Result<Vec<Vec<u8>>, AllocError>
+    requires { 0 < most }
+    ensures { IfOk result (λ lists. lists_in lists.items ≡ take most (all_names (named (map (pieces space) (pieces feed text.now))))) }
 {
     let mut rounds = Vec::new(alloc);
     let mut names = Vec::new(alloc);
@@ -75,6 +78,9 @@ pub fn names(alloc: Global, text: &[u8]) -> Result<Vec<Vec<u8>>, AllocError>
         match said(line) {
             Mark::Round => {
                 rounds.push(names)?;
+                if rounds.len() == most {
+                    return Ok(rounds);
+                }
                 names = Vec::new(alloc);
             }
             Mark::Access(general) => names.push(general)?,

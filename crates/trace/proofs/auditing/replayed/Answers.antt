@@ -1,6 +1,7 @@
+use Rattle.std.proofs.Common.{◌+◌, ap}
 use Rattle.trace.proofs.AuditLemmas.{replayed_ok}
 use Rattle.trace.proofs.auditing.replayed.Goals as goal
 
 pub returns : goal.returns
 returns c =
-    replayed_ok c.args.scenario.now c.in_ok-copy.field-0 c.args.text.now c.in_ok-lists.lists.items c.deref.result.now c.replay.result c.in_ok-copy.ensures c.deref.ensures.value c.in_ok-lists.ensures c.replay.ensures.replayed
+    replayed_ok c.args.scenario.now c.in_ok-copy.field-0 c.args.text.now (c.bound.result + 2) c.in_ok-lists.lists.items c.deref.result.now c.replay.result c.in_ok-copy.ensures c.deref.ensures.value (ap (λ n. n + 2) c.bound.ensures.same) c.in_ok-lists.ensures c.replay.ensures.replayed
