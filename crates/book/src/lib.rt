@@ -1,7 +1,12 @@
 //! Oral messages by the book: the recursion over a table of messages, and the agreement theorem.
 #![tactic(auto)]
 
+mod blanks;
+mod conditions;
+mod explaining;
 mod fault;
+mod judging;
+mod listing;
 mod message;
 mod parts;
 mod placing;
@@ -10,7 +15,11 @@ mod recursion;
 mod table;
 mod theorem;
 
+pub use blanks::form;
+pub use conditions::{Conditions, Obedience};
+pub use explaining::explain;
 pub use fault::TableError;
+pub use judging::judge;
 pub use message::Message;
 pub use reader::read_table;
 pub use recursion::{decision, decisions};
