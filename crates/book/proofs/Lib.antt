@@ -10,3 +10,4 @@ pub mod WholeLemmas
 pub mod Gathering
 pub mod ListLemmas
 pub mod TextLemmas
+pub mod ConditionLemmas

@@ -8,3 +8,4 @@ pub mod Laws
 pub mod Conditions
 pub mod Explained
 pub mod Forms
+pub mod Consistency
