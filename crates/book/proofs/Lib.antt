@@ -7,3 +7,7 @@ pub mod ReadingLemmas
 pub mod ToldLemmas
 pub mod TreeLemmas
 pub mod WholeLemmas
+pub mod Gathering
+pub mod ListLemmas
+pub mod TextLemmas
+pub mod ConditionLemmas

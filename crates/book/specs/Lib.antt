@@ -5,3 +5,7 @@ pub mod Trees
 pub mod Grammar
 pub mod Reading
 pub mod Laws
+pub mod Conditions
+pub mod Explained
+pub mod Forms
+pub mod Consistency

@@ -1,7 +1,12 @@
 //! Oral messages by the book: the recursion over a table of messages, and the agreement theorem.
 #![tactic(auto)]
 
+mod blanks;
+mod conditions;
+mod explaining;
 mod fault;
+mod judging;
+mod listing;
 mod message;
 mod parts;
 mod placing;
@@ -10,9 +15,13 @@ mod recursion;
 mod table;
 mod theorem;
 
+pub use blanks::form;
+pub use conditions::{Conditions, Obedience};
+pub use explaining::explain;
 pub use fault::TableError;
+pub use judging::judge;
 pub use message::Message;
 pub use reader::read_table;
 pub use recursion::{decision, decisions};
 pub use table::Table;
-pub use theorem::{agreement, told_tables_are_whole};
+pub use theorem::{agreement, conditions_mean, told_tables_are_whole};

@@ -51,7 +51,7 @@ fn read_head(alloc: Global, line: &[u8]) -> Result<Table, TableError>
 }
 
 /// Whether a campaign's numbers are within their limits.
-fn is_within(generals: u128, bound: u128, commander: u128) -> bool
+pub(crate) fn is_within(generals: u128, bound: u128, commander: u128) -> bool
     ensures { result ≡ is_within generals bound commander }
 {
     generals <= 13 && bound <= 4 && bound + 2 <= generals && commander < generals

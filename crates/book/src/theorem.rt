@@ -1,4 +1,5 @@
 //! The agreement theorem, and what holds of every table that is told: each function does nothing, and its contract is the law.
+ghost use Rattle.book.specs.Consistency.{ConditionsMean};
 ghost use Rattle.book.specs.Laws.{ToldTablesAreWhole};
 ghost use Rattle.book.specs.Theorem.{AgreementHolds};
 
@@ -10,4 +11,10 @@ pub fn agreement()
 /// A table that a text tells has numbers within their limits, messages of its campaign, and each at most once.
 pub fn told_tables_are_whole()
     ensures { ToldTablesAreWhole }
+{}
+
+/// The conditions that `judge` tells are IC1 and IC2 of the decisions of those who are not named, and hold where the
+/// theorem says so.
+pub fn conditions_mean()
+    ensures { ConditionsMean }
 {}

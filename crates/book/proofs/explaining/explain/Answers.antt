@@ -1,0 +1,27 @@
+use Rattle.std.proofs.Common.{◌≡◌, ◌∙◌, ◌++◌, ◌∷◌, [], arith, sym, ap, refl, true, false}
+use Rattle.std.specs.List.{flat_map}
+use Rattle.std.specs.String.{string_bytes}
+use Rattle.label.specs.Labels.{on, others}
+use Rattle.book.specs.Explained.{lieutenant_lines}
+use Rattle.book.proofs.Gathering.{lines_yes, lines_no, off_first, on_first}
+use Rattle.book.proofs.TextLemmas.{explained_whole}
+use Rattle.book.proofs.explaining.explain.Goals as goal
+use Rattle.book.proofs.explaining.explain.Goals.{then-general-commander+in_ok-push_lieutenant, else-general-commander}
+
+pub loop-general-preserved : goal.loop-general-preserved
+loop-general-preserved c =
+    let line = lieutenant_lines c.args.table.now c.args.traitors.now in
+    elim c.if-general-commander.branch [
+      | then-general-commander+in_ok-push_lieutenant w ↦
+          let off = off_first c.args.table.now.commander c.loop-general.general [] (λ e. w.if-general-commander.true (e ∙ sym c.commander.ensures.value)) refl in
+          rw (w.lines-is, w.in_ok-push_lieutenant.ensures, c.loop-general.invariant) (sym (lines_yes line (c.args.table.now.commander ∷ []) c.loop-general.general off))
+      | else-general-commander w ↦
+          let first = on_first c.args.table.now.commander c.loop-general.general [] (w.if-general-commander.false ∙ c.commander.ensures.value) in
+          rw (w.lines-is, c.loop-general.invariant) (sym (lines_no line (c.args.table.now.commander ∷ []) c.loop-general.general first))
+    ]
+
+pub returns : goal.returns
+returns c =
+    let value = c.generals-general-end.ensures.value in
+    let all : c.loop-general.general ≡ c.args.table.now.generals = omega arith in
+    explained_whole c.args.table.now c.args.traitors.now c.loop-general.general c.judge.result (string_bytes c.loop-general.lines) (string_bytes c.push_conditions.new.lines) all c.loop-general.invariant c.judge.ensures c.in_ok-push_conditions.ensures

@@ -1,0 +1,9 @@
+use Rattle.std.proofs.Common.{◌≡◌, ◌∷◌, []}
+use Rattle.std.specs.List.{flat_map}
+use Rattle.std.specs.String.{string_bytes}
+use Rattle.label.specs.Labels.{others}
+use Rattle.book.specs.Explained.{lieutenant_lines}
+use Rattle.book.proofs.explaining.explain.Given as goal
+
+abbrev pub invariant-loop-general : goal.invariant-loop-general
+invariant-loop-general l = string_bytes l.lines ≡ flat_map (lieutenant_lines l.table l.traitors) (others l.general (l.table.commander ∷ []))

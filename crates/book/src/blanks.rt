@@ -1,0 +1,92 @@
+//! Message tables to fill in.
+ghost use Rattle.std.specs.Prelude.{◌≡◌, ◌≢◌, ◌≤◌, ◌+◌, ◌++◌, true, false, length, IfOk, IfErr, OnOk, string_bytes};
+ghost use Rattle.book.specs.declared.fault.TableError.TheVariants.{Memory, Range};
+ghost use Rattle.book.specs.Forms.{blank_line, blank_lines, form_text};
+ghost use Rattle.book.specs.Grammar.{is_within};
+
+use crate::fault::TableError;
+use crate::listing::dotted;
+use crate::reader::is_within;
+use label::Label;
+use std::alloc::{AllocError, Global};
+
+/// The message table of a campaign, to fill in: its first line, and a line for each label and receiver, the shorter
+/// labels first, with a question mark for the order. `read_table` refuses each line until its mark is an order.
+///
+/// # Errors
+///
+/// `Range` exactly where the numbers are out of their limits, as `read_table` refuses such a first line; `Memory`
+/// where there is none for the text.
+pub fn form(alloc: Global, generals: u64, bound: u64, commander: u64) -> Result<String, TableError>
+    ensures form { IfOk result (λ text. string_bytes text ≡ form_text generals bound commander) }
+    ensures within { IfOk result (λ _. is_within generals bound commander ≡ true) }
+    ensures fault { IfErr result (λ e. e ≢ Memory → (e ≡ Range 1) × (is_within generals bound commander ≡ false)) }
+{
+    if !is_within(
+        u128::from(generals),
+        u128::from(bound),
+        u128::from(commander),
+    ) {
+        return Err(TableError::Range(1));
+    }
+    let mut text = format!(in alloc; "generals {generals} bound {bound} commander {commander}\n")?;
+    let label = Label::of(commander as u8);
+    for more in 0..bound as u8 + 1 {
+        push_blanks(alloc, &mut text, generals as u8, &label, more)?;
+    }
+    Ok(text)
+}
+
+/// Adds the lines of the labels that have so many generals more than this one.
+fn push_blanks(
+    alloc: Global,
+    text: &mut String,
+    generals: u8,
+    label: &Label,
+    more: u8,
+) -> Result<(), AllocError>
+    requires few { generals ≤ 13 }
+    requires room { length label.now + more ≤ 13 }
+    ensures { OnOk result (string_bytes text.new ≡ string_bytes text.old ++ blank_lines generals more label.now) }
+{
+    if more == 0 {
+        return push_receivers(alloc, text, generals, label);
+    }
+    for general in 0..generals {
+        if !label.has(general) {
+            push_blanks(alloc, text, generals, &label.with(general), more - 1)?;
+        }
+    }
+    Ok(())
+}
+
+/// Adds the lines of a label, for all who are off it.
+fn push_receivers(
+    alloc: Global,
+    text: &mut String,
+    generals: u8,
+    label: &Label,
+) -> Result<(), AllocError>
+    ensures { OnOk result (string_bytes text.new ≡ string_bytes text.old ++ blank_lines generals 0 label.now) }
+{
+    for receiver in 0..generals {
+        if !label.has(receiver) {
+            push_blank(alloc, text, label, receiver)?;
+        }
+    }
+    Ok(())
+}
+
+/// Adds the line of a label and a receiver.
+fn push_blank(
+    alloc: Global,
+    text: &mut String,
+    label: &Label,
+    receiver: u8,
+) -> Result<(), AllocError>
+    ensures { OnOk result (string_bytes text.new ≡ string_bytes text.old ++ blank_line label.now receiver) }
+{
+    let label = dotted(alloc, label)?;
+    let line = format!(in alloc; "tell {label} {receiver} ?\n")?;
+    text.push_str(line.as_str())
+}

@@ -1,0 +1,188 @@
+//! How the lieutenants of a table come to their decisions, as a text.
+ghost use Rattle.std.specs.Prelude.{◌≡◌, ◌≢◌, ◌<◌, ◌++◌, IfOk, OnOk, string_bytes};
+ghost use Rattle.book.specs.Conditions.{judged};
+ghost use Rattle.book.specs.Explained.{alike_line, bound_line, condition_lines, decision_line, enough_part, enough_words, explained, few_part, few_words, lieutenant_lines, mark, obedience_line, yes_no};
+
+use crate::conditions::{Conditions, Obedience};
+use crate::judging::{is_named, judge};
+use crate::listing::push_lists;
+use crate::recursion::decision;
+use crate::table::Table;
+use label::Label;
+use std::alloc::{AllocError, Global};
+
+/// How the lieutenants come to their decisions: for each, ascending, the list that he combines at each label, and his
+/// decision; then whether the bound and the conditions hold, where these generals are named as traitors.
+///
+/// # Errors
+///
+/// No memory for the text.
+pub fn explain(alloc: Global, table: &Table, traitors: &[u8]) -> Result<String, AllocError>
+    ensures { IfOk result (λ text. string_bytes text ≡ explained table.now traitors.now) }
+{
+    let mut lines = String::new(alloc);
+    for general in 0..table.generals() {
+        if general != table.commander() {
+            push_lieutenant(alloc, &mut lines, table, traitors, general)?;
+        }
+    }
+    push_conditions(alloc, &mut lines, table, &judge(table, traitors))?;
+    Ok(lines)
+}
+
+/// Adds the lines of a lieutenant.
+fn push_lieutenant(
+    alloc: Global,
+    lines: &mut String,
+    table: &Table,
+    traitors: &[u8],
+    general: u8,
+) -> Result<(), AllocError>
+    requires general { general < table.now.generals }
+    requires lieutenant { general ≢ table.now.commander }
+    ensures { OnOk result (string_bytes lines.new ≡ string_bytes lines.old ++ lieutenant_lines table.now traitors.now general) }
+{
+    let head = format!(in alloc; "lieutenant {general}\n")?;
+    lines.push_str(head.as_str())?;
+    let label = Label::of(table.commander());
+    push_lists(alloc, lines, table, general, &label, table.bound())?;
+    push_decision(
+        alloc,
+        lines,
+        general,
+        is_named(traitors, general),
+        decision(table, general),
+    )
+}
+
+/// Adds the line of a decision.
+fn push_decision(
+    alloc: Global,
+    lines: &mut String,
+    general: u8,
+    is_named: bool,
+    order: u32,
+) -> Result<(), AllocError>
+    ensures { OnOk result (string_bytes lines.new ≡ string_bytes lines.old ++ decision_line general is_named order) }
+{
+    let mark = mark(is_named);
+    let line = format!(in alloc; "decision {general}{mark}{order}\n")?;
+    lines.push_str(line.as_str())
+}
+
+/// What marks the decision of one who is named.
+fn mark(named: bool) -> &'static str
+    ensures { result.now ≡ mark named }
+{
+    if named { " traitor " } else { " " }
+}
+
+/// Adds whether the bound and the conditions hold.
+fn push_conditions(
+    alloc: Global,
+    lines: &mut String,
+    table: &Table,
+    met: &Conditions,
+) -> Result<(), AllocError>
+    ensures { OnOk result (string_bytes lines.new ≡ string_bytes lines.old ++ condition_lines table.now met.now) }
+{
+    let bound = bound_line(alloc, table, met)?;
+    lines.push_str(bound.as_str())?;
+    lines.push_str(alike_line(met.alike))?;
+    let obedience = obedience_line(alloc, met.obedience)?;
+    lines.push_str(obedience.as_str())
+}
+
+/// Whether the bound holds, with its numbers.
+fn bound_line(alloc: Global, table: &Table, met: &Conditions) -> Result<String, AllocError>
+    ensures { IfOk result (λ text. string_bytes text ≡ bound_line table.now met.now) }
+{
+    let mut line = enough_part(alloc, table, met)?;
+    let few = few_part(alloc, table, met)?;
+    line.push_str(few.as_str())?;
+    Ok(line)
+}
+
+/// Whether there are enough generals.
+fn enough_part(alloc: Global, table: &Table, met: &Conditions) -> Result<String, AllocError>
+    ensures { IfOk result (λ text. string_bytes text ≡ enough_part table.now met.now) }
+{
+    let holds = yes_no(met.bound);
+    let generals = table.generals();
+    let enough = enough_words(met.enough);
+    let bound = table.bound();
+    format!(in alloc; "bound {holds}: {generals} generals, {enough}{bound}")
+}
+
+/// Whether few enough are named.
+fn few_part(alloc: Global, table: &Table, met: &Conditions) -> Result<String, AllocError>
+    ensures { IfOk result (λ text. string_bytes text ≡ few_part table.now met.now) }
+{
+    let named = met.named;
+    let few = few_words(met.few);
+    let bound = table.bound();
+    format!(in alloc; "; {named} named as traitors, {few}{bound}\n")
+}
+
+#[tactic(auto, unfolding(crate::specs::Explained::yes_no))]
+fn yes_no(is_so: bool) -> &'static str
+    ensures { result.now ≡ yes_no is_so }
+{
+    if is_so { "yes" } else { "no" }
+}
+
+/// More than, or not.
+#[tactic(auto, unfolding(crate::specs::Explained::enough_words))]
+fn enough_words(is_so: bool) -> &'static str
+    ensures { result.now ≡ enough_words is_so }
+{
+    if is_so {
+        "more than 3 times "
+    } else {
+        "not more than 3 times "
+    }
+}
+
+/// At most, or not.
+#[tactic(auto, unfolding(crate::specs::Explained::few_words))]
+fn few_words(is_so: bool) -> &'static str
+    ensures { result.now ≡ few_words is_so }
+{
+    if is_so { "at most " } else { "more than " }
+}
+
+/// Whether the loyal lieutenants decide alike.
+fn alike_line(alike: bool) -> &'static str
+    ensures { result.now ≡ alike_line alike }
+{
+    if alike {
+        "IC1 yes: the loyal lieutenants decide alike\n"
+    } else {
+        "IC1 no: the loyal lieutenants do not decide alike\n"
+    }
+}
+
+/// Whether they follow the commander.
+fn obedience_line(alloc: Global, obedience: Obedience) -> Result<String, AllocError>
+    ensures { IfOk result (λ text. string_bytes text ≡ obedience_line obedience) }
+{
+    match obedience {
+        Obedience::Traitor => {
+            String::from_str(alloc, "IC2 -: the commander is named as a traitor\n")
+        }
+        Obedience::Unlike => String::from_str(
+            alloc,
+            "IC2 -: the commander did not tell all the same order, as a loyal one does\n",
+        ),
+        Obedience::Obeyed(order) => {
+            format!(in alloc;
+                "IC2 yes: each loyal lieutenant decides {order}, as the commander told all\n"
+            )
+        }
+        Obedience::Disobeyed(order) => {
+            format!(in alloc;
+                "IC2 no: not each loyal lieutenant decides {order}, as the commander told all\n"
+            )
+        }
+    }
+}

@@ -1,0 +1,155 @@
+//! Whether the lieutenants of a table agree, as far as their decisions tell it.
+ghost use Rattle.std.specs.Prelude.{◌≡◌, ◌≤◌, ◌==◌, ◌*◌, nat_lt, count_by, length};
+ghost use Rattle.std.specs.List.{list_all};
+ghost use Rattle.label.specs.Labels.{on, generals};
+ghost use Rattle.book.specs.Conditions.{are_alike, is_told, judged, loyal_decisions, named_in, obedience_in, obedience_to, same_order, sent};
+
+use crate::conditions::{Conditions, Obedience};
+use crate::recursion::decision;
+use crate::table::Table;
+use arrayvec::ArrayVec;
+use label::Label;
+
+/// Whether the bound and the conditions hold in a table, where these generals are named as traitors and all others
+/// count as loyal.
+#[tactic(auto, unfolding(crate::specs::Conditions::judged))]
+pub fn judge(table: &Table, traitors: &[u8]) -> Conditions
+    ensures { result ≡ judged table.now traitors.now }
+{
+    let named = named_among(traitors, table.generals());
+    let enough = 3 * table.bound() < table.generals();
+    let few = named <= table.bound();
+    let decisions = loyal_decisions(table, traitors);
+    let orders = sent(table);
+    let order = same_order(orders.as_slice());
+    let is_named = is_named(traitors, table.commander());
+    Conditions {
+        named,
+        enough,
+        few,
+        bound: enough && few,
+        alike: are_alike(decisions.as_slice()),
+        obedience: obedience_in(is_named, order, decisions.as_slice()),
+    }
+}
+
+/// Whether the general is named.
+pub(crate) fn is_named(traitors: &[u8], general: u8) -> bool
+    ensures { result ≡ on traitors.now general }
+{
+    traitors.iter().any(|x| *x == general)
+}
+
+/// How many of so many generals are named.
+fn named_among(traitors: &[u8], all: u8) -> u8
+    ensures count { result ≡ count_by (on traitors.now) (generals all) }
+    ensures few { result ≤ all }
+{
+    let mut named = 0;
+    for general in 0..all {
+        if is_named(traitors, general) {
+            named += 1;
+        }
+    }
+    named
+}
+
+/// What the lieutenants who are not named decide, ascending.
+fn loyal_decisions(table: &Table, traitors: &[u8]) -> ArrayVec<u32, 13>
+    ensures { result.items ≡ loyal_decisions table.now traitors.now }
+{
+    let commander = table.commander();
+    let mut decisions = ArrayVec::new();
+    for general in 0..table.generals() {
+        if general != commander && !is_named(traitors, general) {
+            decisions.push(decision(table, general));
+        }
+    }
+    decisions
+}
+
+/// What the commander told the lieutenants, ascending.
+fn sent(table: &Table) -> ArrayVec<Option<u32>, 13>
+    ensures { result.items ≡ sent table.now }
+{
+    let commander = table.commander();
+    let label = Label::of(commander);
+    let mut orders = ArrayVec::new();
+    for general in 0..table.generals() {
+        if general != commander {
+            orders.push(table.told(&label, general));
+        }
+    }
+    orders
+}
+
+/// Whether all are the same.
+fn are_alike(decisions: &[u32]) -> bool
+    ensures { result ≡ are_alike decisions.now }
+{
+    match decisions {
+        [] => true,
+        [first, rest @ ..] => all_are(rest, *first),
+    }
+}
+
+/// Whether each is this order.
+fn all_are(decisions: &[u32], order: u32) -> bool
+    ensures { result ≡ list_all (λ d. d == order) decisions.now }
+{
+    decisions.iter().all(|decision| *decision == order)
+}
+
+/// The order that all were told, if they were told the same.
+fn same_order(orders: &[Option<u32>]) -> Option<u32>
+    ensures { result ≡ same_order orders.now }
+{
+    match orders {
+        [Some(first), rest @ ..] if all_told(rest, *first) => Some(*first),
+        _ => None,
+    }
+}
+
+/// Whether each was told this order.
+fn all_told(orders: &[Option<u32>], order: u32) -> bool
+    ensures { result ≡ list_all (is_told order) orders.now }
+{
+    orders.iter().all(|told| is_told(*told, order))
+}
+
+/// Whether this order was told.
+fn is_told(told: Option<u32>, order: u32) -> bool
+    ensures { result ≡ is_told order told }
+{
+    match told {
+        Some(other) => other == order,
+        None => false,
+    }
+}
+
+/// Whether a commander is obeyed who told all this order.
+fn obedience_to(order: Option<u32>, decisions: &[u32]) -> Obedience
+    ensures { result ≡ obedience_to order decisions.now }
+{
+    match order {
+        None => Obedience::Unlike,
+        Some(order) => {
+            if all_are(decisions, order) {
+                Obedience::Obeyed(order)
+            } else {
+                Obedience::Disobeyed(order)
+            }
+        }
+    }
+}
+
+/// The same of a commander who may be named.
+fn obedience_in(is_named: bool, order: Option<u32>, decisions: &[u32]) -> Obedience
+    ensures { result ≡ obedience_in is_named order decisions.now }
+{
+    if is_named {
+        Obedience::Traitor
+    } else {
+        obedience_to(order, decisions)
+    }
+}
