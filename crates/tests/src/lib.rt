@@ -10,11 +10,15 @@ mod bytecode;
 #[cfg(test)]
 mod cells;
 #[cfg(test)]
+mod helpers;
+#[cfg(test)]
 mod known_bits;
 #[cfg(test)]
 mod labels;
 #[cfg(test)]
 mod outboxes;
+#[cfg(test)]
+mod programs;
 #[cfg(test)]
 mod ranges;
 #[cfg(test)]
