@@ -9,6 +9,7 @@ pub mod WordLemmas
 pub mod WordsLemmas
 pub mod OutlineLemmas
 pub mod RoundLemmas
+pub mod SectionLemmas
 pub mod TableLaws
 pub mod SaidLemmas
 pub mod FirstLemmas

@@ -259,7 +259,7 @@ fn search(all: &[Mnemonic], word: &[u8]) -> Option<Mnemonic>
 }
 
 /// The mnemonics of the table that begin as this word does; all of them where none begins so, and then none is the word.
-#[tactic(auto, unfolding(crate::specs::Table::mnemonic_of, crate::specs::Table::mnemonics))]
+#[tactic(auto)]
 fn section(word: &[u8]) -> &'static [Mnemonic]
     ensures { first_named word.now result.now ≡ mnemonic_of word.now }
 {
@@ -270,9 +270,9 @@ fn section(word: &[u8]) -> &'static [Mnemonic]
         [b'd', ..] => &MNEMONICS[10..12],
         [b'e', ..] => &MNEMONICS[12..13],
         [b'j', b's', ..] => &MNEMONICS[21..37],
-        [b'j', ..] => &MNEMONICS[13..33],
+        [b'j', ..] => &MNEMONICS[13..37],
         [b'l', b'd', ..] => &MNEMONICS[42..50],
-        [b'l', ..] => &MNEMONICS[37..42],
+        [b'l', ..] => &MNEMONICS[37..50],
         [b'm', ..] => &MNEMONICS[50..61],
         [b'n', ..] => &MNEMONICS[61..63],
         [b'o', ..] => &MNEMONICS[63..65],

@@ -20,7 +20,7 @@ use std::alloc::Global;
 use std::collections::BTreeMap;
 
 /// The distance to a goal, counted from the unit behind the jump.
-#[tactic(auto, unfolding(crate::specs::Distance::distance_of))]
+#[tactic(auto)]
 fn distance(names: &BTreeMap<&[u8], u64>, unit: u64, aim: &Aim, name: &[u8]) -> Option<Number>
     requires { unit < 4096 }
     ensures { (ds : List (List ℕ × ℕ)) → Finds names.now ds → result ≡ distance_of ds unit (aim_view aim.now name.now) }

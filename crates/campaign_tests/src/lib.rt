@@ -16,10 +16,6 @@ mod lives;
 #[cfg(test)]
 mod musters;
 #[cfg(test)]
-mod musters_served;
-#[cfg(test)]
-mod plays;
-#[cfg(test)]
 mod posts;
 #[cfg(test)]
 mod rounds;

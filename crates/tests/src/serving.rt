@@ -4,39 +4,114 @@ use command_line::Task;
 use lab::serve;
 use std::alloc::Global;
 use std::io::{self, ErrorKind, Read, Write};
-use std::process::Abort;
 use std::sync::Wait;
 use std::test::Fail;
 use std::thread::Threads;
 
-/// The task on these bytes has this status, and prints this and this fault.
-fn row(
-    rt: &(impl Abort + Threads + Wait + Sync),
-    alloc: Global,
-    task: &Task,
-    bytes: &[u8],
-    expected: (u8, &str, &str),
-) -> Result<(), Fail> {
-    let (status, printed, fault) = expected;
-    let mut out = Vec::new(alloc);
-    let mut complaint = Vec::new(alloc);
-    let answer = serve(rt, alloc, task, bytes, None, &mut out, &mut complaint);
-    assert_eq!(rt; out.as_slice(), printed.as_bytes());
-    assert_eq!(rt; complaint.as_slice(), fault.as_bytes());
-    assert_eq!(rt; answer, status);
-    Ok(())
+/// A file that can be read, or one that cannot.
+#[derive(Clone, Copy, Drop)]
+pub(crate) enum File<'a> {
+    Bytes(&'a [u8]),
+    Broken,
 }
 
-/// `check` accepts the bytecode, and prints this.
-fn run(
-    rt: &(impl Abort + Threads + Wait + Sync),
+impl<'a> File<'a> {
+    /// A file of this text.
+    pub(crate) fn of(text: &'a str) -> File<'a> {
+        File::Bytes(text.as_bytes())
+    }
+}
+
+impl Read for File<'_> {
+    fn read(&mut self, buf: &mut [u8]) -> io::Result<usize> {
+        match self {
+            File::Bytes(bytes) => bytes.read(buf),
+            File::Broken => Err(io::Error::from(ErrorKind::Other)),
+        }
+    }
+}
+
+/// What a task prints, what is told of a fault, and its status.
+#[derive(Drop)]
+pub(crate) struct Told {
+    pub(crate) out: Vec<u8>,
+    pub(crate) fault: Vec<u8>,
+    pub(crate) status: u8,
+}
+
+impl Told {
+    /// Whether the status is this one, and the text is all that is printed where it is 0, and all that is told elsewhere.
+    pub(crate) fn is(&self, status: u8, text: &str) -> bool {
+        let (out, fault) = if status == 0 { (text, "") } else { ("", text) };
+        self.status == status
+            && self.out.as_slice() == out.as_bytes()
+            && self.fault.as_slice() == fault.as_bytes()
+    }
+}
+
+/// What the task comes to on these files.
+pub(crate) fn served(
+    rt: &(impl Threads + Wait + Sync),
     alloc: Global,
+    task: &Task,
+    file: File,
+    second: Option<File>,
+) -> Told {
+    let mut out = Vec::new(alloc);
+    let mut fault = Vec::new(alloc);
+    let status = serve(rt, alloc, task, file, second, &mut out, &mut fault);
+    Told { out, fault, status }
+}
+
+/// A writer that fails.
+#[derive(Drop)]
+struct Full;
+
+impl Write for Full {
+    fn write(&mut self, _buf: &[u8]) -> io::Result<usize> {
+        Err(io::Error::from(ErrorKind::Other))
+    }
+
+    fn flush(&mut self) -> io::Result<()> {
+        Err(io::Error::from(ErrorKind::Other))
+    }
+}
+
+/// Whether the task on this file tells that its answer cannot be written.
+pub(crate) fn cannot_write(
+    rt: &(impl Threads + Wait + Sync),
+    alloc: Global,
+    task: &Task,
+    file: File,
+) -> bool {
+    let mut fault = Vec::new(alloc);
+    let status = serve(rt, alloc, task, file, None, &mut Full, &mut fault);
+    status == 1 && fault.as_slice() == b"fault write\n".as_slice()
+}
+
+/// Whether the task on this file has this status and this text.
+fn answers(
+    rt: &(impl Threads + Wait + Sync),
+    alloc: Global,
+    task: &Task,
+    file: File,
+    (status, text): (u8, &str),
+) -> bool {
+    served(rt, alloc, task, file, None).is(status, text)
+}
+
+/// Whether the task on the bytes of this hex has this status and this text.
+fn answers_code(
+    rt: &(impl Threads + Wait + Sync),
+    alloc: Global,
+    task: &Task,
     code: &str,
-    lines: &str,
-) -> Result<(), Fail> {
-    let task = Task::Check(String::from_str(alloc, "p.bin")?);
-    let bytes = hex::decode(alloc, code)?;
-    row(rt, alloc, &task, bytes.as_slice(), (0, lines, ""))
+    expected: (u8, &str),
+) -> bool {
+    match hex::decode(alloc, code.trim_end()) {
+        Ok(bytes) => answers(rt, alloc, task, File::Bytes(bytes.as_slice()), expected),
+        Err(_) => false,
+    }
 }
 
 /// Bytecode in hex, and what is printed.
@@ -70,14 +145,6 @@ const PROGRAMS: &[(&str, &str)] = &[
         "accepted 3 instructions 3 units\nr0 18446744073709551488 steps 3\n",
     ),
 ];
-
-#[test]
-fn accepted_programs_are_run(rt: HostRuntime) -> Result<(), Fail> {
-    for &(code, lines) in PROGRAMS {
-        run(&rt, rt.alloc(), code, lines)?;
-    }
-    Ok(())
-}
 
 /// Divisions by zero and overflows in hex, and what is printed.
 const DIVISIONS: &[(&str, &str)] = &[
@@ -115,14 +182,6 @@ const DIVISIONS: &[(&str, &str)] = &[
     ),
 ];
 
-#[test]
-fn division_by_zero_and_overflow_are_run(rt: HostRuntime) -> Result<(), Fail> {
-    for &(code, lines) in DIVISIONS {
-        run(&rt, rt.alloc(), code, lines)?;
-    }
-    Ok(())
-}
-
 /// Bytecode that uses the stack, the context and helpers, in hex, and what is printed.
 const MEMORY_AND_CALLS: &[(&str, &str)] = &[
     (
@@ -151,10 +210,29 @@ const MEMORY_AND_CALLS: &[(&str, &str)] = &[
     ),
 ];
 
+/// Bytecode in hex that is accepted for what is known of single bits, and what is printed.
+const KNOWN_BITS: &[(&str, &str)] = &[
+    (
+        "79122000000000005702000008000000a702000008000000bfa300000000000007030000f7ffffff0f230000000000007203000001000000b7000000000000009500000000000000",
+        "accepted 9 instructions 9 units\nr0 0 steps 9\n",
+    ),
+    (
+        "79122000000000005702000008000000a702000008000000b7000000000000002502010008000000950000000000000079a0f8ff000000009500000000000000",
+        "accepted 8 instructions 8 units\nr0 0 steps 6\n",
+    ),
+];
+
+/// The programs of all these tables.
+const ACCEPTED: &[&[(&str, &str)]] = &[PROGRAMS, DIVISIONS, MEMORY_AND_CALLS, KNOWN_BITS];
+
 #[test]
-fn programs_with_memory_and_calls_are_run(rt: HostRuntime) -> Result<(), Fail> {
-    for &(code, lines) in MEMORY_AND_CALLS {
-        run(&rt, rt.alloc(), code, lines)?;
+fn accepted_programs_are_run(rt: HostRuntime) -> Result<(), Fail> {
+    let alloc = rt.alloc();
+    let task = Task::Check(String::from_str(alloc, "p.bin")?);
+    for table in ACCEPTED {
+        for &(code, lines) in *table {
+            assert!(rt; answers_code(&rt, alloc, &task, code, (0, lines)), "{code}");
+        }
     }
     Ok(())
 }
@@ -225,72 +303,42 @@ fn refusals_name_their_place(rt: HostRuntime) -> Result<(), Fail> {
     let alloc = rt.alloc();
     let task = Task::Check(String::from_str(alloc, "p.bin")?);
     for &(code, line) in REFUSALS {
-        let bytes = hex::decode(alloc, code)?;
-        row(&rt, alloc, &task, bytes.as_slice(), (1, "", line))?;
+        assert!(rt; answers_code(&rt, alloc, &task, code, (1, line)), "{code}");
     }
     Ok(())
 }
 
-/// Bytecode in hex that is accepted for what is known of single bits, and what is printed.
-const KNOWN_BITS: &[(&str, &str)] = &[
+/// Assembly, the status, and what is printed or told.
+const ASSEMBLED: &[(&[u8], u8, &str)] = &[
     (
-        "79122000000000005702000008000000a702000008000000bfa300000000000007030000f7ffffff0f230000000000007203000001000000b7000000000000009500000000000000",
-        "accepted 9 instructions 9 units\nr0 0 steps 9\n",
+        b"mov r0, 42\nexit\n",
+        0,
+        "b70000002a0000009500000000000000\n",
     ),
+    (b"mov r11, 0", 1, "refused A3 line 1\n"),
+    (b"", 1, "refused A7 line 1\n"),
+    (b"exit # \xff", 1, "fault text p.asm\n"),
+    // another spelling than the one that is printed
     (
-        "79122000000000005702000008000000a702000008000000b7000000000000002502010008000000950000000000000079a0f8ff000000009500000000000000",
-        "accepted 8 instructions 8 units\nr0 0 steps 6\n",
+        b"lddw r1, 0x1122334455667788",
+        0,
+        "18010000887766550000000044332211\n",
     ),
+    (b"call board_get", 0, "8500000001000000\n"),
+    (b"call honest", 0, "8500000009000000\n"),
 ];
 
 #[test]
-fn known_bits_are_taken_into_account(rt: HostRuntime) -> Result<(), Fail> {
+fn assembly_is_translated(rt: HostRuntime) -> Result<(), Fail> {
     let alloc = rt.alloc();
-    let task = Task::Check(String::from_str(alloc, "p.bin")?);
-    for &(code, lines) in KNOWN_BITS {
-        let bytes = hex::decode(alloc, code)?;
-        row(&rt, alloc, &task, bytes.as_slice(), (0, lines, ""))?;
+    let task = Task::Assemble(String::from_str(alloc, "p.asm")?);
+    for &(text, status, line) in ASSEMBLED {
+        assert!(rt;
+            answers(&rt, alloc, &task, File::Bytes(text), (status, line)),
+            "{line}"
+        );
     }
     Ok(())
-}
-
-#[test]
-fn assembly_and_bytecode_are_translated(rt: HostRuntime) -> Result<(), Fail> {
-    let alloc = rt.alloc();
-    let assemble = Task::Assemble(String::from_str(alloc, "p.asm")?);
-    let line = "b70000002a0000009500000000000000\n";
-    row(&rt, alloc, &assemble, b"mov r0, 42\nexit\n", (0, line, ""))?;
-    row(
-        &rt,
-        alloc,
-        &assemble,
-        b"mov r11, 0",
-        (1, "", "refused A3 line 1\n"),
-    )?;
-    row(&rt, alloc, &assemble, b"", (1, "", "refused A7 line 1\n"))?;
-    row(
-        &rt,
-        alloc,
-        &assemble,
-        b"exit # \xff",
-        (1, "", "fault text p.asm\n"),
-    )?;
-    let disassemble = Task::Disassemble(String::from_str(alloc, "p.bin")?);
-    let bytes = b"\x07\x01\x00\x00\x44\x33\x22\x11";
-    row(
-        &rt,
-        alloc,
-        &disassemble,
-        bytes,
-        (0, "add r1, 287454020\n", ""),
-    )?;
-    row(
-        &rt,
-        alloc,
-        &disassemble,
-        b"",
-        (1, "", "refused C8 unit 0\n"),
-    )
 }
 
 /// An instruction, and its bytecode in hex.
@@ -310,96 +358,74 @@ const INSTRUCTIONS: &[(&str, &str)] = &[
     ("add r1, 287454020\n", "0701000044332211\n"),
 ];
 
-/// Instructions in another spelling than the one that is printed, and their bytecode in hex.
-const OTHER_SPELLINGS: &[(&str, &str)] = &[
-    (
-        "lddw r1, 0x1122334455667788",
-        "18010000887766550000000044332211\n",
-    ),
-    ("call board_get", "8500000001000000\n"),
-    ("call honest", "8500000009000000\n"),
-];
+/// Whether the instruction and its bytecode say each other.
+fn say_each_other(
+    rt: &(impl Threads + Wait + Sync),
+    alloc: Global,
+    tasks: (&Task, &Task),
+    text: &str,
+    code: &str,
+) -> bool {
+    let (assemble, disassemble) = tasks;
+    answers(rt, alloc, assemble, File::of(text), (0, code))
+        && answers_code(rt, alloc, disassemble, code, (0, text))
+}
 
 #[test]
 fn texts_and_bytes_say_each_other(rt: HostRuntime) -> Result<(), Fail> {
     let alloc = rt.alloc();
     let assemble = Task::Assemble(String::from_str(alloc, "p.asm")?);
     let disassemble = Task::Disassemble(String::from_str(alloc, "p.bin")?);
+    let tasks = (&assemble, &disassemble);
     for &(text, code) in INSTRUCTIONS {
-        row(&rt, alloc, &assemble, text.as_bytes(), (0, code, ""))?;
-        let bytes = hex::decode(alloc, code.trim_end())?;
-        row(&rt, alloc, &disassemble, bytes.as_slice(), (0, text, ""))?;
+        assert!(rt; say_each_other(&rt, alloc, tasks, text, code), "{text}");
     }
-    for &(text, code) in OTHER_SPELLINGS {
-        row(&rt, alloc, &assemble, text.as_bytes(), (0, code, ""))?;
-    }
+    assert!(rt; answers_code(&rt, alloc, &disassemble, "", (1, "refused C8 unit 0\n")));
     Ok(())
 }
+
+/// Tables, the status, and what is printed or told. The third is examples/four.table.
+const TABLES: &[(&[u8], u8, &str)] = &[
+    (
+        b"generals 4 bound 2 commander 0\ntell 0 1 1\ntell 0 2 1\ntell 0 3 1\n\
+          tell 0.2 1 1\ntell 0.2.3 1 1\n",
+        0,
+        "decision 1 1\ndecision 2 0\ndecision 3 0\n",
+    ),
+    (
+        b"generals 3 bound 2 commander 0\n",
+        1,
+        "refused B2 line 1\n",
+    ),
+    (
+        b"generals 4 bound 1 commander 0\ntell 0 1 1\ntell 0 2 0\n\
+          tell 0.1 2 1\ntell 0.1 3 1\ntell 0.2 1 0\ntell 0.2 3 0\n\
+          tell 0.3 1 0\ntell 0.3 2 0\n",
+        0,
+        "decision 1 0\ndecision 2 0\ndecision 3 0\n",
+    ),
+    (b"\xff", 1, "fault text t.txt\n"),
+];
 
 #[test]
 fn tables_are_decided(rt: HostRuntime) -> Result<(), Fail> {
     let alloc = rt.alloc();
     let task = Task::Book(String::from_str(alloc, "t.txt")?);
-    let table = b"generals 4 bound 2 commander 0\ntell 0 1 1\ntell 0 2 1\ntell 0 3 1\n\
-                  tell 0.2 1 1\ntell 0.2.3 1 1\n";
-    let lines = "decision 1 1\ndecision 2 0\ndecision 3 0\n";
-    row(&rt, alloc, &task, table, (0, lines, ""))?;
-    let table = b"generals 3 bound 2 commander 0\n";
-    row(&rt, alloc, &task, table, (1, "", "refused B2 line 1\n"))?;
-    row(&rt, alloc, &task, b"\xff", (1, "", "fault text t.txt\n"))
-}
-
-/// The table of examples/four.table.
-#[test]
-fn the_example_table_is_decided(rt: HostRuntime) -> Result<(), Fail> {
-    let alloc = rt.alloc();
-    let task = Task::Book(String::from_str(alloc, "four.table")?);
-    let table = b"generals 4 bound 1 commander 0\ntell 0 1 1\ntell 0 2 0\n\
-                  tell 0.1 2 1\ntell 0.1 3 1\ntell 0.2 1 0\ntell 0.2 3 0\n\
-                  tell 0.3 1 0\ntell 0.3 2 0\n";
-    let lines = "decision 1 0\ndecision 2 0\ndecision 3 0\n";
-    row(&rt, alloc, &task, table, (0, lines, ""))
-}
-
-/// A reader or writer that fails.
-#[derive(Drop)]
-struct Broken;
-
-impl Read for Broken {
-    fn read(&mut self, _buf: &mut [u8]) -> io::Result<usize> {
-        Err(io::Error::from(ErrorKind::Other))
+    for &(table, status, lines) in TABLES {
+        assert!(rt;
+            answers(&rt, alloc, &task, File::Bytes(table), (status, lines)),
+            "{lines}"
+        );
     }
-}
-
-impl Write for Broken {
-    fn write(&mut self, _buf: &[u8]) -> io::Result<usize> {
-        Err(io::Error::from(ErrorKind::Other))
-    }
-
-    fn flush(&mut self) -> io::Result<()> {
-        Err(io::Error::from(ErrorKind::Other))
-    }
+    Ok(())
 }
 
 #[test]
 fn failing_files_are_told(rt: HostRuntime) -> Result<(), Fail> {
     let alloc = rt.alloc();
     let task = Task::Check(String::from_str(alloc, "p.bin")?);
-    let mut out = Vec::new(alloc);
-    let mut complaint = Vec::new(alloc);
-    assert_eq!(rt;
-        serve(&rt, alloc, &task, Broken, None, &mut out, &mut complaint),
-        1
-    );
-    assert_eq!(rt; out.as_slice(), b"".as_slice());
-    assert_eq!(rt; complaint.as_slice(), b"fault read p.bin\n".as_slice());
-
     let bytes = b"\xb7\0\0\0\x2a\0\0\0\x95\0\0\0\0\0\0\0".as_slice();
-    let mut complaint = Vec::new(alloc);
-    assert_eq!(rt;
-        serve(&rt, alloc, &task, bytes, None, &mut Broken, &mut complaint),
-        1
-    );
-    assert_eq!(rt; complaint.as_slice(), b"fault write\n".as_slice());
+    assert!(rt; answers(&rt, alloc, &task, File::Broken, (1, "fault read p.bin\n")));
+    assert!(rt; cannot_write(&rt, alloc, &task, File::Bytes(bytes)));
     Ok(())
 }

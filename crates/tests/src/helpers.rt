@@ -1,0 +1,28 @@
+//! Helpers by their numbers.
+
+use helper::{Argument, Helper, arguments, helper_of, result};
+
+/// Numbers of helpers, where they are any.
+const NUMBERS: &[(i32, Option<Helper>)] = &[
+    (0, None),
+    (1, Some(Helper::BoardGet)),
+    (6, Some(Helper::Send)),
+    (9, Some(Helper::Honest)),
+    (10, None),
+];
+
+/// `send_row` takes a label and at most 13 orders, `board_copy` answers at most 64.
+fn has_bounds() -> bool {
+    let [first, _, third] = arguments(Helper::SendRow);
+    first == Some(Argument::Label)
+        && third.and_then(|argument| argument.greatest()) == Some(13)
+        && result(Helper::BoardCopy).hi == 64
+}
+
+#[test]
+fn helpers_are_looked_up(rt: HostRuntime) {
+    for &(number, helper) in NUMBERS {
+        assert!(rt; helper_of(number) == helper, "{number}");
+    }
+    assert!(rt; has_bounds());
+}
