@@ -1,6 +1,6 @@
 -- Letters by their generals, and what of a round has been told (own).
 use Rattle.std.specs.Borrow.{Bor}
-use Rattle.std.specs.Prelude.{ℕ, suc, ◌-◌, ◌*◌, ◌<◌, ◌≤◌, ◌≡◌, true, false, List, length, take, slice_index, slice_index_or, slice_get, Option, None, Some}
+use Rattle.std.specs.Prelude.{ℕ, suc, ◌+◌, ◌-◌, ◌*◌, ◌<◌, ◌≤◌, ◌≡◌, true, false, nat_lt, if◌then◌else◌, List, length, take, slice_index, slice_index_or, slice_get, Option, None, Some}
 use Rattle.label.specs.Labels.{on, others, labels}
 use Rattle.label.specs.Oral.{Messages}
 use Rattle.tree.specs.LieutenantTree.{LieutenantTree, IsCampaign, IsFilled, SameCampaign}
@@ -107,6 +107,10 @@ pub record AreTellersOf (row : List Letter) (t : LieutenantTree) (f : Front) (i 
   pub all : AreTellers row t.generals f t.generals (record { count = count; generals = generals; rows = rows })
   pub within : i < count
   pub own : slice_index generals i ≡ t.general
+
+-- the places of a list, where one is passed over
+abbrev pub past : ℕ → ℕ → ℕ
+past own place = if nat_lt place own then place else place + 1
 
 -- what was told of the labels that begin with this one: nothing where the tree's lieutenant stands on it
 pub record IsToldUnder (row : List Letter) (k : ℕ) (f : Front) (t u : LieutenantTree) : Type 0 where

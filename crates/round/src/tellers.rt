@@ -1,8 +1,8 @@
 //! Who is off a label, and what the others' letters tell of it.
-ghost use Rattle.std.specs.Prelude.{◌≡◌, ◌<◌, ◌≤◌, ◌+◌, ℕ, List, length};
+ghost use Rattle.std.specs.Prelude.{◌≡◌, ◌<◌, ◌≤◌, ◌+◌, ℕ, List, None, length, slice_index_or};
 ghost use Rattle.outbox.specs.Rows.{order_of_row};
 ghost use Rattle.round.specs.Letters.{Letter as Written, letter_of};
-ghost use Rattle.round.specs.Delivery.{ArePlaces, AreTellers, AreTellersOf, IsFilledBetween, IsWalk, first_under, order_in_letter, past_under};
+ghost use Rattle.round.specs.Delivery.{ArePlaces, AreTellers, AreTellersOf, IsFilledBetween, IsWalk, first_under, order_in_letter, past, past_under};
 
 use crate::front::Front;
 use crate::letter::Letter;
@@ -53,14 +53,18 @@ pub(crate) fn tell(own: usize, rows: &[Option<&Row>], size: u8, tree: &mut Tree,
     let space = tree.space();
     let width = usize::from(space.generals).saturating_sub(usize::from(size));
     let first = front.ranks[usize::from(space.general)] * width as u32;
-    for place in 0..own {
-        let value = order_of(rows[place], space.general);
-        tree.set(size, first + place as u32, value);
-    }
-    for place in own..width {
-        let value = order_of(rows[place + 1], space.general);
-        tree.set(size, first + place as u32, value);
-    }
+    tree.set_run(size, first, width, |place| {
+        order_past(rows, own, place, space.general)
+    });
+}
+
+/// What the row at this place tells a receiver, where the row of number `own` is passed over.
+fn order_past(rows: &[Option<&Row>], own: usize, place: usize, receiver: u8) -> Option<u32>
+    requires { place + 1 < length rows.now }
+    ensures { result ≡ order_of_row (slice_index_or rows.now (past own place) None) receiver }
+{
+    let number = if place < own { place } else { place + 1 };
+    order_of(rows[number], receiver)
 }
 
 /// The row of the label of that rank in a general's letter, where there is one.
