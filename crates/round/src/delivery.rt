@@ -9,6 +9,7 @@ ghost use Rattle.round.specs.Delivery.{AreApart, AreDueIn, AreEach, AreOfCampaig
 use crate::front::Front;
 use crate::letter::Letter;
 use crate::tellers::{gather, order_of, row_in, tell};
+use outbox::Row;
 use std::slice;
 use tree::Tree;
 
@@ -111,8 +112,9 @@ fn tell_children(
     requires last { front.now.size + 1 ≡ size }
     ensures { AreEach (IsToldUnder letters.now size front.now) trees.old trees.new }
 {
+    let nobody = Row::of_nobody();
     let mut names = [0; 13];
-    let mut rows = [None; 13];
+    let mut rows = [&nobody; 13];
     let count = gather(
         letters,
         places,
@@ -120,6 +122,7 @@ fn tell_children(
         front,
         &mut names[..],
         &mut rows[..],
+        &nobody,
     );
     for number in 0..count {
         let place = tree_of[usize::from(names[number])];

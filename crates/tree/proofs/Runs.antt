@@ -100,8 +100,8 @@ levels-run n c p M k l i j first (v ∷ vs) apart one less e fits =
     let rest = levels-run n c p N k l i j (suc first) vs apart one less e (omega arith) in
     let level : level_told n c p N j ≡ set (level_told n c p M j) first v = also-once M w v p (labels n c p j) first at (λ q there. apart j q first w there at) in
     let levels : levels_from n c p N k l ≡ set (levels_from n c p M k l) i (set (level_told n c p M j) first v) =
-            subst (λ (q : ℕ). levels_from n c p N k l ≡ set (levels_from n c p M k l) i (set (level_told n c p M q) first v)) e
-            (levels-set n c p M w v first k l i less (rw e at) (rw e (λ q there. apart j q first w there at)) (rw e (λ q r there. one j q first r w at there))) in
+    subst (λ (q : ℕ). levels_from n c p N k l ≡ set (levels_from n c p M k l) i (set (level_told n c p M q) first v)) e
+    (levels-set n c p M w v first k l i less (rw e at) (rw e (λ q there. apart j q first w there at)) (rw e (λ q r there. one j q first r w at there))) in
     rw head (rest ∙ (ap (λ rows. set rows i (run_written (suc first) vs (level_told n c p N j))) levels
     ∙ (set-twice (levels_from n c p M k l) i (set (level_told n c p M j) first v) (run_written (suc first) vs (level_told n c p N j))
     ∙ ap (λ row. set (levels_from n c p M k l) i (run_written (suc first) vs row)) level)))

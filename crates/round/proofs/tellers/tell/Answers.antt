@@ -1,8 +1,9 @@
 -- One run of the label's children.
-use Rattle.std.proofs.Common.{rules, ◌≡◌, ◌<◌, ◌≤◌, ◌+◌, ◌-◌, ◌*◌, ◌^◌, ◌∙◌, ℕ, suc, None, length, sym, ap, subst, arith}
-use Rattle.std.specs.Prelude.{slice_index, slice_index_or}
+use Rattle.std.proofs.Common.{rules, ◌≡◌, ◌<◌, ◌≤◌, ◌+◌, ◌-◌, ◌*◌, ◌^◌, ◌∙◌, ℕ, suc, Some, length, sym, ap, subst, arith}
+use Rattle.std.specs.Prelude.{slice_get, slice_index}
+use Rattle.std.specs.Borrow.{Bor}
 use Rattle.std.proofs.lemmas.Option.{slice_get_within}
-use Rattle.outbox.specs.Rows.{order_of_row}
+use Rattle.outbox.specs.Rows.{RowOrders, order_in}
 use Rattle.round.specs.Delivery.{past}
 use Rattle.round.proofs.Delivering.{told_each}
 use Rattle.round.proofs.Naming.{tells_past}
@@ -37,13 +38,13 @@ returns c row places walk a =
     let long : length run.0 ≡ width = run.1.long in
     let fits : start + width ≤ _ = children_fit t row places c.args.size f walk last sp.kind start width ew ef in
     let told = told_each t row c.args.size start c.set_run.new.self run.0 sp.kind c.set_run.ensures.same
-        (λ place v w there stands.
-            let inside : place < length run.0 = slice_get_within run.0 place v there in
-            let within : place < width = omega arith in
-            let answer : v ≡ order_of_row (slice_index_or c.args.rows.now (past c.args.own place) None) c.space-space.result.general = (let p = run.1.each place v there in search rules) in
-            tells_past t row places c.args.size f walk sp.kind c.args.own c.args.rows.now a last start width place ew ef within v
-            (answer ∙ ap (λ (g : ℕ). order_of_row (slice_index_or c.args.rows.now (past c.args.own place) None) g) sp.general) w stands)
-        (omega arith) run.2 in
+    (λ place v w there stands.
+    let inside : place < length run.0 = slice_get_within run.0 place v there in
+    let within : place < width = omega arith in
+    let answer : (r : Bor RowOrders) → slice_get c.args.rows.now (past c.args.own place) ≡ Some r → v ≡ order_in c.space-space.result.general r.now = (λ r at. let p = run.1.each place v there in search rules) in
+        tells_past t row places c.args.size f walk sp.kind c.args.own c.args.rows.now a last start width place ew ef within v
+    (λ r at. answer r at ∙ ap (λ (g : ℕ). order_in g r.now) sp.general) w stands)
+    (omega arith) run.2 in
     let first : start ≡ r * (t.generals - c.args.size) = ef ∙ ap (λ (v : ℕ). r * v) ew in
     let past_all : start + length run.0 ≡ r * (t.generals - c.args.size) + (t.generals - c.args.size) = omega arith in
     told_ends t row c.args.size _ _ _ _ c.set_run.new.self (first ∙ sym (under_one t.generals r f.size c.args.size last))

@@ -30,8 +30,10 @@ returns-clause-filled g c =
     let wrote = c.write_run.ensures in
     let within : c.args.first + c.args.count ≤ length (labels_of c.self.inside.space c.args.size) = rw (← c.self.view_is) at c.requires.within in
     let many : length wrote.0 ≡ c.args.count = wrote.1.long in
-    let fits : c.args.first + length wrote.0 ≤ length (labels_of c.self.inside.space c.args.size) = omega arith in
-    (wrote.0, wrote.1,
-    rw (← c.self.view_is) (λ M f.
-    row-run c.self.inside.space c.self.inside.bound c.self.inside.levels.items M c.args.size c.args.first wrote.0 c.index_mut.result.now _ c.self.invariant f c.requires.some (rw (← c.self.view_is) at c.requires.short) c.index_mut.ensures.value
-    (with-run c.index_mut.result.now c.args.first wrote.0 _ _ c.as_mut_slice.ensures.value wrote.2) fits))
+    let fits : c.args.first + length wrote.0 ≤ length (labels_of c.self.inside.space c.args.size) = omega arith in (
+      wrote.0,
+      wrote.1,
+      rw (← c.self.view_is) (λ M f.
+          row-run c.self.inside.space c.self.inside.bound c.self.inside.levels.items M c.args.size c.args.first wrote.0 c.index_mut.result.now _ c.self.invariant f c.requires.some (rw (← c.self.view_is) at c.requires.short) c.index_mut.ensures.value
+          (with-run c.index_mut.result.now c.args.first wrote.0 _ _ c.as_mut_slice.ensures.value wrote.2) fits),
+    )
