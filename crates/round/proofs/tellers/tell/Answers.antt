@@ -42,7 +42,7 @@ returns c row places walk a =
     let inside : place < length run.0 = slice_get_within run.0 place v there in
     let within : place < width = omega arith in
     let answer : (r : Bor RowOrders) → slice_get c.args.rows.now (past c.args.own place) ≡ Some r → v ≡ order_in c.space-space.result.general r.now = (λ r at. let p = run.1.each place v there in search rules) in
-        tells_past t row places c.args.size f walk sp.kind c.args.own c.args.rows.now a last start width place ew ef within v
+    tells_past t row places c.args.size f walk sp.kind c.args.own c.args.rows.now a last start width place ew ef within v
     (λ r at. answer r at ∙ ap (λ (g : ℕ). order_in g r.now) sp.general) w stands)
     (omega arith) run.2 in
     let first : start ≡ r * (t.generals - c.args.size) = ef ∙ ap (λ (v : ℕ). r * v) ew in
