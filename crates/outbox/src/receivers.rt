@@ -45,7 +45,7 @@ impl Receivers {
     }
 
     /// Nobody.
-    fn none() -> Receivers
+    pub fn none() -> Receivers
         ensures { result ≡ [] }
     {
         Receivers {

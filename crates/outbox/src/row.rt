@@ -1,4 +1,4 @@
-ghost use Rattle.std.specs.Prelude.{◌≡◌, ◌≤◌, ◌↔◌, map, length, true, None, IsTrue, slice_index_or, min};
+ghost use Rattle.std.specs.Prelude.{◌≡◌, ◌≤◌, ◌↔◌, [], map, length, true, None, IsTrue, slice_index_or, min};
 ghost use Rattle.label.specs.Labels.{on, is_distinct};
 ghost use Rattle.label.specs.Oral.{AllBelow};
 ghost use Rattle.outbox.specs.Rows.{empty_row, receivers_in, orders_in, put_row, all_put, filled, order_in, row_of, IsRow};
@@ -35,6 +35,13 @@ impl Row {
             receivers,
             orders: Kept::nothing(),
         }
+    }
+
+    /// A row that nobody hears of: it stands for that of a letter that is missing.
+    pub fn of_nobody() -> Row
+        ensures { result ≡ [] }
+    {
+        Row::new(Receivers::none())
     }
 
     /// Puts the receiver's order: whether he is among the receivers.

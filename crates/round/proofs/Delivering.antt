@@ -1,13 +1,14 @@
 -- The letters of one round fill one level.
-use Rattle.std.proofs.Common.{◌≡◌, ◌≢◌, ℕ, zero, suc, ◌+◌, ◌≤◌, List, [], ◌∷◌, length, map, true, false, refl, sym, ap, subst, ◌∙◌, Some, Option, arith, ⊎_elim}
+use Rattle.std.proofs.Common.{◌≡◌, ◌≢◌, ℕ, zero, suc, ◌+◌, ◌<◌, ◌≤◌, List, [], ◌∷◌, length, drop, get_or, map, true, false, refl, sym, ap, subst, ◌∙◌, Some, Option, arith, ⊎_elim}
 use Rattle.std.specs.Prelude.{slice_get, ◌==◌}
 use Rattle.std.proofs.lemmas.Bool.{eq-eqb, ne_eqb}
 use Rattle.std.proofs.lemmas.Bool.Decides.{eqb_tells}
-use Rattle.std.proofs.lemmas.Option.{slice_get_within}
+use Rattle.std.proofs.lemmas.Option.{slice_get_within, slice_get-get_or}
+use Rattle.std.proofs.Math.Seq.{drop-cons}
 use Rattle.label.specs.Labels.{labels}
 use Rattle.label.specs.Oral.{Messages}
 use Rattle.label.proofs.Listing.{proved_labels_are_exact, proved_labels_differ}
-use Rattle.tree.specs.LieutenantTree.{LieutenantTree, IsCampaign, IsFilled, SameCampaign, levels_from, told_also}
+use Rattle.tree.specs.LieutenantTree.{LieutenantTree, IsCampaign, IsFilled, SameCampaign, levels_from, told_also, told_run}
 use Rattle.tree.proofs.Also.{also-here, also-other}
 use Rattle.round.specs.Letters.{Letter}
 use Rattle.round.specs.Told.{told_now, heard_also, round_of}
@@ -54,6 +55,30 @@ told_on t row k i j l u v h g = record {
       (subst (λ (q : ℕ). IsPartly M row u.generals u.commander q k j u → IsPartly M row u.generals u.commander q k l v) h.same.general (g.partly M))) (h.partly M p);
 }
 
+-- the values tell N: M, but at the labels of a length whose rank is below i what the letters tell of them
+pub record IsToldUpTo (M : Messages) (row : List Letter) (n c p k i : ℕ) (N : Messages) : Type 0 where
+  pub others : (w : List ℕ) → (length w ≡ k → ⊥) → N w p ≡ M w p
+  pub done : (j : ℕ) (w : List ℕ) → j < i → slice_get (labels n c p k) j ≡ Some w → N w p ≡ told_now row w p
+
+some_same : {A : Type 0} {a b : A} → Some a ≡ Some b → a ≡ b
+some_same e = cc
+
+told_next : (M N : Messages) (row : List Letter) (n c p k i : ℕ) (w : List ℕ) (value : Option ℕ) → c < n → p < n → p ≢ c → IsToldUpTo M row n c p k i N →
+    slice_get (labels n c p k) i ≡ Some w → value ≡ told_now row w p → IsToldUpTo M row n c p k (suc i) (told_also N w value)
+told_next M N row n c p k i w value inside within ne t at is =
+    let long : length w ≡ k = (proved_labels_are_exact.only n c p k i w inside within ne at).2 in
+    record {
+      others = λ x far. also-other N w value x p (λ e. far (ap length e ∙ long)) ∙ t.others x far;
+      done = λ j x lt there. ⊎_elim
+          (λ (q : (j == i ≡ true) × (j ≡ i)).
+          let here : x ≡ w = some_same (sym there ∙ (ap (λ (m : ℕ). slice_get (labels n c p k) m) q.1 ∙ at)) in
+          rw here (also-here N w value p ∙ is))
+          (λ (q : (j == i ≡ false) × (j ≢ i)).
+          also-other N w value x p (λ e. q.1 (proved_labels_differ n c p k j i w inside within ne (there ∙ ap Some e) at))
+          ∙ t.done j x (let n = q.1 in omega arith) there)
+          (eqb_tells j i);
+    }
+
 -- one label
 pub told_one : (t : LieutenantTree) (row : List Letter) (k i : ℕ) (v : LieutenantTree) (w : List ℕ) (value : Option ℕ) → IsCampaign t → SameCampaign t v →
     slice_get (labels t.generals t.commander t.general k) i ≡ Some w → value ≡ told_now row w t.general →
@@ -61,24 +86,36 @@ pub told_one : (t : LieutenantTree) (row : List Letter) (k i : ℕ) (v : Lieuten
 told_one t row k i v w value c same at is fill = record {
   same = same;
   partly = λ M p.
-      let long : length w ≡ k = (proved_labels_are_exact.only t.generals t.commander t.general k i w c.commander c.general c.lieutenant at).2 in
-      record {
-        N = told_also p.N w value;
-        filled = fill p.N w p.filled at;
-        others = λ x far. also-other p.N w value x t.general (λ e. far (ap length e ∙ long)) ∙ p.others x far;
-        done = λ j x lt there. ⊎_elim
-            (λ (q : (j == i ≡ true) × (j ≡ i)).
-            let here : x ≡ w = some_same (sym there ∙ (ap (λ (m : ℕ). slice_get (labels t.generals t.commander t.general k) m) q.1 ∙ at)) in
-            rw here (also-here p.N w value t.general ∙ is))
-            (λ (q : (j == i ≡ false) × (j ≢ i)).
-            also-other p.N w value x t.general (λ e. q.1 (proved_labels_differ t.generals t.commander t.general k j i w c.commander c.general c.lieutenant (there ∙ ap Some e) at))
-            ∙ p.done j x (let n = q.1 in omega arith) there)
-            (eqb_tells j i);
-      };
+      let next = told_next M p.N row t.generals t.commander t.general k i w value c.commander c.general c.lieutenant (record { others = p.others; done = p.done }) at is in
+      record { N = told_also p.N w value; filled = fill p.N w p.filled at; others = next.others; done = next.done };
 }
-  where
-    some_same : {A : Type 0} {a b : A} → Some a ≡ Some b → a ≡ b
-    some_same e = cc
+
+-- a run of labels
+told_run_up_to : (M N : Messages) (row : List Letter) (n c p k i : ℕ) (vs : List (Option ℕ)) → c < n → p < n → p ≢ c → IsToldUpTo M row n c p k i N →
+    ((j : ℕ) (v : Option ℕ) (w : List ℕ) → slice_get vs j ≡ Some v → slice_get (labels n c p k) (i + j) ≡ Some w → v ≡ told_now row w p) → i + length vs ≤ length (labels n c p k) →
+    IsToldUpTo M row n c p k (i + length vs) (told_run N (drop i (labels n c p k)) vs)
+unfolding told_run
+told_run_up_to M N row n c p k i [] inside within ne t each fits = (let same : i ≡ i + 0 = omega arith in subst (λ (j : ℕ). IsToldUpTo M row n c p k j N) same t)
+told_run_up_to M N row n c p k i (v ∷ vs) inside within ne t each fits =
+    let w = get_or (labels n c p k) i [] in
+    let here : i < length (labels n c p k) = omega arith in
+    let at : slice_get (labels n c p k) i ≡ Some w = slice_get-get_or (labels n c p k) i [] here in
+    let head : drop i (labels n c p k) ≡ w ∷ drop (suc i) (labels n c p k) = drop-cons (labels n c p k) i [] here in
+    let now : i + 0 ≡ i = omega arith in
+    let more : suc i + length vs ≡ i + suc (length vs) = omega arith in
+    rw head (subst (λ (j : ℕ). IsToldUpTo M row n c p k j (told_run (told_also N w v) (drop (suc i) (labels n c p k)) vs)) more
+    (told_run_up_to M (told_also N w v) row n c p k (suc i) vs inside within ne (told_next M N row n c p k i w v inside within ne t at (each 0 v w refl (rw now at)))
+    (λ j u x there stands. let next : suc i + j ≡ i + suc j = omega arith in each (suc j) u x there (rw (← next) stands)) (omega arith)))
+
+pub told_each : (t : LieutenantTree) (row : List Letter) (k i : ℕ) (u : LieutenantTree) (vs : List (Option ℕ)) → IsCampaign t → SameCampaign t u →
+    ((j : ℕ) (v : Option ℕ) (w : List ℕ) → slice_get vs j ≡ Some v → slice_get (labels t.generals t.commander t.general k) (i + j) ≡ Some w → v ≡ told_now row w t.general) → i + length vs ≤ length (labels t.generals t.commander t.general k) →
+    ((M : Messages) → IsFilled t M → IsFilled u (told_run M (drop i (labels t.generals t.commander t.general k)) vs)) → IsFilledBetween t row k i (i + length vs) u
+told_each t row k i u vs c same each fits fill = record {
+  same = same;
+  partly = λ M p.
+      let all = told_run_up_to M p.N row t.generals t.commander t.general k i vs c.commander c.general c.lieutenant (record { others = p.others; done = p.done }) each fits in
+      record { N = told_run p.N (drop i (labels t.generals t.commander t.general k)) vs; filled = fill p.N p.filled; others = all.others; done = all.done };
+}
 
 each_same : (t : LieutenantTree) (row : List Letter) (k i : ℕ) (u : LieutenantTree) (M : Messages) → IsCampaign t → k ≡ round_of row → length (labels t.generals t.commander t.general k) ≤ i → (p : IsPartly M row t.generals t.commander t.general k i u) →
     (j m : ℕ) (w : List ℕ) → 1 ≤ j → slice_get (labels t.generals t.commander t.general j) m ≡ Some w → p.N w t.general ≡ heard_also M row w t.general

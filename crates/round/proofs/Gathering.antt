@@ -1,16 +1,36 @@
 -- Those off a label, one after another, each with its row.
-use Rattle.std.proofs.Common.{◌≡◌, ◌≢◌, ℕ, ◌+◌, ◌<◌, ◌≤◌, List, [], ◌∷◌, ◌++◌, length, take, get_or, set, Bool, true, false, not, cond, sym, ap, ◌∙◌, None, Option, arith, ⊎_elim, add-one, length-set, get_or-set_same, get_or-set_other}
-use Rattle.std.specs.Prelude.{slice_index, slice_index_or, ◌==◌}
+use Rattle.std.proofs.Common.{◌≡◌, ◌≢◌, ℕ, zero, suc, ◌+◌, ◌<◌, ◌≤◌, List, [], ◌∷◌, ◌++◌, length, take, get_or, set, Bool, true, false, not, cond, refl, sym, ap, ◌∙◌, Some, None, Option, arith, ⊎_elim, add-one, length-set, get_or-set_same, get_or-set_other}
+use Rattle.std.specs.Prelude.{slice_get, slice_index, slice_index_or, unwrap_or, ◌==◌}
 use Rattle.std.specs.Borrow.{Bor}
 use Rattle.std.proofs.lemmas.Bool.Decides.{eqb_tells}
 use Rattle.std.proofs.lemmas.List.{take_more_set, take-set}
 use Rattle.label.specs.Labels.{on}
 use Rattle.label.proofs.Ranks.{others-more_no, others-more_yes}
-use Rattle.outbox.specs.Rows.{RowOrders, order_of_row}
+use Rattle.outbox.specs.Rows.{RowOrders, order_in, order_of_row}
 use Rattle.round.specs.Letters.{Letter, letter_of}
 use Rattle.round.specs.Delivery.{AreTellers, order_in_letter, Tellers}
 use Rattle.round.specs.declared.front.Front.{Front}
 use Rattle.round.proofs.Lists.{either_way}
+
+some_same : {A : Type 0} {a b : A} → Some a ≡ Some b → a ≡ b
+some_same e = cc
+
+get_set : {A : Type 0} (xs : List A) (i : ℕ) (x : A) → i < length xs → slice_get (set xs i x) i ≡ Some x
+get_set [] i x less = absurd (omega arith)
+get_set (y ∷ xs) zero x less = refl
+get_set (y ∷ xs) (suc i) x less = get_set xs i x (omega arith)
+
+get_unset : {A : Type 0} (xs : List A) (i j : ℕ) (x : A) → (j ≡ i → ⊥) → slice_get (set xs i x) j ≡ slice_get xs j
+get_unset [] i j x ne = refl
+get_unset (y ∷ xs) zero zero x ne = absurd (ne refl)
+get_unset (y ∷ xs) zero (suc j) x ne = refl
+get_unset (y ∷ xs) (suc i) zero x ne = refl
+get_unset (y ∷ xs) (suc i) (suc j) x ne = get_unset xs i j x (λ e. ne (ap suc e))
+
+-- the row of a letter, or of nobody where there is none
+pub or_nobody : (o : Option (Bor RowOrders)) (nobody : Bor RowOrders) (p : ℕ) → nobody.now ≡ [] → order_in p (unwrap_or o nobody).now ≡ order_of_row o p
+or_nobody None nobody p none = ap (order_in p) none
+or_nobody (Some r) nobody p none = refl
 
 pub none_gathered : (row : List Letter) (n : ℕ) (f : Front) (t : Tellers) → t.count ≡ 0 → length t.generals ≡ 13 → length t.rows ≡ 13 → AreTellers row n f 0 t
 none_gathered row n f t none long wide = record {
@@ -18,11 +38,11 @@ none_gathered row n f t none long wide = record {
   wide = wide;
   few = omega arith;
   names = λ c w h. ap (λ (k : ℕ). take k t.generals) none;
-  rows = λ i p lt. absurd (omega arith);
+  rows = λ i p r lt there. absurd (omega arith);
 }
 
 -- one more
-pub one_gathered : (row : List Letter) (n : ℕ) (f : Front) (x : ℕ) (t : Tellers) (o : Option (Bor RowOrders)) → AreTellers row n f x t → x < n → n ≤ 13 → slice_index_or f.on x false ≡ false → ((p : ℕ) → order_of_row o p ≡ order_in_letter (letter_of row x) (slice_index f.ranks x) p) →
+pub one_gathered : (row : List Letter) (n : ℕ) (f : Front) (x : ℕ) (t : Tellers) (o : Bor RowOrders) → AreTellers row n f x t → x < n → n ≤ 13 → slice_index_or f.on x false ≡ false → ((p : ℕ) → order_in p o.now ≡ order_in_letter (letter_of row x) (slice_index f.ranks x) p) →
     AreTellers row n f (x + 1) (record { count = t.count + 1; generals = set t.generals t.count x; rows = set t.rows t.count o })
 one_gathered row n f x t o h within small mark tells = record {
   long = length-set t.generals t.count x ∙ h.long;
@@ -31,15 +51,15 @@ one_gathered row n f x t o h within small mark tells = record {
   names = λ c w front.
       let off : on w x ≡ false = sym (front.marks x within) ∙ mark in
       take_more_set t.generals t.count x room ∙ (ap (λ (xs : List ℕ). xs ++ x ∷ []) (h.names c w front) ∙ sym (rw add-one (others-more_yes w x off)));
-  rows = λ i p lt. ⊎_elim
+  rows = λ i p r lt there. ⊎_elim
       (λ (q : (i == t.count ≡ true) × (i ≡ t.count)).
-      let here : get_or (set t.rows t.count o) i None ≡ o = ap (λ (k : ℕ). get_or (set t.rows t.count o) k None) q.1 ∙ get_or-set_same t.rows t.count o None room' in
+      let here : o ≡ r = some_same (sym (get_set t.rows t.count o room') ∙ (ap (λ (k : ℕ). slice_get (set t.rows t.count o) k) (sym q.1) ∙ there)) in
       let name : get_or (set t.generals t.count x) i 0 ≡ x = ap (λ (k : ℕ). get_or (set t.generals t.count x) k 0) q.1 ∙ get_or-set_same t.generals t.count x 0 room in
-      rw (here, name) (tells p))
+      ap (λ (x : Bor RowOrders). order_in p x.now) (sym here) ∙ rw name (tells p))
       (λ (q : (i == t.count ≡ false) × (i ≢ t.count)).
-      let here : get_or (set t.rows t.count o) i None ≡ get_or t.rows i None = get_or-set_other t.rows t.count i o None q.1 in
+      let here : slice_get t.rows i ≡ Some r = sym (get_unset t.rows t.count i o q.1) ∙ there in
       let name : get_or (set t.generals t.count x) i 0 ≡ get_or t.generals i 0 = get_or-set_other t.generals t.count i x 0 q.1 in
-      rw (here, name) (h.rows i p (let ne = q.1 in omega arith)))
+      rw name (h.rows i p r (let ne = q.1 in omega arith) here))
       (eqb_tells i t.count);
 }
   where
@@ -50,19 +70,19 @@ one_gathered row n f x t o h within small mark tells = record {
     room' = let a = h.few in let l = h.wide in omega arith
 
 -- nobody more: what is written behind them means nothing
-pub same_gathered : (row : List Letter) (n : ℕ) (f : Front) (x : ℕ) (t : Tellers) (o : Option (Bor RowOrders)) → AreTellers row n f x t → x < n → slice_index_or f.on x false ≡ true → AreTellers row n f (x + 1) (record { count = t.count; generals = set t.generals t.count x; rows = set t.rows t.count o })
+pub same_gathered : (row : List Letter) (n : ℕ) (f : Front) (x : ℕ) (t : Tellers) (o : Bor RowOrders) → AreTellers row n f x t → x < n → slice_index_or f.on x false ≡ true → AreTellers row n f (x + 1) (record { count = t.count; generals = set t.generals t.count x; rows = set t.rows t.count o })
 same_gathered row n f x t o h within mark = record {
   long = length-set t.generals t.count x ∙ h.long;
   wide = length-set t.rows t.count o ∙ h.wide;
   few = (let a = h.few in omega arith);
   names = λ c w front. take-set t.generals t.count x ∙ (h.names c w front ∙ sym (rw add-one (others-more_no w x (sym (front.marks x within) ∙ mark))));
-  rows = λ i p lt.
+  rows = λ i p r lt there.
       let ne : i ≢ t.count = λ e. absurd (omega arith) in
-      rw (get_or-set_other t.rows t.count i o None ne, get_or-set_other t.generals t.count i x 0 ne) (h.rows i p lt);
+      rw (get_or-set_other t.generals t.count i x 0 ne) (h.rows i p r lt (sym (get_unset t.rows t.count i o ne) ∙ there));
 }
 
 -- the next, who is off the label or not
-pub next_gathered : (row : List Letter) (n : ℕ) (f : Front) (x count : ℕ) (t : Tellers) (o : Option (Bor RowOrders)) → AreTellers row n f x t → x < n → n ≤ 13 → count ≡ t.count + cond {A = ℕ} (not (slice_index_or f.on x false)) 1 0 → ((p : ℕ) → order_of_row o p ≡ order_in_letter (letter_of row x) (slice_index f.ranks x) p) →
+pub next_gathered : (row : List Letter) (n : ℕ) (f : Front) (x count : ℕ) (t : Tellers) (o : Bor RowOrders) → AreTellers row n f x t → x < n → n ≤ 13 → count ≡ t.count + cond {A = ℕ} (not (slice_index_or f.on x false)) 1 0 → ((p : ℕ) → order_in p o.now ≡ order_in_letter (letter_of row x) (slice_index f.ranks x) p) →
     AreTellers row n f (x + 1) (record { count = count; generals = set t.generals t.count x; rows = set t.rows t.count o })
 next_gathered row n f x count t o h within small e tells = ⊎_elim
     (λ (q : slice_index_or f.on x false ≡ true).

@@ -1,17 +1,25 @@
 -- Who tells a tree's lieutenant, one after another.
-use Rattle.std.proofs.Common.{◌≡◌, ◌≢◌, ℕ, ◌+◌, ◌-◌, ◌<◌, ◌≤◌, List, ◌∷◌, length, take, get_or, Option, false, refl, sym, ap, ◌∙◌, arith}
+use Rattle.std.proofs.Common.{◌≡◌, ◌≢◌, ℕ, zero, suc, ◌+◌, ◌-◌, ◌*◌, ◌<◌, ◌≤◌, List, [], ◌∷◌, length, take, get_or, Option, Some, Bool, true, false, refl, sym, ap, ◌∙◌, ⊎_elim, arith}
+use Rattle.std.specs.Prelude.{slice_get, slice_index, nat_lt, if◌then◌else◌}
 use Rattle.std.specs.Borrow.{Bor}
-use Rattle.std.proofs.lemmas.Bool.{ne_eqb}
-use Rattle.label.specs.Labels.{on, others}
+use Rattle.std.proofs.lemmas.Bool.{ltb-true, ltb-false, ne_eqb}
+use Rattle.label.specs.Labels.{on, others, labels}
 use Rattle.outbox.specs.Receivers.{struck}
-use Rattle.outbox.specs.Rows.{RowOrders}
+use Rattle.outbox.specs.Rows.{RowOrders, order_in}
 use Rattle.outbox.proofs.RowLemmas.{others-few}
 use Rattle.tree.specs.LieutenantTree.{LieutenantTree, IsCampaign}
 use Rattle.round.specs.Letters.{Letter}
-use Rattle.round.specs.Delivery.{AreTellersOf, IsWalk}
+use Rattle.round.specs.Told.{told_now}
+use Rattle.round.specs.Delivery.{AreTellersOf, IsWalk, past}
 use Rattle.round.specs.declared.front.Front.{Front}
 use Rattle.round.proofs.Striking.{different, named, struck_before, struck_others, struck_past}
-use Rattle.round.proofs.Walking.{all_children}
+use Rattle.round.proofs.Lists.{either_way}
+use Rattle.round.proofs.Walking.{all_children, tell_child}
+
+some_at : {A : Type 0} (xs : List A) (i : ℕ) → i < length xs → (x : A) × (slice_get xs i ≡ Some x)
+some_at [] i lt = absurd (omega arith)
+some_at (x ∷ xs) zero lt = (x, refl)
+some_at (x ∷ xs) (suc i) lt = some_at xs i (omega arith)
 
 -- who stands at a number
 pub record IsTeller (t : LieutenantTree) (w : List ℕ) (x place : ℕ) : Type 0 where
@@ -20,7 +28,7 @@ pub record IsTeller (t : LieutenantTree) (w : List ℕ) (x place : ℕ) : Type 0
   pub stands : place ≡ length (others x (t.general ∷ w))
   pub few : place < 13
 
-module _ (t : LieutenantTree) (row : List Letter) (places : List ℕ) (k : ℕ) (f : Front) (walk : IsWalk t row places k f) (c : IsCampaign t) (own : ℕ) (rows : List (Option (Bor RowOrders))) (a : AreTellersOf row t f own rows) where
+module _ (t : LieutenantTree) (row : List Letter) (places : List ℕ) (k : ℕ) (f : Front) (walk : IsWalk t row places k f) (c : IsCampaign t) (own : ℕ) (rows : List (Bor RowOrders)) (a : AreTellersOf row t f own rows) where
   names_all : take a.count a.generals ≡ others t.generals walk.w
   names_all = a.all.names t.commander walk.w walk.front
 
@@ -65,3 +73,23 @@ module _ (t : LieutenantTree) (row : List Letter) (places : List ℕ) (k : ℕ) 
       sym (past_them (a.count - 1) (omega arith) (omega arith)) ∙ (ap (λ (j : ℕ). length (struck t.general (take j a.generals))) e ∙ (ap (λ xs. length (struck t.general xs)) names_all ∙ ap length (struck_others t.generals t.general walk.w))) in
       let last : a.count - 1 ≡ t.generals - (f.size + 1) = all_children t.generals t.commander t.general (a.count - 1) walk.w f walk.front c.commander c.general walk.off all in
       omega arith
+
+  -- what the one at a place tells, where the lieutenant is passed over
+  pub tells_past : f.size + 1 ≡ k → (first width place : ℕ) → width ≡ t.generals - k → first ≡ slice_index f.ranks t.general * width → place < width → (value : Option ℕ) → ((r : Bor RowOrders) → slice_get rows (past own place) ≡ Some r → value ≡ order_in t.general r.now) →
+      (w : List ℕ) → slice_get (labels t.generals t.commander t.general k) (first + place) ≡ Some w → value ≡ told_now row w t.general
+  tells_past last first width place ew ef lt value is w there = ⊎_elim
+      (λ (q : nat_lt place own ≡ true).
+      let before : place < own = ltb-true place own q in
+      let here : past own place ≡ place = ap (λ (b : Bool). if b then place else place + 1) q in
+      let who = teller_before place before in
+      let few : place < a.count = let l = a.within in omega arith in
+      tell_child t row places k f walk last c first width place (get_or a.generals place 0) ew ef who.within who.away who.stands value
+      (let row = some_at rows place (let f = a.all.few in let l = a.all.wide in let m = c.few in omega arith) in is row.0 (ap (λ (i : ℕ). slice_get rows i) here ∙ row.1) ∙ a.all.rows place t.general row.0 few row.1) w there)
+      (λ (q : nat_lt place own ≡ false).
+      let behind : own ≤ place = ltb-false place own q in
+      let here : past own place ≡ place + 1 = ap (λ (b : Bool). if b then place else place + 1) q in
+      let few : place + 1 < a.count = let all = all_tell in omega arith in
+      let who = teller_past place behind few in
+      tell_child t row places k f walk last c first width place (get_or a.generals (place + 1) 0) ew ef who.within who.away who.stands value
+      (let row = some_at rows (place + 1) (let f = a.all.few in let l = a.all.wide in let m = c.few in omega arith) in is row.0 (ap (λ (i : ℕ). slice_get rows i) here ∙ row.1) ∙ a.all.rows (place + 1) t.general row.0 few row.1) w there)
+      (either_way (nat_lt place own))

@@ -1,6 +1,7 @@
 -- All labels of a length that begin with one.
-use Rattle.std.proofs.Common.{◌≡◌, ◌≢◌, ℕ, zero, suc, ◌+◌, ◌-◌, ◌*◌, ◌<◌, ◌^◌, List, [], ◌∷◌, ◌++◌, length, take, Bool, true, false, not, cond, refl, sym, ap, ◌∙◌, subst, Some, None, Option, arith, length-append}
-use Rattle.std.proofs.Math.Nat.{mul_assoc}
+use Rattle.std.proofs.Common.{◌≡◌, ◌≢◌, ℕ, zero, suc, ◌+◌, ◌-◌, ◌*◌, ◌<◌, ◌≤◌, ◌^◌, List, [], ◌∷◌, ◌++◌, length, take, Bool, true, false, not, cond, refl, sym, ap, ◌∙◌, subst, Some, None, Option, arith, length-append}
+use Rattle.std.proofs.Math.Nat.{mul_assoc, mul-le-mul_right}
+use Rattle.std.proofs.lemmas.Option.{slice_get_within}
 use Rattle.std.specs.Prelude.{slice_get, slice_index, slice_index_or, ◌==◌, ◌||◌}
 use Rattle.std.proofs.lemmas.Bool.{eq-eqb, ne_eqb, or_parts, not-true, true≢false}
 use Rattle.label.specs.declared.shape.Shape.{Shape}
@@ -178,11 +179,11 @@ same_due t u row same due = record {
 pub told_ends : (t : LieutenantTree) (row : List Letter) (k i j a b : ℕ) (u : LieutenantTree) → i ≡ a → j ≡ b → IsFilledBetween t row k i j u → IsFilledBetween t row k a b u
 told_ends t row k i j a b u ei ej h = subst (λ (x : ℕ). IsFilledBetween t row k x b u) ei (subst (λ (y : ℕ). IsFilledBetween t row k i y u) ej h)
 
--- one child more is told
-pub tell_step : (t u v : LieutenantTree) (row : List Letter) (places : List ℕ) (k : ℕ) (f : Front) (walk : IsWalk t row places k f) → f.size + 1 ≡ k → IsCampaign t → (first width place x : ℕ) → width ≡ t.generals - k → first ≡ slice_index f.ranks t.general * width →
-    x < t.generals → on (t.general ∷ walk.w) x ≡ false → place ≡ length (others x (t.general ∷ walk.w)) → IsFilledBetween t row k first (first + place) u → (value : Option ℕ) → value ≡ order_in_letter (letter_of row x) (slice_index f.ranks x) t.general → SameCampaign u v →
-    ((M : Messages) (y : List ℕ) → IsFilled u M → slice_get (labels u.generals u.commander u.general k) (first + place) ≡ Some y → IsFilled v (told_also M y value)) → IsFilledBetween t row k first (first + (place + 1)) v
-tell_step t u v row places k f walk last c first width place x ew ef within away ep told value is same fill =
+-- what is told of a child
+pub tell_child : (t : LieutenantTree) (row : List Letter) (places : List ℕ) (k : ℕ) (f : Front) (walk : IsWalk t row places k f) → f.size + 1 ≡ k → IsCampaign t → (first width place x : ℕ) → width ≡ t.generals - k → first ≡ slice_index f.ranks t.general * width →
+    x < t.generals → on (t.general ∷ walk.w) x ≡ false → place ≡ length (others x (t.general ∷ walk.w)) → (value : Option ℕ) → value ≡ order_in_letter (letter_of row x) (slice_index f.ranks x) t.general →
+    (w : List ℕ) → slice_get (labels t.generals t.commander t.general k) (first + place) ≡ Some w → value ≡ told_now row w t.general
+tell_child t row places k f walk last c first width place x ew ef within away ep value is w there =
     let parts = or_parts (t.general == x) (on walk.w x) away in
     let h = walk.front in
     let s = h.size in
@@ -192,12 +193,30 @@ tell_step t u v row places k f walk last c first width place x ew ef within away
     ap (λ (r : ℕ). slice_get (labels t.generals t.commander t.general k) (r + place)) ef ∙ subst (λ (j : ℕ). slice_get (labels t.generals t.commander t.general j) (slice_index f.ranks t.general * width + place) ≡ Some (walk.w ++ x ∷ [])) size
     (child_at t.generals t.commander t.general x place width walk.w f h c.commander c.general within walk.off away ep ew') in
     let round : round_of row ≡ length walk.w + 1 = sym walk.size ∙ (omega arith) in
-    let now : value ≡ told_now row (walk.w ++ x ∷ []) t.general =
-    child_told t row walk.w x (slice_index f.ranks x) value walk.due c.commander within (off-lieutenant t.commander x walk.w h.label.first parts.1) round (h.stands x within parts.1) is in
-    let next : suc (first + place) ≡ first + (place + 1) = omega arith in
-    told_ends t row k first (suc (first + place)) first (first + (place + 1)) v refl next
-    (told_on t row k first (first + place) (suc (first + place)) u v told
-    (told_one u row k (first + place) v (walk.w ++ x ∷ []) value (same_campaign t u told.same c) same (rw (told.same.generals, told.same.commander, told.same.general) at) (rw told.same.general now) fill))
+    let it : walk.w ++ x ∷ [] ≡ w = some_same (sym at ∙ there) in
+    child_told t row walk.w x (slice_index f.ranks x) value walk.due c.commander within (off-lieutenant t.commander x walk.w h.label.first parts.1) round (h.stands x within parts.1) is
+    ∙ ap (λ u. told_now row u t.general) it
+  where
+    some_same : {A : Type 0} {a b : A} → Some a ≡ Some b → a ≡ b
+    some_same e = cc
+
+-- the children fill one run
+pub children_fit : (t : LieutenantTree) (row : List Letter) (places : List ℕ) (k : ℕ) (f : Front) (walk : IsWalk t row places k f) → f.size + 1 ≡ k → IsCampaign t → (first width : ℕ) → width ≡ t.generals - k → first ≡ slice_index f.ranks t.general * width →
+    first + width ≤ length (labels t.generals t.commander t.general k)
+children_fit t row places k f walk last c first width ew ef =
+    let h = walk.front in
+    let s = h.size in
+    let space : Space = record { generals = t.generals; commander = t.commander; general = t.general } in
+    let is : IsSpace space = record { generals = c.few; commander = c.commander; general = c.general; lieutenant = c.lieutenant } in
+    let rank = slice_get_within (labels_of space (length walk.w)) (slice_index f.ranks t.general) walk.w (h.stands t.general c.general walk.off) in
+    let long : length walk.w ≡ suc (length walk.w - 1) = begun-long t.commander walk.w h.label.first in
+    let wide : t.generals - 1 - length walk.w ≡ width = omega arith in
+    let size : length walk.w + 1 ≡ k = omega arith in
+    let all : length (labels_of space (length walk.w)) * width ≡ length (labels_of space k) =
+    ap (λ (m : ℕ). length (labels_of space (length walk.w)) * m) (sym wide) ∙ (count-more space is (length walk.w) (length (labels_of space (length walk.w))) (omega arith) refl ∙ ap (λ (j : ℕ). length (labels_of space j)) size) in
+    let past : first + width ≡ suc (slice_index f.ranks t.general) * width = ap (λ (r : ℕ). r + width) ef ∙ suc_times (slice_index f.ranks t.general) width in
+    let within : suc (slice_index f.ranks t.general) * width ≤ length (labels_of space (length walk.w)) * width = mul-le-mul_right width rank in
+    omega arith
 
 -- a child's place, and that it fits
 pub row_fits : (t : LieutenantTree) (row : List Letter) (places : List ℕ) (k : ℕ) (f : Front) (walk : IsWalk t row places k f) → IsCampaign t → (g width : ℕ) → g ≡ t.general → width ≡ t.generals - (f.size + 1) → slice_index f.ranks g * width < 2 ^ 32
@@ -208,15 +227,3 @@ row_fits t row places k f walk c g width eg ew =
     subst (λ (q : ℕ). slice_index f.ranks q * width < 2 ^ 32) (sym eg) (subst (λ (v : ℕ). slice_index f.ranks t.general * v < 2 ^ 32) width'
     (row-fits (record { generals = t.generals; commander = t.commander; general = t.general }) (record { generals = c.few; commander = c.commander; general = c.general; lieutenant = c.lieutenant })
     (length walk.w) (slice_index f.ranks t.general) walk.w (omega arith) (omega arith) (h.stands t.general c.general walk.off)))
-
-pub child_place : (t : LieutenantTree) (row : List Letter) (places : List ℕ) (k : ℕ) (f : Front) (walk : IsWalk t row places k f) → IsCampaign t → (g width x place : ℕ) → g ≡ t.general → width ≡ t.generals - (f.size + 1) → x < t.generals → on (t.general ∷ walk.w) x ≡ false → place ≡ length (others x (t.general ∷ walk.w)) →
-    slice_get (labels t.generals t.commander t.general (f.size + 1)) (slice_index f.ranks g * width + place) ≡ Some (walk.w ++ x ∷ [])
-child_place t row places k f walk c g width x place eg ew within away ep =
-    subst (λ (q : ℕ). slice_get (labels t.generals t.commander t.general (f.size + 1)) (slice_index f.ranks q * width + place) ≡ Some (walk.w ++ x ∷ [])) (sym eg)
-    (subst (λ (j : ℕ). slice_get (labels t.generals t.commander t.general j) (slice_index f.ranks t.general * width + place) ≡ Some (walk.w ++ x ∷ [])) (child_long t.generals t.commander x walk.w f walk.front)
-    (child_at t.generals t.commander t.general x place width walk.w f walk.front c.commander c.general within walk.off away ep ew))
-
-pub place_fits : (t : LieutenantTree) (row : List Letter) (places : List ℕ) (k : ℕ) (f : Front) (walk : IsWalk t row places k f) → IsCampaign t → (r : ℕ) (v : List ℕ) → slice_get (labels t.generals t.commander t.general (f.size + 1)) r ≡ Some v → r < 2 ^ 32
-place_fits t row places k f walk c r v at =
-    let d = walk.due.round in let z = walk.size in let b = c.small in let l = walk.short in
-    child_fits t.generals t.commander t.general (f.size + 1) r v c.few c.commander c.general c.lieutenant (omega arith) (omega arith) at

@@ -1,11 +1,11 @@
 -- Letters by their generals, and what of a round has been told (own).
 use Rattle.std.specs.Borrow.{Bor}
-use Rattle.std.specs.Prelude.{ℕ, suc, ◌-◌, ◌*◌, ◌<◌, ◌≤◌, ◌≡◌, true, false, List, length, take, slice_index, slice_index_or, slice_get, Option, None, Some}
+use Rattle.std.specs.Prelude.{ℕ, suc, ◌+◌, ◌-◌, ◌*◌, ◌<◌, ◌≤◌, ◌≡◌, true, false, nat_lt, if◌then◌else◌, List, length, take, slice_index, slice_index_or, slice_get, Option, None, Some}
 use Rattle.label.specs.Labels.{on, others, labels}
 use Rattle.label.specs.Oral.{Messages}
 use Rattle.tree.specs.LieutenantTree.{LieutenantTree, IsCampaign, IsFilled, SameCampaign}
 use Rattle.outbox.specs.Contents.{order_at}
-use Rattle.outbox.specs.Rows.{RowOrders, order_of_row}
+use Rattle.outbox.specs.Rows.{RowOrders, order_in}
 use Rattle.round.specs.Letters.{Letter, letter_of}
 use Rattle.round.specs.Told.{AreDue, told_now, heard_also, round_of}
 use Rattle.round.specs.Fronts.{IsFront, under}
@@ -86,27 +86,31 @@ pub record IsRoute (n : ℕ) (row : List Letter) (places : List ℕ) (k : ℕ) (
   pub front : IsFront n c w f
   pub due : AreDueIn n c row trees
 
--- the generals off a label, the first so many of these, each with its row in his letter, where there is one
+-- the generals off a label, the first so many of these, each with its row in his letter
 pub record Tellers : Type 0 where
   pub count : ℕ
   pub generals : List ℕ
-  pub rows : List (Option (Bor RowOrders))
+  pub rows : List (Bor RowOrders)
 
--- of those who are off a label the ones below x, each with the label's row in his letter
+-- of those who are off a label the ones below x, each with the label's row in his letter, or one that tells nobody where there is none
 pub record AreTellers (row : List Letter) (n : ℕ) (f : Front) (x : ℕ) (t : Tellers) : Type 0 where
   pub long : length t.generals ≡ 13
   pub wide : length t.rows ≡ 13
   pub few : t.count ≤ x
   pub names : (c : ℕ) (w : List ℕ) → IsFront n c w f → take t.count t.generals ≡ others x w
-  pub rows : (i p : ℕ) → i < t.count → order_of_row (slice_index_or t.rows i None) p ≡ order_in_letter (letter_of row (slice_index t.generals i)) (slice_index f.ranks (slice_index t.generals i)) p
+  pub rows : (i p : ℕ) (r : Bor RowOrders) → i < t.count → slice_get t.rows i ≡ Some r → order_in p r.now ≡ order_in_letter (letter_of row (slice_index t.generals i)) (slice_index f.ranks (slice_index t.generals i)) p
 
 -- the rows of those who are off a label, of whom the tree's lieutenant is the one of that number
-pub record AreTellersOf (row : List Letter) (t : LieutenantTree) (f : Front) (i : ℕ) (rows : List (Option (Bor RowOrders))) : Type 0 where
+pub record AreTellersOf (row : List Letter) (t : LieutenantTree) (f : Front) (i : ℕ) (rows : List (Bor RowOrders)) : Type 0 where
   pub count : ℕ
   pub generals : List ℕ
   pub all : AreTellers row t.generals f t.generals (record { count = count; generals = generals; rows = rows })
   pub within : i < count
   pub own : slice_index generals i ≡ t.general
+
+-- the places of a list, where one is passed over
+abbrev pub past : ℕ → ℕ → ℕ
+past own place = if nat_lt place own then place else place + 1
 
 -- what was told of the labels that begin with this one: nothing where the tree's lieutenant stands on it
 pub record IsToldUnder (row : List Letter) (k : ℕ) (f : Front) (t u : LieutenantTree) : Type 0 where

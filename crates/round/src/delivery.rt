@@ -1,5 +1,5 @@
 //! What the letters of a round add to the lieutenants' trees.
-ghost use Rattle.std.specs.Prelude.{◌≡◌, ◌<◌, ◌≤◌, ◌+◌, ℕ, length, slice_get, slice_index};
+ghost use Rattle.std.specs.Prelude.{◌≡◌, ◌<◌, ◌≤◌, ◌+◌, [], ℕ, length, slice_get, slice_index};
 ghost use Rattle.label.specs.Oral.{Messages};
 ghost use Rattle.tree.specs.LieutenantTree.{IsFilled, SameCampaign};
 ghost use Rattle.round.specs.Letters.{letter_of};
@@ -9,6 +9,7 @@ ghost use Rattle.round.specs.Delivery.{AreApart, AreDueIn, AreEach, AreOfCampaig
 use crate::front::Front;
 use crate::letter::Letter;
 use crate::tellers::{gather, order_of, row_in, tell};
+use outbox::Row;
 use std::slice;
 use tree::Tree;
 
@@ -49,7 +50,10 @@ pub(crate) fn deliver_to_all(letters: &[Letter], generals: u8, commander: u8, tr
     }
     let tree_of = table_of(trees);
     let front = Front::of(commander);
-    descend(letters, &places, &tree_of, size, generals, trees, &front);
+    let nobody = Row::of_nobody();
+    descend(
+        letters, &nobody, &places, &tree_of, size, generals, trees, &front,
+    );
 }
 
 /// Fills in what the commander's letter tells of the first label.
@@ -68,9 +72,11 @@ fn tell_first(letters: &[Letter], places: &[usize; 13], commander: u8, trees: &m
     }
 }
 
-/// Fills in what the letters tell of all labels of the round's length that begin with this one, which is shorter.
-fn descend(
-    letters: &[Letter],
+/// Fills in what the letters tell of all labels of the round's length that begin with this one, which is shorter. `nobody`
+/// stands for the rows of letters that are missing.
+fn descend<'a>(
+    letters: &'a [Letter],
+    nobody: &'a Row,
     places: &[usize; 13],
     tree_of: &[usize; 13],
     size: u8,
@@ -78,27 +84,33 @@ fn descend(
     trees: &mut [Tree],
     front: &Front,
 )
+    requires nobody { nobody.now ≡ [] }
     requires route { IsRoute generals letters.now places.now size front.now trees.old }
     requires table { IsTreeTable trees.old tree_of.now }
     ensures { AreEach (IsToldUnder letters.now size front.now) trees.old trees.new }
 {
     if front.size + 1 == size {
-        tell_children(letters, places, tree_of, size, generals, trees, front);
+        tell_children(
+            letters, nobody, places, tree_of, size, generals, trees, front,
+        );
         return;
     }
     let mut below: u32 = 0;
     for general in 0..generals {
         if !front.on[usize::from(general)] {
             let longer = front.with(generals, general, below);
-            descend(letters, places, tree_of, size, generals, trees, &longer);
+            descend(
+                letters, nobody, places, tree_of, size, generals, trees, &longer,
+            );
             below += 1;
         }
     }
 }
 
 /// Fills in what the letters tell of the labels that have one general more than this one.
-fn tell_children(
-    letters: &[Letter],
+fn tell_children<'a>(
+    letters: &'a [Letter],
+    nobody: &'a Row,
     places: &[usize; 13],
     tree_of: &[usize; 13],
     size: u8,
@@ -106,13 +118,14 @@ fn tell_children(
     trees: &mut [Tree],
     front: &Front,
 )
+    requires nobody { nobody.now ≡ [] }
     requires route { IsRoute generals letters.now places.now size front.now trees.old }
     requires table { IsTreeTable trees.old tree_of.now }
     requires last { front.now.size + 1 ≡ size }
     ensures { AreEach (IsToldUnder letters.now size front.now) trees.old trees.new }
 {
     let mut names = [0; 13];
-    let mut rows = [None; 13];
+    let mut rows = [nobody; 13];
     let count = gather(
         letters,
         places,
@@ -120,6 +133,7 @@ fn tell_children(
         front,
         &mut names[..],
         &mut rows[..],
+        nobody,
     );
     for number in 0..count {
         let place = tree_of[usize::from(names[number])];

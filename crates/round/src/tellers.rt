@@ -1,16 +1,17 @@
 //! Who is off a label, and what the others' letters tell of it.
-ghost use Rattle.std.specs.Prelude.{◌≡◌, ◌<◌, ◌≤◌, ◌+◌, ℕ, List, length};
-ghost use Rattle.outbox.specs.Rows.{order_of_row};
+ghost use Rattle.std.specs.Prelude.{◌≡◌, ◌<◌, ◌≤◌, ◌+◌, [], ℕ, List, Some, length, slice_get};
+ghost use Rattle.std.specs.Borrow.{Bor};
+ghost use Rattle.outbox.specs.Rows.{RowOrders, order_in, order_of_row};
 ghost use Rattle.round.specs.Letters.{Letter as Written, letter_of};
-ghost use Rattle.round.specs.Delivery.{ArePlaces, AreTellers, AreTellersOf, IsFilledBetween, IsWalk, first_under, order_in_letter, past_under};
+ghost use Rattle.round.specs.Delivery.{ArePlaces, AreTellers, AreTellersOf, IsFilledBetween, IsWalk, first_under, order_in_letter, past, past_under};
 
 use crate::front::Front;
 use crate::letter::Letter;
 use outbox::Row;
 use tree::Tree;
 
-/// Gathers the generals off the front, ascending, of so many, and for each the row of the label in his letter, where
-/// there is one: how many they are. What stands behind them means nothing.
+/// Gathers the generals off the front, ascending, of so many, and for each the row of the label in his letter, or
+/// `nobody` where there is none: how many they are. What stands behind them means nothing.
 ///
 /// They are gathered where the caller keeps them: to move them would take as long as to gather them. Each general is
 /// written behind those before him, and stays there where he is off the front: who is changes from label to label, and
@@ -21,9 +22,11 @@ pub(crate) fn gather<'a>(
     generals: u8,
     front: &Front,
     names: &mut [u8],
-    rows: &mut [Option<&'a Row>],
+    rows: &mut [&'a Row],
+    nobody: &'a Row,
 ) -> usize
     requires few { generals ≤ 13 }
+    requires nobody { nobody.now ≡ [] }
     requires on { length front.now.on ≡ 13 }
     requires ranks { length front.now.ranks ≡ 13 }
     requires long { length names.old ≡ 13 }
@@ -37,7 +40,7 @@ pub(crate) fn gather<'a>(
     for general in 0..generals {
         let number = usize::from(general);
         names[count] = general;
-        rows[count] = row_in(letters, places, general, front.ranks[number]);
+        rows[count] = row_in(letters, places, general, front.ranks[number]).unwrap_or(nobody);
         count += usize::from(!front.on[number]);
     }
     count
@@ -45,7 +48,7 @@ pub(crate) fn gather<'a>(
 
 /// Fills in what the generals off a label tell the tree's lieutenant of it, each with himself behind it. The
 /// lieutenant is the one of number `own` among them.
-pub(crate) fn tell(own: usize, rows: &[Option<&Row>], size: u8, tree: &mut Tree, front: &Front)
+pub(crate) fn tell(own: usize, rows: &[&Row], size: u8, tree: &mut Tree, front: &Front)
     requires told { (row : List Written) × (places : List ℕ) × IsWalk tree.old row places size front.now × AreTellersOf row tree.old front.now own rows.now }
     requires last { front.now.size + 1 ≡ size }
     ensures { (row : List Written) (places : List ℕ) → IsWalk tree.old row places size front.now → AreTellersOf row tree.old front.now own rows.now → IsFilledBetween tree.old row size (first_under tree.old front.now size) (past_under tree.old front.now size) tree.new }
@@ -53,14 +56,18 @@ pub(crate) fn tell(own: usize, rows: &[Option<&Row>], size: u8, tree: &mut Tree,
     let space = tree.space();
     let width = usize::from(space.generals).saturating_sub(usize::from(size));
     let first = front.ranks[usize::from(space.general)] * width as u32;
-    for place in 0..own {
-        let value = order_of(rows[place], space.general);
-        tree.set(size, first + place as u32, value);
-    }
-    for place in own..width {
-        let value = order_of(rows[place + 1], space.general);
-        tree.set(size, first + place as u32, value);
-    }
+    tree.set_run(size, first, width, |place| {
+        order_past(rows, own, place, space.general)
+    });
+}
+
+/// What the row at this place tells a receiver, where the row of number `own` is passed over.
+fn order_past(rows: &[&Row], own: usize, place: usize, receiver: u8) -> Option<u32>
+    requires { place + 1 < length rows.now }
+    ensures { (row : Bor RowOrders) → slice_get rows.now (past own place) ≡ Some row → result ≡ order_in receiver row.now }
+{
+    let number = if place < own { place } else { place + 1 };
+    rows[number].order(u32::from(receiver))
 }
 
 /// The row of the label of that rank in a general's letter, where there is one.

@@ -1,7 +1,7 @@
-ghost use Rattle.std.specs.Prelude.{◌≡◌, ◌<◌, ◌≤◌, ◌≢◌, ◌+◌, ℕ, List, Option, Some, None, IfOk, length, slice_get, replicate};
+ghost use Rattle.std.specs.Prelude.{◌≡◌, ◌<◌, ◌≤◌, ◌≢◌, ◌+◌, ℕ, List, Option, Some, None, IfOk, drop, length, slice_get, replicate};
 ghost use Rattle.label.specs.Labels.{labels};
 ghost use Rattle.label.specs.Oral.{Messages};
-ghost use Rattle.tree.specs.LieutenantTree.{IsCampaign, IsFilled, IsPlace, SameCampaign, level_told, level_of, silence, told_also, blank};
+ghost use Rattle.tree.specs.LieutenantTree.{IsCampaign, AreAnswers, IsFilled, IsPlace, SameCampaign, level_told, level_of, run_written, silence, told_also, told_run, blank};
 
 use label::{Label, Space, count, rank};
 use std::alloc::{AllocError, Global};
@@ -141,6 +141,30 @@ impl Tree {
         row[rank as usize] = value;
     }
 
+    /// Fills in what came for so many labels of this length, 1 to `bound + 1`, from this rank on: for each what `value`
+    /// answers for its place among them, from 0.
+    pub fn set_run<F: Fn(usize) -> Option<u32>>(
+        &mut self,
+        size: u8,
+        first: u32,
+        count: usize,
+        value: F,
+    )
+        requires some { 0 < size }
+        requires short { size ≤ self.old.bound + 1 }
+        requires within { first + count ≤ length (labels self.old.generals self.old.commander self.old.general size) }
+        requires callable { (place : ℕ) → place < count → F.pre value place }
+        ensures filled { (values : List (Option ℕ)) × AreAnswers (F.post value) count values × ((M : Messages) → IsFilled self.old M → IsFilled self.new (told_run M (drop first (labels self.old.generals self.old.commander self.old.general size)) values)) }
+        ensures same { SameCampaign self.old self.new }
+    {
+        write_run(
+            self.levels[(size - 1) as usize].as_mut_slice(),
+            first as usize,
+            count,
+            value,
+        );
+    }
+
     /// Takes back what was filled in for the labels of this length. Where it has no such labels,
     /// nothing changes.
     pub fn clear(&mut self, size: u8)
@@ -167,5 +191,21 @@ fn erase(row: &mut [Option<u32>])
 {
     for place in row.iter_mut() {
         *place = None;
+    }
+}
+
+/// What `value` answers for each place of a run, from 0, at its place of the row, where the run begins at `first`.
+fn write_run<F: Fn(usize) -> Option<u32>>(
+    row: &mut [Option<u32>],
+    first: usize,
+    count: usize,
+    value: F,
+)
+    requires within { first + count ≤ length row.old }
+    requires callable { (place : ℕ) → place < count → F.pre value place }
+    ensures { (values : List (Option ℕ)) × AreAnswers (F.post value) count values × (row.new ≡ run_written first values row.old) }
+{
+    for place in 0..count {
+        row[first + place] = value(place);
     }
 }

@@ -2,9 +2,11 @@
 use Rattle.std.proofs.Common.{◌≡◌, ◌≤◌, ◌+◌, ◌∙◌, ℕ, false, not, cond, refl, ap, arith, length-set}
 use mir.Val.{bool_byte}
 use Rattle.std.specs.Prelude.{slice_index, slice_index_or}
+use Rattle.std.specs.Borrow.{Bor}
+use Rattle.outbox.specs.Rows.{RowOrders, order_in}
 use Rattle.round.specs.Letters.{letter_of}
 use Rattle.round.specs.Delivery.{order_in_letter}
-use Rattle.round.proofs.Gathering.{counted, next_gathered, one_at_most}
+use Rattle.round.proofs.Gathering.{counted, next_gathered, one_at_most, or_nobody}
 use Rattle.round.proofs.tellers.gather.Goals as goal
 
 pub loop-general-preserved : goal.loop-general-preserved
@@ -15,9 +17,9 @@ loop-general-preserved c =
     record {
       few = (let a = h.few in omega arith);
       long = length-set c.loop-general.names c.loop-general.count x ∙ h.long;
-      wide = length-set c.loop-general.rows c.loop-general.count c.row_in.result ∙ h.wide;
+      wide = length-set c.loop-general.rows c.loop-general.count c.unwrap_or.result ∙ h.wide;
       told = λ posted.
-          next_gathered row c.args.generals f x _ (record { count = c.loop-general.count; generals = c.loop-general.names; rows = c.loop-general.rows }) c.row_in.result (h.told posted) c.loop-general-test.true c.requires.few
+          next_gathered row c.args.generals f x _ (record { count = c.loop-general.count; generals = c.loop-general.names; rows = c.loop-general.rows }) c.unwrap_or.result (h.told posted) c.loop-general-test.true c.requires.few
           (ap (λ (m : ℕ). c.loop-general.count + m) one)
-          (λ p. c.row_in.ensures p posted ∙ ap (λ (g : ℕ). order_in_letter (letter_of row x) (slice_index f.ranks g) p) c.from-number.ensures);
+          (λ p. ap (λ (r : Bor RowOrders). order_in p r.now) c.unwrap_or.ensures ∙ or_nobody c.row_in.result c.args.nobody p c.requires.nobody ∙ c.row_in.ensures p posted ∙ ap (λ (g : ℕ). order_in_letter (letter_of row x) (slice_index f.ranks g) p) c.from-number.ensures);
     }
