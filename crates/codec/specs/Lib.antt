@@ -3,3 +3,4 @@ pub mod Form
 pub mod Reading
 pub mod Program
 pub mod Laws
+pub mod Opcodes
