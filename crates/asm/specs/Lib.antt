@@ -11,3 +11,4 @@ pub mod Views
 pub mod Keeping
 pub mod Printing
 pub mod Laws
+pub mod Telling

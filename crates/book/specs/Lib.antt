@@ -5,3 +5,4 @@ pub mod Trees
 pub mod Grammar
 pub mod Reading
 pub mod Laws
+pub mod Telling

@@ -4,3 +4,4 @@ pub mod Reading
 pub mod Program
 pub mod Laws
 pub mod Opcodes
+pub mod Telling
