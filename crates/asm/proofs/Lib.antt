@@ -12,3 +12,6 @@ pub mod RoundLemmas
 pub mod TableLaws
 pub mod SaidLemmas
 pub mod FirstLemmas
+pub mod HelperLaws
+pub mod DistanceLaws
+pub mod NameLaws

@@ -12,3 +12,4 @@ pub mod Keeping
 pub mod Printing
 pub mod Laws
 pub mod Telling
+pub mod Names

@@ -6,3 +6,4 @@ pub mod Faults
 pub mod Lines
 pub mod Refusals
 pub mod Serving
+pub mod Telling
