@@ -13,3 +13,6 @@ pub mod SectionLemmas
 pub mod TableLaws
 pub mod SaidLemmas
 pub mod FirstLemmas
+pub mod HelperLaws
+pub mod DistanceLaws
+pub mod NameLaws

@@ -1,11 +1,12 @@
 -- Laws of the tables.
-use Rattle.std.specs.Prelude.{ℕ, ◌≡◌, ◌+◌, ◌<◌, ◌≤◌, ◌⊎◌, max, List, [], ◌∷◌, ◌++◌, Some, Ok, Err, length}
+use Rattle.std.specs.Prelude.{ℕ, ℤ, pos, ◌≡◌, ◌+◌, ◌<◌, ◌≤◌, ◌⊎◌, max, List, [], ◌∷◌, ◌++◌, Some, Ok, Err, length, slice_get}
 use Rattle.std.specs.List.{sum_by}
 use Rattle.insn.specs.declared.insn.Insn.{Insn}
 use Rattle.asm.specs.declared.fault.Fault.{Fault}
 use Rattle.asm.specs.declared.fault.Fault.TheVariants.{Count}
 use Rattle.asm.specs.declared.fault.AsmError.TheVariants.{At}
 use Rattle.asm.specs.declared.mnemonic.Mnemonic.{Mnemonic}
+use Rattle.asm.specs.Helper.{helpers, helper_of}
 use Rattle.asm.specs.Operand.{register_of}
 use Rattle.asm.specs.Table.{IsMnemonic, name_of, mnemonic_of}
 use Rattle.asm.specs.Program.{Placed, Read, placed_units, units_in, line_read, read_on, nothing, insn_of, insns_on, lines_of, said}
@@ -20,6 +21,12 @@ pub record RegistersAreNumbered : Type 0 where
 pub record MnemonicsAreNamed : Type 0 where
   pub read : (word : List ℕ) (m : Mnemonic) → mnemonic_of word ≡ Some m → IsMnemonic m × (word ≡ name_of m)
   pub written : (m : Mnemonic) → IsMnemonic m → mnemonic_of (name_of m) ≡ Some m
+
+-- the nine helpers' names are told apart: each is read as its number, from 1 on, and no other word is
+pub record HelpersAreNumbered : Type 0 where
+  pub nine : length helpers ≡ 9
+  pub read : (word : List ℕ) (number : ℤ) → helper_of word ≡ Some number → (k : ℕ) × (slice_get helpers k ≡ Some word) × (number ≡ pos (k + 1))
+  pub written : (k : ℕ) (word : List ℕ) → slice_get helpers k ≡ Some word → helper_of word ≡ Some (pos (k + 1))
 
 -- the line of this number has a fault of its own, and no line before it has one
 pub record IsFirstLine (lines : List (List ℕ)) (fault : Fault) (number : ℕ) : Type 0 where

@@ -11,3 +11,5 @@ pub mod Views
 pub mod Keeping
 pub mod Printing
 pub mod Laws
+pub mod Telling
+pub mod Names

@@ -5,43 +5,72 @@ ghost use Rattle.asm.specs.declared.fault.AsmError.TheVariants.{Memory as OutOfM
 ghost use Rattle.asm.specs.declared.fault.LineError.TheVariants.{Memory, Fault as At};
 
 use std::alloc::{AllocError, AllocFailed};
-use thiserror::Error;
+use std::error::Error;
+use std::fmt;
 
 /// What is wrong with a line, or with the text as a whole.
-#[derive(Clone, Copy, Debug, PartialEq, Eq, Drop, Error)]
+#[derive(Clone, Copy, Debug, PartialEq, Eq, Drop)]
 pub enum Fault {
     /// The line's outline, or a character past ASCII outside a comment.
-    #[error("A1")]
     Line,
     /// An unknown mnemonic.
-    #[error("A2")]
     Mnemonic,
     /// The number or kind of the operands.
-    #[error("A3")]
     Operand,
     /// A name that is defined nowhere.
-    #[error("A4")]
     Label,
     /// A name that was defined before.
-    #[error("A5")]
     Twice,
     /// A number or distance outside its range.
-    #[error("A6")]
     Range,
     /// No unit, or more than 4,096.
-    #[error("A7")]
     Count,
 }
 
+impl fmt::Display for Fault {
+    ghost use Rattle.std.specs.Prelude.{Some};
+    ghost use Rattle.asm.specs.Telling.{code_of};
+
+    ghost output = { λ fault. Some (code_of fault) };
+
+    fn fmt<W: fmt::Write>(&self, f: &mut fmt::Formatter<W>) -> fmt::Result {
+        f.write_str(match self {
+            Fault::Line => "A1",
+            Fault::Mnemonic => "A2",
+            Fault::Operand => "A3",
+            Fault::Label => "A4",
+            Fault::Twice => "A5",
+            Fault::Range => "A6",
+            Fault::Count => "A7",
+        })
+    }
+}
+
+impl Error for Fault {}
+
 /// The first fault with its line, counted from 1, or want of memory.
-#[derive(Clone, Copy, Debug, PartialEq, Eq, Drop, Error)]
+#[derive(Clone, Copy, Debug, PartialEq, Eq, Drop)]
 pub enum AsmError {
     /// A fault at a line; for a count it is the number of lines, at least 1.
-    #[error("{0} line {1}")]
     At(Fault, u64),
-    #[error("out of memory")]
     Memory,
 }
+
+impl fmt::Display for AsmError {
+    ghost use Rattle.std.specs.Prelude.{Some};
+    ghost use Rattle.asm.specs.Telling.{told};
+
+    ghost output = { λ error. Some (told error) };
+
+    fn fmt<W: fmt::Write>(&self, f: &mut fmt::Formatter<W>) -> fmt::Result {
+        match self {
+            AsmError::At(fault, line) => write!(f, "{fault} line {line}"),
+            AsmError::Memory => f.write_str("out of memory"),
+        }
+    }
+}
+
+impl Error for AsmError {}
 
 /// A fault in a line, or want of memory.
 #[derive(Clone, Copy, Debug, PartialEq, Eq, Drop)]

@@ -1,5 +1,6 @@
 //! Laws of the tables: each function does nothing, and its contract is the law.
-ghost use Rattle.asm.specs.Laws.{RegistersAreNumbered, MnemonicsAreNamed, FaultsAreFirst};
+ghost use Rattle.asm.specs.Laws.{RegistersAreNumbered, MnemonicsAreNamed, HelpersAreNumbered, FaultsAreFirst};
+ghost use Rattle.asm.specs.Names.{JumpsLeadToNames};
 
 /// A register is its letter and its number, 0 to 10.
 pub fn registers_are_numbered()
@@ -9,6 +10,16 @@ pub fn registers_are_numbered()
 /// Each mnemonic of the table is read from its word, and from no other.
 pub fn mnemonics_are_named()
     ensures { MnemonicsAreNamed }
+{}
+
+/// Each of the nine helpers is read from its name, and from no other.
+pub fn helpers_are_numbered()
+    ensures { HelpersAreNumbered }
+{}
+
+/// A jump to a name leads to the unit of what follows the line that defines it.
+pub fn jumps_lead_to_names()
+    ensures { JumpsLeadToNames }
 {}
 
 /// A text is refused by its first fault, at its line: that of a line by itself, behind lines that have none; behind all

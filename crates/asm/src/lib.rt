@@ -20,4 +20,7 @@ mod statement;
 pub use assembler::assemble;
 pub use disassembler::disassemble;
 pub use fault::{AsmError, Fault};
-pub use laws::{faults_are_first, mnemonics_are_named, registers_are_numbered};
+pub use laws::{
+    faults_are_first, helpers_are_numbered, jumps_lead_to_names, mnemonics_are_named,
+    registers_are_numbered,
+};

@@ -3,3 +3,5 @@ pub mod Form
 pub mod Reading
 pub mod Program
 pub mod Laws
+pub mod Opcodes
+pub mod Telling

@@ -2,46 +2,75 @@ ghost use Rattle.std.specs.Prelude.{◌≡◌};
 ghost use Rattle.codec.specs.declared.fault.CodecError.TheVariants.{Memory};
 
 use std::alloc::{AllocError, AllocFailed};
-use thiserror::Error;
+use std::error::Error;
+use std::fmt;
 
 /// What is wrong with the bytes of an instruction, or with how many there are.
-#[derive(Clone, Copy, Debug, PartialEq, Eq, Drop, Error)]
+#[derive(Clone, Copy, Debug, PartialEq, Eq, Drop)]
 pub enum Fault {
     /// The length is no multiple of 8.
-    #[error("C1")]
     Length,
     /// No instruction has this opcode.
-    #[error("C2")]
     Opcode,
     /// An unused field, or the reserved bits of a wide instruction, are not zero.
-    #[error("C3")]
     Reserved,
     /// The second half of a wide instruction is missing.
-    #[error("C4")]
     WideCut,
     /// A used register above r10.
-    #[error("C5")]
     Register,
     /// An instruction of the standard that is left out.
-    #[error("C6")]
     LeftOut,
     /// An operand that chooses the instruction has a value that chooses none.
-    #[error("C7")]
     Operand,
     /// No unit, or more than 4,096.
-    #[error("C8")]
     Count,
 }
 
+impl fmt::Display for Fault {
+    ghost use Rattle.std.specs.Prelude.{Some};
+    ghost use Rattle.codec.specs.Telling.{code_of};
+
+    ghost output = { λ fault. Some (code_of fault) };
+
+    fn fmt<W: fmt::Write>(&self, f: &mut fmt::Formatter<W>) -> fmt::Result {
+        f.write_str(match self {
+            Fault::Length => "C1",
+            Fault::Opcode => "C2",
+            Fault::Reserved => "C3",
+            Fault::WideCut => "C4",
+            Fault::Register => "C5",
+            Fault::LeftOut => "C6",
+            Fault::Operand => "C7",
+            Fault::Count => "C8",
+        })
+    }
+}
+
+impl Error for Fault {}
+
 /// The first fault with its unit, or want of memory.
-#[derive(Clone, Copy, Debug, PartialEq, Eq, Drop, Error)]
+#[derive(Clone, Copy, Debug, PartialEq, Eq, Drop)]
 pub enum CodecError {
     /// A fault at an instruction's first unit; for a length it is the unit that is cut, for a count 0.
-    #[error("{0} unit {1}")]
     At(Fault, usize),
-    #[error("out of memory")]
     Memory,
 }
+
+impl fmt::Display for CodecError {
+    ghost use Rattle.std.specs.Prelude.{Some};
+    ghost use Rattle.codec.specs.Telling.{told};
+
+    ghost output = { λ error. Some (told error) };
+
+    fn fmt<W: fmt::Write>(&self, f: &mut fmt::Formatter<W>) -> fmt::Result {
+        match self {
+            CodecError::At(fault, unit) => write!(f, "{fault} unit {unit}"),
+            CodecError::Memory => f.write_str("out of memory"),
+        }
+    }
+}
+
+impl Error for CodecError {}
 
 impl From<AllocError> for CodecError {
     ghost from_gives = { λ _ e. e ≡ Memory };

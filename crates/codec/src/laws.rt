@@ -1,5 +1,6 @@
 //! Laws of spelling: each function does nothing, and its contract is the law.
 ghost use Rattle.codec.specs.Laws.{OneInstruction, OneProgram, OneSpelling, OneFirstFault, NoFaultInPrograms};
+ghost use Rattle.codec.specs.Opcodes.{OpcodesAreTold};
 
 /// No two well-formed instructions are spelled alike.
 pub fn one_instruction()
@@ -24,4 +25,9 @@ pub fn one_first_fault()
 /// A program's bytes have no first fault.
 pub fn no_fault_in_programs()
     ensures { NoFaultInPrograms }
+{}
+
+/// An opcode is unknown exactly where no instruction is spelled with it, unless it is one of those that are left out.
+pub fn opcodes_are_told()
+    ensures { OpcodesAreTold }
 {}

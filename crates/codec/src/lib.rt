@@ -16,4 +16,7 @@ mod spelling;
 pub use decoder::{decode, first_fault};
 pub use encoder::encode;
 pub use fault::{CodecError, Fault};
-pub use laws::{no_fault_in_programs, one_first_fault, one_instruction, one_program, one_spelling};
+pub use laws::{
+    no_fault_in_programs, one_first_fault, one_instruction, one_program, one_spelling,
+    opcodes_are_told,
+};

@@ -1,2 +1,3 @@
 pub mod Table
 pub mod Results
+pub mod Windows

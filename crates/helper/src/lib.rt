@@ -2,8 +2,10 @@
 #![tactic(auto)]
 
 mod argument;
+mod laws;
 mod table;
 
 pub use argument::Argument;
+pub use laws::calls_trap_by_the_table;
 pub use semantics::{Helper, Reply, Request, Slot, Span};
 pub use table::{arguments, helper_of, result};

@@ -1,5 +1,5 @@
 -- What the verifier's refusals say of the bytes.
-use Rattle.std.proofs.Common.{◌≡◌, ◌≢◌, ℕ, List, sym, subst}
+use Rattle.std.proofs.Common.{◌≡◌, ◌≢◌, ◌⊎◌, ℕ, List, inl, inr, sym, subst}
 use Rattle.std.specs.Prelude.{None, IfSome}
 use Rattle.insn.specs.declared.insn.Insn.{Insn}
 use Rattle.semantics.specs.Plain.{IsPlain}
@@ -7,6 +7,7 @@ use Rattle.codec.specs.Program.{SpellsProgram}
 use Rattle.verify.specs.declared.fault.Fault.{Fault}
 use Rattle.verify.specs.declared.fault.Fault.TheVariants.{BackJump, JumpOut, JumpInWide, LastNotExit, Unset, FrameWrite, PointerUse, Bounds, StackUnset, ContextWrite, Helper, Argument, ExitPointer, Memory}
 use Rattle.verify.specs.Structure.{structural_fault, IsOwnFault}
+use Rattle.verify.specs.Passes.{IsFirstFault}
 use Rattle.lab.specs.declared.refusal.Refusal.{Refusal}
 use Rattle.lab.specs.Refusals.{verifier_refusal, RefusesProgram, RefusesCheck}
 
@@ -15,6 +16,12 @@ pub record IsRefused (program : List Insn) (fault : Fault) : Type 0 where
   pub plain : IsPlain program → fault ≡ Memory
   pub structural : IfSome (structural_fault program) (λ first. fault ≡ first)
   pub unstructural : structural_fault program ≡ None → IsOwnFault program fault
+  pub first : structural_fault program ≡ None → (fault ≡ Memory) ⊎ IsFirstFault program fault
+
+-- what is no want of memory
+on_pass : (program : List Insn) (fault : Fault) → fault ≢ Memory → (fault ≡ Memory) ⊎ IsFirstFault program fault → IsFirstFault program fault
+on_pass program fault other (inl memory) = absurd (other memory)
+on_pass program fault other (inr first) = first
 
 named : (program : List Insn) (fault : Fault) → fault ≢ Memory → IsRefused program fault → RefusesProgram program fault
 named program fault other r = record {
@@ -22,6 +29,7 @@ named program fault other r = record {
   not_plain = λ plain. other (r.plain plain);
   structural = r.structural;
   unstructural = r.unstructural;
+  first = λ none. on_pass program fault other (r.first none);
 }
 
 by_fault : (bytes : List ℕ) (program : List Insn) (fault : Fault) → SpellsProgram bytes program → IsRefused program fault → RefusesCheck bytes (verifier_refusal fault)

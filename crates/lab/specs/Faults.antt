@@ -1,5 +1,5 @@
 -- The fault of a refusal, its line, its exit status and its cause.
-use Rattle.std.specs.Prelude.{ℕ, ◌≡◌, ◌≢◌, ◌⊎◌, List, Option, Some, None, ◌++◌, codes}
+use Rattle.std.specs.Prelude.{ℕ, ◌≡◌, ◌≢◌, ◌⊎◌, List, ◌++◌, codes}
 use Rattle.std.specs.Borrow.{Bor}
 use Rattle.command_line.specs.declared.tasks.Task.{Task}
 use Rattle.round.specs.Scenario.{Scenario}
@@ -7,6 +7,7 @@ use Rattle.lab.specs.declared.refusal.Refusal.{Refusal}
 use Rattle.lab.specs.declared.refusal.Refusal.TheVariants as refusal
 use Rattle.lab.specs.declared.fault.Fault.{Fault}
 use Rattle.lab.specs.declared.fault.Fault.TheVariants.{Read, Text, Refused, Write, Memory}
+use Rattle.lab.specs.Telling.{refusal_text}
 use Rattle.lab.specs.Serving.{Files, HasAnswer, IsRefused, IsRefusedLater, IsTaken, first_name, second_name}
 
 -- the fault of a file with this name
@@ -20,13 +21,13 @@ abbrev pub status_of : Fault → ℕ
 status_of Memory = 3
 status_of _ = 1
 
--- what is said of a fault; a refusal's code and place are not
-abbrev pub fault_text : Fault → Option (List ℕ)
-fault_text (Read file) = Some (codes "fault read " ++ file.now)
-fault_text (Text file) = Some (codes "fault text " ++ file.now)
-fault_text (Refused refusal) = None
-fault_text Write = Some (codes "fault write")
-fault_text Memory = Some (codes "out of memory")
+-- what is said of a fault
+abbrev pub fault_text : Fault → List ℕ
+fault_text (Read file) = codes "fault read " ++ file.now
+fault_text (Text file) = codes "fault text " ++ file.now
+fault_text (Refused refusal) = codes "refused " ++ refusal_text refusal
+fault_text Write = codes "fault write"
+fault_text Memory = codes "out of memory"
 
 -- why the file with this name stops a task: its reader failed, it is refused, or want of memory
 abbrev pub Stops : Type 0 → (Refusal → Type 0) → List ℕ → Fault → Type 0

@@ -7,3 +7,4 @@ pub mod Lines
 pub mod Reading
 pub mod Refusals
 pub mod Serving
+pub mod Telling

@@ -27,6 +27,7 @@ use Rattle.trace.specs.declared.fault.TraceError.TheVariants as trace
 use Rattle.verify.specs.declared.fault.Fault.{Fault}
 use Rattle.verify.specs.declared.fault.Fault.TheVariants as verifier
 use Rattle.verify.specs.Structure.{structural_fault, IsOwnFault}
+use Rattle.verify.specs.Passes as on_pass
 use Rattle.command_line.specs.declared.tasks.Task.{Task}
 use Rattle.command_line.specs.declared.tasks.Task.TheVariants.{Check, Assemble, Disassemble, Book, Play, Muster, Audit}
 use Rattle.lab.specs.declared.refusal.Refusal.{Refusal}
@@ -66,12 +67,13 @@ abbrev pub RefusesBytes : List ℕ → CodecError → Type 0
 RefusesBytes bytes (codec.At fault unit) = IsFirstFault bytes fault unit
 RefusesBytes bytes codec.Memory = ⊥
 
--- the verifier refuses the program, which is not plain, by its first structural fault, or where it has none by a fault of an instruction
+-- the verifier refuses the program, which is not plain, by its first structural fault, or where it has none by the first fault on the pass, of an instruction
 pub record RefusesProgram (program : List Insn) (fault : Fault) : Type 0 where
   pub named : fault ≢ verifier.Memory
   pub not_plain : IsPlain program → ⊥
   pub structural : IfSome (structural_fault program) (λ first. fault ≡ first)
   pub unstructural : structural_fault program ≡ None → IsOwnFault program fault
+  pub first : structural_fault program ≡ None → on_pass.IsFirstFault program fault
 
 -- the bytes spell no program, or the verifier refuses the program that they spell
 abbrev pub RefusesCheck : List ℕ → Refusal → Type 0

@@ -10,6 +10,7 @@ use Rattle.lab.specs.declared.refusal.Refusal.{Refusal}
 use Rattle.lab.specs.declared.refusal.Refusal.TheVariants.{NotText, Memory}
 use Rattle.lab.specs.Answers.{GoesOn, Prints}
 use Rattle.lab.specs.Campaigns.{IsAudited, IsPlayed, IsSchedule}
+use Rattle.lab.specs.Telling.{refusal_text}
 use Rattle.lab.specs.Refusals.{Refuses, RefusesChronicle, RefusesMuster, RefusesSchedule, RefusesText}
 
 -- the only or first file's bytes, and the second's where there is one
@@ -101,10 +102,10 @@ IsRefusedLater _ s known refusal = ⊥
 abbrev pub Tells : Type 0 → Option (List ℕ) → Option (List ℕ) → List ℕ → Type 0
 Tells fails old new line = fails ⊎ Appends old new (line ++ 10 ∷ [])
 
--- the line that tells of a refusal of the file with this name; a code with its place is not said here
+-- the line that tells of a refusal of the file with this name: its code and its place
 abbrev pub TellsRefusal : List ℕ → (List ℕ → Type 0) → Refusal → Type 0
 TellsRefusal name tells NotText = tells (codes "fault text " ++ name)
-TellsRefusal name tells _ = Unit {0}
+TellsRefusal name tells refusal = tells (codes "refused " ++ refusal_text refusal)
 
 -- the file with this name was not read, since its reader failed, or a refusal has come; and a line says so
 abbrev pub IsTurnedDown : Type 0 → (Refusal → Type 0) → List ℕ → (List ℕ → Type 0) → Type 0

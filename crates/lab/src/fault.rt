@@ -20,9 +20,10 @@ pub(crate) enum Fault<'a> {
 }
 
 impl fmt::Display for Fault<'_> {
+    ghost use Rattle.std.specs.Prelude.{Some};
     ghost use Rattle.lab.specs.Faults.{fault_text};
 
-    ghost output = { fault_text };
+    ghost output = { λ fault. Some (fault_text fault) };
 
     fn fmt<W: fmt::Write>(&self, f: &mut fmt::Formatter<W>) -> fmt::Result {
         match self {

@@ -3,41 +3,57 @@ use book::TableError;
 use codec::CodecError;
 use scenario::ScenarioError;
 use std::alloc::AllocError;
+use std::error::Error;
+use std::fmt;
 use threads::MusterError;
 use trace::TraceError;
 use verify::Fault;
 
 /// Why a task does not take a file's bytes: what is refused, with its code and place.
-#[derive(Debug, Drop, thiserror::Error)]
+#[derive(Debug, Drop)]
 pub enum Refusal {
     /// The bytes spell no program.
-    #[error("{0}")]
     Codec(CodecError),
     /// The program is not accepted.
-    #[error("{0}")]
     Verifier(Fault),
     /// The text says no program.
-    #[error("{0}")]
     Assembly(AsmError),
     /// The text tells no message table.
-    #[error("{0}")]
     Table(TableError),
     /// The text tells no scenario.
-    #[error("{0}")]
     Scenario(ScenarioError),
     /// The text tells no schedule, or no chronicle of the scenario's.
-    #[error("{0}")]
     Trace(TraceError),
     /// The threads gave no chronicle.
-    #[error("{0}")]
     Threads(MusterError),
     /// The bytes are no text in UTF-8.
-    #[error("not UTF-8")]
     NotText,
     /// Want of memory.
-    #[error("out of memory")]
     Memory,
 }
+
+impl fmt::Display for Refusal {
+    ghost use Rattle.std.specs.Prelude.{Some};
+    ghost use Rattle.lab.specs.Telling.{refusal_text};
+
+    ghost output = { λ refusal. Some (refusal_text refusal) };
+
+    fn fmt<W: fmt::Write>(&self, f: &mut fmt::Formatter<W>) -> fmt::Result {
+        match self {
+            Refusal::Codec(error) => write!(f, "{error}"),
+            Refusal::Verifier(fault) => write!(f, "{fault}"),
+            Refusal::Assembly(error) => write!(f, "{error}"),
+            Refusal::Table(error) => write!(f, "{error}"),
+            Refusal::Scenario(error) => write!(f, "{error}"),
+            Refusal::Trace(error) => write!(f, "{error}"),
+            Refusal::Threads(error) => write!(f, "{error}"),
+            Refusal::NotText => f.write_str("not UTF-8"),
+            Refusal::Memory => f.write_str("out of memory"),
+        }
+    }
+}
+
+impl Error for Refusal {}
 
 impl From<AllocError> for Refusal {
     ghost use Rattle.std.specs.Prelude.{◌≡◌};

@@ -18,6 +18,11 @@ pub enum Cause {
 }
 
 impl fmt::Display for Cause {
+    ghost use Rattle.std.specs.Prelude.{Some};
+    ghost use Rattle.scenario.specs.Telling.{cause_text};
+
+    ghost output = { λ cause. Some (cause_text cause) };
+
     fn fmt<W: fmt::Write>(&self, f: &mut fmt::Formatter<W>) -> fmt::Result {
         match *self {
             Cause::Asm(fault, line) => write!(f, "{fault} line {line}"),
@@ -43,6 +48,11 @@ pub enum Fault {
 }
 
 impl fmt::Display for Fault {
+    ghost use Rattle.std.specs.Prelude.{Some};
+    ghost use Rattle.scenario.specs.Telling.{fault_text};
+
+    ghost output = { λ fault. Some (fault_text fault) };
+
     fn fmt<W: fmt::Write>(&self, f: &mut fmt::Formatter<W>) -> fmt::Result {
         match *self {
             Fault::Key(place) => write!(f, "S2 {place}"),
@@ -72,6 +82,11 @@ pub enum ScenarioError {
 }
 
 impl fmt::Display for ScenarioError {
+    ghost use Rattle.std.specs.Prelude.{Some};
+    ghost use Rattle.scenario.specs.Telling.{told};
+
+    ghost output = { λ error. Some (told error) };
+
     fn fmt<W: fmt::Write>(&self, f: &mut fmt::Formatter<W>) -> fmt::Result {
         match self {
             ScenarioError::Toml => write!(f, "S1"),

@@ -5,5 +5,7 @@ pub mod AskingExample
 pub mod SoundExample
 pub mod WholeLaws
 pub mod SafetyLaws
+pub mod WordLaws
+pub mod HoldingLaws
 pub mod ReachedLaws
 pub mod PlacesLaws

@@ -1,6 +1,8 @@
 -- What holds of every step and run. Each statement is the contract of a function of this crate.
 use Rattle.std.specs.Prelude.{ℕ, ◌+◌, ◌-◌, ◌<◌, ◌≡◌, List, length}
+use Rattle.std.specs.List.{AllByRecursion}
 use Rattle.insn.specs.declared.insn.Insn.{Insn}
+use Rattle.insn.specs.Insn.{IsInsn}
 use Rattle.semantics.specs.Relay.{IsContext, IsRelay, Relay}
 use Rattle.semantics.specs.declared.request.Request.{Request}
 use Rattle.semantics.specs.State.{State, entry}
@@ -10,17 +12,20 @@ use Rattle.semantics.specs.Execution.{step}
 use Rattle.semantics.specs.Run.{Running, IsFinal, IsSound, onwards, after}
 use Rattle.semantics.specs.Safety.{IsSafe}
 use Rattle.semantics.specs.Reached.{Reached}
-use Rattle.semantics.specs.Whole.{IsWhole, Each, CountsOnce}
+use Rattle.semantics.specs.Whole.{IsWhole, HasWords, Each, CountsOnce}
 
 -- each step is counted once
 abbrev pub StepsAreCounted : Type 0
 StepsAreCounted = (program : List Insn) (context : List ℕ) (relay : Relay) (s : State) → CountsOnce s (step program context relay s)
 
--- entry, step and answer leave a state whole
+-- entry, step and answer leave a state whole; so every state that is reached is whole, and of well-formed instructions in a campaign's setting its numbers have 64 bits and its bytes 8
 pub record StatesStayWhole : Type 0 where
   pub at_entry : (relay : Relay) → IsWhole (entry (empty_outbox relay))
   pub stepped : (program : List Insn) (context : List ℕ) (relay : Relay) (s : State) → IsWhole s → Each IsWhole (step program context relay s)
   pub answered : (request : Request) (words : List ℕ) (s : State) → IsWhole s → IsWhole (resumed request words s)
+  pub reached : (program : List Insn) (context : List ℕ) (relay : Relay) (answers : List (List ℕ)) (s : State) → Reached program context relay answers s → IsWhole s
+  pub words : (program : List Insn) (context : List ℕ) (relay : Relay) (answers : List (List ℕ)) (s : State) → AllByRecursion IsInsn program → IsContext context → IsRelay relay →
+      Reached program context relay answers s → HasWords s
 
 -- what has exited, trapped or waits stays so under any further steps
 abbrev pub RunsStayOver : Type 0

@@ -1,3 +1,4 @@
 pub mod Taking
 pub mod Holding
 pub mod Duties
+pub mod Telling

@@ -3,24 +3,39 @@ ghost use Rattle.std.specs.Prelude.{◌≡◌};
 ghost use Rattle.threads.specs.declared.error.MusterError.TheVariants.{Memory};
 
 use std::alloc::{AllocError, AllocFailed};
-use thiserror::Error;
+use std::error::Error;
+use std::fmt;
 
 /// Why there is no chronicle of a muster.
-#[derive(Clone, Copy, Debug, PartialEq, Eq, Error)]
+#[derive(Clone, Copy, Debug, PartialEq, Eq)]
 pub enum MusterError {
     /// M1: memory was refused.
-    #[error("out of memory")]
     Memory,
     /// M2: the ledger does not account for the letters, or the board did not open with the scenario's words.
-    #[error("M2")]
     Unaccounted,
     /// M3: a thread could not be started.
-    #[error("M3")]
     Spawn,
     /// M4: the post was full.
-    #[error("M4")]
     Post,
 }
+
+impl fmt::Display for MusterError {
+    ghost use Rattle.std.specs.Prelude.{Some};
+    ghost use Rattle.threads.specs.Telling.{told};
+
+    ghost output = { λ error. Some (told error) };
+
+    fn fmt<W: fmt::Write>(&self, f: &mut fmt::Formatter<W>) -> fmt::Result {
+        f.write_str(match self {
+            MusterError::Memory => "out of memory",
+            MusterError::Unaccounted => "M2",
+            MusterError::Spawn => "M3",
+            MusterError::Post => "M4",
+        })
+    }
+}
+
+impl Error for MusterError {}
 
 impl From<AllocError> for MusterError {
     ghost from_gives = { λ _ e. e ≡ Memory };

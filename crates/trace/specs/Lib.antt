@@ -9,3 +9,4 @@ pub mod Schedules
 pub mod Left
 pub mod Sinks
 pub mod Lines
+pub mod Telling

@@ -16,3 +16,4 @@ pub mod MemoryTable
 pub mod Flow
 pub mod Instructions
 pub mod Passes
+pub mod Telling

@@ -1,53 +1,68 @@
 use insn::Program;
 use std::alloc::AllocError;
-use thiserror::Error;
+use std::error::Error;
+use std::fmt;
 
 /// Why a program is refused, with the unit of the instruction that is at fault.
-#[derive(Clone, Copy, Debug, PartialEq, Eq, Drop, Error)]
+#[derive(Clone, Copy, Debug, PartialEq, Eq, Drop)]
 pub enum Fault {
     /// A jump leads to its own unit or back.
-    #[error("V1 unit {0}")]
     BackJump(usize),
     /// A jump leads past the end.
-    #[error("V2 unit {0}")]
     JumpOut(usize),
     /// A jump leads into the second half of a wide instruction.
-    #[error("V3 unit {0}")]
     JumpInWide(usize),
     /// The last instruction is not the exit.
-    #[error("V4 unit {0}")]
     LastNotExit(usize),
     /// A register is read that may be unset.
-    #[error("V5 unit {0}")]
     Unset(usize),
     /// The frame pointer is written.
-    #[error("V6 unit {0}")]
     FrameWrite(usize),
     /// A pointer is used as it may not be.
-    #[error("V7 unit {0}")]
     PointerUse(usize),
     /// An access may leave its region.
-    #[error("V8 unit {0}")]
     Bounds(usize),
     /// A cell of the stack is read that may hold no byte.
-    #[error("V9 unit {0}")]
     StackUnset(usize),
     /// The context is written.
-    #[error("V10 unit {0}")]
     ContextWrite(usize),
     /// A helper is called that is not there.
-    #[error("V11 unit {0}")]
     Helper(usize),
     /// A helper is called with an argument that it may not take.
-    #[error("V12 unit {0}")]
     Argument(usize),
     /// The program ends with a pointer in r0.
-    #[error("V13 unit {0}")]
     ExitPointer(usize),
     /// Memory was refused.
-    #[error("out of memory")]
     Memory,
 }
+
+impl fmt::Display for Fault {
+    ghost use Rattle.std.specs.Prelude.{Some};
+    ghost use Rattle.verify.specs.Telling.{told};
+
+    ghost output = { λ fault. Some (told fault) };
+
+    fn fmt<W: fmt::Write>(&self, f: &mut fmt::Formatter<W>) -> fmt::Result {
+        match self {
+            Fault::BackJump(unit) => write!(f, "V1 unit {unit}"),
+            Fault::JumpOut(unit) => write!(f, "V2 unit {unit}"),
+            Fault::JumpInWide(unit) => write!(f, "V3 unit {unit}"),
+            Fault::LastNotExit(unit) => write!(f, "V4 unit {unit}"),
+            Fault::Unset(unit) => write!(f, "V5 unit {unit}"),
+            Fault::FrameWrite(unit) => write!(f, "V6 unit {unit}"),
+            Fault::PointerUse(unit) => write!(f, "V7 unit {unit}"),
+            Fault::Bounds(unit) => write!(f, "V8 unit {unit}"),
+            Fault::StackUnset(unit) => write!(f, "V9 unit {unit}"),
+            Fault::ContextWrite(unit) => write!(f, "V10 unit {unit}"),
+            Fault::Helper(unit) => write!(f, "V11 unit {unit}"),
+            Fault::Argument(unit) => write!(f, "V12 unit {unit}"),
+            Fault::ExitPointer(unit) => write!(f, "V13 unit {unit}"),
+            Fault::Memory => f.write_str("out of memory"),
+        }
+    }
+}
+
+impl Error for Fault {}
 
 impl From<AllocError> for Fault {
     ghost use Rattle.std.specs.Prelude.{◌≡◌};

@@ -1,0 +1,21 @@
+-- What is said of a fault.
+use Rattle.std.specs.Prelude.{ℕ, List, ◌++◌, codes}
+use Rattle.std.specs.Fmt.{decimal}
+use Rattle.asm.specs.declared.fault.Fault.{Fault}
+use Rattle.asm.specs.declared.fault.Fault.TheVariants.{Line, Mnemonic, Operand, Label, Twice, Range, Count}
+use Rattle.asm.specs.declared.fault.AsmError.{AsmError}
+use Rattle.asm.specs.declared.fault.AsmError.TheVariants.{At, Memory}
+
+abbrev pub code_of : Fault → List ℕ
+code_of Line = codes "A1"
+code_of Mnemonic = codes "A2"
+code_of Operand = codes "A3"
+code_of Label = codes "A4"
+code_of Twice = codes "A5"
+code_of Range = codes "A6"
+code_of Count = codes "A7"
+
+-- the code, and the line
+abbrev pub told : AsmError → List ℕ
+told (At fault line) = code_of fault ++ codes " line " ++ decimal line
+told Memory = codes "out of memory"

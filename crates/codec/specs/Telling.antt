@@ -1,0 +1,22 @@
+-- What is said of a fault.
+use Rattle.std.specs.Prelude.{ℕ, List, ◌++◌, codes}
+use Rattle.std.specs.Fmt.{decimal}
+use Rattle.codec.specs.declared.fault.Fault.{Fault}
+use Rattle.codec.specs.declared.fault.Fault.TheVariants.{Length, Opcode, Reserved, WideCut, Register, LeftOut, Operand, Count}
+use Rattle.codec.specs.declared.fault.CodecError.{CodecError}
+use Rattle.codec.specs.declared.fault.CodecError.TheVariants.{At, Memory}
+
+abbrev pub code_of : Fault → List ℕ
+code_of Length = codes "C1"
+code_of Opcode = codes "C2"
+code_of Reserved = codes "C3"
+code_of WideCut = codes "C4"
+code_of Register = codes "C5"
+code_of LeftOut = codes "C6"
+code_of Operand = codes "C7"
+code_of Count = codes "C8"
+
+-- the code, and the unit
+abbrev pub told : CodecError → List ℕ
+told (At fault unit) = code_of fault ++ codes " unit " ++ decimal unit
+told Memory = codes "out of memory"
