@@ -11,5 +11,5 @@ mod well;
 
 pub use code::Code;
 pub use insn::{Insn, Operand, Size};
-pub use program::Program;
+pub use program::{Program, code_at};
 pub use reg::Reg;

@@ -1,2 +1,4 @@
 pub mod TurnLemmas
 pub mod AdvanceLemmas
+pub mod RegisterLemmas
+pub mod OperationLemmas

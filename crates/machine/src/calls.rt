@@ -8,7 +8,6 @@ ghost use Rattle.machine.specs.Turn.{Turns, Asks, IsFree};
 use crate::activation::Activation;
 use crate::arguments::{argument, order, pointer, word};
 use crate::flow::Flow;
-use crate::registers::set_result;
 use helper::helper_of;
 use mem::{Context, load_row};
 use semantics::{Helper, Request, Slot, Span};
@@ -84,7 +83,7 @@ impl Activation {
         ensures { given (slot_in self.now.state) (λ slot. given (word_in self.now.state 2) (λ value. Ok (Request.Swap slot value))) ≡ Ok result }
     {
         let slot = self.slot();
-        let value = word(self.registers[2]);
+        let value = word(self.registers.at(2));
         Request::Swap { slot, value }
     }
 
@@ -94,7 +93,7 @@ impl Activation {
         ensures { given (slot_in self.now.state) (λ slot. given (word_in self.now.state 2) (λ value. Ok (Request.Add slot value))) ≡ Ok result }
     {
         let slot = self.slot();
-        let value = word(self.registers[2]);
+        let value = word(self.registers.at(2));
         Request::Add { slot, value }
     }
 
@@ -104,8 +103,8 @@ impl Activation {
         ensures { given (slot_in self.now.state) (λ slot. given (word_in self.now.state 2) (λ expected. given (word_in self.now.state 3) (λ new. Ok (Request.Cas slot expected new)))) ≡ Ok result }
     {
         let slot = self.slot();
-        let expected = word(self.registers[2]);
-        let new = word(self.registers[3]);
+        let expected = word(self.registers.at(2));
+        let new = word(self.registers.at(3));
         Request::Cas {
             slot,
             expected,
@@ -118,9 +117,9 @@ impl Activation {
         requires { IsOk (given (slot_in self.now.state) (λ slot. given (pointer_in self.now.state 2) (λ to. given (argument self.now.state 3 65) (λ count. copy_of slot to count)))) }
         ensures { given (slot_in self.now.state) (λ slot. given (pointer_in self.now.state 2) (λ to. given (argument self.now.state 3 65) (λ count. copy_of slot to count))) ≡ Ok result }
     {
-        let slot = argument(self.registers[1], 64);
-        let _to = pointer(self.registers[2]);
-        let count = argument(self.registers[3], 65);
+        let slot = argument(self.registers.at(1), 64);
+        let _to = pointer(self.registers.at(2));
+        let count = argument(self.registers.at(3), 65);
         let Some(span) = Span::new(slot, count) else {
             unreachable!()
         };
@@ -132,7 +131,7 @@ impl Activation {
         requires { IsOk (slot_in self.now.state) }
         ensures { slot_in self.now.state ≡ Ok result }
     {
-        let Some(slot) = Slot::new(argument(self.registers[1], 64)) else {
+        let Some(slot) = Slot::new(argument(self.registers.at(1), 64)) else {
             unreachable!()
         };
         slot
@@ -149,9 +148,9 @@ impl Activation {
             given (order_in self.old.state 3) (λ order. Ok (at_place label receiver order))))) ≡ Next self.new.state }
         ensures shape { self.new.shape ≡ self.old.shape }
     {
-        let label = argument(self.registers[1], 1016) as u32;
-        let receiver = argument(self.registers[2], 13) as u32;
-        let order = order(self.registers[3]);
+        let label = argument(self.registers.at(1), 1016) as u32;
+        let receiver = argument(self.registers.at(2), 13) as u32;
+        let order = order(self.registers.at(3));
         semantics::few_places_are_set();
         let there = self.outbox.put(label, receiver, order);
         self.go_on(if there { 0 } else { 1 })
@@ -168,9 +167,9 @@ impl Activation {
             given (orders_at context.now self.old.state from count) (λ orders. Ok (along_row label orders)))))) ≡ Next self.new.state }
         ensures shape { self.new.shape ≡ self.old.shape }
     {
-        let label = argument(self.registers[1], 1016) as u32;
-        let from = pointer(self.registers[2]);
-        let count = argument(self.registers[3], 14) as usize;
+        let label = argument(self.registers.at(1), 1016) as u32;
+        let from = pointer(self.registers.at(2));
+        let count = argument(self.registers.at(3), 14) as usize;
         let Ok(orders) = load_row(&self.stack, context, from, count) else {
             unreachable!()
         };
@@ -187,8 +186,8 @@ impl Activation {
         ensures next { sent self.old.shape self.old.state (λ set. set) (given (argument self.old.state 1 13) (λ receiver. given (order_in self.old.state 2) (λ order. Ok (at_receiver receiver order)))) ≡ Next self.new.state }
         ensures shape { self.new.shape ≡ self.old.shape }
     {
-        let receiver = argument(self.registers[1], 13) as u32;
-        let order = order(self.registers[2]);
+        let receiver = argument(self.registers.at(1), 13) as u32;
+        let order = order(self.registers.at(2));
         let set = self.outbox.sway(receiver, order);
         self.go_on(u64::from(set))
     }
@@ -202,7 +201,7 @@ impl Activation {
         ensures next { sent self.old.shape self.old.state (λ set. set) (given (argument self.old.state 1 13) (λ receiver. Ok (as_taken context.now receiver))) ≡ Next self.new.state }
         ensures shape { self.new.shape ≡ self.old.shape }
     {
-        let receiver = argument(self.registers[1], 13) as u32;
+        let receiver = argument(self.registers.at(1), 13) as u32;
         let set = self.outbox.honest(context.bytes(), receiver);
         self.go_on(u64::from(set))
     }
@@ -215,7 +214,7 @@ impl Activation {
         ensures state { self.new.state ≡ record (returned self.old.state r0) { unit = self.old.state.unit + 1; steps = self.old.state.steps + 1 } }
         ensures shape { self.new.shape ≡ self.old.shape }
     {
-        set_result(&mut self.registers, r0);
+        self.registers.set_result(r0);
         self.unit += 1;
         self.steps += 1;
         Flow::Onward

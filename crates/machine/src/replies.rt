@@ -11,7 +11,6 @@ ghost use Rattle.semantics.specs.Call.{fits, returned, resumed};
 ghost use Rattle.semantics.specs.Replies.{words_in};
 
 use crate::activation::Activation;
-use crate::registers::set_result;
 use mem::store_words;
 use semantics::{Reply, Request, Span};
 
@@ -67,7 +66,7 @@ impl Activation {
             Reply::Word(word) => *word,
             Reply::Words(words) => words.as_slice()[0],
         };
-        set_result(&mut self.registers, word);
+        self.registers.set_result(word);
     }
 
     /// The words that were copied stand at r2.
@@ -77,11 +76,11 @@ impl Activation {
         ensures shape { self.new.shape ≡ self.old.shape }
     {
         let count = span.count();
-        let to = self.registers[2];
+        let to = self.registers.at(2);
         match reply {
             Reply::Word(word) => store_words(&mut self.stack, to, &[*word]),
             Reply::Words(words) => store_words(&mut self.stack, to, words.as_slice()),
         }
-        set_result(&mut self.registers, count as u64);
+        self.registers.set_result(count as u64);
     }
 }
