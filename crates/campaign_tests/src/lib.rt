@@ -1,4 +1,5 @@
-//! Tests of rounds, worlds, their texts and their threads, by values from outside: a crate with tests of its own is proved twice.
+//! Tests of the sandbox, of rounds, worlds, their texts and their threads, and of what is printed, by values from outside: a crate with
+//! tests of its own is proved twice.
 #![tactic(auto)]
 
 #[cfg(test)]
@@ -12,16 +13,32 @@ mod gates;
 #[cfg(test)]
 mod gathers;
 #[cfg(test)]
+mod known_bits;
+#[cfg(test)]
 mod lives;
 #[cfg(test)]
 mod musters;
+#[cfg(test)]
+mod musters_served;
+#[cfg(test)]
+mod plays;
 #[cfg(test)]
 mod posts;
 #[cfg(test)]
 mod rounds;
 #[cfg(test)]
+mod sandbox;
+#[cfg(test)]
+mod sandbox_calls;
+#[cfg(test)]
 mod scenarios;
 #[cfg(test)]
+mod serving;
+#[cfg(test)]
+mod tasks;
+#[cfg(test)]
 mod threaded;
+#[cfg(test)]
+mod verdicts;
 #[cfg(test)]
 mod worlds;

@@ -70,19 +70,3 @@ pub fn result(helper: Helper) -> Range
     };
     Range { lo: 0, hi }
 }
-
-#[cfg(test)]
-mod tests {
-    use crate::{Argument, Helper, arguments, helper_of, result};
-
-    #[test]
-    fn looks_up(rt: HostRuntime) {
-        assert_eq!(rt; helper_of(6), Some(Helper::Send));
-        assert_eq!(rt; helper_of(0), None);
-        assert_eq!(rt; helper_of(10), None);
-        let [first, _, third] = arguments(Helper::SendRow);
-        assert_eq!(rt; first, Some(Argument::Label));
-        assert_eq!(rt; third.and_then(|argument| argument.greatest()), Some(13));
-        assert_eq!(rt; result(Helper::BoardCopy).hi, 64);
-    }
-}

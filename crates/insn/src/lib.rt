@@ -5,8 +5,6 @@ mod code;
 mod insn;
 mod program;
 mod reg;
-#[cfg(test)]
-mod tests;
 mod well;
 
 pub use code::Code;

@@ -4,14 +4,16 @@ use insn::{Insn, Operand, Program, Reg};
 use std::test::Fail;
 use word::{Operation, Width};
 
-/// The program of a wide instruction, a narrow one and the exit has its 4 units, of which the second starts nothing.
+/// Whether a wide instruction, a narrow one and the exit take the program's 4 units, of which the second starts nothing.
 fn is_laid_out(program: &Program, wide: Insn, narrow: Insn) -> bool {
-    let starts = [0, 1, 2, 3, 4].map(|unit| program.at(unit));
-    let all = program.instructions();
-    starts == [Some(wide), None, Some(narrow), Some(Insn::Exit), None]
-        && all == [wide, narrow, Insn::Exit].as_slice()
-        && program.len() == 3
+    program.len() == 3
         && program.units() == 4
+        && program.instructions().len() == 3
+        && program.at(0) == Some(wide)
+        && program.at(1).is_none()
+        && program.at(2) == Some(narrow)
+        && program.at(3) == Some(Insn::Exit)
+        && program.at(4).is_none()
 }
 
 #[test]

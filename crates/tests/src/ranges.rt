@@ -7,93 +7,98 @@ use range::unary::{negate, sign_extend, swap};
 use range::used::of_width;
 use word::{ByteOrder, Condition, Narrow, Operation, SwapSize, Width};
 
+const BYTE: (u64, u64) = (0, 255);
+
+/// An operation on two ranges, and the range of its results, each by its ends.
+const OPERATIONS: &[(Width, Operation, (u64, u64), (u64, u64), (u64, u64))] = &[
+    (Width::W64, Operation::And, BYTE, (7, 7), (0, 7)),
+    (Width::W64, Operation::Or, BYTE, (5, 300), (5, 511)),
+    (Width::W64, Operation::Mod, BYTE, (1, 64), (0, 63)),
+    (
+        Width::W64,
+        Operation::Sub,
+        (7, 7),
+        (8, 9),
+        (u64::MAX - 1, u64::MAX),
+    ),
+    (
+        Width::W32,
+        Operation::Add,
+        (0x1_0000_0001, 0x1_0000_0002),
+        (7, 7),
+        (8, 9),
+    ),
+    (Width::W64, Operation::ShiftLeft, (1, 1), (65, 65), (2, 2)),
+    (
+        Width::W32,
+        Operation::Mul,
+        BYTE,
+        (0, 0x100_0000),
+        (0, 255 * 0x100_0000),
+    ),
+    (
+        Width::W32,
+        Operation::Mul,
+        BYTE,
+        (0, 0x200_0000),
+        (0, 0xffff_ffff),
+    ),
+];
+
+/// The range of these ends.
+fn range((lo, hi): (u64, u64)) -> Option<Range> {
+    if lo <= hi {
+        Some(Range { lo, hi })
+    } else {
+        None
+    }
+}
+
+/// Whether the operation on two ranges has results of the third.
+fn gives(
+    width: Width,
+    operation: Operation,
+    a: (u64, u64),
+    b: (u64, u64),
+    ends: (u64, u64),
+) -> bool {
+    let (Some(a), Some(b)) = (range(a), range(b)) else {
+        return false;
+    };
+    let found = operate(width, operation, a, b);
+    found.lo == ends.0 && found.hi == ends.1
+}
+
 #[test]
 fn operates(rt: HostRuntime) {
-    let byte = Range { lo: 0, hi: 255 };
-    let seven = Range::exactly(7);
-    assert_eq!(rt;
-        operate(Width::W64, Operation::And, byte, seven),
-        Range { lo: 0, hi: 7 }
-    );
-    assert_eq!(rt;
-        operate(Width::W64, Operation::Or, byte, Range { lo: 5, hi: 300 }),
-        Range { lo: 5, hi: 511 }
-    );
-    assert_eq!(rt;
-        operate(Width::W64, Operation::Mod, byte, Range { lo: 1, hi: 64 }),
-        Range { lo: 0, hi: 63 }
-    );
-    assert_eq!(rt;
-        operate(Width::W64, Operation::Sub, seven, Range { lo: 8, hi: 9 }),
-        Range {
-            lo: u64::MAX - 1,
-            hi: u64::MAX
-        }
-    );
-    assert_eq!(rt;
-        operate(
-            Width::W32,
-            Operation::Add,
-            Range {
-                lo: 0x1_0000_0001,
-                hi: 0x1_0000_0002
-            },
-            seven
-        ),
-        Range { lo: 8, hi: 9 }
-    );
-    assert_eq!(rt;
-        operate(
-            Width::W64,
-            Operation::ShiftLeft,
-            Range::exactly(1),
-            Range::exactly(65)
-        ),
-        Range::exactly(2)
-    );
-    assert_eq!(rt;
-        operate(
-            Width::W32,
-            Operation::Mul,
-            byte,
-            Range {
+    for (row, &(width, operation, a, b, result)) in OPERATIONS.iter().enumerate() {
+        assert!(rt; gives(width, operation, a, b, result), "row {row}");
+    }
+}
+
+/// The negations of 1 and of 1 to 127.
+fn are_negated(small: Range) -> bool {
+    negate(Width::W64, Range::exactly(1)) == Range::exactly(u64::MAX)
+        && negate(Width::W32, small) == of_width(Width::W32)
+        && of_width(Width::W32)
+            == Range {
                 lo: 0,
-                hi: 0x100_0000
+                hi: 0xffff_ffff,
             }
-        ),
-        Range {
-            lo: 0,
-            hi: 255 * 0x100_0000
-        }
-    );
-    assert_eq!(rt;
-        operate(
-            Width::W32,
-            Operation::Mul,
-            byte,
-            Range {
-                lo: 0,
-                hi: 0x200_0000
-            }
-        ),
-        of_width(Width::W32)
-    );
+}
+
+/// The sign extension and the changes of byte order of 1 to 127.
+fn are_extended_and_swapped(small: Range) -> bool {
+    sign_extend(Width::W64, Narrow::Byte, small) == small
+        && swap(ByteOrder::Big, SwapSize::Half, small) == Range { lo: 0, hi: 0xffff }
+        && swap(ByteOrder::Little, SwapSize::Half, small) == small
 }
 
 #[test]
 fn operates_on_one(rt: HostRuntime) {
     let small = Range { lo: 1, hi: 127 };
-    assert_eq!(rt;
-        negate(Width::W64, Range::exactly(1)),
-        Range::exactly(u64::MAX)
-    );
-    assert_eq!(rt; negate(Width::W32, small), of_width(Width::W32));
-    assert_eq!(rt; sign_extend(Width::W64, Narrow::Byte, small), small);
-    assert_eq!(rt;
-        swap(ByteOrder::Big, SwapSize::Half, small),
-        Range { lo: 0, hi: 0xffff }
-    );
-    assert_eq!(rt; swap(ByteOrder::Little, SwapSize::Half, small), small);
+    assert!(rt; are_negated(small));
+    assert!(rt; are_extended_and_swapped(small));
 }
 
 #[test]

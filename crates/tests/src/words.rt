@@ -46,22 +46,19 @@ fn divides_and_shifts(rt: HostRuntime) {
     }
 }
 
+/// A width, a part, a word, and the word that the part's sign is extended to.
+const EXTENSIONS: &[(Width, Narrow, u64, u64)] = &[
+    (Width::W64, Narrow::Byte, 0x80, 18_446_744_073_709_551_488),
+    (Width::W32, Narrow::Half, 0x1_8000, 0xffff_8000),
+    (Width::W64, Narrow::Word, 0x1_7fff_ffff, 0x7fff_ffff),
+];
+
 #[test]
 fn extends_signs(rt: HostRuntime) {
-    assert_eq!(rt;
-        sign_extend(Width::W64, Narrow::Byte, 0x80),
-        18_446_744_073_709_551_488
-    );
-    assert_eq!(rt;
-        sign_extend(Width::W32, Narrow::Half, 0x1_8000),
-        0xffff_8000
-    );
-    assert_eq!(rt;
-        sign_extend(Width::W64, Narrow::Word, 0x1_7fff_ffff),
-        0x7fff_ffff
-    );
-    assert_eq!(rt; negate(Width::W64, 1), MINUS_ONE);
-    assert_eq!(rt; negate(Width::W32, 0x1_0000_0000), 0);
+    for &(width, part, word, result) in EXTENSIONS {
+        assert_eq!(rt; sign_extend(width, part, word), result);
+    }
+    assert!(rt; negate(Width::W64, 1) == MINUS_ONE && negate(Width::W32, 0x1_0000_0000) == 0);
 }
 
 #[test]
@@ -74,18 +71,21 @@ fn compares(rt: HostRuntime) {
     assert!(rt; !compare64(Condition::AnyBit, 6, 9));
 }
 
+/// A word whose bytes are put in order.
+const WORD: u64 = 0x1122_3344_5566_7788;
+
+/// An order and a size, and what the word then is.
+const SWAPS: &[(ByteOrder, SwapSize, u64)] = &[
+    (ByteOrder::Big, SwapSize::Half, 34935),
+    (ByteOrder::Little, SwapSize::Word, 0x5566_7788),
+    (ByteOrder::Reversed, SwapSize::Word, 0x8877_6655),
+    (ByteOrder::Big, SwapSize::Double, 0x8877_6655_4433_2211),
+    (ByteOrder::Little, SwapSize::Double, WORD),
+];
+
 #[test]
 fn puts_bytes_in_order(rt: HostRuntime) {
-    let word = 0x1122_3344_5566_7788;
-    assert_eq!(rt; swap(ByteOrder::Big, SwapSize::Half, word), 34935);
-    assert_eq!(rt; swap(ByteOrder::Little, SwapSize::Word, word), 0x5566_7788);
-    assert_eq!(rt;
-        swap(ByteOrder::Reversed, SwapSize::Word, word),
-        0x8877_6655
-    );
-    assert_eq!(rt;
-        swap(ByteOrder::Big, SwapSize::Double, word),
-        0x8877_6655_4433_2211
-    );
-    assert_eq!(rt; swap(ByteOrder::Little, SwapSize::Double, word), word);
+    for &(order, size, result) in SWAPS {
+        assert_eq!(rt; swap(order, size, WORD), result);
+    }
 }

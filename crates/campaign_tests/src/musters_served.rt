@@ -1,6 +1,7 @@
 //! What `muster` and `audit` print.
 
-use crate::campaigns::{SWAYED, SWAYED_CHRONICLE};
+use crate::audits::changed;
+use crate::scenarios::{SWAYED, SWAYED_CHRONICLE};
 use crate::serving::{File, Told, served};
 use command_line::Task;
 use std::alloc::{AllocError, Global};
@@ -88,15 +89,6 @@ fn is_counted(rt: &(impl Threads + Wait + Sync), alloc: Global) -> Result<bool, 
 fn the_chronicle_of_a_muster_is_sound(rt: HostRuntime) -> Result<(), Fail> {
     assert!(rt; is_counted(&rt, rt.alloc())?);
     Ok(())
-}
-
-/// The text with another line in place of one, counted from 1.
-fn changed(alloc: Global, text: &str, number: usize, other: &str) -> Result<String, AllocError> {
-    let mut result = String::new(alloc);
-    for (place, line) in text.split_inclusive('\n').enumerate() {
-        result.push_str(if place + 1 == number { other } else { line })?;
-    }
-    Ok(result)
 }
 
 /// Another line in place of one of the chronicle, and what is told.

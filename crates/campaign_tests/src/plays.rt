@@ -1,6 +1,6 @@
 //! What `play` prints of a campaign, by a schedule and without one.
 
-use crate::campaigns::{COLLUSION, FOUR, SWAYED, SWAYED_CHRONICLE};
+use crate::scenarios::{COLLUSION, FOUR, SWAYED, SWAYED_CHRONICLE};
 use crate::serving::{File, cannot_write, served};
 use command_line::Task;
 use std::alloc::{AllocError, Global};
