@@ -1,17 +1,17 @@
 -- What the conditions of a table mean.
-use Rattle.std.proofs.Common.{ℕ, zero, suc, ◌+◌, ◌*◌, ◌<◌, ◌≤◌, ◌≡◌, ◌≢◌, Bool, true, false, not, ◌&&◌, cond, List, [], ◌∷◌, ◌++◌, map, length, refl, sym, ap, ◌∙◌, arith, inl, inr, Option, Some, None}
-use Rattle.std.specs.Prelude.{◌==◌, ◌↔◌, nat_lt, nat_le, count_by, if◌then◌else◌}
+use Rattle.std.proofs.Common.{ℕ, zero, suc, ◌*◌, ◌<◌, ◌≤◌, ◌≡◌, Bool, true, false, List, [], ◌∷◌, map, length, refl, sym, ap, ◌∙◌, arith, inl, inr, Option, Some, None}
+use Rattle.std.specs.Prelude.{◌==◌, ◌↔◌, nat_lt, nat_le, if◌then◌else◌}
 use Rattle.std.specs.List.{list_all}
 use Rattle.std.proofs.lemmas.Bool.{cases_Bool, and_parts, and_from, or_left, or_right, or_cases, or_parts, or_from, eq-eqb, eqb-true, eqb-false, ne_eqb, lt-ltb, ltb-true, le-leb, leb-true, true≢false}
 use Rattle.combine.specs.Chosen.{combined_by, chosen_is_rule}
-use Rattle.label.specs.Labels.{on, others, generals}
+use Rattle.label.specs.Labels.{on, others}
 use Rattle.label.specs.Lieutenants.{lieutenants}
-use Rattle.label.specs.Oral.{IsLoyalLieutenant, IsBound, IsFaithful, Agree}
+use Rattle.label.specs.Oral.{IsBound, Agree}
 use Rattle.label.proofs.Counting.{others-on}
 use Rattle.label.proofs.Counts.{on-get}
 use Rattle.label.proofs.Ranks.{others-at}
 use Rattle.book.specs.declared.conditions.Obedience.{Obedience}
-use Rattle.book.specs.declared.conditions.Obedience.TheVariants.{Traitor, Unlike, Obeyed, Disobeyed}
+use Rattle.book.specs.declared.conditions.Obedience.TheVariants.{Traitor, Obeyed, Disobeyed}
 use Rattle.book.specs.Conditions.{are_alike, is_told, same_order, obedience_to, obedience_in, judged, loyal, loyal_decisions, sent, named_in}
 use Rattle.book.specs.Consistency.{IsLoyal, DecideAlike, DecideOn, TellsAll, IsWithin, IsTrusted, ConditionsMean}
 use Rattle.book.specs.Decisions.{decision_of}
@@ -95,7 +95,7 @@ same_from G v (x ∷ xs) some there h =
     rw (first, rest) refl
 
 -- who stands among the others
-among : (n : ℕ) (w : List ℕ) (p : ℕ) → p < n → on w p ≡ false → on (others n w) p ≡ true
+pub among : (n : ℕ) (w : List ℕ) (p : ℕ) → p < n → on w p ≡ false → on (others n w) p ≡ true
 among n w p l off = on-get (others n w) (length (others p w)) p (others-at n w p l off)
 
 loyal_among : (t : MessageTable) (traitors : List ℕ) (p : ℕ) → IsLoyal t traitors p → on (loyal t traitors) p ≡ true

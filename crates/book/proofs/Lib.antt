@@ -11,3 +11,5 @@ pub mod Gathering
 pub mod ListLemmas
 pub mod TextLemmas
 pub mod ConditionLemmas
+pub mod Places
+pub mod FormLemmas

@@ -1,7 +1,7 @@
 //! Message tables to fill in.
 ghost use Rattle.std.specs.Prelude.{◌≡◌, ◌≢◌, ◌≤◌, ◌+◌, ◌++◌, true, false, length, IfOk, IfErr, OnOk, string_bytes};
 ghost use Rattle.book.specs.declared.fault.TableError.TheVariants.{Memory, Range};
-ghost use Rattle.book.specs.Forms.{blank_line, blank_lines, form_text};
+ghost use Rattle.book.specs.Forms.{blank, form_text, place_line, place_lines};
 ghost use Rattle.book.specs.Grammar.{is_within};
 
 use crate::fault::TableError;
@@ -47,7 +47,7 @@ fn push_blanks(
 ) -> Result<(), AllocError>
     requires few { generals ≤ 13 }
     requires room { length label.now + more ≤ 13 }
-    ensures { OnOk result (string_bytes text.new ≡ string_bytes text.old ++ blank_lines generals more label.now) }
+    ensures { OnOk result (string_bytes text.new ≡ string_bytes text.old ++ place_lines blank generals more label.now) }
 {
     if more == 0 {
         return push_receivers(alloc, text, generals, label);
@@ -67,7 +67,7 @@ fn push_receivers(
     generals: u8,
     label: &Label,
 ) -> Result<(), AllocError>
-    ensures { OnOk result (string_bytes text.new ≡ string_bytes text.old ++ blank_lines generals 0 label.now) }
+    ensures { OnOk result (string_bytes text.new ≡ string_bytes text.old ++ place_lines blank generals 0 label.now) }
 {
     for receiver in 0..generals {
         if !label.has(receiver) {
@@ -84,7 +84,7 @@ fn push_blank(
     label: &Label,
     receiver: u8,
 ) -> Result<(), AllocError>
-    ensures { OnOk result (string_bytes text.new ≡ string_bytes text.old ++ blank_line label.now receiver) }
+    ensures { OnOk result (string_bytes text.new ≡ string_bytes text.old ++ place_line label.now receiver (blank label.now receiver)) }
 {
     let label = dotted(alloc, label)?;
     let line = format!(in alloc; "tell {label} {receiver} ?\n")?;

@@ -1,5 +1,6 @@
 //! The agreement theorem, and what holds of every table that is told: each function does nothing, and its contract is the law.
 ghost use Rattle.book.specs.Consistency.{ConditionsMean};
+ghost use Rattle.book.specs.Forms.{FormsAreRead};
 ghost use Rattle.book.specs.Laws.{ToldTablesAreWhole};
 ghost use Rattle.book.specs.Theorem.{AgreementHolds};
 
@@ -17,4 +18,9 @@ pub fn told_tables_are_whole()
 /// theorem says so.
 pub fn conditions_mean()
     ensures { ConditionsMean }
+{}
+
+/// A form that is filled in, an order for each question mark, tells a table with all of these orders.
+pub fn forms_are_read()
+    ensures { FormsAreRead }
 {}

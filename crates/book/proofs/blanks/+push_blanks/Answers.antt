@@ -2,14 +2,14 @@ use Rattle.std.proofs.Common.{◌≡◌, ◌∙◌, ◌-◌, ◌++◌, ◌∷◌
 use Rattle.std.specs.List.{flat_map}
 use Rattle.std.specs.String.{string_bytes}
 use Rattle.label.specs.Labels.{on, others}
-use Rattle.book.specs.Forms.{blank_lines}
+use Rattle.book.specs.Forms.{blank, place_lines}
 use Rattle.book.proofs.Gathering.{text_yes, text_no}
 use Rattle.book.proofs.blanks.+push_blanks.Goals as goal
 use Rattle.book.proofs.blanks.+push_blanks.Goals.{then-not-has+in_ok-push_blanks, else-not-has}
 
 pub loop-general-preserved : goal.loop-general-preserved
 loop-general-preserved t c =
-    let line : ℕ → List ℕ = λ j. blank_lines c.args.generals (c.args.more - 1) (c.args.label.now ++ j ∷ []) in
+    let line : ℕ → List ℕ = λ j. place_lines blank c.args.generals (c.args.more - 1) (c.args.label.now ++ j ∷ []) in
     elim c.if-not-has.branch [
       | then-not-has+in_ok-push_blanks w ↦
           rw (w.text-is, w.in_ok-push_blanks.ensures, c.loop-general.invariant, w.with.ensures) (text_yes line c.args.label.now c.loop-general.general (string_bytes c.args.text.now) (sym c.has.ensures ∙ w.if-not-has.true))
@@ -17,13 +17,13 @@ loop-general-preserved t c =
           rw (w.text-is, c.loop-general.invariant) (text_no line c.args.label.now c.loop-general.general (string_bytes c.args.text.now) (sym c.has.ensures ∙ w.if-not-has.false))
     ]
 
-longer : (n r k : ℕ) (w : List ℕ) → r ≡ suc k → flat_map (λ j. blank_lines n k (w ++ j ∷ [])) (others n w) ≡ blank_lines n r w
-unfolding blank_lines
-longer n r k w e = sym (ap (λ (i : ℕ). blank_lines n i w) e)
+longer : (n r k : ℕ) (w : List ℕ) → r ≡ suc k → flat_map (λ j. place_lines blank n k (w ++ j ∷ [])) (others n w) ≡ place_lines blank n r w
+unfolding place_lines
+longer n r k w e = sym (ap (λ (i : ℕ). place_lines blank n i w) e)
 
 pub returns : goal.returns
 returns t c =
     let all : c.loop-general.general ≡ c.args.generals = omega arith in
     c.loop-general.invariant
-    ∙ (ap (λ (n : ℕ). string_bytes c.args.text.now ++ flat_map (λ j. blank_lines c.args.generals (c.args.more - 1) (c.args.label.now ++ j ∷ [])) (others n c.args.label.now)) all
+    ∙ (ap (λ (n : ℕ). string_bytes c.args.text.now ++ flat_map (λ j. place_lines blank c.args.generals (c.args.more - 1) (c.args.label.now ++ j ∷ [])) (others n c.args.label.now)) all
     ∙ ap (λ xs. string_bytes c.args.text.now ++ xs) (longer c.args.generals c.args.more (c.args.more - 1) c.args.label.now (let ne = c.if-more-eq0.false in omega arith)))

@@ -1,7 +1,7 @@
 use Rattle.std.proofs.Common.{◌≡◌, ◌∙◌, ◌++◌, ◌∷◌, [], ◌+◌, arith, sym, ap, ℕ, List, append_assoc, append-nil}
 use Rattle.std.specs.List.{flat_map, range_with_len}
 use Rattle.std.specs.String.{string_bytes}
-use Rattle.book.specs.Forms.{blank_lines, form_text, head_text}
+use Rattle.book.specs.Forms.{blank, place_lines, marked_text, head_text}
 use Rattle.book.proofs.Gathering.{range_text}
 use Rattle.book.proofs.blanks.form.Goals as goal
 
@@ -12,10 +12,10 @@ loop-more-init c =
 
 pub loop-more-preserved : goal.loop-more-preserved
 loop-more-preserved c =
-    rw (c.in_ok-push_blanks.ensures, c.loop-more.invariant, c.of-label.ensures) (range_text (λ k. blank_lines c.args.generals k (c.args.commander ∷ [])) c.loop-more.more (head_text c.args.generals c.args.bound c.args.commander))
+    rw (c.in_ok-push_blanks.ensures, c.loop-more.invariant, c.of-label.ensures) (range_text (λ k. place_lines blank c.args.generals k (c.args.commander ∷ [])) c.loop-more.more (head_text c.args.generals c.args.bound c.args.commander))
 
 pub returns-clause-form : goal.returns-clause-form
-unfolding form_text
+unfolding marked_text
 returns-clause-form c =
     let all : c.loop-more.more ≡ c.args.bound + 1 = omega arith in
-    c.loop-more.invariant ∙ ap (λ (n : ℕ). head_text c.args.generals c.args.bound c.args.commander ++ flat_map (λ k. blank_lines c.args.generals k (c.args.commander ∷ [])) (range_with_len 0 n)) all
+    c.loop-more.invariant ∙ ap (λ (n : ℕ). head_text c.args.generals c.args.bound c.args.commander ++ flat_map (λ k. place_lines blank c.args.generals k (c.args.commander ∷ [])) (range_with_len 0 n)) all
