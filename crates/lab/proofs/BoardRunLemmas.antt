@@ -1,15 +1,16 @@
 -- Requests that are served in turn.
-use Rattle.std.proofs.Common.{◌≡◌, ℕ, zero, suc, ◌+◌, ◌-◌, ◌<◌, ◌≤◌, List, [], ◌∷◌, ◌++◌, Some, sym, ap, subst, ◌∙◌, length, append-nil, append_assoc, arith}
+use Rattle.std.proofs.Common.{◌≡◌, ℕ, zero, suc, ◌+◌, ◌-◌, ◌<◌, ◌≤◌, List, [], ◌∷◌, ◌++◌, Some, None, true, false, refl, sym, ap, subst, ◌∙◌, length, arith}
 use Rattle.std.specs.Prelude.{replicate}
 use Rattle.std.proofs.lemmas.List.{map-append}
 use Rattle.insn.specs.declared.insn.Insn.{Insn}
 use Rattle.label.specs.declared.shape.Shape.{Shape}
 use Rattle.label.specs.Relay.{IsShape}
 use Rattle.semantics.specs.declared.request.Request.{Request}
-use Rattle.semantics.specs.State.{State, Outcome, Ask}
-use Rattle.semantics.specs.Call.{resumed}
+use Rattle.semantics.specs.State.{State, Outcome, Ask, Exit, entry}
+use Rattle.semantics.specs.Outbox.{empty_outbox}
+use Rattle.semantics.specs.Call.{fits, resumed}
 use Rattle.semantics.specs.Execution.{step}
-use Rattle.semantics.specs.Run.{Exited, after, IsSound}
+use Rattle.semantics.specs.Run.{IsSound}
 use Rattle.semantics.specs.Reached.{Reached}
 use Rattle.semantics.specs.Whole.{CountsOnce}
 use Rattle.semantics.proofs.StepLaws.{step_counts, resumed_counts}
@@ -19,42 +20,43 @@ use Rattle.machine.specs.declared.pause.Ended.{Ended}
 use Rattle.machine.specs.Standing.{Standing, Asking}
 use Rattle.machine.specs.Advance.{IsOfRun, Leads, Requests, Exits}
 use Rattle.machine.proofs.AdvanceLemmas.{fewer}
+use Rattle.round.specs.Activation.{Activation, started, turned}
+use Rattle.round.specs.Running.{IsOnWay, IsSameRun, TakesTurn, activation_of}
+use Rattle.round.proofs.Onwards.{on_served, on_silently, way_begins}
+use Rattle.round.proofs.Runnings.{replies}
 use Rattle.lab.specs.Bench.{bench_shape}
-use Rattle.lab.specs.BoardRun.{answers_of, Awaits, IsAskedInTurn, IsServed}
+use Rattle.lab.specs.BoardRun.{IsServed}
 
 pub bench_is_shape : IsShape bench_shape
 bench_is_shape = record { few = omega arith; commander = omega arith; general = omega arith; first = omega arith; last = omega arith }
 
--- one access more
-in_turn_more : (program : List Insn) (context : List ℕ) (shape : Shape) (answers : List (List ℕ)) (ledger : List Access) (a : Access) → IsAskedInTurn program context shape answers ledger →
-    Awaits program context shape (answers ++ answers_of ledger) a → IsAskedInTurn program context shape answers (ledger ++ a ∷ [])
-in_turn_more program context shape answers [] a turn awaits = (subst (λ (l : List (List ℕ)). Awaits program context shape l a) (append-nil answers) awaits, tt)
-in_turn_more program context shape answers (b ∷ ledger) a (first, turn) awaits = (
-  first,
-  in_turn_more program context shape (answers ++ b.reply ∷ []) ledger a turn
-      (subst (λ (l : List (List ℕ)). Awaits program context shape l a) (sym (append_assoc answers (b.reply ∷ []) (answers_of ledger))) awaits),
-)
+-- where it stands, as an activation of a round with no patience
+abbrev here : List Insn → List ℕ → State → Activation
+here program context s = activation_of None program context (record { shape = bench_shape; state = s }) false
 
 -- the program stands where the accesses have led it
 pub record IsServing (program : List Insn) (context : List ℕ) (a : Standing) (b : RecordedBoard) : Type 0 where
   pub of_run : IsOfRun program context a
   pub shape : a.shape ≡ bench_shape
   pub opening : b.opening ≡ replicate 64 0
-  pub in_turn : IsAskedInTurn program context bench_shape [] b.ledger
-  pub reached : Reached program context bench_shape (answers_of b.ledger) a.state
+  pub way : IsOnWay bench_shape.general bench_shape.round (started None program context bench_shape) (here program context a.state) b.ledger
+  pub reached : Reached program context bench_shape (replies b.ledger) a.state
 
 -- as the machine is told it
-pub own_reached : (program : List Insn) (context : List ℕ) (a : Standing) (b : RecordedBoard) → IsServing program context a b → Reached program context a.shape (answers_of b.ledger) a.state
-own_reached program context a b s = subst (λ (shape : Shape). Reached program context shape (answers_of b.ledger) a.state) (sym s.shape) s.reached
+pub own_reached : (program : List Insn) (context : List ℕ) (a : Standing) (b : RecordedBoard) → IsServing program context a b → Reached program context a.shape (replies b.ledger) a.state
+own_reached program context a b s = subst (λ (shape : Shape). Reached program context shape (replies b.ledger) a.state) (sym s.shape) s.reached
 
 pub served_from : (program : List Insn) (context : List ℕ) (a : Standing) (b : RecordedBoard) → IsOfRun program context a → a.shape ≡ bench_shape → b.opening ≡ replicate 64 0 → b.ledger ≡ [] →
-    Reached program context a.shape [] a.state → IsServing program context a b
-served_from program context a b run same opening none reached = record {
+    a.state ≡ entry (empty_outbox a.shape) → Reached program context a.shape [] a.state → IsServing program context a b
+served_from program context a b run same opening none begun reached = record {
   of_run = run;
   shape = same;
   opening = opening;
-  in_turn = subst (λ (l : List Access). IsAskedInTurn program context bench_shape [] l) (sym none) tt;
-  reached = subst (λ (l : List Access). Reached program context bench_shape (answers_of l) a.state) (sym none) (subst (λ (shape : Shape). Reached program context shape [] a.state) same reached);
+  way = (
+      let start : here program context a.state ≡ started None program context bench_shape = ap (here program context) (begun ∙ ap (λ (shape : Shape). entry (empty_outbox shape)) same) in
+      subst (λ (x : Activation). IsOnWay bench_shape.general bench_shape.round (started None program context bench_shape) x b.ledger) (sym start) (way_begins bench_shape.general bench_shape.round (started None program context bench_shape) b.ledger none)
+      );
+  reached = subst (λ (l : List Access). Reached program context bench_shape (replies l) a.state) (sym none) (subst (λ (shape : Shape). Reached program context shape [] a.state) same reached);
 }
 
 -- what it waits for can be answered
@@ -67,29 +69,50 @@ pub last_asks : (program : List Insn) (context : List ℕ) (shape : Shape) (answ
 last_asks program context shape answers limit s request w r =
     ap (λ (own : Shape). step program context own w.last) r.shape_kept ∙ (r.asks ∙ ap (λ (own : Request). Ask own w.state) (sym r.same))
 
--- and it goes on from the board's answer
+same_here : (program : List Insn) (context : List ℕ) (s t : State) → IsSameRun (here program context s) (here program context t)
+same_here program context s t = record { program = refl; context = refl; shape = refl; patience = refl }
+
+-- steps without an access
+leads_way : (program : List Insn) (context : List ℕ) (n : ℕ) (s t : State) (ledger : List Access) → IsOnWay bench_shape.general bench_shape.round (started None program context bench_shape) (here program context s) ledger →
+    Leads program context bench_shape n s t → IsOnWay bench_shape.general bench_shape.round (started None program context bench_shape) (here program context t) ledger
+leads_way program context zero s t ledger way same = subst (λ (u : State). IsOnWay bench_shape.general bench_shape.round (started None program context bench_shape) (here program context u) ledger) same way
+leads_way program context (suc n) s t ledger way (next, is, more) =
+    let goes : TakesTurn (turned (here program context s) (step program context bench_shape s)) None (here program context next) = subst (λ (o : Outcome). TakesTurn (turned (here program context s) o) None (here program context next)) (sym is) refl in
+    leads_way program context n next t ledger
+    (on_silently bench_shape.general bench_shape.round (started None program context bench_shape) (here program context s) (here program context next) (here program context next) ledger way goes
+    (same_here program context s next) (0, (refl, refl)) (same_here program context next next)) more
+
+-- and an access
+asks_way : (program : List Insn) (context : List ℕ) (s asked t : State) (request : Request) (ledger : List Access) (a : Access) → IsOnWay bench_shape.general bench_shape.round (started None program context bench_shape) (here program context s) ledger →
+    step program context bench_shape s ≡ Ask request asked → a.request ≡ request → t ≡ resumed request a.reply asked → (a.general ≡ bench_shape.general) × (a.round ≡ bench_shape.round) → fits a.request a.reply ≡ true →
+    IsOnWay bench_shape.general bench_shape.round (started None program context bench_shape) (here program context t) (ledger ++ a ∷ [])
+asks_way program context s asked t request ledger a way asks same is own fit =
+    let takes : TakesTurn (turned (here program context s) (step program context bench_shape s)) (Some a) (here program context t) =
+    subst (λ (o : Outcome). TakesTurn (turned (here program context s) o) (Some a) (here program context t)) (sym asks) (same, ap (here program context) is) in
+    on_served bench_shape.general bench_shape.round (started None program context bench_shape) (here program context s) (here program context t) (here program context t) ledger a way takes own fit
+    (same_here program context s t) (0, (refl, refl)) (same_here program context t t)
+
+-- it goes on from the board's answer
 pub serves_on : (program : List Insn) (context : List ℕ) (limit : ℕ) (a t : Standing) (b d : RecordedBoard) (request : Request) (w : Asking) (words : List ℕ) (own : Shape) → own ≡ bench_shape → IsServing program context a b →
-    Requests program context a.shape (answers_of b.ledger) limit a.state request w → t.shape ≡ w.shape → Reached program context t.shape (answers_of b.ledger ++ words ∷ []) t.state → IsOfRun program context t →
-    words ≡ reply b.words request → d.opening ≡ b.opening → d.ledger ≡ b.ledger ++ record { general = own.general; round = own.round; request = request; reply = reply b.words request } ∷ [] → IsServing program context t d
-serves_on program context limit a t b d request w words own bench s r same reached run answer opening entered =
+    Requests program context a.shape (replies b.ledger) limit a.state request w → t.shape ≡ w.shape → t.state ≡ resumed w.request words w.state → Reached program context t.shape (replies b.ledger ++ words ∷ []) t.state → IsOfRun program context t →
+    words ≡ reply b.words request → fits request words ≡ true → d.opening ≡ b.opening → d.ledger ≡ b.ledger ++ record { general = own.general; round = own.round; request = request; reply = reply b.words request } ∷ [] → IsServing program context t d
+serves_on program context limit a t b d request w words own bench s r same is reached run answer fit opening entered =
     let entry : Access = record { general = own.general; round = own.round; request = request; reply = reply b.words request } in
     let kept : t.shape ≡ bench_shape = same ∙ (r.shape_kept ∙ s.shape) in
-    let awaits : Awaits program context bench_shape (answers_of b.ledger) entry = record {
-      general = ap (λ (g : Shape). g.general) bench;
-      round = ap (λ (g : Shape). g.round) bench;
-      steps = w.state.steps;
-      waiting = w.state;
-      asks = ap (λ (shape : Shape). after program context shape (answers_of b.ledger) w.state.steps) (sym s.shape) ∙ r.run;
-    } in
-    let all : answers_of b.ledger ++ words ∷ [] ≡ answers_of d.ledger =
-    ap (λ (l : List ℕ). answers_of b.ledger ++ l ∷ []) answer ∙ (sym (map-append (λ (x : Access). x.reply) b.ledger (entry ∷ [])) ∙ ap answers_of (sym entered)) in
+    let leads : Leads program context bench_shape r.taken a.state w.last = subst (λ (shape : Shape). Leads program context shape r.taken a.state w.last) s.shape r.leads in
+    let asks : step program context bench_shape w.last ≡ Ask request w.state = ap (λ (shape : Shape). step program context shape w.last) (sym s.shape) ∙ r.asks in
+    let next : t.state ≡ resumed request entry.reply w.state = is ∙ (ap (λ (q : Request). resumed q words w.state) r.same ∙ ap (λ (l : List ℕ). resumed request l w.state) answer) in
+    let all : replies b.ledger ++ words ∷ [] ≡ replies d.ledger =
+    ap (λ (l : List ℕ). replies b.ledger ++ l ∷ []) answer ∙ (sym (map-append (λ (x : Access). x.reply) b.ledger (entry ∷ [])) ∙ ap replies (sym entered)) in
+    let way = leads_way program context r.taken a.state w.last b.ledger s.way leads in
     record {
       of_run = run;
       shape = kept;
       opening = opening ∙ s.opening;
-      in_turn = subst (λ (l : List Access). IsAskedInTurn program context bench_shape [] l) (sym entered) (in_turn_more program context bench_shape [] b.ledger entry s.in_turn awaits);
+      way = subst (λ (l : List Access). IsOnWay bench_shape.general bench_shape.round (started None program context bench_shape) (here program context t.state) l) (sym entered)
+          (asks_way program context w.last w.state t.state request b.ledger entry way asks refl next (ap (λ (g : Shape). g.general) bench, ap (λ (g : Shape). g.round) bench) (ap (λ (l : List ℕ). fits request l) (sym answer) ∙ fit));
       reached = subst (λ (l : List (List ℕ)). Reached program context bench_shape l t.state) all
-          (subst (λ (shape : Shape). Reached program context shape (answers_of b.ledger ++ words ∷ []) t.state) kept reached);
+          (subst (λ (shape : Shape). Reached program context shape (replies b.ledger ++ words ∷ []) t.state) kept reached);
     }
 
 -- ---- it comes to an end
@@ -112,13 +135,15 @@ goes_further program context limit answers a t request w words sound run r is =
 
 -- the exit
 pub served_to : (program : List Insn) (context : List ℕ) (limit r0 : ℕ) (a : Standing) (b : RecordedBoard) (ended : Ended) → IsServing program context a b → IsLegal b.opening b.ledger →
-    Exits program context a.shape (answers_of b.ledger) limit a.state ended → ended.r0 ≡ Some r0 → IsServed program context bench_shape r0 ended.steps
+    Exits program context a.shape (replies b.ledger) limit a.state ended → ended.r0 ≡ Some r0 → IsServed program context bench_shape r0 ended.steps
 served_to program context limit r0 a b ended s legal e is = record {
   ledger = b.ledger;
-  in_turn = s.in_turn;
+  last = here program context e.last;
+  way = leads_way program context e.taken a.state e.last b.ledger s.way (subst (λ (shape : Shape). Leads program context shape e.taken a.state e.last) s.shape e.leads);
   legal = subst (λ (l : List ℕ). IsLegal l b.ledger) s.opening legal;
+  going = refl;
   out = e.out;
-  run = ap (λ (shape : Shape). after program context shape (answers_of b.ledger) ended.steps) (sym s.shape) ∙ (e.run ∙ ap (λ (n : ℕ). Exited n e.out) same);
+  exit = ap (λ (shape : Shape). step program context shape e.last) (sym s.shape) ∙ (e.exit ∙ ap (λ (n : ℕ). Exit n e.out) same);
   counted = subst (λ (o : Outcome). CountsOnce e.last o) e.exit (step_counts program context a.shape e.last) ∙ sym e.counted;
 }
   where

@@ -1,34 +1,20 @@
 -- A program that is run with a board of its own.
-use Rattle.std.specs.Prelude.{ℕ, ◌≡◌, List, [], ◌∷◌, ◌++◌, map, replicate}
+use Rattle.std.specs.Prelude.{ℕ, ◌≡◌, false, None, List, replicate}
 use Rattle.insn.specs.declared.insn.Insn.{Insn}
 use Rattle.label.specs.declared.shape.Shape.{Shape}
-use Rattle.semantics.specs.State.{State}
-use Rattle.semantics.specs.Run.{Waiting, Exited, after}
+use Rattle.semantics.specs.State.{State, Exit}
+use Rattle.semantics.specs.Execution.{step}
 use Rattle.board.specs.Board.{Access, IsLegal}
+use Rattle.round.specs.Activation.{Activation, started}
+use Rattle.round.specs.Running.{IsOnWay}
 
--- what the accesses were answered
-abbrev pub answers_of : List Access → List (List ℕ)
-answers_of ledger = map (λ a. a.reply) ledger
-
--- the run of the answers so far waits for this access of the general in the round
-pub record Awaits (program : List Insn) (context : List ℕ) (shape : Shape) (answers : List (List ℕ)) (a : Access) : Type 0 where
-  pub general : a.general ≡ shape.general
-  pub round : a.round ≡ shape.round
-  pub steps : ℕ
-  pub waiting : State
-  pub asks : after program context shape answers steps ≡ Waiting a.request waiting
-
--- the accesses are those that the program asks for in turn, each with the answers of the earlier ones
-abbrev pub IsAskedInTurn : List Insn → List ℕ → Shape → List (List ℕ) → List Access → Type 0
-IsAskedInTurn program context shape answers [] = Unit {0}
-IsAskedInTurn program context shape answers (a ∷ ledger) =
-    Awaits program context shape answers a × IsAskedInTurn program context shape (answers ++ a.reply ∷ []) ledger
-
--- of a board that begins with zeros it asks these accesses in turn, and has exited with this number after these steps
+-- from its start, with no patience, it has come by just these accesses, which a board that begins with zeros has served, to where its step is the exit with this number: so many steps in all
 pub record IsServed (program : List Insn) (context : List ℕ) (shape : Shape) (r0 steps : ℕ) : Type 0 where
   pub ledger : List Access
-  pub in_turn : IsAskedInTurn program context shape [] ledger
+  pub last : Activation
+  pub way : IsOnWay shape.general shape.round (started None program context shape) last ledger
   pub legal : IsLegal (replicate 64 0) ledger
+  pub going : last.over ≡ false
   pub out : State
-  pub run : after program context shape (answers_of ledger) steps ≡ Exited r0 out
+  pub exit : step program context shape last.state ≡ Exit r0 out
   pub counted : out.steps ≡ steps

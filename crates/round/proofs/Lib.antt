@@ -30,3 +30,4 @@ pub mod Fitting
 pub mod Onwards
 pub mod Served
 pub mod Briefing
+pub mod Answered

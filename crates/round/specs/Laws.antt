@@ -1,12 +1,13 @@
 -- What holds of contexts, letters and activations. Each statement is the contract of a function of this crate.
-use Rattle.std.specs.Prelude.{ℕ, suc, ◌≡◌, ◌≢◌, ◌<◌, ◌≤◌, ◌^◌, false, List, length, slice_get, Option, None, Some}
+use Rattle.std.specs.Prelude.{ℕ, suc, ◌≡◌, ◌≢◌, ◌<◌, ◌≤◌, ◌^◌, false, List, length, map, slice_get, Option, None, Some}
 use Rattle.insn.specs.declared.insn.Insn.{Insn}
 use Rattle.label.specs.Relay.{relay}
 use Rattle.semantics.specs.Relay.{Relay, IsRelay, IsContext}
-use Rattle.semantics.specs.State.{Cause, Trap}
+use Rattle.semantics.specs.State.{State, Cause, Exit, Trap}
 use Rattle.semantics.specs.Outbox.{taken_value}
 use Rattle.semantics.specs.Execution.{step}
-use Rattle.semantics.specs.Run.{IsSound}
+use Rattle.semantics.specs.Run.{IsSound, Exited, after}
+use Rattle.semantics.specs.Reached.{Reached}
 use Rattle.board.specs.Board.{Access}
 use Rattle.round.specs.Scenario.{Scenario, IsScenario, shape_of}
 use Rattle.round.specs.Letters.{Letter}
@@ -50,3 +51,10 @@ pub record RunsAreSafe : Type 0 where
   pub untrapped : (patience : Option ℕ) (program : List Insn) (context : List ℕ) (relay : Relay) (k : ℕ) (transcript : List Access) (end : Activation) (cause : Cause) →
       IsSound program → IsContext context → IsRelay relay → AreFitting transcript → Runs k (started patience program context relay) transcript end →
       has_ended end ≡ false → step end.program end.context end.shape end.state ≢ Trap cause
+
+-- where a sound program has come by its accesses and has not exited, there the replies lead; and where its next step is the exit, the run of the replies has exited
+pub record RunsFollowAnswers : Type 0 where
+  pub reached : (program : List Insn) (context : List ℕ) (relay : Relay) (k : ℕ) (transcript : List Access) (end : Activation) → IsSound program → IsContext context → IsRelay relay → AreFitting transcript →
+      Runs k (started None program context relay) transcript end → end.over ≡ false → Reached program context relay (map (λ a. a.reply) transcript) end.state
+  pub exited : (program : List Insn) (context : List ℕ) (relay : Relay) (k : ℕ) (transcript : List Access) (end : Activation) (r0 : ℕ) (out : State) → IsSound program → IsContext context → IsRelay relay → AreFitting transcript →
+      Runs k (started None program context relay) transcript end → end.over ≡ false → step program context relay end.state ≡ Exit r0 out → after program context relay (map (λ a. a.reply) transcript) (suc k) ≡ Exited r0 out

@@ -1,5 +1,5 @@
 //! Laws of contexts, letters and activations: each function does nothing, and its contract is the law.
-ghost use Rattle.round.specs.Laws.{ContextsTell, LoyalLettersFollow, PatienceIsKept, RunsAreSafe, RunsHaveOneEnd};
+ghost use Rattle.round.specs.Laws.{ContextsTell, LoyalLettersFollow, PatienceIsKept, RunsAreSafe, RunsFollowAnswers, RunsHaveOneEnd};
 
 /// A context tells its general what he took for each label that he relays.
 pub fn contexts_tell()
@@ -24,4 +24,9 @@ pub fn patience_is_kept()
 /// A sound program's run takes at most as many steps as it has instructions, and meets no trap.
 pub fn runs_are_safe()
     ensures { RunsAreSafe }
+{}
+
+/// Where a sound program's run has come by its accesses, there the run of their replies stands.
+pub fn runs_follow_answers()
+    ensures { RunsFollowAnswers }
 {}

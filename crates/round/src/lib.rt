@@ -23,7 +23,8 @@ mod words;
 
 pub use delivery::deliver;
 pub use laws::{
-    contexts_tell, loyal_letters_follow, patience_is_kept, runs_are_safe, runs_have_one_end,
+    contexts_tell, loyal_letters_follow, patience_is_kept, runs_are_safe, runs_follow_answers,
+    runs_have_one_end,
 };
 pub use letter::Letter;
 pub use living::live;
