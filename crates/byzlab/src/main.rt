@@ -6,7 +6,7 @@ mod input;
 
 use command_line::{Task, TaskError};
 use input::Input;
-use lab::serve;
+use lab::{FileName, serve};
 use std::env;
 use std::io::{self, ErrorKind};
 use std::process::ExitCode;
@@ -92,7 +92,7 @@ fn prepare(rt: &HostRuntime) -> io::Result<Ready> {
 fn opened(rt: &HostRuntime, name: &str) -> io::Result<Option<Input>> {
     let input = Input::open(rt, name)?;
     if input.is_none() {
-        let _ = rt.eprintln(format_args!("fault read {name}"));
+        let _ = rt.eprintln(format_args!("fault read {}", FileName(name)));
     }
     Ok(input)
 }

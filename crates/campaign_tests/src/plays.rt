@@ -15,6 +15,8 @@ use std::thread::Threads;
 enum File<'a> {
     Bytes(&'a [u8]),
     Broken,
+    /// So many zeros, behind which it fails.
+    Zeros(usize),
 }
 
 impl Read for File<'_> {
@@ -22,6 +24,15 @@ impl Read for File<'_> {
         match self {
             File::Bytes(bytes) => bytes.read(buf),
             File::Broken => Err(io::Error::from(ErrorKind::Other)),
+            File::Zeros(left) => {
+                if *left == 0 {
+                    return Err(io::Error::from(ErrorKind::Other));
+                }
+                let given = buf.len().min(*left);
+                buf[..given].fill(0);
+                *left -= given;
+                Ok(given)
+            }
         }
     }
 }
@@ -238,6 +249,16 @@ fn schedules_are_refused(rt: HostRuntime) -> Result<(), Fail> {
         row(&rt, alloc, scenario, schedule, (1, "", fault))?;
     }
     Ok(())
+}
+
+#[test]
+fn a_schedule_is_not_read_on_past_its_limit(rt: HostRuntime) -> Result<(), Fail> {
+    let alloc = rt.alloc();
+    let scenario = File::Bytes(SWAYED.as_bytes());
+    let expected = (1, "", "refused X1 line 1\n");
+    row(&rt, alloc, scenario, Some(File::Zeros(1_100_000)), expected)?;
+    let expected = (1, "", "fault read s.txt\n");
+    row(&rt, alloc, scenario, Some(File::Zeros(1_048_576)), expected)
 }
 
 /// Schedules that cannot be read, are no text, or are at fault.

@@ -1,12 +1,14 @@
 -- The fault of a refusal, its line, its exit status and its cause.
-use Rattle.std.specs.Prelude.{ℕ, ◌≡◌, ◌≢◌, ◌⊎◌, List, Option, Some, None, ◌++◌, codes}
+use Rattle.std.specs.Prelude.{ℕ, ◌≡◌, ◌≢◌, ◌⊎◌, List, Option, Some, None, codes}
 use Rattle.std.specs.Borrow.{Bor}
+use Rattle.std.specs.Fmt.{◌++?◌}
 use Rattle.command_line.specs.declared.tasks.Task.{Task}
 use Rattle.round.specs.Scenario.{Scenario}
 use Rattle.lab.specs.declared.refusal.Refusal.{Refusal}
 use Rattle.lab.specs.declared.refusal.Refusal.TheVariants as refusal
 use Rattle.lab.specs.declared.fault.Fault.{Fault}
 use Rattle.lab.specs.declared.fault.Fault.TheVariants.{Read, Text, Refused, Write, Memory}
+use Rattle.lab.specs.Names.{shown}
 use Rattle.lab.specs.Serving.{Files, HasAnswer, IsRefused, IsRefusedLater, IsTaken, first_name, second_name}
 
 -- the fault of a file with this name
@@ -22,8 +24,8 @@ status_of _ = 1
 
 -- what is said of a fault; a refusal's code and place are not
 abbrev pub fault_text : Fault → Option (List ℕ)
-fault_text (Read file) = Some (codes "fault read " ++ file.now)
-fault_text (Text file) = Some (codes "fault text " ++ file.now)
+fault_text (Read file) = Some (codes "fault read ") ++? shown file.now
+fault_text (Text file) = Some (codes "fault text ") ++? shown file.now
 fault_text (Refused refusal) = None
 fault_text Write = Some (codes "fault write")
 fault_text Memory = Some (codes "out of memory")

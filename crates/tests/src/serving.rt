@@ -381,6 +381,48 @@ impl Write for Broken {
     }
 }
 
+/// A file of so many zeros.
+#[derive(Drop)]
+struct Zeros {
+    left: usize,
+}
+
+impl Read for Zeros {
+    fn read(&mut self, buf: &mut [u8]) -> io::Result<usize> {
+        let given = buf.len().min(self.left);
+        buf[..given].fill(0);
+        self.left -= given;
+        Ok(given)
+    }
+}
+
+/// How many zeros a file of bytecode has, and what is told of them.
+const LENGTHS: &[(usize, &str)] = &[
+    (32_768, "refused C2 unit 0\n"),
+    (32_769, "refused C1 unit 4096\n"),
+    (32_776, "refused C8 unit 0\n"),
+    (1_000_000, "refused C8 unit 0\n"),
+    (1_000_003, "refused C1 unit 125000\n"),
+];
+
+#[test]
+fn long_bytecode_is_refused_by_its_length(rt: HostRuntime) -> Result<(), Fail> {
+    let alloc = rt.alloc();
+    for &(left, fault) in LENGTHS {
+        for task in [
+            Task::Check(String::from_str(alloc, "p.bin")?),
+            Task::Disassemble(String::from_str(alloc, "p.bin")?),
+        ] {
+            let mut out = Vec::new(alloc);
+            let mut complaint = Vec::new(alloc);
+            let status = serve(&rt, alloc, &task, Zeros { left }, None, &mut out, &mut complaint);
+            assert_eq!(rt; status, 1);
+            assert_eq!(rt; complaint.as_slice(), fault.as_bytes());
+        }
+    }
+    Ok(())
+}
+
 #[test]
 fn failing_files_are_told(rt: HostRuntime) -> Result<(), Fail> {
     let alloc = rt.alloc();
