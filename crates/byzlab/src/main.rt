@@ -2,10 +2,12 @@
 //! leaves the task to the library `lab`.
 #![tactic(auto)]
 
+mod input;
+
 use command_line::{Task, TaskError};
-use lab::serve;
+use input::Input;
+use lab::{FileName, serve};
 use std::env;
-use std::fs::File;
 use std::io::{self, ErrorKind};
 use std::process::ExitCode;
 
@@ -42,8 +44,8 @@ enum Ready {
     /// A task, and its files, which are open.
     Task {
         task: Task,
-        first: File,
-        second: Option<File>,
+        first: Input,
+        second: Option<Input>,
     },
     /// No task is left: help or a fault has been told, with this exit status.
     Done(u8),
@@ -87,15 +89,12 @@ fn prepare(rt: &HostRuntime) -> io::Result<Ready> {
 }
 
 /// The file; none where it does not open, after the line that says so.
-fn opened(rt: &HostRuntime, name: &str) -> io::Result<Option<File>> {
-    match File::open(rt, name) {
-        Ok(file) => Ok(Some(file)),
-        Err(error) if error.kind() == ErrorKind::OutOfMemory => Err(error),
-        Err(_) => {
-            let _ = rt.eprintln(format_args!("fault read {name}"));
-            Ok(None)
-        }
+fn opened(rt: &HostRuntime, name: &str) -> io::Result<Option<Input>> {
+    let input = Input::open(rt, name)?;
+    if input.is_none() {
+        let _ = rt.eprintln(format_args!("fault read {}", FileName(name)));
     }
+    Ok(input)
 }
 
 /// The line and the exit status where the words could not be had, or help not be written.

@@ -13,6 +13,10 @@ use std::thread::Threads;
 pub(crate) enum File<'a> {
     Bytes(&'a [u8]),
     Broken,
+    /// So many zeros.
+    Zeros(usize),
+    /// So many zeros, behind which it fails.
+    Cut(usize),
 }
 
 impl<'a> File<'a> {
@@ -26,7 +30,13 @@ impl Read for File<'_> {
     fn read(&mut self, buf: &mut [u8]) -> io::Result<usize> {
         match self {
             File::Bytes(bytes) => bytes.read(buf),
-            File::Broken => Err(io::Error::from(ErrorKind::Other)),
+            File::Broken | File::Cut(0) => Err(io::Error::from(ErrorKind::Other)),
+            File::Zeros(left) | File::Cut(left) => {
+                let given = buf.len().min(*left);
+                buf[..given].fill(0);
+                *left -= given;
+                Ok(given)
+            }
         }
     }
 }
@@ -416,6 +426,27 @@ fn tables_are_decided(rt: HostRuntime) -> Result<(), Fail> {
             answers(&rt, alloc, &task, File::Bytes(table), (status, lines)),
             "{lines}"
         );
+    }
+    Ok(())
+}
+
+/// How many zeros a file of bytecode has, and what is told of them.
+const LENGTHS: &[(usize, &str)] = &[
+    (32_768, "refused C2 unit 0\n"),
+    (32_769, "refused C1 unit 4096\n"),
+    (32_776, "refused C8 unit 0\n"),
+    (1_000_000, "refused C8 unit 0\n"),
+    (1_000_003, "refused C1 unit 125000\n"),
+];
+
+#[test]
+fn long_bytecode_is_refused_by_its_length(rt: HostRuntime) -> Result<(), Fail> {
+    let alloc = rt.alloc();
+    let check = Task::Check(String::from_str(alloc, "p.bin")?);
+    let disassemble = Task::Disassemble(String::from_str(alloc, "p.bin")?);
+    for &(length, fault) in LENGTHS {
+        assert!(rt; answers(&rt, alloc, &check, File::Zeros(length), (1, fault)), "{length}");
+        assert!(rt; answers(&rt, alloc, &disassemble, File::Zeros(length), (1, fault)), "{length}");
     }
     Ok(())
 }

@@ -1,7 +1,7 @@
 -- How a fault ends a task.
 use Rattle.std.proofs.Common.{ℕ, ◌≡◌, ◌≢◌, ◌⊎◌, ◌++◌, List, [], ◌∷◌, arith, codes, inl, inr, refl, subst}
-use Rattle.std.specs.Prelude.{Option, Some, IfSome, Result, Ok, Err, OnErr, OnOk}
-use Rattle.std.specs.Fmt.{with_newline}
+use Rattle.std.specs.Prelude.{Option, None, Some, IfSome, Result, Ok, Err, OnErr, OnOk}
+use Rattle.std.specs.Fmt.{◌++?◌, with_newline}
 use Rattle.std.specs.Io.KnownBytes.{Appends}
 use Rattle.command_line.specs.declared.tasks.Task.{Task}
 use Rattle.round.specs.Scenario.{Scenario}
@@ -11,7 +11,8 @@ use Rattle.lab.specs.declared.fault.Fault.{Fault}
 use Rattle.lab.specs.declared.fault.Fault.TheVariants.{Read, Text, Refused, Write, Memory}
 use Rattle.lab.specs.Telling.{refusal_text}
 use Rattle.lab.specs.Faults.{fault_text, status_of, Explains, Prevents, Stops}
-use Rattle.lab.specs.Serving.{Files, IsFault, IsRefused, IsRefusedLater, IsTaken, IsTurnedDown, Tells, TellsRefusal, first_name, second_name}
+use Rattle.lab.specs.Names.{shown}
+use Rattle.lab.specs.Serving.{Files, IsFault, IsRefused, IsRefusedLater, IsTaken, IsTurnedDown, Tells, TellsName, TellsRefusal, first_name, second_name}
 
 -- a write that failed, or what it wrote
 pub written : {E : Type 0} (r : Result (Unit {0}) E) (P Q : Type 0) → OnOk r P → OnErr r Q → Q ⊎ P
@@ -30,16 +31,22 @@ refusal_told name tells (refusal.Threads error) other told = told
 refusal_told name tells refusal.NotText other told = absurd (other refl)
 refusal_told name tells refusal.Memory other told = told
 
+-- the line of some words and a name, where it is known how the name is told
+named_line : (fails : Type 0) (old new : Option (List ℕ)) (words : List ℕ) (told : Option (List ℕ))
+    → fails ⊎ IfSome (with_newline (Some words ++? told)) (Appends old new) → IfSome told (λ name. fails ⊎ Appends old new ((words ++ name) ++ 10 ∷ []))
+named_line fails old new words None line = tt
+named_line fails old new words (Some name) line = line
+
 -- a file that stops a task, but for want of memory
 turned_down : (unread : Type 0) (refused : Refusal → Type 0) (name : List ℕ) (fails : Type 0) (old new : Option (List ℕ)) (fault : Fault)
-    → Stops unread refused name fault → fails ⊎ IfSome (with_newline (Some (fault_text fault))) (Appends old new) → status_of fault ≡ 1
+    → Stops unread refused name fault → fails ⊎ IfSome (with_newline (fault_text fault)) (Appends old new) → status_of fault ≡ 1
     → IsTurnedDown unread refused name (Tells fails old new)
 turned_down unread refused name fails old new (Read file) why told one =
-    let P : List ℕ → Type 0 = λ own. fails ⊎ Appends old new ((codes "fault read " ++ own) ++ 10 ∷ []) in
-    inl (why.0, subst P why.1 told)
+    let P : List ℕ → Type 0 = λ own. TellsName (Tells fails old new) (codes "fault read ") own in
+    inl (why.0, subst P why.1 (named_line fails old new (codes "fault read ") (shown file.now) told))
 turned_down unread refused name fails old new (Text file) why told one =
-    let P : List ℕ → Type 0 = λ own. fails ⊎ Appends old new ((codes "fault text " ++ own) ++ 10 ∷ []) in
-    inr (refusal.NotText, why.0, subst P why.1 told)
+    let P : List ℕ → Type 0 = λ own. TellsName (Tells fails old new) (codes "fault text ") own in
+    inr (refusal.NotText, why.0, subst P why.1 (named_line fails old new (codes "fault text ") (shown file.now) told))
 turned_down unread refused name fails old new (Refused cause) why told one =
     inr (cause, why.1, refusal_told name (Tells fails old new) cause why.0 told)
 turned_down unread refused name fails old new Write why told one = absurd why
@@ -48,7 +55,7 @@ turned_down unread refused name fails old new Memory why told one =
 
 -- the first file, or the second
 prevented : (unread second_unread fails : Type 0) (task : Task) (files : Files) (old new : Option (List ℕ)) (fault : Fault)
-    → Prevents unread second_unread task files fault → fails ⊎ IfSome (with_newline (Some (fault_text fault))) (Appends old new) → status_of fault ≡ 1
+    → Prevents unread second_unread task files fault → fails ⊎ IfSome (with_newline (fault_text fault)) (Appends old new) → status_of fault ≡ 1
     → IsTurnedDown unread (IsRefused task files.first) (first_name task) (Tells fails old new)
     ⊎ ((s : Scenario) × IsTaken task files.first s × IsTurnedDown second_unread (IsRefusedLater task s files.second) (second_name task) (Tells fails old new))
 prevented unread second_unread fails task files old new fault (inl why) told one =
@@ -59,7 +66,7 @@ prevented unread second_unread fails task files old new fault (inr (s, taken, wh
 -- each fault but want of memory
 pub fault_ends : (unread second_unread unwritten fails : Type 0) (task : Task) (files : Files) (old new : Option (List ℕ)) (kept : Type 0) (fault : Fault)
     → Explains unread second_unread unwritten task files fault → (fault ≢ Write → kept)
-    → fails ⊎ IfSome (with_newline (Some (fault_text fault))) (Appends old new) → status_of fault ≡ 1
+    → fails ⊎ IfSome (with_newline (fault_text fault)) (Appends old new) → status_of fault ≡ 1
     → IsFault unread second_unread unwritten task files kept (Tells fails old new)
 fault_ends unread second_unread unwritten fails task files old new kept Write why same told one = inr (why.0, why.1, told)
 fault_ends unread second_unread unwritten fails task files old new kept (Read file) why same told one =

@@ -1,12 +1,14 @@
 -- The fault of a refusal, its line, its exit status and its cause.
-use Rattle.std.specs.Prelude.{ℕ, ◌≡◌, ◌≢◌, ◌⊎◌, List, ◌++◌, codes}
+use Rattle.std.specs.Prelude.{ℕ, ◌≡◌, ◌≢◌, ◌⊎◌, ◌++◌, List, Option, Some, codes}
 use Rattle.std.specs.Borrow.{Bor}
+use Rattle.std.specs.Fmt.{◌++?◌}
 use Rattle.command_line.specs.declared.tasks.Task.{Task}
 use Rattle.round.specs.Scenario.{Scenario}
 use Rattle.lab.specs.declared.refusal.Refusal.{Refusal}
 use Rattle.lab.specs.declared.refusal.Refusal.TheVariants as refusal
 use Rattle.lab.specs.declared.fault.Fault.{Fault}
 use Rattle.lab.specs.declared.fault.Fault.TheVariants.{Read, Text, Refused, Write, Memory}
+use Rattle.lab.specs.Names.{shown}
 use Rattle.lab.specs.Telling.{refusal_text}
 use Rattle.lab.specs.Serving.{Files, HasAnswer, IsRefused, IsRefusedLater, IsTaken, first_name, second_name}
 
@@ -22,12 +24,12 @@ status_of Memory = 3
 status_of _ = 1
 
 -- what is said of a fault
-abbrev pub fault_text : Fault → List ℕ
-fault_text (Read file) = codes "fault read " ++ file.now
-fault_text (Text file) = codes "fault text " ++ file.now
-fault_text (Refused refusal) = codes "refused " ++ refusal_text refusal
-fault_text Write = codes "fault write"
-fault_text Memory = codes "out of memory"
+abbrev pub fault_text : Fault → Option (List ℕ)
+fault_text (Read file) = Some (codes "fault read ") ++? shown file.now
+fault_text (Text file) = Some (codes "fault text ") ++? shown file.now
+fault_text (Refused refusal) = Some (codes "refused " ++ refusal_text refusal)
+fault_text Write = Some (codes "fault write")
+fault_text Memory = Some (codes "out of memory")
 
 -- why the file with this name stops a task: its reader failed, it is refused, or want of memory
 abbrev pub Stops : Type 0 → (Refusal → Type 0) → List ℕ → Fault → Type 0

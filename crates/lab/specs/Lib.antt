@@ -4,6 +4,7 @@ pub mod BoardRun
 pub mod Campaigns
 pub mod Faults
 pub mod Lines
+pub mod Names
 pub mod Reading
 pub mod Refusals
 pub mod Serving

@@ -10,6 +10,7 @@ use Rattle.lab.specs.declared.refusal.Refusal.{Refusal}
 use Rattle.lab.specs.declared.refusal.Refusal.TheVariants.{NotText, Memory}
 use Rattle.lab.specs.Answers.{GoesOn, Prints}
 use Rattle.lab.specs.Campaigns.{IsAudited, IsPlayed, IsSchedule}
+use Rattle.lab.specs.Names.{shown}
 use Rattle.lab.specs.Telling.{refusal_text}
 use Rattle.lab.specs.Refusals.{Refuses, RefusesChronicle, RefusesMuster, RefusesSchedule, RefusesText}
 
@@ -102,15 +103,19 @@ IsRefusedLater _ s known refusal = ⊥
 abbrev pub Tells : Type 0 → Option (List ℕ) → Option (List ℕ) → List ℕ → Type 0
 Tells fails old new line = fails ⊎ Appends old new (line ++ 10 ∷ [])
 
+-- the line of these words and the file's name, which stands on it as it is or, with a control character, as a text of Rust
+abbrev pub TellsName : (List ℕ → Type 0) → List ℕ → List ℕ → Type 0
+TellsName tells words name = IfSome (shown name) (λ told. tells (words ++ told))
+
 -- the line that tells of a refusal of the file with this name: its code and its place
 abbrev pub TellsRefusal : List ℕ → (List ℕ → Type 0) → Refusal → Type 0
-TellsRefusal name tells NotText = tells (codes "fault text " ++ name)
+TellsRefusal name tells NotText = TellsName tells (codes "fault text ") name
 TellsRefusal name tells refusal = tells (codes "refused " ++ refusal_text refusal)
 
 -- the file with this name was not read, since its reader failed, or a refusal has come; and a line says so
 abbrev pub IsTurnedDown : Type 0 → (Refusal → Type 0) → List ℕ → (List ℕ → Type 0) → Type 0
 IsTurnedDown unread refused name tells =
-    (unread × tells (codes "fault read " ++ name))
+    (unread × TellsName tells (codes "fault read ") name)
     ⊎ ((refusal : Refusal) × refused refusal × TellsRefusal name tells refusal)
 
 -- the output failed on the task's answer, and a line says so

@@ -1,6 +1,7 @@
 ghost use Rattle.std.specs.Prelude.{◌≡◌};
 ghost use Rattle.lab.specs.Faults.{fault_of, status_of};
 
+use crate::name::FileName;
 use crate::refusal::Refusal;
 use std::fmt;
 
@@ -27,8 +28,8 @@ impl fmt::Display for Fault<'_> {
 
     fn fmt<W: fmt::Write>(&self, f: &mut fmt::Formatter<W>) -> fmt::Result {
         match self {
-            Fault::Read(file) => write!(f, "fault read {file}"),
-            Fault::Text(file) => write!(f, "fault text {file}"),
+            Fault::Read(file) => write!(f, "fault read {}", FileName(file)),
+            Fault::Text(file) => write!(f, "fault text {}", FileName(file)),
             Fault::Refused(refusal) => write!(f, "refused {refusal}"),
             Fault::Write => f.write_str("fault write"),
             Fault::Memory => f.write_str("out of memory"),

@@ -30,11 +30,7 @@ fn read_piece<R: Read>(reader: &mut R, piece: &mut [u8; PIECE]) -> io::Result<us
 ///
 /// A read that failed, or want of memory.
 #[tactic(auto, using(crate::proofs::ReadLemmas::consumes_none, crate::proofs::ReadLemmas::consumes_more))]
-pub(crate) fn read_front<R: Read>(
-    reader: &mut R,
-    alloc: Global,
-    most: usize,
-) -> io::Result<Vec<u8>>
+pub(crate) fn read_front<R: Read>(reader: &mut R, alloc: Global, most: usize) -> io::Result<Vec<u8>>
     ensures bytes { IfOk result (λ front. Consumes (R.remaining reader.old) (R.remaining reader.new) front.items) }
     ensures end { IfOk result (λ front. vec_len front ≤ most → IsAtEnd (R.remaining reader.new)) }
 {

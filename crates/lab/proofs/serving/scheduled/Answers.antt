@@ -1,7 +1,12 @@
-use Rattle.lab.proofs.FilesLemmas.{second_told}
+use Rattle.lab.proofs.ScheduleLemmas.{front_refused, front_told}
 use Rattle.lab.proofs.serving.scheduled.Goals as goal
 
 pub returns-in-Ok-clause-told : goal.returns-in-Ok-clause-told
 returns-in-Ok-clause-told g c =
-    second_told g.R.Source.bytes c.args.second c.in-Some.second c.in_ok-bytes.bytes.items c.in-Ok.schedule
-    c.in-Some.is c.in_ok-bytes.ensures.whole (rw c.as_slice.ensures.value at c.in-Ok.ensures.told)
+    front_told g.R.Source.bytes c.args.second c.in-Some.second c.in_ok-front.front.items c.in-Ok.schedule
+    c.in-Some.is c.in_ok-front.ensures.front (rw c.as_slice.ensures.value at c.in-Ok.ensures.told)
+
+pub returns-clause-fault : goal.returns-clause-fault
+returns-clause-fault g c =
+    front_refused g.R.Source.bytes _ c.args.second c.in-Some.second c.in_ok-front.front.items c.args.file c.in-Err.refusal _
+    c.in-Some.is c.in_ok-front.ensures.front (rw c.as_slice.ensures.value at c.in-Err.ensures.refused) c.of.ensures

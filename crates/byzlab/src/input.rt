@@ -1,0 +1,38 @@
+use std::fs::File;
+use std::io::{self, ErrorKind, Read, Stdin};
+
+/// A file of the task.
+#[derive(Drop)]
+pub enum Input {
+    /// It was opened by its name.
+    File(File),
+    /// A hyphen names standard input.
+    Standard(Stdin),
+}
+
+impl Input {
+    /// The file of this name; none where it does not open.
+    ///
+    /// # Errors
+    ///
+    /// Want of memory.
+    pub fn open(rt: &HostRuntime, name: &str) -> io::Result<Option<Input>> {
+        if name == "-" {
+            return Ok(Some(Input::Standard(rt.stdin())));
+        }
+        match File::open(rt, name) {
+            Ok(file) => Ok(Some(Input::File(file))),
+            Err(error) if error.kind() == ErrorKind::OutOfMemory => Err(error),
+            Err(_) => Ok(None),
+        }
+    }
+}
+
+impl Read for Input {
+    fn read(&mut self, buf: &mut [u8]) -> io::Result<usize> {
+        match self {
+            Input::File(file) => file.read(buf),
+            Input::Standard(stdin) => stdin.read(buf),
+        }
+    }
+}
