@@ -445,8 +445,14 @@ fn long_bytecode_is_refused_by_its_length(rt: HostRuntime) -> Result<(), Fail> {
     let check = Task::Check(String::from_str(alloc, "p.bin")?);
     let disassemble = Task::Disassemble(String::from_str(alloc, "p.bin")?);
     for &(length, fault) in LENGTHS {
-        assert!(rt; answers(&rt, alloc, &check, File::Zeros(length), (1, fault)), "{length}");
-        assert!(rt; answers(&rt, alloc, &disassemble, File::Zeros(length), (1, fault)), "{length}");
+        assert!(rt;
+            answers(&rt, alloc, &check, File::Zeros(length), (1, fault)),
+            "{length}"
+        );
+        assert!(rt;
+            answers(&rt, alloc, &disassemble, File::Zeros(length), (1, fault)),
+            "{length}"
+        );
     }
     Ok(())
 }
