@@ -3,3 +3,4 @@ pub mod DigitLemmas
 pub mod BytesLemmas
 pub mod CutLemmas
 pub mod DecimalLemmas
+pub mod WorthLaws

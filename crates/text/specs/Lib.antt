@@ -2,3 +2,5 @@ pub mod Options
 pub mod Stop
 pub mod Parts
 pub mod Number
+pub mod Base
+pub mod Laws

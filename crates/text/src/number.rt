@@ -1,27 +1,29 @@
 ghost use Rattle.std.specs.Prelude.{◌≡◌, ◌+◌, ◌*◌, ◌≤◌, ◌^◌, IfSome};
 ghost use Rattle.text.specs.Number.{capped, digit_in, digits_on, decimal_of, magnitude_of};
+ghost use Rattle.text.specs.Base.{radix_of};
 
-/// The value of a digit, to base 10 or 16 (hex digits of either case).
-pub fn digit(base: u8, byte: u8) -> Option<u8>
-    ensures value { result ≡ digit_in base byte }
+use crate::base::Base;
+
+/// The value of a digit (hex digits of either case).
+pub fn digit(base: Base, byte: u8) -> Option<u8>
+    ensures value { result ≡ digit_in (radix_of base) byte }
     ensures bound { IfSome result (λ d. d ≤ 15) }
 {
-    match byte {
-        b'0'..=b'9' => Some(byte - b'0'),
-        b'a'..=b'f' if base == 16 => Some(byte - b'a' + 10),
-        b'A'..=b'F' if base == 16 => Some(byte - b'A' + 10),
+    match (base, byte) {
+        (_, b'0'..=b'9') => Some(byte - b'0'),
+        (Base::Sixteen, b'a'..=b'f') => Some(byte - b'a' + 10),
+        (Base::Sixteen, b'A'..=b'F') => Some(byte - b'A' + 10),
         _ => None,
     }
 }
 
 /// The number with one more digit behind it.
-fn put_digit(base: u8, number: u128, digit: u8) -> u128
-    requires capped { number ≤ 2 ^ 64 }
-    requires base { base ≤ 16 }
-    ensures value { result ≡ capped (number * base + digit) }
+fn put_digit(base: Base, number: u128, digit: u8) -> u128
+    requires { number ≤ 2 ^ 64 }
+    ensures value { result ≡ capped (number * radix_of base + digit) }
     ensures bound { result ≤ 2 ^ 64 }
 {
-    let next = number * (base as u128) + (digit as u128);
+    let next = number * u128::from(base.radix()) + u128::from(digit);
     if next < 0x1_0000_0000_0000_0000 {
         next
     } else {
@@ -30,9 +32,8 @@ fn put_digit(base: u8, number: u128, digit: u8) -> u128
 }
 
 /// The number of these digits; 2^64 stands for each that is greater. No digits are 0.
-pub fn digits(base: u8, bytes: &[u8]) -> Option<u128>
-    requires { base ≤ 16 }
-    ensures value { result ≡ digits_on base 0 bytes.now }
+pub fn digits(base: Base, bytes: &[u8]) -> Option<u128>
+    ensures value { result ≡ digits_on (radix_of base) 0 bytes.now }
     ensures bound { IfSome result (λ n. n ≤ 2 ^ 64) }
 {
     let mut number = 0;
@@ -54,7 +55,7 @@ pub fn decimal(bytes: &[u8]) -> Option<u128>
     match bytes {
         [] => None,
         [first, _, ..] if *first == b'0' => None,
-        _ => digits(10, bytes),
+        _ => digits(Base::Ten, bytes),
     }
 }
 
@@ -68,10 +69,10 @@ pub fn magnitude(bytes: &[u8]) -> Option<u128>
         if bytes.len() == 2 {
             return None;
         }
-        return digits(16, &bytes[2..]);
+        return digits(Base::Sixteen, &bytes[2..]);
     }
     if bytes.is_empty() {
         return None;
     }
-    digits(10, bytes)
+    digits(Base::Ten, bytes)
 }

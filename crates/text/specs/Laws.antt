@@ -1,0 +1,21 @@
+-- What digits are worth.
+use Rattle.std.specs.Prelude.{ℕ, ◌≡◌, ◌+◌, ◌*◌, ◌^◌, ◌<◌, ◌⊎◌, ◌↔◌, List, [], ◌∷◌, Some, codes, length, slice_get}
+use Rattle.text.specs.Number.{capped, digit_in, digits_on}
+
+-- the characters are these digits
+abbrev pub AreDigits : ℕ → List ℕ → List ℕ → Type 0
+AreDigits base [] [] = Unit {0}
+AreDigits base (c ∷ cs) (d ∷ ds) = (digit_in base c ≡ Some d) × AreDigits base cs ds
+AreDigits base _ _ = ⊥
+
+-- each digit is worth the base to the power of how many stand behind it
+abbrev pub worth : ℕ → List ℕ → ℕ
+worth base [] = 0
+worth base (d ∷ ds) = d * base ^ length ds + worth base ds
+
+-- which character is which digit, and what digits are worth together; past 64 bits 2 ^ 64 stands for it
+pub record DigitsAreWorth : Type 0 where
+  pub ten : (c d : ℕ) → (digit_in 10 c ≡ Some d) ↔ (slice_get (codes "0123456789") d ≡ Some c)
+  pub sixteen : (c d : ℕ) → (digit_in 16 c ≡ Some d) ↔ ((slice_get (codes "0123456789abcdef") d ≡ Some c) ⊎ (slice_get (codes "0123456789ABCDEF") d ≡ Some c))
+  pub read : (base : ℕ) (text : List ℕ) (n : ℕ) → 0 < base → digits_on base 0 text ≡ Some n → (digits : List ℕ) × AreDigits base text digits × (n ≡ capped (worth base digits))
+  pub written : (base : ℕ) (text digits : List ℕ) → 0 < base → AreDigits base text digits → digits_on base 0 text ≡ Some (capped (worth base digits))
