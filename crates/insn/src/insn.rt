@@ -96,8 +96,22 @@ pub enum Insn {
 }
 
 impl Insn {
-    ghost use Rattle.std.specs.Prelude.{◌≡◌, ◌≤◌};
-    ghost use Rattle.insn.specs.Insn.{units_of};
+    ghost use Rattle.std.specs.Prelude.{◌≡◌, ◌≤◌, ◌↔◌, IsTrue};
+    ghost use Rattle.insn.specs.Insn.{units_of, IsWell};
+
+    /// Whether a program may have it: none extends the sign of 32 bits to 32 (RFC 9669, section 4.1).
+    pub fn is_well(&self) -> bool
+        ensures { IsTrue result ↔ IsWell self.now }
+    {
+        match self {
+            Insn::SignExtend {
+                width: Width::W32,
+                part: Narrow::Word,
+                ..
+            } => false,
+            _ => true,
+        }
+    }
 
     /// How many units of 64 bits it takes: 2 where it is wide, else 1 (RFC 9669, section 3.2).
     pub fn units(&self) -> u16
