@@ -10,6 +10,7 @@ mod flow;
 mod pause;
 mod registers;
 mod replies;
+mod tag;
 mod waiting;
 
 pub use activation::Activation;
