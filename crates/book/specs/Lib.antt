@@ -9,3 +9,4 @@ pub mod Conditions
 pub mod Explained
 pub mod Forms
 pub mod Consistency
+pub mod Lists

@@ -17,7 +17,7 @@ returns-then-relays-eq0-clause-lines t c = sym (ap (λ xs. string_bytes c.args.l
 pub push-requires : goal.push-requires
 push-requires t c =
     let few = few_others (element c.args.table.now (c.args.relays - 1) c.args.label.now c.args.general) c.args.label.now c.loop-other.other in
-    let so = ap length c.loop-other.invariant.orders in
+    let so : length c.loop-other.orders.items ≡ length (map (element c.args.table.now (c.args.relays - 1) c.args.label.now c.args.general) (others c.loop-other.other c.args.label.now)) = ap length c.loop-other.invariant.orders in
     let within = c.generals-other-end.ensures.value in
     let small = c.generals-other-end.ensures.within.few in
     let room : length c.loop-other.orders.items < 13 = omega arith in
@@ -26,7 +26,7 @@ push-requires t c =
 pub push-requires-then-not-has : goal.push-requires-then-not-has
 push-requires-then-not-has t c =
     let few = few_others (element c.args.table.now (c.args.relays - 1) c.args.label.now c.args.general) c.args.label.now c.loop-other.other in
-    let so = ap length c.loop-other.invariant.orders in
+    let so : length c.loop-other.orders.items ≡ length (map (element c.args.table.now (c.args.relays - 1) c.args.label.now c.args.general) (others c.loop-other.other c.args.label.now)) = ap length c.loop-other.invariant.orders in
     let within = c.generals-other-end.ensures.value in
     let small = c.generals-other-end.ensures.within.few in
     let room : length c.loop-other.orders.items < 13 = omega arith in

@@ -2,7 +2,7 @@ use Rattle.std.proofs.Common.{◌≡◌, ◌∙◌, sym, ap, ℕ, Option, Some, 
 use Rattle.std.specs.Prelude.{find}
 use Rattle.std.proofs.lemmas.Result.{IfOk-weaker}
 use Rattle.combine.specs.Rule.{is_most, majority}
-use Rattle.book.proofs.ListLemmas.{most_found, most_missed}
+use Rattle.book.proofs.MajorityLemmas.{most_found, most_missed}
 use Rattle.book.proofs.listing.outcome.Goals as goal
 
 pub returns-then-is_most : goal.returns-then-is_most
