@@ -1,7 +1,7 @@
 -- What a list of orders comes to, and whether an order stands in more than half of its places.
 use Rattle.std.proofs.Common.{ℕ, suc, ◌*◌, ◌<◌, ◌≤◌, ◌≡◌, ◌≢◌, Bool, true, false, cond, List, [], ◌∷◌, length, refl, sym, ap, ◌∙◌, arith, inl, inr, Option, Some, None}
 use Rattle.std.specs.Prelude.{◌==◌, ◌↔◌, unwrap_or, find, count_by}
-use Rattle.std.proofs.lemmas.Bool.{cases_Bool, cases_lt, cond-true, cond-false, eq-eqb, ne_eqb, lt-ltb, ltb-true, true≢false}
+use Rattle.std.proofs.lemmas.Bool.{cases_Bool, cases_lt, cond-true, cond-false, ne_eqb, lt-ltb, ltb-true, true≢false}
 use Rattle.std.proofs.lemmas.List.Sums.{sum_by-cons}
 use Rattle.combine.specs.Chosen.{combined_by}
 use Rattle.combine.specs.Laws.{majority_is_rule}

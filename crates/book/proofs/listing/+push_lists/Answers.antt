@@ -1,7 +1,6 @@
-use Rattle.std.proofs.Common.{◌≡◌, ◌<◌, ◌≤◌, ◌∙◌, ◌-◌, ◌++◌, ◌∷◌, [], arith, sym, ap, ℕ, suc, List, map, length, lit<, refl, true, false, append-nil}
-use Rattle.std.specs.List.{flat_map}
+use Rattle.std.proofs.Common.{◌≡◌, ◌<◌, ◌∙◌, ◌-◌, ◌++◌, ◌∷◌, [], arith, sym, ap, ℕ, suc, List, map, length, lit<, append-nil}
 use Rattle.std.specs.String.{string_bytes}
-use Rattle.label.specs.Labels.{on, others}
+use Rattle.label.specs.Labels.{others}
 use Rattle.book.specs.Explained.{element, held, list_lines, outcome, part}
 use Rattle.book.proofs.Gathering.{few_others, text_yes, text_no, lines_yes, lines_no, map_no, on_first, on_behind, off_first}
 use Rattle.book.proofs.ListLemmas.{place_off, held_last, lines_last, own_more, other_more, held_all, lines_all}
