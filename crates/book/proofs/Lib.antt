@@ -9,6 +9,7 @@ pub mod TreeLemmas
 pub mod WholeLemmas
 pub mod Gathering
 pub mod ListLemmas
+pub mod MajorityLemmas
 pub mod TextLemmas
 pub mod ConditionLemmas
 pub mod Places

@@ -1,12 +1,9 @@
 -- The list that a lieutenant combines at a label, element by element.
-use Rattle.std.proofs.Common.{ℕ, zero, suc, ◌+◌, ◌-◌, ◌*◌, ◌≤◌, ◌<◌, ◌≡◌, ◌≢◌, Bool, true, false, cond, List, [], ◌∷◌, ◌++◌, map, length, refl, sym, ap, ◌∙◌, arith, append_assoc, inl, inr, Option, Some, None}
-use Rattle.std.specs.Prelude.{◌==◌, unwrap_or, find, count_by, codes, nat_lt}
+use Rattle.std.proofs.Common.{ℕ, zero, suc, ◌+◌, ◌≡◌, ◌≢◌, true, false, List, [], ◌∷◌, ◌++◌, map, refl, sym, ap, ◌∙◌, arith, append_assoc, Option, Some, None}
+use Rattle.std.specs.Prelude.{◌==◌, unwrap_or}
 use Rattle.std.specs.List.{flat_map}
-use Rattle.std.proofs.lemmas.Bool.{cases_Bool, cond-true, cond-false, eq-eqb, ne_eqb, eqb-true, ltb-true, true≢false}
-use Rattle.std.proofs.lemmas.List.Sums.{sum_by-cons}
-use Rattle.combine.specs.declared.chosen.Rule.{Rule}
+use Rattle.std.proofs.lemmas.Bool.{cond-true, cond-false, eq-eqb, ne_eqb}
 use Rattle.combine.specs.Chosen.{combined_by}
-use Rattle.combine.specs.Rule.{is_most, majority}
 use Rattle.label.specs.Labels.{on, others}
 use Rattle.label.specs.Oral.{order_of, taken, om}
 use Rattle.book.specs.Table.{MessageTable, told}
@@ -78,49 +75,3 @@ pub place_off : (t : MessageTable) (w : List ℕ) (p : ℕ) → is_place t w p �
 place_off t w p e =
     let said : IsMessage t.generals t.bound t.commander (record { label = w; receiver = p; order = 0 }) = place_message t (record { label = w; receiver = p; order = 0 }) e (omega arith) in
     said.off
-
--- the first that passes passes
-find_passes : (t : ℕ → Bool) (xs : List ℕ) (v : ℕ) → find t xs ≡ Some v → t v ≡ true
-find_passes t [] v e = cc
-find_passes t (x ∷ xs) v e = elim (cases_Bool (t x)) [
-  | inl it ↦ let same : x ≡ v = let h = sym (cond-true (t x) (Some x) (find t xs) it) ∙ e in cc in rw same at it
-  | inr fails ↦ find_passes t xs v (sym (cond-false (t x) (Some x) (find t xs) fails) ∙ e)
-]
-
--- where none passes, one that would is nowhere
-find_none : (t : ℕ → Bool) (xs : List ℕ) (v : ℕ) → find t xs ≡ None → t v ≡ true → count_by (λ x. x == v) xs ≡ 0
-find_none t [] v e pass = refl
-find_none t (x ∷ xs) v e pass = elim (cases_Bool (t x)) [
-  | inl it ↦ let h = sym (cond-true (t x) (Some x) (find t xs) it) ∙ e in cc
-  | inr fails ↦
-      let ne : x ≢ v = λ same. true≢false (sym pass ∙ (ap t (sym same) ∙ fails)) in
-      let rest : count_by (λ y. y == v) xs ≡ 0 = find_none t xs v (sym (cond-false (t x) (Some x) (find t xs) fails) ∙ e) pass in
-      sum_by-cons (λ y. cond (y == v) 1 0) x xs ∙ rw (ne_eqb x v ne, rest) refl
-]
-
-cases_find : (t : ℕ → Bool) (xs : List ℕ) (A : Type 0) → (find t xs ≡ None → A) → ((v : ℕ) → find t xs ≡ Some v → A) → A
-cases_find t xs A none some = by_cases (find t xs) none some
-  where
-    by_cases : {A : Type 0} (o : Option ℕ) → (o ≡ None → A) → ((v : ℕ) → o ≡ Some v → A) → A
-    by_cases None none some = none refl
-    by_cases (Some v) none some = some v refl
-
--- the majority, where it is one
-pub most_found : (xs : List ℕ) (v : ℕ) → v ≡ majority xs → is_most xs v ≡ true → find (is_most xs) xs ≡ Some v
-unfolding majority
-most_found xs v e most =
-    cases_find (is_most xs) xs (find (is_most xs) xs ≡ Some v)
-    (λ none.
-    let nowhere : count_by (λ x. x == v) xs ≡ 0 = find_none (is_most xs) xs v none most in
-    let long : length xs < 2 * count_by (λ x. x == v) xs = ltb-true (length xs) (2 * count_by (λ x. x == v) xs) most in
-    absurd (omega arith))
-    (λ u some. some ∙ ap Some (sym (e ∙ ap (λ (o : Option ℕ). unwrap_or o 0) some)))
-
--- and where it is none
-pub most_missed : (xs : List ℕ) (v : ℕ) → v ≡ majority xs → is_most xs v ≡ false → find (is_most xs) xs ≡ None
-unfolding majority
-most_missed xs v e less =
-    cases_find (is_most xs) xs (find (is_most xs) xs ≡ None) (λ none. none)
-    (λ u some.
-    let same : v ≡ u = e ∙ ap (λ (o : Option ℕ). unwrap_or o 0) some in
-    absurd (true≢false (sym (find_passes (is_most xs) xs u some) ∙ (ap (is_most xs) (sym same) ∙ less))))

@@ -1,10 +1,9 @@
 -- Texts of several parts.
-use Rattle.std.proofs.Common.{ℕ, ◌≡◌, Bool, List, [], ◌∷◌, ◌++◌, refl, sym, ap, ◌∙◌, append_assoc}
+use Rattle.std.proofs.Common.{ℕ, ◌≡◌, Bool, List, [], ◌∷◌, ◌++◌, refl, ap, ◌∙◌, append_assoc}
 use Rattle.std.specs.Prelude.{Result, Ok, Err, OnOk, is_ok, if◌then◌else◌, codes}
 use Rattle.std.specs.Fmt.{decimal}
 use Rattle.std.specs.List.{flat_map}
 use Rattle.label.specs.Labels.{on, others}
-use Rattle.label.specs.Lieutenants.{lieutenants}
 use Rattle.book.specs.declared.conditions.Conditions.{Conditions}
 use Rattle.book.specs.Table.{MessageTable}
 use Rattle.book.specs.Conditions.{judged}

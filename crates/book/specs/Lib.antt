@@ -10,3 +10,4 @@ pub mod Explained
 pub mod Forms
 pub mod Consistency
 pub mod Telling
+pub mod Lists

@@ -24,4 +24,4 @@ pub use message::Message;
 pub use reader::read_table;
 pub use recursion::{decision, decisions};
 pub use table::Table;
-pub use theorem::{agreement, conditions_mean, forms_are_read, told_tables_are_whole};
+pub use theorem::{agreement, conditions_mean, forms_are_read, lists_mean, told_tables_are_whole};

@@ -2,6 +2,7 @@
 ghost use Rattle.book.specs.Consistency.{ConditionsMean};
 ghost use Rattle.book.specs.Forms.{FormsAreRead};
 ghost use Rattle.book.specs.Laws.{ToldTablesAreWhole};
+ghost use Rattle.book.specs.Lists.{ListsMean};
 ghost use Rattle.book.specs.Theorem.{AgreementHolds};
 
 /// Whatever the traitors say, loyal lieutenants decide alike, and on the order of a loyal commander (TOPLAS 1982, Theorem 1).
@@ -23,4 +24,9 @@ pub fn conditions_mean()
 /// A form that is filled in, an order for each question mark, tells a table with all of these orders.
 pub fn forms_are_read()
     ensures { FormsAreRead }
+{}
+
+/// The lists that `explain` writes come to what OM(m) decides, and a majority is told exactly where there is one.
+pub fn lists_mean()
+    ensures { ListsMean }
 {}

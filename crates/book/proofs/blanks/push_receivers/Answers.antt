@@ -1,7 +1,7 @@
-use Rattle.std.proofs.Common.{◌≡◌, ◌∙◌, ◌++◌, arith, sym, ap, ℕ, true, false}
+use Rattle.std.proofs.Common.{◌≡◌, ◌∙◌, ◌++◌, arith, sym, ap, ℕ}
 use Rattle.std.specs.List.{flat_map}
 use Rattle.std.specs.String.{string_bytes}
-use Rattle.label.specs.Labels.{on, others}
+use Rattle.label.specs.Labels.{others}
 use Rattle.book.specs.Forms.{blank, place_line, place_lines}
 use Rattle.book.proofs.Gathering.{text_yes, text_no}
 use Rattle.book.proofs.blanks.push_receivers.Goals as goal

@@ -1,9 +1,8 @@
 use Rattle.std.specs.Prelude.{codes}
 use Rattle.std.specs.Fmt.{decimal}
 use Rattle.std.specs.String.{string_bytes}
-use Rattle.std.proofs.Common.{append_assoc, ◌≡◌, ◌++◌, ap, ◌∙◌}
+use Rattle.std.proofs.Common.{append_assoc, ◌≡◌, ◌++◌}
 use Rattle.std.proofs.lemmas.Result.{IfOk-weaker}
-use Rattle.book.specs.Explained.{yes_no, enough_words}
 use Rattle.book.proofs.TextLemmas.{enough_is}
 use Rattle.book.proofs.explaining.enough_part.Goals as goal
 

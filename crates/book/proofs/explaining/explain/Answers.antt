@@ -1,7 +1,5 @@
-use Rattle.std.proofs.Common.{◌≡◌, ◌∙◌, ◌++◌, ◌∷◌, [], arith, sym, ap, refl, true, false}
-use Rattle.std.specs.List.{flat_map}
+use Rattle.std.proofs.Common.{◌≡◌, ◌∙◌, ◌∷◌, [], arith, sym, refl}
 use Rattle.std.specs.String.{string_bytes}
-use Rattle.label.specs.Labels.{on, others}
 use Rattle.book.specs.Explained.{lieutenant_lines}
 use Rattle.book.proofs.Gathering.{lines_yes, lines_no, off_first, on_first}
 use Rattle.book.proofs.TextLemmas.{explained_whole}

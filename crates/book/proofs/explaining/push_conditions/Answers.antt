@@ -1,7 +1,7 @@
-use Rattle.std.proofs.Common.{◌≡◌, ◌++◌, ◌∙◌, sym, ap}
+use Rattle.std.proofs.Common.{◌≡◌, ◌++◌, ◌∙◌, ap}
 use Rattle.std.specs.String.{string_bytes}
 use Rattle.std.proofs.lemmas.Result.{on_ok_weaker}
-use Rattle.book.specs.Explained.{bound_line, alike_line, obedience_line}
+use Rattle.book.specs.Explained.{bound_line, alike_line}
 use Rattle.book.proofs.TextLemmas.{conditions_whole, pushed}
 use Rattle.book.proofs.explaining.push_conditions.Goals as goal
 

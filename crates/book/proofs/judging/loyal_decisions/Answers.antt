@@ -1,6 +1,5 @@
-use Rattle.std.proofs.Common.{◌≡◌, ◌<◌, ◌≤◌, ◌∷◌, ◌∙◌, arith, sym, ap, map, length, lit<, ℕ, true, false}
-use Rattle.std.proofs.lemmas.Bool.{not-true}
-use Rattle.label.specs.Labels.{on, others}
+use Rattle.std.proofs.Common.{◌≡◌, ◌<◌, ◌≤◌, ◌∷◌, ◌∙◌, arith, sym, ap, map, length, lit<, ℕ}
+use Rattle.label.specs.Labels.{others}
 use Rattle.book.specs.Conditions.{loyal_decisions}
 use Rattle.book.specs.Decisions.{decision_of}
 use Rattle.book.proofs.Gathering.{map_yes, map_no, few_others, off_first, on_first, on_behind}

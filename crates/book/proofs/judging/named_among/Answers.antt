@@ -1,4 +1,4 @@
-use Rattle.std.proofs.Common.{◌≡◌, ◌∙◌, arith, sym, true, false}
+use Rattle.std.proofs.Common.{◌∙◌, arith, sym}
 use Rattle.label.specs.Labels.{on}
 use Rattle.book.proofs.Gathering.{count_yes, count_no}
 use Rattle.book.proofs.judging.named_among.Goals as goal

@@ -1,5 +1,5 @@
-use Rattle.std.proofs.Common.{◌≡◌, ◌<◌, ◌≤◌, ◌∷◌, [], ◌∙◌, arith, sym, ap, map, length, lit<, ℕ, true, false, refl}
-use Rattle.label.specs.Labels.{on, others}
+use Rattle.std.proofs.Common.{◌≡◌, ◌<◌, ◌∷◌, [], ◌∙◌, arith, sym, ap, map, length, lit<, ℕ, refl}
+use Rattle.label.specs.Labels.{others}
 use Rattle.book.specs.Conditions.{sent}
 use Rattle.book.specs.Table.{told}
 use Rattle.book.proofs.Gathering.{map_yes, map_no, few_others, off_first, on_first}

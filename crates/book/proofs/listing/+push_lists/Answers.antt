@@ -1,7 +1,6 @@
-use Rattle.std.proofs.Common.{◌≡◌, ◌<◌, ◌≤◌, ◌∙◌, ◌-◌, ◌++◌, ◌∷◌, [], arith, sym, ap, ℕ, suc, List, map, length, lit<, refl, true, false, append-nil}
-use Rattle.std.specs.List.{flat_map}
+use Rattle.std.proofs.Common.{◌≡◌, ◌<◌, ◌∙◌, ◌-◌, ◌++◌, ◌∷◌, [], arith, sym, ap, ℕ, suc, List, map, length, lit<, append-nil}
 use Rattle.std.specs.String.{string_bytes}
-use Rattle.label.specs.Labels.{on, others}
+use Rattle.label.specs.Labels.{others}
 use Rattle.book.specs.Explained.{element, held, list_lines, outcome, part}
 use Rattle.book.proofs.Gathering.{few_others, text_yes, text_no, lines_yes, lines_no, map_no, on_first, on_behind, off_first}
 use Rattle.book.proofs.ListLemmas.{place_off, held_last, lines_last, own_more, other_more, held_all, lines_all}
@@ -17,7 +16,7 @@ returns-then-relays-eq0-clause-lines t c = sym (ap (λ xs. string_bytes c.args.l
 pub push-requires : goal.push-requires
 push-requires t c =
     let few = few_others (element c.args.table.now (c.args.relays - 1) c.args.label.now c.args.general) c.args.label.now c.loop-other.other in
-    let so = ap length c.loop-other.invariant.orders in
+    let so : length c.loop-other.orders.items ≡ length (map (element c.args.table.now (c.args.relays - 1) c.args.label.now c.args.general) (others c.loop-other.other c.args.label.now)) = ap length c.loop-other.invariant.orders in
     let within = c.generals-other-end.ensures.value in
     let small = c.generals-other-end.ensures.within.few in
     let room : length c.loop-other.orders.items < 13 = omega arith in
@@ -26,7 +25,7 @@ push-requires t c =
 pub push-requires-then-not-has : goal.push-requires-then-not-has
 push-requires-then-not-has t c =
     let few = few_others (element c.args.table.now (c.args.relays - 1) c.args.label.now c.args.general) c.args.label.now c.loop-other.other in
-    let so = ap length c.loop-other.invariant.orders in
+    let so : length c.loop-other.orders.items ≡ length (map (element c.args.table.now (c.args.relays - 1) c.args.label.now c.args.general) (others c.loop-other.other c.args.label.now)) = ap length c.loop-other.invariant.orders in
     let within = c.generals-other-end.ensures.value in
     let small = c.generals-other-end.ensures.within.few in
     let room : length c.loop-other.orders.items < 13 = omega arith in

@@ -1,8 +1,7 @@
-use Rattle.std.proofs.Common.{◌≡◌, ◌∙◌, sym, ap, ℕ, Option, Some, None, true, false}
-use Rattle.std.specs.Prelude.{find}
+use Rattle.std.proofs.Common.{◌≡◌, ◌∙◌, sym}
 use Rattle.std.proofs.lemmas.Result.{IfOk-weaker}
-use Rattle.combine.specs.Rule.{is_most, majority}
-use Rattle.book.proofs.ListLemmas.{most_found, most_missed}
+use Rattle.combine.specs.Rule.{majority}
+use Rattle.book.proofs.MajorityLemmas.{most_found, most_missed}
 use Rattle.book.proofs.listing.outcome.Goals as goal
 
 pub returns-then-is_most : goal.returns-then-is_most
