@@ -17,7 +17,7 @@ pub fn helpers_are_numbered()
     ensures { HelpersAreNumbered }
 {}
 
-/// A jump to a name leads to the unit of what follows the line that defines it.
+/// A jump to a name leads to the unit of what follows the name, on its line or behind it.
 pub fn jumps_lead_to_names()
     ensures { JumpsLeadToNames }
 {}

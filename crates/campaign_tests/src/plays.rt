@@ -218,6 +218,7 @@ const ILL_SCHEDULES: &[(File<'static>, &str)] = &[
     // Nothing behind the limit of 1,048,576 bytes is read.
     (File::Cut(1_100_000), "refused X1 line 1\n"),
     (File::Cut(1_048_576), "fault read s.txt\n"),
+    (File::Filled(0xff, 1_100_000), "fault text s.txt\n"),
 ];
 
 #[test]

@@ -13,8 +13,8 @@ use std::thread::Threads;
 pub(crate) enum File<'a> {
     Bytes(&'a [u8]),
     Broken,
-    /// So many zeros.
-    Zeros(usize),
+    /// So many times this byte.
+    Filled(u8, usize),
     /// So many zeros, behind which it fails.
     Cut(usize),
 }
@@ -31,14 +31,18 @@ impl Read for File<'_> {
         match self {
             File::Bytes(bytes) => bytes.read(buf),
             File::Broken | File::Cut(0) => Err(io::Error::from(ErrorKind::Other)),
-            File::Zeros(left) | File::Cut(left) => {
-                let given = buf.len().min(*left);
-                buf[..given].fill(0);
-                *left -= given;
-                Ok(given)
-            }
+            File::Cut(left) => Ok(fill(buf, 0, left)),
+            File::Filled(byte, left) => Ok(fill(buf, *byte, left)),
         }
     }
+}
+
+/// Gives as many of the bytes that are left as there is room for, all of them this one.
+fn fill(buf: &mut [u8], byte: u8, left: &mut usize) -> usize {
+    let given = buf.len().min(*left);
+    buf[..given].fill(byte);
+    *left -= given;
+    given
 }
 
 /// What a task prints, what is told of a fault, and its status.
@@ -446,11 +450,17 @@ fn long_bytecode_is_refused_by_its_length(rt: HostRuntime) -> Result<(), Fail> {
     let disassemble = Task::Disassemble(String::from_str(alloc, "p.bin")?);
     for &(length, fault) in LENGTHS {
         assert!(rt;
-            answers(&rt, alloc, &check, File::Zeros(length), (1, fault)),
+            answers(&rt, alloc, &check, File::Filled(0, length), (1, fault)),
             "{length}"
         );
         assert!(rt;
-            answers(&rt, alloc, &disassemble, File::Zeros(length), (1, fault)),
+            answers(
+                &rt,
+                alloc,
+                &disassemble,
+                File::Filled(0, length),
+                (1, fault)
+            ),
             "{length}"
         );
     }

@@ -27,7 +27,7 @@ IsStart bytes place =
     (place ≤ length bytes)
     × (0 < place → (place < length bytes) × ((slice_index bytes place < 128) ⊎ (192 ≤ slice_index bytes place)))
 
--- the bytes are too many for a program, and so refused
+-- the bytes spell no program, by this first fault
 abbrev pub IsTooLong : Option (List ℕ) → Refusal → Type 0
 IsTooLong known (Codec error) = (bytes : List ℕ) × AreBytes known bytes × RefusesBytes bytes error
 IsTooLong known _ = ⊥

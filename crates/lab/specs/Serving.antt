@@ -103,7 +103,7 @@ IsRefusedLater _ s known refusal = ⊥
 abbrev pub Tells : Type 0 → Option (List ℕ) → Option (List ℕ) → List ℕ → Type 0
 Tells fails old new line = fails ⊎ Appends old new (line ++ 10 ∷ [])
 
--- the line of these words and the file's name, which stands on it as it is or, with a control character, as a text of Rust
+-- the line of these words and the file's name, which stands on it as it is or, with a control character, as a text of Rust; of such a name past ASCII nothing is said
 abbrev pub TellsName : (List ℕ → Type 0) → List ℕ → List ℕ → Type 0
 TellsName tells words name = IfSome (shown name) (λ told. tells (words ++ told))
 

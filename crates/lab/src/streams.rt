@@ -37,7 +37,7 @@ pub trait Source: Drop {
         ensures within { IfOk result (IsWithin most (bytes self)) }
         ensures failed { OnErr result (fails self) };
 
-    /// All bytes where there are at most so many. Where there are more, some more than those, and nothing is read on.
+    /// All bytes where there are at most so many. Where there are more, a beginning that is longer than that; what is behind it is not read.
     ///
     /// # Errors
     ///

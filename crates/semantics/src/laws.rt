@@ -8,7 +8,7 @@ pub fn steps_are_counted()
     ensures { StepsAreCounted }
 {}
 
-/// Every state of a run has eleven registers, 512 cells, and r10 at the end of the stack; its numbers have 64 bits and its bytes 8.
+/// Every state of a run has eleven registers, 512 cells, and r10 at the end of the stack; of well-formed instructions in a campaign's setting its numbers have 64 bits and its bytes 8.
 pub fn states_stay_whole()
     ensures { StatesStayWhole }
 {}
