@@ -21,10 +21,9 @@ pub(crate) enum Fault<'a> {
 }
 
 impl fmt::Display for Fault<'_> {
-    ghost use Rattle.std.specs.Prelude.{Some};
     ghost use Rattle.lab.specs.Faults.{fault_text};
 
-    ghost output = { λ fault. Some (fault_text fault) };
+    ghost output = { fault_text };
 
     fn fmt<W: fmt::Write>(&self, f: &mut fmt::Formatter<W>) -> fmt::Result {
         match self {
