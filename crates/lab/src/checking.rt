@@ -9,7 +9,7 @@ use crate::bench::{bench_context, bench_shape};
 use crate::refusal::Refusal;
 use board::Board;
 use codec::decode;
-use machine::{Activation, Pause};
+use machine::{Activation, Stop};
 use mem::Context;
 use outbox::Outbox;
 use std::alloc::{AllocError, Global};
@@ -79,22 +79,17 @@ fn serve_board(alloc: Global, verified: &Verified, context: &Context) -> Result<
     let mut board = Board::new(alloc, [0; 64]);
     let mut activation = Activation::start(verified, context, Outbox::new(alloc, shape)?);
     loop {
-        match activation.advance(verified, context, limit) {
-            Pause::Board(request, waiting) => {
+        match activation.run(verified, context, limit) {
+            Stop::Asked(request) => {
                 let reply = board.apply(shape.general, shape.round, request)?;
-                activation = waiting.answer(reply);
+                activation.resume(&request, &reply);
             }
-            Pause::Done(ended) => {
+            Stop::Exited(r0) => {
                 let _accesses = board.ledger();
-                let Some(r0) = ended.r0 else {
-                    unreachable!();
-                };
-                return Ok(Exit {
-                    r0,
-                    steps: ended.steps,
-                });
+                let steps = activation.steps();
+                return Ok(Exit { r0, steps });
             }
-            Pause::Cut(_) => unreachable!(),
+            Stop::Limit => unreachable!(),
         }
     }
 }
