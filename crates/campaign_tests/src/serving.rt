@@ -430,6 +430,28 @@ fn tables_are_decided(rt: HostRuntime) -> Result<(), Fail> {
     Ok(())
 }
 
+/// Files that are no bytecode, and what is told of them.
+const LIKENESSES: &[(&[u8], &str)] = &[
+    (
+        b"95 00\n",
+        "refused C1 unit 0\nit seems to be bytecode in hex, of which `xxd -r -p` makes bytes\n",
+    ),
+    (
+        b"\x7fELF\x02\x01\x01\0",
+        "refused C3 unit 0\nit seems to be an ELF object, of which `llvm-objcopy -O binary -j .text` takes the bytes\n",
+    ),
+];
+
+#[test]
+fn what_bytes_seem_to_be_is_told(rt: HostRuntime) -> Result<(), Fail> {
+    let alloc = rt.alloc();
+    let task = Task::Check(String::from_str(alloc, "p.bin")?);
+    for &(bytes, fault) in LIKENESSES {
+        assert!(rt; answers(&rt, alloc, &task, File::Bytes(bytes), (1, fault)), "{fault}");
+    }
+    Ok(())
+}
+
 /// How many zeros a file of bytecode has, and what is told of them.
 const LENGTHS: &[(usize, &str)] = &[
     (32_768, "refused C2 unit 0\n"),

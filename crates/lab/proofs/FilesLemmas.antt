@@ -11,7 +11,7 @@ use Rattle.trace.specs.Schedules.{schedule_told}
 use Rattle.lab.specs.Answers.{ComesTo, GoesOn, Prints}
 use Rattle.lab.specs.Campaigns.{IsAudited, IsMustered}
 use Rattle.lab.specs.Faults.{Prevents, Stops}
-use Rattle.lab.specs.Serving.{AreBytes, AreSecond, AreSecondBytes, Files, IsAnswer, IsAuditOf, IsChronicleRefused, IsPlayedBy, IsRefusedLater, IsScheduleOf, IsScheduleRefused, second_name}
+use Rattle.lab.specs.Serving.{AreBytes, AreSecond, AreSecondBytes, Files, IsAnswer, IsAuditOf, IsChronicleRefused, IsPlayedBy, IsRefusedLater, IsScheduleOf, IsScheduleRefused, NoLikeness, second_name}
 use Rattle.lab.specs.declared.fault.Fault.{Fault}
 use Rattle.lab.specs.declared.outcome.Outcome.TheVariants as outcome
 
@@ -77,8 +77,8 @@ answered_audited (Audit scenario chronicle) files first text s are comes (bytes,
 
 -- what stops a task behind its first file: its schedule, the threads, or the chronicle
 stopped_playing : (task : Task) (unread : Type 0) (first name : List ℕ) (s : Scenario) (known : Option (Option (List ℕ))) (fault : Fault)
-    → ComesTo task first (outcome.Play s) → Stops unread (IsScheduleRefused known) name fault
-    → GoesOn task first s × Stops unread (IsRefusedLater task s known) name fault
+    → ComesTo task first (outcome.Play s) → Stops unread (NoLikeness (IsScheduleRefused known)) name fault
+    → GoesOn task first s × Stops unread (NoLikeness (IsRefusedLater task s known)) name fault
 stopped_playing (Check file) unread first name s known fault comes why = absurd comes
 stopped_playing (Assemble file) unread first name s known fault comes why = absurd comes
 stopped_playing (Disassemble file) unread first name s known fault comes why = absurd comes
@@ -88,8 +88,8 @@ stopped_playing (Muster scenario) unread first name s known fault comes why = ab
 stopped_playing (Audit scenario chronicle) unread first name s known fault comes why = absurd comes
 
 stopped_auditing : (task : Task) (unread : Type 0) (first name : List ℕ) (s : Scenario) (known : Option (Option (List ℕ))) (fault : Fault)
-    → ComesTo task first (outcome.Audit s) → Stops unread (IsChronicleRefused s known) name fault
-    → GoesOn task first s × Stops unread (IsRefusedLater task s known) name fault
+    → ComesTo task first (outcome.Audit s) → Stops unread (NoLikeness (IsChronicleRefused s known)) name fault
+    → GoesOn task first s × Stops unread (NoLikeness (IsRefusedLater task s known)) name fault
 stopped_auditing (Check file) unread first name s known fault comes why = absurd comes
 stopped_auditing (Assemble file) unread first name s known fault comes why = absurd comes
 stopped_auditing (Disassemble file) unread first name s known fault comes why = absurd comes
@@ -101,19 +101,19 @@ stopped_auditing (Audit scenario chronicle) unread first name s known fault come
 -- why it has no answer then
 pub prevented_playing : (task : Task) (files : Files) (unread second_unread : Type 0) (first name : List ℕ) (s : Scenario) (fault : Fault)
     → AreBytes files.first first → ComesTo task first (outcome.Play s) → name ≡ second_name task
-    → Stops second_unread (IsScheduleRefused files.second) name fault → Prevents unread second_unread task files fault
+    → Stops second_unread (NoLikeness (IsScheduleRefused files.second)) name fault → Prevents unread second_unread task files fault
 prevented_playing task files unread second_unread first name s fault are comes named why =
-    let own : Stops second_unread (IsScheduleRefused files.second) (second_name task) fault =
-    subst (λ (n : List ℕ). Stops second_unread (IsScheduleRefused files.second) n fault) named why in
+    let own : Stops second_unread (NoLikeness (IsScheduleRefused files.second)) (second_name task) fault =
+    subst (λ (n : List ℕ). Stops second_unread (NoLikeness (IsScheduleRefused files.second)) n fault) named why in
     let stopped = stopped_playing task second_unread first (second_name task) s files.second fault comes own in
     inr (s, (first, are, stopped.0), stopped.1)
 
 pub prevented_auditing : (task : Task) (files : Files) (unread second_unread : Type 0) (first name : List ℕ) (s : Scenario) (fault : Fault)
     → AreBytes files.first first → ComesTo task first (outcome.Audit s) → name ≡ second_name task
-    → Stops second_unread (IsChronicleRefused s files.second) name fault → Prevents unread second_unread task files fault
+    → Stops second_unread (NoLikeness (IsChronicleRefused s files.second)) name fault → Prevents unread second_unread task files fault
 prevented_auditing task files unread second_unread first name s fault are comes named why =
-    let own : Stops second_unread (IsChronicleRefused s files.second) (second_name task) fault =
-    subst (λ (n : List ℕ). Stops second_unread (IsChronicleRefused s files.second) n fault) named why in
+    let own : Stops second_unread (NoLikeness (IsChronicleRefused s files.second)) (second_name task) fault =
+    subst (λ (n : List ℕ). Stops second_unread (NoLikeness (IsChronicleRefused s files.second)) n fault) named why in
     let stopped = stopped_auditing task second_unread first (second_name task) s files.second fault comes own in
     inr (s, (first, are, stopped.0), stopped.1)
 

@@ -7,5 +7,6 @@ pub mod Lines
 pub mod Names
 pub mod Reading
 pub mod Refusals
+pub mod Seeming
 pub mod Serving
 pub mod Telling

@@ -1,6 +1,6 @@
 ghost use Rattle.std.specs.Prelude.{◌≡◌, ◌≢◌, ◌⊎◌, IfOk, IfErr, IsSomeAnd, OnOk, codes, option_map};
 ghost use Rattle.lab.specs.Faults.{Explains, Prevents, Stops};
-ghost use Rattle.lab.specs.Serving.{IsAnswer, IsAuditOf, IsChronicleRefused, IsFault, IsPlayedBy, IsPrinted, IsScheduleOf, IsScheduleRefused, Tells, files, second_name};
+ghost use Rattle.lab.specs.Serving.{IsAnswer, IsAuditOf, IsChronicleRefused, IsFault, IsPlayedBy, IsPrinted, IsScheduleOf, IsScheduleRefused, NoLikeness, Tells, files, second_name};
 ghost use Rattle.lab.specs.declared.fault.Fault.TheVariants.{Write as unwritten};
 
 use crate::answering::answer;
@@ -110,7 +110,7 @@ where
             Err(refusal) => Err(Fault::of(refusal, file)),
         },
         Ok(Outcome::Audit(scenario)) => audit_of(alloc, &scenario, file, second),
-        Err(refusal) => Err(Fault::of(refusal, task.file())),
+        Err(refusal) => Err(Fault::of_bytes(refusal, task.file(), bytes.as_slice())),
     }
 }
 
@@ -123,7 +123,7 @@ fn play_by<'a, R: Source>(
 ) -> Result<Vec<u8>, Fault<'a>>
     ensures played { IfOk result (λ text. IsPlayedBy (option_map R.bytes second) scenario text.items) }
     ensures fault { IfErr result
-        (Stops (IsSomeAnd second R.fails) (IsScheduleRefused (option_map R.bytes second)) file.entry.now) }
+        (Stops (IsSomeAnd second R.fails) (NoLikeness (IsScheduleRefused (option_map R.bytes second))) file.entry.now) }
 {
     let schedule = scheduled(alloc, file, second)?;
     match played(alloc, scenario, &schedule) {
@@ -140,7 +140,7 @@ fn scheduled<'a, R: Source>(
 ) -> Result<Schedule, Fault<'a>>
     ensures told { IfOk result (λ schedule. IsScheduleOf (option_map R.bytes second) schedule) }
     ensures fault { IfErr result
-        (Stops (IsSomeAnd second R.fails) (IsScheduleRefused (option_map R.bytes second)) file.entry.now) }
+        (Stops (IsSomeAnd second R.fails) (NoLikeness (IsScheduleRefused (option_map R.bytes second))) file.entry.now) }
 {
     let Some(second) = second else {
         return Ok(Schedule {
@@ -163,7 +163,7 @@ fn audit_of<'a, R: Source>(
 ) -> Result<Vec<u8>, Fault<'a>>
     ensures audited { IfOk result (λ text. IsAuditOf (option_map R.bytes second) scenario.now text.items) }
     ensures fault { IfErr result
-        (Stops (IsSomeAnd second R.fails) (IsChronicleRefused scenario.now (option_map R.bytes second)) file.entry.now) }
+        (Stops (IsSomeAnd second R.fails) (NoLikeness (IsChronicleRefused scenario.now (option_map R.bytes second))) file.entry.now) }
 {
     let bytes = read_second(alloc, file, second)?;
     match audited(alloc, scenario, bytes.as_slice()) {
