@@ -5,6 +5,7 @@ pub mod Campaigns
 pub mod Faults
 pub mod Lines
 pub mod Names
+pub mod Numbers
 pub mod Reading
 pub mod Refusals
 pub mod Seeming

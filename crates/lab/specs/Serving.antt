@@ -1,7 +1,7 @@
 -- How a task on its files ends. What a file has and what a stream holds are given where they are known.
 use Rattle.std.specs.Prelude.{ℕ, ◌≡◌, ◌≢◌, ◌⊎◌, List, [], ◌∷◌, ◌++◌, Option, None, Some, IfSome, IsSomeAnd, codes, option_map, unwrap_or}
 use Rattle.std.specs.Io.KnownBytes.{Appends}
-use Rattle.command_line.specs.Told.{told_of}
+use Rattle.command_line.specs.Told.{file_of, second_of}
 use Rattle.command_line.specs.declared.tasks.Task.{Task}
 use Rattle.command_line.specs.declared.tasks.Task.TheVariants.{Play, Muster, Audit}
 use Rattle.round.specs.Scenario.{Scenario}
@@ -24,12 +24,12 @@ pub record Files : Type 0 where
 abbrev pub files : {R : Type 0} → (R → Option (List ℕ)) → R → Option R → Files
 files bytes first second = record { first = bytes first; second = option_map bytes second }
 
--- the names of the files, the second's empty where the words name none
+-- the names of the files, empty where the words name none
 abbrev pub first_name : Task → List ℕ
-first_name task = (told_of task).file
+first_name task = unwrap_or (file_of task) []
 
 abbrev pub second_name : Task → List ℕ
-second_name task = unwrap_or (told_of task).second []
+second_name task = unwrap_or (second_of task) []
 
 -- the bytes are the file's
 abbrev pub AreBytes : Option (List ℕ) → List ℕ → Type 0

@@ -30,8 +30,10 @@ pub(crate) fn read_first<'a, R: Source>(
         (Stops (R.fails first) (IsRefused task.entry.now (R.bytes first)) (first_name task.entry.now)) }
 {
     match task {
-        Task::Check(file) | Task::Disassemble(file) => read_program(alloc, file.as_str(), first),
-        _ => read(alloc, task.file(), first),
+        Task::Check(file) | Task::Disassemble(file) | Task::DisassembleUnits(file) => {
+            read_program(alloc, file.as_str(), first)
+        }
+        _ => read(alloc, task.file().unwrap_or(""), first),
     }
 }
 

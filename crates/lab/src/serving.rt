@@ -20,7 +20,7 @@ use world::Schedule;
 
 /// Does the task on its files: prints what it answers, or one line of what is at fault. The second file is read where the
 /// task has one, and only where the first is not refused. All that is printed is in memory first. Only a muster starts threads,
-/// and it waits for them. The result is the exit status: 0 done, 1 refused or a fault of a file, 3 want of memory.
+/// and it waits for them. A task that reads no file is given an empty one. The result is the exit status: 0 done, 1 refused or a fault of a file, 3 want of memory.
 pub fn serve<T, R, O, F>(
     rt: &T,
     alloc: Global,
@@ -104,13 +104,14 @@ where
     let file = task.second().unwrap_or("");
     match answer(alloc, task, bytes.as_slice()) {
         Ok(Outcome::Text(text)) => Ok(text.into_bytes()),
+        Ok(Outcome::Bytes(bytes)) => Ok(bytes),
         Ok(Outcome::Play(scenario)) => play_by(alloc, scenario, file, second),
         Ok(Outcome::Muster(scenario)) => match mustered(rt, alloc, scenario) {
             Ok(text) => Ok(text),
             Err(refusal) => Err(Fault::of(refusal, file)),
         },
         Ok(Outcome::Audit(scenario)) => audit_of(alloc, &scenario, file, second),
-        Err(refusal) => Err(Fault::of_bytes(refusal, task.file(), bytes.as_slice())),
+        Err(refusal) => Err(Fault::of_bytes(refusal, task.file().unwrap_or(""), bytes.as_slice())),
     }
 }
 
