@@ -25,7 +25,8 @@ impl<'a> Target<'a> {
 impl Write for Target<'_> {
     fn write(&mut self, buf: &[u8]) -> io::Result<usize> {
         if let Target::Unmade { rt, name } = self {
-            *self = Target::File(File::create(*rt, name)?);
+            let made = File::create(*rt, *name)?;
+            *self = Target::File(made);
         }
         match self {
             Target::Standard(stdout) => stdout.write(buf),
