@@ -371,7 +371,13 @@ fn bytes_are_written(rt: HostRuntime) -> Result<(), Fail> {
         b"\xb7\0\0\0\x2a\0\0\0\x95\0\0\0\0\0\0\0".as_slice()
     );
     assert!(rt;
-        answers(&rt, alloc, &task, File::of("mov r11, 0"), (1, "refused A3 line 1\n"))
+        answers(
+            &rt,
+            alloc,
+            &task,
+            File::of("mov r11, 0"),
+            (1, "refused A3 line 1\n")
+        )
     );
     Ok(())
 }
@@ -409,7 +415,11 @@ const UNITS: &[(&str, u8, &str)] = &[
         "0 lddw r0, 1234605616436508552\n2 be16 r0\n3 exit\n",
     ),
     ("", 1, "refused C8 unit 0\n"),
-    ("180100000000000000000000000000008701010000000000", 1, "refused C3 unit 2\n"),
+    (
+        "180100000000000000000000000000008701010000000000",
+        1,
+        "refused C3 unit 2\n",
+    ),
 ];
 
 #[test]
@@ -417,7 +427,10 @@ fn units_are_told(rt: HostRuntime) -> Result<(), Fail> {
     let alloc = rt.alloc();
     let task = Task::DisassembleUnits(String::from_str(alloc, "p.bin")?);
     for &(code, status, lines) in UNITS {
-        assert!(rt; answers_code(&rt, alloc, &task, code, (status, lines)), "{code}");
+        assert!(rt;
+            answers_code(&rt, alloc, &task, code, (status, lines)),
+            "{code}"
+        );
     }
     Ok(())
 }
@@ -516,11 +529,7 @@ const FORMS: &[([&str; 3], u8, &str)] = &[
     (["14", "1", "0"], 1, "refused B2 line 1\n"),
     (["3", "2", "0"], 1, "refused B2 line 1\n"),
     (["4", "1", "4"], 1, "refused B2 line 1\n"),
-    (
-        ["4", "1", "18446744073709551616"],
-        1,
-        "refused B2 line 1\n",
-    ),
+    (["4", "1", "18446744073709551616"], 1, "refused B2 line 1\n"),
     (["four", "1", "0"], 1, "refused B1 line 1\n"),
     (["4", "01", "0"], 1, "refused B1 line 1\n"),
     (["4", "1", ""], 1, "refused B1 line 1\n"),
@@ -535,7 +544,10 @@ fn tables_to_fill_in_are_printed(rt: HostRuntime) -> Result<(), Fail> {
             bound: String::from_str(alloc, bound)?,
             commander: String::from_str(alloc, commander)?,
         };
-        assert!(rt; answers(&rt, alloc, &task, File::of(""), (status, text)), "{text}");
+        assert!(rt;
+            answers(&rt, alloc, &task, File::of(""), (status, text)),
+            "{text}"
+        );
     }
     Ok(())
 }
@@ -602,7 +614,10 @@ fn what_bytes_seem_to_be_is_told(rt: HostRuntime) -> Result<(), Fail> {
     let alloc = rt.alloc();
     let task = Task::Check(String::from_str(alloc, "p.bin")?);
     for &(bytes, fault) in LIKENESSES {
-        assert!(rt; answers(&rt, alloc, &task, File::Bytes(bytes), (1, fault)), "{fault}");
+        assert!(rt;
+            answers(&rt, alloc, &task, File::Bytes(bytes), (1, fault)),
+            "{fault}"
+        );
     }
     Ok(())
 }

@@ -193,16 +193,8 @@ const REFUSED: &[(&[&str], ErrorKind, i32)] = &[
         ErrorKind::ArgumentConflict,
         2,
     ),
-    (
-        &["asm", "-of", "p", "-og"],
-        ErrorKind::ArgumentConflict,
-        2,
-    ),
-    (
-        &["check", "--asm=1", "p"],
-        ErrorKind::TooManyValues,
-        2,
-    ),
+    (&["asm", "-of", "p", "-og"], ErrorKind::ArgumentConflict, 2),
+    (&["check", "--asm=1", "p"], ErrorKind::TooManyValues, 2),
     (&["asm", "p", "-o"], ErrorKind::InvalidValue, 2),
     (&["book", "t", "--traitors"], ErrorKind::InvalidValue, 2),
     // an option of another subcommand
@@ -326,10 +318,7 @@ const PRINTED: &[(&[&str], &str)] = &[
     (&["--help"], "audit"),
     // each usage begins with the program
     (&["--help"], "table"),
-    (
-        &["check", "--help"],
-        "Usage: byzlab check [OPTIONS] <FILE>",
-    ),
+    (&["check", "--help"], "Usage: byzlab check [OPTIONS] <FILE>"),
     (&["asm", "--asm"], "Usage: byzlab asm [OPTIONS] <FILE>"),
     (&["asm", "--help"], "-o <FILE>"),
     (&["book", "--help"], "--traitors <G,H>"),

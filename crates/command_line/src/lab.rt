@@ -110,9 +110,24 @@ fn table_command<'a>(alloc: Global) -> Result<Command<'a>, AllocError>
     ensures app { IfOk result (λ c. app_of c ≡ table_app) }
     ensures local { IfOk result (λ c. (out-Command c).has_globals ≡ false) }
 {
-    let generals = required_argument(alloc, "file", "GENERALS", "How many generals there are, 2 to 13");
-    let bound = required_argument(alloc, "second", "BOUND", "The greatest number of traitors, 0 to 4");
-    let commander = required_argument(alloc, "third", "COMMANDER", "The commander's number, from 0");
+    let generals = required_argument(
+        alloc,
+        "file",
+        "GENERALS",
+        "How many generals there are, 2 to 13",
+    );
+    let bound = required_argument(
+        alloc,
+        "second",
+        "BOUND",
+        "The greatest number of traitors, 0 to 4",
+    );
+    let commander = required_argument(
+        alloc,
+        "third",
+        "COMMANDER",
+        "The commander's number, from 0",
+    );
     Command::new(alloc, "table")
         .about("Prints a message table to fill in")
         .arg(generals)?
@@ -125,7 +140,9 @@ fn bare_command<'a>(alloc: Global) -> Result<Command<'a>, AllocError>
     ensures { IfOk result (λ c. app_of c ≡ bare_app) }
 {
     Command::new(alloc, "byzlab")
-        .about("A laboratory for the Byzantine generals problem; a hyphen as a file is standard input")
+        .about(
+            "A laboratory for the Byzantine generals problem; a hyphen as a file is standard input",
+        )
         .version(VERSION)
         .no_binary_name(true)
         .subcommand_required(true)

@@ -124,7 +124,11 @@ fn is_true(text: Option<&str>) -> bool
 fn spelling(switched: bool) -> Spelling
     ensures { is_raw result ≡ switched }
 {
-    if switched { Spelling::Raw } else { Spelling::Hex }
+    if switched {
+        Spelling::Raw
+    } else {
+        Spelling::Hex
+    }
 }
 
 /// A text of its own.

@@ -21,7 +21,10 @@ pub enum Task {
     /// Compute the decisions of a message table.
     Book(String),
     /// Tell how they come about, where these generals are named as traitors.
-    Explain { table: String, traitors: Vec<u8> },
+    Explain {
+        table: String,
+        traitors: Vec<u8>,
+    },
     /// Print a message table to fill in, for these numbers of a campaign.
     Form {
         generals: String,

@@ -31,7 +31,12 @@ pub fn formed(
     let Some(commander) = decimal(commander.as_bytes()) else {
         return Err(Refusal::Table(TableError::Line(1)));
     };
-    Ok(form(alloc, narrowed(generals), narrowed(bound), narrowed(commander))?)
+    Ok(form(
+        alloc,
+        narrowed(generals),
+        narrowed(bound),
+        narrowed(commander),
+    )?)
 }
 
 /// The number, and in place of one past 64 bits the largest of 64: both are out of every limit.
