@@ -5,9 +5,10 @@ use Rattle.std.specs.List.{enumerate_from}
 use Rattle.std.proofs.lemmas.Bool.{cases_Bool, cases_eq, false≢true, and_parts, and_from, not-true, not_from_false, eqb-true, ne_eqb}
 use Rattle.std.proofs.lemmas.Bool.Decides.{eqb_tells}
 use Rattle.std.proofs.lemmas.List.Sums.{sum_by-cons}
-use Rattle.semantics.specs.Relay.{Relay}
+use Rattle.label.specs.declared.shape.Shape.{Shape}
+use Rattle.semantics.specs.Relay.{IsRelay, Kind, Oral, Signed, Relay, labels_told, relayed}
 use Rattle.label.specs.Labels.{on, is_distinct, generals, others, labels}
-use Rattle.label.specs.Relay.{relay, receivers}
+use Rattle.label.specs.Relay.{IsShape, relay, receivers}
 use Rattle.label.proofs.Counting.{on-filter, range-distinct}
 use Rattle.label.proofs.Bounds.{labels-few, most}
 use Rattle.semantics.specs.Outbox.{Place, Choice, places_set, at_place, along_row, at_receiver, as_taken, taken_value}
@@ -73,10 +74,10 @@ row_once choice receiver by k b (n ∷ ns) d =
     (by (record { rank = k; number = b; receiver = n }))
     (row_once choice receiver by k (b + 1) ns both.1))
 
-row_one : (choice : Choice) (receiver : ℕ) → GoesBy choice receiver → (s : Relay) (k : ℕ) (w : List ℕ) → sets choice (row_from k 0 (receivers s w)) ≤ 1
+row_one : (choice : Choice) (receiver : ℕ) → GoesBy choice receiver → (s : Relay) (k : ℕ) (w : List ℕ) → sets choice (row_from k 0 (receivers s.shape w)) ≤ 1
 row_one choice receiver by s k w =
-    let most_once : sets choice (row_from k 0 (receivers s w)) ≤ cond (on (receivers s w) receiver) 1 0 = row_once choice receiver by k 0 (receivers s w) (others-distinct s.generals (w ++ s.general ∷ [])) in
-    let one : cond (on (receivers s w) receiver) 1 0 ≤ 1 = bit (on (receivers s w) receiver) in
+    let most_once : sets choice (row_from k 0 (receivers s.shape w)) ≤ cond (on (receivers s.shape w) receiver) 1 0 = row_once choice receiver by k 0 (receivers s.shape w) (others-distinct s.shape.generals (w ++ s.shape.general ∷ [])) in
+    let one : cond (on (receivers s.shape w) receiver) 1 0 ≤ 1 = bit (on (receivers s.shape w) receiver) in
     omega arith
   where
     bit : (b : Bool) → cond b 1 0 ≤ 1
@@ -85,7 +86,7 @@ row_one choice receiver by s k w =
 
 -- the rows, from a rank on
 abbrev pub rows_from : Relay → ℕ → List (List ℕ) → List (List Place)
-rows_from s a ws = map (λ label. row_from label.0 0 (receivers s label.1)) (enumerate_from a ws)
+rows_from s a ws = map (λ label. row_from label.0 0 (receivers s.shape label.1)) (enumerate_from a ws)
 
 abbrev pub sets_in : Choice → List (List Place) → ℕ
 sets_in choice rows = sum_by (λ row. sets choice row) rows
@@ -93,29 +94,29 @@ sets_in choice rows = sum_by (λ row. sets choice row) rows
 pub sets_in-cons : (choice : Choice) (row : List Place) (rows : List (List Place)) → sets_in choice (row ∷ rows) ≡ sets choice row + sets_in choice rows
 sets_in-cons choice row rows = sum_by-cons (λ r. sets choice r) row rows
 
-one_each : (choice : Choice) (s : Relay) → ((k : ℕ) (w : List ℕ) → sets choice (row_from k 0 (receivers s w)) ≤ 1) → (a : ℕ) (ws : List (List ℕ)) → sets_in choice (rows_from s a ws) ≤ length ws
+one_each : (choice : Choice) (s : Relay) → ((k : ℕ) (w : List ℕ) → sets choice (row_from k 0 (receivers s.shape w)) ≤ 1) → (a : ℕ) (ws : List (List ℕ)) → sets_in choice (rows_from s a ws) ≤ length ws
 one_each choice s few a [] = omega arith
 one_each choice s few a (w ∷ ws) =
-    let here : sets choice (row_from a 0 (receivers s w)) ≤ 1 = few a w in
+    let here : sets choice (row_from a 0 (receivers s.shape w)) ≤ 1 = few a w in
     let rest : sets_in choice (rows_from s (a + 1) ws) ≤ length ws = one_each choice s few (a + 1) ws in
-    rw (sets_in-cons choice (row_from a 0 (receivers s w)) (rows_from s (a + 1) ws)) (omega arith)
+    rw (sets_in-cons choice (row_from a 0 (receivers s.shape w)) (rows_from s (a + 1) ws)) (omega arith)
 
 -- a choice of one label sets no other row
-no_row : (choice : Choice) (s : Relay) (label : ℕ) → ((k : ℕ) (w : List ℕ) → k ≢ label → sets choice (row_from k 0 (receivers s w)) ≡ 0) → (a : ℕ) (ws : List (List ℕ)) → label < a → sets_in choice (rows_from s a ws) ≡ 0
+no_row : (choice : Choice) (s : Relay) (label : ℕ) → ((k : ℕ) (w : List ℕ) → k ≢ label → sets choice (row_from k 0 (receivers s.shape w)) ≡ 0) → (a : ℕ) (ws : List (List ℕ)) → label < a → sets_in choice (rows_from s a ws) ≡ 0
 no_row choice s label misses a [] l = refl
 no_row choice s label misses a (w ∷ ws) l =
-    let here : sets choice (row_from a 0 (receivers s w)) ≡ 0 = misses a w (λ e. omega arith) in
+    let here : sets choice (row_from a 0 (receivers s.shape w)) ≡ 0 = misses a w (λ e. omega arith) in
     let rest : sets_in choice (rows_from s (a + 1) ws) ≡ 0 = no_row choice s label misses (a + 1) ws (omega arith) in
-    rw (sets_in-cons choice (row_from a 0 (receivers s w)) (rows_from s (a + 1) ws)) (omega arith)
+    rw (sets_in-cons choice (row_from a 0 (receivers s.shape w)) (rows_from s (a + 1) ws)) (omega arith)
 
-one_row : (choice : Choice) (s : Relay) (label m : ℕ) → ((k : ℕ) (w : List ℕ) → k ≢ label → sets choice (row_from k 0 (receivers s w)) ≡ 0) → ((k : ℕ) (w : List ℕ) → sets choice (row_from k 0 (receivers s w)) ≤ m) → (a : ℕ) (ws : List (List ℕ)) → sets_in choice (rows_from s a ws) ≤ m
+one_row : (choice : Choice) (s : Relay) (label m : ℕ) → ((k : ℕ) (w : List ℕ) → k ≢ label → sets choice (row_from k 0 (receivers s.shape w)) ≡ 0) → ((k : ℕ) (w : List ℕ) → sets choice (row_from k 0 (receivers s.shape w)) ≤ m) → (a : ℕ) (ws : List (List ℕ)) → sets_in choice (rows_from s a ws) ≤ m
 one_row choice s label m misses few a [] = omega arith
 one_row choice s label m misses few a (w ∷ ws) =
-    let here : sets choice (row_from a 0 (receivers s w)) ≤ m = few a w in
-    rw (sets_in-cons choice (row_from a 0 (receivers s w)) (rows_from s (a + 1) ws)) (elim (cases_eq a label) [
+    let here : sets choice (row_from a 0 (receivers s.shape w)) ≤ m = few a w in
+    rw (sets_in-cons choice (row_from a 0 (receivers s.shape w)) (rows_from s (a + 1) ws)) (elim (cases_eq a label) [
       | inl same ↦ let rest : sets_in choice (rows_from s (a + 1) ws) ≡ 0 = no_row choice s label misses (a + 1) ws (omega arith) in omega arith
       | inr ne ↦
-          let none : sets choice (row_from a 0 (receivers s w)) ≡ 0 = misses a w ne in
+          let none : sets choice (row_from a 0 (receivers s.shape w)) ≡ 0 = misses a w ne in
           let rest : sets_in choice (rows_from s (a + 1) ws) ≤ m = one_row choice s label m misses few (a + 1) ws in
           omega arith
     ])
@@ -133,16 +134,16 @@ bit_both false false x = omega arith
 sent_few : (s : Relay) (label receiver order : ℕ) → places_set s (at_place label receiver order) ≤ 1
 sent_few s label receiver order =
     one_row (at_place label receiver order) s label 1
-    (λ k w ne. row_none (at_place label receiver order) k (λ b n. ap (λ t. is_some (if t && (n == receiver) then Some order else None)) (ne_eqb k label ne)) 0 (receivers s w))
-    (row_one (at_place label receiver order) receiver (λ p. bit_both (p.rank == label) (p.receiver == receiver) order) s) 0 (relay s)
+    (λ k w ne. row_none (at_place label receiver order) k (λ b n. ap (λ t. is_some (if t && (n == receiver) then Some order else None)) (ne_eqb k label ne)) 0 (receivers s.shape w))
+    (row_one (at_place label receiver order) receiver (λ p. bit_both (p.rank == label) (p.receiver == receiver) order) s) 0 (relayed s)
 
-swayed_few : (s : Relay) (receiver order : ℕ) → places_set s (at_receiver receiver order) ≤ length (relay s)
+swayed_few : (s : Relay) (receiver order : ℕ) → places_set s (at_receiver receiver order) ≤ length (relayed s)
 swayed_few s receiver order =
-    one_each (at_receiver receiver order) s (row_one (at_receiver receiver order) receiver (λ p. bit_of (p.receiver == receiver) order) s) 0 (relay s)
+    one_each (at_receiver receiver order) s (row_one (at_receiver receiver order) receiver (λ p. bit_of (p.receiver == receiver) order) s) 0 (relayed s)
 
-taken_few : (s : Relay) (context : List ℕ) (receiver : ℕ) → places_set s (as_taken context receiver) ≤ length (relay s)
+taken_few : (s : Relay) (context : List ℕ) (receiver : ℕ) → places_set s (as_taken context receiver) ≤ length (relayed s)
 taken_few s context receiver =
-    one_each (as_taken context receiver) s (row_one (as_taken context receiver) receiver (λ p. bit_of (p.receiver == receiver) (taken_value context p.rank)) s) 0 (relay s)
+    one_each (as_taken context receiver) s (row_one (as_taken context receiver) receiver (λ p. bit_of (p.receiver == receiver) (taken_value context p.rank)) s) 0 (relayed s)
 
 present : (orders : List ℕ) (b : ℕ) → cond (is_some (slice_get orders b)) 1 0 + (length orders - (b + 1)) ≤ length orders - b
 present [] b = omega arith
@@ -162,8 +163,8 @@ row_along label orders k b (n ∷ ns) =
 along_few : (s : Relay) (label : ℕ) (orders : List ℕ) → places_set s (along_row label orders) ≤ length orders
 along_few s label orders =
     one_row (along_row label orders) s label (length orders)
-    (λ k w ne. row_none (along_row label orders) k (λ b n. ap (λ t. is_some (if t then slice_get orders b else None)) (ne_eqb k label ne)) 0 (receivers s w))
-    (λ k w. omega (arith, row_along label orders k 0 (receivers s w))) 0 (relay s)
+    (λ k w ne. row_none (along_row label orders) k (λ b n. ap (λ t. is_some (if t then slice_get orders b else None)) (ne_eqb k label ne)) 0 (receivers s.shape w))
+    (λ k w. omega (arith, row_along label orders k 0 (receivers s.shape w))) 0 (relayed s)
 
 pub few_places : FewPlacesAreSet
 few_places = record { sent = sent_few; along = along_few; swayed = swayed_few; taken = taken_few }
@@ -185,8 +186,8 @@ unfolding labels
 round_few n c p zero short inside within ne l = omega arith
 round_few n c p (suc k) short inside within ne l = omega (arith, labels-few n c p k short inside within ne, most_few k (omega arith))
 
-pub relays_few : RelaysAreFew
-relays_few s a =
+shape_few : (s : Shape) → IsShape s → length (relay s) ≤ 990
+shape_few s a =
     let short : s.generals ≤ 13 = a.few in
     let inside : s.commander < s.generals = a.commander in
     let within : s.general < s.generals = a.general in
@@ -195,6 +196,13 @@ relays_few s a =
       | inl same ↦ rw same.0 (first_only (s.round == 1) [])
       | inr apart ↦ rw apart.0 (round_few s.generals s.commander s.general (s.round - 1) short inside within apart.1 (omega arith))
     ]
+
+told_few : (kind : Kind) (s : Shape) → IsShape s → length (labels_told kind s) ≤ 990
+told_few Oral s a = shape_few s a
+told_few (Signed held) s a = omega arith
+
+pub relays_few : RelaysAreFew
+relays_few r a = told_few r.kind r.shape a
 
 pub ranges_kept : RangesAreKept
 ranges_kept = record {
