@@ -74,10 +74,10 @@ row_once choice receiver by k b (n ∷ ns) d =
     (by (record { rank = k; number = b; receiver = n }))
     (row_once choice receiver by k (b + 1) ns both.1))
 
-row_one : (choice : Choice) (receiver : ℕ) → GoesBy choice receiver → (s : Relay) (k : ℕ) (w : List ℕ) → sets choice (row_from k 0 (receivers s.shape w)) ≤ 1
+row_one : (choice : Choice) (receiver : ℕ) → GoesBy choice receiver → (s : Shape) (k : ℕ) (w : List ℕ) → sets choice (row_from k 0 (receivers s w)) ≤ 1
 row_one choice receiver by s k w =
-    let most_once : sets choice (row_from k 0 (receivers s.shape w)) ≤ cond (on (receivers s.shape w) receiver) 1 0 = row_once choice receiver by k 0 (receivers s.shape w) (others-distinct s.shape.generals (w ++ s.shape.general ∷ [])) in
-    let one : cond (on (receivers s.shape w) receiver) 1 0 ≤ 1 = bit (on (receivers s.shape w) receiver) in
+    let most_once : sets choice (row_from k 0 (receivers s w)) ≤ cond (on (receivers s w) receiver) 1 0 = row_once choice receiver by k 0 (receivers s w) (others-distinct s.generals (w ++ s.general ∷ [])) in
+    let one : cond (on (receivers s w) receiver) 1 0 ≤ 1 = bit (on (receivers s w) receiver) in
     omega arith
   where
     bit : (b : Bool) → cond b 1 0 ≤ 1
@@ -85,8 +85,8 @@ row_one choice receiver by s k w =
     bit false = omega arith
 
 -- the rows, from a rank on
-abbrev pub rows_from : Relay → ℕ → List (List ℕ) → List (List Place)
-rows_from s a ws = map (λ label. row_from label.0 0 (receivers s.shape label.1)) (enumerate_from a ws)
+abbrev pub rows_from : Shape → ℕ → List (List ℕ) → List (List Place)
+rows_from s a ws = map (λ label. row_from label.0 0 (receivers s label.1)) (enumerate_from a ws)
 
 abbrev pub sets_in : Choice → List (List Place) → ℕ
 sets_in choice rows = sum_by (λ row. sets choice row) rows
@@ -94,29 +94,29 @@ sets_in choice rows = sum_by (λ row. sets choice row) rows
 pub sets_in-cons : (choice : Choice) (row : List Place) (rows : List (List Place)) → sets_in choice (row ∷ rows) ≡ sets choice row + sets_in choice rows
 sets_in-cons choice row rows = sum_by-cons (λ r. sets choice r) row rows
 
-one_each : (choice : Choice) (s : Relay) → ((k : ℕ) (w : List ℕ) → sets choice (row_from k 0 (receivers s.shape w)) ≤ 1) → (a : ℕ) (ws : List (List ℕ)) → sets_in choice (rows_from s a ws) ≤ length ws
+one_each : (choice : Choice) (s : Shape) → ((k : ℕ) (w : List ℕ) → sets choice (row_from k 0 (receivers s w)) ≤ 1) → (a : ℕ) (ws : List (List ℕ)) → sets_in choice (rows_from s a ws) ≤ length ws
 one_each choice s few a [] = omega arith
 one_each choice s few a (w ∷ ws) =
-    let here : sets choice (row_from a 0 (receivers s.shape w)) ≤ 1 = few a w in
+    let here : sets choice (row_from a 0 (receivers s w)) ≤ 1 = few a w in
     let rest : sets_in choice (rows_from s (a + 1) ws) ≤ length ws = one_each choice s few (a + 1) ws in
-    rw (sets_in-cons choice (row_from a 0 (receivers s.shape w)) (rows_from s (a + 1) ws)) (omega arith)
+    rw (sets_in-cons choice (row_from a 0 (receivers s w)) (rows_from s (a + 1) ws)) (omega arith)
 
 -- a choice of one label sets no other row
-no_row : (choice : Choice) (s : Relay) (label : ℕ) → ((k : ℕ) (w : List ℕ) → k ≢ label → sets choice (row_from k 0 (receivers s.shape w)) ≡ 0) → (a : ℕ) (ws : List (List ℕ)) → label < a → sets_in choice (rows_from s a ws) ≡ 0
+no_row : (choice : Choice) (s : Shape) (label : ℕ) → ((k : ℕ) (w : List ℕ) → k ≢ label → sets choice (row_from k 0 (receivers s w)) ≡ 0) → (a : ℕ) (ws : List (List ℕ)) → label < a → sets_in choice (rows_from s a ws) ≡ 0
 no_row choice s label misses a [] l = refl
 no_row choice s label misses a (w ∷ ws) l =
-    let here : sets choice (row_from a 0 (receivers s.shape w)) ≡ 0 = misses a w (λ e. omega arith) in
+    let here : sets choice (row_from a 0 (receivers s w)) ≡ 0 = misses a w (λ e. omega arith) in
     let rest : sets_in choice (rows_from s (a + 1) ws) ≡ 0 = no_row choice s label misses (a + 1) ws (omega arith) in
-    rw (sets_in-cons choice (row_from a 0 (receivers s.shape w)) (rows_from s (a + 1) ws)) (omega arith)
+    rw (sets_in-cons choice (row_from a 0 (receivers s w)) (rows_from s (a + 1) ws)) (omega arith)
 
-one_row : (choice : Choice) (s : Relay) (label m : ℕ) → ((k : ℕ) (w : List ℕ) → k ≢ label → sets choice (row_from k 0 (receivers s.shape w)) ≡ 0) → ((k : ℕ) (w : List ℕ) → sets choice (row_from k 0 (receivers s.shape w)) ≤ m) → (a : ℕ) (ws : List (List ℕ)) → sets_in choice (rows_from s a ws) ≤ m
+one_row : (choice : Choice) (s : Shape) (label m : ℕ) → ((k : ℕ) (w : List ℕ) → k ≢ label → sets choice (row_from k 0 (receivers s w)) ≡ 0) → ((k : ℕ) (w : List ℕ) → sets choice (row_from k 0 (receivers s w)) ≤ m) → (a : ℕ) (ws : List (List ℕ)) → sets_in choice (rows_from s a ws) ≤ m
 one_row choice s label m misses few a [] = omega arith
 one_row choice s label m misses few a (w ∷ ws) =
-    let here : sets choice (row_from a 0 (receivers s.shape w)) ≤ m = few a w in
-    rw (sets_in-cons choice (row_from a 0 (receivers s.shape w)) (rows_from s (a + 1) ws)) (elim (cases_eq a label) [
+    let here : sets choice (row_from a 0 (receivers s w)) ≤ m = few a w in
+    rw (sets_in-cons choice (row_from a 0 (receivers s w)) (rows_from s (a + 1) ws)) (elim (cases_eq a label) [
       | inl same ↦ let rest : sets_in choice (rows_from s (a + 1) ws) ≡ 0 = no_row choice s label misses (a + 1) ws (omega arith) in omega arith
       | inr ne ↦
-          let none : sets choice (row_from a 0 (receivers s.shape w)) ≡ 0 = misses a w ne in
+          let none : sets choice (row_from a 0 (receivers s w)) ≡ 0 = misses a w ne in
           let rest : sets_in choice (rows_from s (a + 1) ws) ≤ m = one_row choice s label m misses few (a + 1) ws in
           omega arith
     ])
@@ -131,19 +131,19 @@ bit_both true e x = bit_of e x
 bit_both false true x = omega arith
 bit_both false false x = omega arith
 
-sent_few : (s : Relay) (label receiver order : ℕ) → places_set s (at_place label receiver order) ≤ 1
-sent_few s label receiver order =
-    one_row (at_place label receiver order) s label 1
-    (λ k w ne. row_none (at_place label receiver order) k (λ b n. ap (λ t. is_some (if t && (n == receiver) then Some order else None)) (ne_eqb k label ne)) 0 (receivers s.shape w))
-    (row_one (at_place label receiver order) receiver (λ p. bit_both (p.rank == label) (p.receiver == receiver) order) s) 0 (relayed s)
+sent_few : (r : Relay) (label receiver order : ℕ) → places_set r (at_place label receiver order) ≤ 1
+sent_few r label receiver order =
+    one_row (at_place label receiver order) r.shape label 1
+    (λ k w ne. row_none (at_place label receiver order) k (λ b n. ap (λ t. is_some (if t && (n == receiver) then Some order else None)) (ne_eqb k label ne)) 0 (receivers r.shape w))
+    (row_one (at_place label receiver order) receiver (λ p. bit_both (p.rank == label) (p.receiver == receiver) order) r.shape) 0 (relayed r)
 
-swayed_few : (s : Relay) (receiver order : ℕ) → places_set s (at_receiver receiver order) ≤ length (relayed s)
-swayed_few s receiver order =
-    one_each (at_receiver receiver order) s (row_one (at_receiver receiver order) receiver (λ p. bit_of (p.receiver == receiver) order) s) 0 (relayed s)
+swayed_few : (r : Relay) (receiver order : ℕ) → places_set r (at_receiver receiver order) ≤ length (relayed r)
+swayed_few r receiver order =
+    one_each (at_receiver receiver order) r.shape (row_one (at_receiver receiver order) receiver (λ p. bit_of (p.receiver == receiver) order) r.shape) 0 (relayed r)
 
-taken_few : (s : Relay) (context : List ℕ) (receiver : ℕ) → places_set s (as_taken context receiver) ≤ length (relayed s)
-taken_few s context receiver =
-    one_each (as_taken context receiver) s (row_one (as_taken context receiver) receiver (λ p. bit_of (p.receiver == receiver) (taken_value context p.rank)) s) 0 (relayed s)
+taken_few : (r : Relay) (context : List ℕ) (receiver : ℕ) → places_set r (as_taken context receiver) ≤ length (relayed r)
+taken_few r context receiver =
+    one_each (as_taken context receiver) r.shape (row_one (as_taken context receiver) receiver (λ p. bit_of (p.receiver == receiver) (taken_value context p.rank)) r.shape) 0 (relayed r)
 
 present : (orders : List ℕ) (b : ℕ) → cond (is_some (slice_get orders b)) 1 0 + (length orders - (b + 1)) ≤ length orders - b
 present [] b = omega arith
@@ -160,11 +160,11 @@ row_along label orders k b (n ∷ ns) =
     rw (sets-cons (along_row label orders) (record { rank = k; number = b; receiver = n }) (row_from k (b + 1) ns))
     (along_one (k == label) orders b (sets (along_row label orders) (row_from k (b + 1) ns)) (row_along label orders k (b + 1) ns))
 
-along_few : (s : Relay) (label : ℕ) (orders : List ℕ) → places_set s (along_row label orders) ≤ length orders
-along_few s label orders =
-    one_row (along_row label orders) s label (length orders)
-    (λ k w ne. row_none (along_row label orders) k (λ b n. ap (λ t. is_some (if t then slice_get orders b else None)) (ne_eqb k label ne)) 0 (receivers s.shape w))
-    (λ k w. omega (arith, row_along label orders k 0 (receivers s.shape w))) 0 (relayed s)
+along_few : (r : Relay) (label : ℕ) (orders : List ℕ) → places_set r (along_row label orders) ≤ length orders
+along_few r label orders =
+    one_row (along_row label orders) r.shape label (length orders)
+    (λ k w ne. row_none (along_row label orders) k (λ b n. ap (λ t. is_some (if t then slice_get orders b else None)) (ne_eqb k label ne)) 0 (receivers r.shape w))
+    (λ k w. omega (arith, row_along label orders k 0 (receivers r.shape w))) 0 (relayed r)
 
 pub few_places : FewPlacesAreSet
 few_places = record { sent = sent_few; along = along_few; swayed = swayed_few; taken = taken_few }
