@@ -50,7 +50,7 @@ pub record RunsAreSafe : Type 0 where
       IsSound program → IsContext context → IsRelay relay → AreFitting transcript → Runs k (started patience program context relay) transcript end → k ≤ length program
   pub untrapped : (patience : Option ℕ) (program : List Insn) (context : List ℕ) (relay : Relay) (k : ℕ) (transcript : List Access) (end : Activation) (cause : Cause) →
       IsSound program → IsContext context → IsRelay relay → AreFitting transcript → Runs k (started patience program context relay) transcript end →
-      has_ended end ≡ false → step end.program end.context end.shape end.state ≢ Trap cause
+      has_ended end ≡ false → step end.program end.context end.relay end.state ≢ Trap cause
 
 -- where a sound program has come by its accesses and has not exited, there the replies lead; and where its next step is the exit, the run of the replies has exited
 pub record RunsFollowAnswers : Type 0 where
