@@ -3,6 +3,7 @@ use Rattle.std.proofs.Common.{◌≡◌, ℕ, suc, ◌+◌, ◌<◌, ◌≤◌, 
 use Rattle.std.specs.Prelude.{slice_get}
 use Rattle.std.specs.List.{enumerate_from}
 use Rattle.label.specs.declared.shape.Shape.{Shape}
+use Rattle.semantics.specs.Relay.{oral}
 use Rattle.label.specs.Relay.{relay, receivers}
 use Rattle.semantics.specs.Outbox.{taken_value}
 use Rattle.semantics.proofs.PlacesLaws.{row_from}
@@ -59,7 +60,7 @@ told_is s before g is within le small =
     let shape = shape_of s g (suc (length before)) in
     let rows = number_rows shape (λ rank. taken_value (context_of s before g) rank) (value_of s before g) 0 (relay shape)
     (λ rank u at. (let z : 0 + rank ≡ rank = omega arith in ap (λ (n : ℕ). taken_value (context_of s before g) n) z ∙ value_is_told s before g rank u is within le at (small rank u at))) in
-    (λ i. record { shape = shape; rows = rows i })
+    (λ i. record { relay = oral shape; rows = rows i; entries = [] })
 
 -- so his letter is the loyal one
 pub letter_is : (s : Scenario) (before : List (List Letter)) (g : ℕ) → IsScenario s → g < s.generals → length before ≤ s.bound → AreWords s before g
@@ -71,5 +72,5 @@ letter_is s before g is within le small =
 pub proved_loyal_letters_follow : LoyalLettersFollow
 proved_loyal_letters_follow = record {
   letter = letter_is;
-  kept = λ context is. record { context = is; own = (refl, refl); shape = refl; run = (refl, refl, refl, refl) };
+  kept = λ context is. record { context = is; own = (refl, refl); shape = refl; kind = λ spoken. refl; run = (refl, refl, refl, refl) };
 }

@@ -97,8 +97,9 @@ pub letter_of_run : (general round : ℕ) (t : List Access) (a : Activation) →
 letter_of_run general round t a context own relay fit run = record {
   context = context;
   own = own;
-  relay = relay;
-  run = (fit, under None a, run_without a.patience a.program a.context a.relay t a run, refl, refl);
+  shape = ap (λ (r : Relay). r.shape) relay;
+  kind = λ spoken. ap (λ (r : Relay). r.kind) relay;
+  run = (fit, under None a, run_without a.patience a.program a.context a.relay t a run, refl, refl, refl);
 }
 
 -- an activation that is on its way, by its own parts
@@ -123,6 +124,7 @@ lived general round program context patience relay t a l told within way ended i
         way.fitting,
         under None a,
         subst (λ (x : Activation). Runs a.state.steps x t (under None a)) (λ i. started None program (sym s.context i) (sym s.relay i)) (run_without patience program context relay t a way.run),
+        refl,
         refl,
         refl,
       );
