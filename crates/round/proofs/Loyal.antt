@@ -10,7 +10,7 @@ use Rattle.semantics.proofs.PlacesLaws.{row_from}
 use Rattle.outbox.specs.Contents.{Contents}
 use Rattle.round.specs.Scenario.{Scenario, IsScenario, shape_of}
 use Rattle.round.specs.Letters.{Letter, telling}
-use Rattle.round.specs.Contexts.{AreWords, value_of, context_numbers, context_of, IsToldTo, shape_told, outbox_told, letter_told, loyal_letter}
+use Rattle.round.specs.Contexts.{AreWords, value_of, context_numbers, context_of, IsToldTo, shape_told, tells_oral, outbox_told, letter_told, loyal_letter}
 use Rattle.round.specs.Laws.{ContextsTell, LoyalLettersFollow}
 use Rattle.round.proofs.Telling.{number_at, value_is_told}
 
@@ -34,10 +34,18 @@ own_is_told s before g is inside le =
     let rounds = is.rounds in
     (number_at numbers 2 8 g refl (omega arith) refl (omega arith), number_at numbers 4 16 (suc (length before)) refl (omega arith) refl (omega arith))
 
+-- that orders are oral
+pub oral_is_told : (s : Scenario) (before : List (List Letter)) (g : ℕ) → IsScenario s → tells_oral (context_of s before g)
+oral_is_told s before g is =
+    let shape = shape_of s g (suc (length before)) in
+    let numbers : List ℕ = context_numbers shape s.bound (map (value_of s before g) (relay shape)) in
+    number_at numbers 7 28 0 refl (omega arith) refl (omega arith)
+
 pub proved_contexts_tell : ContextsTell
 proved_contexts_tell = record {
   own = own_is_told;
   shape = λ s before g is inside le. shape_is_told s before g (suc (length before)) is;
+  spoken = oral_is_told;
   values = value_is_told;
 }
 

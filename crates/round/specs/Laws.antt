@@ -11,15 +11,16 @@ use Rattle.semantics.specs.Reached.{Reached}
 use Rattle.board.specs.Board.{Access}
 use Rattle.round.specs.Scenario.{Scenario, IsScenario, shape_of}
 use Rattle.round.specs.Letters.{Letter}
-use Rattle.round.specs.Contexts.{AreWords, value_of, context_of, number_told, IsToldTo, shape_told, letter_told, loyal_letter}
+use Rattle.round.specs.Contexts.{AreWords, value_of, context_of, number_told, IsToldTo, shape_told, tells_oral, letter_told, loyal_letter}
 use Rattle.round.specs.Activation.{Activation, started, has_ended}
 use Rattle.round.specs.Runs.{Runs, IsWithin, AreFitting, IsLetter}
 
--- a context tells its general who he is, the round, whose relay he has, and what he took for each label that he relays
+-- a context tells its general who he is, the round, whose relay he has, that orders are oral, and what he took for each label that he relays
 pub record ContextsTell : Type 0 where
   pub own : (s : Scenario) (before : List (List Letter)) (g : ℕ) → IsScenario s → g < s.generals → length before ≤ s.bound → IsToldTo g (suc (length before)) (context_of s before g)
   pub shape : (s : Scenario) (before : List (List Letter)) (g : ℕ) → IsScenario s → g < s.generals → length before ≤ s.bound →
       shape_told g (suc (length before)) (context_of s before g) ≡ shape_of s g (suc (length before))
+  pub spoken : (s : Scenario) (before : List (List Letter)) (g : ℕ) → IsScenario s → tells_oral (context_of s before g)
   pub values : (s : Scenario) (before : List (List Letter)) (g rank : ℕ) (label : List ℕ) → IsScenario s → g < s.generals → length before ≤ s.bound →
       slice_get (relay (shape_of s g (suc (length before)))) rank ≡ Some label → value_of s before g label < 2 ^ 32 → taken_value (context_of s before g) rank ≡ value_of s before g label
 

@@ -14,9 +14,9 @@ loop-request-preserved c =
     let r = c.in-Board.ensures.advances answers (own_reached program context a c.loop-request.board c.loop-request.invariant) in
     let t = c.answer-activation.result in
     serves_on program context c.len-limit.result a t c.loop-request.board c.apply.new.self c.in-Board.request w (words_in c.in_ok-reply-in-Board.reply) c.bench_shape-shape.result c.bench_shape-shape.ensures.same
-    c.loop-request.invariant r c.answer-activation.ensures.shape c.answer-activation.ensures.resumed
-    (c.answer-activation.ensures.reached program context answers (last_reached program context a.shape answers c.len-limit.result a.state c.in-Board.request w r)
-    (last_asks program context a.shape answers c.len-limit.result a.state c.in-Board.request w r))
+    c.loop-request.invariant r c.answer-activation.ensures.relay c.answer-activation.ensures.resumed
+    (c.answer-activation.ensures.reached program context answers (last_reached program context a.relay answers c.len-limit.result a.state c.in-Board.request w r)
+    (last_asks program context a.relay answers c.len-limit.result a.state c.in-Board.request w r))
     (c.answer-activation.ensures.of_run program context c.in-Board.ensures.of_run.1) c.in_ok-reply-in-Board.ensures.answer c.in_ok-reply-in-Board.ensures.fits c.in_ok-reply-in-Board.ensures.opening c.in_ok-reply-in-Board.ensures.entered
 
 pub loop-request-smaller : goal.loop-request-smaller
