@@ -215,10 +215,6 @@ const ILL_SCHEDULES: &[(File<'static>, &str)] = &[
     (File::Bytes(b"0 1\n0  1\n"), "refused X1 line 2\n"),
     (File::Bytes(b"0*0"), "refused X1 line 1\n"),
     (File::Bytes(b"\n\n\n\n\n\n"), "refused X1 line 6\n"),
-    // Nothing behind the limit of 1,048,576 bytes is read.
-    (File::Cut(1_100_000), "refused X1 line 1\n"),
-    (File::Cut(1_048_576), "fault read s.txt\n"),
-    (File::Filled(0xff, 1_100_000), "fault text s.txt\n"),
 ];
 
 #[test]

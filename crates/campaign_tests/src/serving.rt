@@ -13,10 +13,6 @@ use std::thread::Threads;
 pub(crate) enum File<'a> {
     Bytes(&'a [u8]),
     Broken,
-    /// So many times this byte.
-    Filled(u8, usize),
-    /// So many zeros, behind which it fails.
-    Cut(usize),
 }
 
 impl<'a> File<'a> {
@@ -30,19 +26,9 @@ impl Read for File<'_> {
     fn read(&mut self, buf: &mut [u8]) -> io::Result<usize> {
         match self {
             File::Bytes(bytes) => bytes.read(buf),
-            File::Broken | File::Cut(0) => Err(io::Error::from(ErrorKind::Other)),
-            File::Cut(left) => Ok(fill(buf, 0, left)),
-            File::Filled(byte, left) => Ok(fill(buf, *byte, left)),
+            File::Broken => Err(io::Error::from(ErrorKind::Other)),
         }
     }
-}
-
-/// Gives as many of the bytes that are left as there is room for, all of them this one.
-fn fill(buf: &mut [u8], byte: u8, left: &mut usize) -> usize {
-    let given = buf.len().min(*left);
-    buf[..given].fill(byte);
-    *left -= given;
-    given
 }
 
 /// What a task prints, what is told of a fault, and its status.
@@ -429,39 +415,6 @@ fn tables_are_decided(rt: HostRuntime) -> Result<(), Fail> {
         assert!(rt;
             answers(&rt, alloc, &task, File::Bytes(table), (status, lines)),
             "{lines}"
-        );
-    }
-    Ok(())
-}
-
-/// How many zeros a file of bytecode has, and what is told of them.
-const LENGTHS: &[(usize, &str)] = &[
-    (32_768, "refused C2 unit 0\n"),
-    (32_769, "refused C1 unit 4096\n"),
-    (32_776, "refused C8 unit 0\n"),
-    (1_000_000, "refused C8 unit 0\n"),
-    (1_000_003, "refused C1 unit 125000\n"),
-];
-
-#[test]
-fn long_bytecode_is_refused_by_its_length(rt: HostRuntime) -> Result<(), Fail> {
-    let alloc = rt.alloc();
-    let check = Task::Check(String::from_str(alloc, "p.bin")?);
-    let disassemble = Task::Disassemble(String::from_str(alloc, "p.bin")?);
-    for &(length, fault) in LENGTHS {
-        assert!(rt;
-            answers(&rt, alloc, &check, File::Filled(0, length), (1, fault)),
-            "{length}"
-        );
-        assert!(rt;
-            answers(
-                &rt,
-                alloc,
-                &disassemble,
-                File::Filled(0, length),
-                (1, fault)
-            ),
-            "{length}"
         );
     }
     Ok(())
