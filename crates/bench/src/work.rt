@@ -184,7 +184,7 @@ fn served(
 /// The board answers an activation's request.
 fn answer(activation: &mut Activation, board: &mut Board, request: &Request) -> Result<()>
     ensures of_run { OnOk result ((program : List Insn) (context : List ℕ) →
-        IsAskOfRun program context (record { shape = activation.old.shape; request = request.now; last = before activation.old.state; state = activation.old.state }) →
+        IsAskOfRun program context (record { relay = activation.old.relay; request = request.now; last = before activation.old.state; state = activation.old.state }) →
         IsOfRun program context activation.new) }
 {
     let reply = board.apply(SHAPE.general, SHAPE.round, *request)?;

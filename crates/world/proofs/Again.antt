@@ -9,6 +9,7 @@ use Rattle.std.proofs.Math.Seq.{drop-append_seam}
 use Rattle.insn.specs.declared.insn.Insn.{Insn}
 use Rattle.board.specs.Board.{Access, words_after, IsLegal}
 use Rattle.world.specs.declared.event.Event.TheVariants.{Close}
+use Rattle.semantics.specs.Relay.{oral}
 use Rattle.round.specs.Scenario.{Scenario, IsScenario, program_of, shape_of}
 use Rattle.round.specs.Letters.{Letter}
 use Rattle.round.specs.Contexts.{context_of, loyal_letter}
@@ -118,12 +119,13 @@ each_is letters f h (suc n) le =
 
 -- the letter of an activation that has come to its end, and of a loyal general
 letter_acting : (s : Scenario) (closed : List (List Letter)) (piece ledger : List Access) (w : World) (g : ℕ) (l : Letter) (a : Activation) (o : Option (List Insn)) → program_of s g ≡ o → Fits o (Acting a)
-    → w.scenario ≡ s → w.closed ≡ closed → drop w.opened w.ledger ≡ piece → IsLetterOf s closed g o l → accesses_of g piece ≡ l.transcript → (l.steps ≡ a.state.steps) × (l.outbox.rows ≡ a.state.outbox) × (l.exited ≡ a.over)
+    → w.scenario ≡ s → w.closed ≡ closed → drop w.opened w.ledger ≡ piece → IsLetterOf s closed g o l → accesses_of g piece ≡ l.transcript → (l.steps ≡ a.state.steps) × (l.outbox.rows ≡ a.state.outbox) × (l.exited ≡ a.over) × (l.outbox.entries ≡ a.state.entries)
     → letters_at w g (Some (Acting a)) ≡ l ∷ []
 letter_acting s closed piece ledger w g l a None is fits sc cl op letter tr end = absurd fits
 letter_acting s closed piece ledger w g l a (Some program) is fits sc cl op letter tr end =
-    let made : l ≡ record { general = g; round = suc (length closed); context = context_of s closed g; program = Some program; transcript = l.transcript; steps = l.steps; outbox = record { shape = shape_of s g (suc (length closed)); rows = letter.0.state.outbox }; exited = letter.0.over } = letter.2 in
+    let made : l ≡ record { general = g; round = suc (length closed); context = context_of s closed g; program = Some program; transcript = l.transcript; steps = l.steps; outbox = record { relay = oral (shape_of s g (suc (length closed))); rows = letter.0.state.outbox; entries = letter.0.state.entries }; exited = letter.0.over } = letter.2 in
     let outbox : a.state.outbox ≡ letter.0.state.outbox = sym end.1 ∙ ap (λ (m : Letter). m.outbox.rows) made in
+    let entries : a.state.entries ≡ letter.0.state.entries = sym end.3 ∙ ap (λ (m : Letter). m.outbox.entries) made in
     let program_is : program_of w.scenario g ≡ Some program = ap (λ (v : Scenario). program_of v g) sc ∙ is in
     (λ i. record {
       general = g;
@@ -132,7 +134,7 @@ letter_acting s closed piece ledger w g l a (Some program) is fits sc cl op lett
       program = program_is i;
       transcript = (ap (accesses_of g) op ∙ tr) i;
       steps = (sym end.0) i;
-      outbox = record { shape = shape_of (sc i) g (suc (length (cl i))); rows = outbox i };
+      outbox = record { relay = oral (shape_of (sc i) g (suc (length (cl i)))); rows = outbox i; entries = entries i };
       exited = (sym end.2 ∙ ap (λ (m : Letter). m.exited) made) i;
     } ∷ []) ∙ ap (λ (m : Letter). m ∷ []) (sym made)
 

@@ -9,6 +9,7 @@ use Rattle.insn.specs.declared.insn.Insn.{Insn}
 use Rattle.board.specs.Board.{Access, IsBoard}
 use Rattle.semantics.specs.Relay.{IsContext}
 use Rattle.label.proofs.Ranks.{get_left, get_right}
+use Rattle.semantics.specs.Relay.{oral}
 use Rattle.round.specs.Scenario.{Scenario, IsScenario, program_of, shape_of}
 use Rattle.round.specs.Letters.{Letter}
 use Rattle.round.specs.Contexts.{context_of, loyal_letter, IsToldTo, shape_told}
@@ -113,7 +114,7 @@ ran s w g a m at =
 pub placed_at : (s : Scenario) (w : World) (g : ℕ) (a : Activation) → Ran s w g a → IsPlaced s w.closed g a
 placed_at s w g a r =
     let same = runs_settled a.state.steps _ _ a r.runs in
-    record { general = r.general; rounds = r.rounds; program = r.is ∙ ap Some (sym same.program); context = same.context; shape = same.shape; patience = same.patience }
+    record { general = r.general; rounds = r.rounds; program = r.is ∙ ap Some (sym same.program); context = same.context; relay = same.relay; patience = same.patience }
 
 run_at : (s : Scenario) (w : World) (g : ℕ) (a : Activation) → Ran s w g a → HasRun w g a
 run_at s w g a r =
@@ -153,7 +154,7 @@ letter_in s w sc more k m g lt (Some (Acting a)) e =
       program = program_of v g;
       transcript = t;
       steps = a.state.steps;
-      outbox = record { shape = shape_of v g (suc (length w.closed)); rows = a.state.outbox };
+      outbox = record { relay = oral (shape_of v g (suc (length w.closed))); rows = a.state.outbox; entries = a.state.entries };
       exited = a.over;
     } in
     let one : IsLetterIn s w.closed (l s) = record {
@@ -161,17 +162,17 @@ letter_in s w sc more k m g lt (Some (Acting a)) e =
       rounds = r.rounds;
       round = refl;
       context = refl;
-      shape = refl;
+      relay = refl;
       program = refl;
-      within = proved_patience_is_kept.within s.patience r.program context shape a.state.steps t a r.runs;
-      made = made_by s w.closed (l s) r.program r.is (r.fitting, under None a, runs_under None a.state.steps (started s.patience r.program context shape) t a tt r.runs, refl, refl);
+      within = proved_patience_is_kept.within s.patience r.program context (oral shape) a.state.steps t a r.runs;
+      made = made_by s w.closed (l s) r.program r.is (r.fitting, under None a, runs_under None a.state.steps (started s.patience r.program context (oral shape)) t a tt r.runs, refl, refl, refl);
     } in
     alone_all (λ x. IsLetterIn s w.closed x) (l w.scenario) (let A : Scenario → Type 0 = λ v. IsLetterIn s w.closed (l v) in subst A (sym sc) one)
 letter_in s w sc more k m g lt (Some Silent) e = none_all (λ l. IsLetterIn s w.closed l)
 letter_in s w sc more k m g lt (Some Posted) e =
     let fits : Fits (program_of s g) Posted = (let A : Scenario → Type 0 = λ v. Fits (program_of v g) Posted in subst A sc (k.parts g Posted e).1) in
     let none : program_of s g ≡ None = no_program (program_of s g) fits in
-    let one : IsLetterIn s w.closed (loyal_letter s w.closed g) = record { general = lt; rounds = more; round = refl; context = refl; shape = refl; program = sym none; made = refl; within = within_none s.patience } in
+    let one : IsLetterIn s w.closed (loyal_letter s w.closed g) = record { general = lt; rounds = more; round = refl; context = refl; relay = refl; program = sym none; made = refl; within = within_none s.patience } in
     alone_all (λ x. IsLetterIn s w.closed x) (loyal_letter w.scenario w.closed g) (let A : Scenario → Type 0 = λ v. IsLetterIn s w.closed (loyal_letter v w.closed g) in subst A (sym sc) one)
 
 -- what stands in the list of closed rounds, and the row behind it
