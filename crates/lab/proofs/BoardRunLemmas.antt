@@ -94,7 +94,7 @@ asks_way program context s asked t request ledger a way asks same is own fit =
     (same_here program context s t) (0, (refl, refl)) (same_here program context t t)
 
 -- it goes on from the board's answer
-pub serves_on : (program : List Insn) (context : List ℕ) (limit : ℕ) (a t : Standing) (b d : RecordedBoard) (request : Request) (w : Asking) (words : List ℕ) (own : Relay) → own ≡ oral bench_shape → IsServing program context a b →
+pub serves_on : (program : List Insn) (context : List ℕ) (limit : ℕ) (a t : Standing) (b d : RecordedBoard) (request : Request) (w : Asking) (words : List ℕ) (own : Shape) → own ≡ bench_shape → IsServing program context a b →
     Requests program context a.relay (replies b.ledger) limit a.state request w → t.relay ≡ w.relay → t.state ≡ resumed w.request words w.state → Reached program context t.relay (replies b.ledger ++ words ∷ []) t.state → IsOfRun program context t →
     words ≡ reply b.words request → fits request words ≡ true → d.opening ≡ b.opening → d.ledger ≡ b.ledger ++ record { general = own.general; round = own.round; request = request; reply = reply b.words request } ∷ [] → IsServing program context t d
 serves_on program context limit a t b d request w words own bench s r same is reached run answer fit opening entered =
