@@ -1,5 +1,5 @@
 //! A traitor's activation with what it runs on.
-ghost use Rattle.std.specs.Prelude.{◌≡◌, ◌<◌, ◌≤◌, List, length};
+ghost use Rattle.std.specs.Prelude.{◌≡◌, ◌<◌, ◌≤◌, List, [], length};
 ghost use Rattle.std.specs.Arc.{arc_value};
 ghost use Rattle.semantics.specs.Outbox.{empty_outbox};
 ghost use Rattle.semantics.specs.Relay.{IsContext};
