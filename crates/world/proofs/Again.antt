@@ -37,7 +37,7 @@ take-snoc (x ∷ ls) (suc n) l e = ap (λ ys. x ∷ ys) (take-snoc ls n l e)
 
 -- an activation's end is the one that a general's letter tells of
 abbrev pub Tells : List Letter → ℕ → Activation → Type 0
-Tells letters g end = (l : Letter) → slice_get letters g ≡ Some l → (l.steps ≡ end.state.steps) × (l.outbox.rows ≡ end.state.outbox) × (l.exited ≡ end.over)
+Tells letters g end = (l : Letter) → slice_get letters g ≡ Some l → (l.steps ≡ end.state.steps) × (l.outbox.rows ≡ end.state.outbox) × (l.exited ≡ end.over) × (l.outbox.entries ≡ end.state.entries)
 
 letter_within : (ls : List Letter) (g : ℕ) → g < length ls → (l : Letter) × (slice_get ls g ≡ Some l)
 letter_within [] g lt = absurd (omega arith)
@@ -57,18 +57,19 @@ module _ (s : Scenario) (closed : List (List Letter)) (piece : List Access) (let
       let both = round.each g l at in
       let A : Option (List Insn) → Type 0 = λ o. IsLetterOf s closed g o l in
       let is = subst A e both.0 in
-      let start = started None program (context_of s closed g) (shape_of s g (suc (length closed))) in
+      let start = started None program (context_of s closed g) (oral (shape_of s g (suc (length closed)))) in
       let steps : l.steps ≡ is.0.state.steps = (let n = runs_steps l.steps start l.transcript is.0 is.1 in omega arith) in
       let ended : l.exited ≡ is.0.over = ap (λ (x : Letter). x.exited) is.2 in
       record {
         k = l.steps;
         end = under s.patience is.0;
-        runs = (let B : List Access → Type 0 = λ t. Runs l.steps (started s.patience program (context_of s closed g) (shape_of s g (suc (length closed)))) t (under s.patience is.0) in
+        runs = (let B : List Access → Type 0 = λ t. Runs l.steps (started s.patience program (context_of s closed g) (oral (shape_of s g (suc (length closed))))) t (under s.patience is.0) in
             subst B (sym both.1) (runs_under s.patience l.steps start l.transcript is.0 (let W : ℕ → Type 0 = λ n. IsWithin s.patience n in subst W steps is.3) is.1));
         over = (λ i. sym ended i || is_reached s.patience (sym steps i)) ∙ is.4;
         is = λ m there.
             let same : l ≡ m = (let f = sym at ∙ there in cc) in
-            (ap (λ (x : Letter). x.steps) (sym same) ∙ steps, ap (λ (x : Letter). x.outbox.rows) (sym same) ∙ ap (λ (x : Letter). x.outbox.rows) is.2, ap (λ (x : Letter). x.exited) (sym same) ∙ ended);
+            (ap (λ (x : Letter). x.steps) (sym same) ∙ steps, ap (λ (x : Letter). x.outbox.rows) (sym same) ∙ ap (λ (x : Letter). x.outbox.rows) is.2, ap (λ (x : Letter). x.exited) (sym same) ∙ ended,
+            ap (λ (x : Letter). x.outbox.entries) (sym same) ∙ ap (λ (x : Letter). x.outbox.entries) is.2);
       }
 
   pub ways_begin : (b : Bool) → AllParts (Ways (Tells letters) piece) (cond b (each s.generals (λ g. begins s closed g (program_of s g) ∷ [])) [])
@@ -95,7 +96,7 @@ module _ (s : Scenario) (closed : List (List Letter)) (piece : List Access) (let
       let loyal : l ≡ loyal_letter s closed x.general = subst A is both.0 in
       let none : accesses_of x.general piece ≡ [] = both.1 ∙ ap (λ (m : Letter). m.transcript) loyal in
       absurd (of_has front rest x (ap (accesses_of x.general) (sym e) ∙ none))
-  acts_one front rest x e lt (Some program) is = (started s.patience program (context_of s closed x.general) (shape_of s x.general (suc (length closed))), refl)
+  acts_one front rest x e lt (Some program) is = (started s.patience program (context_of s closed x.general) (oral (shape_of s x.general (suc (length closed)))), refl)
 
   acts_from : (parts : List Part) → ((g : ℕ) → g < s.generals → slice_get parts g ≡ Some (begins s closed g (program_of s g)))
       → (front rest : List Access) → piece ≡ front ++ rest → AreBelow s.generals rest → Act parts rest

@@ -169,7 +169,7 @@ module _ (s : Scenario) (closed : List (List Letter)) (words : List ℕ) (ledger
 
   -- the activation with which a traitor's part began
   starts : (b : Bool) (g : ℕ) (a : Activation) (program : List Insn) → program_of s g ≡ Some program → slice_get (cond b (each s.generals (λ h. begins s closed h (program_of s h) ∷ [])) []) g ≡ Some (Acting a)
-      → started s.patience program (context_of s closed g) (shape_of s g (suc (length closed))) ≡ a
+      → started s.patience program (context_of s closed g) (oral (shape_of s g (suc (length closed)))) ≡ a
   starts true g a program is e =
       let h = each-get_only s.generals (λ j. begins s closed j (program_of s j)) g (Acting a) e in
       let f : Acting a ≡ begins s closed g (Some program) = h.1 ∙ ap (begins s closed g) is in cc
