@@ -52,7 +52,9 @@ helper_written (suc (suc (suc (suc (suc zero))))) word e = named (codes "send") 
 helper_written (suc (suc (suc (suc (suc (suc zero)))))) word e = named (codes "send_row") word 7 refl e
 helper_written (suc (suc (suc (suc (suc (suc (suc zero))))))) word e = named (codes "sway") word 8 refl e
 helper_written (suc (suc (suc (suc (suc (suc (suc (suc zero)))))))) word e = named (codes "honest") word 9 refl e
-helper_written (suc (suc (suc (suc (suc (suc (suc (suc (suc k))))))))) word e = absurd cc
+helper_written (suc (suc (suc (suc (suc (suc (suc (suc (suc zero))))))))) word e = named (codes "sign_order") word 10 refl e
+helper_written (suc (suc (suc (suc (suc (suc (suc (suc (suc (suc zero)))))))))) word e = named (codes "pass_on") word 11 refl e
+helper_written (suc (suc (suc (suc (suc (suc (suc (suc (suc (suc (suc k))))))))))) word e = absurd cc
 
 pub helpers_numbered : HelpersAreNumbered
-helpers_numbered = record { nine = refl; read = helper_read; written = helper_written }
+helpers_numbered = record { eleven = refl; read = helper_read; written = helper_written }

@@ -26,6 +26,10 @@ pub fn helper_named(name: &[u8]) -> Option<i32>
         Some(8)
     } else if name == b"honest".as_slice() {
         Some(9)
+    } else if name == b"sign_order".as_slice() {
+        Some(10)
+    } else if name == b"pass_on".as_slice() {
+        Some(11)
     } else {
         None
     }

@@ -12,7 +12,7 @@ pub fn mnemonics_are_named()
     ensures { MnemonicsAreNamed }
 {}
 
-/// Each of the nine helpers is read from its name, and from no other.
+/// Each of the eleven helpers is read from its name, and from no other.
 pub fn helpers_are_numbered()
     ensures { HelpersAreNumbered }
 {}

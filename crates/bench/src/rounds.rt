@@ -41,7 +41,7 @@ pub fn report_rounds<R: Print + Eprint + Clock + AllocGlobal>(rt: &R) -> Result<
 
 /// Whether the letter is of this round of the campaign.
 fn is_of_round(scenario: &Scenario, round: u32, letter: &Letter) -> bool
-    ensures { IsTrue result → ((letter.now.round ≡ round) × (letter.now.outbox.shape ≡ shape_of scenario.now letter.now.general round)) }
+    ensures { IsTrue result → ((letter.now.round ≡ round) × (letter.now.outbox.relay.shape ≡ shape_of scenario.now letter.now.general round)) }
 {
     let shape = letter.outbox.shape();
     letter.round == round

@@ -11,7 +11,7 @@ use board::Board;
 use codec::decode;
 use machine::{Activation, Stop};
 use mem::Context;
-use outbox::{Outbox, Shape as Relay};
+use outbox::{Outbox, Shape as RelayShape};
 use semantics::Request;
 use std::alloc::Global;
 use std::fmt;
@@ -23,7 +23,7 @@ use verify::{Verified, verify};
 pub const ACTIVATIONS: usize = 16;
 
 /// The last of 4 generals in the second round: he relays one label, to two receivers.
-const SHAPE: Relay = Relay {
+const SHAPE: RelayShape = RelayShape {
     generals: 4,
     commander: 0,
     general: 3,
@@ -184,7 +184,7 @@ fn served(
 /// The board answers an activation's request.
 fn answer(activation: &mut Activation, board: &mut Board, request: &Request) -> Result<()>
     ensures of_run { OnOk result ((program : List Insn) (context : List ℕ) →
-        IsAskOfRun program context (record { shape = activation.old.shape; request = request.now; last = before activation.old.state; state = activation.old.state }) →
+        IsAskOfRun program context (record { relay = activation.old.relay; request = request.now; last = before activation.old.state; state = activation.old.state }) →
         IsOfRun program context activation.new) }
 {
     let reply = board.apply(SHAPE.general, SHAPE.round, *request)?;

@@ -5,19 +5,20 @@ use Rattle.std.proofs.lemmas.Bool.{ltb-true, leb-true}
 use Rattle.insn.specs.declared.insn.Insn.{Insn}
 use Rattle.insn.specs.declared.insn.Insn.TheVariants as i
 use Rattle.insn.specs.Program.{instruction_at}
-use Rattle.label.specs.declared.shape.Shape.{Shape}
+use Rattle.semantics.specs.Relay.{Relay}
 use Rattle.semantics.specs.declared.value.Value.{Value}
 use Rattle.semantics.specs.declared.value.Value.TheVariants.{Unset, Number, Pointer}
 use Rattle.semantics.specs.declared.value.Cell.{Cell}
 use Rattle.semantics.specs.declared.request.Helper.{Helper}
-use Rattle.semantics.specs.declared.request.Helper.TheVariants.{BoardGet, BoardSwap, BoardAdd, BoardCas, BoardCopy, Send, SendRow, Sway, Honest}
+use Rattle.semantics.specs.declared.request.Helper.TheVariants.{BoardGet, BoardSwap, BoardAdd, BoardCas, BoardCopy, Send, SendRow, Sway, Honest, SignOrder, PassOn}
 use Rattle.semantics.specs.declared.request.Request.{Request}
 use Rattle.semantics.specs.declared.request.Request.TheVariants.{Get, Swap, Add, Cas, Copy}
+use Rattle.semantics.specs.declared.entry.Entry.{Entry}
 use Rattle.semantics.specs.State.{Cause, State, Outcome, Next, Ask, Exit, Trap, value_at, given}
 use Rattle.semantics.specs.Memory.{stack_place}
 use Rattle.semantics.specs.Outbox.{Choice}
 use Rattle.semantics.specs.Step.{assigned, changed, arrived, branched, exited}
-use Rattle.semantics.specs.Call.{below, pointer, copy_of, called, asked, sent}
+use Rattle.semantics.specs.Call.{below, pointer, copy_of, called, asked, sent, attempted}
 use Rattle.semantics.specs.Execution.{executed, fetched, step}
 use Rattle.board.specs.Requests.{IsRequest}
 
@@ -82,9 +83,13 @@ exited_within : (s : State) (r : Result ℕ Cause) → AsksWithin (exited s r)
 exited_within s (Err cause) = tt
 exited_within s (Ok n) = tt
 
-sent_within : (shape : Shape) (s : State) (r0 : ℕ → ℕ) (r : Result Choice Cause) → AsksWithin (sent shape s r0 r)
-sent_within shape s r0 (Err cause) = tt
-sent_within shape s r0 (Ok choice) = tt
+sent_within : (relay : Relay) (s : State) (r0 : ℕ → ℕ) (r : Result Choice Cause) → AsksWithin (sent relay s r0 r)
+sent_within relay s r0 (Err cause) = tt
+sent_within relay s r0 (Ok choice) = tt
+
+attempted_within : (relay : Relay) (s : State) (r : Result Entry Cause) → AsksWithin (attempted relay s r)
+attempted_within relay s (Err cause) = tt
+attempted_within relay s (Ok entry) = tt
 
 get_within : (a : Value) → Within (given (below 64 a) (λ slot. Ok (Get slot)))
 get_within a = below_within 64 a (λ slot. Ok (Get slot)) (λ slot lt. lt)
@@ -111,41 +116,43 @@ copies_within a b c =
     pointer_within b (λ to. given (below 65 c) (λ count. copy_of slot to count)) (λ to.
     below_within 65 c (λ count. copy_of slot to count) (λ count few. copy_within slot to count)))
 
-called_within : (context : List ℕ) (shape : Shape) (s : State) (h : Option Helper) → AsksWithin (called context shape s h)
-called_within context shape s None = tt
-called_within context shape s (Some BoardGet) = asked_within s _ (get_within (value_at s.registers 1))
-called_within context shape s (Some BoardSwap) = asked_within s _ (swap_within (value_at s.registers 1) (value_at s.registers 2))
-called_within context shape s (Some BoardAdd) = asked_within s _ (add_within (value_at s.registers 1) (value_at s.registers 2))
-called_within context shape s (Some BoardCas) = asked_within s _ (cas_within (value_at s.registers 1) (value_at s.registers 2) (value_at s.registers 3))
-called_within context shape s (Some BoardCopy) = asked_within s _ (copies_within (value_at s.registers 1) (value_at s.registers 2) (value_at s.registers 3))
-called_within context shape s (Some Send) = sent_within shape s (λ set. 1 - set) _
-called_within context shape s (Some SendRow) = sent_within shape s (λ set. set) _
-called_within context shape s (Some Sway) = sent_within shape s (λ set. set) _
-called_within context shape s (Some Honest) = sent_within shape s (λ set. set) _
+called_within : (context : List ℕ) (relay : Relay) (s : State) (h : Option Helper) → AsksWithin (called context relay s h)
+called_within context relay s None = tt
+called_within context relay s (Some BoardGet) = asked_within s _ (get_within (value_at s.registers 1))
+called_within context relay s (Some BoardSwap) = asked_within s _ (swap_within (value_at s.registers 1) (value_at s.registers 2))
+called_within context relay s (Some BoardAdd) = asked_within s _ (add_within (value_at s.registers 1) (value_at s.registers 2))
+called_within context relay s (Some BoardCas) = asked_within s _ (cas_within (value_at s.registers 1) (value_at s.registers 2) (value_at s.registers 3))
+called_within context relay s (Some BoardCopy) = asked_within s _ (copies_within (value_at s.registers 1) (value_at s.registers 2) (value_at s.registers 3))
+called_within context relay s (Some Send) = sent_within relay s (λ set. 1 - set) _
+called_within context relay s (Some SendRow) = sent_within relay s (λ set. set) _
+called_within context relay s (Some Sway) = sent_within relay s (λ set. set) _
+called_within context relay s (Some Honest) = sent_within relay s (λ set. set) _
+called_within context relay s (Some SignOrder) = attempted_within relay s _
+called_within context relay s (Some PassOn) = attempted_within relay s _
 
-executed_within : (context : List ℕ) (shape : Shape) (insn : Insn) (s : State) → AsksWithin (executed context shape insn s)
-executed_within context shape (i.Arithmetic width operation dst operand) s = assigned_within s dst 1 _
-executed_within context shape (i.Negate width dst) s = assigned_within s dst 1 _
-executed_within context shape (i.SignExtend width part dst src) s = assigned_within s dst 1 _
-executed_within context shape (i.Swap order size dst) s = assigned_within s dst 1 _
-executed_within context shape (i.LoadNumber dst number) s = assigned_within s dst 2 (Ok (Number number))
-executed_within context shape (i.Jump distance) s = arrived_within s _
-executed_within context shape (i.LongJump distance) s = arrived_within s _
-executed_within context shape (i.Branch width condition dst operand distance) s = branched_within s distance _
-executed_within context shape (i.Load size dst base offset) s = assigned_within s dst 1 _
-executed_within context shape (i.LoadSigned part dst base offset) s = assigned_within s dst 1 _
-executed_within context shape (i.Store size base offset source) s = changed_within s _
-executed_within context shape (i.Call helper) s = called_within context shape s _
-executed_within context shape i.Exit s = exited_within s _
+executed_within : (context : List ℕ) (relay : Relay) (insn : Insn) (s : State) → AsksWithin (executed context relay insn s)
+executed_within context relay (i.Arithmetic width operation dst operand) s = assigned_within s dst 1 _
+executed_within context relay (i.Negate width dst) s = assigned_within s dst 1 _
+executed_within context relay (i.SignExtend width part dst src) s = assigned_within s dst 1 _
+executed_within context relay (i.Swap order size dst) s = assigned_within s dst 1 _
+executed_within context relay (i.LoadNumber dst number) s = assigned_within s dst 2 (Ok (Number number))
+executed_within context relay (i.Jump distance) s = arrived_within s _
+executed_within context relay (i.LongJump distance) s = arrived_within s _
+executed_within context relay (i.Branch width condition dst operand distance) s = branched_within s distance _
+executed_within context relay (i.Load size dst base offset) s = assigned_within s dst 1 _
+executed_within context relay (i.LoadSigned part dst base offset) s = assigned_within s dst 1 _
+executed_within context relay (i.Store size base offset source) s = changed_within s _
+executed_within context relay (i.Call helper) s = called_within context relay s _
+executed_within context relay i.Exit s = exited_within s _
 
-fetched_within : (context : List ℕ) (shape : Shape) (o : Option Insn) (s : State) → AsksWithin (fetched context shape o s)
-fetched_within context shape None s = tt
-fetched_within context shape (Some insn) s = executed_within context shape insn s
+fetched_within : (context : List ℕ) (relay : Relay) (o : Option Insn) (s : State) → AsksWithin (fetched context relay o s)
+fetched_within context relay None s = tt
+fetched_within context relay (Some insn) s = executed_within context relay insn s
 
-step_within : (program : List Insn) (context : List ℕ) (shape : Shape) (s : State) → AsksWithin (step program context shape s)
+step_within : (program : List Insn) (context : List ℕ) (relay : Relay) (s : State) → AsksWithin (step program context relay s)
 unfolding step
-step_within program context shape s = fetched_within context shape (instruction_at program s.unit) s
+step_within program context relay s = fetched_within context relay (instruction_at program s.unit) s
 
 -- what a step asks lies within the board
-pub asks_within : (program : List Insn) (context : List ℕ) (shape : Shape) (s t : State) (request : Request) → step program context shape s ≡ Ask request t → IsRequest request
-asks_within program context shape s t request e = subst (λ (o : Outcome). AsksWithin o) e (step_within program context shape s)
+pub asks_within : (program : List Insn) (context : List ℕ) (relay : Relay) (s t : State) (request : Request) → step program context relay s ≡ Ask request t → IsRequest request
+asks_within program context relay s t request e = subst (λ (o : Outcome). AsksWithin o) e (step_within program context relay s)

@@ -1,7 +1,7 @@
 -- What holds of every board. Each statement is the contract of a function of this crate.
 use Rattle.std.specs.Prelude.{ℕ, ◌≡◌, true, List}
 use Rattle.insn.specs.declared.insn.Insn.{Insn}
-use Rattle.label.specs.declared.shape.Shape.{Shape}
+use Rattle.semantics.specs.Relay.{Relay}
 use Rattle.semantics.specs.declared.request.Request.{Request}
 use Rattle.semantics.specs.State.{State, Ask}
 use Rattle.semantics.specs.Call.{fits}
@@ -10,7 +10,7 @@ use Rattle.board.specs.Board.{IsBoard, reply, next}
 
 -- whatever a program asks, the board's answer fits, and a board is left
 pub record BoardsServe : Type 0 where
-  pub answers : (words : List ℕ) (program : List Insn) (context : List ℕ) (shape : Shape) (s asked : State) (request : Request) → IsBoard words →
-      step program context shape s ≡ Ask request asked → fits request (reply words request) ≡ true
-  pub stays : (words : List ℕ) (program : List Insn) (context : List ℕ) (shape : Shape) (s asked : State) (request : Request) → IsBoard words →
-      step program context shape s ≡ Ask request asked → IsBoard (next words request)
+  pub answers : (words : List ℕ) (program : List Insn) (context : List ℕ) (relay : Relay) (s asked : State) (request : Request) → IsBoard words →
+      step program context relay s ≡ Ask request asked → fits request (reply words request) ≡ true
+  pub stays : (words : List ℕ) (program : List Insn) (context : List ℕ) (relay : Relay) (s asked : State) (request : Request) → IsBoard words →
+      step program context relay s ≡ Ask request asked → IsBoard (next words request)

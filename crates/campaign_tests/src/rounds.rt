@@ -13,7 +13,7 @@ use tree::Tree;
 
 /// Whether the letter is of this round of the campaign.
 fn is_of_round(scenario: &Scenario, round: u32, letter: &Letter) -> bool
-    ensures { IsTrue result → ((letter.now.round ≡ round) × (letter.now.outbox.shape ≡ shape_of scenario.now letter.now.general round)) }
+    ensures { IsTrue result → ((letter.now.round ≡ round) × (letter.now.outbox.relay.shape ≡ shape_of scenario.now letter.now.general round)) }
 {
     let shape = letter.outbox.shape();
     letter.round == round
@@ -216,7 +216,7 @@ fn letters_differ_by_their_steps(rt: HostRuntime) -> Result<(), Fail> {
 
 /// Whether the letter is of this round of the tree's campaign.
 fn is_due(tree: &Tree, round: u32, letter: &Letter) -> bool
-    ensures { IsTrue result → letter.now.outbox.shape ≡ record { generals = tree.now.generals; commander = tree.now.commander; general = letter.now.general; round = round } }
+    ensures { IsTrue result → letter.now.outbox.relay.shape ≡ record { generals = tree.now.generals; commander = tree.now.commander; general = letter.now.general; round = round } }
 {
     let space = tree.space();
     let shape = letter.outbox.shape();

@@ -208,6 +208,11 @@ const MEMORY_AND_CALLS: &[(&str, &str)] = &[
         "7b1af0ff00000000b701000000000000bfa200000000000007020000f4ffffffb703000000000000850000000500000079a1f0ff0000000061100000000000009500000000000000",
         "accepted 9 instructions 9 units\nr0 4 steps 9\n",
     ),
+    // sign_order, where orders are oral: nothing is entered
+    (
+        "b701000001000000b702000002000000850000000a0000009500000000000000",
+        "accepted 4 instructions 4 units\nr0 1 steps 4\n",
+    ),
 ];
 
 /// Bytecode in hex that is accepted for what is known of single bits, and what is printed.
@@ -292,9 +297,10 @@ const REFUSALS: &[(&str, &str)] = &[
         "b701000000000000850000000c0000009500000000000000",
         "refused V11 unit 1\n",
     ),
+    // sign_order and pass_on: the place of a chain held is below 384
     (
-        "b701000001000000b702000002000000850000000a0000009500000000000000",
-        "refused V11 unit 2\n",
+        "b701000080010000b702000002000000850000000b0000009500000000000000",
+        "refused V12 unit 2\n",
     ),
 ];
 

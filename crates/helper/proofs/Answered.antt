@@ -3,21 +3,23 @@ use Rattle.std.proofs.Common.{ℕ, zero, suc, ◌+◌, ◌-◌, ◌*◌, ◌^◌
 use Rattle.std.specs.Prelude.{Result, Ok, Err, ◌==◌, ◌&&◌, nat_lt, nat_le, if◌then◌else◌, slice_index, slice_range, pos, ◌+ℤ◌}
 use Rattle.std.specs.List.{list_all}
 use Rattle.std.proofs.lemmas.Bool.{and_parts, false≢true}
-use Rattle.label.specs.declared.shape.Shape.{Shape}
-use Rattle.label.specs.Relay.{IsShape}
 use Rattle.range.specs.Interval.{IsIn}
+use Rattle.semantics.specs.Relay.{IsRelay, Relay}
 use Rattle.semantics.specs.declared.value.Value.{Value}
 use Rattle.semantics.specs.declared.value.Value.TheVariants.{Unset, Number, Pointer}
 use Rattle.semantics.specs.declared.value.Cell.{Cell}
 use Rattle.semantics.specs.declared.value.Cell.TheVariants.{Empty, Byte, Piece}
 use Rattle.semantics.specs.declared.request.Helper.{Helper}
-use Rattle.semantics.specs.declared.request.Helper.TheVariants.{BoardGet, BoardSwap, BoardAdd, BoardCas, BoardCopy, Send, SendRow, Sway, Honest}
+use Rattle.semantics.specs.declared.request.Helper.TheVariants.{BoardGet, BoardSwap, BoardAdd, BoardCas, BoardCopy, Send, SendRow, Sway, Honest, SignOrder, PassOn}
 use Rattle.semantics.specs.declared.request.Request.{Request}
 use Rattle.semantics.specs.declared.request.Request.TheVariants.{Get, Swap, Add, Cas, Copy}
+use Rattle.semantics.specs.declared.entry.Entry.{Entry}
+use Rattle.semantics.specs.declared.entry.Entry.TheVariants.{Sign, Pass}
 use Rattle.semantics.specs.State.{Cause, Argument, State, Next, Ask, given, value_at}
 use Rattle.semantics.specs.Memory.{cells_at, bytes_in, window, region_cells, stack_place}
 use Rattle.semantics.specs.Outbox.{Choice, places_set, along_row, at_receiver, as_taken}
-use Rattle.semantics.specs.Call.{argument, slot_in, word_in, order_in, pointer_in, copy_of, orders_at, orders_of, asked, sent, fits, resumed}
+use Rattle.semantics.specs.Entries.{is_entered}
+use Rattle.semantics.specs.Call.{argument, slot_in, word_in, order_in, pointer_in, copy_of, orders_at, orders_of, asked, sent, sign_in, pass_in, attempted, fits, resumed}
 use Rattle.semantics.proofs.PlacesLaws.{ranges_kept}
 use Rattle.helper.specs.Results.{HoldsResult, Returns, result_of}
 use Rattle.helper.proofs.Chains.{given_ok, below_ok, ok_same}
@@ -92,20 +94,20 @@ copy_held s waiting request words e =
     copied slot count to request e = copied_if (nat_le (slot + count) 64) slot count (stack_place to (pos 0) (8 * count)) request e
 
 -- the others put orders, and return how many
-sent_not : (shape : Shape) (s waiting : State) (r0 : ℕ → ℕ) (request : Request) (r : Result Choice Cause) → sent shape s r0 r ≡ Ask request waiting → ⊥
-sent_not shape s waiting r0 request (Ok choice) e = cc
-sent_not shape s waiting r0 request (Err cause) e = cc
+sent_not : (relay : Relay) (s waiting : State) (r0 : ℕ → ℕ) (request : Request) (r : Result Choice Cause) → sent relay s r0 r ≡ Ask request waiting → ⊥
+sent_not relay s waiting r0 request (Ok choice) e = cc
+sent_not relay s waiting r0 request (Err cause) e = cc
 
-sent_held : (shape : Shape) (s after : State) (r0 : ℕ → ℕ) (r : Result Choice Cause) (lo hi : ℕ) → ((choice : Choice) → r ≡ Ok choice → IsIn lo hi (r0 (places_set shape choice))) → sent shape s r0 r ≡ Next after → HoldsResult lo hi after
-sent_held shape s after r0 (Err cause) lo hi within e = cc
-sent_held shape s after r0 (Ok choice) lo hi within e =
-    (r0 (places_set shape choice), next_of shape s after r0 choice e, within choice refl)
+sent_held : (relay : Relay) (s after : State) (r0 : ℕ → ℕ) (r : Result Choice Cause) (lo hi : ℕ) → ((choice : Choice) → r ≡ Ok choice → IsIn lo hi (r0 (places_set relay choice))) → sent relay s r0 r ≡ Next after → HoldsResult lo hi after
+sent_held relay s after r0 (Err cause) lo hi within e = cc
+sent_held relay s after r0 (Ok choice) lo hi within e =
+    (r0 (places_set relay choice), next_of relay s after r0 choice e, within choice refl)
   where
     next_is : (a b : State) → Next a ≡ Next b → b ≡ a
     next_is a b e = cc
 
-    next_of : (shape : Shape) (s after : State) (r0 : ℕ → ℕ) (choice : Choice) → sent shape s r0 (Ok choice) ≡ Next after → value_at after.registers 0 ≡ Number (r0 (places_set shape choice))
-    next_of shape s after r0 choice e = ap (λ (t : State). value_at t.registers 0) (next_is _ after e)
+    next_of : (relay : Relay) (s after : State) (r0 : ℕ → ℕ) (choice : Choice) → sent relay s r0 (Ok choice) ≡ Next after → value_at after.registers 0 ≡ Number (r0 (places_set relay choice))
+    next_of relay s after r0 choice e = ap (λ (t : State). value_at t.registers 0) (next_is _ after e)
 
 -- as many orders as were asked for at most
 orders_length : (bytes : List ℕ) → 4 * length (orders_of bytes) ≤ length bytes
@@ -149,8 +151,8 @@ orders_few context s from count orders e =
     let is : length (orders_of b.0) ≡ length orders = ap length same in
     omega arith
 
-row_held : (shape : Shape) (context : List ℕ) (s : State) (choice : Choice) → row_in context s ≡ Ok choice → IsIn 0 13 (places_set shape choice)
-row_held shape context s choice e =
+row_held : (relay : Relay) (context : List ℕ) (s : State) (choice : Choice) → row_in context s ≡ Ok choice → IsIn 0 13 (places_set relay choice)
+row_held relay context s choice e =
     let a = given_ok (argument s 1 1016) (λ label. given (pointer_in s 2) (λ from. given (argument s 3 14) (λ count. given (orders_at context s from count) (λ orders. Ok (along_row label orders))))) choice e in
     let b = given_ok (pointer_in s 2) (λ from. given (argument s 3 14) (λ count. given (orders_at context s from count) (λ orders. Ok (along_row a.0 orders)))) choice a.2 in
     let d = given_ok (argument s 3 14) (λ count. given (orders_at context s b.0 count) (λ orders. Ok (along_row a.0 orders))) choice b.2 in
@@ -158,55 +160,80 @@ row_held shape context s choice e =
     let few : d.0 < 14 = below_ok 14 (value_at s.registers 3) d.0 d.1 in
     let many : length o.0 ≤ d.0 = orders_few context s b.0 d.0 o.0 o.1 in
     let is : along_row a.0 o.0 ≡ choice = ok_same (along_row a.0 o.0) choice o.2 in
-    subst (λ (q : Choice). IsIn 0 13 (places_set shape q)) is (omega arith, ranges_kept.along shape a.0 o.0 (omega arith))
+    subst (λ (q : Choice). IsIn 0 13 (places_set relay q)) is (omega arith, ranges_kept.along relay a.0 o.0 (omega arith))
 
-sway_held : (shape : Shape) (s : State) (choice : Choice) → IsShape shape → sway_in s ≡ Ok choice → IsIn 0 1016 (places_set shape choice)
-sway_held shape s choice within e =
+sway_held : (relay : Relay) (s : State) (choice : Choice) → IsRelay relay → sway_in s ≡ Ok choice → IsIn 0 1016 (places_set relay choice)
+sway_held relay s choice within e =
     let a = given_ok (argument s 1 13) (λ receiver. given (order_in s 2) (λ order. Ok (at_receiver receiver order))) choice e in
     let b = given_ok (order_in s 2) (λ order. Ok (at_receiver a.0 order)) choice a.2 in
     let is : at_receiver a.0 b.0 ≡ choice = ok_same (at_receiver a.0 b.0) choice b.2 in
-    subst (λ (q : Choice). IsIn 0 1016 (places_set shape q)) is (omega arith, ranges_kept.swayed shape a.0 b.0 within)
+    subst (λ (q : Choice). IsIn 0 1016 (places_set relay q)) is (omega arith, ranges_kept.swayed relay a.0 b.0 within)
 
-honest_held : (shape : Shape) (context : List ℕ) (s : State) (choice : Choice) → IsShape shape → given (argument s 1 13) (λ receiver. Ok (as_taken context receiver)) ≡ Ok choice → IsIn 0 1016 (places_set shape choice)
-honest_held shape context s choice within e =
+honest_held : (relay : Relay) (context : List ℕ) (s : State) (choice : Choice) → IsRelay relay → given (argument s 1 13) (λ receiver. Ok (as_taken context receiver)) ≡ Ok choice → IsIn 0 1016 (places_set relay choice)
+honest_held relay context s choice within e =
     let a = given_ok (argument s 1 13) (λ receiver. Ok (as_taken context receiver)) choice e in
     let is : as_taken context a.0 ≡ choice = ok_same (as_taken context a.0) choice a.2 in
-    subst (λ (q : Choice). IsIn 0 1016 (places_set shape q)) is (omega arith, ranges_kept.taken shape context a.0 within)
+    subst (λ (q : Choice). IsIn 0 1016 (places_set relay q)) is (omega arith, ranges_kept.taken relay context a.0 within)
+
+-- what is attempted is answered by 0 or 1
+attempted_not : (relay : Relay) (s waiting : State) (request : Request) (r : Result Entry Cause) → attempted relay s r ≡ Ask request waiting → ⊥
+attempted_not relay s waiting request (Ok entry) e = cc
+attempted_not relay s waiting request (Err cause) e = cc
+
+attempted_held : (relay : Relay) (s after : State) (r : Result Entry Cause) → attempted relay s r ≡ Next after → HoldsResult 0 1 after
+attempted_held relay s after (Err cause) e = cc
+attempted_held relay s after (Ok entry) e =
+    (if is_entered relay s.entries entry then 0 else 1, ap (λ (t : State). value_at t.registers 0) (next_is _ after e), bit (is_entered relay s.entries entry))
+  where
+    next_is : (a b : State) → Next a ≡ Next b → b ≡ a
+    next_is a b e = cc
+
+    bit : (b : Bool) → IsIn 0 1 (if b then 0 else 1)
+    bit true = (omega arith, omega arith)
+    bit false = (omega arith, omega arith)
 
 pub calls_return : (h : Helper) → Returns h (result_of h).0 (result_of h).1
 calls_return BoardGet = record {
-  at_once = λ context shape s after within e. absurd (asked_not s after (given (slot_in s) (λ slot. Ok (Get slot))) e);
-  answered = λ context shape s waiting request words e fit. get_held s waiting request words (asked_is s waiting request (given (slot_in s) (λ slot. Ok (Get slot))) e) fit;
+  at_once = λ context relay s after within e. absurd (asked_not s after (given (slot_in s) (λ slot. Ok (Get slot))) e);
+  answered = λ context relay s waiting request words e fit. get_held s waiting request words (asked_is s waiting request (given (slot_in s) (λ slot. Ok (Get slot))) e) fit;
 }
 calls_return BoardSwap = record {
-  at_once = λ context shape s after within e. absurd (asked_not s after (given (slot_in s) (λ slot. given (word_in s 2) (λ value. Ok (Swap slot value)))) e);
-  answered = λ context shape s waiting request words e fit. swap_held s waiting request words (asked_is s waiting request (given (slot_in s) (λ slot. given (word_in s 2) (λ value. Ok (Swap slot value)))) e) fit;
+  at_once = λ context relay s after within e. absurd (asked_not s after (given (slot_in s) (λ slot. given (word_in s 2) (λ value. Ok (Swap slot value)))) e);
+  answered = λ context relay s waiting request words e fit. swap_held s waiting request words (asked_is s waiting request (given (slot_in s) (λ slot. given (word_in s 2) (λ value. Ok (Swap slot value)))) e) fit;
 }
 calls_return BoardAdd = record {
-  at_once = λ context shape s after within e. absurd (asked_not s after (given (slot_in s) (λ slot. given (word_in s 2) (λ value. Ok (Add slot value)))) e);
-  answered = λ context shape s waiting request words e fit. add_held s waiting request words (asked_is s waiting request (given (slot_in s) (λ slot. given (word_in s 2) (λ value. Ok (Add slot value)))) e) fit;
+  at_once = λ context relay s after within e. absurd (asked_not s after (given (slot_in s) (λ slot. given (word_in s 2) (λ value. Ok (Add slot value)))) e);
+  answered = λ context relay s waiting request words e fit. add_held s waiting request words (asked_is s waiting request (given (slot_in s) (λ slot. given (word_in s 2) (λ value. Ok (Add slot value)))) e) fit;
 }
 calls_return BoardCas = record {
-  at_once = λ context shape s after within e. absurd (asked_not s after (given (slot_in s) (λ slot. given (word_in s 2) (λ expected. given (word_in s 3) (λ new. Ok (Cas slot expected new))))) e);
-  answered = λ context shape s waiting request words e fit. cas_held s waiting request words (asked_is s waiting request (given (slot_in s) (λ slot. given (word_in s 2) (λ expected. given (word_in s 3) (λ new. Ok (Cas slot expected new))))) e) fit;
+  at_once = λ context relay s after within e. absurd (asked_not s after (given (slot_in s) (λ slot. given (word_in s 2) (λ expected. given (word_in s 3) (λ new. Ok (Cas slot expected new))))) e);
+  answered = λ context relay s waiting request words e fit. cas_held s waiting request words (asked_is s waiting request (given (slot_in s) (λ slot. given (word_in s 2) (λ expected. given (word_in s 3) (λ new. Ok (Cas slot expected new))))) e) fit;
 }
 calls_return BoardCopy = record {
-  at_once = λ context shape s after within e. absurd (asked_not s after (copy_in s) e);
-  answered = λ context shape s waiting request words e fit. copy_held s waiting request words (asked_is s waiting request (copy_in s) e);
+  at_once = λ context relay s after within e. absurd (asked_not s after (copy_in s) e);
+  answered = λ context relay s waiting request words e fit. copy_held s waiting request words (asked_is s waiting request (copy_in s) e);
 }
 calls_return Send = record {
-  at_once = λ context shape s after within e. sent_held shape s after (λ set. 1 - set) (place_in s) 0 1 (λ choice q. (omega arith, omega arith)) e;
-  answered = λ context shape s waiting request words e fit. absurd (sent_not shape s waiting (λ set. 1 - set) request (place_in s) e);
+  at_once = λ context relay s after within e. sent_held relay s after (λ set. 1 - set) (place_in s) 0 1 (λ choice q. (omega arith, omega arith)) e;
+  answered = λ context relay s waiting request words e fit. absurd (sent_not relay s waiting (λ set. 1 - set) request (place_in s) e);
 }
 calls_return SendRow = record {
-  at_once = λ context shape s after within e. sent_held shape s after (λ set. set) (row_in context s) 0 13 (λ choice q. row_held shape context s choice q) e;
-  answered = λ context shape s waiting request words e fit. absurd (sent_not shape s waiting (λ set. set) request (row_in context s) e);
+  at_once = λ context relay s after within e. sent_held relay s after (λ set. set) (row_in context s) 0 13 (λ choice q. row_held relay context s choice q) e;
+  answered = λ context relay s waiting request words e fit. absurd (sent_not relay s waiting (λ set. set) request (row_in context s) e);
 }
 calls_return Sway = record {
-  at_once = λ context shape s after within e. sent_held shape s after (λ set. set) (sway_in s) 0 1016 (λ choice q. sway_held shape s choice within q) e;
-  answered = λ context shape s waiting request words e fit. absurd (sent_not shape s waiting (λ set. set) request (sway_in s) e);
+  at_once = λ context relay s after within e. sent_held relay s after (λ set. set) (sway_in s) 0 1016 (λ choice q. sway_held relay s choice within q) e;
+  answered = λ context relay s waiting request words e fit. absurd (sent_not relay s waiting (λ set. set) request (sway_in s) e);
 }
 calls_return Honest = record {
-  at_once = λ context shape s after within e. sent_held shape s after (λ set. set) (given (argument s 1 13) (λ receiver. Ok (as_taken context receiver))) 0 1016 (λ choice q. honest_held shape context s choice within q) e;
-  answered = λ context shape s waiting request words e fit. absurd (sent_not shape s waiting (λ set. set) request (given (argument s 1 13) (λ receiver. Ok (as_taken context receiver))) e);
+  at_once = λ context relay s after within e. sent_held relay s after (λ set. set) (given (argument s 1 13) (λ receiver. Ok (as_taken context receiver))) 0 1016 (λ choice q. honest_held relay context s choice within q) e;
+  answered = λ context relay s waiting request words e fit. absurd (sent_not relay s waiting (λ set. set) request (given (argument s 1 13) (λ receiver. Ok (as_taken context receiver))) e);
+}
+calls_return SignOrder = record {
+  at_once = λ context relay s after within e. attempted_held relay s after (sign_in s) e;
+  answered = λ context relay s waiting request words e fit. absurd (attempted_not relay s waiting request (sign_in s) e);
+}
+calls_return PassOn = record {
+  at_once = λ context relay s after within e. attempted_held relay s after (pass_in s) e;
+  answered = λ context relay s waiting request words e fit. absurd (attempted_not relay s waiting request (pass_in s) e);
 }

@@ -16,6 +16,11 @@ pub chain_last : {A B C : Type 0} (r : Result A Cause) (g : A → Result B Cause
 chain_last (Ok a) g f cause e = cc
 chain_last (Err other) g f cause e = let same : other ≡ cause = cc in ap Err same
 
+pub chain_second : {A B C : Type 0} (r : Result A Cause) (g : A → B) (f : B → Result C Cause) (rest : Option Cause) (cause : Cause) → or_else (refusal r) rest ≡ Some cause →
+    (rest ≡ Some cause → (b : B) → f b ≡ Err cause) → given (given r (λ a. Ok (g a))) f ≡ Err cause
+chain_second (Ok a) g f rest cause e more = more e (g a)
+chain_second (Err other) g f rest cause e more = let same : other ≡ cause = cc in ap Err same
+
 pub nothing_left : {B : Type 0} (r : Result B Cause) (cause : Cause) → None ≡ Some cause → r ≡ Err cause
 nothing_left r cause e = cc
 
@@ -45,6 +50,11 @@ ok_same a b e = cc
 pub back : {A B : Type 0} (r : Result A Cause) (f : A → Result B Cause) (rest : Option Cause) (cause : Cause) → or_else (refusal r) rest ≡ None → given r f ≡ Err cause → (a : A) × (rest ≡ None) × (f a ≡ Err cause)
 back (Ok a) f rest cause e q = (a, e, q)
 back (Err other) f rest cause e q = cc
+
+pub back_second : {A B C : Type 0} (r : Result A Cause) (g : A → B) (f : B → Result C Cause) (rest : Option Cause) (cause : Cause) → or_else (refusal r) rest ≡ None →
+    given (given r (λ a. Ok (g a))) f ≡ Err cause → (b : B) × (rest ≡ None) × (f b ≡ Err cause)
+back_second (Ok a) g f rest cause e q = (g a, e, q)
+back_second (Err other) g f rest cause e q = cc
 
 pub back_last : {A B C : Type 0} (r : Result A Cause) (g : A → B) (f : B → Result C Cause) (cause : Cause) → or_else (refusal r) None ≡ None → given (given r (λ a. Ok (g a))) f ≡ Err cause → (b : B) × (f b ≡ Err cause)
 back_last (Ok a) g f cause e q = (g a, q)

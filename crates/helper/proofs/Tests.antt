@@ -2,14 +2,16 @@
 use Rattle.std.proofs.Common.{ℕ, ◌-◌, ◌^◌, ◌%◌, ◌≡◌, List, ap}
 use Rattle.std.specs.Prelude.{Result, Ok, Err, Some, None}
 use Rattle.semantics.specs.declared.request.Helper.{Helper}
-use Rattle.semantics.specs.declared.request.Helper.TheVariants.{BoardGet, BoardSwap, BoardAdd, BoardCas, BoardCopy, Send, SendRow, Sway, Honest}
+use Rattle.semantics.specs.declared.request.Helper.TheVariants.{BoardGet, BoardSwap, BoardAdd, BoardCas, BoardCopy, Send, SendRow, Sway, Honest, SignOrder, PassOn}
 use Rattle.semantics.specs.declared.request.Request.{Request}
 use Rattle.semantics.specs.declared.request.Request.TheVariants.{Get, Swap, Add, Cas}
+use Rattle.semantics.specs.declared.entry.Entry.{Entry}
+use Rattle.semantics.specs.declared.entry.Entry.TheVariants.{Sign, Pass}
 use Rattle.semantics.specs.State.{Cause, State, given}
 use Rattle.semantics.specs.Outbox.{Choice, at_place, along_row, at_receiver, as_taken}
-use Rattle.semantics.specs.Call.{argument, slot_in, word_in, order_in, pointer_in, copy_of, orders_at, asked, sent}
+use Rattle.semantics.specs.Call.{argument, slot_in, word_in, order_in, pointer_in, copy_of, orders_at, asked, sent, sign_in, pass_in, attempted}
 use Rattle.helper.specs.Table.{refusal, or_else, refused, arguments_of, TestsThese}
-use Rattle.helper.proofs.Chains.{chain, chain_last, nothing_left}
+use Rattle.helper.proofs.Chains.{chain, chain_last, chain_second, nothing_left}
 
 -- what a helper asks for, or puts
 abbrev pub copy_in : State → Result Request Cause
@@ -64,13 +66,25 @@ sway_tests s cause e =
     chain (argument s 1 13) (λ receiver. given (order_in s 2) (λ order. Ok (at_receiver receiver order))) (or_else (refusal (word_in s 2)) None) cause e
     (λ h receiver. chain_last (word_in s 2) (λ word. Ok (word % 2 ^ 32)) (λ order. Ok (at_receiver receiver order)) cause h)
 
+sign_tests : (s : State) (cause : Cause) → refused (arguments_of SignOrder) 1 s.registers ≡ Some cause → sign_in s ≡ Err cause
+sign_tests s cause e =
+    chain_second (word_in s 1) (λ word. word % 2 ^ 32) (λ order. given (argument s 2 8192) (λ receivers. Ok (Sign order receivers))) (or_else (refusal (argument s 2 8192)) None) cause e
+    (λ h order. one s 2 8192 (λ receivers. Ok (Sign order receivers)) cause h)
+
+pass_tests : (s : State) (cause : Cause) → refused (arguments_of PassOn) 1 s.registers ≡ Some cause → pass_in s ≡ Err cause
+pass_tests s cause e =
+    chain (argument s 1 384) (λ held. given (argument s 2 8192) (λ receivers. Ok (Pass held receivers))) (or_else (refusal (argument s 2 8192)) None) cause e
+    (λ h held. one s 2 8192 (λ receivers. Ok (Pass held receivers)) cause h)
+
 pub calls_test : (h : Helper) → TestsThese h (arguments_of h)
-calls_test BoardGet context shape s cause e = ap (asked s) (get_tests s cause e)
-calls_test BoardSwap context shape s cause e = ap (asked s) (swap_tests s Swap cause e)
-calls_test BoardAdd context shape s cause e = ap (asked s) (swap_tests s Add cause e)
-calls_test BoardCas context shape s cause e = ap (asked s) (cas_tests s cause e)
-calls_test BoardCopy context shape s cause e = ap (asked s) (copy_tests s cause e)
-calls_test Send context shape s cause e = ap (sent shape s (λ set. 1 - set)) (place_tests s cause e)
-calls_test SendRow context shape s cause e = ap (sent shape s (λ set. set)) (row_tests context s cause e)
-calls_test Sway context shape s cause e = ap (sent shape s (λ set. set)) (sway_tests s cause e)
-calls_test Honest context shape s cause e = ap (sent shape s (λ set. set)) (one s 1 13 (λ receiver. Ok (as_taken context receiver)) cause e)
+calls_test BoardGet context relay s cause e = ap (asked s) (get_tests s cause e)
+calls_test BoardSwap context relay s cause e = ap (asked s) (swap_tests s Swap cause e)
+calls_test BoardAdd context relay s cause e = ap (asked s) (swap_tests s Add cause e)
+calls_test BoardCas context relay s cause e = ap (asked s) (cas_tests s cause e)
+calls_test BoardCopy context relay s cause e = ap (asked s) (copy_tests s cause e)
+calls_test Send context relay s cause e = ap (sent relay s (λ set. 1 - set)) (place_tests s cause e)
+calls_test SendRow context relay s cause e = ap (sent relay s (λ set. set)) (row_tests context s cause e)
+calls_test Sway context relay s cause e = ap (sent relay s (λ set. set)) (sway_tests s cause e)
+calls_test Honest context relay s cause e = ap (sent relay s (λ set. set)) (one s 1 13 (λ receiver. Ok (as_taken context receiver)) cause e)
+calls_test SignOrder context relay s cause e = ap (attempted relay s) (sign_tests s cause e)
+calls_test PassOn context relay s cause e = ap (attempted relay s) (pass_tests s cause e)

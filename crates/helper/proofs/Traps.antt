@@ -1,17 +1,19 @@
 -- When a call traps, and for what.
 use Rattle.std.proofs.Common.{ℕ, pos, ◌+◌, ◌-◌, ◌*◌, ◌^◌, ◌%◌, ◌≡◌, List, Bool, true, false, refl, ◌∙◌}
 use Rattle.std.specs.Prelude.{Result, Ok, Err, Option, Some, None, if◌then◌else◌, nat_lt, nat_le}
-use Rattle.label.specs.declared.shape.Shape.{Shape}
+use Rattle.semantics.specs.Relay.{Relay}
 use Rattle.semantics.specs.declared.value.Value.{Value}
 use Rattle.semantics.specs.declared.value.Value.TheVariants.{Unset, Number, Pointer}
 use Rattle.semantics.specs.declared.value.Cell.{Cell}
-use Rattle.semantics.specs.declared.request.Helper.TheVariants.{BoardGet, BoardSwap, BoardAdd, BoardCas, BoardCopy, Send, SendRow, Sway, Honest}
+use Rattle.semantics.specs.declared.request.Helper.TheVariants.{BoardGet, BoardSwap, BoardAdd, BoardCas, BoardCopy, Send, SendRow, Sway, Honest, SignOrder, PassOn}
 use Rattle.semantics.specs.declared.request.Request.{Request}
 use Rattle.semantics.specs.declared.request.Request.TheVariants.{Get, Swap, Add, Cas, Copy}
+use Rattle.semantics.specs.declared.entry.Entry.{Entry}
+use Rattle.semantics.specs.declared.entry.Entry.TheVariants.{Sign, Pass}
 use Rattle.semantics.specs.State.{Cause, Argument, State, value_at, given}
 use Rattle.semantics.specs.Memory.{cells_at, bytes_in, stack_place}
 use Rattle.semantics.specs.Outbox.{Choice, at_place, along_row, at_receiver, as_taken}
-use Rattle.semantics.specs.Call.{below, pointer, argument, slot_in, word_in, order_in, pointer_in, copy_of, orders_of, orders_at, asked, sent}
+use Rattle.semantics.specs.Call.{below, pointer, argument, slot_in, word_in, order_in, pointer_in, copy_of, orders_of, orders_at, asked, sent, sign_in, pass_in, attempted}
 use Rattle.helper.specs.Table.{refusal, or_else, refused, arguments_of}
 use Rattle.helper.specs.Windows.{number_in, refused_together, trap_of, CallsTrapByTable}
 use Rattle.helper.proofs.Tests.{copy_in, place_in, row_in, sway_in}
@@ -25,9 +27,13 @@ asked_trap : (s : State) (r : Result Request Cause) → trap_of (asked s r) ≡ 
 asked_trap s (Ok request) = refl
 asked_trap s (Err cause) = refl
 
-sent_trap : (shape : Shape) (s : State) (r0 : ℕ → ℕ) (r : Result Choice Cause) → trap_of (sent shape s r0 r) ≡ refusal r
-sent_trap shape s r0 (Ok choice) = refl
-sent_trap shape s r0 (Err cause) = refl
+sent_trap : (relay : Relay) (s : State) (r0 : ℕ → ℕ) (r : Result Choice Cause) → trap_of (sent relay s r0 r) ≡ refusal r
+sent_trap relay s r0 (Ok choice) = refl
+sent_trap relay s r0 (Err cause) = refl
+
+attempted_trap : (relay : Relay) (s : State) (r : Result Entry Cause) → trap_of (attempted relay s r) ≡ refusal r
+attempted_trap relay s (Ok entry) = refl
+attempted_trap relay s (Err cause) = refl
 
 -- a chain refuses where its first part does, and else where the rest does
 chain : {A B : Type 0} (r : Result A Cause) (f : A → Result B Cause) (rest : Option Cause) → ((a : A) → r ≡ Ok a → refusal (f a) ≡ rest) → refusal (given r f) ≡ or_else (refusal r) rest
@@ -151,13 +157,33 @@ sway_traps s =
     last None = refl
     last (Some cause) = refl
 
+sign_traps : (s : State) → refusal (sign_in s) ≡ or_both (refusal (word_in s 1)) (refusal (argument s 2 8192)) None
+sign_traps s =
+    second (word_in s 1) ∙ both (refusal (word_in s 1)) (refusal (argument s 2 8192)) None
+  where
+    last : (o : Option Cause) → o ≡ or_else o None
+    last None = refl
+    last (Some cause) = refl
+
+    second : (r : Result ℕ Cause) → refusal (given (given r (λ word. Ok (word % 2 ^ 32))) (λ order. given (argument s 2 8192) (λ receivers. Ok (Sign order receivers)))) ≡ or_else (refusal r) (or_else (refusal (argument s 2 8192)) None)
+    second (Ok word) = alone (argument s 2 8192) (λ receivers. Sign (word % 2 ^ 32) receivers) ∙ last (refusal (argument s 2 8192))
+    second (Err cause) = refl
+
+pass_traps : (s : State) → refusal (pass_in s) ≡ or_both (refusal (argument s 1 384)) (refusal (argument s 2 8192)) None
+pass_traps s =
+    chain (argument s 1 384) (λ held. given (argument s 2 8192) (λ receivers. Ok (Pass held receivers))) (or_else (refusal (argument s 2 8192)) None) (λ held e.
+    chain (argument s 2 8192) (λ receivers. Ok (Pass held receivers)) None (λ receivers f. refl))
+    ∙ both (refusal (argument s 1 384)) (refusal (argument s 2 8192)) None
+
 pub calls_trap : CallsTrapByTable
-calls_trap BoardGet context shape s = asked_trap s _ ∙ one s 64 Get
-calls_trap BoardSwap context shape s = asked_trap s _ ∙ swap_traps s Swap
-calls_trap BoardAdd context shape s = asked_trap s _ ∙ swap_traps s Add
-calls_trap BoardCas context shape s = asked_trap s _ ∙ cas_traps s
-calls_trap BoardCopy context shape s = asked_trap s _ ∙ copy_traps context s
-calls_trap Send context shape s = sent_trap shape s (λ set. 1 - set) (place_in s) ∙ place_traps s
-calls_trap SendRow context shape s = sent_trap shape s (λ set. set) (row_in context s) ∙ row_traps context s
-calls_trap Sway context shape s = sent_trap shape s (λ set. set) (sway_in s) ∙ sway_traps s
-calls_trap Honest context shape s = sent_trap shape s (λ set. set) _ ∙ one s 13 (as_taken context)
+calls_trap BoardGet context relay s = asked_trap s _ ∙ one s 64 Get
+calls_trap BoardSwap context relay s = asked_trap s _ ∙ swap_traps s Swap
+calls_trap BoardAdd context relay s = asked_trap s _ ∙ swap_traps s Add
+calls_trap BoardCas context relay s = asked_trap s _ ∙ cas_traps s
+calls_trap BoardCopy context relay s = asked_trap s _ ∙ copy_traps context s
+calls_trap Send context relay s = sent_trap relay s (λ set. 1 - set) (place_in s) ∙ place_traps s
+calls_trap SendRow context relay s = sent_trap relay s (λ set. set) (row_in context s) ∙ row_traps context s
+calls_trap Sway context relay s = sent_trap relay s (λ set. set) (sway_in s) ∙ sway_traps s
+calls_trap Honest context relay s = sent_trap relay s (λ set. set) _ ∙ one s 13 (as_taken context)
+calls_trap SignOrder context relay s = attempted_trap relay s (sign_in s) ∙ sign_traps s
+calls_trap PassOn context relay s = attempted_trap relay s (pass_in s) ∙ pass_traps s

@@ -1,11 +1,10 @@
 -- What the helpers return.
 use Rattle.std.specs.Prelude.{ℕ, ◌-◌, ◌^◌, ◌≡◌, true, List, Some}
-use Rattle.label.specs.declared.shape.Shape.{Shape}
-use Rattle.label.specs.Relay.{IsShape}
 use Rattle.range.specs.Interval.{IsIn}
+use Rattle.semantics.specs.Relay.{IsRelay, Relay}
 use Rattle.semantics.specs.declared.value.Value.TheVariants.{Number}
 use Rattle.semantics.specs.declared.request.Helper.{Helper}
-use Rattle.semantics.specs.declared.request.Helper.TheVariants.{BoardGet, BoardSwap, BoardAdd, BoardCas, BoardCopy, Send, SendRow, Sway, Honest}
+use Rattle.semantics.specs.declared.request.Helper.TheVariants.{BoardGet, BoardSwap, BoardAdd, BoardCas, BoardCopy, Send, SendRow, Sway, Honest, SignOrder, PassOn}
 use Rattle.semantics.specs.declared.request.Request.{Request}
 use Rattle.semantics.specs.State.{State, Next, Ask, value_at}
 use Rattle.semantics.specs.Call.{called, fits, resumed}
@@ -21,6 +20,8 @@ result_of Send = (0, 1)
 result_of SendRow = (0, 13)
 result_of Sway = (0, 1016)
 result_of Honest = (0, 1016)
+result_of SignOrder = (0, 1)
+result_of PassOn = (0, 1)
 
 -- r0 holds a number of the interval
 abbrev pub HoldsResult : ℕ → ℕ → State → Type 0
@@ -28,5 +29,5 @@ HoldsResult lo hi s = (n : ℕ) × (value_at s.registers 0 ≡ Number n) × IsIn
 
 -- a call, and a call that the board has answered, leave a number of the interval in r0
 pub record Returns (helper : Helper) (lo hi : ℕ) : Type 0 where
-  pub at_once : (context : List ℕ) (shape : Shape) (s after : State) → IsShape shape → called context shape s (Some helper) ≡ Next after → HoldsResult lo hi after
-  pub answered : (context : List ℕ) (shape : Shape) (s waiting : State) (request : Request) (words : List ℕ) → called context shape s (Some helper) ≡ Ask request waiting → fits request words ≡ true → HoldsResult lo hi (resumed request words waiting)
+  pub at_once : (context : List ℕ) (relay : Relay) (s after : State) → IsRelay relay → called context relay s (Some helper) ≡ Next after → HoldsResult lo hi after
+  pub answered : (context : List ℕ) (relay : Relay) (s waiting : State) (request : Request) (words : List ℕ) → called context relay s (Some helper) ≡ Ask request waiting → fits request words ≡ true → HoldsResult lo hi (resumed request words waiting)

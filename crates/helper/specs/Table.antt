@@ -1,13 +1,13 @@
 -- What the helpers take.
 use Rattle.std.specs.Prelude.{ℕ, ◌+◌, ◌^◌, ◌≡◌, List, [], ◌∷◌, Option, Some, None, Result, Ok, Err}
-use Rattle.label.specs.declared.shape.Shape.{Shape}
+use Rattle.semantics.specs.Relay.{Relay}
 use Rattle.semantics.specs.declared.value.Value.{Value}
 use Rattle.semantics.specs.declared.request.Helper.{Helper}
-use Rattle.semantics.specs.declared.request.Helper.TheVariants.{BoardGet, BoardSwap, BoardAdd, BoardCas, BoardCopy, Send, SendRow, Sway, Honest}
+use Rattle.semantics.specs.declared.request.Helper.TheVariants.{BoardGet, BoardSwap, BoardAdd, BoardCas, BoardCopy, Send, SendRow, Sway, Honest, SignOrder, PassOn}
 use Rattle.semantics.specs.State.{Cause, State, Trap, value_at}
 use Rattle.semantics.specs.Call.{below, pointer, called}
 use Rattle.helper.specs.declared.argument.Argument.{Argument}
-use Rattle.helper.specs.declared.argument.Argument.TheVariants.{Slot, Word, Label, Receiver, Words, Orders, StackPointer, ReadablePointer}
+use Rattle.helper.specs.declared.argument.Argument.TheVariants.{Slot, Word, Label, Receiver, Words, Orders, Held, Receivers, StackPointer, ReadablePointer}
 
 -- an argument that is a number is below this one
 abbrev pub bound_of : Argument → Option ℕ
@@ -17,6 +17,8 @@ bound_of Label = Some 1016
 bound_of Receiver = Some 13
 bound_of Words = Some 65
 bound_of Orders = Some 14
+bound_of Held = Some 384
+bound_of Receivers = Some 8192
 bound_of StackPointer = None
 bound_of ReadablePointer = None
 
@@ -30,6 +32,8 @@ arguments_of Send = Some Label ∷ Some Receiver ∷ Some Word ∷ []
 arguments_of SendRow = Some Label ∷ Some ReadablePointer ∷ Some Orders ∷ []
 arguments_of Sway = Some Receiver ∷ Some Word ∷ None ∷ []
 arguments_of Honest = Some Receiver ∷ None ∷ None ∷ []
+arguments_of SignOrder = Some Word ∷ Some Receivers ∷ None ∷ []
+arguments_of PassOn = Some Held ∷ Some Receivers ∷ None ∷ []
 
 -- why a call refuses a result
 abbrev pub refusal : {A : Type 0} → Result A Cause → Option Cause
@@ -53,7 +57,7 @@ refused (Some argument ∷ arguments) r registers = or_else (test_of (bound_of a
 
 -- a call of the helper traps for the first of these arguments that is refused
 abbrev pub TestsThese : Helper → List (Option Argument) → Type 0
-TestsThese helper arguments = (context : List ℕ) (shape : Shape) (s : State) (cause : Cause) → refused arguments 1 s.registers ≡ Some cause → called context shape s (Some helper) ≡ Trap cause
+TestsThese helper arguments = (context : List ℕ) (relay : Relay) (s : State) (cause : Cause) → refused arguments 1 s.registers ≡ Some cause → called context relay s (Some helper) ≡ Trap cause
 
 -- the helpers that also go by the cells at a pointer
 abbrev pub HasWindow : Helper → Type 0
@@ -66,7 +70,9 @@ HasWindow BoardCas = ⊥
 HasWindow Send = ⊥
 HasWindow Sway = ⊥
 HasWindow Honest = ⊥
+HasWindow SignOrder = ⊥
+HasWindow PassOn = ⊥
 
 -- where none of these is refused, a call traps only for what is at a pointer
 abbrev pub AcceptsThese : Helper → List (Option Argument) → Type 0
-AcceptsThese helper arguments = (context : List ℕ) (shape : Shape) (s : State) (cause : Cause) → refused arguments 1 s.registers ≡ None → called context shape s (Some helper) ≡ Trap cause → HasWindow helper
+AcceptsThese helper arguments = (context : List ℕ) (relay : Relay) (s : State) (cause : Cause) → refused arguments 1 s.registers ≡ None → called context relay s (Some helper) ≡ Trap cause → HasWindow helper

@@ -1,6 +1,6 @@
 -- When a call is refused, by the table alone.
 use Rattle.std.specs.Prelude.{ℕ, pos, ◌+◌, ◌*◌, ◌≡◌, nat_le, if◌then◌else◌, List, [], ◌∷◌, Option, Some, None}
-use Rattle.label.specs.declared.shape.Shape.{Shape}
+use Rattle.semantics.specs.Relay.{Relay}
 use Rattle.semantics.specs.declared.value.Value.{Value}
 use Rattle.semantics.specs.declared.value.Value.TheVariants.{Unset, Number, Pointer}
 use Rattle.semantics.specs.declared.request.Helper.{Helper}
@@ -8,7 +8,7 @@ use Rattle.semantics.specs.State.{Cause, Argument as Refused, State, Outcome, Ne
 use Rattle.semantics.specs.Memory.{cells_at, bytes_in, stack_place}
 use Rattle.semantics.specs.Call.{called}
 use Rattle.helper.specs.declared.argument.Argument.{Argument}
-use Rattle.helper.specs.declared.argument.Argument.TheVariants.{Slot, Word, Label, Receiver, Words, Orders, StackPointer, ReadablePointer}
+use Rattle.helper.specs.declared.argument.Argument.TheVariants.{Slot, Word, Label, Receiver, Words, Orders, Held, Receivers, StackPointer, ReadablePointer}
 use Rattle.helper.specs.Table.{arguments_of, refusal, refused, or_else}
 
 -- the number of a value that is one
@@ -25,6 +25,8 @@ bytes_each Label = 0
 bytes_each Receiver = 0
 bytes_each Words = 8
 bytes_each Orders = 4
+bytes_each Held = 0
+bytes_each Receivers = 0
 bytes_each StackPointer = 0
 bytes_each ReadablePointer = 0
 
@@ -55,5 +57,5 @@ trap_of (Trap cause) = Some cause
 
 -- a call traps exactly for the first argument that is refused, and behind them for what is refused of them together
 abbrev pub CallsTrapByTable : Type 0
-CallsTrapByTable = (helper : Helper) (context : List ℕ) (shape : Shape) (s : State) →
-    trap_of (called context shape s (Some helper)) ≡ or_else (refused (arguments_of helper) 1 s.registers) (refused_together (arguments_of helper) context s)
+CallsTrapByTable = (helper : Helper) (context : List ℕ) (relay : Relay) (s : State) →
+    trap_of (called context relay s (Some helper)) ≡ or_else (refused (arguments_of helper) 1 s.registers) (refused_together (arguments_of helper) context s)

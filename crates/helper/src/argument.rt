@@ -16,6 +16,10 @@ pub enum Argument {
     Words,
     /// How many orders, 0 to 13.
     Orders,
+    /// The place of a chain that the general holds, 0 to 383.
+    Held,
+    /// Receivers as the bits of a number, bit g for general g, 0 to 8191.
+    Receivers,
     /// A pointer to cells of the stack, to be written.
     StackPointer,
     /// A pointer to bytes of the stack or the context, to be read.
@@ -34,6 +38,8 @@ impl Argument {
             Argument::Receiver => Some(12),
             Argument::Words => Some(64),
             Argument::Orders => Some(13),
+            Argument::Held => Some(383),
+            Argument::Receivers => Some(8191),
             Argument::StackPointer | Argument::ReadablePointer => None,
         }
     }

@@ -7,7 +7,7 @@ use crate::argument::Argument;
 use range::Range;
 use semantics::Helper;
 
-/// The helper of a number, where there is one: 1 to 9.
+/// The helper of a number, where there is one: 1 to 11.
 pub fn helper_of(number: i32) -> Option<Helper>
     ensures { result ≡ helper_of number }
 {
@@ -21,6 +21,8 @@ pub fn helper_of(number: i32) -> Option<Helper>
         7 => Some(Helper::SendRow),
         8 => Some(Helper::Sway),
         9 => Some(Helper::Honest),
+        10 => Some(Helper::SignOrder),
+        11 => Some(Helper::PassOn),
         _ => None,
     }
 }
@@ -52,6 +54,8 @@ pub fn arguments(helper: Helper) -> [Option<Argument>; 3]
         ),
         Helper::Sway => (Argument::Receiver, Some(Argument::Word), None),
         Helper::Honest => (Argument::Receiver, None, None),
+        Helper::SignOrder => (Argument::Word, Some(Argument::Receivers), None),
+        Helper::PassOn => (Argument::Held, Some(Argument::Receivers), None),
     };
     [Some(first), second, third]
 }
@@ -64,7 +68,7 @@ pub fn result(helper: Helper) -> Range
     let hi = match helper {
         Helper::BoardGet | Helper::BoardSwap | Helper::BoardAdd | Helper::BoardCas => u64::MAX,
         Helper::BoardCopy => 64,
-        Helper::Send => 1,
+        Helper::Send | Helper::SignOrder | Helper::PassOn => 1,
         Helper::SendRow => 13,
         Helper::Sway | Helper::Honest => 1016,
     };

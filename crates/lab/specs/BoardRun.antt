@@ -2,6 +2,7 @@
 use Rattle.std.specs.Prelude.{ℕ, ◌≡◌, false, None, List, replicate}
 use Rattle.insn.specs.declared.insn.Insn.{Insn}
 use Rattle.label.specs.declared.shape.Shape.{Shape}
+use Rattle.semantics.specs.Relay.{oral}
 use Rattle.semantics.specs.State.{State, Exit}
 use Rattle.semantics.specs.Execution.{step}
 use Rattle.board.specs.Board.{Access, IsLegal}
@@ -12,9 +13,9 @@ use Rattle.round.specs.Running.{IsOnWay}
 pub record IsServed (program : List Insn) (context : List ℕ) (shape : Shape) (r0 steps : ℕ) : Type 0 where
   pub ledger : List Access
   pub last : Activation
-  pub way : IsOnWay shape.general shape.round (started None program context shape) last ledger
+  pub way : IsOnWay shape.general shape.round (started None program context (oral shape)) last ledger
   pub legal : IsLegal (replicate 64 0) ledger
   pub going : last.over ≡ false
   pub out : State
-  pub exit : step program context shape last.state ≡ Exit r0 out
+  pub exit : step program context (oral shape) last.state ≡ Exit r0 out
   pub counted : out.steps ≡ steps

@@ -1,7 +1,7 @@
 //! Calls of helpers. A case in which the machine would trap is ruled out by the caller.
 ghost use Rattle.std.specs.Prelude.{◌≡◌, ◌<◌, ◌+◌, ◌-◌, ◌^◌, IsOk, Ok};
 ghost use Rattle.semantics.specs.State.{Next, given};
-ghost use Rattle.semantics.specs.Call.{helper_of, called, slot_in, word_in, argument, order_in, pointer_in, copy_of, orders_at, returned, sent};
+ghost use Rattle.semantics.specs.Call.{helper_of, called, slot_in, word_in, argument, order_in, pointer_in, copy_of, orders_at, sign_in, pass_in, returned, sent, attempted};
 ghost use Rattle.semantics.specs.Outbox.{at_place, along_row, at_receiver, as_taken};
 ghost use Rattle.machine.specs.Turn.{Turns, Asks, IsFree};
 
@@ -16,11 +16,11 @@ impl Activation {
     /// A call of a helper.
     #[inline(never)]
     pub(crate) fn call(&mut self, context: &Context, number: i32) -> Flow
-        requires free { IsFree (called context.now self.old.shape self.old.state (helper_of number)) }
+        requires free { IsFree (called context.now self.old.relay self.old.state (helper_of number)) }
         requires inside { self.old.state.unit < 4096 }
         requires room { self.old.state.steps + 1 < 2 ^ 32 }
-        ensures turns { Turns (called context.now self.old.shape self.old.state (helper_of number)) result self.new.state }
-        ensures shape { self.new.shape ≡ self.old.shape }
+        ensures turns { Turns (called context.now self.old.relay self.old.state (helper_of number)) result self.new.state }
+        ensures relay { self.new.relay ≡ self.old.relay }
         ensures counts { self.new.state.steps ≡ self.old.state.steps + 1 }
         ensures asks { Asks self.old.state result self.new.state }
     {
@@ -52,6 +52,8 @@ impl Activation {
             Helper::SendRow => self.send_row(context),
             Helper::Sway => self.sway(),
             Helper::Honest => self.honest(context),
+            Helper::SignOrder => self.sign_order(),
+            Helper::PassOn => self.pass_on(),
         }
     }
 
@@ -61,7 +63,7 @@ impl Activation {
         requires room { self.old.state.steps + 1 < 2 ^ 32 }
         ensures flow { result ≡ Flow.Asked request }
         ensures asked { self.new.state ≡ record self.old.state { unit = self.old.state.unit + 1; steps = self.old.state.steps + 1 } }
-        ensures shape { self.new.shape ≡ self.old.shape }
+        ensures relay { self.new.relay ≡ self.old.relay }
     {
         self.unit += 1;
         self.steps += 1;
@@ -144,9 +146,9 @@ impl Activation {
         requires inside { self.old.state.unit < 4096 }
         requires room { self.old.state.steps + 1 < 2 ^ 32 }
         ensures flow { result ≡ Flow.Onward }
-        ensures next { sent self.old.shape self.old.state (λ set. 1 - set) (given (argument self.old.state 1 1016) (λ label. given (argument self.old.state 2 13) (λ receiver.
+        ensures next { sent self.old.relay self.old.state (λ set. 1 - set) (given (argument self.old.state 1 1016) (λ label. given (argument self.old.state 2 13) (λ receiver.
             given (order_in self.old.state 3) (λ order. Ok (at_place label receiver order))))) ≡ Next self.new.state }
-        ensures shape { self.new.shape ≡ self.old.shape }
+        ensures relay { self.new.relay ≡ self.old.relay }
     {
         let label = argument(self.registers.at(1), 1016) as u32;
         let receiver = argument(self.registers.at(2), 13) as u32;
@@ -163,9 +165,9 @@ impl Activation {
         requires inside { self.old.state.unit < 4096 }
         requires room { self.old.state.steps + 1 < 2 ^ 32 }
         ensures flow { result ≡ Flow.Onward }
-        ensures next { sent self.old.shape self.old.state (λ set. set) (given (argument self.old.state 1 1016) (λ label. given (pointer_in self.old.state 2) (λ from. given (argument self.old.state 3 14) (λ count.
+        ensures next { sent self.old.relay self.old.state (λ set. set) (given (argument self.old.state 1 1016) (λ label. given (pointer_in self.old.state 2) (λ from. given (argument self.old.state 3 14) (λ count.
             given (orders_at context.now self.old.state from count) (λ orders. Ok (along_row label orders)))))) ≡ Next self.new.state }
-        ensures shape { self.new.shape ≡ self.old.shape }
+        ensures relay { self.new.relay ≡ self.old.relay }
     {
         let label = argument(self.registers.at(1), 1016) as u32;
         let from = pointer(self.registers.at(2));
@@ -183,8 +185,8 @@ impl Activation {
         requires inside { self.old.state.unit < 4096 }
         requires room { self.old.state.steps + 1 < 2 ^ 32 }
         ensures flow { result ≡ Flow.Onward }
-        ensures next { sent self.old.shape self.old.state (λ set. set) (given (argument self.old.state 1 13) (λ receiver. given (order_in self.old.state 2) (λ order. Ok (at_receiver receiver order)))) ≡ Next self.new.state }
-        ensures shape { self.new.shape ≡ self.old.shape }
+        ensures next { sent self.old.relay self.old.state (λ set. set) (given (argument self.old.state 1 13) (λ receiver. given (order_in self.old.state 2) (λ order. Ok (at_receiver receiver order)))) ≡ Next self.new.state }
+        ensures relay { self.new.relay ≡ self.old.relay }
     {
         let receiver = argument(self.registers.at(1), 13) as u32;
         let order = order(self.registers.at(2));
@@ -198,12 +200,42 @@ impl Activation {
         requires inside { self.old.state.unit < 4096 }
         requires room { self.old.state.steps + 1 < 2 ^ 32 }
         ensures flow { result ≡ Flow.Onward }
-        ensures next { sent self.old.shape self.old.state (λ set. set) (given (argument self.old.state 1 13) (λ receiver. Ok (as_taken context.now receiver))) ≡ Next self.new.state }
-        ensures shape { self.new.shape ≡ self.old.shape }
+        ensures next { sent self.old.relay self.old.state (λ set. set) (given (argument self.old.state 1 13) (λ receiver. Ok (as_taken context.now receiver))) ≡ Next self.new.state }
+        ensures relay { self.new.relay ≡ self.old.relay }
     {
         let receiver = argument(self.registers.at(1), 13) as u32;
         let set = self.outbox.honest(context.bytes(), receiver);
         self.go_on(u64::from(set))
+    }
+
+    /// An order that the general signs.
+    fn sign_order(&mut self) -> Flow
+        requires free { IsOk (sign_in self.old.state) }
+        requires inside { self.old.state.unit < 4096 }
+        requires room { self.old.state.steps + 1 < 2 ^ 32 }
+        ensures flow { result ≡ Flow.Onward }
+        ensures next { attempted self.old.relay self.old.state (sign_in self.old.state) ≡ Next self.new.state }
+        ensures relay { self.new.relay ≡ self.old.relay }
+    {
+        let order = order(self.registers.at(1));
+        let receivers = argument(self.registers.at(2), 8192) as u16;
+        let taken = self.outbox.sign(order, receivers);
+        self.go_on(if taken { 0 } else { 1 })
+    }
+
+    /// A chain held that the general passes on.
+    fn pass_on(&mut self) -> Flow
+        requires free { IsOk (pass_in self.old.state) }
+        requires inside { self.old.state.unit < 4096 }
+        requires room { self.old.state.steps + 1 < 2 ^ 32 }
+        ensures flow { result ≡ Flow.Onward }
+        ensures next { attempted self.old.relay self.old.state (pass_in self.old.state) ≡ Next self.new.state }
+        ensures relay { self.new.relay ≡ self.old.relay }
+    {
+        let held = argument(self.registers.at(1), 384) as u16;
+        let receivers = argument(self.registers.at(2), 8192) as u16;
+        let taken = self.outbox.pass(held, receivers);
+        self.go_on(if taken { 0 } else { 1 })
     }
 
     /// A call is done: r0 has its result.
@@ -212,7 +244,7 @@ impl Activation {
         requires room { self.old.state.steps + 1 < 2 ^ 32 }
         ensures flow { result ≡ Flow.Onward }
         ensures state { self.new.state ≡ record (returned self.old.state r0) { unit = self.old.state.unit + 1; steps = self.old.state.steps + 1 } }
-        ensures shape { self.new.shape ≡ self.old.shape }
+        ensures relay { self.new.relay ≡ self.old.relay }
     {
         self.registers.set_result(r0);
         self.unit += 1;

@@ -21,7 +21,7 @@ pub struct Ended {
     pub r0: Option<u64>,
     /// How many steps it took.
     pub steps: u32,
-    /// What it has put.
+    /// What it has put and entered.
     pub outbox: Outbox,
 }
 

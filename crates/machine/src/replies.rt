@@ -19,12 +19,12 @@ impl Activation {
     /// activation that is lent.
     pub fn resume(&mut self, request: &Request, reply: &Reply)
         requires fits { fits request.now (words_in reply.now) ≡ true }
-        ensures shape { self.new.shape ≡ self.old.shape }
+        ensures relay { self.new.relay ≡ self.old.relay }
         ensures resumed { self.new.state ≡ resumed request.now (words_in reply.now) self.old.state }
-        ensures reached { (program : List Insn) (context : List ℕ) (answers : List (List ℕ)) → Reached program context self.old.shape answers (before self.old.state) →
-            step program context self.old.shape (before self.old.state) ≡ Ask request.now self.old.state → Reached program context self.new.shape (answers ++ words_in reply.now ∷ []) self.new.state }
+        ensures reached { (program : List Insn) (context : List ℕ) (answers : List (List ℕ)) → Reached program context self.old.relay answers (before self.old.state) →
+            step program context self.old.relay (before self.old.state) ≡ Ask request.now self.old.state → Reached program context self.new.relay (answers ++ words_in reply.now ∷ []) self.new.state }
         ensures of_run { (program : List Insn) (context : List ℕ) →
-            IsAskOfRun program context (record { shape = self.old.shape; request = request.now; last = before self.old.state; state = self.old.state }) → IsOfRun program context self.new }
+            IsAskOfRun program context (record { relay = self.old.relay; request = request.now; last = before self.old.state; state = self.old.state }) → IsOfRun program context self.new }
     {
         self.replied(*request, reply);
     }
@@ -32,10 +32,10 @@ impl Activation {
     /// Takes back what it asked, where it stands: [`crate::Waiting::cancel`] of an activation that is lent.
     pub fn withdraw(&mut self)
         requires { HasAsked self.old.state }
-        ensures shape { self.new.shape ≡ self.old.shape }
+        ensures relay { self.new.relay ≡ self.old.relay }
         ensures state { self.new.state ≡ before self.old.state }
         ensures of_run { (program : List Insn) (context : List ℕ) (request : Asked) →
-            IsAskOfRun program context (record { shape = self.old.shape; request = request; last = before self.old.state; state = self.old.state }) → IsOfRun program context self.new }
+            IsAskOfRun program context (record { relay = self.old.relay; request = request; last = before self.old.state; state = self.old.state }) → IsOfRun program context self.new }
     {
         self.unit -= 1;
         self.steps -= 1;
@@ -45,7 +45,7 @@ impl Activation {
     pub(crate) fn replied(&mut self, request: Request, reply: &Reply)
         requires { fits request (words_in reply.now) ≡ true }
         ensures state { self.new.state ≡ resumed request (words_in reply.now) self.old.state }
-        ensures shape { self.new.shape ≡ self.old.shape }
+        ensures relay { self.new.relay ≡ self.old.relay }
     {
         match request {
             Request::Copy { span } => self.copied(span, reply),
@@ -60,7 +60,7 @@ impl Activation {
     pub(crate) fn told(&mut self, reply: &Reply)
         requires { length (words_in reply.now) ≡ 1 }
         ensures state { self.new.state ≡ returned self.old.state (slice_index (words_in reply.now) 0) }
-        ensures shape { self.new.shape ≡ self.old.shape }
+        ensures relay { self.new.relay ≡ self.old.relay }
     {
         let word = match reply {
             Reply::Word(word) => *word,
@@ -73,7 +73,7 @@ impl Activation {
     pub(crate) fn copied(&mut self, span: Span, reply: &Reply)
         requires { length (words_in reply.now) ≡ span.1 }
         ensures state { self.new.state ≡ resumed (Request.Copy span) (words_in reply.now) self.old.state }
-        ensures shape { self.new.shape ≡ self.old.shape }
+        ensures relay { self.new.relay ≡ self.old.relay }
     {
         let count = span.count();
         let to = self.registers.at(2);

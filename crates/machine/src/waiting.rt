@@ -25,7 +25,7 @@ impl Model for Waiting {
 
     ghost Value = { Asking };
 
-    ghost view = { λ w. record { shape = w.activation.shape; request = w.request; last = before w.activation.state; state = w.activation.state } };
+    ghost view = { λ w. record { relay = w.activation.relay; request = w.request; last = before w.activation.state; state = w.activation.state } };
 
     ghost invariant = { λ w. HasAsked w.activation.state };
 }
@@ -48,10 +48,10 @@ impl Waiting {
     /// Goes on with the board's answer.
     pub fn answer(mut self, reply: Reply) -> Activation
         requires fits { fits self.request (words_in reply) ≡ true }
-        ensures shape { result.shape ≡ self.shape }
+        ensures relay { result.relay ≡ self.relay }
         ensures resumed { result.state ≡ resumed self.request (words_in reply) self.state }
-        ensures reached { (program : List Insn) (context : List ℕ) (answers : List (List ℕ)) → Reached program context self.shape answers self.last →
-            step program context self.shape self.last ≡ Ask self.request self.state → Reached program context result.shape (answers ++ words_in reply ∷ []) result.state }
+        ensures reached { (program : List Insn) (context : List ℕ) (answers : List (List ℕ)) → Reached program context self.relay answers self.last →
+            step program context self.relay self.last ≡ Ask self.request self.state → Reached program context result.relay (answers ++ words_in reply ∷ []) result.state }
         ensures of_run { (program : List Insn) (context : List ℕ) → IsAskOfRun program context self → IsOfRun program context result }
     {
         self.activation.replied(self.request, &reply);
@@ -60,7 +60,7 @@ impl Waiting {
 
     /// Takes the request back: the state is as before it, and so is the count of steps.
     pub fn cancel(self) -> Activation
-        ensures shape { result.shape ≡ self.shape }
+        ensures relay { result.relay ≡ self.relay }
         ensures state { result.state ≡ self.last }
         ensures of_run { (program : List Insn) (context : List ℕ) → IsAskOfRun program context self → IsOfRun program context result }
     {

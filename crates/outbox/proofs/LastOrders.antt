@@ -3,6 +3,7 @@ use Rattle.std.proofs.Common.{ℕ, zero, suc, ◌+◌, ◌≡◌, true, false, L
 use Rattle.std.specs.Prelude.{◌==◌, if◌then◌else◌, zip}
 use Rattle.label.specs.declared.shape.Shape.{Shape}
 use Rattle.label.specs.Relay.{receivers}
+use Rattle.semantics.specs.Relay.{Relay}
 use Rattle.semantics.specs.State.{Outbox}
 use Rattle.semantics.specs.Outbox.{Place, places, Choice, newer, written}
 use Rattle.semantics.proofs.PlacesLaws.{row_from, rows_from}
@@ -38,11 +39,11 @@ one_after choice r (p ∷ ps) (o ∷ os) e =
       | false ↦ one_after choice r ps os (cc)
     ]
 
-pub gives : (s : Shape) (choice : Choice) (outbox : Outbox) (label receiver : ℕ) → HasPlaces s outbox →
-    order_at s (written s choice outbox) label receiver ≡ order_after choice (place_of s label receiver) (order_at s outbox label receiver)
-gives s choice outbox label receiver e =
-    ap (order_among receiver (get_or (places s) label [])) (row_after choice (places s) outbox label e)
-    ∙ one_after choice receiver (get_or (places s) label []) (get_or outbox label []) (row_long (places s) outbox label e)
+pub gives : (relay : Relay) (choice : Choice) (outbox : Outbox) (label receiver : ℕ) → HasPlaces relay outbox →
+    order_at relay (written relay choice outbox) label receiver ≡ order_after choice (place_of relay label receiver) (order_at relay outbox label receiver)
+gives relay choice outbox label receiver e =
+    ap (order_among receiver (get_or (places relay) label [])) (row_after choice (places relay) outbox label e)
+    ∙ one_after choice receiver (get_or (places relay) label []) (get_or outbox label []) (row_long (places relay) outbox label e)
 
 -- the rows keep their lengths
 long_after : (choice : Choice) (ps : List Place) (os : List (Option ℕ)) → length os ≡ length ps → length (row_written choice ps os) ≡ length ps
@@ -58,8 +59,8 @@ stay choice (p ∷ ps) (o ∷ os) e =
     let rest : map length (rows_after choice ps os) ≡ map length ps = stay choice ps os (cc) in
     rw (here, rest) refl
 
-pub stays : (s : Shape) (choice : Choice) (outbox : Outbox) → HasPlaces s outbox → HasPlaces s (written s choice outbox)
-stays s choice outbox e = stay choice (places s) outbox e
+pub stays : (relay : Relay) (choice : Choice) (outbox : Outbox) → HasPlaces relay outbox → HasPlaces relay (written relay choice outbox)
+stays relay choice outbox e = stay choice (places relay) outbox e
 
 -- rows that stand have their places
 names_long : (k b : ℕ) (row : RowOrders) → length (orders_in row) ≡ length (row_from k b (receivers_in row))

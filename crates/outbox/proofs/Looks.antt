@@ -6,7 +6,9 @@ use Rattle.std.proofs.lemmas.Bool.{false≢true}
 use Rattle.std.proofs.lemmas.Bool.Decides.{eqb_tells}
 use Rattle.label.specs.Labels.{on}
 use Rattle.label.specs.declared.shape.Shape.{Shape}
-use Rattle.label.specs.Relay.{relay, receivers}
+use Rattle.label.specs.Relay.{receivers}
+use Rattle.semantics.specs.Relay.{Relay, relayed}
+use Rattle.semantics.specs.declared.entry.Entry.{Entry}
 use Rattle.semantics.specs.Outbox.{Place, places}
 use Rattle.semantics.proofs.PlacesLaws.{row_from, rows_from}
 use Rattle.outbox.specs.Rows.{RowOrders, receivers_in, orders_in, empty_row, row_for, order_in, put_row}
@@ -42,19 +44,19 @@ row_order : (r k b : ℕ) (row : RowOrders) → order_among r (row_from k b (rec
 row_order r k b [] = refl
 row_order r k b (p ∷ row) = ap (λ o. if p.0 == r then p.1 else o) (row_order r k (b + 1) row)
 
-pub order_past : (now : Contents) (s : Shape) (rows : List RowOrders) (label r : ℕ) → contents_of s rows ≡ now → length rows ≤ label → None ≡ order_at now.shape now.rows label r
-order_past now s rows label r seen l =
+pub order_past : (now : Contents) (relay : Relay) (entries : List Entry) (rows : List RowOrders) (label r : ℕ) → contents_of relay entries rows ≡ now → length rows ≤ label → None ≡ order_at now.relay now.rows label r
+order_past now relay entries rows label r seen l =
     let size : length (map orders_in rows) ≡ length rows = length-map rows orders_in in
-    subst (λ (k : Contents). None ≡ order_at k.shape k.rows label r) seen
-    (sym (ap (order_among r (get_or (places s) label [])) (get_past (map orders_in rows) label [] (omega arith)) ∙ none_among r (get_or (places s) label [])))
+    subst (λ (k : Contents). None ≡ order_at k.relay k.rows label r) seen
+    (sym (ap (order_among r (get_or (places relay) label [])) (get_past (map orders_in rows) label [] (omega arith)) ∙ none_among r (get_or (places relay) label [])))
 
-pub order_found : (now : Contents) (s : Shape) (rows : List RowOrders) (label r : ℕ) (row : RowOrders) (o : Option ℕ) → contents_of s rows ≡ now → IsOutbox s rows → label < length rows → row ≡ get_or rows label row → o ≡ order_in r row → o ≡ order_at now.shape now.rows label r
-order_found now s rows label r row o seen a l at is =
+pub order_found : (now : Contents) (relay : Relay) (entries : List Entry) (rows : List RowOrders) (label r : ℕ) (row : RowOrders) (o : Option ℕ) → contents_of relay entries rows ≡ now → IsOutbox relay rows → label < length rows → row ≡ get_or rows label row → o ≡ order_in r row → o ≡ order_at now.relay now.rows label r
+order_found now relay entries rows label r row o seen a l at is =
     let was : row ≡ get_or rows label [] = at ∙ same_default rows label row [] l in
-    subst (λ (k : Contents). o ≡ order_at k.shape k.rows label r) seen
+    subst (λ (k : Contents). o ≡ order_at k.relay k.rows label r) seen
     (is ∙ (ap (order_in r) was ∙ (sym (row_order r (0 + label) 0 (get_or rows label []))
-    ∙ (ap (λ ps. order_among r ps (orders_in (get_or rows label []))) (sym (get_places s 0 label rows (relay s) a.names l))
-    ∙ ap (order_among r (get_or (places s) label [])) (sym (get_orders rows label))))))
+    ∙ (ap (λ ps. order_among r ps (orders_in (get_or rows label []))) (sym (get_places relay.shape 0 label rows (relayed relay) a.names l))
+    ∙ ap (order_among r (get_or (places relay) label [])) (sym (get_orders rows label))))))
 
 -- what was put is found
 put_found : (r v : ℕ) (row : RowOrders) → on (receivers_in row) r ≡ true → Some v ≡ order_in r (put_row r v row)
@@ -65,12 +67,12 @@ put_found r v (p ∷ row) h =
       | inr apart ↦ rw apart.0 (put_found r v row (sym (ap (λ t. t || on (receivers_in row) r) apart.0) ∙ h))
     ]
 
-pub found_after : (s : Shape) (rows : List RowOrders) (label r v : ℕ) (row new : RowOrders) (there : Bool) → IsOutbox s rows → label < length rows → row ≡ get_or rows label row → new ≡ put_row r v row → there ≡ on (receivers_in row) r → there ≡ true
-    → order_at s (map orders_in (set rows label new)) label r ≡ Some v
-found_after s rows label r v row new there a l at is t yes_there =
-    let stands : IsOutbox s (set rows label new) = single_stands s rows label row new a l at (ap receivers_in is ∙ put_names r v row) in
+pub found_after : (relay : Relay) (rows : List RowOrders) (label r v : ℕ) (row new : RowOrders) (there : Bool) → IsOutbox relay rows → label < length rows → row ≡ get_or rows label row → new ≡ put_row r v row → there ≡ on (receivers_in row) r → there ≡ true
+    → order_at relay (map orders_in (set rows label new)) label r ≡ Some v
+found_after relay rows label r v row new there a l at is t yes_there =
+    let stands : IsOutbox relay (set rows label new) = single_stands relay rows label row new a l at (ap receivers_in is ∙ put_names r v row) in
     let inside : label < length (set rows label new) = rw (length-set rows label new) l in
-    sym (order_found (contents_of s (set rows label new)) s (set rows label new) label r new (Some v) refl stands inside (sym (get_or-set_same rows label new new l)) (put_found r v row (sym t ∙ yes_there) ∙ ap (order_in r) (sym is)))
+    sym (order_found (contents_of relay [] (set rows label new)) relay [] (set rows label new) label r new (Some v) refl stands inside (sym (get_or-set_same rows label new new l)) (put_found r v row (sym t ∙ yes_there) ∙ ap (order_in r) (sym is)))
 
 -- nothing is put
 empty_names_in : (ns : List ℕ) → receivers_in (empty_row ns) ≡ ns

@@ -1,21 +1,23 @@
 -- From the rows to what the owner sees.
-use Rattle.std.proofs.Common.{ℕ, suc, ◌+◌, ◌<◌, ◌≤◌, ◌≡◌, Bool, cond, List, map, length, get_or, set, sym, ap, ◌∙◌, arith, Some, None, subst, add-one, zero-add}
+use Rattle.std.proofs.Common.{ℕ, suc, ◌+◌, ◌<◌, ◌≤◌, ◌≡◌, Bool, cond, List, map, length, get_or, set, sym, ap, ◌∙◌, arith, Option, Some, None, subst, add-one, zero-add}
 use Rattle.std.specs.Prelude.{◌==◌, if◌then◌else◌}
 use Rattle.std.proofs.lemmas.List.{length-map}
 use Rattle.label.specs.declared.shape.Shape.{Shape}
 use Rattle.label.specs.Labels.{on}
-use Rattle.label.specs.Relay.{relay, receivers}
+use Rattle.label.specs.Relay.{receivers}
+use Rattle.semantics.specs.Relay.{Relay, relayed}
+use Rattle.semantics.specs.declared.entry.Entry.{Entry}
 use Rattle.semantics.specs.Outbox.{Choice, written, places_set}
 use Rattle.semantics.proofs.PlacesLaws.{relays_few}
 use Rattle.outbox.specs.Rows.{RowOrders, receivers_in, orders_in, put_row}
-use Rattle.outbox.specs.Contents.{Contents, contents_of, IsOutbox}
+use Rattle.outbox.specs.Contents.{Signing, relay_of, Contents, contents_of, IsOutbox}
 use Rattle.outbox.proofs.Whole.{put_first, found_first, first_names, first_next, first_more, found_more, all_written, all_set}
 
 -- there are few rows
-pub rows_few : (s : Shape) (rows : List RowOrders) → IsOutbox s rows → length rows ≤ 990
-rows_few s rows a =
-    let few : length (relay s) ≤ 990 = relays_few s a.within in
-    let same : length rows ≡ length (relay s) = sym (length-map rows receivers_in) ∙ (ap length a.names ∙ length-map (relay s) (receivers s)) in
+pub rows_few : (relay : Relay) (rows : List RowOrders) → IsOutbox relay rows → length rows ≤ 990
+rows_few relay rows a =
+    let few : length (relayed relay) ≤ 990 = relays_few relay a.within in
+    let same : length rows ≡ length (relayed relay) = sym (length-map rows receivers_in) ∙ (ap length a.names ∙ length-map (relayed relay) (receivers relay.shape)) in
     omega arith
 
 -- one row more
@@ -32,18 +34,22 @@ count_step r f m count rows cur row there e l at t is =
     let more : found_first r (suc m) rows ≡ found_first r m rows + cond {A = ℕ} (on (receivers_in (get_or rows m row)) r) 1 0 = found_more r m rows row l in
     rw (add-one m) (omega arith)
 
-pub sweep_stands : (s t : Shape) (r : ℕ) (f : ℕ → ℕ) (m : ℕ) (rows cur : List RowOrders) → IsOutbox s rows → t ≡ s → cur ≡ put_first r f 0 m rows → IsOutbox t cur
-sweep_stands s t r f m rows cur a same e =
-    let here : IsOutbox s cur = record { within = a.within; names = ap (map receivers_in) e ∙ (first_names r f 0 m rows ∙ a.names) } in
-    subst (λ (k : Shape). IsOutbox k cur) (sym same) here
+pub sweep_stands : (relay other : Relay) (r : ℕ) (f : ℕ → ℕ) (m : ℕ) (rows cur : List RowOrders) → IsOutbox relay rows → other ≡ relay → cur ≡ put_first r f 0 m rows → IsOutbox other cur
+sweep_stands relay other r f m rows cur a same e =
+    let here : IsOutbox relay cur = record { within = a.within; names = ap (map receivers_in) e ∙ (first_names r f 0 m rows ∙ a.names) } in
+    subst (λ (k : Relay). IsOutbox k cur) (sym same) here
 
 -- all rows are written
-pub sweep_written : (choice : Choice) (now : Contents) (s : Shape) (r : ℕ) (f : ℕ → ℕ) (m : ℕ) (rows cur : List RowOrders) → ((k b n : ℕ) → choice (record { rank = k; number = b; receiver = n }) ≡ (if n == r then Some (f k) else None)) → contents_of s rows ≡ now → IsOutbox s rows → m ≡ length rows → cur ≡ put_first r f 0 m rows → map orders_in cur ≡ written now.shape choice now.rows
-sweep_written choice now s r f m rows cur goes seen a all e =
-    subst (λ (k : Contents). map orders_in cur ≡ written k.shape choice k.rows) seen
-    (ap (map orders_in) (e ∙ ap (λ k. put_first r f 0 k rows) all) ∙ sym (all_written choice s r f goes 0 rows (relay s) a.names))
+pub sweep_written : (choice : Choice) (now : Contents) (relay : Relay) (entries : List Entry) (r : ℕ) (f : ℕ → ℕ) (m : ℕ) (rows cur : List RowOrders) → ((k b n : ℕ) → choice (record { rank = k; number = b; receiver = n }) ≡ (if n == r then Some (f k) else None)) → contents_of relay entries rows ≡ now → IsOutbox relay rows → m ≡ length rows → cur ≡ put_first r f 0 m rows → map orders_in cur ≡ written now.relay choice now.rows
+sweep_written choice now relay entries r f m rows cur goes seen a all e =
+    subst (λ (k : Contents). map orders_in cur ≡ written k.relay choice k.rows) seen
+    (ap (map orders_in) (e ∙ ap (λ k. put_first r f 0 k rows) all) ∙ sym (all_written choice relay.shape r f goes 0 rows (relayed relay) a.names))
 
-pub sweep_counted : (choice : Choice) (now : Contents) (s : Shape) (r : ℕ) (f : ℕ → ℕ) (m count : ℕ) (rows : List RowOrders) → ((k b n : ℕ) → choice (record { rank = k; number = b; receiver = n }) ≡ (if n == r then Some (f k) else None)) → contents_of s rows ≡ now → IsOutbox s rows → m ≡ length rows → count ≡ found_first r m rows → count ≡ places_set now.shape choice
-sweep_counted choice now s r f m count rows goes seen a all e =
-    subst (λ (k : Contents). count ≡ places_set k.shape choice) seen
-    (e ∙ (ap (λ k. found_first r k rows) all ∙ sym (all_set choice s r f goes 0 rows (relay s) a.names)))
+pub sweep_counted : (choice : Choice) (now : Contents) (relay : Relay) (entries : List Entry) (r : ℕ) (f : ℕ → ℕ) (m count : ℕ) (rows : List RowOrders) → ((k b n : ℕ) → choice (record { rank = k; number = b; receiver = n }) ≡ (if n == r then Some (f k) else None)) → contents_of relay entries rows ≡ now → IsOutbox relay rows → m ≡ length rows → count ≡ found_first r m rows → count ≡ places_set now.relay choice
+sweep_counted choice now relay entries r f m count rows goes seen a all e =
+    subst (λ (k : Contents). count ≡ places_set k.relay choice) seen
+    (e ∙ (ap (λ k. found_first r k rows) all ∙ sym (all_set choice relay.shape r f goes 0 rows (relayed relay) a.names)))
+
+-- a relay is its shape, and the chains held
+pub same_relay : {s t : Shape} {one other : Option Signing} → s ≡ t → one ≡ other → relay_of s one ≡ relay_of t other
+same_relay e f = λ i. relay_of (e i) (f i)

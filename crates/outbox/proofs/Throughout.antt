@@ -5,7 +5,9 @@ use Rattle.std.proofs.lemmas.Bool.{eq-eqb, or_left, or_right, cases_lt}
 use Rattle.std.proofs.lemmas.List.{get_or_past}
 use Rattle.label.specs.declared.shape.Shape.{Shape}
 use Rattle.label.specs.Labels.{on}
-use Rattle.label.specs.Relay.{relay, receivers}
+use Rattle.label.specs.Relay.{receivers}
+use Rattle.semantics.specs.Relay.{Relay, relayed}
+use Rattle.semantics.specs.declared.entry.Entry.{Entry}
 use Rattle.semantics.specs.Outbox.{places}
 use Rattle.semantics.proofs.PlacesLaws.{row_from, rows_from}
 use Rattle.outbox.specs.Masks.{has_bit, kept_from}
@@ -96,10 +98,10 @@ all_step f m rows cur row new e l at is =
     let next : new ≡ all_put (f (0 + m)) (get_or rows m row) = is ∙ (ap (λ k. all_put (f k) row) (sym (zero-add m)) ∙ ap (all_put (f (0 + m))) was) in
     ap (λ xs. set xs m new) e ∙ (ap (set (all_first f 0 m rows) m) next ∙ (all_more f 0 m rows row l ∙ ap (λ k. all_first f 0 k rows) (sym (add-one m))))
 
-pub all_stand : (s t : Shape) (f : ℕ → ℕ) (m : ℕ) (rows cur : List RowOrders) → IsOutbox s rows → t ≡ s → cur ≡ all_first f 0 m rows → IsOutbox t cur
-all_stand s t f m rows cur a same e =
-    let here : IsOutbox s cur = record { within = a.within; names = ap (map receivers_in) e ∙ (all_names f 0 m rows ∙ a.names) } in
-    subst (λ (k : Shape). IsOutbox k cur) (sym same) here
+pub all_stand : (relay other : Relay) (f : ℕ → ℕ) (m : ℕ) (rows cur : List RowOrders) → IsOutbox relay rows → other ≡ relay → cur ≡ all_first f 0 m rows → IsOutbox other cur
+all_stand relay other f m rows cur a same e =
+    let here : IsOutbox relay cur = record { within = a.within; names = ap (map receivers_in) e ∙ (all_names f 0 m rows ∙ a.names) } in
+    subst (λ (k : Relay). IsOutbox k cur) (sym same) here
 
 -- all rows
 row_done : (f : ℕ → ℕ) (k b : ℕ) (row : RowOrders) → orders_in (all_put (f k) row) ≡ map (λ place. Some (f place.rank)) (row_from k b (receivers_in row))
@@ -116,7 +118,7 @@ rows_done f s a (row ∷ rows) (w ∷ ws) e =
     let rest : map orders_in (all_first f (a + 1) (length rows) rows) ≡ map (λ row. map (λ place. Some (f place.rank)) row) (rows_from s (a + 1) ws) = rows_done f s (a + 1) rows ws parts.1 in
     rw (here, rest) refl
 
-pub all_done : (now : Contents) (s : Shape) (f : ℕ → ℕ) (m : ℕ) (rows cur : List RowOrders) → contents_of s rows ≡ now → IsOutbox s rows → m ≡ length rows → cur ≡ all_first f 0 m rows → map orders_in cur ≡ map (λ row. map (λ place. Some (f place.rank)) row) (places now.shape)
-all_done now s f m rows cur seen a all e =
-    subst (λ (k : Contents). map orders_in cur ≡ map (λ row. map (λ place. Some (f place.rank)) row) (places k.shape)) seen
-    (ap (map orders_in) (e ∙ ap (λ k. all_first f 0 k rows) all) ∙ rows_done f s 0 rows (relay s) a.names)
+pub all_done : (now : Contents) (relay : Relay) (entries : List Entry) (f : ℕ → ℕ) (m : ℕ) (rows cur : List RowOrders) → contents_of relay entries rows ≡ now → IsOutbox relay rows → m ≡ length rows → cur ≡ all_first f 0 m rows → map orders_in cur ≡ map (λ row. map (λ place. Some (f place.rank)) row) (places now.relay)
+all_done now relay entries f m rows cur seen a all e =
+    subst (λ (k : Contents). map orders_in cur ≡ map (λ row. map (λ place. Some (f place.rank)) row) (places k.relay)) seen
+    (ap (map orders_in) (e ∙ ap (λ k. all_first f 0 k rows) all) ∙ rows_done f relay.shape 0 rows (relayed relay) a.names)

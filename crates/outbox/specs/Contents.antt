@@ -1,23 +1,42 @@
 -- An outbox as its owner sees it.
-use Rattle.std.specs.Prelude.{ℕ, ◌≡◌, ◌==◌, if◌then◌else◌, List, [], ◌∷◌, map, length, Option, None, slice_index_or}
+use Rattle.std.specs.Prelude.{ℕ, ◌≡◌, ◌==◌, if◌then◌else◌, List, [], ◌∷◌, map, length, Option, None, Some, slice_index_or}
 use Rattle.label.specs.declared.shape.Shape.{Shape}
-use Rattle.label.specs.Relay.{IsShape, relay, receivers}
+use Rattle.label.specs.Relay.{receivers}
+use Rattle.semantics.specs.Relay.{Kind, Oral, Signed, Relay, IsRelay, relayed}
+use Rattle.semantics.specs.declared.entry.Entry.{Entry}
 use Rattle.semantics.specs.State.{Outbox}
 use Rattle.semantics.specs.Outbox.{Place, places}
 use Rattle.outbox.specs.Rows.{RowOrders, receivers_in, orders_in}
 
--- whose relay it is, and for each label, by rank, the order for each receiver, or nothing
+-- whose relay it is, for each label, by rank, the order for each receiver, or nothing, and what was entered
 pub record Contents : Type 0 where
-  pub shape : Shape
+  pub relay : Relay
   pub rows : Outbox
+  pub entries : List Entry
 
-abbrev pub contents_of : Shape → List RowOrders → Contents
-contents_of s rows = record { shape = s; rows = map orders_in rows }
+-- where orders are signed: for each chain that the general holds its signers, and what was entered
+pub record Signing : Type 0 where
+  pub held : List ℕ
+  pub entries : List Entry
+
+abbrev pub kind_of : Option Signing → Kind
+kind_of None = Oral
+kind_of (Some s) = Signed s.held
+
+abbrev pub entries_of : Option Signing → List Entry
+entries_of None = []
+entries_of (Some s) = s.entries
+
+abbrev pub relay_of : Shape → Option Signing → Relay
+relay_of s signing = record { shape = s; kind = kind_of signing }
+
+abbrev pub contents_of : Relay → List Entry → List RowOrders → Contents
+contents_of r entries rows = record { relay = r; rows = map orders_in rows; entries = entries }
 
 -- each row is that of its label
-pub record IsOutbox (s : Shape) (rows : List RowOrders) : Type 0 where
-  pub within : IsShape s
-  pub names : map receivers_in rows ≡ map (receivers s) (relay s)
+pub record IsOutbox (r : Relay) (rows : List RowOrders) : Type 0 where
+  pub within : IsRelay r
+  pub names : map receivers_in rows ≡ map (receivers r.shape) (relayed r)
 
 -- the order at a receiver's place among those of a row
 abbrev pub order_among : ℕ → List Place → List (Option ℕ) → Option ℕ
@@ -26,9 +45,9 @@ order_among receiver (p ∷ ps) [] = None
 order_among receiver (p ∷ ps) (o ∷ orders) = if p.receiver == receiver then o else order_among receiver ps orders
 
 -- the order at a label's place, or nothing where there is no such place
-abbrev pub order_at : Shape → Outbox → ℕ → ℕ → Option ℕ
-order_at s outbox label receiver = order_among receiver (slice_index_or (places s) label []) (slice_index_or outbox label [])
+abbrev pub order_at : Relay → Outbox → ℕ → ℕ → Option ℕ
+order_at r outbox label receiver = order_among receiver (slice_index_or (places r) label []) (slice_index_or outbox label [])
 
 -- the rows have as many orders as there are places
-abbrev pub HasPlaces : Shape → Outbox → Type 0
-HasPlaces s outbox = map length outbox ≡ map length (places s)
+abbrev pub HasPlaces : Relay → Outbox → Type 0
+HasPlaces r outbox = map length outbox ≡ map length (places r)

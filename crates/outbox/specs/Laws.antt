@@ -1,6 +1,6 @@
 -- What an outbox gives after a helper has put orders. The statement is the contract of a function of this crate.
 use Rattle.std.specs.Prelude.{ℕ, ◌≡◌, ◌==◌, if◌then◌else◌, List, [], ◌∷◌, Option, Some, None, slice_index_or}
-use Rattle.label.specs.declared.shape.Shape.{Shape}
+use Rattle.semantics.specs.Relay.{Relay}
 use Rattle.semantics.specs.State.{Outbox}
 use Rattle.semantics.specs.Outbox.{Place, places, Choice, newer, written}
 use Rattle.outbox.specs.Contents.{HasPlaces, order_at}
@@ -11,8 +11,8 @@ place_among receiver [] = None
 place_among receiver (p ∷ ps) = if p.receiver == receiver then Some p else place_among receiver ps
 
 -- the place of a label and receiver, where there is one
-abbrev pub place_of : Shape → ℕ → ℕ → Option Place
-place_of s label receiver = place_among receiver (slice_index_or (places s) label [])
+abbrev pub place_of : Relay → ℕ → ℕ → Option Place
+place_of relay label receiver = place_among receiver (slice_index_or (places relay) label [])
 
 -- what a place gives after a choice: the order put there, else what it gave before
 abbrev pub order_after : Choice → Option Place → Option ℕ → Option ℕ
@@ -21,6 +21,6 @@ order_after choice (Some place) before = newer (choice place) before
 
 -- whatever places a helper chooses (one, a row's, a receiver's, those of taken values), each gives the last order put there, and the others give what they gave
 pub record LastOrdersAreGiven : Type 0 where
-  pub gives : (s : Shape) (choice : Choice) (outbox : Outbox) (label receiver : ℕ) → HasPlaces s outbox →
-      order_at s (written s choice outbox) label receiver ≡ order_after choice (place_of s label receiver) (order_at s outbox label receiver)
-  pub stays : (s : Shape) (choice : Choice) (outbox : Outbox) → HasPlaces s outbox → HasPlaces s (written s choice outbox)
+  pub gives : (relay : Relay) (choice : Choice) (outbox : Outbox) (label receiver : ℕ) → HasPlaces relay outbox →
+      order_at relay (written relay choice outbox) label receiver ≡ order_after choice (place_of relay label receiver) (order_at relay outbox label receiver)
+  pub stays : (relay : Relay) (choice : Choice) (outbox : Outbox) → HasPlaces relay outbox → HasPlaces relay (written relay choice outbox)

@@ -10,8 +10,10 @@ mod receivers;
 mod relays;
 mod row;
 mod rows;
+mod signing;
 
 pub use label::Shape;
 pub use laws::last_orders_are_given;
 pub use orders::Outbox;
 pub use row::Row;
+pub use semantics::Entry;

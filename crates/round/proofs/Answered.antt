@@ -27,7 +27,7 @@ stays_over (suc k) a t end over h = absurd (let A : Turn → Type 0 = λ o. Onwa
 
 module _ (program : List Insn) (context : List ℕ) (relay : Relay) (sound : IsSound program) (is_context : IsContext context) (is_relay : IsRelay relay) where
   abbrev here : State → Activation
-  here s = activation_of None program context (record { shape = relay; state = s }) false
+  here s = activation_of None program context (record { relay = relay; state = s }) false
 
   reach_by : (k : ℕ) (s : State) (answers : List (List ℕ)) (t : List Access) (end : Activation) (o : Outcome) → step program context relay s ≡ o → Reached program context relay answers s → AreFitting t → end.over ≡ false
       → ((u : State) (more : List (List ℕ)) (t' : List Access) → Reached program context relay more u → AreFitting t' → Runs k (here u) t' end → Reached program context relay (more ++ map (λ x. x.reply) t') end.state)

@@ -73,7 +73,7 @@ proved_runs_are_safe = record {
   fewer = λ p program context relay k t end sound is_context is_relay fit h. (left p program context relay k t end sound is_context is_relay fit h).fewer;
   untrapped = λ p program context relay k t end cause sound is_context is_relay fit h on e.
       let l = left p program context relay k t end sound is_context is_relay fit h in
-      let safe = IsSafe-no_trap end.program end.context end.shape l.left end.state (l.going on) in
+      let safe = IsSafe-no_trap end.program end.context end.relay l.left end.state (l.going on) in
       (let A : Outcome → Type 0 = λ o. LeadsTo (λ next. Unit {0}) o in subst A e safe);
 }
   where

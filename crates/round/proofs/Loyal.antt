@@ -3,13 +3,14 @@ use Rattle.std.proofs.Common.{◌≡◌, ℕ, suc, ◌+◌, ◌<◌, ◌≤◌, 
 use Rattle.std.specs.Prelude.{slice_get}
 use Rattle.std.specs.List.{enumerate_from}
 use Rattle.label.specs.declared.shape.Shape.{Shape}
+use Rattle.semantics.specs.Relay.{oral}
 use Rattle.label.specs.Relay.{relay, receivers}
 use Rattle.semantics.specs.Outbox.{taken_value}
 use Rattle.semantics.proofs.PlacesLaws.{row_from}
 use Rattle.outbox.specs.Contents.{Contents}
 use Rattle.round.specs.Scenario.{Scenario, IsScenario, shape_of}
 use Rattle.round.specs.Letters.{Letter, telling}
-use Rattle.round.specs.Contexts.{AreWords, value_of, context_numbers, context_of, IsToldTo, shape_told, outbox_told, letter_told, loyal_letter}
+use Rattle.round.specs.Contexts.{AreWords, value_of, context_numbers, context_of, IsToldTo, shape_told, tells_oral, outbox_told, letter_told, loyal_letter}
 use Rattle.round.specs.Laws.{ContextsTell, LoyalLettersFollow}
 use Rattle.round.proofs.Telling.{number_at, value_is_told}
 
@@ -33,10 +34,18 @@ own_is_told s before g is inside le =
     let rounds = is.rounds in
     (number_at numbers 2 8 g refl (omega arith) refl (omega arith), number_at numbers 4 16 (suc (length before)) refl (omega arith) refl (omega arith))
 
+-- that orders are oral
+pub oral_is_told : (s : Scenario) (before : List (List Letter)) (g : ℕ) → IsScenario s → tells_oral (context_of s before g)
+oral_is_told s before g is =
+    let shape = shape_of s g (suc (length before)) in
+    let numbers : List ℕ = context_numbers shape s.bound (map (value_of s before g) (relay shape)) in
+    number_at numbers 7 28 0 refl (omega arith) refl (omega arith)
+
 pub proved_contexts_tell : ContextsTell
 proved_contexts_tell = record {
   own = own_is_told;
   shape = λ s before g is inside le. shape_is_told s before g (suc (length before)) is;
+  spoken = oral_is_told;
   values = value_is_told;
 }
 
@@ -59,7 +68,7 @@ told_is s before g is within le small =
     let shape = shape_of s g (suc (length before)) in
     let rows = number_rows shape (λ rank. taken_value (context_of s before g) rank) (value_of s before g) 0 (relay shape)
     (λ rank u at. (let z : 0 + rank ≡ rank = omega arith in ap (λ (n : ℕ). taken_value (context_of s before g) n) z ∙ value_is_told s before g rank u is within le at (small rank u at))) in
-    (λ i. record { shape = shape; rows = rows i })
+    (λ i. record { relay = oral shape; rows = rows i; entries = [] })
 
 -- so his letter is the loyal one
 pub letter_is : (s : Scenario) (before : List (List Letter)) (g : ℕ) → IsScenario s → g < s.generals → length before ≤ s.bound → AreWords s before g
@@ -71,5 +80,5 @@ letter_is s before g is within le small =
 pub proved_loyal_letters_follow : LoyalLettersFollow
 proved_loyal_letters_follow = record {
   letter = letter_is;
-  kept = λ context is. record { context = is; own = (refl, refl); shape = refl; run = (refl, refl, refl, refl) };
+  kept = λ context is. record { context = is; own = (refl, refl); shape = refl; kind = λ spoken. refl; run = (refl, refl, refl, refl) };
 }

@@ -3,12 +3,11 @@ use Rattle.std.proofs.Common.{◌≡◌, ℕ, zero, suc, ◌≤◌, List, [], �
 use Rattle.std.specs.Option.{option_to_list}
 use Rattle.std.specs.Prelude.{◌||◌}
 use Rattle.insn.specs.declared.insn.Insn.{Insn}
-use Rattle.label.specs.declared.shape.Shape.{Shape}
-use Rattle.semantics.specs.Relay.{IsContext}
+use Rattle.semantics.specs.Relay.{IsContext, Relay}
 use Rattle.semantics.specs.Call.{fits}
 use Rattle.board.specs.Board.{Access}
 use Rattle.round.specs.Activation.{Activation, Turn, Goes, Asks, Ended, turn, started, has_ended, is_reached}
-use Rattle.round.specs.Contexts.{IsToldTo, shape_told}
+use Rattle.round.specs.Contexts.{IsToldTo, relay_told}
 use Rattle.round.specs.Letters.{Letter}
 use Rattle.round.specs.Runs.{Onward, Runs, AreFitting, IsWithin, IsLetter}
 use Rattle.round.specs.Running.{TakesTurn, IsSameRun, Silently, AreAccessesOf, IsOnWay, IsLived, letter_left}
@@ -50,7 +49,7 @@ all_more general round (y ∷ t) x h own zero d lt = h zero d (omega arith)
 all_more general round (y ∷ t) x h own (suc k) d lt = all_more general round t x (λ j e l. h (suc j) e (omega arith)) own k d (omega arith)
 
 pub same_run_on : (a b c : Activation) → IsSameRun a b → IsSameRun b c → IsSameRun a c
-same_run_on a b c h k = record { program = k.program ∙ h.program; context = k.context ∙ h.context; shape = k.shape ∙ h.shape; patience = k.patience ∙ h.patience }
+same_run_on a b c h k = record { program = k.program ∙ h.program; context = k.context ∙ h.context; relay = k.relay ∙ h.relay; patience = k.patience ∙ h.patience }
 
 -- one turn, and silently on
 run_on : (start a mid b : Activation) (t : List Access) (access : Option Access) → (k : ℕ) × Runs k start t a → TakesTurn (turn a) access mid → Silently mid b → (n : ℕ) × Runs n start (t ++ option_to_list access) b
@@ -81,37 +80,38 @@ silently_later a b went = (let e = runs_steps went.0 a [] b went.1 in omega arit
 
 pub way_begins : (general round : ℕ) (a : Activation) (t : List Access) → t ≡ [] → IsOnWay general round a a t
 way_begins general round a t none = record {
-  same = record { program = refl; context = refl; shape = refl; patience = refl };
+  same = record { program = refl; context = refl; relay = refl; patience = refl };
   run = (0, (none, refl));
   own = subst (λ (l : List Access). AreAccessesOf general round l) (sym none) (all_none general round);
   fitting = subst (λ (l : List Access). AreFitting l) (sym none) tt;
 }
 
 -- the same run without a patience
-run_without : (patience : Option ℕ) (program : List Insn) (context : List ℕ) (shape : Shape) (t : List Access) (a : Activation) → (k : ℕ) × Runs k (started patience program context shape) t a → Runs a.state.steps (started None program context shape) t (under None a)
-run_without patience program context shape t a run =
-    let counted : a.state.steps ≡ run.0 = let e = runs_steps run.0 (started patience program context shape) t a run.1 in omega arith in
-    subst (λ (n : ℕ). Runs n (started None program context shape) t (under None a)) (sym counted) (runs_under None run.0 (started patience program context shape) t a tt run.1)
+run_without : (patience : Option ℕ) (program : List Insn) (context : List ℕ) (relay : Relay) (t : List Access) (a : Activation) → (k : ℕ) × Runs k (started patience program context relay) t a → Runs a.state.steps (started None program context relay) t (under None a)
+run_without patience program context relay t a run =
+    let counted : a.state.steps ≡ run.0 = let e = runs_steps run.0 (started patience program context relay) t a run.1 in omega arith in
+    subst (λ (n : ℕ). Runs n (started None program context relay) t (under None a)) (sym counted) (runs_under None run.0 (started patience program context relay) t a tt run.1)
 
 -- what is left is a letter
-pub letter_of_run : (general round : ℕ) (t : List Access) (a : Activation) → IsContext a.context → IsToldTo general round a.context → a.shape ≡ shape_told general round a.context → AreFitting t → (k : ℕ) × Runs k (started a.patience a.program a.context a.shape) t a → IsLetter (letter_left general round t a)
-letter_of_run general round t a context own shape fit run = record {
+pub letter_of_run : (general round : ℕ) (t : List Access) (a : Activation) → IsContext a.context → IsToldTo general round a.context → a.relay ≡ relay_told general round a.context → AreFitting t → (k : ℕ) × Runs k (started a.patience a.program a.context a.relay) t a → IsLetter (letter_left general round t a)
+letter_of_run general round t a context own relay fit run = record {
   context = context;
   own = own;
-  shape = shape;
-  run = (fit, under None a, run_without a.patience a.program a.context a.shape t a run, refl, refl);
+  shape = ap (λ (r : Relay). r.shape) relay;
+  kind = λ spoken. ap (λ (r : Relay). r.kind) relay;
+  run = (fit, under None a, run_without a.patience a.program a.context a.relay t a run, refl, refl, refl);
 }
 
 -- an activation that is on its way, by its own parts
-pub own_run : (general round : ℕ) (program : List Insn) (context : List ℕ) (patience : Option ℕ) (shape : Shape) (t : List Access) (a : Activation) → IsOnWay general round (started patience program context shape) a t → (k : ℕ) × Runs k (started a.patience a.program a.context a.shape) t a
-own_run general round program context patience shape t a way =
+pub own_run : (general round : ℕ) (program : List Insn) (context : List ℕ) (patience : Option ℕ) (relay : Relay) (t : List Access) (a : Activation) → IsOnWay general round (started patience program context relay) a t → (k : ℕ) × Runs k (started a.patience a.program a.context a.relay) t a
+own_run general round program context patience relay t a way =
     let s = way.same in
-    (way.run.0, subst (λ (x : Activation). Runs way.run.0 x t a) (λ i. started (sym s.patience i) (sym s.program i) (sym s.context i) (sym s.shape i)) way.run.1)
+    (way.run.0, subst (λ (x : Activation). Runs way.run.0 x t a) (λ i. started (sym s.patience i) (sym s.program i) (sym s.context i) (sym s.relay i)) way.run.1)
 
 -- of an activation that has ended
-pub lived : (general round : ℕ) (program : List Insn) (context : List ℕ) (patience : Option ℕ) (shape : Shape) (t : List Access) (a : Activation) (l : Letter) → shape ≡ shape_told general round context → IsWithin a.patience a.state.steps →
-    IsOnWay general round (started patience program context shape) a t → has_ended a ≡ true → l ≡ letter_left general round t a → IsLived general round program context patience l
-lived general round program context patience shape t a l told within way ended is =
+pub lived : (general round : ℕ) (program : List Insn) (context : List ℕ) (patience : Option ℕ) (relay : Relay) (t : List Access) (a : Activation) (l : Letter) → relay ≡ relay_told general round context → IsWithin a.patience a.state.steps →
+    IsOnWay general round (started patience program context relay) a t → has_ended a ≡ true → l ≡ letter_left general round t a → IsLived general round program context patience l
+lived general round program context patience relay t a l told within way ended is =
     let s = way.same in
     subst (λ (x : Letter). IsLived general round program context patience x) (sym is)
     (record {
@@ -119,11 +119,12 @@ lived general round program context patience shape t a l told within way ended i
       own_round = refl;
       own_context = s.context;
       own_program = ap (λ (p : List Insn). Some p) s.program;
-      shape = s.shape ∙ told;
+      relay = s.relay ∙ told;
       run = (
         way.fitting,
         under None a,
-        subst (λ (x : Activation). Runs a.state.steps x t (under None a)) (λ i. started None program (sym s.context i) (sym s.shape i)) (run_without patience program context shape t a way.run),
+        subst (λ (x : Activation). Runs a.state.steps x t (under None a)) (λ i. started None program (sym s.context i) (sym s.relay i)) (run_without patience program context relay t a way.run),
+        refl,
         refl,
         refl,
       );

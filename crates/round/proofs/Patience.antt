@@ -32,11 +32,11 @@ turn_likewise : (p : Option ℕ) (a : Activation) → (a.over ≡ false → is_r
 turn_likewise p a h = by a.over (is_reached a.patience a.state.steps) (is_reached p a.state.steps) h
   where
     by : (b x y : Bool) → (b ≡ false → y ≡ false)
-        → Likewise p (cond (b || x) Ended (turned a (step a.program a.context a.shape a.state))) (cond (b || y) Ended (turned (under p a) (step a.program a.context a.shape a.state)))
+        → Likewise p (cond (b || x) Ended (turned a (step a.program a.context a.relay a.state))) (cond (b || y) Ended (turned (under p a) (step a.program a.context a.relay a.state)))
     by true x y h = tt
     by false true y h = tt
     by false false true h = absurd (let e : true ≡ false = h refl in cc)
-    by false false false h = turned_likewise p a (step a.program a.context a.shape a.state)
+    by false false false h = turned_likewise p a (step a.program a.context a.relay a.state)
 
 abbrev Again : Option ℕ → ℕ → Turn → Turn → Type 0
 Again p k o o' = (t : List Access) (end : Activation) → Onward (Runs k) o t end → Onward (Runs k) o' t (under p end)
@@ -79,12 +79,12 @@ turned_keeps a (Trap cause) e c = (refl, within_begin a.patience a.state.steps (
 turn_keeps : (a : Activation) → Keeps a (turn a)
 turn_keeps a = by a.over (is_reached a.patience a.state.steps) refl
   where
-    by : (b x : Bool) → is_reached a.patience a.state.steps ≡ x → Keeps a (cond (b || x) Ended (turned a (step a.program a.context a.shape a.state)))
+    by : (b x : Bool) → is_reached a.patience a.state.steps ≡ x → Keeps a (cond (b || x) Ended (turned a (step a.program a.context a.relay a.state)))
     by true x e = tt
     by false true e = tt
     by false false e =
-        let o = step a.program a.context a.shape a.state in
-        turned_keeps a o e (turned_counts a o (step_counts a.program a.context a.shape a.state))
+        let o = step a.program a.context a.relay a.state in
+        turned_keeps a o e (turned_counts a o (step_counts a.program a.context a.relay a.state))
 
 -- under one patience
 abbrev pub Kept : Option ℕ → Activation → Type 0

@@ -7,6 +7,8 @@ use Rattle.std.proofs.lemmas.Slice.Eq.{bytes_eq-Decides}
 use Rattle.label.specs.declared.shape.Shape.{Shape}
 use Rattle.label.specs.Relay.{relay, receivers}
 use Rattle.label.proofs.Listing.{proved_labels_differ}
+use Rattle.semantics.specs.Relay.{Kind, Oral, Signed, Relay, oral}
+use Rattle.semantics.specs.declared.entry.Entry.{Entry}
 use Rattle.semantics.proofs.PlacesLaws.{row_from, rows_from}
 use Rattle.outbox.specs.Contents.{order_among, order_at}
 use Rattle.round.specs.Letters.{Letter, beside, tells, letter_of}
@@ -57,13 +59,27 @@ places_at s a (suc i) (w ∷ ws) u at =
     let k : a + 1 + i ≡ a + suc i = omega arith in
     places_at s (a + 1) i ws u at ∙ ap (λ (m : ℕ). row_from m 0 (receivers s u)) k
 
-pub order_tells : (s : Shape) (outbox : List (List (Option ℕ))) (u : List ℕ) (p rank : ℕ) → s.commander < s.generals → s.general < s.generals → slice_get (relay s) rank ≡ Some u →
-    order_at s outbox rank p ≡ tells (record { shape = s; rows = outbox }) u p
-order_tells s outbox u p rank commander general at =
+beside-nothing : {A B : Type 0} (is : A → Bool) (none : B) (xs : List A) → beside is none xs [] ≡ none
+beside-nothing is none [] = refl
+beside-nothing is none (x ∷ xs) = refl
+
+spoken_tells : (s : Shape) (outbox : List (List (Option ℕ))) (entries : List Entry) (u : List ℕ) (p rank : ℕ) → s.commander < s.generals → s.general < s.generals → slice_get (relay s) rank ≡ Some u →
+    order_at (oral s) outbox rank p ≡ tells (record { relay = oral s; rows = outbox; entries = entries }) u p
+spoken_tells s outbox entries u p rank commander general at =
     ap (λ ps. order_among p ps (get_or outbox rank [])) (places_at s 0 rank (relay s) u at)
     ∙ (order_beside p (0 + rank) 0 (receivers s u) (get_or outbox rank [])
     ∙ sym (ap (λ row. beside (λ j. j == p) None (receivers s u) row)
     (beside-at (λ v. bytes_eq v u) [] (relay s) outbox rank u at ((bytes_eq-Decides u u).1 refl) (λ j y e h. relay_differ s j rank u commander general (e ∙ ap Some ((bytes_eq-Decides y u).0 h)) at))))
+
+kind_tells : (kind : Kind) (s : Shape) (outbox : List (List (Option ℕ))) (entries : List Entry) (u : List ℕ) (p rank : ℕ) → s.commander < s.generals → s.general < s.generals → slice_get (relay s) rank ≡ Some u →
+    order_at (record { shape = s; kind = kind }) outbox rank p ≡ tells (record { relay = record { shape = s; kind = kind }; rows = outbox; entries = entries }) u p
+kind_tells Oral s outbox entries u p rank commander general at = spoken_tells s outbox entries u p rank commander general at
+kind_tells (Signed held) s outbox entries u p rank commander general at = sym (beside-nothing (λ j. j == p) None (receivers s u))
+
+-- an outbox of signed messages tells nothing, and has no place
+pub order_tells : (r : Relay) (outbox : List (List (Option ℕ))) (entries : List Entry) (u : List ℕ) (p rank : ℕ) → r.shape.commander < r.shape.generals → r.shape.general < r.shape.generals → slice_get (relay r.shape) rank ≡ Some u →
+    order_at r outbox rank p ≡ tells (record { relay = r; rows = outbox; entries = entries }) u p
+order_tells r outbox entries u p rank commander general at = kind_tells r.kind r.shape outbox entries u p rank commander general at
 
 -- where a general's letter stands
 pub letter_stands : (row : List Letter) (g : ℕ) (l : Letter) → letter_of row g ≡ Some l → (i : ℕ) × (slice_get row i ≡ Some l) × (l.general ≡ g)

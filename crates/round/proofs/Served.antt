@@ -30,7 +30,7 @@ module _ (general round : ℕ) (start : Activation) (before : List Access) where
   pub given_up_behind : (a mid : Activation) (t old new : List Access) (o : Option Access) (x : Access) → o ≡ Some x → IsWayServed general round start a before t old → TakesTurn (turn a) o mid → (x.general ≡ general) × (x.round ≡ round) → fits x.request x.reply ≡ true →
       IsSameRun a mid → new ≡ old ++ option_to_list o → (b : Activation) × (made : List Access) × IsWayServed general round start b before made new
   given_up_behind a mid t old new o x some h turn_is own fit same entered =
-      (mid, t ++ x ∷ [], served_more a mid mid t (t ++ x ∷ []) old new o x some h turn_is own fit same entered (0, (refl, refl)) (record { program = refl; context = refl; shape = refl; patience = refl }) refl)
+      (mid, t ++ x ∷ [], served_more a mid mid t (t ++ x ∷ []) old new o x some h turn_is own fit same entered (0, (refl, refl)) (record { program = refl; context = refl; relay = refl; patience = refl }) refl)
 
 -- before its first turn
 pub served_first : (general round : ℕ) (a : Activation) (t before : List Access) → t ≡ [] → IsWayServed general round a a before t before

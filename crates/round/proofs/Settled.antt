@@ -11,11 +11,11 @@ use Rattle.round.specs.Runs.{Onward, Runs}
 pub record IsSettled (a b : Activation) : Type 0 where
   pub program : b.program ≡ a.program
   pub context : b.context ≡ a.context
-  pub shape : b.shape ≡ a.shape
+  pub relay : b.relay ≡ a.relay
   pub patience : b.patience ≡ a.patience
 
 then_settled : (a b c : Activation) → IsSettled a b → IsSettled b c → IsSettled a c
-then_settled a b c h k = record { program = k.program ∙ h.program; context = k.context ∙ h.context; shape = k.shape ∙ h.shape; patience = k.patience ∙ h.patience }
+then_settled a b c h k = record { program = k.program ∙ h.program; context = k.context ∙ h.context; relay = k.relay ∙ h.relay; patience = k.patience ∙ h.patience }
 
 abbrev Settles : Activation → Turn → Type 0
 Settles a (Goes b) = IsSettled a b
@@ -23,17 +23,17 @@ Settles a (Asks q f) = (r : List ℕ) → IsSettled a (f r)
 Settles a Ended = Unit {0}
 
 turned_settles : (a : Activation) (o : Outcome) → Settles a (turned a o)
-turned_settles a (Next s) = record { program = refl; context = refl; shape = refl; patience = refl }
-turned_settles a (Ask q s) = λ r. record { program = refl; context = refl; shape = refl; patience = refl }
-turned_settles a (Exit r0 s) = record { program = refl; context = refl; shape = refl; patience = refl }
-turned_settles a (Trap cause) = record { program = refl; context = refl; shape = refl; patience = refl }
+turned_settles a (Next s) = record { program = refl; context = refl; relay = refl; patience = refl }
+turned_settles a (Ask q s) = λ r. record { program = refl; context = refl; relay = refl; patience = refl }
+turned_settles a (Exit r0 s) = record { program = refl; context = refl; relay = refl; patience = refl }
+turned_settles a (Trap cause) = record { program = refl; context = refl; relay = refl; patience = refl }
 
 turn_settles : (a : Activation) → Settles a (turn a)
 turn_settles a = by (has_ended a)
   where
-    by : (b : Bool) → Settles a (cond b Ended (turned a (step a.program a.context a.shape a.state)))
+    by : (b : Bool) → Settles a (cond b Ended (turned a (step a.program a.context a.relay a.state)))
     by true = tt
-    by false = turned_settles a (step a.program a.context a.shape a.state)
+    by false = turned_settles a (step a.program a.context a.relay a.state)
 
 settled_by : (a : Activation) (o : Turn) (k : ℕ) (t : List Access) (end : Activation) → ((b : Activation) (t' : List Access) → Runs k b t' end → IsSettled b end) → Settles a o → Onward (Runs k) o t end → IsSettled a end
 settled_by a (Goes b) k t end again here h = then_settled a b end here (again b t h)
@@ -45,14 +45,14 @@ pub runs_settled : (k : ℕ) (a : Activation) (t : List Access) (end : Activatio
 runs_settled zero a t end h = record {
   program = ap (λ (b : Activation). b.program) (sym h.1);
   context = ap (λ (b : Activation). b.context) (sym h.1);
-  shape = ap (λ (b : Activation). b.shape) (sym h.1);
+  relay = ap (λ (b : Activation). b.relay) (sym h.1);
   patience = ap (λ (b : Activation). b.patience) (sym h.1);
 }
 runs_settled (suc k) a t end h = settled_by a (turn a) k t end (λ b t' r. runs_settled k b t' end r) (turn_settles a) h
 
 -- a run from a start is one from the start that its end tells
 pub start_told : (p : Option ℕ) (program : List Insn) (context : List ℕ) (relay : Relay) (k : ℕ) (t : List Access) (end : Activation) → Runs k (started p program context relay) t end
-    → started end.patience end.program end.context end.shape ≡ started p program context relay
+    → started end.patience end.program end.context end.relay ≡ started p program context relay
 start_told p program context relay k t end h =
     let same = runs_settled k (started p program context relay) t end h in
-    (λ i. started (same.patience i) (same.program i) (same.context i) (same.shape i))
+    (λ i. started (same.patience i) (same.program i) (same.context i) (same.relay i))

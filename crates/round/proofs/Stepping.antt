@@ -22,9 +22,9 @@ turned_counts a (Trap cause) h = refl
 pub turn_counts : (a : Activation) → CountsTurn a (turn a)
 turn_counts a = by (has_ended a)
   where
-    by : (b : Bool) → CountsTurn a (cond b Ended (turned a (step a.program a.context a.shape a.state)))
+    by : (b : Bool) → CountsTurn a (cond b Ended (turned a (step a.program a.context a.relay a.state)))
     by true = tt
-    by false = turned_counts a (step a.program a.context a.shape a.state) (step_counts a.program a.context a.shape a.state)
+    by false = turned_counts a (step a.program a.context a.relay a.state) (step_counts a.program a.context a.relay a.state)
 
 steps_by : (a : Activation) (o : Turn) (k : ℕ) (t : List Access) (end : Activation)
     → ((b : Activation) (t' : List Access) → Runs k b t' end → end.state.steps ≡ b.state.steps + k)

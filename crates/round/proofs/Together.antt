@@ -240,10 +240,10 @@ none_told n c row old due none = record {
 }
 
 -- the round of the letters
-pub round_told : (n c : ℕ) (row : List Letter) (shape : Shape) (inside item : Letter) → AreOfCampaign n c row → inside ≡ item → item ≡ get_or row 0 item → 0 < length row → shape ≡ inside.outbox.shape → shape.round ≡ round_of row
+pub round_told : (n c : ℕ) (row : List Letter) (shape : Shape) (inside item : Letter) → AreOfCampaign n c row → inside ≡ item → item ≡ get_or row 0 item → 0 < length row → shape ≡ inside.outbox.relay.shape → shape.round ≡ round_of row
 round_told n c row shape inside item due view at some same =
     let there : slice_get row 0 ≡ Some item = slice_get_read row (length row) 0 item refl some at in
-    ap (λ (s : Shape). s.round) (same ∙ (ap (λ (l : Letter). l.outbox.shape) view ∙ due 0 item there))
+    ap (λ (s : Shape). s.round) (same ∙ (ap (λ (l : Letter). l.outbox.relay.shape) view ∙ due 0 item there))
 
 -- how many are below the next
 pub below_more : (x : ℕ) (w : List ℕ) (below : ℕ) → on w x ≡ false → below ≡ length (others x w) → below + 1 ≡ length (others (x + 1) w)

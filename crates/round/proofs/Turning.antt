@@ -2,7 +2,7 @@
 use Rattle.std.proofs.Common.{◌≡◌, ℕ, zero, suc, ◌+◌, ◌<◌, ◌≤◌, List, [], Bool, true, false, cond, Some, None, Option, refl, sym, ap, subst, ◌∙◌, arith, ◌||◌}
 use Rattle.std.proofs.lemmas.Bool.{leb-false}
 use Rattle.insn.specs.declared.insn.Insn.{Insn}
-use Rattle.label.specs.declared.shape.Shape.{Shape}
+use Rattle.semantics.specs.Relay.{Relay}
 use Rattle.semantics.specs.declared.request.Request.{Request}
 use Rattle.semantics.specs.State.{State, Outcome, Next, Ask, Exit, Trap}
 use Rattle.semantics.specs.Execution.{step}
@@ -20,75 +20,75 @@ use Rattle.round.proofs.Patience.{runs_under}
 use Rattle.round.specs.Running.{Stopped, IsBack, activation_of, Silently, Pauses, lesser}
 
 -- so many steps are counted
-pub leads_counts : (program : List Insn) (context : List ℕ) (shape : Shape) (n : ℕ) (s t : State) → Leads program context shape n s t → t.steps ≡ s.steps + n
-leads_counts program context shape zero s t same = (let e = ap (λ (u : State). u.steps) same in omega arith)
-leads_counts program context shape (suc n) s t (next, is, more) =
-    let counted : next.steps ≡ s.steps + 1 = subst (λ (o : Outcome). CountsOnce s o) is (step_counts program context shape s) in
-    let rest = leads_counts program context shape n next t more in
+pub leads_counts : (program : List Insn) (context : List ℕ) (relay : Relay) (n : ℕ) (s t : State) → Leads program context relay n s t → t.steps ≡ s.steps + n
+leads_counts program context relay zero s t same = (let e = ap (λ (u : State). u.steps) same in omega arith)
+leads_counts program context relay (suc n) s t (next, is, more) =
+    let counted : next.steps ≡ s.steps + 1 = subst (λ (o : Outcome). CountsOnce s o) is (step_counts program context relay s) in
+    let rest = leads_counts program context relay n next t more in
     omega arith
 
-none_taken : (program : List Insn) (context : List ℕ) (shape : Shape) (n : ℕ) (s t : State) → Leads program context shape n s t → t.steps < s.steps + 1 → s ≡ t
-none_taken program context shape zero s t leads few = leads
-none_taken program context shape (suc n) s t leads few = absurd (let e = leads_counts program context shape (suc n) s t leads in omega arith)
+none_taken : (program : List Insn) (context : List ℕ) (relay : Relay) (n : ℕ) (s t : State) → Leads program context relay n s t → t.steps < s.steps + 1 → s ≡ t
+none_taken program context relay zero s t leads few = leads
+none_taken program context relay (suc n) s t leads few = absurd (let e = leads_counts program context relay (suc n) s t leads in omega arith)
 
-one_taken : (program : List Insn) (context : List ℕ) (shape : Shape) (n : ℕ) (s t : State) → Leads program context shape n s t → s.steps + 1 ≤ t.steps → (0 < n → t.steps ≡ s.steps + 1) →
-    step program context shape s ≡ Next t
-one_taken program context shape zero s t leads past exactly = absurd (let e = leads_counts program context shape zero s t leads in omega arith)
-one_taken program context shape (suc zero) s t (next, is, same) past exactly = is ∙ ap (λ (u : State). Next u) same
-one_taken program context shape (suc (suc n)) s t leads past exactly =
-    absurd (let e = leads_counts program context shape (suc (suc n)) s t leads in let f = exactly (omega arith) in omega arith)
+one_taken : (program : List Insn) (context : List ℕ) (relay : Relay) (n : ℕ) (s t : State) → Leads program context relay n s t → s.steps + 1 ≤ t.steps → (0 < n → t.steps ≡ s.steps + 1) →
+    step program context relay s ≡ Next t
+one_taken program context relay zero s t leads past exactly = absurd (let e = leads_counts program context relay zero s t leads in omega arith)
+one_taken program context relay (suc zero) s t (next, is, same) past exactly = is ∙ ap (λ (u : State). Next u) same
+one_taken program context relay (suc (suc n)) s t leads past exactly =
+    absurd (let e = leads_counts program context relay (suc (suc n)) s t leads in let f = exactly (omega arith) in omega arith)
 
 -- what was asked is the step's request, and taken back it is the state before
-asked_one : (program : List Insn) (context : List ℕ) (shape : Shape) (answers : List (List ℕ)) (s : State) (new : Standing) (r : Request) →
-    Requests program context shape answers (s.steps + 1) s r (record { shape = new.shape; request = r; last = before new.state; state = new.state }) → s ≡ before new.state
-asked_one program context shape answers s new r h = none_taken program context shape h.taken s (before new.state) h.leads h.before
+asked_one : (program : List Insn) (context : List ℕ) (relay : Relay) (answers : List (List ℕ)) (s : State) (new : Standing) (r : Request) →
+    Requests program context relay answers (s.steps + 1) s r (record { relay = new.relay; request = r; last = before new.state; state = new.state }) → s ≡ before new.state
+asked_one program context relay answers s new r h = none_taken program context relay h.taken s (before new.state) h.leads h.before
 
-pub stopped : (program : List Insn) (context : List ℕ) (shape : Shape) (answers : List (List ℕ)) (s : State) (new : Standing) (result : Stop) →
-    Advances program context shape answers (s.steps + 1) s (paused new result) → StandsAt program context shape answers result new.state →
-    Stopped (step program context shape s) result new.state × IsBack result s new.state
-stopped program context shape answers s new (Asked r) h at =
-    let same = asked_one program context shape answers s new r h in
-    let is : step program context shape s ≡ Ask r new.state = ap (λ (u : State). step program context shape u) same ∙ h.asks in
+pub stopped : (program : List Insn) (context : List ℕ) (relay : Relay) (answers : List (List ℕ)) (s : State) (new : Standing) (result : Stop) →
+    Advances program context relay answers (s.steps + 1) s (paused new result) → StandsAt program context relay answers result new.state →
+    Stopped (step program context relay s) result new.state × IsBack result s new.state
+stopped program context relay answers s new (Asked r) h at =
+    let same = asked_one program context relay answers s new r h in
+    let is : step program context relay s ≡ Ask r new.state = ap (λ (u : State). step program context relay u) same ∙ h.asks in
     (subst (λ (o : Outcome). Stopped o (Asked r) new.state) (sym is) (refl, refl), sym same)
-stopped program context shape answers s new (Exited n) h at =
-    let same : s ≡ h.last = none_taken program context shape h.taken s h.last h.leads h.before in
-    let is : step program context shape s ≡ Exit h.r0 h.out = ap (λ (u : State). step program context shape u) same ∙ h.exit in
+stopped program context relay answers s new (Exited n) h at =
+    let same : s ≡ h.last = none_taken program context relay h.taken s h.last h.leads h.before in
+    let is : step program context relay s ≡ Exit h.r0 h.out = ap (λ (u : State). step program context relay u) same ∙ h.exit in
     let ends : Left n new.state ≡ Left h.r0 h.out = sym at ∙ h.run in
     (subst (λ (o : Outcome). Stopped o (Exited n) new.state) (sym is) (cc, cc), tt)
-stopped program context shape answers s new Limit h at =
-    (subst (λ (o : Outcome). Stopped o Limit new.state) (sym (one_taken program context shape h.taken s new.state h.leads h.past h.exactly)) refl, tt)
+stopped program context relay answers s new Limit h at =
+    (subst (λ (o : Outcome). Stopped o Limit new.state) (sym (one_taken program context relay h.taken s new.state h.leads h.past h.exactly)) refl, tt)
 
 -- as the machine is called
 pub stopped_with : (program : List Insn) (bytes context : List ℕ) (old new : Standing) (limit : ℕ) (result : Stop) → context ≡ bytes → limit ≡ old.state.steps + 1 → IsOfRun program bytes old →
-    ((answers : List (List ℕ)) → Reached program context old.shape answers old.state → Advances program context old.shape answers limit old.state (paused new result)) →
-    ((answers : List (List ℕ)) → Reached program context old.shape answers old.state → StandsAt program context old.shape answers result new.state) →
-    Stopped (step program bytes old.shape old.state) result new.state × IsBack result old.state new.state
+    ((answers : List (List ℕ)) → Reached program context old.relay answers old.state → Advances program context old.relay answers limit old.state (paused new result)) →
+    ((answers : List (List ℕ)) → Reached program context old.relay answers old.state → StandsAt program context old.relay answers result new.state) →
+    Stopped (step program bytes old.relay old.state) result new.state × IsBack result old.state new.state
 stopped_with program bytes context old new limit result same counted run advances stands =
-    let reached : Reached program context old.shape run.answers old.state = subst (λ (l : List ℕ). Reached program l old.shape run.answers old.state) (sym same) run.reached in
-    let a : Advances program context old.shape run.answers (old.state.steps + 1) old.state (paused new result) =
-    subst (λ (n : ℕ). Advances program context old.shape run.answers n old.state (paused new result)) counted (advances run.answers reached) in
-    subst (λ (l : List ℕ). Stopped (step program l old.shape old.state) result new.state × IsBack result old.state new.state) same
-    (stopped program context old.shape run.answers old.state new result a (stands run.answers reached))
+    let reached : Reached program context old.relay run.answers old.state = subst (λ (l : List ℕ). Reached program l old.relay run.answers old.state) (sym same) run.reached in
+    let a : Advances program context old.relay run.answers (old.state.steps + 1) old.state (paused new result) =
+    subst (λ (n : ℕ). Advances program context old.relay run.answers n old.state (paused new result)) counted (advances run.answers reached) in
+    subst (λ (l : List ℕ). Stopped (step program l old.relay old.state) result new.state × IsBack result old.state new.state) same
+    (stopped program context old.relay run.answers old.state new result a (stands run.answers reached))
 
 -- a run of the machine without an access is one of turns
-module _ (program : List Insn) (context : List ℕ) (shape : Shape) where
-  leads_runs : (n : ℕ) (s t : State) → Leads program context shape n s t → Runs n (activation_of None program context (record { shape = shape; state = s }) false) [] (activation_of None program context (record { shape = shape; state = t }) false)
-  leads_runs zero s t same = (refl, ap (λ (u : State). activation_of None program context (record { shape = shape; state = u }) false) same)
+module _ (program : List Insn) (context : List ℕ) (relay : Relay) where
+  leads_runs : (n : ℕ) (s t : State) → Leads program context relay n s t → Runs n (activation_of None program context (record { relay = relay; state = s }) false) [] (activation_of None program context (record { relay = relay; state = t }) false)
+  leads_runs zero s t same = (refl, ap (λ (u : State). activation_of None program context (record { relay = relay; state = u }) false) same)
   leads_runs (suc n) s t (next, is, more) =
-      subst (λ (o : Outcome). Onward (Runs n) (turned (activation_of None program context (record { shape = shape; state = s }) false) o) [] (activation_of None program context (record { shape = shape; state = t }) false)) (sym is) (leads_runs n next t more)
+      subst (λ (o : Outcome). Onward (Runs n) (turned (activation_of None program context (record { relay = relay; state = s }) false) o) [] (activation_of None program context (record { relay = relay; state = t }) false)) (sym is) (leads_runs n next t more)
 
-  leads_exits : (n : ℕ) (s last out : State) (r0 : ℕ) → Leads program context shape n s last → step program context shape last ≡ Exit r0 out →
-      Runs (suc n) (activation_of None program context (record { shape = shape; state = s }) false) [] (activation_of None program context (record { shape = shape; state = out }) true)
+  leads_exits : (n : ℕ) (s last out : State) (r0 : ℕ) → Leads program context relay n s last → step program context relay last ≡ Exit r0 out →
+      Runs (suc n) (activation_of None program context (record { relay = relay; state = s }) false) [] (activation_of None program context (record { relay = relay; state = out }) true)
   leads_exits zero s last out r0 same is =
-      subst (λ (o : Outcome). Onward (Runs 0) (turned (activation_of None program context (record { shape = shape; state = s }) false) o) [] (activation_of None program context (record { shape = shape; state = out }) true))
-      (sym (ap (λ (u : State). step program context shape u) same ∙ is)) (refl, refl)
+      subst (λ (o : Outcome). Onward (Runs 0) (turned (activation_of None program context (record { relay = relay; state = s }) false) o) [] (activation_of None program context (record { relay = relay; state = out }) true))
+      (sym (ap (λ (u : State). step program context relay u) same ∙ is)) (refl, refl)
   leads_exits (suc n) s last out r0 (next, goes, more) is =
-      subst (λ (o : Outcome). Onward (Runs (suc n)) (turned (activation_of None program context (record { shape = shape; state = s }) false) o) [] (activation_of None program context (record { shape = shape; state = out }) true)) (sym goes)
+      subst (λ (o : Outcome). Onward (Runs (suc n)) (turned (activation_of None program context (record { relay = relay; state = s }) false) o) [] (activation_of None program context (record { relay = relay; state = out }) true)) (sym goes)
       (leads_exits n next last out r0 more is)
 
-  asks_pause : (limit : ℕ) (s asked : State) (r : Request) → step program context shape s ≡ Ask r asked →
-      Pauses limit (activation_of None program context (record { shape = shape; state = s }) false) (turn (activation_of None program context (record { shape = shape; state = s }) false))
-  asks_pause limit s asked r is = subst (λ (o : Outcome). Pauses limit (activation_of None program context (record { shape = shape; state = s }) false) (turned (activation_of None program context (record { shape = shape; state = s }) false) o)) (sym is) tt
+  asks_pause : (limit : ℕ) (s asked : State) (r : Request) → step program context relay s ≡ Ask r asked →
+      Pauses limit (activation_of None program context (record { relay = relay; state = s }) false) (turn (activation_of None program context (record { relay = relay; state = s }) false))
+  asks_pause limit s asked r is = subst (λ (o : Outcome). Pauses limit (activation_of None program context (record { relay = relay; state = s }) false) (turned (activation_of None program context (record { relay = relay; state = s }) false) o)) (sym is) tt
 
   late_pause : (limit : ℕ) (a : Activation) (t : Turn) → limit ≤ a.state.steps → Pauses limit a t
   late_pause limit a (Goes b) le = le
@@ -107,41 +107,41 @@ Stood (Asked r) s = before s
 Stood (Exited n) s = s
 Stood Limit s = s
 
-pub ahead_by : (program : List Insn) (context : List ℕ) (shape : Shape) (answers : List (List ℕ)) (limit : ℕ) (s : State) (new : Standing) (result : Stop) →
-    Advances program context shape answers limit s (paused new result) → StandsAt program context shape answers result new.state →
-    Silently (activation_of None program context (record { shape = shape; state = s }) false) (activation_of None program context (record { shape = shape; state = Stood result new.state }) (IsOver result))
-    × Pauses limit (activation_of None program context (record { shape = shape; state = Stood result new.state }) (IsOver result)) (turn (activation_of None program context (record { shape = shape; state = Stood result new.state }) (IsOver result)))
-ahead_by program context shape answers limit s new (Asked r) h at =
-    ((h.taken, leads_runs program context shape h.taken s (before new.state) h.leads), asks_pause program context shape limit (before new.state) new.state r h.asks)
-ahead_by program context shape answers limit s new (Exited n) h at =
+pub ahead_by : (program : List Insn) (context : List ℕ) (relay : Relay) (answers : List (List ℕ)) (limit : ℕ) (s : State) (new : Standing) (result : Stop) →
+    Advances program context relay answers limit s (paused new result) → StandsAt program context relay answers result new.state →
+    Silently (activation_of None program context (record { relay = relay; state = s }) false) (activation_of None program context (record { relay = relay; state = Stood result new.state }) (IsOver result))
+    × Pauses limit (activation_of None program context (record { relay = relay; state = Stood result new.state }) (IsOver result)) (turn (activation_of None program context (record { relay = relay; state = Stood result new.state }) (IsOver result)))
+ahead_by program context relay answers limit s new (Asked r) h at =
+    ((h.taken, leads_runs program context relay h.taken s (before new.state) h.leads), asks_pause program context relay limit (before new.state) new.state r h.asks)
+ahead_by program context relay answers limit s new (Exited n) h at =
     let ends : Left n new.state ≡ Left h.r0 h.out = sym at ∙ h.run in
     let same : h.out ≡ new.state = cc in
-    ((suc h.taken, leads_exits program context shape h.taken s h.last new.state h.r0 h.leads (h.exit ∙ ap (λ (u : State). Exit h.r0 u) same)), tt)
-ahead_by program context shape answers limit s new Limit h at =
-    ((h.taken, leads_runs program context shape h.taken s new.state h.leads), late_pause program context shape limit (activation_of None program context (record { shape = shape; state = new.state }) false) (turn (activation_of None program context (record { shape = shape; state = new.state }) false)) h.past)
+    ((suc h.taken, leads_exits program context relay h.taken s h.last new.state h.r0 h.leads (h.exit ∙ ap (λ (u : State). Exit h.r0 u) same)), tt)
+ahead_by program context relay answers limit s new Limit h at =
+    ((h.taken, leads_runs program context relay h.taken s new.state h.leads), late_pause program context relay limit (activation_of None program context (record { relay = relay; state = new.state }) false) (turn (activation_of None program context (record { relay = relay; state = new.state }) false)) h.past)
 
 -- as the machine is called
 pub ahead_with : (program : List Insn) (bytes context : List ℕ) (old new : Standing) (limit : ℕ) (result : Stop) → context ≡ bytes → IsOfRun program bytes old →
-    ((answers : List (List ℕ)) → Reached program context old.shape answers old.state → Advances program context old.shape answers limit old.state (paused new result)) →
-    ((answers : List (List ℕ)) → Reached program context old.shape answers old.state → StandsAt program context old.shape answers result new.state) →
-    (stood : Standing) → stood.shape ≡ old.shape → stood.state ≡ Stood result new.state →
+    ((answers : List (List ℕ)) → Reached program context old.relay answers old.state → Advances program context old.relay answers limit old.state (paused new result)) →
+    ((answers : List (List ℕ)) → Reached program context old.relay answers old.state → StandsAt program context old.relay answers result new.state) →
+    (stood : Standing) → stood.relay ≡ old.relay → stood.state ≡ Stood result new.state →
     Silently (activation_of None program bytes old false) (activation_of None program bytes stood (IsOver result)) × Pauses limit (activation_of None program bytes stood (IsOver result)) (turn (activation_of None program bytes stood (IsOver result)))
 ahead_with program bytes context old new limit result same run advances stands stood shape_is state_is =
-    let reached : Reached program context old.shape run.answers old.state = subst (λ (l : List ℕ). Reached program l old.shape run.answers old.state) (sym same) run.reached in
-    let done = ahead_by program context old.shape run.answers limit old.state new result (advances run.answers reached) (stands run.answers reached) in
+    let reached : Reached program context old.relay run.answers old.state = subst (λ (l : List ℕ). Reached program l old.relay run.answers old.state) (sym same) run.reached in
+    let done = ahead_by program context old.relay run.answers limit old.state new result (advances run.answers reached) (stands run.answers reached) in
     let A : List ℕ → Standing → Type 0 = λ l st. Silently (activation_of None program l old false) (activation_of None program l st (IsOver result)) × Pauses limit (activation_of None program l st (IsOver result)) (turn (activation_of None program l st (IsOver result))) in
-    let there : record { shape = old.shape; state = Stood result new.state } ≡ stood = (λ i. record { shape = sym shape_is i; state = sym state_is i }) in
+    let there : record { relay = old.relay; state = Stood result new.state } ≡ stood = (λ i. record { relay = sym shape_is i; state = sym state_is i }) in
     subst (λ (l : List ℕ). A l stood) same (subst (λ (st : Standing). A context st) there done)
 
 -- how many steps it has then
-pub taken_within : (program : List Insn) (context : List ℕ) (shape : Shape) (answers : List (List ℕ)) (limit m : ℕ) (s : State) (new : Standing) (result : Stop) →
-    Advances program context shape answers limit s (paused new result) → StandsAt program context shape answers result new.state → s.steps ≤ m → limit ≤ m → (Stood result new.state).steps ≤ m
-taken_within program context shape answers limit m s new (Asked r) h at few le = (let b = h.before in omega arith)
-taken_within program context shape answers limit m s new (Exited n) h at few le = (let b = h.before in let c = h.counted in omega arith)
-taken_within program context shape answers limit m s new Limit h at few le = by h.taken refl
+pub taken_within : (program : List Insn) (context : List ℕ) (relay : Relay) (answers : List (List ℕ)) (limit m : ℕ) (s : State) (new : Standing) (result : Stop) →
+    Advances program context relay answers limit s (paused new result) → StandsAt program context relay answers result new.state → s.steps ≤ m → limit ≤ m → (Stood result new.state).steps ≤ m
+taken_within program context relay answers limit m s new (Asked r) h at few le = (let b = h.before in omega arith)
+taken_within program context relay answers limit m s new (Exited n) h at few le = (let b = h.before in let c = h.counted in omega arith)
+taken_within program context relay answers limit m s new Limit h at few le = by h.taken refl
   where
     by : (n : ℕ) → h.taken ≡ n → new.state.steps ≤ m
-    by zero e = (let z = leads_counts program context shape h.taken s new.state h.leads in omega arith)
+    by zero e = (let z = leads_counts program context relay h.taken s new.state h.leads in omega arith)
     by (suc n) e = (let z = h.exactly (omega arith) in omega arith)
 
 -- one step more lies within a patience that was not reached
@@ -170,19 +170,19 @@ module _ (p : Option ℕ) (program : List Insn) (context : List ℕ) where
       ((went.0, runs_under p went.0 (activation_of None program context old false) [] (activation_of None program context stood over) within went.1), by over (is_reached p stood.state.steps) refl pauses)
     where
       by : (over y : Bool) → is_reached p stood.state.steps ≡ y → Pauses (lesser p limit) (activation_of None program context stood over) (turn (activation_of None program context stood over)) →
-          Pauses limit (activation_of p program context stood over) (cond (over || y) Ended (turned (activation_of p program context stood over) (step program context stood.shape stood.state)))
+          Pauses limit (activation_of p program context stood over) (cond (over || y) Ended (turned (activation_of p program context stood over) (step program context stood.relay stood.state)))
       by true y e h = tt
       by false true e h = tt
-      by false false e h = pauses_by limit stood (step program context stood.shape stood.state) e h
+      by false false e h = pauses_by limit stood (step program context stood.relay stood.state) e h
 
 -- as the machine is called
 pub within_with : (program : List Insn) (bytes context : List ℕ) (old new : Standing) (limit : ℕ) (result : Stop) → context ≡ bytes → IsOfRun program bytes old →
-    ((answers : List (List ℕ)) → Reached program context old.shape answers old.state → Advances program context old.shape answers limit old.state (paused new result)) →
-    ((answers : List (List ℕ)) → Reached program context old.shape answers old.state → StandsAt program context old.shape answers result new.state) →
+    ((answers : List (List ℕ)) → Reached program context old.relay answers old.state → Advances program context old.relay answers limit old.state (paused new result)) →
+    ((answers : List (List ℕ)) → Reached program context old.relay answers old.state → StandsAt program context old.relay answers result new.state) →
     (state : State) → state ≡ Stood result new.state → (m : ℕ) → old.state.steps ≤ m → limit ≤ m → state.steps ≤ m
 within_with program bytes context old new limit result same run advances stands state state_is m few le =
-    let reached : Reached program context old.shape run.answers old.state = subst (λ (l : List ℕ). Reached program l old.shape run.answers old.state) (sym same) run.reached in
-    subst (λ (s : State). s.steps ≤ m) (sym state_is) (taken_within program context old.shape run.answers limit m old.state new result (advances run.answers reached) (stands run.answers reached) few le)
+    let reached : Reached program context old.relay run.answers old.state = subst (λ (l : List ℕ). Reached program l old.relay run.answers old.state) (sym same) run.reached in
+    subst (λ (s : State). s.steps ≤ m) (sym state_is) (taken_within program context old.relay run.answers limit m old.state new result (advances run.answers reached) (stands run.answers reached) few le)
 
 -- one step is counted
 pub stopped_counts : (o : Outcome) (result : Stop) (s new : State) → CountsOnce s o → Stopped o result new → new.steps ≡ s.steps + 1

@@ -40,14 +40,14 @@ told_last row w x p =
     ∙ (ap (λ (g : ℕ). told_by (letter_of row g) (take (length w) (w ++ x ∷ [])) p) (last_is w x) ∙ ap (λ u. told_by (letter_of row x) u p) (front_is w x))
 
 -- what the letter of a general who is due tells, by the label's rank among those that he relays
-order_by : (o : Option Letter) (s : Shape) (u : List ℕ) (p rank : ℕ) → ((l : Letter) → o ≡ Some l → l.outbox.shape ≡ s) → s.commander < s.generals → s.general < s.generals → slice_get (relay s) rank ≡ Some u → order_in_letter o rank p ≡ told_by o u p
+order_by : (o : Option Letter) (s : Shape) (u : List ℕ) (p rank : ℕ) → ((l : Letter) → o ≡ Some l → l.outbox.relay.shape ≡ s) → s.commander < s.generals → s.general < s.generals → slice_get (relay s) rank ≡ Some u → order_in_letter o rank p ≡ told_by o u p
 order_by None s u p rank due commander general at = refl
 order_by (Some l) s u p rank due commander general at =
-    let e : s ≡ l.outbox.shape = sym (due l refl) in
-    order_tells l.outbox.shape l.outbox.rows u p rank
+    let e : s ≡ l.outbox.relay.shape = sym (due l refl) in
+    order_tells l.outbox.relay l.outbox.rows l.outbox.entries u p rank
     (subst (λ (z : Shape). z.commander < z.generals) e commander) (subst (λ (z : Shape). z.general < z.generals) e general) (subst (λ (z : Shape). slice_get (relay z) rank ≡ Some u) e at)
 
-pub due_shape : (t : LieutenantTree) (row : List Letter) (x : ℕ) (l : Letter) → AreDue t row → letter_of row x ≡ Some l → l.outbox.shape ≡ record { generals = t.generals; commander = t.commander; general = x; round = round_of row }
+pub due_shape : (t : LieutenantTree) (row : List Letter) (x : ℕ) (l : Letter) → AreDue t row → letter_of row x ≡ Some l → l.outbox.relay.shape ≡ record { generals = t.generals; commander = t.commander; general = x; round = round_of row }
 due_shape t row x l due e =
     let s = letter_stands row x l e in
     due.letters s.0 l s.1 ∙ ap (λ (g : ℕ). record { generals = t.generals; commander = t.commander; general = g; round = round_of row }) s.2

@@ -12,14 +12,14 @@ use Rattle.semantics.specs.Execution.{step}
 pub record Activation : Type 0 where
   pub program : List Insn
   pub context : List ℕ
-  pub shape : Relay
+  pub relay : Relay
   pub patience : Option ℕ
   pub state : State
   pub over : Bool
 
 abbrev pub started : Option ℕ → List Insn → List ℕ → Relay → Activation
-started patience program context shape =
-    record { program = program; context = context; shape = shape; patience = patience; state = entry (empty_outbox shape); over = false }
+started patience program context relay =
+    record { program = program; context = context; relay = relay; patience = patience; state = entry (empty_outbox relay); over = false }
 
 -- so many steps have reached a patience
 abbrev pub is_reached : Option ℕ → ℕ → Bool
@@ -44,4 +44,4 @@ abbrev pub has_ended : Activation → Bool
 has_ended a = a.over || is_reached a.patience a.state.steps
 
 abbrev pub turn : Activation → Turn
-turn a = cond (has_ended a) Ended (turned a (step a.program a.context a.shape a.state))
+turn a = cond (has_ended a) Ended (turned a (step a.program a.context a.relay a.state))

@@ -4,6 +4,7 @@ use Rattle.word.specs.Bytes.{little_bytes, little_number}
 use Rattle.label.specs.declared.shape.Shape.{Shape}
 use Rattle.label.specs.Relay.{relay}
 use Rattle.label.specs.Oral.{heard}
+use Rattle.semantics.specs.Relay.{Relay, oral}
 use Rattle.semantics.specs.Outbox.{places, taken_value}
 use Rattle.outbox.specs.Contents.{Contents}
 use Rattle.round.specs.Scenario.{Scenario, shape_of}
@@ -44,9 +45,16 @@ IsToldTo g round context = (number_told context 2 ≡ g) × (number_told context
 abbrev pub shape_told : ℕ → ℕ → List ℕ → Shape
 shape_told g round context = record { generals = number_told context 0; commander = number_told context 3; general = g; round = round }
 
+-- that relay, where orders are oral, which a context tells by a zero
+abbrev pub relay_told : ℕ → ℕ → List ℕ → Relay
+relay_told g round context = oral (shape_told g round context)
+
+abbrev pub tells_oral : List ℕ → Type 0
+tells_oral context = number_told context 7 ≡ 0
+
 -- the outbox that tells each receiver of each label the value that the context has
 abbrev pub outbox_told : Shape → List ℕ → Contents
-outbox_told shape context = record { shape = shape; rows = map (λ row. map (λ place. Some (taken_value context place.rank)) row) (places shape) }
+outbox_told shape context = record { relay = oral shape; rows = map (λ row. map (λ place. Some (taken_value context place.rank)) row) (places (oral shape)); entries = [] }
 
 -- a loyal general's letter, from his context alone
 abbrev pub letter_told : ℕ → ℕ → List ℕ → Letter

@@ -18,7 +18,7 @@ ArePlaces row places = (length places ≡ 13) × ((g : ℕ) → g < 13 → slice
 -- what a letter tells p of the label of that rank among those that it relays
 abbrev pub order_in_letter : Option Letter → ℕ → ℕ → Option ℕ
 order_in_letter None rank p = None
-order_in_letter (Some l) rank p = order_at l.outbox.shape l.outbox.rows rank p
+order_in_letter (Some l) rank p = order_at l.outbox.relay l.outbox.rows rank p
 
 -- the values tell N: M, but at the labels of this length whose rank is below i what the letters tell of them
 pub record IsPartly (M : Messages) (row : List Letter) (n c p k i : ℕ) (t : LieutenantTree) : Type 0 where
@@ -51,7 +51,7 @@ pub record IsTold (row : List Letter) (t u : LieutenantTree) : Type 0 where
 
 -- the letters are of one round of the campaign of so many generals under this commander
 abbrev pub AreOfCampaign : ℕ → ℕ → List Letter → Type 0
-AreOfCampaign n c row = (i : ℕ) (l : Letter) → slice_get row i ≡ Some l → l.outbox.shape ≡ record { generals = n; commander = c; general = l.general; round = round_of row }
+AreOfCampaign n c row = (i : ℕ) (l : Letter) → slice_get row i ≡ Some l → l.outbox.relay.shape ≡ record { generals = n; commander = c; general = l.general; round = round_of row }
 
 -- the trees are of that campaign, and the letters are due to them
 pub record IsDueIn (n c : ℕ) (row : List Letter) (t : LieutenantTree) : Type 0 where

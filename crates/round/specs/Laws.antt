@@ -11,15 +11,16 @@ use Rattle.semantics.specs.Reached.{Reached}
 use Rattle.board.specs.Board.{Access}
 use Rattle.round.specs.Scenario.{Scenario, IsScenario, shape_of}
 use Rattle.round.specs.Letters.{Letter}
-use Rattle.round.specs.Contexts.{AreWords, value_of, context_of, number_told, IsToldTo, shape_told, letter_told, loyal_letter}
+use Rattle.round.specs.Contexts.{AreWords, value_of, context_of, number_told, IsToldTo, shape_told, tells_oral, letter_told, loyal_letter}
 use Rattle.round.specs.Activation.{Activation, started, has_ended}
 use Rattle.round.specs.Runs.{Runs, IsWithin, AreFitting, IsLetter}
 
--- a context tells its general who he is, the round, whose relay he has, and what he took for each label that he relays
+-- a context tells its general who he is, the round, whose relay he has, that orders are oral, and what he took for each label that he relays
 pub record ContextsTell : Type 0 where
   pub own : (s : Scenario) (before : List (List Letter)) (g : ℕ) → IsScenario s → g < s.generals → length before ≤ s.bound → IsToldTo g (suc (length before)) (context_of s before g)
   pub shape : (s : Scenario) (before : List (List Letter)) (g : ℕ) → IsScenario s → g < s.generals → length before ≤ s.bound →
       shape_told g (suc (length before)) (context_of s before g) ≡ shape_of s g (suc (length before))
+  pub spoken : (s : Scenario) (before : List (List Letter)) (g : ℕ) → IsScenario s → tells_oral (context_of s before g)
   pub values : (s : Scenario) (before : List (List Letter)) (g rank : ℕ) (label : List ℕ) → IsScenario s → g < s.generals → length before ≤ s.bound →
       slice_get (relay (shape_of s g (suc (length before)))) rank ≡ Some label → value_of s before g label < 2 ^ 32 → taken_value (context_of s before g) rank ≡ value_of s before g label
 
@@ -50,7 +51,7 @@ pub record RunsAreSafe : Type 0 where
       IsSound program → IsContext context → IsRelay relay → AreFitting transcript → Runs k (started patience program context relay) transcript end → k ≤ length program
   pub untrapped : (patience : Option ℕ) (program : List Insn) (context : List ℕ) (relay : Relay) (k : ℕ) (transcript : List Access) (end : Activation) (cause : Cause) →
       IsSound program → IsContext context → IsRelay relay → AreFitting transcript → Runs k (started patience program context relay) transcript end →
-      has_ended end ≡ false → step end.program end.context end.shape end.state ≢ Trap cause
+      has_ended end ≡ false → step end.program end.context end.relay end.state ≢ Trap cause
 
 -- where a sound program has come by its accesses and has not exited, there the replies lead; and where its next step is the exit, the run of the replies has exited
 pub record RunsFollowAnswers : Type 0 where

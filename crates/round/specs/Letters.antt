@@ -4,6 +4,7 @@ use Rattle.insn.specs.declared.insn.Insn.{Insn}
 use Rattle.label.specs.declared.shape.Shape.{Shape}
 use Rattle.label.specs.Relay.{relay, receivers}
 use Rattle.label.specs.Oral.{Messages}
+use Rattle.semantics.specs.Relay.{oral, relayed}
 use Rattle.outbox.specs.Contents.{Contents}
 use Rattle.board.specs.Board.{Access}
 
@@ -25,11 +26,11 @@ beside is none _ _ = none
 
 -- what an outbox tells a receiver of a label
 abbrev pub tells : Contents → List ℕ → ℕ → Option ℕ
-tells outbox u p = beside (λ j. j == p) None (receivers outbox.shape u) (beside (λ v. bytes_eq v u) [] (relay outbox.shape) outbox.rows)
+tells outbox u p = beside (λ j. j == p) None (receivers outbox.relay.shape u) (beside (λ v. bytes_eq v u) [] (relayed outbox.relay) outbox.rows)
 
 -- the outbox that tells each receiver of each label that label's value
 abbrev pub telling : Shape → (List ℕ → ℕ) → Contents
-telling shape value = record { shape = shape; rows = map (λ u. map (λ p. Some (value u)) (receivers shape u)) (relay shape) }
+telling shape value = record { relay = oral shape; rows = map (λ u. map (λ p. Some (value u)) (receivers shape u)) (relay shape); entries = [] }
 
 abbrev pub letter_of : List Letter → ℕ → Option Letter
 letter_of letters g = find (λ l. l.general == g) letters

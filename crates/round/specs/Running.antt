@@ -11,12 +11,12 @@ use Rattle.machine.specs.declared.pause.Stop.{Stop}
 use Rattle.machine.specs.declared.pause.Stop.TheVariants.{Asked, Exited, Limit}
 use Rattle.insn.specs.declared.insn.Insn.{Insn}
 use Rattle.round.specs.Letters.{Letter}
-use Rattle.round.specs.Contexts.{shape_told}
+use Rattle.round.specs.Contexts.{relay_told}
 use Rattle.round.specs.Runs.{Runs, AreFitting, IsRunOf, IsWithin}
 use Rattle.round.specs.Activation.{Activation, Turn, Goes, Asks, Ended, started, is_reached}
 
 abbrev pub standing : Activation → Standing
-standing a = record { shape = a.shape; state = a.state }
+standing a = record { relay = a.relay; state = a.state }
 
 -- until it has exited it stands in a run of its program; its steps lie within its patience
 pub record IsLive (a : Activation) : Type 0 where
@@ -52,7 +52,7 @@ moved general round a k Ended = (a, k)
 -- an activation by what it is made of
 abbrev pub activation_of : Option ℕ → List Insn → List ℕ → Standing → Bool → Activation
 activation_of patience program context standing over =
-    record { program = program; context = context; shape = standing.shape; patience = patience; state = standing.state; over = over }
+    record { program = program; context = context; relay = standing.relay; patience = patience; state = standing.state; over = over }
 
 -- so many turns without an access lead from the one to the other
 abbrev pub Silently : Activation → Activation → Type 0
@@ -79,7 +79,7 @@ TakesTurn _ _ new = ⊥
 pub record IsSameRun (a b : Activation) : Type 0 where
   pub program : b.program ≡ a.program
   pub context : b.context ≡ a.context
-  pub shape : b.shape ≡ a.shape
+  pub relay : b.relay ≡ a.relay
   pub patience : b.patience ≡ a.patience
 
 -- the general's accesses of this round
@@ -101,7 +101,7 @@ pub record IsWayServed (general round : ℕ) (start a : Activation) (before tran
 -- a run of the program that was given up: what was served to it, behind what was served before, are its accesses as far as it came
 abbrev pub IsGivenUp : ℕ → ℕ → List Insn → List ℕ → Option ℕ → List Access → List Access → Type 0
 IsGivenUp general round program context patience before served =
-    (a : Activation) × (transcript : List Access) × IsWayServed general round (started patience program context (shape_told general round context)) a before transcript served
+    (a : Activation) × (transcript : List Access) × IsWayServed general round (started patience program context (relay_told general round context)) a before transcript served
 
 -- the letter of an activation that was run to its end, or to its patience: its program, run in this context with just the accesses of its transcript, whose replies fit, has come to its outbox
 pub record IsLived (general round : ℕ) (program : List Insn) (context : List ℕ) (patience : Option ℕ) (l : Letter) : Type 0 where
@@ -109,7 +109,7 @@ pub record IsLived (general round : ℕ) (program : List Insn) (context : List �
   pub own_round : l.round ≡ round
   pub own_context : l.context ≡ context
   pub own_program : l.program ≡ Some program
-  pub shape : l.outbox.shape ≡ shape_told general round context
+  pub relay : l.outbox.relay ≡ relay_told general round context
   pub run : IsRunOf l (Some program)
   pub accesses : AreAccessesOf general round l.transcript
   pub within : IsWithin patience l.steps
@@ -125,6 +125,6 @@ letter_left general round transcript a =
       program = Some a.program;
       transcript = transcript;
       steps = a.state.steps;
-      outbox = record { shape = a.shape; rows = a.state.outbox };
+      outbox = record { relay = a.relay; rows = a.state.outbox; entries = a.state.entries };
       exited = a.over;
     }

@@ -1,11 +1,11 @@
 -- What an activation has done in some steps, and what every letter keeps (own).
 use Rattle.std.specs.Prelude.{ℕ, zero, suc, ◌≡◌, ◌≤◌, true, List, [], ◌∷◌, Option, None, Some}
 use Rattle.insn.specs.declared.insn.Insn.{Insn}
-use Rattle.semantics.specs.Relay.{IsContext}
+use Rattle.semantics.specs.Relay.{IsContext, Oral}
 use Rattle.semantics.specs.Call.{fits}
 use Rattle.board.specs.Board.{Access}
 use Rattle.round.specs.Letters.{Letter}
-use Rattle.round.specs.Contexts.{IsToldTo, shape_told, outbox_told}
+use Rattle.round.specs.Contexts.{IsToldTo, shape_told, outbox_told, tells_oral}
 use Rattle.round.specs.Activation.{Activation, started, Turn, Goes, Asks, Ended, turn}
 
 -- one turn, which the next of these accesses serves where it asks, and then what is said of the rest
@@ -32,13 +32,14 @@ IsWithin (Some patience) steps = steps ≤ patience
 
 -- a loyal general runs nothing and tells what his context has; a traitor's program, run on its context for so many steps with these accesses, whose replies fit, has come to this outbox
 abbrev pub IsRunOf : Letter → Option (List Insn) → Type 0
-IsRunOf l None = (l.transcript ≡ []) × (l.steps ≡ 0) × (l.outbox ≡ outbox_told l.outbox.shape l.context) × (l.exited ≡ true)
+IsRunOf l None = (l.transcript ≡ []) × (l.steps ≡ 0) × (l.outbox ≡ outbox_told l.outbox.relay.shape l.context) × (l.exited ≡ true)
 IsRunOf l (Some program) =
-    AreFitting l.transcript × (end : Activation) × Runs l.steps (started None program l.context l.outbox.shape) l.transcript end × (l.outbox.rows ≡ end.state.outbox) × (l.exited ≡ end.over)
+    AreFitting l.transcript × (end : Activation) × Runs l.steps (started None program l.context l.outbox.relay) l.transcript end × (l.outbox.rows ≡ end.state.outbox) × (l.exited ≡ end.over) × (l.outbox.entries ≡ end.state.entries)
 
 -- what every letter keeps: its context tells its general and its round; an unfinished one too, and with no regard to a patience
 pub record IsLetter (l : Letter) : Type 0 where
   pub context : IsContext l.context
   pub own : IsToldTo l.general l.round l.context
-  pub shape : l.outbox.shape ≡ shape_told l.general l.round l.context
+  pub shape : l.outbox.relay.shape ≡ shape_told l.general l.round l.context
+  pub kind : tells_oral l.context → l.outbox.relay.kind ≡ Oral
   pub run : IsRunOf l l.program

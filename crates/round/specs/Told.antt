@@ -31,11 +31,11 @@ heard_also M row w p = cond (length w == round_of row) (told_now row w p) (M w p
 -- the letters are of one round of the tree's campaign
 pub record AreDue (t : LieutenantTree) (row : List Letter) : Type 0 where
   pub round : round_of row < t.bound + 2
-  pub letters : (i : ℕ) (l : Letter) → slice_get row i ≡ Some l → l.outbox.shape ≡ record { generals = t.generals; commander = t.commander; general = l.general; round = round_of row }
+  pub letters : (i : ℕ) (l : Letter) → slice_get row i ≡ Some l → l.outbox.relay.shape ≡ record { generals = t.generals; commander = t.commander; general = l.general; round = round_of row }
 
 -- the letters are of this round of the campaign
 abbrev pub AreLettersOf : Scenario → ℕ → List Letter → Type 0
-AreLettersOf s round row = (i : ℕ) (l : Letter) → slice_get row i ≡ Some l → (l.round ≡ round) × (l.outbox.shape ≡ shape_of s l.general round)
+AreLettersOf s round row = (i : ℕ) (l : Letter) → slice_get row i ≡ Some l → (l.round ≡ round) × (l.outbox.relay.shape ≡ shape_of s l.general round)
 
 -- the letters of each of these rounds are of that round
 abbrev pub AreRoundsOf : Scenario → List (List Letter) → Type 0

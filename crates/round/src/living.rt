@@ -132,7 +132,7 @@ fn answered<S: Server>(
     request: Request,
 ) -> Result<Access, AllocError>
     requires { HasAsked activation.old.state }
-    ensures shape { activation.new.shape ≡ activation.old.shape }
+    ensures relay { activation.new.relay ≡ activation.old.relay }
     ensures own { IfOk result (λ a. (a.general ≡ general) × (a.round ≡ round) × (a.request ≡ request)) }
     ensures fits { IfOk result (λ a. fits request a.reply ≡ true) }
     ensures state { IfOk result (λ a. activation.new.state ≡ resumed request a.reply activation.old.state) }
@@ -141,7 +141,7 @@ fn answered<S: Server>(
     ensures undone { OnErr result (activation.new.state ≡ before activation.old.state) }
     ensures unserved { OnErr result (S.served server.new ≡ S.served server.old) }
     ensures of_run { (code : List Insn) (context : List ℕ) →
-        IsAskOfRun code context (record { shape = activation.old.shape; request = request; last = before activation.old.state; state = activation.old.state }) → IsOfRun code context activation.new }
+        IsAskOfRun code context (record { relay = activation.old.relay; request = request; last = before activation.old.state; state = activation.old.state }) → IsOfRun code context activation.new }
 {
     match server.serve(general, round, request) {
         Ok(reply) => {

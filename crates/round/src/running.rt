@@ -1,5 +1,5 @@
 //! A traitor's activation with what it runs on.
-ghost use Rattle.std.specs.Prelude.{◌≡◌, ◌<◌, ◌≤◌, List, length};
+ghost use Rattle.std.specs.Prelude.{◌≡◌, ◌<◌, ◌≤◌, List, [], length};
 ghost use Rattle.std.specs.Arc.{arc_value};
 ghost use Rattle.semantics.specs.Outbox.{empty_outbox};
 ghost use Rattle.semantics.specs.Relay.{IsContext};
@@ -40,13 +40,13 @@ impl Model for Running {
 
     ghost use Rattle.round.specs.Running.{IsLive};
 
-    ghost view = { λ r. record { program = arc_value r.program; context = r.context.items; shape = r.activation.shape; patience = r.patience; state = r.activation.state; over = r.over } };
+    ghost view = { λ r. record { program = arc_value r.program; context = r.context.items; relay = r.activation.relay; patience = r.patience; state = r.activation.state; over = r.over } };
 
-    ghost invariant = { λ r. IsLive (record { program = arc_value r.program; context = r.context.items; shape = r.activation.shape; patience = r.patience; state = r.activation.state; over = r.over }) };
+    ghost invariant = { λ r. IsLive (record { program = arc_value r.program; context = r.context.items; relay = r.activation.relay; patience = r.patience; state = r.activation.state; over = r.over }) };
 }
 
 impl Running {
-    /// The program at its start in the context, with an outbox in which nothing is put. It has so many steps, or as many as it needs.
+    /// The program at its start in the context, with an outbox in which nothing is put or entered. It has so many steps, or as many as it needs.
     pub fn start(
         program: Arc<Verified>,
         context: Vec<u8>,
@@ -54,8 +54,9 @@ impl Running {
         outbox: Outbox,
     ) -> Running
         requires context { length context.items ≡ 4096 }
-        requires empty { outbox.rows ≡ empty_outbox outbox.shape }
-        ensures { result ≡ started patience (arc_value program) context.items outbox.shape }
+        requires empty { outbox.rows ≡ empty_outbox outbox.relay }
+        requires unentered { outbox.entries ≡ [] }
+        ensures { result ≡ started patience (arc_value program) context.items outbox.relay }
     {
         let Some(bytes) = Context::new(context.as_slice()) else {
             unreachable!()
@@ -73,11 +74,11 @@ impl Running {
     /// Tells an activation, before its first step, what its general is told as the next round begins, in place of what it
     /// was started with. It takes no memory.
     pub fn brief(&mut self, told: &Told, scenario: &Scenario, general: u8)
-        requires start { self.old ≡ started self.old.patience self.old.program self.old.context self.old.shape }
+        requires start { self.old ≡ started self.old.patience self.old.program self.old.context self.old.relay }
         requires told { (before : List (List Written)) × WasTold scenario.now before told.now }
         requires left { told.now.rounds ≤ scenario.now.bound }
         requires general { general < scenario.now.generals }
-        ensures { (before : List (List Written)) → WasTold scenario.now before told.now → self.new ≡ started self.old.patience self.old.program (context_of scenario.now before general) self.old.shape }
+        ensures { (before : List (List Written)) → WasTold scenario.now before told.now → self.new ≡ started self.old.patience self.old.program (context_of scenario.now before general) self.old.relay }
     {
         told.write_context(scenario, general, told.rounds(), &mut self.context);
     }
@@ -145,10 +146,11 @@ impl Running {
         self.over
     }
 
-    /// What it has put so far.
+    /// What it has put and entered so far.
     pub fn outbox(&self) -> &Outbox
-        ensures shape { result.now.shape ≡ self.now.shape }
+        ensures relay { result.now.relay ≡ self.now.relay }
         ensures rows { result.now.rows ≡ self.now.state.outbox }
+        ensures entries { result.now.entries ≡ self.now.state.entries }
     {
         self.activation.outbox()
     }

@@ -61,7 +61,7 @@ impl Running {
 fn many(activation: &mut Activation, verified: &Verified, bytes: &[u8], limit: u32) -> bool
     requires context { IsContext bytes.now }
     requires of_run { IsOfRun verified.now bytes.now activation.old }
-    ensures shape { activation.new.shape ≡ activation.old.shape }
+    ensures relay { activation.new.relay ≡ activation.old.relay }
     ensures went { Silently (activation_of None verified.now bytes.now activation.old false) (activation_of None verified.now bytes.now activation.new result) }
     ensures pauses { Pauses limit (activation_of None verified.now bytes.now activation.new result) (turn (activation_of None verified.now bytes.now activation.new result)) }
     ensures of_run { result ≡ false → IsOfRun verified.now bytes.now activation.new }
@@ -84,8 +84,8 @@ fn many(activation: &mut Activation, verified: &Verified, bytes: &[u8], limit: u
 pub(crate) fn one(activation: &mut Activation, verified: &Verified, bytes: &[u8]) -> Stop
     requires context { IsContext bytes.now }
     requires of_run { IsOfRun verified.now bytes.now activation.old }
-    ensures shape { activation.new.shape ≡ activation.old.shape }
-    ensures stops { Stopped (step verified.now bytes.now activation.old.shape activation.old.state) result activation.new.state }
+    ensures relay { activation.new.relay ≡ activation.old.relay }
+    ensures stops { Stopped (step verified.now bytes.now activation.old.relay activation.old.state) result activation.new.state }
     ensures back { IsBack result activation.old.state activation.new.state }
     ensures counted { IsCounted result activation.new.state }
     ensures one { activation.new.state.steps ≡ activation.old.state.steps + 1 }
@@ -109,12 +109,12 @@ fn serve(
     request: Request,
 ) -> Result<(), AllocError>
     requires { HasAsked activation.old.state }
-    ensures shape { activation.new.shape ≡ activation.old.shape }
+    ensures relay { activation.new.relay ≡ activation.old.relay }
     ensures done { OnOk result ((activation.new.state ≡ resumed request (reply board.old.words request) activation.old.state) × (board.new ≡ entered general round request board.old)) }
     ensures steps { OnOk result (activation.new.state.steps ≡ activation.old.state.steps) }
     ensures undone { OnErr result ((activation.new.state ≡ before activation.old.state) × (board.new ≡ board.old)) }
     ensures of_run { (program : List Insn) (context : List ℕ) →
-        IsAskOfRun program context (record { shape = activation.old.shape; request = request; last = before activation.old.state; state = activation.old.state }) → IsOfRun program context activation.new }
+        IsAskOfRun program context (record { relay = activation.old.relay; request = request; last = before activation.old.state; state = activation.old.state }) → IsOfRun program context activation.new }
 {
     match board.apply(general, round, request) {
         Ok(reply) => {

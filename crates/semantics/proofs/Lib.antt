@@ -9,3 +9,4 @@ pub mod WordLaws
 pub mod HoldingLaws
 pub mod ReachedLaws
 pub mod PlacesLaws
+pub mod EntriesLaws

@@ -5,9 +5,10 @@ use Rattle.std.specs.List.{enumerate_from}
 use Rattle.std.proofs.lemmas.Bool.{cases_Bool, cases_eq, false≢true, and_parts, and_from, not-true, not_from_false, eqb-true, ne_eqb}
 use Rattle.std.proofs.lemmas.Bool.Decides.{eqb_tells}
 use Rattle.std.proofs.lemmas.List.Sums.{sum_by-cons}
-use Rattle.semantics.specs.Relay.{Relay}
+use Rattle.label.specs.declared.shape.Shape.{Shape}
+use Rattle.semantics.specs.Relay.{IsRelay, Kind, Oral, Signed, Relay, labels_told, relayed}
 use Rattle.label.specs.Labels.{on, is_distinct, generals, others, labels}
-use Rattle.label.specs.Relay.{relay, receivers}
+use Rattle.label.specs.Relay.{IsShape, relay, receivers}
 use Rattle.label.proofs.Counting.{on-filter, range-distinct}
 use Rattle.label.proofs.Bounds.{labels-few, most}
 use Rattle.semantics.specs.Outbox.{Place, Choice, places_set, at_place, along_row, at_receiver, as_taken, taken_value}
@@ -73,7 +74,7 @@ row_once choice receiver by k b (n ∷ ns) d =
     (by (record { rank = k; number = b; receiver = n }))
     (row_once choice receiver by k (b + 1) ns both.1))
 
-row_one : (choice : Choice) (receiver : ℕ) → GoesBy choice receiver → (s : Relay) (k : ℕ) (w : List ℕ) → sets choice (row_from k 0 (receivers s w)) ≤ 1
+row_one : (choice : Choice) (receiver : ℕ) → GoesBy choice receiver → (s : Shape) (k : ℕ) (w : List ℕ) → sets choice (row_from k 0 (receivers s w)) ≤ 1
 row_one choice receiver by s k w =
     let most_once : sets choice (row_from k 0 (receivers s w)) ≤ cond (on (receivers s w) receiver) 1 0 = row_once choice receiver by k 0 (receivers s w) (others-distinct s.generals (w ++ s.general ∷ [])) in
     let one : cond (on (receivers s w) receiver) 1 0 ≤ 1 = bit (on (receivers s w) receiver) in
@@ -84,7 +85,7 @@ row_one choice receiver by s k w =
     bit false = omega arith
 
 -- the rows, from a rank on
-abbrev pub rows_from : Relay → ℕ → List (List ℕ) → List (List Place)
+abbrev pub rows_from : Shape → ℕ → List (List ℕ) → List (List Place)
 rows_from s a ws = map (λ label. row_from label.0 0 (receivers s label.1)) (enumerate_from a ws)
 
 abbrev pub sets_in : Choice → List (List Place) → ℕ
@@ -93,7 +94,7 @@ sets_in choice rows = sum_by (λ row. sets choice row) rows
 pub sets_in-cons : (choice : Choice) (row : List Place) (rows : List (List Place)) → sets_in choice (row ∷ rows) ≡ sets choice row + sets_in choice rows
 sets_in-cons choice row rows = sum_by-cons (λ r. sets choice r) row rows
 
-one_each : (choice : Choice) (s : Relay) → ((k : ℕ) (w : List ℕ) → sets choice (row_from k 0 (receivers s w)) ≤ 1) → (a : ℕ) (ws : List (List ℕ)) → sets_in choice (rows_from s a ws) ≤ length ws
+one_each : (choice : Choice) (s : Shape) → ((k : ℕ) (w : List ℕ) → sets choice (row_from k 0 (receivers s w)) ≤ 1) → (a : ℕ) (ws : List (List ℕ)) → sets_in choice (rows_from s a ws) ≤ length ws
 one_each choice s few a [] = omega arith
 one_each choice s few a (w ∷ ws) =
     let here : sets choice (row_from a 0 (receivers s w)) ≤ 1 = few a w in
@@ -101,14 +102,14 @@ one_each choice s few a (w ∷ ws) =
     rw (sets_in-cons choice (row_from a 0 (receivers s w)) (rows_from s (a + 1) ws)) (omega arith)
 
 -- a choice of one label sets no other row
-no_row : (choice : Choice) (s : Relay) (label : ℕ) → ((k : ℕ) (w : List ℕ) → k ≢ label → sets choice (row_from k 0 (receivers s w)) ≡ 0) → (a : ℕ) (ws : List (List ℕ)) → label < a → sets_in choice (rows_from s a ws) ≡ 0
+no_row : (choice : Choice) (s : Shape) (label : ℕ) → ((k : ℕ) (w : List ℕ) → k ≢ label → sets choice (row_from k 0 (receivers s w)) ≡ 0) → (a : ℕ) (ws : List (List ℕ)) → label < a → sets_in choice (rows_from s a ws) ≡ 0
 no_row choice s label misses a [] l = refl
 no_row choice s label misses a (w ∷ ws) l =
     let here : sets choice (row_from a 0 (receivers s w)) ≡ 0 = misses a w (λ e. omega arith) in
     let rest : sets_in choice (rows_from s (a + 1) ws) ≡ 0 = no_row choice s label misses (a + 1) ws (omega arith) in
     rw (sets_in-cons choice (row_from a 0 (receivers s w)) (rows_from s (a + 1) ws)) (omega arith)
 
-one_row : (choice : Choice) (s : Relay) (label m : ℕ) → ((k : ℕ) (w : List ℕ) → k ≢ label → sets choice (row_from k 0 (receivers s w)) ≡ 0) → ((k : ℕ) (w : List ℕ) → sets choice (row_from k 0 (receivers s w)) ≤ m) → (a : ℕ) (ws : List (List ℕ)) → sets_in choice (rows_from s a ws) ≤ m
+one_row : (choice : Choice) (s : Shape) (label m : ℕ) → ((k : ℕ) (w : List ℕ) → k ≢ label → sets choice (row_from k 0 (receivers s w)) ≡ 0) → ((k : ℕ) (w : List ℕ) → sets choice (row_from k 0 (receivers s w)) ≤ m) → (a : ℕ) (ws : List (List ℕ)) → sets_in choice (rows_from s a ws) ≤ m
 one_row choice s label m misses few a [] = omega arith
 one_row choice s label m misses few a (w ∷ ws) =
     let here : sets choice (row_from a 0 (receivers s w)) ≤ m = few a w in
@@ -130,19 +131,19 @@ bit_both true e x = bit_of e x
 bit_both false true x = omega arith
 bit_both false false x = omega arith
 
-sent_few : (s : Relay) (label receiver order : ℕ) → places_set s (at_place label receiver order) ≤ 1
-sent_few s label receiver order =
-    one_row (at_place label receiver order) s label 1
-    (λ k w ne. row_none (at_place label receiver order) k (λ b n. ap (λ t. is_some (if t && (n == receiver) then Some order else None)) (ne_eqb k label ne)) 0 (receivers s w))
-    (row_one (at_place label receiver order) receiver (λ p. bit_both (p.rank == label) (p.receiver == receiver) order) s) 0 (relay s)
+sent_few : (r : Relay) (label receiver order : ℕ) → places_set r (at_place label receiver order) ≤ 1
+sent_few r label receiver order =
+    one_row (at_place label receiver order) r.shape label 1
+    (λ k w ne. row_none (at_place label receiver order) k (λ b n. ap (λ t. is_some (if t && (n == receiver) then Some order else None)) (ne_eqb k label ne)) 0 (receivers r.shape w))
+    (row_one (at_place label receiver order) receiver (λ p. bit_both (p.rank == label) (p.receiver == receiver) order) r.shape) 0 (relayed r)
 
-swayed_few : (s : Relay) (receiver order : ℕ) → places_set s (at_receiver receiver order) ≤ length (relay s)
-swayed_few s receiver order =
-    one_each (at_receiver receiver order) s (row_one (at_receiver receiver order) receiver (λ p. bit_of (p.receiver == receiver) order) s) 0 (relay s)
+swayed_few : (r : Relay) (receiver order : ℕ) → places_set r (at_receiver receiver order) ≤ length (relayed r)
+swayed_few r receiver order =
+    one_each (at_receiver receiver order) r.shape (row_one (at_receiver receiver order) receiver (λ p. bit_of (p.receiver == receiver) order) r.shape) 0 (relayed r)
 
-taken_few : (s : Relay) (context : List ℕ) (receiver : ℕ) → places_set s (as_taken context receiver) ≤ length (relay s)
-taken_few s context receiver =
-    one_each (as_taken context receiver) s (row_one (as_taken context receiver) receiver (λ p. bit_of (p.receiver == receiver) (taken_value context p.rank)) s) 0 (relay s)
+taken_few : (r : Relay) (context : List ℕ) (receiver : ℕ) → places_set r (as_taken context receiver) ≤ length (relayed r)
+taken_few r context receiver =
+    one_each (as_taken context receiver) r.shape (row_one (as_taken context receiver) receiver (λ p. bit_of (p.receiver == receiver) (taken_value context p.rank)) r.shape) 0 (relayed r)
 
 present : (orders : List ℕ) (b : ℕ) → cond (is_some (slice_get orders b)) 1 0 + (length orders - (b + 1)) ≤ length orders - b
 present [] b = omega arith
@@ -159,11 +160,11 @@ row_along label orders k b (n ∷ ns) =
     rw (sets-cons (along_row label orders) (record { rank = k; number = b; receiver = n }) (row_from k (b + 1) ns))
     (along_one (k == label) orders b (sets (along_row label orders) (row_from k (b + 1) ns)) (row_along label orders k (b + 1) ns))
 
-along_few : (s : Relay) (label : ℕ) (orders : List ℕ) → places_set s (along_row label orders) ≤ length orders
-along_few s label orders =
-    one_row (along_row label orders) s label (length orders)
-    (λ k w ne. row_none (along_row label orders) k (λ b n. ap (λ t. is_some (if t then slice_get orders b else None)) (ne_eqb k label ne)) 0 (receivers s w))
-    (λ k w. omega (arith, row_along label orders k 0 (receivers s w))) 0 (relay s)
+along_few : (r : Relay) (label : ℕ) (orders : List ℕ) → places_set r (along_row label orders) ≤ length orders
+along_few r label orders =
+    one_row (along_row label orders) r.shape label (length orders)
+    (λ k w ne. row_none (along_row label orders) k (λ b n. ap (λ t. is_some (if t then slice_get orders b else None)) (ne_eqb k label ne)) 0 (receivers r.shape w))
+    (λ k w. omega (arith, row_along label orders k 0 (receivers r.shape w))) 0 (relayed r)
 
 pub few_places : FewPlacesAreSet
 few_places = record { sent = sent_few; along = along_few; swayed = swayed_few; taken = taken_few }
@@ -185,8 +186,8 @@ unfolding labels
 round_few n c p zero short inside within ne l = omega arith
 round_few n c p (suc k) short inside within ne l = omega (arith, labels-few n c p k short inside within ne, most_few k (omega arith))
 
-pub relays_few : RelaysAreFew
-relays_few s a =
+shape_few : (s : Shape) → IsShape s → length (relay s) ≤ 990
+shape_few s a =
     let short : s.generals ≤ 13 = a.few in
     let inside : s.commander < s.generals = a.commander in
     let within : s.general < s.generals = a.general in
@@ -195,6 +196,13 @@ relays_few s a =
       | inl same ↦ rw same.0 (first_only (s.round == 1) [])
       | inr apart ↦ rw apart.0 (round_few s.generals s.commander s.general (s.round - 1) short inside within apart.1 (omega arith))
     ]
+
+told_few : (kind : Kind) (s : Shape) → IsShape s → length (labels_told kind s) ≤ 990
+told_few Oral s a = shape_few s a
+told_few (Signed held) s a = omega arith
+
+pub relays_few : RelaysAreFew
+relays_few r a = told_few r.kind r.shape a
 
 pub ranges_kept : RangesAreKept
 ranges_kept = record {

@@ -8,7 +8,7 @@ use Rattle.insn.specs.declared.insn.Insn.{Insn}
 use Rattle.insn.specs.declared.insn.Insn.TheVariants as i
 use Rattle.insn.specs.declared.insn.Operand.TheVariants.{Immediate}
 use Rattle.insn.specs.Program.{instruction_at}
-use Rattle.semantics.specs.Relay.{Relay}
+use Rattle.semantics.specs.Relay.{Relay, oral}
 use Rattle.semantics.specs.Execution.{step}
 use Rattle.semantics.specs.Run.{onwards, after, IsOver, IsTrapped}
 use Rattle.semantics.specs.Plain.{IsIn, IsOfNumbers, IsStart, reads, writes, leads_to, Unwritten, at_entry, along}
@@ -97,8 +97,8 @@ some_are = record {
     ends = λ context relay answers k c h le. asks_ends context relay answers k le;
   };
   not_plain = λ plain. plain.written_before 0 0 i.Exit refl (inl refl) at_entry;
-  not_sound = λ sound. sound.never_traps (replicate 4096 0) (record { generals = 4; commander = 0; general = 3; round = 1 }) [] 1
+  not_sound = λ sound. sound.never_traps (replicate 4096 0) (oral (record { generals = 4; commander = 0; general = 3; round = 1 })) [] 1
       (record { long = refl; bytes = zeros_small 4096 })
       (record { few = omega arith; commander = omega arith; general = omega arith; first = omega arith; last = omega arith })
-      (trapped (replicate 4096 0) (record { generals = 4; commander = 0; general = 3; round = 1 }) []);
+      (trapped (replicate 4096 0) (oral (record { generals = 4; commander = 0; general = 3; round = 1 })) []);
 }

@@ -1,12 +1,14 @@
 -- What holds of every step and run. Each statement is the contract of a function of this crate.
-use Rattle.std.specs.Prelude.{ℕ, ◌+◌, ◌-◌, ◌<◌, ◌≡◌, List, length}
+use Rattle.std.specs.Prelude.{ℕ, ◌+◌, ◌-◌, ◌<◌, ◌≡◌, ◌≤◌, true, List, [], length}
 use Rattle.std.specs.List.{AllByRecursion}
 use Rattle.insn.specs.declared.insn.Insn.{Insn}
 use Rattle.insn.specs.Insn.{IsInsn}
-use Rattle.semantics.specs.Relay.{IsContext, IsRelay, Relay}
+use Rattle.label.specs.declared.shape.Shape.{Shape}
+use Rattle.semantics.specs.Relay.{IsContext, IsRelay, Relay, oral, signed}
 use Rattle.semantics.specs.declared.request.Request.{Request}
 use Rattle.semantics.specs.State.{State, entry}
 use Rattle.semantics.specs.Outbox.{empty_outbox}
+use Rattle.semantics.specs.Entries.{is_sendable, most_entries}
 use Rattle.semantics.specs.Call.{resumed}
 use Rattle.semantics.specs.Execution.{step}
 use Rattle.semantics.specs.Run.{Running, IsFinal, IsSound, onwards, after}
@@ -51,3 +53,14 @@ pub record ReachedIsSafe : Type 0 where
       Reached program context relay answers s → IsSafe program context relay (length program - s.steps) s
   pub fewer : (program : List Insn) (context : List ℕ) (relay : Relay) (answers : List (List ℕ)) (s : State) → IsSound program → IsContext context → IsRelay relay →
       Reached program context relay answers s → s.steps < length program
+
+-- in every state that is reached there are at most 8 entries, and each is of a chain that the general can send; where orders are oral there is no entry, and where they are signed no order is put
+pub record EntriesAreFew : Type 0 where
+  pub few : (program : List Insn) (context : List ℕ) (relay : Relay) (answers : List (List ℕ)) (s : State) →
+      Reached program context relay answers s → length s.entries ≤ most_entries
+  pub sendable : (program : List Insn) (context : List ℕ) (relay : Relay) (answers : List (List ℕ)) (s : State) →
+      Reached program context relay answers s → AllByRecursion (λ entry. is_sendable relay entry ≡ true) s.entries
+  pub spoken : (program : List Insn) (context : List ℕ) (shape : Shape) (answers : List (List ℕ)) (s : State) →
+      Reached program context (oral shape) answers s → s.entries ≡ []
+  pub written : (program : List Insn) (context : List ℕ) (shape : Shape) (held : List ℕ) (answers : List (List ℕ)) (s : State) →
+      Reached program context (signed shape held) answers s → s.outbox ≡ []

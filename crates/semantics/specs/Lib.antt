@@ -2,6 +2,7 @@ pub mod Relay
 pub mod State
 pub mod Memory
 pub mod Outbox
+pub mod Entries
 pub mod Step
 pub mod Call
 pub mod Replies

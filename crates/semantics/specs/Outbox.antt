@@ -2,8 +2,8 @@
 use Rattle.std.specs.Prelude.{ℕ, ◌+◌, ◌*◌, ◌==◌, ◌&&◌, if◌then◌else◌, List, map, zip, sum_by, count_by, Option, Some, None, is_some, slice_get, slice_range}
 use Rattle.std.specs.List.{enumerate_from}
 use Rattle.word.specs.Bytes.{little_number}
-use Rattle.semantics.specs.Relay.{Relay}
-use Rattle.label.specs.Relay.{relay, receivers}
+use Rattle.semantics.specs.Relay.{Relay, relayed}
+use Rattle.label.specs.Relay.{receivers}
 use Rattle.semantics.specs.State.{Outbox}
 
 -- a place of an outbox: its label's rank, its number in that label's row, and the receiver
@@ -12,15 +12,15 @@ pub record Place : Type 0 where
   pub number : ℕ
   pub receiver : ℕ
 
--- the places, in rows: a row for each label relayed, in it the receivers in ascending order
+-- the places, in rows: a row for each label relayed, in it the receivers in ascending order; none where orders are signed
 abbrev pub places : Relay → List (List Place)
-places s =
-    map (λ label. map (λ p. record { rank = label.0; number = p.0; receiver = p.1 }) (enumerate_from 0 (receivers s label.1)))
-    (enumerate_from 0 (relay s))
+places r =
+    map (λ label. map (λ p. record { rank = label.0; number = p.0; receiver = p.1 }) (enumerate_from 0 (receivers r.shape label.1)))
+    (enumerate_from 0 (relayed r))
 
 -- the outbox in which nothing has been put
 abbrev pub empty_outbox : Relay → Outbox
-empty_outbox s = map (λ row. map (λ place. None) row) (places s)
+empty_outbox r = map (λ row. map (λ place. None) row) (places r)
 
 -- a helper puts an order at some places, and nothing at the others
 abbrev pub Choice : Type 0
@@ -32,12 +32,12 @@ newer None old = old
 
 -- the outbox after it: a later order replaces the earlier one
 abbrev pub written : Relay → Choice → Outbox → Outbox
-written s choice outbox =
-    map (λ row. map (λ p. newer (choice p.0) p.1) (zip row.0 row.1)) (zip (places s) outbox)
+written r choice outbox =
+    map (λ row. map (λ p. newer (choice p.0) p.1) (zip row.0 row.1)) (zip (places r) outbox)
 
 -- how many places it sets
 abbrev pub places_set : Relay → Choice → ℕ
-places_set s choice = sum_by (λ row. count_by (λ place. is_some (choice place)) row) (places s)
+places_set r choice = sum_by (λ row. count_by (λ place. is_some (choice place)) row) (places r)
 
 -- send: the place of one label and receiver
 abbrev pub at_place : ℕ → ℕ → ℕ → Choice

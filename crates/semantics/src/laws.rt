@@ -1,7 +1,7 @@
 //! Laws of steps and runs: each function does nothing, and its contract is the law.
 ghost use Rattle.semantics.specs.Examples.{SomeArePlainAndSound};
 ghost use Rattle.semantics.specs.Places.{FewPlacesAreSet, RangesAreKept, RelaysAreFew};
-ghost use Rattle.semantics.specs.Laws.{StepsAreCounted, StatesStayWhole, RunsStayOver, ReachedIsRun, SoundIsSafeAtEntry, ReachedIsSafe};
+ghost use Rattle.semantics.specs.Laws.{EntriesAreFew, StepsAreCounted, StatesStayWhole, RunsStayOver, ReachedIsRun, SoundIsSafeAtEntry, ReachedIsSafe};
 
 /// Each step is counted once.
 pub fn steps_are_counted()
@@ -51,4 +51,9 @@ pub fn few_places_are_set()
 /// What the helpers that fill the outbox return lies in their ranges.
 pub fn ranges_are_kept()
     ensures { RangesAreKept }
+{}
+
+/// No activation has more than 8 entries, and each is of a chain that its general can send; where orders are oral nothing is entered, and where they are signed nothing is put.
+pub fn entries_are_few()
+    ensures { EntriesAreFew }
 {}

@@ -1,15 +1,17 @@
 //! What programs mean: values, cells and requests in types; steps, runs, sound and plain programs in specs/.
 #![tactic(auto)]
 
+mod entry;
 mod laws;
 mod reply;
 mod request;
 mod value;
 
+pub use entry::Entry;
 pub use laws::{
-    few_places_are_set, ranges_are_kept, reached_is_run, reached_is_safe, relays_are_few,
-    runs_stay_over, some_are_plain_and_sound, sound_is_safe_at_entry, states_stay_whole,
-    steps_are_counted,
+    entries_are_few, few_places_are_set, ranges_are_kept, reached_is_run, reached_is_safe,
+    relays_are_few, runs_stay_over, some_are_plain_and_sound, sound_is_safe_at_entry,
+    states_stay_whole, steps_are_counted,
 };
 pub use reply::{Copied, Reply};
 pub use request::{Helper, Request, Slot, Span};

@@ -16,3 +16,4 @@ pub mod Room
 pub mod Holding
 pub mod Idling
 pub mod Verdicts
+pub mod Entering

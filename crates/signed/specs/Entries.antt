@@ -2,17 +2,15 @@
 use Rattle.std.specs.Prelude.{ℕ, ◌%◌, ◌^◌, ◌==◌, nat_lt, Bool, not, cond, ◌&&◌, List, [], ◌∷◌, ◌++◌, map, filter, length, slice_get, Option, None, Some, is_some}
 use Rattle.std.specs.Int.{bit_at}
 use Rattle.label.specs.Labels.{on, generals, others}
+pub use Rattle.semantics.specs.declared.entry.Entry.{Entry}
+pub use Rattle.semantics.specs.declared.entry.Entry.TheVariants.{Sign, Pass}
+pub use Rattle.semantics.specs.Entries.{most_entries}
 use Rattle.signed.specs.Chains.{Chain, begin, prolong}
 
 -- a chain, and whom it goes to, ascending
 pub record Dispatch : Type 0 where
   pub chain : Chain
   pub receivers : List ℕ
-
--- an attempt of a traitor: to sign an order, or to pass on the chain that he holds at a place; in the receivers' number bit g stands for general g
-pub data Entry : Type 0 where
-  Sign : ℕ → ℕ → Entry
-  Pass : ℕ → ℕ → Entry
 
 -- what a program attempts with a value and the number of its receivers: of the value the low 32 bits are the order
 abbrev pub sign_order : ℕ → ℕ → Entry
@@ -38,10 +36,6 @@ chain_of c g held (Pass place bits) = passed_on g (slice_get held place)
 abbrev pub bits_of : Entry → ℕ
 bits_of (Sign order bits) = bits
 bits_of (Pass place bits) = bits
-
--- an activation has at most so many entries
-abbrev pub most_entries : ℕ
-most_entries = 8
 
 -- an attempt is entered where there is such a chain, and room
 abbrev pub is_entered : ℕ → ℕ → List Chain → List Entry → Entry → Bool

@@ -1,9 +1,10 @@
 -- What holds of every world of a signed campaign. Each statement is the contract of a function of this crate.
-use Rattle.std.specs.Prelude.{ℕ, suc, ◌≡◌, ◌*◌, ◌<◌, ◌≤◌, true, List, [], ◌∷◌, ◌++◌, map, length, slice_get, Some, None}
+use Rattle.std.specs.Prelude.{ℕ, suc, ◌≡◌, ◌*◌, ◌<◌, ◌≤◌, true, List, [], ◌∷◌, ◌++◌, map, length, slice_get, Some, None, is_some}
+use Rattle.std.specs.List.{AllByRecursion}
 use Rattle.label.specs.Labels.{on}
 use Rattle.signed.specs.Chains.{Chain, Among, IsChain, orders}
 use Rattle.signed.specs.Agreement.{IsSignedBound, SignedAgree}
-use Rattle.signed.specs.Entries.{Dispatch, most_entries}
+use Rattle.signed.specs.Entries.{Dispatch, Entry, chain_of, entered, most_entries}
 use Rattle.signed.specs.Campaign.{Campaign, Conduct, is_traitor}
 use Rattle.signed.specs.World.{World, Event, Post, Posted, Refusal, opening, run, happen, refusal, sent, held_behind, context_behind, accepted_in, IsPunctual, IsFinished}
 
@@ -59,3 +60,8 @@ pub record IdleEventsChangeNothing (A B : Type 0) : Type 0 where
       refusal (run d (opening d s) events) e ≡ Some r → happen d (run d (opening d s) events) e ≡ run d (opening d s) events
   pub posted : (d : Conduct A B) (s : Campaign) (events : List Event) (g : ℕ) → slice_get (run d (opening d s) events).parts g ≡ Some Posted →
       (refusal (run d (opening d s) events) (Post g) ≡ None) × (happen d (run d (opening d s) events) (Post g) ≡ run d (opening d s) events)
+
+-- entries that can be sent, at most 8, are all entered: so what a program has entered may stand for what it has attempted
+abbrev pub EntriesAreEntered : Type 0
+EntriesAreEntered = (c g : ℕ) (held : List Chain) (entries : List Entry) → AllByRecursion (λ e. is_some (chain_of c g held e) ≡ true) entries → length entries ≤ most_entries →
+    entered c g held [] entries ≡ entries

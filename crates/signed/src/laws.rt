@@ -4,6 +4,7 @@ ghost use Rattle.signed.specs.Agreement.{SignedAgreementHolds};
 ghost use Rattle.signed.specs.Laws.{
   ChainsAreFew,
   ChainsAreUnforged,
+  EntriesAreEntered,
   HeldChainsAreFew,
   IdleEventsChangeNothing,
   SignedWorldsAgree,
@@ -43,4 +44,9 @@ pub fn idle_events_change_nothing<A, B>()
 /// The verdict means what it says, and in a finished world with no more traitors than were provided for it says that all is well.
 pub fn signed_verdicts_mean<A, B>()
     ensures { SignedVerdictsMean A B }
+{}
+
+/// Entries that can be sent, at most eight, are all entered: so what a program has entered may stand for what it has attempted.
+pub fn entries_are_entered()
+    ensures { EntriesAreEntered }
 {}

@@ -7,7 +7,7 @@ mod signer;
 
 pub use chain::Chain;
 pub use laws::{
-    chains_are_few, chains_are_unforged, held_chains_are_few, idle_events_change_nothing,
+    chains_are_few, chains_are_unforged, entries_are_entered, held_chains_are_few, idle_events_change_nothing,
     signed_agreement, signed_verdicts_mean, signed_worlds_agree,
 };
 pub use signer::Signer;

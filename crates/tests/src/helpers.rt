@@ -8,7 +8,9 @@ const NUMBERS: &[(i32, Option<Helper>)] = &[
     (1, Some(Helper::BoardGet)),
     (6, Some(Helper::Send)),
     (9, Some(Helper::Honest)),
-    (10, None),
+    (10, Some(Helper::SignOrder)),
+    (11, Some(Helper::PassOn)),
+    (12, None),
 ];
 
 /// `send_row` takes a label and at most 13 orders, `board_copy` answers at most 64.

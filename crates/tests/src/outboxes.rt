@@ -54,3 +54,19 @@ fn relays_nothing(rt: HostRuntime) -> Result<(), AllocError> {
     assert!(rt; outbox.sway(1, 0) == 0 && outbox.get(0, 1).is_none());
     Ok(())
 }
+
+/// General 2 holds a chain of the commander and one that he has signed himself: he passes on the first, once he names it; he signs no order.
+#[test]
+fn enters_what_can_be_sent(rt: HostRuntime) -> Result<(), AllocError> {
+    let shape = Shape {
+        generals: 3,
+        commander: 0,
+        general: 2,
+        round: 2,
+    };
+    let mut outbox = Outbox::signed(rt.alloc(), shape, &[1, 5])?;
+    assert!(rt; outbox.pass(0, 2) && !outbox.pass(1, 2) && !outbox.pass(2, 2));
+    assert!(rt; !outbox.sign(1, 2) && outbox.sway(1, 0) == 0);
+    assert!(rt; outbox.entries().len() == 1);
+    Ok(())
+}

@@ -4,6 +4,9 @@ use Rattle.std.specs.Prelude.{◌↔◌, slice_get, sum_by}
 use Rattle.insn.specs.declared.insn.Insn.{Insn}
 use Rattle.label.specs.declared.shape.Shape.{Shape}
 use Rattle.board.specs.Board.{Access}
+use Rattle.semantics.specs.Relay.{Relay, oral}
+use Rattle.round.specs.Contexts.{tells_oral}
+use Rattle.round.proofs.Loyal.{oral_is_told}
 use Rattle.round.specs.Scenario.{Scenario, IsScenario, program_of, shape_of}
 use Rattle.round.specs.Letters.{Letter}
 use Rattle.round.specs.Contexts.{AreWords, context_of, shape_told, outbox_told, loyal_letter}
@@ -48,8 +51,13 @@ stood s before piece g (Some p) l is h part = (
 
 module _ (s : Scenario) (before : List (List Letter)) (g : ℕ) (l : Letter) (is : IsScenario s) (lt : g < s.generals) (le : length before ≤ s.bound) (kept : IsLetter l)
     (own : l.general ≡ g) (of_round : l.round ≡ suc (length before)) (told : l.context ≡ context_of s before g) where
-  shape : l.outbox.shape ≡ shape_of s g (suc (length before))
+  shape : l.outbox.relay.shape ≡ shape_of s g (suc (length before))
   shape = kept.shape ∙ ((λ i. shape_told (own i) (of_round i) (told i)) ∙ shape_is_told s before g (suc (length before)) is)
+
+  relay : l.outbox.relay ≡ oral (shape_of s g (suc (length before)))
+  relay =
+      let kind = kept.kind (subst (λ (c : List ℕ). tells_oral c) (sym told) (oral_is_told s before g is)) in
+      (λ i. record { shape = shape i; kind = kind i })
 
   loyal : AreWords s before g → l.program ≡ None → IsRunOf l None → l ≡ loyal_letter s before g
   loyal small none run =
@@ -68,9 +76,9 @@ module _ (s : Scenario) (before : List (List Letter)) (g : ℕ) (l : Letter) (is
 
   traitor : (p : List Insn) → l.program ≡ Some p → IsRunOf l (Some p) → IsOver s l → IsLetterOf s before g (Some p) l
   traitor p has run over =
-      let A : List ℕ → Shape → Type 0 = λ context relay. Runs l.steps (started None p context relay) l.transcript run.1 in (
+      let A : List ℕ → Relay → Type 0 = λ context relay. Runs l.steps (started None p context relay) l.transcript run.1 in (
         run.1,
-        subst (λ (relay : Shape). A (context_of s before g) relay) shape (subst (λ (context : List ℕ). A context l.outbox.shape) told run.2),
+        subst (λ (own : Relay). A (context_of s before g) own) relay (subst (λ (context : List ℕ). A context l.outbox.relay) told run.2),
         (λ i. record {
           general = own i;
           round = of_round i;
@@ -78,7 +86,7 @@ module _ (s : Scenario) (before : List (List Letter)) (g : ℕ) (l : Letter) (is
           program = has i;
           transcript = l.transcript;
           steps = l.steps;
-          outbox = record { shape = shape i; rows = run.3 i };
+          outbox = record { relay = relay i; rows = run.3 i; entries = run.5 i };
           exited = run.4 i;
         }),
         over.within,
@@ -106,14 +114,14 @@ holds s before piece g round l is lt le kept e small st b has = (
   λ h. has.1 (stands_for s before piece g l h).1,
 )
 
-whose : (s : Scenario) (before : List (List Letter)) (g : ℕ) (o : Option (List Insn)) (l : Letter) → IsLetterOf s before g o l → (l.round ≡ suc (length before)) × (l.outbox.shape ≡ shape_of s l.general (suc (length before)))
+whose : (s : Scenario) (before : List (List Letter)) (g : ℕ) (o : Option (List Insn)) (l : Letter) → IsLetterOf s before g o l → (l.round ≡ suc (length before)) × (l.outbox.relay.shape ≡ shape_of s l.general (suc (length before)))
 whose s before g None l e = (
   ap (λ (x : Letter). x.round) e,
-  ap (λ (x : Letter). x.outbox.shape) e ∙ ap (λ (h : ℕ). shape_of s h (suc (length before))) (sym (ap (λ (x : Letter). x.general) e)),
+  ap (λ (x : Letter). x.outbox.relay.shape) e ∙ ap (λ (h : ℕ). shape_of s h (suc (length before))) (sym (ap (λ (x : Letter). x.general) e)),
 )
 whose s before g (Some p) l h = (
   ap (λ (x : Letter). x.round) h.2,
-  ap (λ (x : Letter). x.outbox.shape) h.2 ∙ ap (λ (k : ℕ). shape_of s k (suc (length before))) (sym (ap (λ (x : Letter). x.general) h.2)),
+  ap (λ (x : Letter). x.outbox.relay.shape) h.2 ∙ ap (λ (k : ℕ). shape_of s k (suc (length before))) (sym (ap (λ (x : Letter). x.general) h.2)),
 )
 
 -- the letters of an accounted round are of that round

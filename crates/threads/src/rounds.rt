@@ -19,7 +19,7 @@ pub(crate) fn are_of_round(scenario: &Scenario, round: u32, row: &[Letter]) -> b
 
 /// Whether the letter is of this round of the campaign.
 fn is_of_round(scenario: &Scenario, round: u32, letter: &Letter) -> bool
-    ensures { IsTrue result ↔ ((letter.now.round ≡ round) × (letter.now.outbox.shape ≡ shape_of scenario.now letter.now.general round)) }
+    ensures { IsTrue result ↔ ((letter.now.round ≡ round) × (letter.now.outbox.relay.shape ≡ shape_of scenario.now letter.now.general round)) }
 {
     let shape = letter.outbox.shape();
     letter.round == round

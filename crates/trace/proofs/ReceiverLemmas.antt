@@ -7,7 +7,8 @@ use Rattle.std.proofs.lemmas.List.Sums.{length-filter, count_by-le-length}
 use Rattle.std.proofs.lemmas.List.FromFn.{length-range_with_len}
 use Rattle.label.specs.declared.shape.Shape.{Shape}
 use Rattle.label.specs.Labels.{on, is_distinct, generals}
-use Rattle.label.specs.Relay.{relay, receivers}
+use Rattle.label.specs.Relay.{receivers}
+use Rattle.semantics.specs.Relay.{Relay, relayed}
 use Rattle.semantics.proofs.PlacesLaws.{others-distinct, row_from, rows_from}
 use Rattle.outbox.specs.Contents.{order_among, order_at}
 use Rattle.trace.specs.Text.{place}
@@ -65,10 +66,10 @@ among_at k b (n ∷ names) (o ∷ orders) (suc i) d h lt =
     (λ (q : (n == j ≡ false) × (n ≢ j)). rw q.0 (among_at k (b + 1) names orders i d both.1 (omega arith)))
     (eqb_tells n j)
 
-order_of_receiver : (s : Shape) (rows : List (List (Option ℕ))) (rank i d : ℕ) (names : List ℕ) → slice_get (map (receivers s) (relay s)) rank ≡ Some names → i < length names → order_at s rows rank (get_or names i d) ≡ get_or (get_or rows rank []) i None
-order_of_receiver s rows rank i d names at lt =
-    ap (λ ps. order_among (get_or names i d) ps (get_or rows rank [])) (row_places s 0 rank (relay s) names at)
-    ∙ among_at (0 + rank) 0 names (get_or rows rank []) i d (row_distinct s rank (relay s) names at) lt
+order_of_receiver : (r : Relay) (rows : List (List (Option ℕ))) (rank i d : ℕ) (names : List ℕ) → slice_get (map (receivers r.shape) (relayed r)) rank ≡ Some names → i < length names → order_at r rows rank (get_or names i d) ≡ get_or (get_or rows rank []) i None
+order_of_receiver r rows rank i d names at lt =
+    ap (λ ps. order_among (get_or names i d) ps (get_or rows rank [])) (row_places r.shape 0 rank (relayed r) names at)
+    ∙ among_at (0 + rank) 0 names (get_or rows rank []) i d (row_distinct r.shape rank (relayed r) names at) lt
 
 -- what all of them were told
 told_among : (f : ℕ → Option ℕ) (names : List ℕ) (row : List (Option ℕ)) → length names ≡ length row → ((i : ℕ) → i < length names → f (get_or names i 0) ≡ get_or row i None) → map (λ r. place (f r)) names ≡ map place row
@@ -79,6 +80,6 @@ told_among f (n ∷ names) (o ∷ row) long each =
     let first : f n ≡ o = each 0 (omega arith) in
     ap (λ x. place x ∷ map (λ r. place (f r)) names) first ∙ ap (λ ws. place o ∷ ws) (told_among f names row (omega arith) (λ i lt. each (suc i) (omega arith)))
 
-pub receivers_told : (s : Shape) (rows : List (List (Option ℕ))) (rank : ℕ) (names : List ℕ) (f : ℕ → Option ℕ) → slice_get (map (receivers s) (relay s)) rank ≡ Some names → length names ≡ length (get_or rows rank []) → ((r : ℕ) → f r ≡ order_at s rows rank r)
-    → map (λ r. place (f r)) names ≡ map place (get_or rows rank [])
-receivers_told s rows rank names f at long each = told_among f names (get_or rows rank []) long (λ i lt. each (get_or names i 0) ∙ order_of_receiver s rows rank i 0 names at lt)
+pub receivers_told : (r : Relay) (rows : List (List (Option ℕ))) (rank : ℕ) (names : List ℕ) (f : ℕ → Option ℕ) → slice_get (map (receivers r.shape) (relayed r)) rank ≡ Some names → length names ≡ length (get_or rows rank []) → ((n : ℕ) → f n ≡ order_at r rows rank n)
+    → map (λ n. place (f n)) names ≡ map place (get_or rows rank [])
+receivers_told r rows rank names f at long each = told_among f names (get_or rows rank []) long (λ i lt. each (get_or names i 0) ∙ order_of_receiver r rows rank i 0 names at lt)

@@ -7,7 +7,7 @@ use Rattle.word.specs.declared.Condition.{Condition}
 use Rattle.word.specs.Arithmetic.{taken, related, compared}
 use Rattle.absval.specs.declared.number_set.NumberSet.{NumberSet}
 use Rattle.absval.specs.NumberSets.{Has, HaveBoth as HoldNumbers}
-use Rattle.label.specs.declared.shape.Shape.{Shape}
+use Rattle.semantics.specs.Relay.{Relay}
 use Rattle.semantics.specs.declared.value.Value.{Value}
 use Rattle.semantics.specs.declared.value.Value.TheVariants as value
 use Rattle.semantics.specs.State.{Cause, State}
@@ -62,10 +62,10 @@ abbrev EdgeHolds : AbsState → Comparison → Bool → List Slot → ℕ → Ty
 EdgeHolds a compared taken pending unit = (s : State) → Describes a s → decided_by compared s.registers ≡ Ok taken → IsAt pending unit s
 
 -- both edges of a conditional jump arrive
-pub branch_arrives : (pending : List Slot) (compared : Comparison) (distance : ℤ) (context : List ℕ) (shape : Shape) (a : AbsState) (s : State) (unit target : ℕ) → s.unit ≡ unit →
+pub branch_arrives : (pending : List Slot) (compared : Comparison) (distance : ℤ) (context : List ℕ) (relay : Relay) (a : AbsState) (s : State) (unit target : ℕ) → s.unit ≡ unit →
     pos target ≡ pos (unit + 1) +ℤ distance → Describes a s → IsTest (decided_by compared s.registers) → EdgeHolds a compared true pending target → EdgeHolds a compared false pending (unit + 1) →
-    Arrives pending (branch_of compared distance) unit (executed context shape (branch_of compared distance) s)
-branch_arrives pending compared distance context shape a s unit target e to d test taken passed =
+    Arrives pending (branch_of compared distance) unit (executed context relay (branch_of compared distance) s)
+branch_arrives pending compared distance context relay a s unit target e to d test taken passed =
     by_test (decided_by compared s.registers) test
     (λ h. taken (record s { unit = target; steps = s.steps + 1 }) (record { registers = d.registers; stack = d.stack; size = d.size }) h)
     (λ h. passed (record s { unit = s.unit + 1; steps = s.steps + 1 }) (record { registers = d.registers; stack = d.stack; size = d.size }) h)

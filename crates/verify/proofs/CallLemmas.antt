@@ -5,18 +5,19 @@ use Rattle.std.specs.List.{list_all}
 use Rattle.std.proofs.lemmas.Bool.{and_parts, eqb-true, le-leb}
 use Rattle.std.proofs.lemmas.List.{length-replicate}
 use Rattle.range.specs.Interval.{IsIn}
-use Rattle.label.specs.declared.shape.Shape.{Shape}
 use Rattle.semantics.specs.declared.value.Value.{Value}
 use Rattle.semantics.specs.declared.value.Value.TheVariants.{Unset, Number, Pointer}
 use Rattle.semantics.specs.declared.value.Cell.{Cell}
 use Rattle.semantics.specs.declared.request.Helper.{Helper}
-use Rattle.semantics.specs.declared.request.Helper.TheVariants.{BoardGet, BoardSwap, BoardAdd, BoardCas, BoardCopy, Send, SendRow, Sway, Honest}
+use Rattle.semantics.specs.declared.request.Helper.TheVariants.{BoardGet, BoardSwap, BoardAdd, BoardCas, BoardCopy, Send, SendRow, Sway, Honest, SignOrder, PassOn}
 use Rattle.semantics.specs.declared.request.Request.{Request}
 use Rattle.semantics.specs.declared.request.Request.TheVariants.{Get, Swap, Add, Cas, Copy}
+use Rattle.semantics.specs.declared.entry.Entry.{Entry}
+use Rattle.semantics.specs.Entries.{is_entered}
 use Rattle.semantics.specs.State.{Cause, Argument, State, Next, Ask, Trap, value_at, given}
 use Rattle.semantics.specs.Memory.{stack_place, cells_at, bytes_in, with_words}
 use Rattle.semantics.specs.Outbox.{Choice, places_set, along_row, as_taken}
-use Rattle.semantics.specs.Call.{argument, below, pointer, slot_in, word_in, pointer_in, copy_of, orders_of, orders_at, asked, sent, called, fits, resumed}
+use Rattle.semantics.specs.Call.{argument, below, pointer, slot_in, word_in, pointer_in, copy_of, orders_of, orders_at, asked, sent, sign_in, pass_in, attempted, called, fits, resumed}
 use Rattle.absval.specs.declared.value.AbsVal.{AbsVal}
 use Rattle.absval.specs.declared.value.AbsVal.TheVariants.{Unset as Unknown}
 use Rattle.absval.specs.Contains.{Contains}
@@ -27,7 +28,7 @@ use Rattle.helper.specs.Results.{HoldsResult, Returns}
 use Rattle.helper.proofs.Tests.{copy_in, place_in, row_in, sway_in}
 use Rattle.verify.specs.declared.state.AbsState.{AbsState}
 use Rattle.verify.specs.Gamma.{RegistersDescribe, Describes}
-use Rattle.semantics.specs.Relay.{IsSetting}
+use Rattle.semantics.specs.Relay.{IsSetting, Relay}
 use Rattle.verify.specs.Outcomes.{StandsAt, GoesOn}
 use Rattle.verify.specs.Calls.{known_at, arguments_reason}
 use Rattle.verify.specs.CallStates.{Puts, CopyStands, RowStands, WindowStands}
@@ -62,11 +63,18 @@ asked_goes a lo hi s (Ok request) free puts held cells = λ answer fit.
     resumed_stands a lo hi (s.unit + 1) request answer (record s { unit = s.unit + 1; steps = s.steps + 1 }) refl puts
     (held (record s { unit = s.unit + 1; steps = s.steps + 1 }) request answer refl fit) (cells answer fit)
 
-pub sent_goes : (a : AbsState) (lo hi : ℕ) (shape : Shape) (s : State) (r0 : ℕ → ℕ) (r : Result Choice Cause) → ((cause : Cause) → sent shape s r0 r ≡ Trap cause → ⊥) → Puts lo hi a.registers s.registers →
-    ((after : State) → sent shape s r0 r ≡ Next after → HoldsResult lo hi after) → StackDescribes a.stack s.cells × (length s.cells ≡ 512) → GoesOn a (s.unit + 1) (sent shape s r0 r)
-sent_goes a lo hi shape s r0 (Err cause) free puts held cells = absurd (free cause refl)
-sent_goes a lo hi shape s r0 (Ok choice) free puts held cells =
-    (refl, record { registers = puts (r0 (places_set shape choice)) (held_in lo hi (r0 (places_set shape choice)) (held _ refl)); stack = cells.0; size = cells.1 })
+pub sent_goes : (a : AbsState) (lo hi : ℕ) (relay : Relay) (s : State) (r0 : ℕ → ℕ) (r : Result Choice Cause) → ((cause : Cause) → sent relay s r0 r ≡ Trap cause → ⊥) → Puts lo hi a.registers s.registers →
+    ((after : State) → sent relay s r0 r ≡ Next after → HoldsResult lo hi after) → StackDescribes a.stack s.cells × (length s.cells ≡ 512) → GoesOn a (s.unit + 1) (sent relay s r0 r)
+sent_goes a lo hi relay s r0 (Err cause) free puts held cells = absurd (free cause refl)
+sent_goes a lo hi relay s r0 (Ok choice) free puts held cells =
+    (refl, record { registers = puts (r0 (places_set relay choice)) (held_in lo hi (r0 (places_set relay choice)) (held _ refl)); stack = cells.0; size = cells.1 })
+
+pub attempted_goes : (a : AbsState) (lo hi : ℕ) (relay : Relay) (s : State) (r : Result Entry Cause) → ((cause : Cause) → attempted relay s r ≡ Trap cause → ⊥) → Puts lo hi a.registers s.registers →
+    ((after : State) → attempted relay s r ≡ Next after → HoldsResult lo hi after) → StackDescribes a.stack s.cells × (length s.cells ≡ 512) → GoesOn a (s.unit + 1) (attempted relay s r)
+attempted_goes a lo hi relay s (Err cause) free puts held cells = absurd (free cause refl)
+attempted_goes a lo hi relay s (Ok entry) free puts held cells =
+    let r0 : ℕ = if is_entered relay s.entries entry then 0 else 1 in
+    (refl, record { registers = puts r0 (held_in lo hi r0 (held _ refl)); stack = cells.0; size = cells.1 })
 
 -- what holds of all that a chain may give
 given_all : {A B : Type 0} (P : B → Type 0) (r : Result A Cause) (f : A → Result B Cause) → ((a : A) → r ≡ Ok a → IfOk (f a) P) → IfOk (given r f) P
@@ -97,9 +105,9 @@ asked_trap : (s : State) (r : Result Request Cause) (cause : Cause) → asked s 
 asked_trap s (Ok request) cause e = cc
 asked_trap s (Err other) cause e = let same : other ≡ cause = cc in ap Err same
 
-sent_trap : (shape : Shape) (s : State) (r0 : ℕ → ℕ) (r : Result Choice Cause) (cause : Cause) → sent shape s r0 r ≡ Trap cause → r ≡ Err cause
-sent_trap shape s r0 (Ok choice) cause e = cc
-sent_trap shape s r0 (Err other) cause e = let same : other ≡ cause = cc in ap Err same
+sent_trap : (relay : Relay) (s : State) (r0 : ℕ → ℕ) (r : Result Choice Cause) (cause : Cause) → sent relay s r0 r ≡ Trap cause → r ≡ Err cause
+sent_trap relay s r0 (Ok choice) cause e = cc
+sent_trap relay s r0 (Err other) cause e = let same : other ≡ cause = cc in ap Err same
 
 at_register : (known : List AbsVal) (s : State) (r : ℕ) (v : Value) → RegistersDescribe known s.registers → value_at s.registers r ≡ v → Contains (known_at known r) v
 at_register known s r v d e = subst (λ (w : Value). Contains (known_at known r) w) e (AllZip-at Contains known s.registers r Unknown Unset d tt)
@@ -161,9 +169,9 @@ orders_fail (Ok found) f cause h q = by_bytes (bytes_in found) h q
     by_bytes (Err other) h q = cc
 orders_fail (Err other) f cause h q = cc
 
-pub row_free : (a : AbsState) (context : List ℕ) (shape : Shape) (s : State) (cause : Cause) → IsSetting context shape → Describes a s → refused (arguments_of SendRow) 1 s.registers ≡ None →
+pub row_free : (a : AbsState) (context : List ℕ) (relay : Relay) (s : State) (cause : Cause) → IsSetting context relay → Describes a s → refused (arguments_of SendRow) 1 s.registers ≡ None →
     RowStands (known_at a.registers 2) (known_at a.registers 3) a.stack → row_in context s ≡ Err cause → ⊥
-row_free a context shape s cause setting d e stands q =
+row_free a context relay s cause setting d e stands q =
     let first = given_fails (argument s 1 1016) (λ label. given (pointer_in s 2) (λ from. given (argument s 3 14) (λ count. given (orders_at context s from count) (λ orders. Ok (along_row label orders)))))
     (or_else (refusal (pointer_in s 2)) (or_else (refusal (argument s 3 14)) None)) cause e q in
     let second = given_fails (pointer_in s 2) (λ from. given (argument s 3 14) (λ count. given (orders_at context s from count) (λ orders. Ok (along_row first.0 orders)))) (or_else (refusal (argument s 3 14)) None) cause first.2 first.3 in
@@ -180,50 +188,56 @@ kept : (a : AbsState) (new : Known) (s : State) → Describes a s → new ≡ a.
 kept a new s d e = (subst (λ (known : Known). StackDescribes known s.cells) (sym e) d.stack, d.size)
 
 -- a call whose arguments are accepted goes on to what is left
-pub called_goes : (helper : Helper) (a new : AbsState) (lo hi : ℕ) (context : List ℕ) (shape : Shape) (s : State) → IsSetting context shape → Describes a s → arguments_reason (arguments_of helper) 1 a.registers ≡ None →
-    AcceptsThese helper (arguments_of helper) → Returns helper lo hi → WindowStands helper a new.stack → Puts lo hi new.registers s.registers → GoesOn new (s.unit + 1) (called context shape s (Some helper))
-called_goes BoardGet a new lo hi context shape s setting d e accepts returns stands puts =
+pub called_goes : (helper : Helper) (a new : AbsState) (lo hi : ℕ) (context : List ℕ) (relay : Relay) (s : State) → IsSetting context relay → Describes a s → arguments_reason (arguments_of helper) 1 a.registers ≡ None →
+    AcceptsThese helper (arguments_of helper) → Returns helper lo hi → WindowStands helper a new.stack → Puts lo hi new.registers s.registers → GoesOn new (s.unit + 1) (called context relay s (Some helper))
+called_goes BoardGet a new lo hi context relay s setting d e accepts returns stands puts =
     let cells = kept a new.stack s d stands in
-    asked_goes new lo hi s (given (slot_in s) (λ slot. Ok (Get slot))) (λ cause q. accepts context shape s cause (arguments_fine (arguments_of BoardGet) 1 a.registers s.registers d.registers e) q) puts
-    (λ waiting request words q fit. returns.answered context shape s waiting request words q fit)
+    asked_goes new lo hi s (given (slot_in s) (λ slot. Ok (Get slot))) (λ cause q. accepts context relay s cause (arguments_fine (arguments_of BoardGet) 1 a.registers s.registers d.registers e) q) puts
+    (λ waiting request words q fit. returns.answered context relay s waiting request words q fit)
     (given_all (AnswersStand new.stack s.cells (value_at s.registers 2)) (slot_in s) (λ slot. Ok (Get slot)) (λ slot q words fit. cells))
-called_goes BoardSwap a new lo hi context shape s setting d e accepts returns stands puts =
+called_goes BoardSwap a new lo hi context relay s setting d e accepts returns stands puts =
     let cells = kept a new.stack s d stands in
-    asked_goes new lo hi s (given (slot_in s) (λ slot. given (word_in s 2) (λ value. Ok (Swap slot value)))) (λ cause q. accepts context shape s cause (arguments_fine (arguments_of BoardSwap) 1 a.registers s.registers d.registers e) q) puts
-    (λ waiting request words q fit. returns.answered context shape s waiting request words q fit)
+    asked_goes new lo hi s (given (slot_in s) (λ slot. given (word_in s 2) (λ value. Ok (Swap slot value)))) (λ cause q. accepts context relay s cause (arguments_fine (arguments_of BoardSwap) 1 a.registers s.registers d.registers e) q) puts
+    (λ waiting request words q fit. returns.answered context relay s waiting request words q fit)
     (given_all (AnswersStand new.stack s.cells (value_at s.registers 2)) (slot_in s) (λ slot. given (word_in s 2) (λ value. Ok (Swap slot value))) (λ slot q.
     given_all (AnswersStand new.stack s.cells (value_at s.registers 2)) (word_in s 2) (λ value. Ok (Swap slot value)) (λ value p words fit. cells)))
-called_goes BoardAdd a new lo hi context shape s setting d e accepts returns stands puts =
+called_goes BoardAdd a new lo hi context relay s setting d e accepts returns stands puts =
     let cells = kept a new.stack s d stands in
-    asked_goes new lo hi s (given (slot_in s) (λ slot. given (word_in s 2) (λ value. Ok (Add slot value)))) (λ cause q. accepts context shape s cause (arguments_fine (arguments_of BoardAdd) 1 a.registers s.registers d.registers e) q) puts
-    (λ waiting request words q fit. returns.answered context shape s waiting request words q fit)
+    asked_goes new lo hi s (given (slot_in s) (λ slot. given (word_in s 2) (λ value. Ok (Add slot value)))) (λ cause q. accepts context relay s cause (arguments_fine (arguments_of BoardAdd) 1 a.registers s.registers d.registers e) q) puts
+    (λ waiting request words q fit. returns.answered context relay s waiting request words q fit)
     (given_all (AnswersStand new.stack s.cells (value_at s.registers 2)) (slot_in s) (λ slot. given (word_in s 2) (λ value. Ok (Add slot value))) (λ slot q.
     given_all (AnswersStand new.stack s.cells (value_at s.registers 2)) (word_in s 2) (λ value. Ok (Add slot value)) (λ value p words fit. cells)))
-called_goes BoardCas a new lo hi context shape s setting d e accepts returns stands puts =
+called_goes BoardCas a new lo hi context relay s setting d e accepts returns stands puts =
     let cells = kept a new.stack s d stands in
     let P = λ (request : Request). AnswersStand new.stack s.cells (value_at s.registers 2) request in
     asked_goes new lo hi s (given (slot_in s) (λ slot. given (word_in s 2) (λ expected. given (word_in s 3) (λ after. Ok (Cas slot expected after)))))
-    (λ cause q. accepts context shape s cause (arguments_fine (arguments_of BoardCas) 1 a.registers s.registers d.registers e) q) puts
-    (λ waiting request words q fit. returns.answered context shape s waiting request words q fit)
+    (λ cause q. accepts context relay s cause (arguments_fine (arguments_of BoardCas) 1 a.registers s.registers d.registers e) q) puts
+    (λ waiting request words q fit. returns.answered context relay s waiting request words q fit)
     (given_all P (slot_in s) (λ slot. given (word_in s 2) (λ expected. given (word_in s 3) (λ after. Ok (Cas slot expected after)))) (λ slot q.
     given_all P (word_in s 2) (λ expected. given (word_in s 3) (λ after. Ok (Cas slot expected after))) (λ expected p.
     given_all P (word_in s 3) (λ after. Ok (Cas slot expected after)) (λ after o words fit. cells))))
-called_goes BoardCopy a new lo hi context shape s setting d e accepts returns stands puts =
+called_goes BoardCopy a new lo hi context relay s setting d e accepts returns stands puts =
     asked_goes new lo hi s (copy_in s)
     (λ cause q. copy_free a new.stack s cause d (arguments_fine (arguments_of BoardCopy) 1 a.registers s.registers d.registers e) stands (asked_trap s (copy_in s) cause q)) puts
-    (λ waiting request words q fit. returns.answered context shape s waiting request words q fit)
+    (λ waiting request words q fit. returns.answered context relay s waiting request words q fit)
     (copy_stands a new.stack s d stands)
-called_goes Send a new lo hi context shape s setting d e accepts returns stands puts =
-    sent_goes new lo hi shape s (λ set. 1 - set) (place_in s) (λ cause q. accepts context shape s cause (arguments_fine (arguments_of Send) 1 a.registers s.registers d.registers e) q) puts
-    (λ after q. returns.at_once context shape s after setting.is_relay q) (kept a new.stack s d stands)
-called_goes SendRow a new lo hi context shape s setting d e accepts returns stands puts =
-    sent_goes new lo hi shape s (λ set. set) (row_in context s)
-    (λ cause q. row_free a context shape s cause setting d (arguments_fine (arguments_of SendRow) 1 a.registers s.registers d.registers e) stands.1 (sent_trap shape s (λ set. set) (row_in context s) cause q)) puts
-    (λ after q. returns.at_once context shape s after setting.is_relay q) (kept a new.stack s d stands.0)
-called_goes Sway a new lo hi context shape s setting d e accepts returns stands puts =
-    sent_goes new lo hi shape s (λ set. set) (sway_in s) (λ cause q. accepts context shape s cause (arguments_fine (arguments_of Sway) 1 a.registers s.registers d.registers e) q) puts
-    (λ after q. returns.at_once context shape s after setting.is_relay q) (kept a new.stack s d stands)
-called_goes Honest a new lo hi context shape s setting d e accepts returns stands puts =
-    sent_goes new lo hi shape s (λ set. set) (given (argument s 1 13) (λ receiver. Ok (as_taken context receiver)))
-    (λ cause q. accepts context shape s cause (arguments_fine (arguments_of Honest) 1 a.registers s.registers d.registers e) q) puts
-    (λ after q. returns.at_once context shape s after setting.is_relay q) (kept a new.stack s d stands)
+called_goes Send a new lo hi context relay s setting d e accepts returns stands puts =
+    sent_goes new lo hi relay s (λ set. 1 - set) (place_in s) (λ cause q. accepts context relay s cause (arguments_fine (arguments_of Send) 1 a.registers s.registers d.registers e) q) puts
+    (λ after q. returns.at_once context relay s after setting.is_relay q) (kept a new.stack s d stands)
+called_goes SendRow a new lo hi context relay s setting d e accepts returns stands puts =
+    sent_goes new lo hi relay s (λ set. set) (row_in context s)
+    (λ cause q. row_free a context relay s cause setting d (arguments_fine (arguments_of SendRow) 1 a.registers s.registers d.registers e) stands.1 (sent_trap relay s (λ set. set) (row_in context s) cause q)) puts
+    (λ after q. returns.at_once context relay s after setting.is_relay q) (kept a new.stack s d stands.0)
+called_goes Sway a new lo hi context relay s setting d e accepts returns stands puts =
+    sent_goes new lo hi relay s (λ set. set) (sway_in s) (λ cause q. accepts context relay s cause (arguments_fine (arguments_of Sway) 1 a.registers s.registers d.registers e) q) puts
+    (λ after q. returns.at_once context relay s after setting.is_relay q) (kept a new.stack s d stands)
+called_goes Honest a new lo hi context relay s setting d e accepts returns stands puts =
+    sent_goes new lo hi relay s (λ set. set) (given (argument s 1 13) (λ receiver. Ok (as_taken context receiver)))
+    (λ cause q. accepts context relay s cause (arguments_fine (arguments_of Honest) 1 a.registers s.registers d.registers e) q) puts
+    (λ after q. returns.at_once context relay s after setting.is_relay q) (kept a new.stack s d stands)
+called_goes SignOrder a new lo hi context relay s setting d e accepts returns stands puts =
+    attempted_goes new lo hi relay s (sign_in s) (λ cause q. accepts context relay s cause (arguments_fine (arguments_of SignOrder) 1 a.registers s.registers d.registers e) q) puts
+    (λ after q. returns.at_once context relay s after setting.is_relay q) (kept a new.stack s d stands)
+called_goes PassOn a new lo hi context relay s setting d e accepts returns stands puts =
+    attempted_goes new lo hi relay s (pass_in s) (λ cause q. accepts context relay s cause (arguments_fine (arguments_of PassOn) 1 a.registers s.registers d.registers e) q) puts
+    (λ after q. returns.at_once context relay s after setting.is_relay q) (kept a new.stack s d stands)

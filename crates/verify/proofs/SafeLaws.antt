@@ -1,7 +1,7 @@
 -- Safe states, step by step.
 use Rattle.std.proofs.Common.{ℕ, suc, List}
 use Rattle.insn.specs.declared.insn.Insn.{Insn}
-use Rattle.label.specs.declared.shape.Shape.{Shape}
+use Rattle.semantics.specs.Relay.{Relay}
 use Rattle.semantics.specs.State.{State, Outcome, Next, Ask, Exit, Trap}
 use Rattle.semantics.specs.Execution.{step}
 use Rattle.semantics.specs.Run.{IsSound}
@@ -17,10 +17,10 @@ leads_weaker P Q (Exit r0 t) w h = tt
 leads_weaker P Q (Trap cause) w h = h
 
 -- a state is safe where each next state is, for one step less
-pub IsSafe-step : (program : List Insn) (context : List ℕ) (shape : Shape) (n : ℕ) (s : State) → LeadsTo (λ t. IsSafe program context shape n t) (step program context shape s) →
-    IsSafe program context shape (suc n) s
+pub IsSafe-step : (program : List Insn) (context : List ℕ) (relay : Relay) (n : ℕ) (s : State) → LeadsTo (λ t. IsSafe program context relay n t) (step program context relay s) →
+    IsSafe program context relay (suc n) s
 unfolding IsSafe
-IsSafe-step program context shape n s leads = leads
+IsSafe-step program context relay n s leads = leads
 
 -- a program that starts safe is sound
 pub sound_of_start : (program : List Insn) → StartsSafe program → IsSound program

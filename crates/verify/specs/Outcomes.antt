@@ -3,12 +3,11 @@ use Rattle.std.specs.Prelude.{ℕ, ◌≡◌, ◌+◌, Bool, true, List, Result,
 use Rattle.insn.specs.declared.insn.Insn.{Insn}
 use Rattle.insn.specs.declared.insn.Insn.TheVariants.{Jump, LongJump, Branch, Exit}
 use Rattle.insn.specs.Insn.{units_of}
-use Rattle.label.specs.declared.shape.Shape.{Shape}
 use Rattle.semantics.specs.State.{Cause, State, Outcome, Next, Ask, Trap}
 use Rattle.semantics.specs.State.{Exit as Exited}
 use Rattle.semantics.specs.Call.{fits, resumed}
 use Rattle.semantics.specs.Execution.{executed}
-use Rattle.semantics.specs.Relay.{IsSetting}
+use Rattle.semantics.specs.Relay.{IsSetting, Relay}
 use Rattle.verify.specs.declared.state.AbsState.{AbsState}
 use Rattle.verify.specs.Gamma.{Describes}
 
@@ -30,7 +29,7 @@ GoesOn a unit (Trap cause) = ⊥
 
 -- from every state that is described, the instruction goes on behind itself to one that is
 abbrev pub Follows : AbsState → Insn → AbsState → Type 0
-Follows old i new = (context : List ℕ) (shape : Shape) (s : State) → IsSetting context shape → Describes old s → GoesOn new (s.unit + units_of i) (executed context shape i s)
+Follows old i new = (context : List ℕ) (relay : Relay) (s : State) → IsSetting context relay → Describes old s → GoesOn new (s.unit + units_of i) (executed context relay i s)
 
 abbrev pub IsEnd : Outcome → Type 0
 IsEnd (Next t) = ⊥

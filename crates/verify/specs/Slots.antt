@@ -3,7 +3,6 @@ use Rattle.std.specs.Prelude.{ℕ, ℤ, pos, ◌<ℤ◌, ◌≡◌, ◌<◌, ◌
 use Rattle.std.specs.declared.alloc.Global.{Global}
 use Rattle.insn.specs.declared.insn.Insn.{Insn}
 use Rattle.insn.specs.Program.{instruction_at}
-use Rattle.label.specs.declared.shape.Shape.{Shape}
 use Rattle.semantics.specs.State.{State, Outcome}
 use Rattle.semantics.specs.Execution.{executed}
 use Rattle.semantics.specs.Safety.{LeadsTo}
@@ -11,7 +10,7 @@ use Rattle.semantics.specs.Plain.{IsIn, leads_to, writes, Unwritten}
 use Rattle.absval.specs.declared.value.AbsVal.{AbsVal}
 use Rattle.verify.specs.declared.state.AbsState.{AbsState}
 use Rattle.verify.specs.Gamma.{Describes, has_number}
-use Rattle.semantics.specs.Relay.{IsSetting}
+use Rattle.semantics.specs.Relay.{IsSetting, Relay}
 
 -- what is kept for a unit
 abbrev pub Slot : Type 0
@@ -35,12 +34,12 @@ Arrives pending i unit outcome = LeadsTo (λ t. IsIn (pos t.unit) (leads_to i un
 
 -- so it is from every state at the unit that a is known to describe
 abbrev pub LeadsOn : AbsState → Insn → ℕ → List Slot → Type 0
-LeadsOn a i unit pending = (context : List ℕ) (shape : Shape) (s : State) → IsSetting context shape → s.unit ≡ unit → Describes a s → Arrives pending i unit (executed context shape i s)
+LeadsOn a i unit pending = (context : List ℕ) (relay : Relay) (s : State) → IsSetting context relay → s.unit ≡ unit → Describes a s → Arrives pending i unit (executed context relay i s)
 
 -- a unit is passed: what it described leads on to what is kept, and what is kept for units behind it still is
 pub record IsPassed (program : List Insn) (unit : ℕ) (old new : List Slot) : Type 0 where
-  pub leads : (i : Insn) (context : List ℕ) (shape : Shape) (s : State) → IsSetting context shape → instruction_at program unit ≡ Some i → s.unit ≡ unit → IsAt old unit s →
-      Arrives new i unit (executed context shape i s)
+  pub leads : (i : Insn) (context : List ℕ) (relay : Relay) (s : State) → IsSetting context relay → instruction_at program unit ≡ Some i → s.unit ≡ unit → IsAt old unit s →
+      Arrives new i unit (executed context relay i s)
   pub keeps : (v : ℕ) (s : State) → unit < v → IsAt old v s → IsAt new v s
 
 -- each edge ends within so many units

@@ -3,7 +3,7 @@ ghost use Rattle.std.specs.Prelude.{◌≡◌, ◌≢◌, ℕ, ◌+◌, ◌++◌
 ghost use Rattle.std.specs.Result.{result_ok, result_err};
 ghost use Rattle.absval.specs.NumberSets.{single};
 ghost use Rattle.word.specs.declared.Width.{Width};
-ghost use Rattle.label.specs.declared.shape.Shape.{Shape};
+ghost use Rattle.semantics.specs.Relay.{Relay};
 ghost use Rattle.semantics.specs.declared.value.Value.{Value};
 ghost use Rattle.semantics.specs.State.{Cause, State};
 ghost use Rattle.semantics.specs.Step.{assigned};
@@ -299,7 +299,7 @@ pub fn compare(state: &AbsState, compared: &Comparison) -> Result<(), Reason>
 
 /// The program ends with r0.
 pub fn exit(state: &AbsState) -> Result<(), Reason>
-    ensures holds { OnOk result ((context : List ℕ) (shape : Shape) (s : State) → Describes state.now s → IsEnd (executed context shape Insn.Exit s)) }
+    ensures holds { OnOk result ((context : List ℕ) (relay : Relay) (s : State) → Describes state.now s → IsEnd (executed context relay Insn.Exit s)) }
     ensures plain { AllRead Insn.Exit state.now.registers → IsOk result }
     ensures refused { result_err result ≡ first_reason (exit_checks (known_at (seen state.now.registers) 0)) }
 {

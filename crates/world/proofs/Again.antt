@@ -9,6 +9,7 @@ use Rattle.std.proofs.Math.Seq.{drop-append_seam}
 use Rattle.insn.specs.declared.insn.Insn.{Insn}
 use Rattle.board.specs.Board.{Access, words_after, IsLegal}
 use Rattle.world.specs.declared.event.Event.TheVariants.{Close}
+use Rattle.semantics.specs.Relay.{oral}
 use Rattle.round.specs.Scenario.{Scenario, IsScenario, program_of, shape_of}
 use Rattle.round.specs.Letters.{Letter}
 use Rattle.round.specs.Contexts.{context_of, loyal_letter}
@@ -36,7 +37,7 @@ take-snoc (x ∷ ls) (suc n) l e = ap (λ ys. x ∷ ys) (take-snoc ls n l e)
 
 -- an activation's end is the one that a general's letter tells of
 abbrev pub Tells : List Letter → ℕ → Activation → Type 0
-Tells letters g end = (l : Letter) → slice_get letters g ≡ Some l → (l.steps ≡ end.state.steps) × (l.outbox.rows ≡ end.state.outbox) × (l.exited ≡ end.over)
+Tells letters g end = (l : Letter) → slice_get letters g ≡ Some l → (l.steps ≡ end.state.steps) × (l.outbox.rows ≡ end.state.outbox) × (l.exited ≡ end.over) × (l.outbox.entries ≡ end.state.entries)
 
 letter_within : (ls : List Letter) (g : ℕ) → g < length ls → (l : Letter) × (slice_get ls g ≡ Some l)
 letter_within [] g lt = absurd (omega arith)
@@ -56,18 +57,19 @@ module _ (s : Scenario) (closed : List (List Letter)) (piece : List Access) (let
       let both = round.each g l at in
       let A : Option (List Insn) → Type 0 = λ o. IsLetterOf s closed g o l in
       let is = subst A e both.0 in
-      let start = started None program (context_of s closed g) (shape_of s g (suc (length closed))) in
+      let start = started None program (context_of s closed g) (oral (shape_of s g (suc (length closed)))) in
       let steps : l.steps ≡ is.0.state.steps = (let n = runs_steps l.steps start l.transcript is.0 is.1 in omega arith) in
       let ended : l.exited ≡ is.0.over = ap (λ (x : Letter). x.exited) is.2 in
       record {
         k = l.steps;
         end = under s.patience is.0;
-        runs = (let B : List Access → Type 0 = λ t. Runs l.steps (started s.patience program (context_of s closed g) (shape_of s g (suc (length closed)))) t (under s.patience is.0) in
+        runs = (let B : List Access → Type 0 = λ t. Runs l.steps (started s.patience program (context_of s closed g) (oral (shape_of s g (suc (length closed))))) t (under s.patience is.0) in
             subst B (sym both.1) (runs_under s.patience l.steps start l.transcript is.0 (let W : ℕ → Type 0 = λ n. IsWithin s.patience n in subst W steps is.3) is.1));
         over = (λ i. sym ended i || is_reached s.patience (sym steps i)) ∙ is.4;
         is = λ m there.
             let same : l ≡ m = (let f = sym at ∙ there in cc) in
-            (ap (λ (x : Letter). x.steps) (sym same) ∙ steps, ap (λ (x : Letter). x.outbox.rows) (sym same) ∙ ap (λ (x : Letter). x.outbox.rows) is.2, ap (λ (x : Letter). x.exited) (sym same) ∙ ended);
+            (ap (λ (x : Letter). x.steps) (sym same) ∙ steps, ap (λ (x : Letter). x.outbox.rows) (sym same) ∙ ap (λ (x : Letter). x.outbox.rows) is.2, ap (λ (x : Letter). x.exited) (sym same) ∙ ended,
+            ap (λ (x : Letter). x.outbox.entries) (sym same) ∙ ap (λ (x : Letter). x.outbox.entries) is.2);
       }
 
   pub ways_begin : (b : Bool) → AllParts (Ways (Tells letters) piece) (cond b (each s.generals (λ g. begins s closed g (program_of s g) ∷ [])) [])
@@ -94,7 +96,7 @@ module _ (s : Scenario) (closed : List (List Letter)) (piece : List Access) (let
       let loyal : l ≡ loyal_letter s closed x.general = subst A is both.0 in
       let none : accesses_of x.general piece ≡ [] = both.1 ∙ ap (λ (m : Letter). m.transcript) loyal in
       absurd (of_has front rest x (ap (accesses_of x.general) (sym e) ∙ none))
-  acts_one front rest x e lt (Some program) is = (started s.patience program (context_of s closed x.general) (shape_of s x.general (suc (length closed))), refl)
+  acts_one front rest x e lt (Some program) is = (started s.patience program (context_of s closed x.general) (oral (shape_of s x.general (suc (length closed)))), refl)
 
   acts_from : (parts : List Part) → ((g : ℕ) → g < s.generals → slice_get parts g ≡ Some (begins s closed g (program_of s g)))
       → (front rest : List Access) → piece ≡ front ++ rest → AreBelow s.generals rest → Act parts rest
@@ -118,12 +120,13 @@ each_is letters f h (suc n) le =
 
 -- the letter of an activation that has come to its end, and of a loyal general
 letter_acting : (s : Scenario) (closed : List (List Letter)) (piece ledger : List Access) (w : World) (g : ℕ) (l : Letter) (a : Activation) (o : Option (List Insn)) → program_of s g ≡ o → Fits o (Acting a)
-    → w.scenario ≡ s → w.closed ≡ closed → drop w.opened w.ledger ≡ piece → IsLetterOf s closed g o l → accesses_of g piece ≡ l.transcript → (l.steps ≡ a.state.steps) × (l.outbox.rows ≡ a.state.outbox) × (l.exited ≡ a.over)
+    → w.scenario ≡ s → w.closed ≡ closed → drop w.opened w.ledger ≡ piece → IsLetterOf s closed g o l → accesses_of g piece ≡ l.transcript → (l.steps ≡ a.state.steps) × (l.outbox.rows ≡ a.state.outbox) × (l.exited ≡ a.over) × (l.outbox.entries ≡ a.state.entries)
     → letters_at w g (Some (Acting a)) ≡ l ∷ []
 letter_acting s closed piece ledger w g l a None is fits sc cl op letter tr end = absurd fits
 letter_acting s closed piece ledger w g l a (Some program) is fits sc cl op letter tr end =
-    let made : l ≡ record { general = g; round = suc (length closed); context = context_of s closed g; program = Some program; transcript = l.transcript; steps = l.steps; outbox = record { shape = shape_of s g (suc (length closed)); rows = letter.0.state.outbox }; exited = letter.0.over } = letter.2 in
+    let made : l ≡ record { general = g; round = suc (length closed); context = context_of s closed g; program = Some program; transcript = l.transcript; steps = l.steps; outbox = record { relay = oral (shape_of s g (suc (length closed))); rows = letter.0.state.outbox; entries = letter.0.state.entries }; exited = letter.0.over } = letter.2 in
     let outbox : a.state.outbox ≡ letter.0.state.outbox = sym end.1 ∙ ap (λ (m : Letter). m.outbox.rows) made in
+    let entries : a.state.entries ≡ letter.0.state.entries = sym end.3 ∙ ap (λ (m : Letter). m.outbox.entries) made in
     let program_is : program_of w.scenario g ≡ Some program = ap (λ (v : Scenario). program_of v g) sc ∙ is in
     (λ i. record {
       general = g;
@@ -132,7 +135,7 @@ letter_acting s closed piece ledger w g l a (Some program) is fits sc cl op lett
       program = program_is i;
       transcript = (ap (accesses_of g) op ∙ tr) i;
       steps = (sym end.0) i;
-      outbox = record { shape = shape_of (sc i) g (suc (length (cl i))); rows = outbox i };
+      outbox = record { relay = oral (shape_of (sc i) g (suc (length (cl i)))); rows = outbox i; entries = entries i };
       exited = (sym end.2 ∙ ap (λ (m : Letter). m.exited) made) i;
     } ∷ []) ∙ ap (λ (m : Letter). m ∷ []) (sym made)
 

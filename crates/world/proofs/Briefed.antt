@@ -6,6 +6,7 @@ use Rattle.std.proofs.lemmas.Bool.Decides.{eqb_tells}
 use Rattle.std.proofs.lemmas.Option.{slice_get_past}
 use Rattle.round.proofs.Lists.{either_way}
 use Rattle.insn.specs.declared.insn.Insn.{Insn}
+use Rattle.semantics.specs.Relay.{oral}
 use Rattle.round.specs.Scenario.{Scenario, program_of, shape_of}
 use Rattle.round.specs.Letters.{Letter}
 use Rattle.round.specs.Contexts.{context_of}
@@ -81,17 +82,17 @@ module _ (s : Scenario) (closed : List (List Letter)) (le : length closed ≤ s.
       (either_way (nat_lt j n)))
 
 -- a part that is told what its general is told begins the round
-pub blank_started : (s : Scenario) (n g : ℕ) (o : Option (List Insn)) (a : Activation) → blank s n g o ≡ Acting a → a ≡ started a.patience a.program a.context a.shape
+pub blank_started : (s : Scenario) (n g : ℕ) (o : Option (List Insn)) (a : Activation) → blank s n g o ≡ Acting a → a ≡ started a.patience a.program a.context a.relay
 blank_started s n g None a e = cc
 blank_started s n g (Some program) a e =
-    let is : started s.patience program zeros (shape_of s g (suc n)) ≡ a = cc in
-    subst (λ (x : Activation). x ≡ started x.patience x.program x.context x.shape) is refl
+    let is : started s.patience program zeros (oral (shape_of s g (suc n))) ≡ a = cc in
+    subst (λ (x : Activation). x ≡ started x.patience x.program x.context x.relay) is refl
 
-pub told_begins : (s : Scenario) (closed : List (List Letter)) (g : ℕ) (o : Option (List Insn)) (a b : Activation) → blank s (length closed) g o ≡ Acting a → b ≡ started a.patience a.program (context_of s closed g) a.shape → Acting b ≡ begins s closed g o
+pub told_begins : (s : Scenario) (closed : List (List Letter)) (g : ℕ) (o : Option (List Insn)) (a b : Activation) → blank s (length closed) g o ≡ Acting a → b ≡ started a.patience a.program (context_of s closed g) a.relay → Acting b ≡ begins s closed g o
 told_begins s closed g None a b e is = cc
 told_begins s closed g (Some program) a b e is =
-    let same : a ≡ started s.patience program zeros (shape_of s g (suc (length closed))) = cc in
-    ap Acting (is ∙ ap (λ (x : Activation). started x.patience x.program (context_of s closed g) x.shape) same)
+    let same : a ≡ started s.patience program zeros (oral (shape_of s g (suc (length closed)))) = cc in
+    ap Acting (is ∙ ap (λ (x : Activation). started x.patience x.program (context_of s closed g) x.relay) same)
 
 pub silent_begins : (s : Scenario) (closed : List (List Letter)) (g : ℕ) (o : Option (List Insn)) → blank s (length closed) g o ≡ Silent → Silent ≡ begins s closed g o
 silent_begins s closed g None e = refl

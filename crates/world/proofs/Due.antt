@@ -4,6 +4,7 @@ use Rattle.insn.specs.declared.insn.Insn.{Insn}
 use Rattle.semantics.specs.declared.request.Request.{Request}
 use Rattle.semantics.specs.Call.{fits}
 use Rattle.semantics.proofs.SafetyLaws.{safe_of_sound}
+use Rattle.semantics.specs.Relay.{oral}
 use Rattle.round.specs.Scenario.{Scenario, IsScenario, program_of, shape_of}
 use Rattle.round.specs.Letters.{Letter}
 use Rattle.round.specs.Contexts.{context_of}
@@ -63,7 +64,7 @@ due_begins s closed g is lt le (Some p) e = record {
   program = e;
   left = length p;
   within = omega arith;
-  going = λ on. safe_of_sound p (context_of s closed g) (shape_of s g (suc (length closed))) (is.sound g p e) (context_is s closed g) (shape_is s g (length closed) is lt le);
+  going = λ on. safe_of_sound p (context_of s closed g) (oral (shape_of s g (suc (length closed)))) (is.sound g p e) (context_is s closed g) (shape_is s g (length closed) is lt le);
 }
 
 -- all activations of a round that begins are due

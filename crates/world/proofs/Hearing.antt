@@ -6,6 +6,7 @@ use Rattle.std.proofs.lemmas.List.Elements.{All-append}
 use Rattle.label.specs.Relay.{IsShape}
 use Rattle.board.specs.Board.{Access}
 use Rattle.board.specs.Ledger.{RecordedBoard}
+use Rattle.semantics.specs.Relay.{Relay}
 use Rattle.round.specs.Scenario.{Scenario, IsScenario, shape_of}
 use Rattle.round.specs.Letters.{Letter}
 use Rattle.round.specs.Contexts.{AreWords, IsToldTo, context_of, shape_told, letter_told, loyal_letter}
@@ -34,12 +35,12 @@ each_all P (suc n) f h = All-append P (each n f) (f n) (each_all P n f h) (h n)
 
 -- the letter is of this round of the campaign
 abbrev IsOfRound : Scenario → ℕ → Letter → Type 0
-IsOfRound s round l = (l.round ≡ round) × (l.outbox.shape ≡ shape_of s l.general round)
+IsOfRound s round l = (l.round ≡ round) × (l.outbox.relay.shape ≡ shape_of s l.general round)
 
 written_round : (s : Scenario) (closed : List (List Letter)) (accesses : List Access) (g : ℕ) (o : Option Part) → ((a : Activation) → o ≡ Some (Acting a) → IsPlaced s closed g a) →
     All (IsOfRound s (suc (length closed))) (written s closed accesses g o)
 written_round s closed accesses g None h = all_none (IsOfRound s (suc (length closed)))
-written_round s closed accesses g (Some (Acting a)) h = all_one (IsOfRound s (suc (length closed))) _ (refl, (h a refl).shape)
+written_round s closed accesses g (Some (Acting a)) h = all_one (IsOfRound s (suc (length closed))) _ (refl, ap (λ (r : Relay). r.shape) (h a refl).relay)
 written_round s closed accesses g (Some Silent) h = all_none (IsOfRound s (suc (length closed)))
 written_round s closed accesses g (Some Posted) h = all_one (IsOfRound s (suc (length closed))) (loyal_letter s closed g) (refl, refl)
 

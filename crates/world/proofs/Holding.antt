@@ -192,10 +192,10 @@ held_letters s closed k opened ps full accesses is h same g a at =
     let both : IsPlaced s closed g a × HasRun w g a = subst Q h.reached.1 (λ e. (proved_parts_are_placed s h.reached.0 g a is e, proved_activations_are_runs.parts s h.reached.0 g a is e)) at in
     let p = both.0 in
     let l = letter_left g (suc (length closed)) (accesses_of g (drop opened k.ledger)) a in
-    let is_run : IsRunOf l (Some a.program) = (both.1.0, record a { patience = None }, proved_patience_is_kept.without a.patience a.program a.context a.shape a.state.steps (accesses_of g (drop opened k.ledger)) a both.1.1, refl, refl) in
-    let lies : IsWithin a.patience a.state.steps = proved_patience_is_kept.within a.patience a.program a.context a.shape a.state.steps (accesses_of g (drop opened k.ledger)) a both.1.1 in
+    let is_run : IsRunOf l (Some a.program) = (both.1.0, record a { patience = None }, proved_patience_is_kept.without a.patience a.program a.context a.relay a.state.steps (accesses_of g (drop opened k.ledger)) a both.1.1, refl, refl, refl) in
+    let lies : IsWithin a.patience a.state.steps = proved_patience_is_kept.within a.patience a.program a.context a.relay a.state.steps (accesses_of g (drop opened k.ledger)) a both.1.1 in
     let within : IsWithin s.patience a.state.steps = subst (λ (q : Option ℕ). IsWithin q a.state.steps) p.patience lies in
-    let letter : IsLetter l = proved_activations_are_runs.kept s closed l a.program is (record { general = p.general; rounds = p.rounds; round = refl; context = p.context; shape = p.shape; program = sym p.program; made = is_run; within = within }) refl in
+    let letter : IsLetter l = proved_activations_are_runs.kept s closed l a.program is (record { general = p.general; rounds = p.rounds; round = refl; context = p.context; relay = p.relay; program = sym p.program; made = is_run; within = within }) refl in
     subst (λ (acc : List Access). IsLetter (letter_left g (suc (length closed)) (accesses_of g acc) a)) (sym same) letter
 
 -- so the row is that of the world
@@ -210,7 +210,7 @@ same_letter w g (Some (Acting a)) h =
       program = sym p.program i;
       transcript = accesses_of g (drop w.opened w.ledger);
       steps = a.state.steps;
-      outbox = record { shape = p.shape i; rows = a.state.outbox };
+      outbox = record { relay = p.relay i; rows = a.state.outbox; entries = a.state.entries };
       exited = a.over;
     } ∷ [])
 same_letter w g (Some Silent) h = refl

@@ -10,6 +10,7 @@ use Rattle.label.proofs.Ranks.{get_left, get_right}
 use Rattle.board.specs.Board.{Access, reply}
 use Rattle.world.specs.declared.event.Event.{Event}
 use Rattle.world.specs.declared.event.Event.TheVariants.{Tick, Post, Close}
+use Rattle.semantics.specs.Relay.{oral}
 use Rattle.round.specs.Scenario.{Scenario, program_of, is_traitor, shape_of}
 use Rattle.round.specs.Letters.{Letter}
 use Rattle.round.specs.Contexts.{context_of, loyal_letter}
@@ -168,7 +169,7 @@ module _ (s : Scenario) (closed : List (List Letter)) (words : List ℕ) (ledger
 
   -- the activation with which a traitor's part began
   starts : (b : Bool) (g : ℕ) (a : Activation) (program : List Insn) → program_of s g ≡ Some program → slice_get (cond b (each s.generals (λ h. begins s closed h (program_of s h) ∷ [])) []) g ≡ Some (Acting a)
-      → started s.patience program (context_of s closed g) (shape_of s g (suc (length closed))) ≡ a
+      → started s.patience program (context_of s closed g) (oral (shape_of s g (suc (length closed)))) ≡ a
   starts true g a program is e =
       let h = each-get_only s.generals (λ j. begins s closed j (program_of s j)) g (Acting a) e in
       let f : Acting a ≡ begins s closed g (Some program) = h.1 ∙ ap (begins s closed g) is in cc
@@ -183,18 +184,18 @@ module _ (s : Scenario) (closed : List (List Letter)) (words : List ℕ) (ledger
   letter_made w piece sc cl op made ripe came g (Acting a) at (Some program) is fits =
       let c = came g a at in
       let from = starts (round_open s closed) g c.1 program is c.2 in
-      let runs : Runs c.0 (started s.patience program (context_of s closed g) (shape_of s g (suc (length closed)))) (accesses_of g piece) a = (let A : Activation → Type 0 = λ b. Runs c.0 b (accesses_of g piece) a in subst A (sym from) c.3) in
-      let steps = runs_steps c.0 (started s.patience program (context_of s closed g) (shape_of s g (suc (length closed)))) (accesses_of g piece) a runs in
+      let runs : Runs c.0 (started s.patience program (context_of s closed g) (oral (shape_of s g (suc (length closed))))) (accesses_of g piece) a = (let A : Activation → Type 0 = λ b. Runs c.0 b (accesses_of g piece) a in subst A (sym from) c.3) in
+      let steps = runs_steps c.0 (started s.patience program (context_of s closed g) (oral (shape_of s g (suc (length closed))))) (accesses_of g piece) a runs in
       let k : c.0 ≡ a.state.steps = omega arith in
-      let kept : Kept s.patience a = runs_kept s.patience c.0 (started s.patience program (context_of s closed g) (shape_of s g (suc (length closed)))) (accesses_of g piece) a (refl, within_none s.patience) runs in
-      let l : Letter = record { general = g; round = suc (length closed); context = context_of s closed g; program = Some program; transcript = accesses_of g piece; steps = a.state.steps; outbox = record { shape = shape_of s g (suc (length closed)); rows = a.state.outbox }; exited = a.over } in
+      let kept : Kept s.patience a = runs_kept s.patience c.0 (started s.patience program (context_of s closed g) (oral (shape_of s g (suc (length closed))))) (accesses_of g piece) a (refl, within_none s.patience) runs in
+      let l : Letter = record { general = g; round = suc (length closed); context = context_of s closed g; program = Some program; transcript = accesses_of g piece; steps = a.state.steps; outbox = record { relay = oral (shape_of s g (suc (length closed))); rows = a.state.outbox; entries = a.state.entries }; exited = a.over } in
       let program_is : program_of w.scenario g ≡ Some program = ap (λ (v : Scenario). program_of v g) sc ∙ is in (
         l,
-        (λ i. record { general = g; round = suc (length (cl i)); context = context_of (sc i) (cl i) g; program = program_is i; transcript = accesses_of g (op i); steps = a.state.steps; outbox = record { shape = shape_of (sc i) g (suc (length (cl i))); rows = a.state.outbox }; exited = a.over } ∷ []),
+        (λ i. record { general = g; round = suc (length (cl i)); context = context_of (sc i) (cl i) g; program = program_is i; transcript = accesses_of g (op i); steps = a.state.steps; outbox = record { relay = oral (shape_of (sc i) g (suc (length (cl i)))); rows = a.state.outbox; entries = a.state.entries }; exited = a.over } ∷ []),
         (
           under None a,
-          (let A : ℕ → Type 0 = λ n. Runs n (started None program (context_of s closed g) (shape_of s g (suc (length closed)))) (accesses_of g piece) (under None a) in
-              subst A k (runs_under None c.0 (started s.patience program (context_of s closed g) (shape_of s g (suc (length closed)))) (accesses_of g piece) a tt runs)),
+          (let A : ℕ → Type 0 = λ n. Runs n (started None program (context_of s closed g) (oral (shape_of s g (suc (length closed))))) (accesses_of g piece) (under None a) in
+              subst A k (runs_under None c.0 (started s.patience program (context_of s closed g) (oral (shape_of s g (suc (length closed))))) (accesses_of g piece) a tt runs)),
           refl,
           kept.1,
           (let A : Option ℕ → Type 0 = λ p. (a.over || is_reached p a.state.steps) ≡ true in subst A kept.0 (ripe.ended_all g (Acting a) at)),

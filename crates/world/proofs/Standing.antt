@@ -7,7 +7,7 @@ use Rattle.std.proofs.lemmas.List.Elements.{All-append}
 use Rattle.std.proofs.lemmas.Option.{slice_get_within}
 use Rattle.insn.specs.declared.insn.Insn.{Insn}
 use Rattle.board.specs.Board.{Access, IsBoard}
-use Rattle.semantics.specs.Relay.{IsContext}
+use Rattle.semantics.specs.Relay.{IsContext, Relay, oral}
 use Rattle.label.proofs.Ranks.{get_left, get_right}
 use Rattle.round.specs.Scenario.{Scenario, IsScenario, program_of, shape_of}
 use Rattle.round.specs.Letters.{Letter}
@@ -62,16 +62,16 @@ midway_first s closed words ledger full fit = record {
 
 -- how an acting general began
 begins_acting : (s : Scenario) (closed : List (List Letter)) (g : ℕ) (o : Option (List Insn)) (b : Activation) → begins s closed g o ≡ Acting b
-    → (program : List Insn) × (o ≡ Some program) × (started s.patience program (context_of s closed g) (shape_of s g (suc (length closed))) ≡ b)
+    → (program : List Insn) × (o ≡ Some program) × (started s.patience program (context_of s closed g) (oral (shape_of s g (suc (length closed)))) ≡ b)
 begins_acting s closed g None b e = absurd (let f : Silent ≡ Acting b = e in cc)
-begins_acting s closed g (Some program) b e = (program, refl, (let f : Acting (started s.patience program (context_of s closed g) (shape_of s g (suc (length closed)))) ≡ Acting b = e in cc))
+begins_acting s closed g (Some program) b e = (program, refl, (let f : Acting (started s.patience program (context_of s closed g) (oral (shape_of s g (suc (length closed))))) ≡ Acting b = e in cc))
 
 pub record Began (s : Scenario) (closed : List (List Letter)) (g : ℕ) (b : Activation) : Type 0 where
   pub general : g < s.generals
   pub rounds : length closed ≤ s.bound
   pub program : List Insn
   pub is : program_of s g ≡ Some program
-  pub start : started s.patience program (context_of s closed g) (shape_of s g (suc (length closed))) ≡ b
+  pub start : started s.patience program (context_of s closed g) (oral (shape_of s g (suc (length closed)))) ≡ b
 
 began_by : (s : Scenario) (closed : List (List Letter)) (more : Bool) → round_open s closed ≡ more → (g : ℕ) (b : Activation) → slice_get (cond more (each s.generals (λ h. begins s closed h (program_of s h) ∷ [])) []) g ≡ Some (Acting b) → Began s closed g b
 began_by s closed true more g b e =
@@ -88,17 +88,17 @@ pub record Ran (s : Scenario) (w : World) (g : ℕ) (a : Activation) : Type 0 wh
   pub fitting : AreFitting (accesses_of g (drop w.opened w.ledger))
   pub program : List Insn
   pub is : program_of s g ≡ Some program
-  pub runs : Runs a.state.steps (started s.patience program (context_of s w.closed g) (shape_of s g (suc (length w.closed)))) (accesses_of g (drop w.opened w.ledger)) a
+  pub runs : Runs a.state.steps (started s.patience program (context_of s w.closed g) (oral (shape_of s g (suc (length w.closed))))) (accesses_of g (drop w.opened w.ledger)) a
 
 pub ran : (s : Scenario) (w : World) (g : ℕ) (a : Activation) → Midway s w → slice_get w.parts g ≡ Some (Acting a) → Ran s w g a
 ran s w g a m at =
     let c = m.midst.ways g a at in
     let b = began_by s m.closed (round_open s m.closed) refl g c.1 c.2 in
     let piece : drop w.opened w.ledger ≡ m.midst.piece = (λ i. drop (m.same.opened i) (m.midst.ledger i)) ∙ drop-append_seam m.ledger m.midst.piece in
-    let from = started s.patience b.program (context_of s m.closed g) (shape_of s g (suc (length m.closed))) in
+    let from = started s.patience b.program (context_of s m.closed g) (oral (shape_of s g (suc (length m.closed)))) in
     let runs : Runs c.0 from (accesses_of g m.midst.piece) a = (let A : Activation → Type 0 = λ x. Runs c.0 x (accesses_of g m.midst.piece) a in subst A (sym b.start) c.3) in
-    let steps : a.state.steps ≡ c.0 = steps_taken s.patience b.program (context_of s m.closed g) (shape_of s g (suc (length m.closed))) c.0 (accesses_of g m.midst.piece) a runs in
-    let A : ℕ → List (List Letter) → List Access → Type 0 = λ n cl p. Runs n (started s.patience b.program (context_of s cl g) (shape_of s g (suc (length cl)))) (accesses_of g p) a in
+    let steps : a.state.steps ≡ c.0 = steps_taken s.patience b.program (context_of s m.closed g) (oral (shape_of s g (suc (length m.closed)))) c.0 (accesses_of g m.midst.piece) a runs in
+    let A : ℕ → List (List Letter) → List Access → Type 0 = λ n cl p. Runs n (started s.patience b.program (context_of s cl g) (oral (shape_of s g (suc (length cl))))) (accesses_of g p) a in
     record {
       general = b.general;
       rounds = (let A : List (List Letter) → Type 0 = λ cl. length cl ≤ s.bound in subst A (sym m.same.closed) b.rounds);
@@ -113,12 +113,12 @@ ran s w g a m at =
 pub placed_at : (s : Scenario) (w : World) (g : ℕ) (a : Activation) → Ran s w g a → IsPlaced s w.closed g a
 placed_at s w g a r =
     let same = runs_settled a.state.steps _ _ a r.runs in
-    record { general = r.general; rounds = r.rounds; program = r.is ∙ ap Some (sym same.program); context = same.context; shape = same.shape; patience = same.patience }
+    record { general = r.general; rounds = r.rounds; program = r.is ∙ ap Some (sym same.program); context = same.context; relay = same.relay; patience = same.patience }
 
 run_at : (s : Scenario) (w : World) (g : ℕ) (a : Activation) → Ran s w g a → HasRun w g a
 run_at s w g a r =
     let A : Activation → Type 0 = λ b. Runs a.state.steps b (accesses_of g (drop w.opened w.ledger)) a in
-    (r.fitting, subst A (sym (start_told s.patience r.program (context_of s w.closed g) (shape_of s g (suc (length w.closed))) a.state.steps (accesses_of g (drop w.opened w.ledger)) a r.runs)) r.runs)
+    (r.fitting, subst A (sym (start_told s.patience r.program (context_of s w.closed g) (oral (shape_of s g (suc (length w.closed)))) a.state.steps (accesses_of g (drop w.opened w.ledger)) a r.runs)) r.runs)
 
 no_program : (o : Option (List Insn)) → Fits o Posted → o ≡ None
 no_program None fits = refl
@@ -153,7 +153,7 @@ letter_in s w sc more k m g lt (Some (Acting a)) e =
       program = program_of v g;
       transcript = t;
       steps = a.state.steps;
-      outbox = record { shape = shape_of v g (suc (length w.closed)); rows = a.state.outbox };
+      outbox = record { relay = oral (shape_of v g (suc (length w.closed))); rows = a.state.outbox; entries = a.state.entries };
       exited = a.over;
     } in
     let one : IsLetterIn s w.closed (l s) = record {
@@ -161,17 +161,17 @@ letter_in s w sc more k m g lt (Some (Acting a)) e =
       rounds = r.rounds;
       round = refl;
       context = refl;
-      shape = refl;
+      relay = refl;
       program = refl;
-      within = proved_patience_is_kept.within s.patience r.program context shape a.state.steps t a r.runs;
-      made = made_by s w.closed (l s) r.program r.is (r.fitting, under None a, runs_under None a.state.steps (started s.patience r.program context shape) t a tt r.runs, refl, refl);
+      within = proved_patience_is_kept.within s.patience r.program context (oral shape) a.state.steps t a r.runs;
+      made = made_by s w.closed (l s) r.program r.is (r.fitting, under None a, runs_under None a.state.steps (started s.patience r.program context (oral shape)) t a tt r.runs, refl, refl, refl);
     } in
     alone_all (λ x. IsLetterIn s w.closed x) (l w.scenario) (let A : Scenario → Type 0 = λ v. IsLetterIn s w.closed (l v) in subst A (sym sc) one)
 letter_in s w sc more k m g lt (Some Silent) e = none_all (λ l. IsLetterIn s w.closed l)
 letter_in s w sc more k m g lt (Some Posted) e =
     let fits : Fits (program_of s g) Posted = (let A : Scenario → Type 0 = λ v. Fits (program_of v g) Posted in subst A sc (k.parts g Posted e).1) in
     let none : program_of s g ≡ None = no_program (program_of s g) fits in
-    let one : IsLetterIn s w.closed (loyal_letter s w.closed g) = record { general = lt; rounds = more; round = refl; context = refl; shape = refl; program = sym none; made = refl; within = within_none s.patience } in
+    let one : IsLetterIn s w.closed (loyal_letter s w.closed g) = record { general = lt; rounds = more; round = refl; context = refl; relay = refl; program = sym none; made = refl; within = within_none s.patience } in
     alone_all (λ x. IsLetterIn s w.closed x) (loyal_letter w.scenario w.closed g) (let A : Scenario → Type 0 = λ v. IsLetterIn s w.closed (loyal_letter v w.closed g) in subst A (sym sc) one)
 
 -- what stands in the list of closed rounds, and the row behind it
@@ -251,7 +251,8 @@ letter_kept s before l program is h traitor =
       context = (let A : List ℕ → Type 0 = λ c. IsContext c in subst A (sym h.context) (context_is s before l.general));
       own = (let A : ℕ → List ℕ → Type 0 = λ n c. IsToldTo l.general n c in
           subst (λ (n : ℕ). A n l.context) (sym h.round) (subst (λ (c : List ℕ). A (suc (length before)) c) (sym h.context) (own_is_told s before l.general is h.general h.rounds)));
-      shape = h.shape ∙ (sym (shape_is_told s before l.general l.round is) ∙ ap (λ (c : List ℕ). shape_told l.general l.round c) (sym h.context));
+      shape = ap (λ (r : Relay). r.shape) h.relay ∙ (sym (shape_is_told s before l.general l.round is) ∙ ap (λ (c : List ℕ). shape_told l.general l.round c) (sym h.context));
+      kind = λ spoken. ap (λ (r : Relay). r.kind) h.relay;
       run = (let A : Option (List Insn) → Type 0 = λ o. IsRunOf l o in subst A (sym traitor) made);
     }
 

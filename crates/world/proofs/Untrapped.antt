@@ -88,7 +88,7 @@ run_held s (e ∷ es) w is h = run_held s es (happen w e) is (event_held s w e i
 pub held : (s : Scenario) (es : List Event) → IsScenario s → IsHeld s (run (opening s) es)
 held s es is = run_held s es (opening s) is (record { timely = opening_due s is; short = λ k d lt. absurd (omega arith) })
 
-pub untrapped : (s : Scenario) (g : ℕ) (a : Activation) (cause : Cause) → IsDue s g a → has_ended a ≡ false → step a.program a.context a.shape a.state ≢ Trap cause
+pub untrapped : (s : Scenario) (g : ℕ) (a : Activation) (cause : Cause) → IsDue s g a → has_ended a ≡ false → step a.program a.context a.relay a.state ≢ Trap cause
 untrapped s g a cause d on e =
-    let h = IsSafe-no_trap a.program a.context a.shape d.left a.state (d.going on) in
+    let h = IsSafe-no_trap a.program a.context a.relay d.left a.state (d.going on) in
     (let A : Outcome → Type 0 = λ o. LeadsTo (λ next. Unit {0}) o in subst A e h)

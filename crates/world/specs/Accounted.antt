@@ -2,6 +2,7 @@
 use Rattle.std.specs.Prelude.{ℕ, suc, ◌≡◌, ◌<◌, ◌*◌, ◌==◌, ◌&&◌, ◌||◌, true, List, [], ◌∷◌, ◌++◌, All, length, take, drop, find, sum_by, slice_get, Option, None, Some}
 use Rattle.insn.specs.declared.insn.Insn.{Insn}
 use Rattle.board.specs.Board.{Access}
+use Rattle.semantics.specs.Relay.{oral}
 use Rattle.round.specs.Scenario.{Scenario, program_of, shape_of}
 use Rattle.round.specs.Letters.{Letter}
 use Rattle.round.specs.Contexts.{context_of, loyal_letter}
@@ -17,7 +18,7 @@ IsLetterOf s before g (Some program) l =
     let round = suc (length before) in
     let context = context_of s before g in
     let shape = shape_of s g round in
-    (end : Activation) × Runs l.steps (started None program context shape) l.transcript end
+    (end : Activation) × Runs l.steps (started None program context (oral shape)) l.transcript end
     × (l ≡ record {
       general = g;
       round = round;
@@ -25,7 +26,7 @@ IsLetterOf s before g (Some program) l =
       program = Some program;
       transcript = l.transcript;
       steps = l.steps;
-      outbox = record { shape = shape; rows = end.state.outbox };
+      outbox = record { relay = oral shape; rows = end.state.outbox; entries = end.state.entries };
       exited = end.over;
     })
     × IsWithin s.patience l.steps × ((l.exited || is_reached s.patience l.steps) ≡ true)

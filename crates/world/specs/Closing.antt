@@ -2,6 +2,7 @@
 use Rattle.std.specs.Prelude.{ℕ, suc, ◌≡◌, nat_lt, cond, List, [], ◌∷◌, replicate, slice_get, Option, None, Some}
 use Rattle.insn.specs.declared.insn.Insn.{Insn}
 use Rattle.board.specs.Board.{Access}
+use Rattle.semantics.specs.Relay.{oral}
 use Rattle.round.specs.Scenario.{Scenario, program_of, shape_of}
 use Rattle.round.specs.Letters.{Letter}
 use Rattle.round.specs.Contexts.{loyal_letter}
@@ -44,7 +45,7 @@ zeros = replicate 4096 0
 -- how a general begins the round behind so many before he is told anything
 abbrev pub blank : Scenario → ℕ → ℕ → Option (List Insn) → Part
 blank s before g None = Silent
-blank s before g (Some program) = Acting (started s.patience program zeros (shape_of s g (suc before)))
+blank s before g (Some program) = Acting (started s.patience program zeros (oral (shape_of s g (suc before))))
 
 abbrev pub blanks : Scenario → ℕ → List Part
 blanks s before = cond (nat_lt before (suc s.bound)) (each s.generals (λ g. blank s before g (program_of s g) ∷ [])) []

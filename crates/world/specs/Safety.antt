@@ -3,6 +3,7 @@ use Rattle.std.specs.Prelude.{ℕ, suc, ◌≡◌, ◌≢◌, ◌<◌, ◌≤◌
 use Rattle.insn.specs.declared.insn.Insn.{Insn}
 use Rattle.semantics.specs.State.{Cause, Trap}
 use Rattle.semantics.specs.Execution.{step}
+use Rattle.semantics.specs.Relay.{oral}
 use Rattle.round.specs.Scenario.{Scenario, IsScenario, program_of, shape_of}
 use Rattle.round.specs.Letters.{Letter}
 use Rattle.round.specs.Contexts.{context_of, loyal_letter}
@@ -19,7 +20,7 @@ IsShort l = (program : List Insn) → l.program ≡ Some program → l.steps ≤
 -- whatever happens, no activation traps or takes more steps than its program has instructions
 pub record ActivationsAreSafe : Type 0 where
   pub untrapped : (s : Scenario) (events : List Event) (g : ℕ) (a : Activation) (cause : Cause) → IsScenario s →
-      slice_get (run (opening s) events).parts g ≡ Some (Acting a) → has_ended a ≡ false → step a.program a.context a.shape a.state ≢ Trap cause
+      slice_get (run (opening s) events).parts g ≡ Some (Acting a) → has_ended a ≡ false → step a.program a.context a.relay a.state ≢ Trap cause
   pub fewer : (s : Scenario) (events : List Event) (g : ℕ) (a : Activation) → IsScenario s →
       slice_get (run (opening s) events).parts g ≡ Some (Acting a) → a.state.steps ≤ length a.program
   pub letters : (s : Scenario) (events : List Event) → IsScenario s → All (λ letters. All IsShort letters) (run (opening s) events).closed
@@ -30,7 +31,7 @@ pub record IsPlaced (s : Scenario) (closed : List (List Letter)) (g : ℕ) (a : 
   pub rounds : length closed ≤ s.bound
   pub program : program_of s g ≡ Some a.program
   pub context : a.context ≡ context_of s closed g
-  pub shape : a.shape ≡ shape_of s g (suc (length closed))
+  pub relay : a.relay ≡ oral (shape_of s g (suc (length closed)))
   pub patience : a.patience ≡ s.patience
 
 -- each acting general has his program, the context and the relay of the open round, and the patience
@@ -42,7 +43,7 @@ PartsArePlaced = (s : Scenario) (events : List Event) (g : ℕ) (a : Activation)
 abbrev pub HasRun : World → ℕ → Activation → Type 0
 HasRun w g a =
     let transcript = accesses_of g (drop w.opened w.ledger) in
-    AreFitting transcript × Runs a.state.steps (started a.patience a.program a.context a.shape) transcript a
+    AreFitting transcript × Runs a.state.steps (started a.patience a.program a.context a.relay) transcript a
 
 -- a loyal general's letter is what he took, a traitor's the run of its transcript
 abbrev pub IsMade : Scenario → List (List Letter) → Letter → Option (List Insn) → Type 0
@@ -55,7 +56,7 @@ pub record IsLetterIn (s : Scenario) (before : List (List Letter)) (l : Letter) 
   pub rounds : length before ≤ s.bound
   pub round : l.round ≡ suc (length before)
   pub context : l.context ≡ context_of s before l.general
-  pub shape : l.outbox.shape ≡ shape_of s l.general l.round
+  pub relay : l.outbox.relay ≡ oral (shape_of s l.general l.round)
   pub program : l.program ≡ program_of s l.general
   pub made : IsMade s before l l.program
   pub within : IsWithin s.patience l.steps

@@ -3,6 +3,7 @@ use Rattle.std.specs.Prelude.{ℕ, zero, suc, nat_lt, ◌==◌, ◌&&◌, cond, 
 use Rattle.std.specs.List.{list_all}
 use Rattle.insn.specs.declared.insn.Insn.{Insn}
 use Rattle.board.specs.Board.{Access, reply, next}
+use Rattle.semantics.specs.Relay.{oral}
 use Rattle.round.specs.Scenario.{Scenario, program_of, shape_of}
 use Rattle.round.specs.Letters.{Letter}
 use Rattle.round.specs.Contexts.{context_of, loyal_letter}
@@ -35,7 +36,7 @@ round_open s closed = nat_lt (length closed) (suc s.bound)
 -- how a general begins the round behind these
 abbrev pub begins : Scenario → List (List Letter) → ℕ → Option (List Insn) → Part
 begins s closed g None = Silent
-begins s closed g (Some program) = Acting (started s.patience program (context_of s closed g) (shape_of s g (suc (length closed))))
+begins s closed g (Some program) = Acting (started s.patience program (context_of s closed g) (oral (shape_of s g (suc (length closed)))))
 
 -- the world where a round begins: behind the last one nobody has a part
 abbrev pub begun : Scenario → List (List Letter) → List ℕ → List Access → Bool → World
@@ -66,7 +67,7 @@ letters_at w g (Some (Acting a)) =
       program = program_of w.scenario g;
       transcript = accesses_of g (drop w.opened w.ledger);
       steps = a.state.steps;
-      outbox = record { shape = shape_of w.scenario g (suc (length w.closed)); rows = a.state.outbox };
+      outbox = record { relay = oral (shape_of w.scenario g (suc (length w.closed))); rows = a.state.outbox; entries = a.state.entries };
       exited = a.over;
     } ∷ []
 letters_at w g (Some Silent) = []

@@ -1,6 +1,7 @@
 //! How a round begins.
 ghost use Rattle.std.specs.Prelude.{◌≡◌, ◌<◌, ◌≤◌, ◌+◌, ◌++◌, ◌∷◌, [], suc, Some, length, slice_get, slice_set, IfOk, OnOk, vec_len, vec_capacity};
 ghost use Rattle.std.specs.Arc.{arc_value};
+ghost use Rattle.semantics.specs.Relay.{oral};
 ghost use Rattle.round.specs.Activation.{started};
 ghost use Rattle.round.specs.Scenario.{program_of, shape_of};
 ghost use Rattle.round.specs.Told.{WasTold};
@@ -69,7 +70,7 @@ fn blank(
 ) -> Result<Running, AllocError>
     requires left { before ≤ scenario.now.bound }
     requires inside { general < scenario.now.generals }
-    ensures { IfOk result (λ running. running ≡ started scenario.now.patience (arc_value program.now) zeros (shape_of scenario.now general (suc before))) }
+    ensures { IfOk result (λ running. running ≡ started scenario.now.patience (arc_value program.now) zeros (oral (shape_of scenario.now general (suc before)))) }
 {
     let _few = scenario.bound();
     let context = zeros(alloc)?;

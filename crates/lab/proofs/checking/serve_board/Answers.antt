@@ -15,12 +15,12 @@ loop-request-preserved c =
     let a = c.loop-request.activation in
     let answers = replies c.loop-request.board.ledger in
     let b : Standing = c.run.new.self in
-    let w : Asking = record { shape = b.shape; request = c.in-Asked.request; last = before b.state; state = b.state } in
+    let w : Asking = record { relay = b.relay; request = c.in-Asked.request; last = before b.state; state = b.state } in
     let r = c.in-Asked.ensures.advances answers (own_reached program context a c.loop-request.board c.loop-request.invariant) in
     serves_on program context c.len-limit.result a c.resume.new.self c.loop-request.board c.apply.new.self c.in-Asked.request w (words_in c.in_ok-reply-in-Asked.reply) c.bench_shape-shape.result c.bench_shape-shape.ensures.same
-    c.loop-request.invariant r c.resume.ensures.shape c.resume.ensures.resumed
-    (c.resume.ensures.reached program context answers (last_reached program context a.shape answers c.len-limit.result a.state c.in-Asked.request w r)
-    (last_asks program context a.shape answers c.len-limit.result a.state c.in-Asked.request w r))
+    c.loop-request.invariant r c.resume.ensures.relay c.resume.ensures.resumed
+    (c.resume.ensures.reached program context answers (last_reached program context a.relay answers c.len-limit.result a.state c.in-Asked.request w r)
+    (last_asks program context a.relay answers c.len-limit.result a.state c.in-Asked.request w r))
     (c.resume.ensures.of_run program context c.in-Asked.ensures.of_run.1) c.in_ok-reply-in-Asked.ensures.answer c.in_ok-reply-in-Asked.ensures.fits c.in_ok-reply-in-Asked.ensures.opening c.in_ok-reply-in-Asked.ensures.entered
 
 pub loop-request-preserved-in_ok-reply-in-Asked : goal.loop-request-preserved-in_ok-reply-in-Asked
@@ -30,12 +30,12 @@ loop-request-preserved-in_ok-reply-in-Asked c =
     let a = c.loop-request.activation in
     let answers = replies c.loop-request.board.ledger in
     let b : Standing = c.run.new.self in
-    let w : Asking = record { shape = b.shape; request = c.in-Asked.request; last = before b.state; state = b.state } in
+    let w : Asking = record { relay = b.relay; request = c.in-Asked.request; last = before b.state; state = b.state } in
     let r = c.in-Asked.ensures.advances answers (own_reached program context a c.loop-request.board c.loop-request.invariant) in
     serves_on program context c.len-limit.result a c.resume.new.self c.loop-request.board c.apply.new.self c.in-Asked.request w (words_in c.in_ok-reply-in-Asked.reply) c.bench_shape-shape.result c.bench_shape-shape.ensures.same
-    c.loop-request.invariant r c.resume.ensures.shape c.resume.ensures.resumed
-    (c.resume.ensures.reached program context answers (last_reached program context a.shape answers c.len-limit.result a.state c.in-Asked.request w r)
-    (last_asks program context a.shape answers c.len-limit.result a.state c.in-Asked.request w r))
+    c.loop-request.invariant r c.resume.ensures.relay c.resume.ensures.resumed
+    (c.resume.ensures.reached program context answers (last_reached program context a.relay answers c.len-limit.result a.state c.in-Asked.request w r)
+    (last_asks program context a.relay answers c.len-limit.result a.state c.in-Asked.request w r))
     (c.resume.ensures.of_run program context c.in-Asked.ensures.of_run.1) c.in_ok-reply-in-Asked.ensures.answer c.in_ok-reply-in-Asked.ensures.fits c.in_ok-reply-in-Asked.ensures.opening c.in_ok-reply-in-Asked.ensures.entered
 
 pub loop-request-smaller : goal.loop-request-smaller
@@ -45,7 +45,7 @@ loop-request-smaller c =
     let a = c.loop-request.activation in
     let answers = replies c.loop-request.board.ledger in
     let b : Standing = c.run.new.self in
-    let w : Asking = record { shape = b.shape; request = c.in-Asked.request; last = before b.state; state = b.state } in
+    let w : Asking = record { relay = b.relay; request = c.in-Asked.request; last = before b.state; state = b.state } in
     let r = c.in-Asked.ensures.advances answers (own_reached program context a c.loop-request.board c.loop-request.invariant) in
     goes_further program context c.len-limit.result answers a c.resume.new.self c.in-Asked.request w (words_in c.in_ok-reply-in-Asked.reply) c.program.ensures.sound
     c.loop-request.invariant.of_run r c.resume.ensures.resumed
@@ -57,7 +57,7 @@ loop-request-smaller-in_ok-reply-in-Asked c =
     let a = c.loop-request.activation in
     let answers = replies c.loop-request.board.ledger in
     let b : Standing = c.run.new.self in
-    let w : Asking = record { shape = b.shape; request = c.in-Asked.request; last = before b.state; state = b.state } in
+    let w : Asking = record { relay = b.relay; request = c.in-Asked.request; last = before b.state; state = b.state } in
     let r = c.in-Asked.ensures.advances answers (own_reached program context a c.loop-request.board c.loop-request.invariant) in
     goes_further program context c.len-limit.result answers a c.resume.new.self c.in-Asked.request w (words_in c.in_ok-reply-in-Asked.reply) c.program.ensures.sound
     c.loop-request.invariant.of_run r c.resume.ensures.resumed

@@ -1,10 +1,11 @@
 -- From the start to the end.
 use Rattle.std.proofs.Common.{◌≡◌, ◌∙◌, ℕ, List, [], ◌++◌, ap, sym, subst, arith, refl}
 use Rattle.std.specs.Arc.{arc_value}
-use Rattle.label.specs.declared.shape.Shape.{Shape}
+use Rattle.semantics.specs.Relay.{Relay}
 use Rattle.round.specs.Activation.{Activation, started}
 use Rattle.round.specs.Letters.{Letter}
-use Rattle.round.specs.Contexts.{IsToldTo, shape_told, number_told}
+use Rattle.round.specs.Contexts.{IsToldTo, relay_told, number_told}
+use Rattle.semantics.specs.Relay.{oral}
 use Rattle.round.specs.Running.{IsWayServed}
 use Rattle.round.proofs.Onwards.{letter_of_run, own_run, lived}
 use Rattle.round.proofs.Served.{served_first, any_error}
@@ -13,16 +14,16 @@ use Rattle.round.proofs.living.live.Goals as goal
 pub loop-running-init : goal.loop-running-init
 loop-running-init g c =
     let context = c.args.context.items in
-    let shape : c.in_ok-new.field-0.shape ≡ shape_told c.args.general c.args.round context =
-    c.in_ok-new.ensures.shape
-    ∙ (λ i. record {
+    let relay : c.in_ok-new.field-0.relay ≡ relay_told c.args.general c.args.round context =
+    c.in_ok-new.ensures.relay
+    ∙ (λ i. oral (record {
       generals = (c.number_told.ensures ∙ ap (λ (l : List ℕ). number_told l 0) c.as_slice.ensures.value) i;
       commander = (c.number_told-2.ensures ∙ ap (λ (l : List ℕ). number_told l 3) c.as_slice-2.ensures.value) i;
       general = c.args.general;
       round = c.args.round;
-    }) in
-    let begun = c.start-running.ensures ∙ ap (λ (s : Shape). started c.args.patience (arc_value c.args.program) context s) shape in
-    let start = started c.args.patience (arc_value c.args.program) context (shape_told c.args.general c.args.round context) in
+    })) in
+    let begun = c.start-running.ensures ∙ ap (λ (s : Relay). started c.args.patience (arc_value c.args.program) context s) relay in
+    let start = started c.args.patience (arc_value c.args.program) context (relay_told c.args.general c.args.round context) in
     let served = g.S.Server.served c.args.server.now in
     subst (λ (a : Activation). IsWayServed c.args.general c.args.round start a served c.new-transcript.result.items served) (sym begun)
     (served_first c.args.general c.args.round start c.new-transcript.result.items served c.new-transcript.ensures.items)
@@ -42,13 +43,13 @@ into_letter-requires g c =
     let s = way.same in
     letter_of_run c.args.general c.args.round c.loop-running.transcript.items c.loop-running.running c.has_ended.ensures.whole
     (subst (λ (l : List ℕ). IsToldTo c.args.general c.args.round l) (sym s.context) c.requires.own)
-    (s.shape ∙ ap (λ (l : List ℕ). shape_told c.args.general c.args.round l) (sym s.context))
+    (s.relay ∙ ap (λ (l : List ℕ). relay_told c.args.general c.args.round l) (sym s.context))
     way.fitting
-    (own_run c.args.general c.args.round (arc_value c.args.program) c.args.context.items c.args.patience (shape_told c.args.general c.args.round c.args.context.items) c.loop-running.transcript.items c.loop-running.running way)
+    (own_run c.args.general c.args.round (arc_value c.args.program) c.args.context.items c.args.patience (relay_told c.args.general c.args.round c.args.context.items) c.loop-running.transcript.items c.loop-running.running way)
 
 pub returns-clause-lived : goal.returns-clause-lived
 returns-clause-lived g c =
-    lived c.args.general c.args.round (arc_value c.args.program) c.args.context.items c.args.patience (shape_told c.args.general c.args.round c.args.context.items) c.loop-running.transcript.items c.loop-running.running c.into_letter.result
+    lived c.args.general c.args.round (arc_value c.args.program) c.args.context.items c.args.patience (relay_told c.args.general c.args.round c.args.context.items) c.loop-running.transcript.items c.loop-running.running c.into_letter.result
     refl c.has_ended.ensures.within c.loop-running.invariant.way (sym c.has_ended.ensures.ended ∙ c.loop-running-test.false) c.into_letter.ensures
 
 pub returns-clause-served : goal.returns-clause-served
@@ -56,5 +57,5 @@ returns-clause-served g c = c.loop-running.invariant.whole ∙ ap (λ (l : Lette
 
 pub returns-in_err-new-clause-given_up : goal.returns-in_err-new-clause-given_up
 returns-in_err-new-clause-given_up g c =
-    let start = started c.args.patience (arc_value c.args.program) c.args.context.items (shape_told c.args.general c.args.round c.args.context.items) in
+    let start = started c.args.patience (arc_value c.args.program) c.args.context.items (relay_told c.args.general c.args.round c.args.context.items) in
     any_error c.from_residual.result _ (start, [], served_first c.args.general c.args.round start [] (g.S.Server.served c.args.server.now) refl)

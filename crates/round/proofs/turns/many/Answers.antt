@@ -7,17 +7,17 @@ use Rattle.round.proofs.turns.many.Goals as goal
 pub returns-in-Exited-clause-went : goal.returns-in-Exited-clause-went
 returns-in-Exited-clause-went c =
     let h = ahead_with c.args.verified.now c.args.bytes.now c.in-Some.context c.args.activation.now c.run.new.self c.args.limit (Exited c.in-Exited.field-0) c.in-Some.ensures.some.0
-    c.requires.of_run c.in-Exited.ensures.advances c.in-Exited.ensures.stands c.run.new.self c.run.ensures.shape refl in h.0
+    c.requires.of_run c.in-Exited.ensures.advances c.in-Exited.ensures.stands c.run.new.self c.run.ensures.relay refl in h.0
 
 pub returns-in-Limit-clause-went : goal.returns-in-Limit-clause-went
 returns-in-Limit-clause-went c =
     let h = ahead_with c.args.verified.now c.args.bytes.now c.in-Some.context c.args.activation.now c.run.new.self c.args.limit Limit c.in-Some.ensures.some.0
-    c.requires.of_run c.in-Limit.ensures.advances c.in-Limit.ensures.stands c.run.new.self c.run.ensures.shape refl in h.0
+    c.requires.of_run c.in-Limit.ensures.advances c.in-Limit.ensures.stands c.run.new.self c.run.ensures.relay refl in h.0
 
 pub returns-in-Asked-clause-went : goal.returns-in-Asked-clause-went
 returns-in-Asked-clause-went c =
     let h = ahead_with c.args.verified.now c.args.bytes.now c.in-Some.context c.args.activation.now c.run.new.self c.args.limit (Asked c.in-Asked.field-0) c.in-Some.ensures.some.0
-    c.requires.of_run c.in-Asked.ensures.advances c.in-Asked.ensures.stands c.withdraw.new.self (c.withdraw.ensures.shape ∙ c.run.ensures.shape) c.withdraw.ensures.state in h.0
+    c.requires.of_run c.in-Asked.ensures.advances c.in-Asked.ensures.stands c.withdraw.new.self (c.withdraw.ensures.relay ∙ c.run.ensures.relay) c.withdraw.ensures.state in h.0
 
 pub returns-in-Exited-clause-within : goal.returns-in-Exited-clause-within
 returns-in-Exited-clause-within c =

@@ -15,7 +15,7 @@ overflow_add-limit c =
     let same : c.steps-limit.result ≡ c.args.activation.now.state.steps = c.steps-limit.ensures in
     omega (arith, less, most, bound, same)
 
-both : (c : goal.After-run) → Stopped (step c.args.verified.now c.args.bytes.now c.args.activation.now.shape c.args.activation.now.state) c.run.result c.run.new.self.state
+both : (c : goal.After-run) → Stopped (step c.args.verified.now c.args.bytes.now c.args.activation.now.relay c.args.activation.now.state) c.run.result c.run.new.self.state
     × IsBack c.run.result c.args.activation.now.state c.run.new.self.state
 both c = stopped_with c.args.verified.now c.args.bytes.now c.in-Some.context c.args.activation.now c.run.new.self (c.steps-limit.result + 1) c.run.result c.in-Some.ensures.some.0
     (ap (λ n. n + 1) c.steps-limit.ensures) c.requires.of_run c.run.ensures.advances c.run.ensures.stands
@@ -29,8 +29,8 @@ returns-clause-back c = let h = both c in h.1
 pub returns-clause-one : goal.returns-clause-one
 returns-clause-one c =
     let h = both c in
-    stopped_counts (step c.args.verified.now c.args.bytes.now c.args.activation.now.shape c.args.activation.now.state) c.run.result c.args.activation.now.state c.run.new.self.state
-    (step_counts c.args.verified.now c.args.bytes.now c.args.activation.now.shape c.args.activation.now.state) h.0
+    stopped_counts (step c.args.verified.now c.args.bytes.now c.args.activation.now.relay c.args.activation.now.state) c.run.result c.args.activation.now.state c.run.new.self.state
+    (step_counts c.args.verified.now c.args.bytes.now c.args.activation.now.relay c.args.activation.now.state) h.0
 
 pub returns-clause-few : goal.returns-clause-few
 returns-clause-few c =
@@ -39,6 +39,6 @@ returns-clause-few c =
     let bound : c.len-most.result ≤ 4096 = c.len-most.ensures.bound in
     let h = both c in
     let one : c.run.new.self.state.steps ≡ c.args.activation.now.state.steps + 1 =
-    stopped_counts (step c.args.verified.now c.args.bytes.now c.args.activation.now.shape c.args.activation.now.state) c.run.result c.args.activation.now.state c.run.new.self.state
-    (step_counts c.args.verified.now c.args.bytes.now c.args.activation.now.shape c.args.activation.now.state) h.0 in
+    stopped_counts (step c.args.verified.now c.args.bytes.now c.args.activation.now.relay c.args.activation.now.state) c.run.result c.args.activation.now.state c.run.new.self.state
+    (step_counts c.args.verified.now c.args.bytes.now c.args.activation.now.relay c.args.activation.now.state) h.0 in
     omega arith

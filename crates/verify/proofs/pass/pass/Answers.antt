@@ -14,8 +14,8 @@ pub loop-unit-init : goal.loop-unit-init
 loop-unit-init c = record {
   room = c.flow.ensures.length ∙ (ap length c.in_ok-pending.ensures ∙ (length-replicate _ _ ∙ c.units.ensures.units));
   safe = rests_start c.args.program.now c.flow.new.pending.items (subst (λ n. 0 < n) c.units.ensures.units c.units.ensures.some)
-      (λ shape. c.flow.ensures.here (entry (empty_outbox shape))
-      (subst (λ (a : AbsState). Describes a (entry (empty_outbox shape))) (sym c.in_ok-boxed.ensures) (c.at_entry.ensures.holds (empty_outbox shape))));
+      (λ relay. c.flow.ensures.here (entry (empty_outbox relay))
+      (subst (λ (a : AbsState). Describes a (entry (empty_outbox relay))) (sym c.in_ok-boxed.ensures) (c.at_entry.ensures.holds (empty_outbox relay))));
   comes = comes_first c.args.program.now c.in_ok-boxed.field-0.value c.units.result c.in_ok-pending.pending.items c.flow.new.pending.items
       (subst (λ (a : AbsState). IsEntry a) (sym c.in_ok-boxed.ensures) (record { registers = c.at_entry.ensures.registers; bytes = c.at_entry.ensures.bytes; spills = c.at_entry.ensures.spills }))
       c.units.ensures.units c.in_ok-pending.ensures c.flow.ensures.exact;

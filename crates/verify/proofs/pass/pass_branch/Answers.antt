@@ -19,11 +19,11 @@ pass_edge-requires-2 c =
     rw c.pass_edge.ensures.length inside
 
 pub returns-clause-leads : goal.returns-clause-leads
-returns-clause-leads c = λ context shape s premise e d.
+returns-clause-leads c = λ context relay s premise e d.
     let wide = to_z-of_z w32 c.from.result (record { sfits = c.from.type_inv }) in
     let same = c.from.ensures ∙ to_z-of_z w16 c.args.distance c.ranges.distance in
     let to = subst (λ (distance : ℤ). pos c.forward_target-target.result ≡ pos (c.args.unit + 1) +ℤ distance) (wide ∙ same) c.forward_target-target.ensures in
-    branch_arrives c.pass_edge-2.new.pending.items c.args.compared.now c.args.distance context shape c.args.state.value s c.args.unit c.forward_target-target.result e to d
+    branch_arrives c.pass_edge-2.new.pending.items c.args.compared.now c.args.distance context relay c.args.state.value s c.args.unit c.forward_target-target.result e to d
     (c.in_default.ensures.holds s (subst (λ (a : AbsState). Describes a s) (sym c.deref.ensures) d))
     c.pass_edge-2.ensures.here
     (λ t p q. c.pass_edge-2.ensures.keeps (c.args.unit + 1) t (c.pass_edge.ensures.here t (subst (λ (a : AbsState). Describes a t) (sym (c.in-Ok.ensures ∙ c.deref-2.ensures)) p) q))

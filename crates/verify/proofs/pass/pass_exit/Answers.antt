@@ -7,6 +7,6 @@ use Rattle.verify.proofs.EdgeEnds.{end_arrives}
 use Rattle.verify.proofs.pass.pass_exit.Goals as goal
 
 pub returns-clause-leads : goal.returns-clause-leads
-returns-clause-leads c = λ pending context shape s premise e h.
-    end_arrives pending Exit c.args.unit (executed context shape Exit s)
-    (c.in_default.ensures.holds context shape s (subst (λ (a : AbsState). Describes a s) (sym c.deref.ensures) h))
+returns-clause-leads c = λ pending context relay s premise e h.
+    end_arrives pending Exit c.args.unit (executed context relay Exit s)
+    (c.in_default.ensures.holds context relay s (subst (λ (a : AbsState). Describes a s) (sym c.deref.ensures) h))

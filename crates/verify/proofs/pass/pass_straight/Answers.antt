@@ -14,7 +14,7 @@ flow-requires c =
     rw c.units.ensures.units inside
 
 pub returns-clause-leads : goal.returns-clause-leads
-returns-clause-leads c = λ context shape s premise e h.
-    goes_arrives c.flow.new.pending.items c.args.insn.now c.args.unit (c.args.unit + c.units.result) c.straight.new.state s (executed context shape c.args.insn.now s) c.requires.straight e
+returns-clause-leads c = λ context relay s premise e h.
+    goes_arrives c.flow.new.pending.items c.args.insn.now c.args.unit (c.args.unit + c.units.result) c.straight.new.state s (executed context relay c.args.insn.now s) c.requires.straight e
     (ap (λ (n : ℕ). c.args.unit + n) c.units.ensures.units) c.flow.ensures.here
-    (c.in_default.ensures.holds context shape s premise (subst (λ (a : AbsState). Describes a s) (sym c.deref_mut.ensures.value) h))
+    (c.in_default.ensures.holds context relay s premise (subst (λ (a : AbsState). Describes a s) (sym c.deref_mut.ensures.value) h))

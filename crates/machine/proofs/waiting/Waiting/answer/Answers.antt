@@ -8,12 +8,12 @@ use Rattle.machine.proofs.waiting.Waiting.answer.Goals as goal
 
 pub returns-clause-reached : goal.returns-clause-reached
 returns-clause-reached c = λ program context answers reached asks.
-    let shape = c.replied.ensures.shape ∙ ap (λ (w : Asking). w.shape) c.self.view_is in
+    let relay = c.replied.ensures.relay ∙ ap (λ (w : Asking). w.relay) c.self.view_is in
     let state = c.replied.ensures.state ∙ ap (λ (w : Asking). resumed w.request (words_in c.args.reply) w.state) c.self.view_is in
-    answer_reached program context answers c.args.self (words_in c.args.reply) c.replied.new.self reached asks c.requires.fits shape state
+    answer_reached program context answers c.args.self (words_in c.args.reply) c.replied.new.self reached asks c.requires.fits relay state
 
 pub returns-clause-of_run : goal.returns-clause-of_run
 returns-clause-of_run c = λ program context ask.
-    let shape = c.replied.ensures.shape ∙ ap (λ (w : Asking). w.shape) c.self.view_is in
+    let relay = c.replied.ensures.relay ∙ ap (λ (w : Asking). w.relay) c.self.view_is in
     let state = c.replied.ensures.state ∙ ap (λ (w : Asking). resumed w.request (words_in c.args.reply) w.state) c.self.view_is in
-    answer_of_run program context c.args.self (words_in c.args.reply) c.replied.new.self ask c.requires.fits shape state
+    answer_of_run program context c.args.self (words_in c.args.reply) c.replied.new.self ask c.requires.fits relay state

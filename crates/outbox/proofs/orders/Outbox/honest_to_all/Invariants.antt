@@ -6,5 +6,6 @@ use Rattle.outbox.proofs.orders.Outbox.honest_to_all.Given as goal
 abbrev pub invariant-loop-rank : goal.invariant-loop-rank
 invariant-loop-rank l = record {
   shape : l.self-inside.shape ≡ l.initial.self-inside.shape;
+  signing : l.self-inside.signing ≡ l.initial.self-inside.signing;
   rows : l.self-inside.rows.items ≡ all_first (taken_value l.context) 0 l.rank l.initial.self-inside.rows.items;
 }

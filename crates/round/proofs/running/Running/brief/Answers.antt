@@ -23,4 +23,4 @@ pub returns : goal.returns
 returns c before told =
     let is = all_told {E = ℕ} (Ok c.write_context.new.bytes) c.args.scenario.now c.args.told.now c.args.general c.rounds.result c.rounds.ensures c.write_context.ensures.context before told in
     let a = c.args.self.now in
-    briefed _ a c.write_context.new.bytes.items c.self.view_is c.requires.start ∙ ap (λ (l : List ℕ). started a.patience a.program l a.shape) is
+    briefed _ a c.write_context.new.bytes.items c.self.view_is c.requires.start ∙ ap (λ (l : List ℕ). started a.patience a.program l a.relay) is

@@ -1,0 +1,14 @@
+-- The same entries, each at its place.
+use Rattle.std.proofs.Common.{◌∙◌, List, ℕ, get_or, arith, sym, ap, refl, below_more}
+use Rattle.std.proofs.lemmas.Bool.{false≢true}
+use Rattle.semantics.specs.declared.entry.Entry.{Entry}
+use Rattle.semantics.specs.declared.entry.Entry.TheVariants.{Sign}
+use Rattle.outbox.proofs.Single.{same_default}
+use Rattle.outbox.proofs.Alike.{same_lists}
+use Rattle.outbox.proofs.signing.same_entries.Goals as goal
+
+pub returns : goal.returns
+returns c = (
+  λ h. same_lists (Sign 0 0) c.args.entries.now c.args.others.now c.if-entries-others.false (λ k less. c.loop-place.invariant k (omega arith)),
+  λ h. refl,
+)

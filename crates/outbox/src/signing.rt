@@ -1,0 +1,186 @@
+//! What is entered where orders are signed.
+ghost use Rattle.std.specs.Prelude.{◌≡◌, ◌≤◌, ◌↔◌, [], length, IfOk, IsTrue};
+ghost use Rattle.label.specs.Relay.{IsShape};
+ghost use Rattle.semantics.specs.Relay.{signed};
+ghost use Rattle.semantics.specs.Entries.{is_sendable, is_entered, entered};
+
+use crate::mask::has_bit;
+use arrayvec::ArrayVec;
+use label::Shape;
+use semantics::Entry;
+use std::alloc::{AllocError, Global};
+use std::marker::Model;
+
+/// What a general enters of signed messages in a round: at most 8 entries.
+#[derive(Drop)]
+pub(crate) struct Signing {
+    /// The signers of each chain that he holds, bit g for general g.
+    held: Vec<u16>,
+    entries: ArrayVec<Entry, 8>,
+}
+
+impl Model for Signing {
+    ghost use Rattle.outbox.specs.Contents.{Signing as Signed};
+
+    ghost Value = { Signed };
+
+    ghost view = { λ s. record { held = s.held.items; entries = s.entries.items } };
+}
+
+impl Signing {
+    /// Nothing is entered, of a general who holds chains with these signers.
+    pub fn new(alloc: Global, held: &[u16]) -> Result<Signing, AllocError>
+        ensures { IfOk result (λ signing. signing ≡ record { held = held.now; entries = [] }) }
+    {
+        Ok(Signing {
+            held: copied_signers(alloc, held)?,
+            entries: ArrayVec::new(),
+        })
+    }
+
+    /// What was entered, in order.
+    pub fn entries(&self) -> &[Entry]
+        ensures same { result.now ≡ self.now.entries }
+        ensures few { length self.now.entries ≤ 8 }
+    {
+        self.entries.as_slice()
+    }
+
+    /// Takes an entry, where the general can send its chain and there is room: whether it was taken.
+    pub fn enter(&mut self, shape: Shape, entry: Entry) -> bool
+        requires { IsShape shape }
+        ensures held { self.new.held ≡ self.old.held }
+        ensures entries { self.new.entries ≡ entered (signed shape self.old.held) self.old.entries entry }
+        ensures taken { result ≡ is_entered (signed shape self.old.held) self.old.entries entry }
+    {
+        if !self.may_send(shape, entry) || self.entries.len() >= 8 {
+            return false;
+        }
+        self.entries.push(entry);
+        true
+    }
+
+    /// Whether the general can send the entry's chain: the commander signs orders, and who holds a chain that he has not signed passes it on.
+    fn may_send(&self, shape: Shape, entry: Entry) -> bool
+        requires { IsShape shape }
+        ensures { result ≡ is_sendable (signed shape self.now.held) entry }
+    {
+        match entry {
+            Entry::Sign { .. } => shape.general == shape.commander,
+            Entry::Pass { held, .. } => match self.held.get(usize::from(held)) {
+                None => false,
+                Some(signers) => !has_bit(*signers, shape.general),
+            },
+        }
+    }
+
+    /// The same.
+    fn copy(&self, alloc: Global) -> Result<Signing, AllocError>
+        ensures { IfOk result (λ signing. signing ≡ self.now) }
+    {
+        Ok(Signing {
+            held: copied_signers(alloc, self.held.as_slice())?,
+            entries: copied_entries(self.entries.as_slice()),
+        })
+    }
+
+    /// Whether the signers of each chain are the same, and the entries.
+    fn same(&self, other: &Signing) -> bool
+        ensures { IsTrue result ↔ (self.now ≡ other.now) }
+    {
+        same_signers(self.held.as_slice(), other.held.as_slice())
+            && same_entries(self.entries.as_slice(), other.entries.as_slice())
+    }
+}
+
+/// The same, where there is one.
+pub(crate) fn copied_signing(
+    alloc: Global,
+    signing: &Option<Signing>,
+) -> Result<Option<Signing>, AllocError>
+    ensures { IfOk result (λ copy. copy ≡ signing.now) }
+{
+    match signing {
+        None => Ok(None),
+        Some(signing) => Ok(Some(signing.copy(alloc)?)),
+    }
+}
+
+/// Whether there is none of both, or the same.
+pub(crate) fn same_signing(one: &Option<Signing>, other: &Option<Signing>) -> bool
+    ensures { IsTrue result ↔ (one.now ≡ other.now) }
+{
+    match (one, other) {
+        (None, None) => true,
+        (Some(one), Some(other)) => one.same(other),
+        _ => false,
+    }
+}
+
+/// Whether the lists are the same.
+fn same_signers(signers: &[u16], others: &[u16]) -> bool
+    ensures { IsTrue result ↔ (signers.now ≡ others.now) }
+{
+    signers == others
+}
+
+/// Whether the entries are the same, one after the other.
+fn same_entries(entries: &[Entry], others: &[Entry]) -> bool
+    ensures { IsTrue result ↔ (entries.now ≡ others.now) }
+{
+    if entries.len() != others.len() {
+        return false;
+    }
+    for place in 0..entries.len() {
+        if !same_entry(entries[place], others[place]) {
+            return false;
+        }
+    }
+    true
+}
+
+/// Whether the two are the same.
+fn same_entry(entry: Entry, other: Entry) -> bool
+    ensures { IsTrue result ↔ (entry ≡ other) }
+{
+    match (entry, other) {
+        (
+            Entry::Sign { order, receivers },
+            Entry::Sign {
+                order: signed,
+                receivers: named,
+            },
+        ) => order == signed && receivers == named,
+        (
+            Entry::Pass { held, receivers },
+            Entry::Pass {
+                held: passed,
+                receivers: named,
+            },
+        ) => held == passed && receivers == named,
+        _ => false,
+    }
+}
+
+/// The list, kept apart.
+fn copied_signers(alloc: Global, signers: &[u16]) -> Result<Vec<u16>, AllocError>
+    ensures { IfOk result (λ copy. copy.items ≡ signers.now) }
+{
+    let mut copy = Vec::with_capacity(alloc, signers.len())?;
+    for mask in signers {
+        copy.push(*mask)?;
+    }
+    Ok(copy)
+}
+
+/// The entries, kept apart.
+fn copied_entries(entries: &[Entry]) -> ArrayVec<Entry, 8>
+    requires { length entries.now ≤ 8 }
+    ensures { result.items ≡ entries.now }
+{
+    let mut copy = ArrayVec::new();
+    for entry in entries {
+        copy.push(*entry);
+    }
+    copy
+}
