@@ -1,11 +1,12 @@
 pub mod AgreeLemmas
-pub mod AskedLemmas
 pub mod AuditLemmas
-pub mod CallLemmas
 pub mod FileLemmas
+pub mod FlagRules
 pub mod LevelLemmas
 pub mod MetLemmas
 pub mod PlayLemmas
+pub mod RowLemmas
+pub mod TakenLemmas
 pub mod ScheduleLemmas
 pub mod TurnLemmas
 pub mod WordLemmas

@@ -7,19 +7,18 @@ use Rattle.clap.specs.declared.parser.matches.SubCommand.{SubCommand}
 use Rattle.command_line.specs.Lab.{task_met}
 use Rattle.command_line.specs.Told.{Told}
 
--- a subcommand with its two files
-abbrev pub told_as : Text → Option Text → Text → Told
-told_as name second file = record { name = name; file = file; second = second }
+-- what the rows of a subcommand tell
+abbrev pub told_from : Text → List Row → Option Told
+told_from name rows = task_met (Some (name, rows))
 
--- the task is the name that was met and the files among its rows
 pub task_met-parts : (met : Option (Text × List Row)) (name : Text) (rows : List Row)
     → option_map (λ p. p.0) met ≡ Some name → option_map (λ p. p.1) met ≡ Some rows
-    → task_met met ≡ option_map (told_as name (first_of (codes "second") rows)) (first_of (codes "file") rows)
+    → task_met met ≡ told_from name rows
 task_met-parts None name rows a b = absurd cc
 task_met-parts (Some p) name rows a b =
     let x : p.0 ≡ name = cc in
     let y : p.1 ≡ rows = cc in
-    (λ i. option_map (told_as (x i) (first_of (codes "second") (y i))) (first_of (codes "file") (y i)))
+    (λ i. told_from (x i) (y i))
 
 -- the name of the rows is the name of the subcommand
 pub subcommand_rows-name : (o : Option (Box SubCommand Global))

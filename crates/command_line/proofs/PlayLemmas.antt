@@ -10,7 +10,8 @@ use Rattle.clap.specs.Walk.{Held, Row, Text, Waiting, Walk, arg_by_index, arg_by
 use Rattle.clap.specs.Simple.{Shape, built_leaf, inherited, marked_built, with_leaf_noted}
 use Rattle.clap.specs.Faults.{settle_fault, step_fault, turn_fault, walk_fault}
 use Rattle.clap.proofs.OnLiterals.{clap_on_literals}
-use Rattle.command_line.specs.Asked.{campaign_in, file_in, is_end_of_flags, is_equals, is_flag, is_schedule, nothing_more, only, schedule_at, value_at}
+use Rattle.command_line.specs.Asked.{campaign_in, file_in, is_schedule, nothing_more, only, schedule_at, value_at}
+use Rattle.command_line.specs.Flags.{is_end_of_flags, is_equals, is_flag}
 use Rattle.command_line.specs.Lab.{lab_app, play_app}
 use Rattle.command_line.specs.Told.{Told, played}
 use Rattle.command_line.proofs.AgreeLemmas.{Fails, or_else-first, true_or_false}

@@ -7,7 +7,7 @@ use Rattle.clap.specs.Kinds.{Kinds}
 use Rattle.clap.specs.Walk.{Held, Row, Rule, Text, Waiting, Walk, idle, plain, after_flag, bundle_met, arg_by_long, arg_by_short, long_or_other, plain_word, settled, takes_values}
 use Rattle.clap.specs.Simple.{filled, help_rule, version_rule}
 use Rattle.clap.specs.Faults.{flag_word_fault, flags_fault, long_fault, option_fault, react_fault, settle_fault, short_fault, use_fault}
-use Rattle.command_line.specs.Asked.{is_end_of_flags, is_flag}
+use Rattle.command_line.specs.Flags.{is_end_of_flags, is_flag}
 use Rattle.command_line.proofs.AgreeLemmas.{Fails, or_else-first, or_else-second, true_or_false}
 
 -- what is held between two words, and where the walk stands there

@@ -5,7 +5,7 @@ use Rattle.std.specs.Borrow.{Bor}
 use Rattle.std.specs.Option.{option_or}
 use Rattle.std.specs.List.{after_first, before_first, list_any}
 use Rattle.std.specs.Str.{bytes_eq}
-use Rattle.command_line.specs.Flags.{Flags, Taken, is_end_of_flags, is_equals, is_flag, taken_in}
+use Rattle.command_line.specs.Flags.{Flags, Taken, is_end_of_flags, is_equals, is_flag, long, nothing_taken, short, taken_in}
 use Rattle.command_line.specs.Generals.{generals_in}
 use Rattle.command_line.specs.Told.{Text, Told, audited, formed, one_file, one_file_with, played}
 
@@ -99,22 +99,22 @@ form_in words = option_and_then three (files_in words)
 -- ---- one file, with a switch, and perhaps an option
 
 abbrev pub check_flags : Flags
-check_flags = record { switch = codes "--asm"; long = None; short = None }
+check_flags = record { switch = codes "asm"; option = None }
 
 abbrev pub asm_flags : Flags
-asm_flags = record { switch = codes "--raw"; long = None; short = Some 111 }
+asm_flags = record { switch = codes "raw"; option = Some (short 111) }
 
 abbrev pub dis_flags : Flags
-dis_flags = record { switch = codes "--units"; long = None; short = None }
+dis_flags = record { switch = codes "units"; option = None }
 
 abbrev pub book_flags : Flags
-book_flags = record { switch = codes "--explain"; long = Some (codes "--traitors"); short = None }
+book_flags = record { switch = codes "explain"; option = Some (long (codes "traitors")) }
 
 abbrev pub one_taken : Text → Taken → Option Told
-one_taken name taken = option_map (one_file_with name taken.switched taken.value) (only taken.files)
+one_taken name taken = option_map (one_file_with name taken.switched taken.value) taken.file
 
 abbrev pub flagged_in : Flags → Text → List Text → Option Told
-flagged_in flags name words = option_and_then (one_taken name) (taken_in flags false words)
+flagged_in flags name words = option_and_then (one_taken name) (taken_in flags false nothing_taken words)
 
 -- the option of `book` names generals
 abbrev pub names_generals : Told → Option Told

@@ -1,8 +1,8 @@
--- The words of a subcommand with a switch, and perhaps an option that has a value.
-use Rattle.std.specs.Prelude.{ℕ, ◌==◌, ◌&&◌, Bool, true, false, List, [], ◌∷◌, Option, Some, None}
-use Rattle.std.specs.Prelude.{codes, if◌then◌else◌, is_some, option_and_then, option_map, slice_get}
+-- The words of a subcommand of one file that has a switch, and perhaps an option.
+use Rattle.std.specs.Prelude.{ℕ, ◌==◌, ◌&&◌, ◌++◌, Bool, true, false, List, [], ◌∷◌, Option, Some, None}
+use Rattle.std.specs.Prelude.{codes, drop, if◌then◌else◌, is_some, option_and_then, slice_get}
 use Rattle.std.specs.List.{after_first, before_first, list_any}
-use Rattle.std.specs.Option.{option_or}
+use Rattle.std.specs.Option.{option_map_or}
 use Rattle.std.specs.Str.{bytes_eq, chars}
 use Rattle.command_line.specs.Told.{Text}
 
@@ -19,66 +19,84 @@ is_flag (c ∷ rest) = c == 45 && is_some (slice_get (chars rest) 0)
 abbrev pub is_equals : ℕ → Bool
 is_equals c = c == 61
 
--- the switch, and whether and how the option is spelt
+-- how an option is spelt: `--NAME`, or a hyphen and a letter
+pub data OptionName : Type 0 where
+  long : Text → OptionName
+  short : ℕ → OptionName
+
+-- the name of the switch, and the option where there is one
 pub record Flags : Type 0 where
   pub switch : Text
-  pub long : Option Text
-  pub short : Option ℕ
+  pub option : Option OptionName
 
--- what is met of the words
+-- what was met of the words
 pub record Taken : Type 0 where
   pub switched : Bool
   pub value : Option Text
-  pub files : List Text
+  pub file : Option Text
 
-abbrev pub only_files : List Text → Taken
-only_files files = record { switched = false; value = None; files = files }
+abbrev pub nothing_taken : Taken
+nothing_taken = record { switched = false; value = None; file = None }
 
--- what is met behind one word more; a switch and an option stand at most once
+-- the switch, the option and the file stand at most once each
 abbrev pub with_switch : Taken → Option Taken
-with_switch taken = if taken.switched then None else Some (record taken { switched = true })
+with_switch met = if met.switched then None else Some (record met { switched = true })
 
 abbrev pub with_value : Text → Taken → Option Taken
-with_value value taken = if is_some taken.value then None else Some (record taken { value = Some value })
+with_value value met = if is_some met.value then None else Some (record met { value = Some value })
 
-abbrev pub with_file : Text → Taken → Taken
-with_file file taken = record taken { files = file ∷ taken.files }
+abbrev pub with_file : Text → Taken → Option Taken
+with_file file met = if is_some met.file then None else Some (record met { file = Some file })
 
--- `--NAME` or `--NAME=VALUE`: the value, where it stands in the word
-abbrev pub long_in : Option Text → Text → Option (Option Text)
-long_in None word = None
-long_in (Some name) word = if bytes_eq name (before_first is_equals word)
-    then Some (if list_any is_equals word then Some (after_first is_equals word) else None)
-    else None
+-- behind `--`
+abbrev pub with_files : List Text → Taken → Option Taken
+with_files [] met = Some met
+with_files (file ∷ []) met = with_file file met
+with_files _ met = None
 
--- what stands behind the letter of `-oVALUE` and `-o=VALUE`
+abbrev pub flag_named : Text → Text
+flag_named name = codes "--" ++ name
+
+abbrev pub is_switch : Flags → Text → Bool
+is_switch flags word = bytes_eq (flag_named flags.switch) word
+
+-- the value of `--NAME=VALUE`
+abbrev pub long_value : Text → Option Text
+long_value word = if list_any is_equals word then Some (after_first is_equals word) else None
+
+-- the value of `-oVALUE` or `-o=VALUE`, by what stands behind the letter
 abbrev pub short_value : Text → Option Text
 short_value [] = None
-short_value (c ∷ rest) = if c == 61 then Some rest else Some (c ∷ rest)
+short_value (c ∷ rest) = if is_equals c then Some rest else Some (c ∷ rest)
 
--- `-o`, `-oVALUE` or `-o=VALUE`: the value, where it stands in the word
-abbrev pub short_in : Option ℕ → Text → Option (Option Text)
-short_in (Some letter) (hyphen ∷ c ∷ rest) = if hyphen == 45 && c == letter then Some (short_value rest) else None
-short_in _ word = None
+abbrev pub has_letter : ℕ → Text → Bool
+has_letter letter [] = false
+has_letter letter (c ∷ rest) = c == 45 && option_map_or (λ x. x == letter) (slice_get (chars rest) 0) false
 
--- the option: its value, where that stands in the word
+-- the word is the option: its value, where the word has it
+abbrev pub option_at : OptionName → Text → Option (Option Text)
+option_at (long name) word =
+    if bytes_eq (flag_named name) (before_first is_equals word) then Some (long_value word) else None
+option_at (short letter) word =
+    if has_letter letter word then Some (short_value (drop 2 word)) else None
+
 abbrev pub option_in : Flags → Text → Option (Option Text)
-option_in flags word = option_or (long_in flags.long word) (short_in flags.short word)
+option_in flags word = option_and_then (λ spelt. option_at spelt word) flags.option
 
--- a word that is neither the end of flags nor the switch: the option, with its value or before it, or a file; given what is met
--- behind it, where its value is the next word and where it is not
-abbrev pub behind : Option (Option Text) → Text → Option Taken → Option Taken → Option Taken
-behind None word awaiting taken = if is_flag word then None else option_map (with_file word) taken
-behind (Some None) word awaiting taken = awaiting
-behind (Some (Some value)) word awaiting taken = option_and_then (with_value value) taken
+-- a word that is neither `--` nor the switch: a file, or the option; its value stands in the word, or is the next one
+abbrev pub with_word : Option (Option Text) → Text → Taken → (Taken → Option Taken) → Option Taken → Option Taken
+with_word None word met behind awaiting =
+    if is_flag word then None else option_and_then behind (with_file word met)
+with_word (Some None) word met behind awaiting = awaiting
+with_word (Some (Some value)) word met behind awaiting = option_and_then behind (with_value value met)
 
--- the words, from the left; `awaited` where the last was an option whose value is the next, which may not look like a flag
-unfoldable pub taken_in : Flags → Bool → List Text → Option Taken
-taken_in flags true [] = None
-taken_in flags true (word ∷ rest) =
-    if is_flag word then None else option_and_then (with_value word) (taken_in flags false rest)
-taken_in flags false [] = Some (only_files [])
-taken_in flags false (word ∷ rest) =
-    if is_end_of_flags word then Some (only_files rest)
-    else (if bytes_eq word flags.switch then option_and_then with_switch (taken_in flags false rest)
-    else behind (option_in flags word) word (taken_in flags true rest) (taken_in flags false rest))
+-- the words, from the left, behind those that were met; where the option `awaits` its value, the next word may not look like a flag
+unfoldable pub taken_in : Flags → Bool → Taken → List Text → Option Taken
+taken_in flags true met [] = None
+taken_in flags true met (word ∷ rest) =
+    if is_flag word then None else option_and_then (λ more. taken_in flags false more rest) (with_value word met)
+taken_in flags false met [] = Some met
+taken_in flags false met (word ∷ rest) =
+    if is_end_of_flags word then with_files rest met
+    else (if is_switch flags word then option_and_then (λ more. taken_in flags false more rest) (with_switch met)
+    else with_word (option_in flags word) word met (λ more. taken_in flags false more rest) (taken_in flags true met rest))

@@ -100,6 +100,6 @@ task_met = option_and_then (λ met. option_map (λ file. record {
   file = file;
   second = first_of (codes "second") met.1;
   third = first_of (codes "third") met.1;
-  switched = option_map_or (bytes_eq (codes "true")) false (first_of (codes "switch") met.1);
+  switched = option_map_or (bytes_eq (codes "true")) (first_of (codes "switch") met.1) false;
   value = first_of (codes "value") met.1;
 }) (first_of (codes "file") met.1))

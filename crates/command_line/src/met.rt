@@ -115,7 +115,7 @@ impl<'a> Met<'a> {
 
 /// Whether a switch that is read so stands in the words.
 fn is_true(text: Option<&str>) -> bool
-    ensures { result ≡ option_map_or (λ t. bytes_eq (codes "true") t.now) false text.entry }
+    ensures { result ≡ option_map_or (λ t. bytes_eq (codes "true") t.now) text.entry false }
 {
     text == Some("true")
 }

@@ -1,0 +1,1 @@
+use Rattle.command_line.proofs.TakenLemmas.{Holds}
