@@ -2,7 +2,7 @@
 use Rattle.std.proofs.Common.{ℕ, ◌≡◌, ◌∙◌, List, [], ap, inr, refl, subst, sym}
 use Rattle.std.specs.Borrow.{Bor}
 use Rattle.std.specs.Prelude.{Option, None, Some, Ok, option_map, unwrap_or}
-use Rattle.command_line.specs.Told.{second_of}
+use Rattle.command_line.specs.Told.{file_of, second_of}
 use Rattle.command_line.specs.declared.tasks.Task.{Task}
 use Rattle.command_line.specs.declared.tasks.Task.TheVariants.{Check, CheckAssembly, Assemble, Disassemble, DisassembleUnits, Book, Explain, Form, Play, Muster, Audit}
 use Rattle.round.specs.Scenario.{Scenario}
@@ -11,7 +11,7 @@ use Rattle.trace.specs.Schedules.{schedule_told}
 use Rattle.lab.specs.Answers.{ComesTo, GoesOn, Prints}
 use Rattle.lab.specs.Campaigns.{IsAudited, IsMustered}
 use Rattle.lab.specs.Faults.{Prevents, Stops}
-use Rattle.lab.specs.Serving.{AreBytes, AreSecond, AreSecondBytes, Files, IsAnswer, IsAuditOf, IsChronicleRefused, IsPlayedBy, IsRefusedLater, IsScheduleOf, IsScheduleRefused, NoLikeness, second_name}
+use Rattle.lab.specs.Serving.{AreBytes, AreSecond, AreSecondBytes, Files, IsAnswer, IsAuditOf, IsChronicleRefused, IsPlayedBy, IsRefusedLater, IsScheduleOf, IsScheduleRefused, NoLikeness, first_name, second_name}
 use Rattle.lab.specs.declared.fault.Fault.{Fault}
 use Rattle.lab.specs.declared.outcome.Outcome.TheVariants as outcome
 
@@ -146,3 +146,9 @@ pub second_named : (task : Task) (o : Option (Bor (List ℕ))) (result empty : B
     → result ≡ unwrap_or o empty → empty.now ≡ [] → result.now ≡ second_name task
 second_named task o result empty told is none =
     ap (λ (file : Bor (List ℕ)). file.now) is ∙ (unwrapped o empty none ∙ ap (λ (second : Option (List ℕ)). unwrap_or second []) told)
+
+-- that of the first
+pub first_named : (task : Task) (o : Option (Bor (List ℕ))) (result empty : Bor (List ℕ)) → option_map (λ (file : Bor (List ℕ)). file.now) o ≡ file_of task
+    → result ≡ unwrap_or o empty → empty.now ≡ [] → result.now ≡ first_name task
+first_named task o result empty told is none =
+    ap (λ (file : Bor (List ℕ)). file.now) is ∙ (unwrapped o empty none ∙ ap (λ (first : Option (List ℕ)). unwrap_or first []) told)

@@ -1,6 +1,6 @@
 ghost use Rattle.std.specs.Prelude.{◌≡◌};
 ghost use Rattle.std.specs.List.{list_all};
-ghost use Rattle.lab.specs.Seeming.{is_of_hex, seems_at_first, seems_of};
+ghost use Rattle.lab.specs.Seeming.{is_of_hex, is_of_text, seems_at_first, seems_of};
 
 use insn::Program;
 use std::fmt;
@@ -12,6 +12,8 @@ pub enum Likeness {
     Hex,
     /// An object that a compiler or an assembler has made.
     Object,
+    /// A text, as assembly is.
+    Text,
 }
 
 impl fmt::Display for Likeness {
@@ -25,6 +27,8 @@ impl fmt::Display for Likeness {
             Likeness::Hex => "it seems to be bytecode in hex, of which `xxd -r -p` makes bytes",
             Likeness::Object =>
                 "it seems to be an ELF object, of which `llvm-objcopy -O binary -j .text` takes the bytes",
+            Likeness::Text =>
+                "it seems to be text, and no bytecode: assembly is checked by `check --asm`",
         })
     }
 }
@@ -37,14 +41,18 @@ pub fn seems(bytes: &[u8]) -> Option<Likeness>
     whole(&bytes[..bytes.len().min(8 * Program::MOST_UNITS)])
 }
 
-/// What all the bytes seem to be: an object by the first four, hex by all.
+/// What all the bytes seem to be: an object by the first four, hex or text by all.
 fn whole(bytes: &[u8]) -> Option<Likeness>
     ensures { result ≡ seems_of bytes.now }
 {
-    if bytes.starts_with(b"\x7fELF") {
+    if bytes.is_empty() {
+        None
+    } else if bytes.starts_with(b"\x7fELF") {
         Some(Likeness::Object)
-    } else if !bytes.is_empty() && is_hex(bytes) {
+    } else if is_hex(bytes) {
         Some(Likeness::Hex)
+    } else if is_text(bytes) {
+        Some(Likeness::Text)
     } else {
         None
     }
@@ -55,4 +63,11 @@ fn is_hex(bytes: &[u8]) -> bool
     ensures { result ≡ list_all is_of_hex bytes.now }
 {
     bytes.iter().all(|byte| byte.is_ascii_hexdigit() || byte.is_ascii_whitespace())
+}
+
+/// Whether all bytes are printed characters of ASCII, and white space.
+fn is_text(bytes: &[u8]) -> bool
+    ensures { result ≡ list_all is_of_text bytes.now }
+{
+    bytes.iter().all(|byte| byte.is_ascii_graphic() || byte.is_ascii_whitespace())
 }
