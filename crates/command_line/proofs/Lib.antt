@@ -1,12 +1,16 @@
 pub mod AgreeLemmas
+pub mod AskedLemmas
 pub mod AuditLemmas
 pub mod FileLemmas
 pub mod FlagRules
+pub mod FlaggedLemmas
 pub mod LevelLemmas
 pub mod MetLemmas
+pub mod NameLemmas
 pub mod PlayLemmas
 pub mod RowLemmas
-pub mod TakenLemmas
 pub mod ScheduleLemmas
+pub mod TableLemmas
+pub mod TakenLemmas
 pub mod TurnLemmas
 pub mod WordLemmas

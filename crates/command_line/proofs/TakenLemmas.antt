@@ -18,7 +18,7 @@ use Rattle.command_line.specs.Told.{Told, one_file_with}
 use Rattle.command_line.proofs.AgreeLemmas.{Fails, or_else-first, true_or_false}
 use Rattle.command_line.proofs.FlagRules.{defaults_quiet, file_is_given, file_is_missing, file_row, file_taker, flagged_shape, no_default, no_defaults, no_other_place, off_row, switch_row, switch_taker, takers, value_row, value_settled, value_settles, value_taker, value_word}
 use Rattle.command_line.proofs.RowLemmas.{added, first_use, found, found_last, found_other, has_is, row_with}
-use Rattle.command_line.proofs.WordLemmas.{dash_is_char, flag_word_fails, held, unsettled_long, unsettled_short, walk_at, walk_in}
+use Rattle.command_line.proofs.WordLemmas.{dash_is_char, each_letter, flag_word_fails, held, unsettled_long, unsettled_short, walk_at, walk_in}
 use Rattle.command_line.proofs.TurnLemmas.{flag_turn, plain_turn, plain_walked}
 use Rattle.command_line.proofs.LevelLemmas.{AgreesFrom, level_from, stepped, turn_stops}
 
@@ -210,7 +210,7 @@ module _ (name switch : Text) (o : Option OptionName) where
             (flag_turn s [] position waiting rows (value_waits values) word (quiet word) ends
             (flag_word_fails rules false rows (value_waits values) word
             (λ p is. unsettled_long rules false stuck bad (arg_by_long rules p.0) p.1)
-            (λ x after next. unsettled_short rules false stuck bad (arg_by_short rules x) after next) ends flag))
+            (each_letter rules false rows (value_waits values) word (λ x after next. unsettled_short rules false stuck bad (arg_by_short rules x) after next)) ends flag))
 
       stuck_idle : (words : List Text) → Fails (level_from s (walk_at position stuck) words)
       stuck_idle [] = stuck_end (walk_at position stuck) refl

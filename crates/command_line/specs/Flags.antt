@@ -71,7 +71,7 @@ short_value (c ∷ rest) = if is_equals c then Some rest else Some (c ∷ rest)
 
 abbrev pub has_letter : ℕ → Text → Bool
 has_letter letter [] = false
-has_letter letter (c ∷ rest) = c == 45 && option_map_or (λ x. x == letter) (slice_get (chars rest) 0) false
+has_letter letter (c ∷ rest) = c == 45 && option_map_or (λ x. letter == x) (slice_get (chars rest) 0) false
 
 -- the word is the option: its value, where the word has it
 abbrev pub option_at : OptionName → Text → Option (Option Text)

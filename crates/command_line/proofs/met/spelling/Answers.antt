@@ -1,1 +1,1 @@
-use Rattle.command_line.proofs.TakenLemmas.{Holds}
+use Rattle.command_line.proofs.AskedLemmas.{rule_agrees}
