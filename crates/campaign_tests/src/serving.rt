@@ -597,6 +597,11 @@ const LIKENESSES: &[(&[u8], &str)] = &[
         b"\x7fELF\x02\x01\x01\0",
         "refused C3 unit 0\nit seems to be an ELF object, of which `llvm-objcopy -O binary -j .text` takes the bytes\n",
     ),
+    (
+        b"exit\n",
+        "refused C1 unit 0\nit seems to be text, and no bytecode: assembly is checked by `check --asm`\n",
+    ),
+    (b"exit\0", "refused C1 unit 0\n"),
 ];
 
 #[test]
