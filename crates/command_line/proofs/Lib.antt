@@ -4,6 +4,7 @@ pub mod AuditLemmas
 pub mod FileLemmas
 pub mod FlagRules
 pub mod FlaggedLemmas
+pub mod GeneralsLemmas
 pub mod LevelLemmas
 pub mod MetLemmas
 pub mod NameLemmas
@@ -12,5 +13,6 @@ pub mod RowLemmas
 pub mod ScheduleLemmas
 pub mod TableLemmas
 pub mod TakenLemmas
+pub mod TaskLemmas
 pub mod TurnLemmas
 pub mod WordLemmas

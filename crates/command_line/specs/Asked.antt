@@ -2,7 +2,7 @@
 use Rattle.std.specs.Prelude.{◌&&◌, ◌||◌, not, Bool, true, false, List, [], ◌∷◌, Option, Some, None}
 use Rattle.std.specs.Prelude.{codes, if◌then◌else◌, is_none, is_some, map, option_and_then, option_map}
 use Rattle.std.specs.Borrow.{Bor}
-use Rattle.std.specs.Option.{option_or}
+use Rattle.std.specs.Option.{option_map_or, option_or}
 use Rattle.std.specs.List.{after_first, before_first, list_any}
 use Rattle.std.specs.Str.{bytes_eq}
 use Rattle.command_line.specs.Flags.{Flags, Taken, is_end_of_flags, is_equals, is_flag, long, nothing_taken, short, taken_in}
@@ -116,13 +116,6 @@ one_taken name taken = option_map (one_file_with name taken.switched taken.value
 abbrev pub flagged_in : Flags → Text → List Text → Option Told
 flagged_in flags name words = option_and_then (one_taken name) (taken_in flags false nothing_taken words)
 
--- the option of `book` names generals
-abbrev pub names_generals : Told → Option Told
-names_generals told = option_and_then (λ word. option_map (λ generals. told) (generals_in word)) told.value
-
-abbrev pub book_told : Told → Option Told
-book_told told = if is_some told.value then names_generals told else Some told
-
 -- ---- the subcommands
 
 abbrev pub is_named : Text → Text → Bool
@@ -147,9 +140,13 @@ spelt (name ∷ rest) =
     else (if is_play name then campaign_in rest
     else (if is_audit name then audit_in rest else None)))))))
 
--- the same, where an option that has to name generals does
+-- the option of `book` has to name generals
+abbrev pub names_generals : Told → Bool
+names_generals told = not (is_named (codes "book") told.name) || option_map_or (λ word. is_some (generals_in word)) told.value true
+
+-- the words are a subcommand's name and its words
 abbrev pub asked : List Text → Option Told
-asked words = option_and_then (λ told. if is_named (codes "book") told.name then book_told told else Some told) (spelt words)
+asked words = option_and_then (λ told. if names_generals told then Some told else None) (spelt words)
 
 -- only `table` has a third word, and must, and a second; `play` may have a second, and `audit` must; only `book` and `asm` have an option
 abbrev pub is_alone : Told → Bool

@@ -1,5 +1,5 @@
 -- Generals that a word names.
-use Rattle.std.specs.Prelude.{ℕ, nat_lt, Bool, if◌then◌else◌, List, [], ◌∷◌, Option, Some, None}
+use Rattle.std.specs.Prelude.{ℕ, nat_lt, if◌then◌else◌, List, [], ◌∷◌, ◌++◌, Option, Some, None}
 use Rattle.text.specs.Options.{◌>>=◌}
 use Rattle.text.specs.Stop.{comma}
 use Rattle.text.specs.Parts.{pieces}
@@ -9,10 +9,11 @@ use Rattle.text.specs.Number.{decimal_of}
 unfoldable pub general_in : List ℕ → Option ℕ
 general_in part = decimal_of part >>= λ g. if nat_lt g 13 then Some g else None
 
-abbrev pub generals_of : List (List ℕ) → Option (List ℕ)
-generals_of [] = Some []
-generals_of (part ∷ parts) = general_in part >>= λ g. generals_of parts >>= λ gs. Some (g ∷ gs)
+-- the generals of some parts, behind those before
+abbrev pub generals_behind : List ℕ → List (List ℕ) → Option (List ℕ)
+generals_behind before [] = Some before
+generals_behind before (part ∷ parts) = general_in part >>= λ g. generals_behind (before ++ g ∷ []) parts
 
 -- the generals of `G,H`
 unfoldable pub generals_in : List ℕ → Option (List ℕ)
-generals_in word = generals_of (pieces comma word)
+generals_in word = generals_behind [] (pieces comma word)
