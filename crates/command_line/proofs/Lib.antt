@@ -1,6 +1,7 @@
 pub mod AgreeLemmas
 pub mod AskedLemmas
 pub mod AuditLemmas
+pub mod CallLemmas
 pub mod FileLemmas
 pub mod FlagRules
 pub mod FlaggedLemmas

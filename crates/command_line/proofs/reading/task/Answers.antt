@@ -1,0 +1,50 @@
+use Rattle.std.proofs.Common.{rules, ◌≡◌, ◌≢◌, ◌∙◌, Option, Some, ap, is_some, subst, sym, true}
+use Rattle.clap.specs.Words.{kind_of, subcommand_rows_of}
+use Rattle.clap.specs.declared.error.kind.ErrorKind.TheVariants.{OutOfMemory}
+use Rattle.command_line.specs.Asked.{is_task, words_of}
+use Rattle.command_line.specs.Met.{told_by}
+use Rattle.command_line.specs.Told.{Told}
+use Rattle.command_line.proofs.CallLemmas.{error_is_refused, kind_among, none_found, task_found, task_is_asked, traitors_are_refused}
+use Rattle.command_line.proofs.reading.task.Goals as goal
+
+pub of-requires : goal.of-requires
+of-requires c =
+    let found = task_found _ (words_of c.args.words.now) (subcommand_rows_of c.in-Ok.matches) c.in_ok-lab.ensures
+    c.in-Ok.ensures.kinds (λ e. (c.in-Ok.ensures.matches e).1) in
+    ap (λ (o : Option Told). is_some o) found.met_is
+
+pub task-requires : goal.task-requires
+task-requires c =
+    let found = task_found _ (words_of c.args.words.now) (subcommand_rows_of c.in-Ok.matches) c.in_ok-lab.ensures
+    c.in-Ok.ensures.kinds (λ e. (c.in-Ok.ensures.matches e).1) in
+    let task_is : Some (told_by c.of.result) ≡ Some found.task = c.of.ensures ∙ found.met_is in
+    let told_is : found.task ≡ told_by c.of.result = cc in
+    subst (λ (told : Told). is_task told ≡ true) told_is found.known
+
+pub returns-in-Ok-clause-found : goal.returns-in-Ok-clause-found
+returns-in-Ok-clause-found c =
+    let found = task_found _ (words_of c.args.words.now) (subcommand_rows_of c.in-Ok.matches) c.in_ok-lab.ensures
+    c.in-Ok.ensures.kinds (λ e. (c.in-Ok.ensures.matches e).1) in
+    task_is_asked (words_of c.args.words.now) (told_by c.of.result) (found.spelt_is ∙ sym (c.of.ensures ∙ found.met_is)) c.task.result c.task.ensures.task
+
+pub returns-in-Ok-clause-refused : goal.returns-in-Ok-clause-refused
+returns-in-Ok-clause-refused c =
+    let found = task_found _ (words_of c.args.words.now) (subcommand_rows_of c.in-Ok.matches) c.in_ok-lab.ensures
+    c.in-Ok.ensures.kinds (λ e. (c.in-Ok.ensures.matches e).1) in
+    error_is_refused (words_of c.args.words.now) (told_by c.of.result) (found.spelt_is ∙ sym (c.of.ensures ∙ found.met_is)) c.task.result c.task.ensures.refused
+
+pub returns-in-Ok-clause-traitors : goal.returns-in-Ok-clause-traitors
+returns-in-Ok-clause-traitors c =
+    let found = task_found _ (words_of c.args.words.now) (subcommand_rows_of c.in-Ok.matches) c.in_ok-lab.ensures
+    c.in-Ok.ensures.kinds (λ e. (c.in-Ok.ensures.matches e).1) in
+    traitors_are_refused (words_of c.args.words.now) (told_by c.of.result) (found.spelt_is ∙ sym (c.of.ensures ∙ found.met_is)) c.task.result c.task.ensures.refused
+
+pub returns-else-eq-clause-refused : goal.returns-else-eq-clause-refused
+returns-else-eq-clause-refused c =
+    let apart : kind_of c.in-Err.error ≢ OutOfMemory = search rules in
+    none_found _ (words_of c.args.words.now) (kind_of c.in-Err.error) c.in_ok-lab.ensures c.in-Err.ensures.kinds apart
+
+pub returns-else-eq-clause-kind : goal.returns-else-eq-clause-kind
+returns-else-eq-clause-kind c =
+    let apart : kind_of c.in-Err.error ≢ OutOfMemory = search rules in
+    kind_among _ (words_of c.args.words.now) (kind_of c.in-Err.error) c.in_ok-lab.ensures c.in-Err.ensures.kinds apart
