@@ -9,7 +9,7 @@ use Rattle.clap.specs.Simple.{Shape, built, entered, label_of, names_of, subcomm
 use Rattle.clap.specs.Faults.{check_fault, defaults_fault, entered_fault, fault_of, level_fault, settle_fault, walk_fault}
 use Rattle.clap.proofs.FaultLemmas.{stopped_fault}
 use Rattle.clap.proofs.OnLiterals.{clap_on_literals}
-use Rattle.command_line.specs.Asked.{file_in, is_named, spelt}
+use Rattle.command_line.specs.Asked.{file_in, spelt}
 use Rattle.command_line.specs.Flags.{is_end_of_flags, is_flag, long, short}
 use Rattle.command_line.specs.Lab.{lab_app}
 use Rattle.command_line.specs.Told.{Told, one_file}

@@ -1,12 +1,10 @@
 -- The arguments of a subcommand of one file, with a switch and perhaps an option, as `clap` has them.
-use Rattle.std.proofs.Common.{◌≡◌, inl, inr, ◌==◌, ◌++◌, ◌&&◌, not, Bool, true, false, List, ℕ, [], ◌∷◌, Option, Some, None, codes, refl, fold, is_some}
+use Rattle.std.proofs.Common.{◌≡◌, inl, inr, ◌==◌, ◌&&◌, not, true, false, List, ℕ, [], ◌∷◌, Option, Some, None, codes, refl, fold, is_some}
 use Rattle.std.specs.List.{list_any}
-use Rattle.clap.specs.Kinds.{Kinds, or_else}
-use Rattle.clap.specs.Walk.{Row, Rule, Text, arg_by_id, arg_by_index, has_row, next, idle, option, plain_word, reading_by, settled_rows, with_default, with_values, without}
+use Rattle.clap.specs.Walk.{Row, Rule, Text, arg_by_index, has_row, next, idle, option, plain_word, reading_by, settled_rows, with_default, with_values, without}
 use Rattle.clap.specs.Simple.{Shape, filled, help_rule, new_rule, with_index}
-use Rattle.clap.specs.Faults.{check_fault, default_fault, defaults_fault, repeat_fault, settle_fault, use_fault}
+use Rattle.clap.specs.Faults.{check_fault, default_fault, defaults_fault, settle_fault, use_fault}
 use Rattle.clap.specs.Takes.{is_given}
-use Rattle.clap.specs.declared.error.kind.ErrorKind.TheVariants.{MissingRequiredArgument}
 use Rattle.clap.specs.declared.parser.matches.ValueSource.TheVariants.{CommandLine, DefaultValue}
 use Rattle.command_line.specs.Flags.{OptionName, long, short}
 use Rattle.command_line.specs.Lab.{file_rule, switch_rule}

@@ -1,7 +1,7 @@
 -- `check`, `asm`, `dis` and `book` take their words where the rule finds a task in them.
-use Rattle.std.proofs.Common.{◌≡◌, ◌∙◌, ◌==◌, ◌++◌, arith, inl, inr, Bool, cond, true, false, List, ℕ, [], ◌∷◌, Option, Some, None, ap, codes, refl, subst, sym, drop, eqb-true, is_some}
+use Rattle.std.proofs.Common.{◌≡◌, ◌∙◌, ◌==◌, ◌++◌, arith, inl, inr, Bool, true, false, List, ℕ, [], ◌∷◌, Option, Some, None, ap, codes, refl, subst, sym, drop, eqb-true, is_some}
 use Rattle.std.specs.Prelude.{slice_get}
-use Rattle.std.specs.List.{before_first, list_any}
+use Rattle.std.specs.List.{before_first}
 use Rattle.std.specs.Option.{option_map_or}
 use Rattle.std.specs.Str.{bytes_eq, chars}
 use Rattle.std.proofs.lemmas.Slice.Eq.{bytes_eq-Decides}
@@ -15,7 +15,7 @@ use Rattle.command_line.specs.Asked.{asm_flags, book_flags, check_flags, dis_fla
 use Rattle.command_line.specs.Flags.{OptionName, flag_named, has_letter, is_end_of_flags, is_equals, is_flag, is_switch, long, long_value, option_in, short, short_value}
 use Rattle.command_line.specs.Told.{one_file_with}
 use Rattle.command_line.proofs.AgreeLemmas.{Fails, true_or_false}
-use Rattle.command_line.proofs.FlagRules.{help_taker, switch_taker, takers, value_taker}
+use Rattle.command_line.proofs.FlagRules.{help_taker, takers, value_taker}
 use Rattle.command_line.proofs.LevelLemmas.{AgreesFrom}
 use Rattle.command_line.proofs.NameLemmas.{alone_is, attached_is, long_parts}
 use Rattle.command_line.proofs.TakenLemmas.{Words, flags, now, s, taken_agrees, value_met, waiting_at}
@@ -80,10 +80,10 @@ module _ (name switch : Text) where
       awaits = λ position rows pending word ends other at good. absurd cc;
       attached = λ position rows pending word v ends other at good. absurd cc;
       unknown = λ position rows pending word ends other at flag.
-      flag_turn (s name switch None) [] position idle rows pending word refl ends
-      (flag_word_fails (takers switch None) false rows pending word
-      (other_long_fails switch None (held rows pending) word other (λ own e. absurd cc))
-      (each_letter (takers switch None) false rows pending word (λ x rest next. letter_fails (held rows pending) x rest next _ refl)) ends flag);
+          flag_turn (s name switch None) [] position idle rows pending word refl ends
+          (flag_word_fails (takers switch None) false rows pending word
+          (other_long_fails switch None (held rows pending) word other (λ own e. absurd cc))
+          (each_letter (takers switch None) false rows pending word (λ x rest next. letter_fails (held rows pending) x rest next _ refl)) ends flag);
     }
 
 -- ---- `check` and `dis`
@@ -167,23 +167,23 @@ book_words = record {
   same = refl;
   some = λ word v at. refl;
   awaits = λ position rows pending word ends other at good.
-  let is = book_option word None at in
-  subst (λ (w : Text). (turn_fault (s (codes "book") (codes "explain") traitors) [] (walk_at position (held rows pending)) w ≡ [])
-  × (walked book_rules [] (walk_at position (held rows pending)) w ≡ waiting_at (codes "book") (codes "explain") traitors position (now (codes "book") (codes "explain") traitors rows pending)))
-  (sym (alone_is (codes "traitors") word is.0 is.1)) (book_opens position rows pending good, book_opened position rows pending good);
+      let is = book_option word None at in
+      subst (λ (w : Text). (turn_fault (s (codes "book") (codes "explain") traitors) [] (walk_at position (held rows pending)) w ≡ [])
+      × (walked book_rules [] (walk_at position (held rows pending)) w ≡ waiting_at (codes "book") (codes "explain") traitors position (now (codes "book") (codes "explain") traitors rows pending)))
+      (sym (alone_is (codes "traitors") word is.0 is.1)) (book_opens position rows pending good, book_opened position rows pending good);
   attached = λ position rows pending word v ends other at good.
-  let is = book_option word (Some v) at in
-  subst (λ (w : Text). (turn_fault (s (codes "book") (codes "explain") traitors) [] (walk_at position (held rows pending)) w
-  ≡ use_fault false (value_taker (long [])) (v ∷ []) (now (codes "book") (codes "explain") traitors rows pending))
-  × (walked book_rules [] (walk_at position (held rows pending)) w
-  ≡ walk_at position (held (value_met (codes "book") (codes "explain") traitors v (now (codes "book") (codes "explain") traitors rows pending)) None)))
-  (sym (attached_is (codes "traitors") word v is.0 is.1)) (book_attached position rows pending good v, book_walked position rows pending good v);
+      let is = book_option word (Some v) at in
+      subst (λ (w : Text). (turn_fault (s (codes "book") (codes "explain") traitors) [] (walk_at position (held rows pending)) w
+      ≡ use_fault false (value_taker (long [])) (v ∷ []) (now (codes "book") (codes "explain") traitors rows pending))
+      × (walked book_rules [] (walk_at position (held rows pending)) w
+      ≡ walk_at position (held (value_met (codes "book") (codes "explain") traitors v (now (codes "book") (codes "explain") traitors rows pending)) None)))
+      (sym (attached_is (codes "traitors") word v is.0 is.1)) (book_attached position rows pending good v, book_walked position rows pending good v);
   unknown = λ position rows pending word ends other at flag.
-  flag_turn (s (codes "book") (codes "explain") traitors) [] position idle rows pending word refl ends
-  (flag_word_fails book_rules false rows pending word
-  (other_long_fails (codes "explain") traitors (held rows pending) word other
-  (λ own e. let is : codes "traitors" ≡ own = cc in subst (λ (n : Text). named_by n word ≡ false) is (book_other word at)))
-  (each_letter book_rules false rows pending word (λ x rest next. book_letter (held rows pending) x rest next _ refl)) ends flag);
+      flag_turn (s (codes "book") (codes "explain") traitors) [] position idle rows pending word refl ends
+      (flag_word_fails book_rules false rows pending word
+      (other_long_fails (codes "explain") traitors (held rows pending) word other
+      (λ own e. let is : codes "traitors" ≡ own = cc in subst (λ (n : Text). named_by n word ≡ false) is (book_other word at)))
+      (each_letter book_rules false rows pending word (λ x rest next. book_letter (held rows pending) x rest next _ refl)) ends flag);
 }
 
 pub book_agrees : (words : List Text) → AgreesFrom (s (codes "book") (codes "explain") traitors) (walk_at 1 (held [] None)) words (flagged_in book_flags (codes "book") words)
@@ -328,31 +328,31 @@ asm_words = record {
   same = refl;
   some = λ word v at. refl;
   awaits = λ position rows pending word ends other at good.
-  let option_is = asm_option word None at in
-  let is = lettered word option_is.0 in
-  let none : attached_value is.more ≡ None = asm_value word None is option_is.1 in
-  subst (λ (w : Text). (turn_fault asm_shape [] (walk_at position (held rows pending)) w ≡ [])
-  × (walked asm_rules [] (walk_at position (held rows pending)) w ≡ waiting_at (codes "asm") (codes "raw") target position (asm_now rows pending)))
-  (sym is.word_is) (
-    asm_opens position rows pending good is.first is.more is.letter_is is.no_hyphen none,
-    asm_opened position rows pending good is.first is.more is.letter_is is.no_hyphen none,
-  );
+      let option_is = asm_option word None at in
+      let is = lettered word option_is.0 in
+      let none : attached_value is.more ≡ None = asm_value word None is option_is.1 in
+      subst (λ (w : Text). (turn_fault asm_shape [] (walk_at position (held rows pending)) w ≡ [])
+      × (walked asm_rules [] (walk_at position (held rows pending)) w ≡ waiting_at (codes "asm") (codes "raw") target position (asm_now rows pending)))
+      (sym is.word_is) (
+        asm_opens position rows pending good is.first is.more is.letter_is is.no_hyphen none,
+        asm_opened position rows pending good is.first is.more is.letter_is is.no_hyphen none,
+      );
   attached = λ position rows pending word v ends other at good.
-  let option_is = asm_option word (Some v) at in
-  let is = lettered word option_is.0 in
-  let some : attached_value is.more ≡ Some v = asm_value word (Some v) is option_is.1 in
-  subst (λ (w : Text). (turn_fault asm_shape [] (walk_at position (held rows pending)) w ≡ use_fault false (value_taker (long [])) (v ∷ []) (asm_now rows pending))
-  × (walked asm_rules [] (walk_at position (held rows pending)) w
-  ≡ walk_at position (held (value_met (codes "asm") (codes "raw") target v (asm_now rows pending)) None)))
-  (sym is.word_is) (
-    asm_attached position rows pending good is.first is.more is.letter_is is.no_hyphen v some,
-    asm_walked position rows pending good is.first is.more is.letter_is is.no_hyphen v some,
-  );
+      let option_is = asm_option word (Some v) at in
+      let is = lettered word option_is.0 in
+      let some : attached_value is.more ≡ Some v = asm_value word (Some v) is option_is.1 in
+      subst (λ (w : Text). (turn_fault asm_shape [] (walk_at position (held rows pending)) w ≡ use_fault false (value_taker (long [])) (v ∷ []) (asm_now rows pending))
+      × (walked asm_rules [] (walk_at position (held rows pending)) w
+      ≡ walk_at position (held (value_met (codes "asm") (codes "raw") target v (asm_now rows pending)) None)))
+      (sym is.word_is) (
+        asm_attached position rows pending good is.first is.more is.letter_is is.no_hyphen v some,
+        asm_walked position rows pending good is.first is.more is.letter_is is.no_hyphen v some,
+      );
   unknown = λ position rows pending word ends other at flag.
-  flag_turn asm_shape [] position idle rows pending word refl ends
-  (flag_word_fails asm_rules false rows pending word
-  (other_long_fails (codes "raw") target (held rows pending) word other (λ own e. absurd cc))
-  (asm_letters rows pending word flag (asm_other word at)) ends flag);
+      flag_turn asm_shape [] position idle rows pending word refl ends
+      (flag_word_fails asm_rules false rows pending word
+      (other_long_fails (codes "raw") target (held rows pending) word other (λ own e. absurd cc))
+      (asm_letters rows pending word flag (asm_other word at)) ends flag);
 }
 
 pub asm_agrees : (words : List Text) → AgreesFrom asm_shape (walk_at 1 (held [] None)) words (flagged_in asm_flags (codes "asm") words)

@@ -1,5 +1,5 @@
 -- Names of flags, as the rule and `clap` read them in a word.
-use Rattle.std.proofs.Common.{◌≡◌, ◌∙◌, ◌==◌, ◌++◌, inl, inr, cond, true, false, List, ℕ, [], ◌∷◌, Option, Some, None, ap, codes, refl, subst, sym, eqb-true}
+use Rattle.std.proofs.Common.{◌≡◌, ◌∙◌, ◌==◌, ◌++◌, inl, inr, cond, true, ℕ, [], ◌∷◌, Option, Some, None, ap, refl, subst, sym, eqb-true}
 use Rattle.std.specs.List.{after_first, before_first, list_any}
 use Rattle.std.specs.Str.{bytes_eq}
 use Rattle.std.proofs.lemmas.Slice.Eq.{bytes_eq-Decides}

@@ -1,12 +1,11 @@
 -- A subcommand of one file takes its words where the rule finds a file in them, and perhaps a switch and an option.
-use Rattle.std.proofs.Common.{◌≡◌, ◌∙◌, ◌==◌, ◌&&◌, ◌++◌, inl, inr, Bool, cond, true, false, List, ℕ, [], ◌∷◌, Option, Some, None, ap, codes, refl, subst, sym, find, fold, is_some, option_map}
+use Rattle.std.proofs.Common.{◌≡◌, ◌∙◌, ◌==◌, ◌&&◌, ◌++◌, inl, inr, Bool, cond, true, false, List, ℕ, [], ◌∷◌, Option, Some, None, ap, codes, refl, subst, sym, is_some, option_map}
 use Rattle.std.specs.Prelude.{option_and_then}
 use Rattle.std.specs.Option.{option_map_or}
 use Rattle.std.specs.Str.{bytes_eq}
 use Rattle.std.proofs.lemmas.Slice.Eq.{bytes_eq-Decides}
-use Rattle.clap.specs.Kinds.{Kinds}
 use Rattle.clap.specs.Lexer.{long_of}
-use Rattle.clap.specs.Walk.{Held, Row, Rule, Step, Text, Waiting, Walk, after_step, arg_by_long, arg_by_short, finished, first_of, has_row, idle, is_pending, option, plain_word, positional_held, pushed, reading_by, settled, settled_rows, subcommand_met, used, value as is_value, walked, with_default, with_values, without}
+use Rattle.clap.specs.Walk.{Held, Row, Rule, Step, Text, Waiting, Walk, after_step, arg_by_long, arg_by_short, finished, first_of, has_row, idle, is_pending, option, positional_held, pushed, reading_by, settled, settled_rows, subcommand_met, used, value as is_value, walked, with_default, with_values, without}
 use Rattle.clap.specs.Simple.{Shape}
 use Rattle.clap.specs.Faults.{settle_fault, step_fault, turn_fault, use_fault, walk_fault}
 use Rattle.clap.specs.Takes.{is_given}
@@ -17,7 +16,7 @@ use Rattle.command_line.specs.Lab.{task_met}
 use Rattle.command_line.specs.Told.{Told, one_file_with}
 use Rattle.command_line.proofs.AgreeLemmas.{Fails, or_else-first, true_or_false}
 use Rattle.command_line.proofs.FlagRules.{defaults_quiet, file_is_given, file_is_missing, file_row, file_taker, flagged_shape, no_default, no_defaults, no_other_place, off_row, switch_row, switch_taker, takers, value_row, value_settled, value_settles, value_taker, value_word}
-use Rattle.command_line.proofs.RowLemmas.{added, first_use, found, found_last, found_other, has_is, row_with}
+use Rattle.command_line.proofs.RowLemmas.{added, first_use, found, found_last, found_other, has_is}
 use Rattle.command_line.proofs.WordLemmas.{dash_is_char, each_letter, flag_word_fails, held, unsettled_long, unsettled_short, walk_at, walk_in}
 use Rattle.command_line.proofs.TurnLemmas.{flag_turn, plain_turn, plain_walked}
 use Rattle.command_line.proofs.LevelLemmas.{AgreesFrom, level_from, stepped, turn_stops}
@@ -276,7 +275,7 @@ module _ (name switch : Text) (o : Option OptionName) where
     holds_file rows pending switched v file holds = record {
       good = file_good (now rows pending) file holds.stands.file;
       stands = subst (λ (rs : List Row). Stands rs (taken switched v (Some file))) (sym (file_used (now rows pending) file holds.stands.file))
-      (stands_file file (now rows pending) switched v holds.stands);
+          (stands_file file (now rows pending) switched v holds.stands);
       optional = holds.optional;
     }
 
@@ -371,8 +370,8 @@ module _ (name switch : Text) (o : Option OptionName) where
             (then rows (value_waits (word ∷ [])) (taken switched (Some word) file) (record {
               good = value_good some rows word stands.value;
               stands = subst (λ (rs : List Row). Stands rs (taken switched (Some word) file))
-              (sym (value_settled switch o some rows word ∙ value_added rows word stands.value))
-              (stands_value word rows switched file stands);
+                  (sym (value_settled switch o some rows word ∙ value_added rows word stands.value))
+                  (stands_value word rows switched file stands);
               optional = λ e. some;
             }))
         go (Some old) stands = stepped s (waiting_at (place_of file) rows) (walk_at (place_of file) (held rows (value_waits (word ∷ [])))) word rest None turn goes
@@ -457,7 +456,7 @@ module _ (name switch : Text) (o : Option OptionName) where
           (then (value_met value R) None (taken switched (Some value) file) (record {
             good = refl;
             stands = subst (λ (rs : List Row). Stands rs (taken switched (Some value) file)) (sym (value_added R value holds.stands.value))
-            (stands_value value R switched file holds.stands);
+                (stands_value value R switched file holds.stands);
             optional = λ e. is.some word (Some value) at;
           }))
       attached_by word value rest then ends other at rows pending switched (Some old) file holds =

@@ -1,10 +1,7 @@
 -- What the words of each task have beside its name.
-use Rattle.std.proofs.Common.{◌≡◌, ◌∙◌, Bool, true, false, Option, Some, None, ap, codes, refl, subst, sym, not, ◌||◌, ◌&&◌, option_map, cond}
-use Rattle.std.specs.String.{string_bytes}
-use Rattle.std.specs.Str.{bytes_eq}
-use Rattle.std.specs.Option.{option_map_or}
+use Rattle.std.proofs.Common.{◌≡◌, Bool, true, false, Option, Some, None, codes, refl, subst, sym}
 use Rattle.clap.specs.Words.{Text}
-use Rattle.command_line.specs.Asked.{is_named, is_task, names_generals}
+use Rattle.command_line.specs.Asked.{is_task}
 use Rattle.command_line.specs.Told.{Told, one_file, one_file_with}
 
 abbrev pub told_with : Text → Text → Option Text → Option Text → Bool → Option Text → Told

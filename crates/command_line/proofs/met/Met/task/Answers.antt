@@ -1,7 +1,6 @@
-use Rattle.std.proofs.Common.{◌≡◌, ◌∙◌, Option, Some, None, ap, codes, false, sym}
-use Rattle.std.specs.String.{string_bytes}
+use Rattle.std.proofs.Common.{◌∙◌, None, ap, codes, false, sym}
 use Rattle.command_line.specs.Met.{told_by}
-use Rattle.command_line.specs.Told.{Says, one_file, one_file_with}
+use Rattle.command_line.specs.Told.{one_file, one_file_with}
 use Rattle.command_line.proofs.AgreeLemmas.{no_other_task}
 use Rattle.command_line.proofs.TaskLemmas.{asm_told, audit_told, check_told, dis_told, muster_told, play_told, table_told, told_with}
 use Rattle.command_line.proofs.met.Met.task.Goals.{in-check, in-check-2, in-asm+in_ok-copied-in-asm, in-dis, in-dis-2, in-table+in_ok-required-in-table+in_ok-required-in-table-2, in-play+in_ok-copied-in-play, in-muster, in-audit+in_ok-required-in-audit}
