@@ -5,12 +5,16 @@
 # It offers what `byzlab --help` and the help of each subcommand list (./documented compares them), and files otherwise.
 
 _byzlab() {
-    local word=${COMP_WORDS[COMP_CWORD]} commands="check asm dis book muster play audit help" offered
+    local word=${COMP_WORDS[COMP_CWORD]} commands="check asm dis book table muster play audit help" offered
     case $COMP_CWORD:${COMP_WORDS[1]-}:$word in
     1:*) offered="$commands -h --help -V --version" ;;
     *:help:*) offered=$commands ;;
     *:play:-*) offered="--schedule -h --help" ;;
-    *:check:-* | *:asm:-* | *:dis:-* | *:book:-* | *:muster:-* | *:audit:-*) offered="-h --help" ;;
+    *:check:-*) offered="--asm -h --help" ;;
+    *:asm:-*) offered="--raw -o -h --help" ;;
+    *:dis:-*) offered="--units -h --help" ;;
+    *:book:-*) offered="--explain --traitors -h --help" ;;
+    *:table:-* | *:muster:-* | *:audit:-*) offered="-h --help" ;;
     *) offered= ;;
     esac
     mapfile -t COMPREPLY < <(compgen -W "$offered" -- "$word")

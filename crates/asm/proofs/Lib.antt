@@ -16,3 +16,4 @@ pub mod FirstLemmas
 pub mod HelperLaws
 pub mod DistanceLaws
 pub mod NameLaws
+pub mod UnitLemmas

@@ -1,7 +1,8 @@
 -- The text of a program.
-use Rattle.std.specs.Prelude.{ℕ, ℤ, pos, negsuc, suc, List, [], ◌∷◌, ◌++◌, codes, decimal}
+use Rattle.std.specs.Prelude.{ℕ, ℤ, pos, negsuc, suc, ◌+◌, List, [], ◌∷◌, ◌++◌, codes, decimal}
 use Rattle.std.specs.List.{flat_map}
 use Rattle.std.specs.Fmt.{signed_decimal}
+use Rattle.insn.specs.Insn.{units_of}
 use Rattle.insn.specs.declared.insn.Insn.{Insn}
 use Rattle.insn.specs.declared.insn.Insn.TheVariants as insns
 use Rattle.insn.specs.declared.insn.Operand.{Operand}
@@ -74,6 +75,11 @@ insn_text insn = name_of (word_of insn) ++ operands_text (operands_of insn)
 
 abbrev pub line_text : Insn → List ℕ
 line_text insn = insn_text insn ++ codes "\n"
+
+-- the same with the unit before each instruction, the first of them at this one
+abbrev pub unit_lines : ℕ → List Insn → List ℕ
+unit_lines unit [] = []
+unit_lines unit (insn ∷ insns) = (decimal unit ++ codes " " ++ line_text insn) ++ unit_lines (unit + units_of insn) insns
 
 -- one instruction a line, a line feed behind each
 abbrev pub text_of : List Insn → List ℕ

@@ -1,7 +1,8 @@
 //! The disassembler.
 
-ghost use Rattle.std.specs.Prelude.{◌≡◌, ◌++◌, string_bytes, IfOk, OnOk, Some};
-ghost use Rattle.asm.specs.Printing.{text_of};
+ghost use Rattle.std.specs.Prelude.{◌≡◌, ◌≤◌, ◌++◌, codes, decimal, length, string_bytes, IfOk, OnOk, Some};
+ghost use Rattle.insn.specs.Program.{slots_of};
+ghost use Rattle.asm.specs.Printing.{text_of, unit_lines};
 ghost use Rattle.asm.specs.Program.{program_of};
 
 use crate::printing::put_line;
@@ -28,4 +29,35 @@ pub fn disassemble(alloc: Global, program: &Program) -> Result<String, AllocErro
     let mut out = String::with_capacity(alloc, 16 * program.units())?;
     put_lines(&mut out, program.instructions())?;
     Ok(out)
+}
+
+/// The text of a program with the unit before each instruction: `UNIT INSTRUCTION` on each line.
+pub fn disassemble_units(alloc: Global, program: &Program) -> Result<String, AllocError>
+    ensures { IfOk result (λ s. string_bytes s ≡ unit_lines 0 program.now) }
+{
+    let mut out = String::with_capacity(alloc, 16 * program.units())?;
+    put_unit_lines(alloc, &mut out, program.instructions())?;
+    Ok(out)
+}
+
+/// Adds the instructions of a program, one a line, each behind its unit.
+fn put_unit_lines(alloc: Global, out: &mut String, insns: &[Insn]) -> Result<(), AllocError>
+    requires { length (slots_of insns.now) ≤ 4096 }
+    ensures { OnOk result (string_bytes out.new ≡ string_bytes out.old ++ unit_lines 0 insns.now) }
+{
+    let mut unit = 0;
+    for insn in insns {
+        put_unit(alloc, out, unit)?;
+        put_line(out, insn)?;
+        unit += insn.units();
+    }
+    Ok(())
+}
+
+/// Adds the unit, and a space.
+fn put_unit(alloc: Global, out: &mut String, unit: u16) -> Result<(), AllocError>
+    ensures { OnOk result (string_bytes out.new ≡ string_bytes out.old ++ decimal unit ++ codes " ") }
+{
+    let number = format!(in alloc; "{unit} ")?;
+    out.push_str(number.as_str())
 }

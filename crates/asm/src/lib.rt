@@ -18,7 +18,7 @@ mod resolver;
 mod statement;
 
 pub use assembler::assemble;
-pub use disassembler::disassemble;
+pub use disassembler::{disassemble, disassemble_units};
 pub use fault::{AsmError, Fault};
 pub use laws::{
     faults_are_first, helpers_are_numbered, jumps_lead_to_names, mnemonics_are_named,

@@ -8,6 +8,8 @@ pub enum Input {
     File(File),
     /// A hyphen names standard input.
     Standard(Stdin),
+    /// The task reads no file.
+    Nothing,
 }
 
 impl Input {
@@ -33,6 +35,7 @@ impl Read for Input {
         match self {
             Input::File(file) => file.read(buf),
             Input::Standard(stdin) => stdin.read(buf),
+            Input::Nothing => Ok(0),
         }
     }
 }

@@ -3,6 +3,7 @@
 #![tactic(auto)]
 
 mod input;
+mod target;
 
 use command_line::{Task, TaskError};
 use input::Input;
@@ -10,6 +11,7 @@ use lab::{FileName, serve};
 use std::env;
 use std::io::{self, ErrorKind};
 use std::process::ExitCode;
+use target::Target;
 
 fn main(rt: HostRuntime) -> ExitCode {
     let status = match prepare(&rt) {
@@ -25,7 +27,7 @@ fn main(rt: HostRuntime) -> ExitCode {
             &task,
             first,
             second,
-            &mut rt.stdout(),
+            &mut Target::of(&rt, task.target()),
             &mut rt.stderr(),
         ),
         Ok(Ready::Done(status)) => status,
@@ -69,10 +71,18 @@ fn prepare(rt: &HostRuntime) -> io::Result<Ready> {
             error.print(rt)?;
             return Ok(Ready::Done(0));
         }
+        Err(error @ TaskError::Traitors(_)) => {
+            let _ = rt.eprintln(error);
+            return Ok(Ready::Done(2));
+        }
         Err(TaskError::Memory) => return Err(io::Error::from(ErrorKind::OutOfMemory)),
     };
-    let Some(first) = opened(rt, task.file())? else {
-        return Ok(Ready::Done(1));
+    let first = match task.file() {
+        Some(name) => match opened(rt, name)? {
+            Some(file) => file,
+            None => return Ok(Ready::Done(1)),
+        },
+        None => Input::Nothing,
     };
     let second = match task.second() {
         Some(name) => match opened(rt, name)? {

@@ -1,6 +1,6 @@
 //! The programs of docs/SANDBOX.md. Their texts are those of the files in examples/, letter by letter.
 
-use command_line::Task;
+use command_line::{Spelling, Task};
 use lab::{Outcome, answer};
 use std::alloc::{AllocError, Global};
 use std::process::Abort;
@@ -200,8 +200,12 @@ const POINTER_OUT: &str = "; V13: the program ends with a pointer in r0.
 
 /// What `asm` and then `check` print on the text, or what is refused.
 pub(crate) fn verdict(rt: &impl Abort, alloc: Global, text: &str) -> Result<String, AllocError> {
-    let name = String::from_str(alloc, "p")?;
-    let code = match answer(alloc, &Task::Assemble(name), text.as_bytes()) {
+    let assembly = Task::Assemble {
+        text: String::from_str(alloc, "p")?,
+        spelling: Spelling::Hex,
+        target: None,
+    };
+    let code = match answer(alloc, &assembly, text.as_bytes()) {
         Ok(Outcome::Text(code)) => code,
         Ok(_) => return String::from_str(alloc, "a campaign"),
         Err(refusal) => return refusal.to_string(alloc),

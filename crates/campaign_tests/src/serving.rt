@@ -1,6 +1,6 @@
 //! What each subcommand prints.
 
-use command_line::Task;
+use command_line::{Spelling, Task};
 use lab::serve;
 use std::alloc::Global;
 use std::io::{self, ErrorKind, Read, Write};
@@ -337,11 +337,95 @@ const ASSEMBLED: &[(&[u8], u8, &str)] = &[
 #[test]
 fn assembly_is_translated(rt: HostRuntime) -> Result<(), Fail> {
     let alloc = rt.alloc();
-    let task = Task::Assemble(String::from_str(alloc, "p.asm")?);
+    let task = assembly(alloc, Spelling::Hex)?;
     for &(text, status, line) in ASSEMBLED {
         assert!(rt;
             answers(&rt, alloc, &task, File::Bytes(text), (status, line)),
             "{line}"
+        );
+    }
+    Ok(())
+}
+
+/// The task of translating a file of assembly.
+fn assembly(alloc: Global, spelling: Spelling) -> Result<Task, Fail> {
+    Ok(Task::Assemble {
+        text: String::from_str(alloc, "p.asm")?,
+        spelling,
+        target: None,
+    })
+}
+
+#[test]
+fn bytes_are_written(rt: HostRuntime) -> Result<(), Fail> {
+    let alloc = rt.alloc();
+    let task = assembly(alloc, Spelling::Raw)?;
+    let told = served(&rt, alloc, &task, File::of("mov r0, 42\nexit\n"), None);
+    assert_eq!(rt; told.status, 0);
+    assert_eq!(rt;
+        told.out.as_slice(),
+        b"\xb7\0\0\0\x2a\0\0\0\x95\0\0\0\0\0\0\0".as_slice()
+    );
+    assert!(rt;
+        answers(
+            &rt,
+            alloc,
+            &task,
+            File::of("mov r11, 0"),
+            (1, "refused A3 line 1\n")
+        )
+    );
+    Ok(())
+}
+
+/// Assembly that is checked, the status, and what is printed or told.
+const CHECKED_TEXTS: &[(&[u8], u8, &str)] = &[
+    (
+        b"mov r0, 42\nexit\n",
+        0,
+        "accepted 2 instructions 2 units\nr0 42 steps 2\n",
+    ),
+    (b"exit", 1, "refused V5 unit 0\n"),
+    (b"mov r11, 0", 1, "refused A3 line 1\n"),
+    (b"exit # \xff", 1, "fault text p.asm\n"),
+];
+
+#[test]
+fn assembly_is_checked(rt: HostRuntime) -> Result<(), Fail> {
+    let alloc = rt.alloc();
+    let task = Task::CheckAssembly(String::from_str(alloc, "p.asm")?);
+    for &(text, status, lines) in CHECKED_TEXTS {
+        assert!(rt;
+            answers(&rt, alloc, &task, File::Bytes(text), (status, lines)),
+            "{lines}"
+        );
+    }
+    Ok(())
+}
+
+/// Bytecode in hex, the status, and its instructions with their units or what is told.
+const UNITS: &[(&str, u8, &str)] = &[
+    (
+        "18000000887766550000000044332211dc000000100000009500000000000000",
+        0,
+        "0 lddw r0, 1234605616436508552\n2 be16 r0\n3 exit\n",
+    ),
+    ("", 1, "refused C8 unit 0\n"),
+    (
+        "180100000000000000000000000000008701010000000000",
+        1,
+        "refused C3 unit 2\n",
+    ),
+];
+
+#[test]
+fn units_are_told(rt: HostRuntime) -> Result<(), Fail> {
+    let alloc = rt.alloc();
+    let task = Task::DisassembleUnits(String::from_str(alloc, "p.bin")?);
+    for &(code, status, lines) in UNITS {
+        assert!(rt;
+            answers_code(&rt, alloc, &task, code, (status, lines)),
+            "{code}"
         );
     }
     Ok(())
@@ -380,7 +464,7 @@ fn say_each_other(
 #[test]
 fn texts_and_bytes_say_each_other(rt: HostRuntime) -> Result<(), Fail> {
     let alloc = rt.alloc();
-    let assemble = Task::Assemble(String::from_str(alloc, "p.asm")?);
+    let assemble = assembly(alloc, Spelling::Hex)?;
     let disassemble = Task::Disassemble(String::from_str(alloc, "p.bin")?);
     let tasks = (&assemble, &disassemble);
     for &(text, code) in INSTRUCTIONS {
@@ -421,6 +505,119 @@ fn tables_are_decided(rt: HostRuntime) -> Result<(), Fail> {
         assert!(rt;
             answers(&rt, alloc, &task, File::Bytes(table), (status, lines)),
             "{lines}"
+        );
+    }
+    Ok(())
+}
+
+/// The numbers of a campaign, the status, and its table to fill in or what is told.
+const FORMS: &[([&str; 3], u8, &str)] = &[
+    (
+        ["3", "1", "2"],
+        0,
+        "generals 3 bound 1 commander 2\ntell 2 0 ?\ntell 2 1 ?\ntell 2.0 1 ?\ntell 2.1 0 ?\n",
+    ),
+    (
+        ["2", "0", "0"],
+        0,
+        "generals 2 bound 0 commander 0\ntell 0 1 ?\n",
+    ),
+    (["14", "1", "0"], 1, "refused B2 line 1\n"),
+    (["3", "2", "0"], 1, "refused B2 line 1\n"),
+    (["4", "1", "4"], 1, "refused B2 line 1\n"),
+    (["4", "1", "18446744073709551616"], 1, "refused B2 line 1\n"),
+    (["four", "1", "0"], 1, "refused B1 line 1\n"),
+    (["4", "01", "0"], 1, "refused B1 line 1\n"),
+    (["4", "1", ""], 1, "refused B1 line 1\n"),
+];
+
+#[test]
+fn tables_to_fill_in_are_printed(rt: HostRuntime) -> Result<(), Fail> {
+    let alloc = rt.alloc();
+    for &([generals, bound, commander], status, text) in FORMS {
+        let task = Task::Form {
+            generals: String::from_str(alloc, generals)?,
+            bound: String::from_str(alloc, bound)?,
+            commander: String::from_str(alloc, commander)?,
+        };
+        assert!(rt;
+            answers(&rt, alloc, &task, File::of(""), (status, text)),
+            "{text}"
+        );
+    }
+    Ok(())
+}
+
+/// A table in which general 2 says to 1 and to 3 another order than he was told.
+const LYING_LIEUTENANT: &str = "generals 4 bound 1 commander 0\ntell 0 1 1\ntell 0 2 1\n\
+                                tell 0 3 1\ntell 0.1 2 1\ntell 0.1 3 1\ntell 0.2 1 0\n\
+                                tell 0.2 3 0\ntell 0.3 1 1\ntell 0.3 2 1\n";
+
+/// Who is named as a traitor, and how the decisions of that table come about.
+const EXPLAINED: &[(&[u8], &str)] = &[
+    (
+        &[2],
+        "lieutenant 1\n0: told 1, 0.2 0, 0.3 1: majority 1\ndecision 1 1\n\
+         lieutenant 2\n0: told 1, 0.1 1, 0.3 1: majority 1\ndecision 2 traitor 1\n\
+         lieutenant 3\n0: told 1, 0.1 1, 0.2 0: majority 1\ndecision 3 1\n\
+         bound yes: 4 generals, more than 3 times 1; 1 named as traitors, at most 1\n\
+         IC1 yes: the loyal lieutenants decide alike\n\
+         IC2 yes: each loyal lieutenant decides 1, as the commander told all\n",
+    ),
+    (
+        &[],
+        "lieutenant 1\n0: told 1, 0.2 0, 0.3 1: majority 1\ndecision 1 1\n\
+         lieutenant 2\n0: told 1, 0.1 1, 0.3 1: majority 1\ndecision 2 1\n\
+         lieutenant 3\n0: told 1, 0.1 1, 0.2 0: majority 1\ndecision 3 1\n\
+         bound yes: 4 generals, more than 3 times 1; 0 named as traitors, at most 1\n\
+         IC1 yes: the loyal lieutenants decide alike\n\
+         IC2 yes: each loyal lieutenant decides 1, as the commander told all\n",
+    ),
+];
+
+#[test]
+fn decisions_are_explained(rt: HostRuntime) -> Result<(), Fail> {
+    let alloc = rt.alloc();
+    for &(named, lines) in EXPLAINED {
+        let mut traitors = Vec::new(alloc);
+        traitors.extend_from_slice(named)?;
+        let task = Task::Explain {
+            table: String::from_str(alloc, "t.table")?,
+            traitors,
+        };
+        assert!(rt;
+            answers(&rt, alloc, &task, File::of(LYING_LIEUTENANT), (0, lines)),
+            "{lines}"
+        );
+    }
+    Ok(())
+}
+
+/// Files that are no bytecode, and what is told of them.
+const LIKENESSES: &[(&[u8], &str)] = &[
+    (
+        b"95 00\n",
+        "refused C1 unit 0\nit seems to be bytecode in hex, of which `xxd -r -p` makes bytes\n",
+    ),
+    (
+        b"\x7fELF\x02\x01\x01\0",
+        "refused C3 unit 0\nit seems to be an ELF object, of which `llvm-objcopy -O binary -j .text` takes the bytes\n",
+    ),
+    (
+        b"exit\n",
+        "refused C1 unit 0\nit seems to be text, and no bytecode: assembly is checked by `check --asm`\n",
+    ),
+    (b"exit\0", "refused C1 unit 0\n"),
+];
+
+#[test]
+fn what_bytes_seem_to_be_is_told(rt: HostRuntime) -> Result<(), Fail> {
+    let alloc = rt.alloc();
+    let task = Task::Check(String::from_str(alloc, "p.bin")?);
+    for &(bytes, fault) in LIKENESSES {
+        assert!(rt;
+            answers(&rt, alloc, &task, File::Bytes(bytes), (1, fault)),
+            "{fault}"
         );
     }
     Ok(())

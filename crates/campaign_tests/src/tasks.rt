@@ -1,7 +1,7 @@
 //! The task that the words name.
 
 use clap::error::ErrorKind;
-use command_line::{Task, TaskError, task};
+use command_line::{Spelling, Task, TaskError, task};
 use std::alloc::Global;
 use std::process::Abort;
 use std::test::Fail;
@@ -13,6 +13,17 @@ const TAKEN: &[(&[&str], &str, &str, Option<&str>)] = &[
     (&["dis", "--", "-p"], "dis", "-p", None),
     (&["muster", "s.toml"], "muster", "s.toml", None),
     (&["book", "-"], "book", "-", None),
+    // a switch stands before or behind the file
+    (&["check", "--asm", "p"], "check --asm", "p", None),
+    (&["check", "p", "--asm"], "check --asm", "p", None),
+    (&["asm", "--raw", "p"], "asm --raw", "p", None),
+    (&["dis", "p", "--units", "--"], "dis --units", "p", None),
+    (
+        &["book", "--explain", "--", "-p"],
+        "book --explain",
+        "-p",
+        None,
+    ),
     // a schedule stands before or behind the scenario
     (&["play", "s.toml"], "play", "s.toml", None),
     (&["play", "s", "--schedule", "t"], "play", "s", Some("t")),
@@ -54,13 +65,24 @@ const TAKEN: &[(&[&str], &str, &str, Option<&str>)] = &[
     ),
 ];
 
-/// The subcommand of a task.
+/// The subcommand of a task, with its switch.
 fn subcommand(task: &Task) -> &'static str {
     match task {
         Task::Check(_) => "check",
-        Task::Assemble(_) => "asm",
+        Task::CheckAssembly(_) => "check --asm",
+        Task::Assemble {
+            spelling: Spelling::Hex,
+            ..
+        } => "asm",
+        Task::Assemble {
+            spelling: Spelling::Raw,
+            ..
+        } => "asm --raw",
         Task::Disassemble(_) => "dis",
+        Task::DisassembleUnits(_) => "dis --units",
         Task::Book(_) => "book",
+        Task::Explain { .. } => "book --explain",
+        Task::Form { .. } => "table",
         Task::Play { .. } => "play",
         Task::Muster(_) => "muster",
         Task::Audit { .. } => "audit",
@@ -72,9 +94,82 @@ fn words_have_their_task(rt: HostRuntime) -> Result<(), Fail> {
     for &(words, name, file, second) in TAKEN {
         let task = task(rt.alloc(), words)?;
         assert_eq!(rt; subcommand(&task), name);
-        assert_eq!(rt; task.file(), file);
+        assert_eq!(rt; task.file(), Some(file));
         assert_eq!(rt; task.second(), second);
     }
+    Ok(())
+}
+
+/// Words of `asm`, and the file that it writes.
+const TARGETS: &[(&[&str], &str, Option<&str>)] = &[
+    (&["asm", "p"], "asm", None),
+    (&["asm", "--raw", "-o", "f", "p"], "asm --raw", Some("f")),
+    (&["asm", "p", "-of", "--raw"], "asm --raw", Some("f")),
+    (&["asm", "p", "-o=f"], "asm", Some("f")),
+    (&["asm", "p", "-o="], "asm", Some("")),
+    (&["asm", "-o", "-", "--", "-p"], "asm", Some("-")),
+];
+
+#[test]
+fn targets_are_named(rt: HostRuntime) -> Result<(), Fail> {
+    for &(words, name, target) in TARGETS {
+        let task = task(rt.alloc(), words)?;
+        assert_eq!(rt; subcommand(&task), name);
+        assert_eq!(rt; task.target(), target);
+    }
+    Ok(())
+}
+
+/// Words of `book`, and whom they name as traitors.
+const NAMED: &[(&[&str], &[u8])] = &[
+    (&["book", "--explain", "t"], &[]),
+    (&["book", "--explain", "t", "--traitors", "1,2"], &[1, 2]),
+    (&["book", "t", "--traitors=12"], &[12]),
+    (&["book", "--traitors", "3,0,3", "t"], &[3, 0, 3]),
+];
+
+#[test]
+fn traitors_are_named(rt: HostRuntime) -> Result<(), Fail> {
+    for &(words, expected) in NAMED {
+        let Task::Explain { traitors, .. } = task(rt.alloc(), words)? else {
+            return Err("no explanation")?;
+        };
+        assert_eq!(rt; traitors.as_slice(), expected);
+    }
+    Ok(())
+}
+
+/// Words behind `--traitors` that name no generals.
+const NO_GENERALS: &[&str] = &["", "13", "1,", ",1", "1 2", "01", "-1", "one"];
+
+#[test]
+fn no_generals_are_refused(rt: HostRuntime) -> Result<(), Fail> {
+    for &word in NO_GENERALS {
+        let option = format!(in rt.alloc(); "--traitors={word}")?;
+        let words = ["book", "t", option.as_str()];
+        assert!(rt;
+            matches!(task(rt.alloc(), &words), Err(TaskError::Traitors(_))),
+            "{word}"
+        );
+    }
+    Ok(())
+}
+
+#[test]
+fn tables_have_three_numbers(rt: HostRuntime) -> Result<(), Fail> {
+    let task = task(rt.alloc(), &["table", "4", "--", "1", "0"])?;
+    assert_eq!(rt; task.file(), None);
+    let Task::Form {
+        generals,
+        bound,
+        commander,
+    } = task
+    else {
+        return Err("no table")?;
+    };
+    assert_eq!(rt; generals.as_str(), "4");
+    assert_eq!(rt; bound.as_str(), "1");
+    assert_eq!(rt; commander.as_str(), "0");
     Ok(())
 }
 
@@ -92,6 +187,27 @@ const REFUSED: &[(&[&str], ErrorKind, i32)] = &[
     ),
     (&["check", "p", "--help"], ErrorKind::DisplayHelp, 0),
     (&["--help"], ErrorKind::DisplayHelp, 0),
+    // a switch or an option twice, one with a value, and one without
+    (
+        &["check", "--asm", "p", "--asm"],
+        ErrorKind::ArgumentConflict,
+        2,
+    ),
+    (&["asm", "-of", "p", "-og"], ErrorKind::ArgumentConflict, 2),
+    (&["check", "--asm=1", "p"], ErrorKind::TooManyValues, 2),
+    (&["asm", "p", "-o"], ErrorKind::InvalidValue, 2),
+    (&["book", "t", "--traitors"], ErrorKind::InvalidValue, 2),
+    // an option of another subcommand
+    (&["check", "--units", "p"], ErrorKind::UnknownArgument, 2),
+    (&["dis", "--asm", "p"], ErrorKind::UnknownArgument, 2),
+    // of a table: too few numbers, too many, and one below zero
+    (&["table", "4", "1"], ErrorKind::MissingRequiredArgument, 2),
+    (
+        &["table", "4", "1", "0", "1"],
+        ErrorKind::UnknownArgument,
+        2,
+    ),
+    (&["table", "-4", "1", "0"], ErrorKind::UnknownArgument, 2),
     // of play: no scenario
     (&["play"], ErrorKind::MissingRequiredArgument, 2),
     (
@@ -201,8 +317,15 @@ const PRINTED: &[(&[&str], &str)] = &[
     (&["--help"], "muster"),
     (&["--help"], "audit"),
     // each usage begins with the program
-    (&["check", "--help"], "Usage: byzlab check <FILE>"),
-    (&["asm", "--asm"], "Usage: byzlab asm <FILE>"),
+    (&["--help"], "table"),
+    (&["check", "--help"], "Usage: byzlab check [OPTIONS] <FILE>"),
+    (&["asm", "--asm"], "Usage: byzlab asm [OPTIONS] <FILE>"),
+    (&["asm", "--help"], "-o <FILE>"),
+    (&["book", "--help"], "--traitors <G,H>"),
+    (
+        &["table", "--help"],
+        "Usage: byzlab table <GENERALS> <BOUND> <COMMANDER>",
+    ),
     (
         &["play", "--help"],
         "Usage: byzlab play [OPTIONS] <SCENARIO>",

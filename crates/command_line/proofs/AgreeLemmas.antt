@@ -39,15 +39,16 @@ is_text known word = elim (true_or_false (bytes_eq known word)) [
 -- each task has one of the names
 pub no_other_task : (told : Told) → is_task told ≡ true
     → (told.name ≡ codes "check" → ⊥) → (told.name ≡ codes "asm" → ⊥) → (told.name ≡ codes "dis" → ⊥) → (told.name ≡ codes "book" → ⊥)
-    → (told.name ≡ codes "muster" → ⊥) → (told.name ≡ codes "play" → ⊥) → (told.name ≡ codes "audit" → ⊥) → ⊥
-no_other_task told is check asm dis book muster play audit =
+    → (told.name ≡ codes "table" → ⊥) → (told.name ≡ codes "play" → ⊥) → (told.name ≡ codes "muster" → ⊥) → (told.name ≡ codes "audit" → ⊥) → ⊥
+no_other_task told is check asm dis book table play muster audit =
     let bad : false ≡ true = rw (
       off (codes "check") check,
       off (codes "asm") asm,
       off (codes "dis") dis,
       off (codes "book") book,
-      off (codes "muster") muster,
+      off (codes "table") table,
       off (codes "play") play,
+      off (codes "muster") muster,
       off (codes "audit") audit,
     ) at is in absurd cc
   where

@@ -9,7 +9,8 @@ use Rattle.clap.specs.Simple.{Shape, built, entered, label_of, names_of, subcomm
 use Rattle.clap.specs.Faults.{check_fault, defaults_fault, entered_fault, fault_of, level_fault, settle_fault, walk_fault}
 use Rattle.clap.proofs.FaultLemmas.{stopped_fault}
 use Rattle.clap.proofs.OnLiterals.{clap_on_literals}
-use Rattle.command_line.specs.Asked.{asked, file_in, is_end_of_flags, is_flag, takes_one_file}
+use Rattle.command_line.specs.Asked.{file_in, spelt}
+use Rattle.command_line.specs.Flags.{is_end_of_flags, is_flag, long, short}
 use Rattle.command_line.specs.Lab.{lab_app}
 use Rattle.command_line.specs.Told.{Told, one_file}
 use Rattle.command_line.proofs.AgreeLemmas.{Agrees, Fails, is_text, or_else-first, true_or_false}
@@ -18,6 +19,9 @@ use Rattle.command_line.proofs.TurnLemmas.{flag_turn, fold_stopped, plain_turn, 
 use Rattle.command_line.proofs.FileLemmas.{FileAgrees, faults, file_agrees, file_shape, rows}
 use Rattle.command_line.proofs.AuditLemmas.{audit_agrees, audit_shape}
 use Rattle.command_line.proofs.PlayLemmas.{campaign_agrees, play_shape}
+use Rattle.command_line.proofs.FlaggedLemmas.{asm_agrees, book_agrees, check_agrees, dis_agrees}
+use Rattle.command_line.proofs.FlagRules.{flagged_shape}
+use Rattle.command_line.proofs.TableLemmas.{form_agrees, table_shape}
 
 abbrev top : Shape
 top = (built lab_app).top
@@ -99,43 +103,47 @@ module _ (name : Text) (rest : List Text) (s : Shape) (told : Option Told)
 
 -- ---- a subcommand of one file
 
-as_told : (name : Text) → takes_one_file name ≡ true → (kinds : Kinds) (found : List Row) (file : Option Text)
-    → FileAgrees kinds found file → Agrees kinds (Some (name, found)) (option_map (one_file name) file)
-as_told name known kinds found None fails = fails
-as_told name known kinds found (Some file) passes = (passes.0, rw (passes.1, passes.2) refl, rw known refl)
+as_told : (kinds : Kinds) (found : List Row) (file : Option Text)
+    → FileAgrees kinds found file → Agrees kinds (Some (codes "muster", found)) (option_map (one_file (codes "muster")) file)
+as_told kinds found None fails = fails
+as_told kinds found (Some file) passes = let others = passes.2 in (passes.0, rw (passes.1, others.second, others.third, others.switch, others.value) refl, refl)
 
-of_file : (name : Text) (rest : List Text) → takes_one_file name ≡ true
-    → Agrees (below (file_shape name) rest) (Some (name, rows name rest)) (option_map (one_file name) (file_in rest))
-of_file name rest known = as_told name known (faults name rest) (rows name rest) (file_in rest) (file_agrees name rest)
+muster_agrees : (rest : List Text)
+    → Agrees (below (file_shape (codes "muster")) rest) (Some (codes "muster", rows (codes "muster") rest)) (option_map (one_file (codes "muster")) (file_in rest))
+muster_agrees rest = as_told (faults (codes "muster") rest) (rows (codes "muster") rest) (file_in rest) (file_agrees (codes "muster") rest)
 
 -- ---- the words by their cases
 
 abbrev RuleAt : Text → List Text → Type 0
-RuleAt name rest = Agrees (fault_of lab_app (name ∷ rest)) (subcommand_of lab_app (name ∷ rest)) (asked (name ∷ rest))
+RuleAt name rest = Agrees (fault_of lab_app (name ∷ rest)) (subcommand_of lab_app (name ∷ rest)) (spelt (name ∷ rest))
 
 at_check : (rest : List Text) → RuleAt (codes "check") rest
 unfolding clap_on_literals
-at_check rest = named (codes "check") rest (file_shape (codes "check")) _ refl refl refl (of_file (codes "check") rest refl)
+at_check rest = named (codes "check") rest (flagged_shape (codes "check") (codes "asm") None) _ refl refl refl (check_agrees rest)
 
 at_asm : (rest : List Text) → RuleAt (codes "asm") rest
 unfolding clap_on_literals
-at_asm rest = named (codes "asm") rest (file_shape (codes "asm")) _ refl refl refl (of_file (codes "asm") rest refl)
+at_asm rest = named (codes "asm") rest (flagged_shape (codes "asm") (codes "raw") (Some (short 111))) _ refl refl refl (asm_agrees rest)
 
 at_dis : (rest : List Text) → RuleAt (codes "dis") rest
 unfolding clap_on_literals
-at_dis rest = named (codes "dis") rest (file_shape (codes "dis")) _ refl refl refl (of_file (codes "dis") rest refl)
+at_dis rest = named (codes "dis") rest (flagged_shape (codes "dis") (codes "units") None) _ refl refl refl (dis_agrees rest)
 
 at_book : (rest : List Text) → RuleAt (codes "book") rest
 unfolding clap_on_literals
-at_book rest = named (codes "book") rest (file_shape (codes "book")) _ refl refl refl (of_file (codes "book") rest refl)
+at_book rest = named (codes "book") rest (flagged_shape (codes "book") (codes "explain") (Some (long (codes "traitors")))) _ refl refl refl (book_agrees rest)
+
+at_table : (rest : List Text) → RuleAt (codes "table") rest
+unfolding clap_on_literals
+at_table rest = named (codes "table") rest table_shape _ refl refl refl (form_agrees rest)
+
+at_muster : (rest : List Text) → RuleAt (codes "muster") rest
+unfolding clap_on_literals
+at_muster rest = named (codes "muster") rest (file_shape (codes "muster")) _ refl refl refl (muster_agrees rest)
 
 at_play : (rest : List Text) → RuleAt (codes "play") rest
 unfolding clap_on_literals
 at_play rest = named (codes "play") rest play_shape _ refl refl refl (campaign_agrees rest)
-
-at_muster : (rest : List Text) → RuleAt (codes "muster") rest
-unfolding clap_on_literals
-at_muster rest = named (codes "muster") rest (file_shape (codes "muster")) _ refl refl refl (of_file (codes "muster") rest refl)
 
 at_audit : (rest : List Text) → RuleAt (codes "audit") rest
 unfolding clap_on_literals
@@ -166,25 +174,28 @@ at_other word rest other = elim (true_or_false (is_end_of_flags word)) [
 ]
 
 -- `clap` takes the words where the rule finds a task in them, and meets that task
-pub rule_agrees : (words : List Text) → Agrees (fault_of lab_app words) (subcommand_of lab_app words) (asked words)
+pub rule_agrees : (words : List Text) → Agrees (fault_of lab_app words) (subcommand_of lab_app words) (spelt words)
 rule_agrees [] = no_words
 rule_agrees (word ∷ rest) = elim (is_text (codes "check") word) [
   | inl is ↦ subst (λ (w : Text). RuleAt w rest) (sym is) (at_check rest)
-  | inr a ↦ elim (is_text (codes "asm") word) [
+  | inr no_check ↦ elim (is_text (codes "asm") word) [
     | inl is ↦ subst (λ (w : Text). RuleAt w rest) (sym is) (at_asm rest)
-    | inr b ↦ elim (is_text (codes "dis") word) [
+    | inr no_asm ↦ elim (is_text (codes "dis") word) [
       | inl is ↦ subst (λ (w : Text). RuleAt w rest) (sym is) (at_dis rest)
-      | inr c ↦ elim (is_text (codes "book") word) [
+      | inr no_dis ↦ elim (is_text (codes "book") word) [
         | inl is ↦ subst (λ (w : Text). RuleAt w rest) (sym is) (at_book rest)
-        | inr d ↦ elim (is_text (codes "play") word) [
-          | inl is ↦ subst (λ (w : Text). RuleAt w rest) (sym is) (at_play rest)
-          | inr p ↦ elim (is_text (codes "muster") word) [
+        | inr no_book ↦ elim (is_text (codes "table") word) [
+          | inl is ↦ subst (λ (w : Text). RuleAt w rest) (sym is) (at_table rest)
+          | inr no_table ↦ elim (is_text (codes "muster") word) [
             | inl is ↦ subst (λ (w : Text). RuleAt w rest) (sym is) (at_muster rest)
-            | inr m ↦ elim (is_text (codes "audit") word) [
-              | inl is ↦ subst (λ (w : Text). RuleAt w rest) (sym is) (at_audit rest)
-              | inr u ↦ elim (is_text (codes "help") word) [
-                | inl is ↦ rw (a, b, c, d, m, p, u) (subst (λ (w : Text). Fails (fault_of lab_app (w ∷ rest))) (sym is) (at_help rest))
-                | inr e ↦ rw (a, b, c, d, m, p, u) (at_other word rest (rw (a, b, c, d, m, p, u, e) refl))
+            | inr no_muster ↦ elim (is_text (codes "play") word) [
+              | inl is ↦ subst (λ (w : Text). RuleAt w rest) (sym is) (at_play rest)
+              | inr no_play ↦ elim (is_text (codes "audit") word) [
+                | inl is ↦ subst (λ (w : Text). RuleAt w rest) (sym is) (at_audit rest)
+                | inr no_audit ↦ elim (is_text (codes "help") word) [
+                  | inl is ↦ rw (no_check, no_asm, no_dis, no_book, no_table, no_muster, no_play, no_audit) (subst (λ (w : Text). Fails (fault_of lab_app (w ∷ rest))) (sym is) (at_help rest))
+                  | inr no_help ↦ rw (no_check, no_asm, no_dis, no_book, no_table, no_muster, no_play, no_audit) (at_other word rest (rw (no_check, no_asm, no_dis, no_book, no_table, no_muster, no_play, no_audit, no_help) refl))
+                ]
               ]
             ]
           ]

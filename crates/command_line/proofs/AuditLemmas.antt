@@ -7,7 +7,8 @@ use Rattle.clap.specs.Kinds.{Kinds}
 use Rattle.clap.specs.Walk.{Row, Text, Walk, arg_by_long, arg_by_short, idle, settled_rows}
 use Rattle.clap.specs.Simple.{Shape, built_leaf, inherited, marked_built, with_leaf_noted}
 use Rattle.clap.proofs.OnLiterals.{clap_on_literals}
-use Rattle.command_line.specs.Asked.{audit_in, files_in, is_end_of_flags, is_flag, two}
+use Rattle.command_line.specs.Asked.{audit_in, files_in, two}
+use Rattle.command_line.specs.Flags.{is_end_of_flags, is_flag}
 use Rattle.command_line.specs.Lab.{audit_app, lab_app}
 use Rattle.command_line.specs.Told.{Told}
 use Rattle.command_line.proofs.AgreeLemmas.{Fails, true_or_false}

@@ -8,7 +8,8 @@ use Rattle.clap.specs.Walk.{Held, Row, Text, Walk, arg_by_long, arg_by_short, fi
 use Rattle.clap.specs.Simple.{Shape, built_leaf, filled, help_rule, inherited, marked_built, with_leaf_noted}
 use Rattle.clap.specs.Faults.{check_fault, defaults_fault, level_fault, settle_fault, walk_fault}
 use Rattle.clap.proofs.OnLiterals.{clap_on_literals}
-use Rattle.command_line.specs.Asked.{file_in, is_end_of_flags, is_flag, nothing_more, only}
+use Rattle.command_line.specs.Asked.{file_in, nothing_more, only}
+use Rattle.command_line.specs.Flags.{is_end_of_flags, is_flag}
 use Rattle.command_line.specs.Lab.{file_app, lab_app}
 use Rattle.command_line.proofs.AgreeLemmas.{Fails, true_or_false}
 use Rattle.command_line.proofs.WordLemmas.{HasHelpAlone, held, help_word_fails, walk_at}
@@ -18,10 +19,17 @@ use Rattle.command_line.proofs.TurnLemmas.{flag_turn, plain_turn, plain_walked, 
 abbrev pub file_shape : Text → Shape
 file_shape name = built_leaf (inherited (with_leaf_noted (marked_built lab_app.top)) (file_app name).top)
 
+-- nothing but a file was met
+pub record LacksOthers (rows : List Row) : Type 0 where
+  pub second : first_of (codes "second") rows ≡ None
+  pub third : first_of (codes "third") rows ≡ None
+  pub switch : first_of (codes "switch") rows ≡ None
+  pub value : first_of (codes "value") rows ≡ None
+
 -- the words fail where the rule finds no file, and else they have its file
 abbrev pub FileAgrees : Kinds → List Row → Option Text → Type 0
 FileAgrees kinds rows None = Fails kinds
-FileAgrees kinds rows (Some file) = (kinds ≡ []) × (first_of (codes "file") rows ≡ Some file) × (first_of (codes "second") rows ≡ None)
+FileAgrees kinds rows (Some file) = (kinds ≡ []) × (first_of (codes "file") rows ≡ Some file) × LacksOthers rows
 
 dashes_are : (word : Text) → is_end_of_flags word ≡ true → word ≡ codes "--"
 dashes_are word e = (bytes_eq-Decides word (codes "--")).0 e
@@ -82,15 +90,15 @@ module _ (name : Text) where
   file_found : (file : Text) → first_of (codes "file") (finished s.rules (with_file file)) ≡ Some file
   file_found file = refl
 
-  no_second : (file : Text) → first_of (codes "second") (finished s.rules (with_file file)) ≡ None
-  no_second file = refl
+  lacks_others : (file : Text) → LacksOthers (finished s.rules (with_file file))
+  lacks_others file = record { second = refl; third = refl; switch = refl; value = refl }
 
   has_file : (file : Text) (words : List Text) → walk_fault s [] start words ≡ []
       → (walk s.rules [] nothing_held words).held ≡ with_file file → FileAgrees (faults words) (rows words) (Some file)
   has_file file words none is = (
     ap₂ after_walk none is ∙ file_passes file,
     ap (λ h. first_of (codes "file") (finished s.rules h)) is ∙ file_found file,
-    ap (λ h. first_of (codes "second") (finished s.rules h)) is ∙ no_second file,
+    subst (λ (h : Held). LacksOthers (finished s.rules h)) (sym is) (lacks_others file),
   )
 
   no_words : Fails (faults [])

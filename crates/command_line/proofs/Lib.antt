@@ -3,9 +3,17 @@ pub mod AskedLemmas
 pub mod AuditLemmas
 pub mod CallLemmas
 pub mod FileLemmas
+pub mod FlagRules
+pub mod FlaggedLemmas
+pub mod GeneralsLemmas
 pub mod LevelLemmas
 pub mod MetLemmas
+pub mod NameLemmas
 pub mod PlayLemmas
+pub mod RowLemmas
 pub mod ScheduleLemmas
+pub mod TableLemmas
+pub mod TakenLemmas
+pub mod TaskLemmas
 pub mod TurnLemmas
 pub mod WordLemmas

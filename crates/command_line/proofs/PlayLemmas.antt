@@ -10,11 +10,12 @@ use Rattle.clap.specs.Walk.{Held, Row, Text, Waiting, Walk, arg_by_index, arg_by
 use Rattle.clap.specs.Simple.{Shape, built_leaf, inherited, marked_built, with_leaf_noted}
 use Rattle.clap.specs.Faults.{settle_fault, step_fault, turn_fault, walk_fault}
 use Rattle.clap.proofs.OnLiterals.{clap_on_literals}
-use Rattle.command_line.specs.Asked.{campaign_in, file_in, is_end_of_flags, is_equals, is_flag, is_schedule, nothing_more, only, schedule_at, value_at}
+use Rattle.command_line.specs.Asked.{campaign_in, file_in, is_schedule, nothing_more, only, schedule_at, value_at}
+use Rattle.command_line.specs.Flags.{is_end_of_flags, is_equals, is_flag}
 use Rattle.command_line.specs.Lab.{lab_app, play_app}
 use Rattle.command_line.specs.Told.{Told, played}
 use Rattle.command_line.proofs.AgreeLemmas.{Fails, or_else-first, true_or_false}
-use Rattle.command_line.proofs.WordLemmas.{IsHelpOrUnknown, flag_word_fails, held, help_long_fails, help_short_fails, unsettled_long, unsettled_short, walk_at, walk_in}
+use Rattle.command_line.proofs.WordLemmas.{IsHelpOrUnknown, each_letter, flag_word_fails, held, help_long_fails, help_short_fails, unsettled_long, unsettled_short, walk_at, walk_in}
 use Rattle.command_line.proofs.TurnLemmas.{flag_turn, plain_turn, plain_walked}
 use Rattle.command_line.proofs.LevelLemmas as level
 use Rattle.command_line.proofs.ScheduleLemmas.{alone_is, attached_is, long_is_schedule, plain_is_no_schedule, schedule_goes_on, schedule_is_flag, with_value}
@@ -96,7 +97,7 @@ module _ (position : ℕ) (rows : List Row) (files : List Text) (bad : Fails (se
         (flag_turn s [] position waiting rows (schedule_waits files) word (quiet word) ends
         (flag_word_fails s.rules false rows (schedule_waits files) word
         (λ p is. unsettled_long s.rules false stuck bad (arg_by_long s.rules p.0) p.1)
-        (λ x after next. unsettled_short s.rules false stuck bad (arg_by_short s.rules x) after next) ends flag))
+        (each_letter s.rules false rows (schedule_waits files) word (λ x after next. unsettled_short s.rules false stuck bad (arg_by_short s.rules x) after next)) ends flag))
 
   pub stuck_idle : (words : List Text) → Fails (level_from (walk_at position stuck) words)
   stuck_idle [] = stuck_end (walk_at position stuck) refl
@@ -196,7 +197,7 @@ other_flag_fails position rows pending word rest ends flag other =
     (flag_turn s [] position idle rows pending word refl ends
     (flag_word_fails s.rules false rows pending word
     (λ p is. help_long_fails s.rules false (held rows pending) (arg_by_long s.rules p.0) p.1 (by_long p.0 _ refl (long_is_schedule word p is ∙ other)))
-    (λ x after next. help_short_fails s.rules false (held rows pending) (arg_by_short s.rules x) after next (by_short x _ refl)) ends flag))
+    (each_letter s.rules false rows pending word (λ x after next. help_short_fails s.rules false (held rows pending) (arg_by_short s.rules x) after next (by_short x _ refl))) ends flag))
 
 -- ---- the scenario was met
 

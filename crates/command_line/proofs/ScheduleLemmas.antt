@@ -5,7 +5,8 @@ use Rattle.std.specs.Str.{bytes_eq}
 use Rattle.std.proofs.lemmas.Slice.Eq.{bytes_eq-Decides}
 use Rattle.clap.specs.Lexer.{long_of}
 use Rattle.clap.specs.Walk.{Text}
-use Rattle.command_line.specs.Asked.{is_end_of_flags, is_equals, is_flag, is_schedule}
+use Rattle.command_line.specs.Asked.{is_schedule}
+use Rattle.command_line.specs.Flags.{is_end_of_flags, is_equals, is_flag}
 use Rattle.command_line.proofs.AgreeLemmas.{true_or_false}
 use Rattle.command_line.proofs.WordLemmas.{dash_is_char}
 
@@ -22,13 +23,13 @@ drop_next n x rest =
     let later : 1 + n + 1 ≡ suc (suc n) = omega arith in
     ap (λ (k : ℕ). drop k (x ∷ rest)) later ∙ ap (λ (k : ℕ). drop k rest) (sym next)
 
-before_cons : (x : ℕ) (rest : Text) → (x == 61) ≡ false → before_first is_equals (x ∷ rest) ≡ x ∷ before_first is_equals rest
+pub before_cons : (x : ℕ) (rest : Text) → (x == 61) ≡ false → before_first is_equals (x ∷ rest) ≡ x ∷ before_first is_equals rest
 before_cons x rest other = rw other (take_next (position_or_len is_equals rest) x rest)
 
-after_cons : (x : ℕ) (rest : Text) → (x == 61) ≡ false → after_first is_equals (x ∷ rest) ≡ after_first is_equals rest
+pub after_cons : (x : ℕ) (rest : Text) → (x == 61) ≡ false → after_first is_equals (x ∷ rest) ≡ after_first is_equals rest
 after_cons x rest other = rw other (drop_next (position_or_len is_equals rest) x rest)
 
-no_equals : (word : Text) → list_any is_equals word ≡ false → before_first is_equals word ≡ word
+pub no_equals : (word : Text) → list_any is_equals word ≡ false → before_first is_equals word ≡ word
 no_equals [] none = refl
 no_equals (x ∷ rest) none = elim (true_or_false (x == 61)) [
   | inl here ↦ let bad : true ≡ false = rw here at none in absurd cc
@@ -37,7 +38,7 @@ no_equals (x ∷ rest) none = elim (true_or_false (x == 61)) [
       before_cons x rest other ∙ ap (λ (t : Text). x ∷ t) (no_equals rest later)
 ]
 
-at_equals : (word : Text) → list_any is_equals word ≡ true
+pub at_equals : (word : Text) → list_any is_equals word ≡ true
     → word ≡ before_first is_equals word ++ 61 ∷ after_first is_equals word
 at_equals [] some = absurd cc
 at_equals (x ∷ rest) some = elim (true_or_false (x == 61)) [

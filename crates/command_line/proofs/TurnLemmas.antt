@@ -6,7 +6,7 @@ use Rattle.clap.specs.Kinds.{Kinds}
 use Rattle.clap.specs.Walk.{Held, Names, Row, Rule, Text, Waiting, Walk, after_step, plain_word, subcommand_met, walk_from, walked}
 use Rattle.clap.specs.Simple.{Shape}
 use Rattle.clap.specs.Faults.{flag_word_fault, level_fault, step_fault, turn_fault, walk_fault}
-use Rattle.command_line.specs.Asked.{is_end_of_flags, is_flag}
+use Rattle.command_line.specs.Flags.{is_end_of_flags, is_flag}
 use Rattle.command_line.proofs.AgreeLemmas.{Fails, or_else-first}
 use Rattle.command_line.proofs.WordLemmas.{held, plain_word_passes, walk_in}
 

@@ -1,13 +1,13 @@
 -- What `clap` makes of one word, by the rule's tests.
 use Rattle.std.proofs.Common.{◌≡◌, ◌∙◌, ◌==◌, ◌⊎◌, inl, inr, Bool, true, false, List, ℕ, suc, [], ◌∷◌, Option, Some, None, refl, sym, is_some, length, drop, eqb-true, subst}
-use Rattle.std.specs.Prelude.{slice_get, encode_utf8}
+use Rattle.std.specs.Prelude.{⊤, slice_get, encode_utf8}
 use Rattle.std.specs.Str.{chars}
 use Rattle.clap.specs.Lexer.{long_of}
 use Rattle.clap.specs.Kinds.{Kinds}
 use Rattle.clap.specs.Walk.{Held, Row, Rule, Text, Waiting, Walk, idle, plain, after_flag, bundle_met, arg_by_long, arg_by_short, long_or_other, plain_word, settled, takes_values}
 use Rattle.clap.specs.Simple.{filled, help_rule, version_rule}
 use Rattle.clap.specs.Faults.{flag_word_fault, flags_fault, long_fault, option_fault, react_fault, settle_fault, short_fault, use_fault}
-use Rattle.command_line.specs.Asked.{is_end_of_flags, is_flag}
+use Rattle.command_line.specs.Flags.{is_end_of_flags, is_flag}
 use Rattle.command_line.proofs.AgreeLemmas.{Fails, or_else-first, or_else-second, true_or_false}
 
 -- what is held between two words, and where the walk stands there
@@ -101,44 +101,55 @@ module _ (c : List Rule) (again : Bool) (rows : List Row) (pending : Option (Tex
   abbrev pub LongFails : Text → Type 0
   LongFails word = (p : Text × Option Text) → long_of word ≡ Some p → Fails (long_fault c again (arg_by_long c p.0) p.1 (held rows pending))
 
-  abbrev pub LettersFail : Type 0
-  LettersFail = (x : ℕ) (rest : Text) (next : Held → Kinds) → Fails (short_fault c again (arg_by_short c x) rest (held rows pending) next)
+  abbrev pub LettersFail : Text → Type 0
+  LettersFail flags = (x : ℕ) (rest : Text) (next : Held → Kinds) → slice_get (chars flags) 0 ≡ Some x
+      → Fails (short_fault c again (arg_by_short c x) rest (held rows pending) next)
 
-  flags_fail : LettersFail → (k : ℕ) (flags : Text) → is_some (slice_get (chars flags) 0) ≡ true
+  abbrev pub WordLettersFail : Text → Type 0
+  WordLettersFail [] = ⊤
+  WordLettersFail (hyphen ∷ flags) = LettersFail flags
+
+  flags_fail : (k : ℕ) (flags : Text) → LettersFail flags → is_some (slice_get (chars flags) 0) ≡ true
       → Fails (flags_fault c again (suc k) flags 0 (held rows pending))
   unfolding flags_fault
-  flags_fail letters k flags some = go (slice_get (chars flags) 0) refl some
+  flags_fail k flags letters some = go (slice_get (chars flags) 0) refl some
     where
       go : (first : Option ℕ) → slice_get (chars flags) 0 ≡ first → is_some first ≡ true
           → Fails (flags_fault c again (suc k) flags 0 (held rows pending))
       go None is some = absurd cc
       go (Some x) is some = rw is (letters x (drop (length (encode_utf8 x)) flags)
-          (flags_fault c again k (drop (length (encode_utf8 x)) flags) 0))
+          (flags_fault c again k (drop (length (encode_utf8 x)) flags) 0) is)
 
-  pub flag_word_fails : (word : Text) → LongFails word → LettersFail → is_end_of_flags word ≡ false → is_flag word ≡ true
+  pub flag_word_fails : (word : Text) → LongFails word → WordLettersFail word → is_end_of_flags word ≡ false → is_flag word ≡ true
       → Fails (flag_word_fault c again (long_of word) word (held rows pending))
   flag_word_fails [] long letters ends flag = absurd cc
   flag_word_fails (x ∷ rest) long letters ends flag = elim (true_or_false (x == 45)) [
     | inl dash ↦
         let x_is : x ≡ 45 = eqb-true x 45 dash in
-        subst (λ (y : ℕ). LongFails (y ∷ rest) → is_end_of_flags (y ∷ rest) ≡ false → is_flag (y ∷ rest) ≡ true → Fails (flag_word_fault c again (long_of (y ∷ rest)) (y ∷ rest) (held rows pending))) (sym x_is) (after_dash rest) long ends flag
+        subst (λ (y : ℕ). LongFails (y ∷ rest) → is_end_of_flags (y ∷ rest) ≡ false → is_flag (y ∷ rest) ≡ true → Fails (flag_word_fault c again (long_of (y ∷ rest)) (y ∷ rest) (held rows pending))) (sym x_is) (after_dash rest letters) long ends flag
     | inr other ↦ let bad : false ≡ true = rw other at flag in absurd cc
   ]
     where
-      after_dash : (rest : Text) → LongFails (45 ∷ rest) → is_end_of_flags (45 ∷ rest) ≡ false → is_flag (45 ∷ rest) ≡ true
+      after_dash : (rest : Text) → LettersFail rest → LongFails (45 ∷ rest) → is_end_of_flags (45 ∷ rest) ≡ false → is_flag (45 ∷ rest) ≡ true
           → Fails (flag_word_fault c again (long_of (45 ∷ rest)) (45 ∷ rest) (held rows pending))
-      after_dash [] long ends flag = let bad : false ≡ true = sym no_chars ∙ flag in absurd cc
-      after_dash (d ∷ []) long ends flag = elim (true_or_false (d == 45)) [
+      after_dash [] letters long ends flag = let bad : false ≡ true = sym no_chars ∙ flag in absurd cc
+      after_dash (d ∷ []) letters long ends flag = elim (true_or_false (d == 45)) [
         | inl dash ↦ let bad : true ≡ false = rw dash at ends in absurd cc
-        | inr other ↦ rw (other, other) (flags_fail letters 0 (d ∷ []) flag)
+        | inr other ↦ rw (other, other) (flags_fail 0 (d ∷ []) letters flag)
       ]
-      after_dash (d ∷ e ∷ more) long ends flag = elim (true_or_false (d == 45)) [
+      after_dash (d ∷ e ∷ more) letters long ends flag = elim (true_or_false (d == 45)) [
         | inl dash ↦
             let d_is : d ≡ 45 = eqb-true d 45 dash in
             subst (λ (y : ℕ). LongFails (45 ∷ y ∷ e ∷ more) → Fails (flag_word_fault c again (long_of (45 ∷ y ∷ e ∷ more)) (45 ∷ y ∷ e ∷ more) (held rows pending)))
             (sym d_is) (λ fails. fails _ refl) long
-        | inr other ↦ rw (other, other) (flags_fail letters _ (d ∷ e ∷ more) flag)
+        | inr other ↦ rw (other, other) (flags_fail _ (d ∷ e ∷ more) letters flag)
       ]
+
+  -- each letter at all
+  pub each_letter : (word : Text)
+      → ((x : ℕ) (rest : Text) (next : Held → Kinds) → Fails (short_fault c again (arg_by_short c x) rest (held rows pending) next)) → WordLettersFail word
+  each_letter [] fails = tt
+  each_letter (hyphen ∷ flags) fails = λ x rest next is. fails x rest next
 
   -- what is no flag is a value
   pub plain_word_passes : (waiting : Waiting) (word : Text) → is_end_of_flags word ≡ false → is_flag word ≡ false
@@ -184,7 +195,7 @@ pub help_word_fails : (c : List Rule) → HasHelpAlone c → (again : Bool) (row
 help_word_fails c alone again rows pending word =
     flag_word_fails c again rows pending word
     (λ p is. help_long_fails c again (held rows pending) (arg_by_long c p.0) p.1 (alone.by_long p.0))
-    (λ x rest next. help_short_fails c again (held rows pending) (arg_by_short c x) rest next (alone.by_short x))
+    (each_letter c again rows pending word (λ x rest next. help_short_fails c again (held rows pending) (arg_by_short c x) rest next (alone.by_short x)))
 
 -- ---- the flags are `--help` and `--version`, or `-h` and `-V`
 
@@ -222,4 +233,4 @@ pub request_word_fails : (c : List Rule) → HasRequestsAlone c → (again : Boo
 request_word_fails c alone again rows pending word =
     flag_word_fails c again rows pending word
     (λ p is. request_long_fails c again (held rows pending) (arg_by_long c p.0) p.1 (alone.by_long p.0))
-    (λ x rest next. request_short_fails c again (held rows pending) (arg_by_short c x) rest next (alone.by_short x))
+    (each_letter c again rows pending word (λ x rest next. request_short_fails c again (held rows pending) (arg_by_short c x) rest next (alone.by_short x)))

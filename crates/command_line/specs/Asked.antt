@@ -1,24 +1,17 @@
 -- What the words behind the program's name ask for.
-use Rattle.std.specs.Prelude.{ℕ, ◌==◌, ◌&&◌, ◌||◌, Bool, true, false, List, [], ◌∷◌, Option, Some, None}
-use Rattle.std.specs.Prelude.{codes, if◌then◌else◌, is_none, is_some, map, option_and_then, option_map, slice_get}
+use Rattle.std.specs.Prelude.{◌&&◌, ◌||◌, not, Bool, true, false, List, [], ◌∷◌, Option, Some, None}
+use Rattle.std.specs.Prelude.{codes, if◌then◌else◌, is_none, is_some, map, option_and_then, option_map}
 use Rattle.std.specs.Borrow.{Bor}
-use Rattle.std.specs.Option.{option_or}
+use Rattle.std.specs.Option.{option_map_or, option_or}
 use Rattle.std.specs.List.{after_first, before_first, list_any}
-use Rattle.std.specs.Str.{bytes_eq, chars}
-use Rattle.command_line.specs.Told.{Text, Told, audited, one_file, played}
+use Rattle.std.specs.Str.{bytes_eq}
+use Rattle.command_line.specs.Flags.{Flags, Taken, is_end_of_flags, is_equals, is_flag, long, nothing_taken, short, taken_in}
+use Rattle.command_line.specs.Generals.{generals_in}
+use Rattle.command_line.specs.Told.{Text, Told, audited, formed, one_file, one_file_with, played}
 
 -- the texts behind the references
 abbrev pub words_of : List (Bor Text) → List Text
 words_of = map (λ word. word.now)
-
--- `--`, behind which no word is a flag
-abbrev pub is_end_of_flags : Text → Bool
-is_end_of_flags word = bytes_eq word (codes "--")
-
--- a hyphen with a character behind it
-abbrev pub is_flag : Text → Bool
-is_flag [] = false
-is_flag (c ∷ rest) = c == 45 && is_some (slice_get (chars rest) 0)
 
 -- no word, or the end of flags alone
 abbrev pub nothing_more : List Text → Bool
@@ -40,10 +33,6 @@ file_in (word ∷ rest) = if is_end_of_flags word then only rest
     else (if nothing_more rest then Some word else None))
 
 -- ---- a scenario and perhaps a schedule
-
--- `=`
-abbrev pub is_equals : ℕ → Bool
-is_equals c = c == 61
 
 -- `--schedule`, alone or with `=` and a text behind it
 abbrev pub is_schedule : Text → Bool
@@ -98,11 +87,39 @@ two _ = None
 abbrev pub audit_in : List Text → Option Told
 audit_in words = option_and_then two (files_in words)
 
+-- ---- the numbers of a table
+
+abbrev pub three : List Text → Option Told
+three (n ∷ m ∷ c ∷ []) = Some (formed n m c)
+three _ = None
+
+abbrev pub form_in : List Text → Option Told
+form_in words = option_and_then three (files_in words)
+
+-- ---- one file, with a switch, and perhaps an option
+
+abbrev pub check_flags : Flags
+check_flags = record { switch = codes "asm"; option = None }
+
+abbrev pub asm_flags : Flags
+asm_flags = record { switch = codes "raw"; option = Some (short 111) }
+
+abbrev pub dis_flags : Flags
+dis_flags = record { switch = codes "units"; option = None }
+
+abbrev pub book_flags : Flags
+book_flags = record { switch = codes "explain"; option = Some (long (codes "traitors")) }
+
+abbrev pub one_taken : Text → Taken → Option Told
+one_taken name taken = option_map (one_file_with name taken.switched taken.value) taken.file
+
+abbrev pub flagged_in : Flags → Text → List Text → Option Told
+flagged_in flags name words = option_and_then (one_taken name) (taken_in flags false nothing_taken words)
+
 -- ---- the subcommands
 
-abbrev pub takes_one_file : Text → Bool
-takes_one_file name = list_any (λ known. bytes_eq known name)
-    (codes "check" ∷ codes "asm" ∷ codes "dis" ∷ codes "book" ∷ codes "muster" ∷ [])
+abbrev pub is_named : Text → Text → Bool
+is_named known name = bytes_eq known name
 
 abbrev pub is_play : Text → Bool
 is_play name = bytes_eq (codes "play") name
@@ -110,14 +127,39 @@ is_play name = bytes_eq (codes "play") name
 abbrev pub is_audit : Text → Bool
 is_audit name = bytes_eq (codes "audit") name
 
--- the words are a subcommand's name and its files
-abbrev pub asked : List Text → Option Told
-asked [] = None
-asked (name ∷ rest) = if takes_one_file name then option_map (one_file name) (file_in rest)
+-- what `clap` takes: a subcommand's name, and its words
+abbrev pub spelt : List Text → Option Told
+spelt [] = None
+spelt (name ∷ rest) =
+    if is_named (codes "check") name then flagged_in check_flags name rest
+    else (if is_named (codes "asm") name then flagged_in asm_flags name rest
+    else (if is_named (codes "dis") name then flagged_in dis_flags name rest
+    else (if is_named (codes "book") name then flagged_in book_flags name rest
+    else (if is_named (codes "table") name then form_in rest
+    else (if is_named (codes "muster") name then option_map (one_file name) (file_in rest)
     else (if is_play name then campaign_in rest
-    else (if is_audit name then audit_in rest else None))
+    else (if is_audit name then audit_in rest else None)))))))
 
--- `play` may have a second file, and `audit` must
+-- the option of `book` has to name generals
+abbrev pub names_generals : Told → Bool
+names_generals told = not (is_named (codes "book") told.name) || option_map_or (λ word. is_some (generals_in word)) told.value true
+
+-- the words are a subcommand's name and its words
+abbrev pub asked : List Text → Option Told
+asked words = option_and_then (λ told. if names_generals told then Some told else None) (spelt words)
+
+-- only `table` has a third word, and must, and a second; `play` may have a second, and `audit` must; only `book` and `asm` have an option
+abbrev pub is_alone : Told → Bool
+is_alone told = is_none told.second && is_none told.third
+
+abbrev pub is_plain : Told → Bool
+is_plain told = not told.switched && is_none told.value
+
 abbrev pub is_task : Told → Bool
-is_task told = if takes_one_file told.name then is_none told.second
-    else (is_play told.name || (is_audit told.name && is_some told.second))
+is_task told =
+    ((is_named (codes "check") told.name || is_named (codes "dis") told.name) && is_alone told && is_none told.value)
+    || ((is_named (codes "asm") told.name || is_named (codes "book") told.name) && is_alone told)
+    || (is_named (codes "muster") told.name && is_alone told && is_plain told)
+    || (is_named (codes "table") told.name && is_some told.second && is_some told.third && is_plain told)
+    || (is_play told.name && is_none told.third && is_plain told)
+    || (is_audit told.name && is_some told.second && is_none told.third && is_plain told)

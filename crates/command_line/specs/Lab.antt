@@ -1,5 +1,8 @@
 -- The command line as `clap` is told of it.
-use Rattle.std.specs.Prelude.{List, Option, Some, true, codes, option_and_then, option_map}
+use Rattle.std.specs.Prelude.{List, Option, Some, true, false, codes, option_and_then, option_map}
+use Rattle.std.specs.Option.{option_map_or}
+use Rattle.std.specs.Str.{bytes_eq}
+use Rattle.clap.specs.declared.builder.action.ArgAction.TheVariants.{SetTrue}
 use Rattle.clap.specs.Words.{App, Row, Rule, Text, first_of, new_app, new_rule, with_rule, with_subcommand}
 use Rattle.command_line.specs.Told.{Told}
 
@@ -21,6 +24,40 @@ with_file_command app name = with_subcommand app (file_app name).top
 abbrev pub schedule_rule : Rule
 schedule_rule =
     record (new_rule (codes "second")) { long = Some (codes "schedule"); value_names = 1 }
+
+-- a switch
+abbrev pub switch_rule : Text → Rule
+switch_rule name =
+    record (new_rule (codes "switch")) { long = Some name; action = Some SetTrue }
+
+-- the options `--traitors G,H` and `-o FILE`
+abbrev pub traitors_rule : Rule
+traitors_rule =
+    record (new_rule (codes "value")) { long = Some (codes "traitors"); value_names = 1 }
+
+abbrev pub target_rule : Rule
+target_rule =
+    record (new_rule (codes "value")) { short = Some 111; value_names = 1 }
+
+-- the subcommands of one file that have a switch
+abbrev pub switched_app : Text → Text → App
+switched_app name switch = with_rule (file_app name) (switch_rule switch)
+
+abbrev pub check_app : App
+check_app = switched_app (codes "check") (codes "asm")
+
+abbrev pub asm_app : App
+asm_app = with_rule (switched_app (codes "asm") (codes "raw")) target_rule
+
+abbrev pub dis_app : App
+dis_app = switched_app (codes "dis") (codes "units")
+
+abbrev pub book_app : App
+book_app = with_rule (switched_app (codes "book") (codes "explain")) traitors_rule
+
+-- the subcommand of three numbers
+abbrev pub table_app : App
+table_app = with_rule (with_rule (file_app (codes "table")) (required_rule (codes "second"))) (required_rule (codes "third"))
 
 -- a second file, which has to be there
 abbrev pub chronicle_rule : Rule
@@ -46,11 +83,12 @@ bare_app =
     let app = new_app (codes "byzlab") in
     record app { top = record app.top { no_binary_name = true; subcommand_required = true; has_version = true } }
 
--- the program with the subcommands of one file, and with all
+-- the program with the subcommands of programs, then with those of tables and one file, and with all
+abbrev pub programs_app : App
+programs_app = with_subcommand (with_subcommand (with_subcommand bare_app check_app.top) asm_app.top) dis_app.top
+
 abbrev pub files_app : App
-files_app = with_file_command (with_file_command (with_file_command (with_file_command
-    (with_file_command bare_app (codes "check")) (codes "asm")) (codes "dis")) (codes "book"))
-    (codes "muster")
+files_app = with_file_command (with_subcommand (with_subcommand programs_app book_app.top) table_app.top) (codes "muster")
 
 abbrev pub lab_app : App
 lab_app = with_audit_command (with_play_command files_app)
@@ -61,4 +99,7 @@ task_met = option_and_then (λ met. option_map (λ file. record {
   name = met.0;
   file = file;
   second = first_of (codes "second") met.1;
+  third = first_of (codes "third") met.1;
+  switched = option_map_or (bytes_eq (codes "true")) (first_of (codes "switch") met.1) false;
+  value = first_of (codes "value") met.1;
 }) (first_of (codes "file") met.1))

@@ -1,4 +1,6 @@
 pub mod Asked
+pub mod Flags
+pub mod Generals
 pub mod Lab
 pub mod Met
 pub mod Told

@@ -7,5 +7,8 @@ abbrev pub told_by : Met → Told
 told_by met = record {
   name = met.name.now;
   file = met.file.now;
-  second = option_map (λ file. file.now) met.second;
+  second = option_map (λ word. word.now) met.second;
+  third = option_map (λ word. word.now) met.third;
+  switched = met.switched;
+  value = option_map (λ word. word.now) met.value;
 }

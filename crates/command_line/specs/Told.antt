@@ -1,46 +1,125 @@
 -- What a task and its refusal say.
-use Rattle.std.specs.Prelude.{⊤, ℕ, List, Option, None, Some, codes, option_map}
+use Rattle.std.specs.Prelude.{⊤, ℕ, ◌≡◌, Bool, true, false, List, [], Option, None, Some, codes, option_map}
 use Rattle.std.specs.String.{string_bytes}
 use Rattle.clap.specs.declared.error.Error.{Error}
+use Rattle.command_line.specs.Generals.{generals_in}
+use Rattle.command_line.specs.declared.tasks.Spelling.{Spelling}
+use Rattle.command_line.specs.declared.tasks.Spelling.TheVariants.{Hex, Raw}
 use Rattle.command_line.specs.declared.tasks.Task.{Task}
-use Rattle.command_line.specs.declared.tasks.Task.TheVariants.{Check, Assemble, Disassemble, Book, Play, Muster, Audit}
+use Rattle.command_line.specs.declared.tasks.Task.TheVariants.{Check, CheckAssembly, Assemble, Disassemble, DisassembleUnits, Book, Explain, Form, Play, Muster, Audit}
 use Rattle.command_line.specs.declared.tasks.TaskError.{TaskError}
-use Rattle.command_line.specs.declared.tasks.TaskError.TheVariants.{Words, Memory}
+use Rattle.command_line.specs.declared.tasks.TaskError.TheVariants.{Words, Traitors, Memory}
 
 abbrev pub Text : Type 0
 Text = List ℕ
 
--- a subcommand's name, its only or first file, and its second where there is one
+-- a subcommand's name, its words that are no flags, up to three, whether its switch stands in the words, and the value of its option
 pub record Told : Type 0 where
   pub name : Text
   pub file : Text
   pub second : Option Text
+  pub third : Option Text
+  pub switched : Bool
+  pub value : Option Text
+
+-- a subcommand of one file, with its switch or without it, and perhaps with its option
+abbrev pub one_file_with : Text → Bool → Option Text → Text → Told
+one_file_with name switched value file =
+    record { name = name; file = file; second = None; third = None; switched = switched; value = value }
 
 -- a subcommand of one file
 abbrev pub one_file : Text → Text → Told
-one_file name file = record { name = name; file = file; second = None }
+one_file name file = one_file_with name false None file
+
+-- `table`
+abbrev pub formed : Text → Text → Text → Told
+formed n m c =
+    record { name = codes "table"; file = n; second = Some m; third = Some c; switched = false; value = None }
 
 -- `play`, perhaps with a schedule
 abbrev pub played : Option Text → Text → Told
 played schedule scenario =
-    record { name = codes "play"; file = scenario; second = schedule }
+    record { name = codes "play"; file = scenario; second = schedule; third = None; switched = false; value = None }
 
 -- `audit`
 abbrev pub audited : Text → Text → Told
 audited scenario chronicle =
-    record { name = codes "audit"; file = scenario; second = Some chronicle }
+    record { name = codes "audit"; file = scenario; second = Some chronicle; third = None; switched = false; value = None }
 
-abbrev pub told_of : Task → Told
-told_of (Check file) = one_file (codes "check") (string_bytes file)
-told_of (Assemble file) = one_file (codes "asm") (string_bytes file)
-told_of (Disassemble file) = one_file (codes "dis") (string_bytes file)
-told_of (Book file) = one_file (codes "book") (string_bytes file)
-told_of (Play scenario schedule) =
-    played (option_map string_bytes schedule) (string_bytes scenario)
-told_of (Muster scenario) = one_file (codes "muster") (string_bytes scenario)
-told_of (Audit scenario chronicle) = audited (string_bytes scenario) (string_bytes chronicle)
+-- whom the words of `book` name as traitors, where they ask for an explanation
+abbrev pub named : Bool → Option Text → Option (List ℕ)
+named switched (Some word) = generals_in word
+named true None = Some []
+named false None = None
 
--- the fact holds of `clap`'s error, where the words were refused
+abbrev pub is_raw : Spelling → Bool
+is_raw Hex = false
+is_raw Raw = true
+
+-- the words of an explanation: the option's value names these generals, and without it the switch stands there, and none is named
+abbrev pub IsExplained : Told → Text → List ℕ → Type 0
+IsExplained told file traitors =
+    (told ≡ one_file_with (codes "book") told.switched told.value file)
+    × (named told.switched told.value ≡ Some traitors)
+
+-- the words say this task; of an explanation any words that name the same generals, with the switch or without it
+abbrev pub Says : Told → Task → Type 0
+Says told (Check file) = told ≡ one_file (codes "check") (string_bytes file)
+Says told (CheckAssembly file) = told ≡ one_file_with (codes "check") true None (string_bytes file)
+Says told (Assemble file spelling target) =
+    told ≡ one_file_with (codes "asm") (is_raw spelling) (option_map string_bytes target) (string_bytes file)
+Says told (Disassemble file) = told ≡ one_file (codes "dis") (string_bytes file)
+Says told (DisassembleUnits file) = told ≡ one_file_with (codes "dis") true None (string_bytes file)
+Says told (Book file) = told ≡ one_file (codes "book") (string_bytes file)
+Says told (Explain file traitors) = IsExplained told (string_bytes file) traitors.items
+Says told (Form n m c) = told ≡ formed (string_bytes n) (string_bytes m) (string_bytes c)
+Says told (Play scenario schedule) =
+    told ≡ played (option_map string_bytes schedule) (string_bytes scenario)
+Says told (Muster scenario) = told ≡ one_file (codes "muster") (string_bytes scenario)
+Says told (Audit scenario chronicle) = told ≡ audited (string_bytes scenario) (string_bytes chronicle)
+
+-- the names of the task's files: of its only or first, of the second, and of the one that it writes
+abbrev pub file_of : Task → Option Text
+file_of (Check file) = Some (string_bytes file)
+file_of (CheckAssembly file) = Some (string_bytes file)
+file_of (Assemble file spelling target) = Some (string_bytes file)
+file_of (Disassemble file) = Some (string_bytes file)
+file_of (DisassembleUnits file) = Some (string_bytes file)
+file_of (Book file) = Some (string_bytes file)
+file_of (Explain file traitors) = Some (string_bytes file)
+file_of (Form n m c) = None
+file_of (Play scenario schedule) = Some (string_bytes scenario)
+file_of (Muster scenario) = Some (string_bytes scenario)
+file_of (Audit scenario chronicle) = Some (string_bytes scenario)
+
+abbrev pub second_of : Task → Option Text
+second_of (Play scenario schedule) = option_map string_bytes schedule
+second_of (Audit scenario chronicle) = Some (string_bytes chronicle)
+second_of _ = None
+
+abbrev pub target_of : Task → Option Text
+target_of (Assemble file spelling target) = option_map string_bytes target
+target_of _ = None
+
+-- the words of `book` whose option names no generals: the error has the word
+abbrev pub IsRefusedWord : Told → TaskError → Type 0
+IsRefusedWord told (Words error) = ⊥
+IsRefusedWord told (Traitors word) =
+    (told.name ≡ codes "book") × (told.value ≡ Some (string_bytes word)) × (generals_in (string_bytes word) ≡ None)
+IsRefusedWord told Memory = ⊤
+
+-- the fact holds of `clap`'s error, where it refused the words
 abbrev pub IfWords : TaskError → (Error → Type 0) → Type 0
 IfWords (Words error) P = P error
+IfWords (Traitors word) P = ⊤
 IfWords Memory P = ⊤
+
+-- the fact holds where the word behind `--traitors` was refused
+abbrev pub IfTraitors : TaskError → Type 0 → Type 0
+IfTraitors (Traitors word) P = P
+IfTraitors _ P = ⊤
+
+-- the words are refused, and not for want of memory
+abbrev pub IfRefused : TaskError → Type 0 → Type 0
+IfRefused Memory P = ⊤
+IfRefused _ P = P

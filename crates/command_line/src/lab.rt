@@ -1,9 +1,9 @@
 ghost use Rattle.std.specs.Prelude.{◌≡◌, IfOk, false};
 ghost use Rattle.clap.specs.Words.{app_of, rule_of};
 ghost use Rattle.clap.specs.declared.builder.command.Command.TheViews.{out-Command};
-ghost use Rattle.command_line.specs.Lab.{audit_app, bare_app, files_app, lab_app, play_app, required_rule, schedule_rule, with_audit_command, with_file_command, with_play_command};
+ghost use Rattle.command_line.specs.Lab.{asm_app, audit_app, bare_app, book_app, check_app, dis_app, files_app, lab_app, play_app, programs_app, required_rule, schedule_rule, switch_rule, table_app, target_rule, traitors_rule, with_audit_command, with_file_command, with_play_command};
 
-use clap::{Arg, Command};
+use clap::{Arg, ArgAction, Command};
 use std::alloc::{AllocError, Global};
 
 /// What `--version` says: the version, and the line of the toolchain that proves this one (`rt version`).
@@ -34,17 +34,105 @@ pub(crate) fn lab_command<'a>(alloc: Global) -> Result<Command<'a>, AllocError>
 fn files_command<'a>(alloc: Global) -> Result<Command<'a>, AllocError>
     ensures { IfOk result (λ c. app_of c ≡ files_app) }
 {
-    let lab = bare_command(alloc)?;
-    let check = "Verifies raw bytecode and runs it";
-    let lab = with_file_command(alloc, lab, "check", check, "FILE", BYTECODE)?;
-    let asm = "Translates assembly into bytecode in hex";
-    let lab = with_file_command(alloc, lab, "asm", asm, "FILE", ASSEMBLY)?;
-    let dis = "Translates raw bytecode into assembly";
-    let lab = with_file_command(alloc, lab, "dis", dis, "FILE", BYTECODE)?;
-    let book = "Computes the decisions of a message table";
-    let lab = with_file_command(alloc, lab, "book", book, "FILE", TABLE)?;
+    let lab = programs_command(alloc)?;
+    let lab = lab.subcommand(book_command(alloc)?)?;
+    let lab = lab.subcommand(table_command(alloc)?)?;
     let muster = "Runs a campaign with a thread for each general and prints its chronicle";
     with_file_command(alloc, lab, "muster", muster, "SCENARIO", SCENARIO)
+}
+
+/// The program with the subcommands of programs.
+fn programs_command<'a>(alloc: Global) -> Result<Command<'a>, AllocError>
+    ensures { IfOk result (λ c. app_of c ≡ programs_app) }
+{
+    bare_command(alloc)?
+        .subcommand(check_command(alloc)?)?
+        .subcommand(asm_command(alloc)?)?
+        .subcommand(dis_command(alloc)?)
+}
+
+/// The subcommand `check`.
+fn check_command<'a>(alloc: Global) -> Result<Command<'a>, AllocError>
+    ensures app { IfOk result (λ c. app_of c ≡ check_app) }
+    ensures local { IfOk result (λ c. (out-Command c).has_globals ≡ false) }
+{
+    let file = required_argument(alloc, "file", "FILE", BYTECODE);
+    let asm = switch_argument(alloc, "asm", "FILE is assembly text");
+    Command::new(alloc, "check")
+        .about("Verifies raw bytecode and runs it")
+        .arg(file)?
+        .arg(asm)
+}
+
+/// The subcommand `asm`.
+fn asm_command<'a>(alloc: Global) -> Result<Command<'a>, AllocError>
+    ensures app { IfOk result (λ c. app_of c ≡ asm_app) }
+    ensures local { IfOk result (λ c. (out-Command c).has_globals ≡ false) }
+{
+    let file = required_argument(alloc, "file", "FILE", ASSEMBLY);
+    let raw = switch_argument(alloc, "raw", "Writes the bytes themselves");
+    Command::new(alloc, "asm")
+        .about("Translates assembly into bytecode in hex")
+        .arg(file)?
+        .arg(raw)?
+        .arg(target_argument(alloc))
+}
+
+/// The subcommand `dis`.
+fn dis_command<'a>(alloc: Global) -> Result<Command<'a>, AllocError>
+    ensures app { IfOk result (λ c. app_of c ≡ dis_app) }
+    ensures local { IfOk result (λ c. (out-Command c).has_globals ≡ false) }
+{
+    let file = required_argument(alloc, "file", "FILE", BYTECODE);
+    let units = switch_argument(alloc, "units", "Prints the unit before each instruction");
+    Command::new(alloc, "dis")
+        .about("Translates raw bytecode into assembly")
+        .arg(file)?
+        .arg(units)
+}
+
+/// The subcommand `book`.
+fn book_command<'a>(alloc: Global) -> Result<Command<'a>, AllocError>
+    ensures app { IfOk result (λ c. app_of c ≡ book_app) }
+    ensures local { IfOk result (λ c. (out-Command c).has_globals ≡ false) }
+{
+    let file = required_argument(alloc, "file", "FILE", TABLE);
+    let explain = switch_argument(alloc, "explain", "Tells how each decision comes about");
+    Command::new(alloc, "book")
+        .about("Computes the decisions of a message table")
+        .arg(file)?
+        .arg(explain)?
+        .arg(traitors_argument(alloc))
+}
+
+/// The subcommand `table`.
+fn table_command<'a>(alloc: Global) -> Result<Command<'a>, AllocError>
+    ensures app { IfOk result (λ c. app_of c ≡ table_app) }
+    ensures local { IfOk result (λ c. (out-Command c).has_globals ≡ false) }
+{
+    let generals = required_argument(
+        alloc,
+        "file",
+        "GENERALS",
+        "How many generals there are, 2 to 13",
+    );
+    let bound = required_argument(
+        alloc,
+        "second",
+        "BOUND",
+        "The greatest number of traitors, 0 to 4",
+    );
+    let commander = required_argument(
+        alloc,
+        "third",
+        "COMMANDER",
+        "The commander's number, from 0",
+    );
+    Command::new(alloc, "table")
+        .about("Prints a message table to fill in")
+        .arg(generals)?
+        .arg(bound)?
+        .arg(commander)
 }
 
 /// The program without its subcommands.
@@ -52,7 +140,9 @@ fn bare_command<'a>(alloc: Global) -> Result<Command<'a>, AllocError>
     ensures { IfOk result (λ c. app_of c ≡ bare_app) }
 {
     Command::new(alloc, "byzlab")
-        .about("A laboratory for the Byzantine generals problem")
+        .about(
+            "A laboratory for the Byzantine generals problem; a hyphen as a file is standard input",
+        )
         .version(VERSION)
         .no_binary_name(true)
         .subcommand_required(true)
@@ -83,6 +173,39 @@ fn required_argument<'a>(alloc: Global, id: &'a str, name: &'a str, help: &'a st
         .value_name(name)
         .required(true)
         .help(help)
+}
+
+/// A switch of this name.
+fn switch_argument<'a>(alloc: Global, name: &'a str, help: &'a str) -> Arg<'a>
+    ensures rule { rule_of result ≡ switch_rule name.entry.now }
+    ensures local { result.global ≡ false }
+{
+    Arg::new(alloc, "switch")
+        .long(name)
+        .action(ArgAction::SetTrue)
+        .help(help)
+}
+
+/// The option of the generals that are named as traitors.
+fn traitors_argument<'a>(alloc: Global) -> Arg<'a>
+    ensures rule { rule_of result ≡ traitors_rule }
+    ensures local { result.global ≡ false }
+{
+    Arg::new(alloc, "value")
+        .long("traitors")
+        .value_name("G,H")
+        .help("Tells it with these generals named as traitors")
+}
+
+/// The option of a file to write.
+fn target_argument<'a>(alloc: Global) -> Arg<'a>
+    ensures rule { rule_of result ≡ target_rule }
+    ensures local { result.global ≡ false }
+{
+    Arg::new(alloc, "value")
+        .short('o')
+        .value_name("FILE")
+        .help("Writes to this file, once all is translated")
 }
 
 /// The option of a schedule.

@@ -1,12 +1,15 @@
-ghost use Rattle.std.specs.Prelude.{◌≡◌, IfOk, IsSome, Some, option_map, true};
+ghost use Rattle.std.specs.Prelude.{◌≡◌, IfOk, IfErr, IsSome, None, Some, codes, false, option_map, true};
+ghost use Rattle.std.specs.Option.{option_map_or};
+ghost use Rattle.std.specs.Str.{bytes_eq};
 ghost use Rattle.std.specs.String.{string_bytes};
 ghost use Rattle.clap.specs.Words.{subcommand_rows_of};
-ghost use Rattle.command_line.specs.Asked.{is_task};
+ghost use Rattle.command_line.specs.Asked.{is_named, is_task};
 ghost use Rattle.command_line.specs.Lab.{task_met};
 ghost use Rattle.command_line.specs.Met.{told_by};
-ghost use Rattle.command_line.specs.Told.{told_of};
+ghost use Rattle.command_line.specs.Told.{IsRefusedWord, Says, is_raw};
 
-use crate::tasks::Task;
+use crate::generals::{GeneralsError, generals};
+use crate::tasks::{Spelling, Task, TaskError};
 use clap::ArgMatches;
 use std::alloc::{AllocError, Global};
 
@@ -15,8 +18,14 @@ use std::alloc::{AllocError, Global};
 pub(crate) struct Met<'a> {
     name: &'a str,
     file: &'a str,
-    /// The second file, where there is one.
+    /// The second file or number, where there is one.
     second: Option<&'a str>,
+    /// The third number, where there is one.
+    third: Option<&'a str>,
+    /// Whether the subcommand's switch stands in the words.
+    switched: bool,
+    /// The value of its option.
+    value: Option<&'a str>,
 }
 
 impl<'a> Met<'a> {
@@ -31,38 +40,106 @@ impl<'a> Met<'a> {
         let Some(file) = found.get_str("file") else {
             unreachable!();
         };
-        let second = found.get_str("second");
-        Met { name, file, second }
+        Met {
+            name,
+            file,
+            second: found.get_str("second"),
+            third: found.get_str("third"),
+            switched: is_true(found.get_str("switch")),
+            value: found.get_str("value"),
+        }
     }
 
     /// The task of the subcommand.
-    pub(crate) fn task(self, alloc: Global) -> Result<Task, AllocError>
+    pub(crate) fn task(self, alloc: Global) -> Result<Task, TaskError>
         requires { is_task (told_by self) ≡ true }
-        ensures { IfOk result (λ task. told_of task ≡ told_by self.entry) }
+        ensures task { IfOk result (Says (told_by self.entry)) }
+        ensures refused { IfErr result (IsRefusedWord (told_by self.entry)) }
     {
         let file = String::from_str(alloc, self.file)?;
         Ok(match self.name {
+            "check" if self.switched => Task::CheckAssembly(file),
             "check" => Task::Check(file),
-            "asm" => Task::Assemble(file),
+            "asm" => Task::Assemble {
+                text: file,
+                spelling: spelling(self.switched),
+                target: copied(alloc, self.value)?,
+            },
+            "dis" if self.switched => Task::DisassembleUnits(file),
             "dis" => Task::Disassemble(file),
-            "book" => Task::Book(file),
+            "book" => return self.book(alloc, file),
+            "table" => Task::Form {
+                generals: file,
+                bound: required(alloc, self.second)?,
+                commander: required(alloc, self.third)?,
+            },
             "play" => Task::Play {
                 scenario: file,
                 schedule: copied(alloc, self.second)?,
             },
             "muster" => Task::Muster(file),
-            "audit" => {
-                let Some(chronicle) = self.second else {
-                    unreachable!();
-                };
-                Task::Audit {
-                    scenario: file,
-                    chronicle: String::from_str(alloc, chronicle)?,
-                }
-            }
+            "audit" => Task::Audit {
+                scenario: file,
+                chronicle: required(alloc, self.second)?,
+            },
             _ => unreachable!(),
         })
     }
+
+    /// The task of `book` on the table of this file: an explanation where its switch or its option is there.
+    fn book(self, alloc: Global, table: String) -> Result<Task, TaskError>
+        requires name { is_named (codes "book") self.name.now ≡ true }
+        requires file { string_bytes table ≡ self.file.now }
+        requires alone { (self.second ≡ None) × (self.third ≡ None) }
+        ensures task { IfOk result (Says (told_by self.entry)) }
+        ensures refused { IfErr result (IsRefusedWord (told_by self.entry)) }
+    {
+        let Some(word) = self.value else {
+            if !self.switched {
+                return Ok(Task::Book(table));
+            }
+            return Ok(Task::Explain {
+                table,
+                traitors: Vec::new(alloc),
+            });
+        };
+        match generals(alloc, word) {
+            Ok(traitors) => Ok(Task::Explain { table, traitors }),
+            Err(GeneralsError::NoGeneral) => {
+                Err(TaskError::Traitors(String::from_str(alloc, word)?))
+            }
+            Err(GeneralsError::Memory) => Err(TaskError::Memory),
+        }
+    }
+}
+
+/// Whether a switch that is read so stands in the words.
+fn is_true(text: Option<&str>) -> bool
+    ensures { result ≡ option_map_or (λ t. bytes_eq (codes "true") t.now) text.entry false }
+{
+    text == Some("true")
+}
+
+/// How bytecode is written with the switch, and without it.
+fn spelling(switched: bool) -> Spelling
+    ensures { is_raw result ≡ switched }
+{
+    if switched {
+        Spelling::Raw
+    } else {
+        Spelling::Hex
+    }
+}
+
+/// A text of its own.
+fn required(alloc: Global, text: Option<&str>) -> Result<String, AllocError>
+    requires { IsSome text }
+    ensures { IfOk result (λ own. Some (string_bytes own) ≡ option_map (λ t. t.now) text.entry) }
+{
+    let Some(text) = text else {
+        unreachable!();
+    };
+    String::from_str(alloc, text)
 }
 
 /// A text of its own for what may be there.

@@ -1,8 +1,8 @@
-ghost use Rattle.std.specs.Prelude.{◌≡◌, ◌≢◌, IfOk, IfErr, Some, None};
+ghost use Rattle.std.specs.Prelude.{◌≡◌, ◌≢◌, IfOk, IfErr, IsSomeAnd, None};
 ghost use Rattle.clap.specs.Words.{IsAmong, fault_of, kind_of};
-ghost use Rattle.command_line.specs.Asked.{asked, words_of};
+ghost use Rattle.command_line.specs.Asked.{asked, spelt, words_of};
 ghost use Rattle.command_line.specs.Lab.{lab_app};
-ghost use Rattle.command_line.specs.Told.{IfWords, told_of};
+ghost use Rattle.command_line.specs.Told.{IfRefused, IfTraitors, IfWords, IsRefusedWord, Says};
 
 use crate::lab::lab_command;
 use crate::met::Met;
@@ -12,19 +12,20 @@ use std::alloc::Global;
 
 /// Reads the words behind the program's name.
 pub fn task(alloc: Global, words: &[&str]) -> Result<Task, TaskError>
-    ensures found { IfOk result (λ task. asked (words_of words.now) ≡ Some (told_of task)) }
-    ensures refused { IfErr result (λ error. IfWords error (λ _.
-        asked (words_of words.now) ≡ None)) }
+    ensures found { IfOk result (λ task. IsSomeAnd (asked (words_of words.now)) (λ told. Says told task)) }
+    ensures refused { IfErr result (λ error. IfRefused error (asked (words_of words.now) ≡ None)) }
 
     // Which kind of error it is, and so its exit status.
     ensures kind { IfErr result (λ error. IfWords error (λ refusal.
         IsAmong (kind_of refusal) (fault_of lab_app (words_of words.now)))) }
     ensures not_memory { IfErr result (λ error. IfWords error (λ refusal.
         kind_of refusal ≢ ErrorKind.OutOfMemory)) }
+    ensures traitors { IfErr result (λ error. IfTraitors error
+        (IsSomeAnd (spelt (words_of words.now)) (λ told. IsRefusedWord told error))) }
 {
     let lab = lab_command(alloc)?;
     match lab.try_get_matches_from(words) {
-        Ok(matches) => Ok(Met::of(&matches).task(alloc)?),
+        Ok(matches) => Met::of(&matches).task(alloc),
         Err(error) => {
             if error.kind() == ErrorKind::OutOfMemory {
                 return Err(TaskError::Memory);

@@ -1,17 +1,36 @@
 use clap::Error;
 use std::alloc::AllocError;
 
-/// What the words ask for: a subcommand with the names of its files.
+/// What the words ask for: a subcommand with the names of its files, and what its flags say.
 #[derive(Debug, Drop, PartialEq, Eq)]
 pub enum Task {
     /// Decode, verify and run raw bytecode.
     Check(String),
-    /// Translate assembly into bytecode.
-    Assemble(String),
+    /// Translate assembly, and verify and run what it says.
+    CheckAssembly(String),
+    /// Translate assembly into bytecode, and write it in this spelling to another file where one is named.
+    Assemble {
+        text: String,
+        spelling: Spelling,
+        target: Option<String>,
+    },
     /// Translate raw bytecode into assembly.
     Disassemble(String),
+    /// The same, with the unit before each instruction.
+    DisassembleUnits(String),
     /// Compute the decisions of a message table.
     Book(String),
+    /// Tell how they come about, where these generals are named as traitors.
+    Explain {
+        table: String,
+        traitors: Vec<u8>,
+    },
+    /// Print a message table to fill in, for these numbers of a campaign.
+    Form {
+        generals: String,
+        bound: String,
+        commander: String,
+    },
     /// Play a campaign, by the schedule of a second file where one is named.
     Play {
         scenario: String,
@@ -26,31 +45,55 @@ pub enum Task {
     },
 }
 
+/// How bytecode is written.
+#[derive(Clone, Copy, Debug, PartialEq, Eq)]
+pub enum Spelling {
+    /// In hex, on a line.
+    Hex,
+    /// As its bytes.
+    Raw,
+}
+
 impl Task {
     ghost use Rattle.std.specs.Prelude.{◌≡◌, option_map};
-    ghost use Rattle.command_line.specs.Told.{told_of};
+    ghost use Rattle.command_line.specs.Told.{file_of, second_of, target_of};
 
-    /// The name of the only file, or of the first.
-    pub fn file(&self) -> &str
-        ensures { result.now ≡ (told_of self.now).file }
+    /// The name of the only file, or of the first; none where the task reads no file.
+    pub fn file(&self) -> Option<&str>
+        ensures { option_map (λ file. file.now) result ≡ file_of self.now }
     {
         match self {
             Task::Check(file)
-            | Task::Assemble(file)
+            | Task::CheckAssembly(file)
+            | Task::Assemble { text: file, .. }
             | Task::Disassemble(file)
+            | Task::DisassembleUnits(file)
             | Task::Book(file)
-            | Task::Muster(file) => file.as_str(),
-            Task::Play { scenario, .. } | Task::Audit { scenario, .. } => scenario.as_str(),
+            | Task::Explain { table: file, .. }
+            | Task::Play { scenario: file, .. }
+            | Task::Muster(file)
+            | Task::Audit { scenario: file, .. } => Some(file.as_str()),
+            Task::Form { .. } => None,
         }
     }
 
     /// The name of the second file, where there is one.
     pub fn second(&self) -> Option<&str>
-        ensures { option_map (λ file. file.now) result ≡ (told_of self.now).second }
+        ensures { option_map (λ file. file.now) result ≡ second_of self.now }
     {
         match self {
             Task::Play { schedule, .. } => schedule.as_deref(),
             Task::Audit { chronicle, .. } => Some(chronicle.as_str()),
+            _ => None,
+        }
+    }
+
+    /// The name of the file that the answer is written to, where it is not to be printed.
+    pub fn target(&self) -> Option<&str>
+        ensures { option_map (λ file. file.now) result ≡ target_of self.now }
+    {
+        match self {
+            Task::Assemble { target, .. } => target.as_deref(),
             _ => None,
         }
     }
@@ -62,6 +105,9 @@ pub enum TaskError {
     /// The words were refused, or they ask for help: `clap`'s text and exit status.
     #[error("{0}")]
     Words(Error),
+    /// The word behind `--traitors` names no generals.
+    #[error("error: invalid value {0:?} for '--traitors <G,H>': the numbers of generals, 0 to 12, joined by commas")]
+    Traitors(String),
     /// Want of memory, here or in `clap`.
     #[error("out of memory")]
     Memory,

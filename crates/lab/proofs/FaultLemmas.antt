@@ -9,10 +9,12 @@ use Rattle.lab.specs.declared.refusal.Refusal.{Refusal}
 use Rattle.lab.specs.declared.refusal.Refusal.TheVariants as refusal
 use Rattle.lab.specs.declared.fault.Fault.{Fault}
 use Rattle.lab.specs.declared.fault.Fault.TheVariants.{Read, Text, Refused, Write, Memory}
+use Rattle.lab.specs.declared.seeming.Likeness.{Likeness}
+use Rattle.lab.specs.Seeming.{seems_behind}
 use Rattle.lab.specs.Telling.{refusal_text}
 use Rattle.lab.specs.Faults.{fault_text, status_of, Explains, Prevents, Stops}
 use Rattle.lab.specs.Names.{shown}
-use Rattle.lab.specs.Serving.{Files, IsFault, IsRefused, IsRefusedLater, IsTaken, IsTurnedDown, Tells, TellsName, TellsRefusal, first_name, second_name}
+use Rattle.lab.specs.Serving.{Files, IsFault, IsRefused, IsRefusedLater, IsTaken, IsTurnedDown, NoLikeness, Tells, TellsName, TellsRefusal, first_name, second_name}
 
 -- a write that failed, or what it wrote
 pub written : {E : Type 0} (r : Result (Unit {0}) E) (P Q : Type 0) → OnOk r P → OnErr r Q → Q ⊎ P
@@ -20,16 +22,17 @@ written (Ok x) P Q p q = inr p
 written (Err e) P Q p q = inl q
 
 -- what is said of a refusal
-refusal_told : (name : List ℕ) (tells : List ℕ → Type 0) (cause : Refusal) → cause ≢ refusal.NotText → tells (codes "refused " ++ refusal_text cause) → TellsRefusal name tells cause
-refusal_told name tells (refusal.Codec error) other told = told
-refusal_told name tells (refusal.Verifier fault) other told = told
-refusal_told name tells (refusal.Assembly error) other told = told
-refusal_told name tells (refusal.Table error) other told = told
-refusal_told name tells (refusal.Scenario error) other told = told
-refusal_told name tells (refusal.Trace error) other told = told
-refusal_told name tells (refusal.Threads error) other told = told
-refusal_told name tells refusal.NotText other told = absurd (other refl)
-refusal_told name tells refusal.Memory other told = told
+refusal_told : (name : List ℕ) (tells : List ℕ → Type 0) (cause : Refusal) (likeness : Option Likeness) → cause ≢ refusal.NotText
+    → tells (codes "refused " ++ refusal_text cause ++ seems_behind likeness) → TellsRefusal name tells cause likeness
+refusal_told name tells (refusal.Codec error) likeness other told = told
+refusal_told name tells (refusal.Verifier fault) likeness other told = told
+refusal_told name tells (refusal.Assembly error) likeness other told = told
+refusal_told name tells (refusal.Table error) likeness other told = told
+refusal_told name tells (refusal.Scenario error) likeness other told = told
+refusal_told name tells (refusal.Trace error) likeness other told = told
+refusal_told name tells (refusal.Threads error) likeness other told = told
+refusal_told name tells refusal.NotText likeness other told = absurd (other refl)
+refusal_told name tells refusal.Memory likeness other told = told
 
 -- the line of some words and a name, where it is known how the name is told
 named_line : (fails : Type 0) (old new : Option (List ℕ)) (words : List ℕ) (told : Option (List ℕ))
@@ -38,7 +41,7 @@ named_line fails old new words None line = tt
 named_line fails old new words (Some name) line = line
 
 -- a file that stops a task, but for want of memory
-turned_down : (unread : Type 0) (refused : Refusal → Type 0) (name : List ℕ) (fails : Type 0) (old new : Option (List ℕ)) (fault : Fault)
+turned_down : (unread : Type 0) (refused : Refusal → Option Likeness → Type 0) (name : List ℕ) (fails : Type 0) (old new : Option (List ℕ)) (fault : Fault)
     → Stops unread refused name fault → fails ⊎ IfSome (with_newline (fault_text fault)) (Appends old new) → status_of fault ≡ 1
     → IsTurnedDown unread refused name (Tells fails old new)
 turned_down unread refused name fails old new (Read file) why told one =
@@ -46,9 +49,9 @@ turned_down unread refused name fails old new (Read file) why told one =
     inl (why.0, subst P why.1 (named_line fails old new (codes "fault read ") (shown file.now) told))
 turned_down unread refused name fails old new (Text file) why told one =
     let P : List ℕ → Type 0 = λ own. TellsName (Tells fails old new) (codes "fault text ") own in
-    inr (refusal.NotText, why.0, subst P why.1 (named_line fails old new (codes "fault text ") (shown file.now) told))
-turned_down unread refused name fails old new (Refused cause) why told one =
-    inr (cause, why.1, refusal_told name (Tells fails old new) cause why.0 told)
+    inr (refusal.NotText, (None, why.0, subst P why.1 (named_line fails old new (codes "fault text ") (shown file.now) told)))
+turned_down unread refused name fails old new (Refused cause likeness) why told one =
+    inr (cause, (likeness, why.1, refusal_told name (Tells fails old new) cause likeness why.0 told))
 turned_down unread refused name fails old new Write why told one = absurd why
 turned_down unread refused name fails old new Memory why told one =
     let no : ⊥ = omega (arith, one) in absurd no
@@ -57,11 +60,11 @@ turned_down unread refused name fails old new Memory why told one =
 prevented : (unread second_unread fails : Type 0) (task : Task) (files : Files) (old new : Option (List ℕ)) (fault : Fault)
     → Prevents unread second_unread task files fault → fails ⊎ IfSome (with_newline (fault_text fault)) (Appends old new) → status_of fault ≡ 1
     → IsTurnedDown unread (IsRefused task files.first) (first_name task) (Tells fails old new)
-    ⊎ ((s : Scenario) × IsTaken task files.first s × IsTurnedDown second_unread (IsRefusedLater task s files.second) (second_name task) (Tells fails old new))
+    ⊎ ((s : Scenario) × IsTaken task files.first s × IsTurnedDown second_unread (NoLikeness (IsRefusedLater task s files.second)) (second_name task) (Tells fails old new))
 prevented unread second_unread fails task files old new fault (inl why) told one =
     inl (turned_down unread (IsRefused task files.first) (first_name task) fails old new fault why told one)
 prevented unread second_unread fails task files old new fault (inr (s, taken, why)) told one =
-    inr (s, taken, turned_down second_unread (IsRefusedLater task s files.second) (second_name task) fails old new fault why told one)
+    inr (s, taken, turned_down second_unread (NoLikeness (IsRefusedLater task s files.second)) (second_name task) fails old new fault why told one)
 
 -- each fault but want of memory
 pub fault_ends : (unread second_unread unwritten fails : Type 0) (task : Task) (files : Files) (old new : Option (List ℕ)) (kept : Type 0) (fault : Fault)
@@ -73,7 +76,7 @@ fault_ends unread second_unread unwritten fails task files old new kept (Read fi
     inl (same (λ e. cc), prevented unread second_unread fails task files old new (Read file) why told one)
 fault_ends unread second_unread unwritten fails task files old new kept (Text file) why same told one =
     inl (same (λ e. cc), prevented unread second_unread fails task files old new (Text file) why told one)
-fault_ends unread second_unread unwritten fails task files old new kept (Refused cause) why same told one =
-    inl (same (λ e. cc), prevented unread second_unread fails task files old new (Refused cause) why told one)
+fault_ends unread second_unread unwritten fails task files old new kept (Refused cause likeness) why same told one =
+    inl (same (λ e. cc), prevented unread second_unread fails task files old new (Refused cause likeness) why told one)
 fault_ends unread second_unread unwritten fails task files old new kept Memory why same told one =
     let no : ⊥ = omega (arith, one) in absurd no

@@ -2,16 +2,16 @@
 use Rattle.std.proofs.Common.{ℕ, ◌≡◌, ◌∙◌, List, [], ap, inr, refl, subst, sym}
 use Rattle.std.specs.Borrow.{Bor}
 use Rattle.std.specs.Prelude.{Option, None, Some, Ok, option_map, unwrap_or}
-use Rattle.command_line.specs.Told.{told_of}
+use Rattle.command_line.specs.Told.{file_of, second_of}
 use Rattle.command_line.specs.declared.tasks.Task.{Task}
-use Rattle.command_line.specs.declared.tasks.Task.TheVariants.{Check, Assemble, Disassemble, Book, Play, Muster, Audit}
+use Rattle.command_line.specs.declared.tasks.Task.TheVariants.{Check, CheckAssembly, Assemble, Disassemble, DisassembleUnits, Book, Explain, Form, Play, Muster, Audit}
 use Rattle.round.specs.Scenario.{Scenario}
 use Rattle.world.specs.declared.schedule.Repeat.{Repeat}
 use Rattle.trace.specs.Schedules.{schedule_told}
 use Rattle.lab.specs.Answers.{ComesTo, GoesOn, Prints}
 use Rattle.lab.specs.Campaigns.{IsAudited, IsMustered}
 use Rattle.lab.specs.Faults.{Prevents, Stops}
-use Rattle.lab.specs.Serving.{AreBytes, AreSecond, AreSecondBytes, Files, IsAnswer, IsAuditOf, IsChronicleRefused, IsPlayedBy, IsRefusedLater, IsScheduleOf, IsScheduleRefused, second_name}
+use Rattle.lab.specs.Serving.{AreBytes, AreSecond, AreSecondBytes, Files, IsAnswer, IsAuditOf, IsChronicleRefused, IsPlayedBy, IsRefusedLater, IsScheduleOf, IsScheduleRefused, NoLikeness, first_name, second_name}
 use Rattle.lab.specs.declared.fault.Fault.{Fault}
 use Rattle.lab.specs.declared.outcome.Outcome.TheVariants as outcome
 
@@ -42,9 +42,13 @@ second_bytes (Some known) bytes are = (Some bytes, are, refl)
 pub answered_played : (task : Task) (files : Files) (first text : List ℕ) (s : Scenario) → AreBytes files.first first
     → ComesTo task first (outcome.Play s) → IsPlayedBy files.second s text → IsAnswer task files text
 answered_played (Check file) files first text s are comes by = absurd comes
-answered_played (Assemble file) files first text s are comes by = absurd comes
+answered_played (CheckAssembly file) files first text s are comes by = absurd comes
+answered_played (Assemble file spelling target) files first text s are comes by = absurd comes
 answered_played (Disassemble file) files first text s are comes by = absurd comes
+answered_played (DisassembleUnits file) files first text s are comes by = absurd comes
 answered_played (Book file) files first text s are comes by = absurd comes
+answered_played (Explain file traitors) files first text s are comes by = absurd comes
+answered_played (Form n m c) files first text s are comes by = absurd comes
 answered_played (Play scenario listing) files first text s are comes (schedule, told, played) =
     (first, are, (told.0, told.1, (s, comes, (schedule, told.2, played))))
 answered_played (Muster scenario) files first text s are comes by = absurd comes
@@ -54,9 +58,13 @@ answered_played (Audit scenario chronicle) files first text s are comes by = abs
 pub answered_mustered : (task : Task) (files : Files) (first text : List ℕ) (s : Scenario) → AreBytes files.first first
     → ComesTo task first (outcome.Muster s) → IsMustered s text → IsAnswer task files text
 answered_mustered (Check file) files first text s are comes mustered = absurd comes
-answered_mustered (Assemble file) files first text s are comes mustered = absurd comes
+answered_mustered (CheckAssembly file) files first text s are comes mustered = absurd comes
+answered_mustered (Assemble file spelling target) files first text s are comes mustered = absurd comes
 answered_mustered (Disassemble file) files first text s are comes mustered = absurd comes
+answered_mustered (DisassembleUnits file) files first text s are comes mustered = absurd comes
 answered_mustered (Book file) files first text s are comes mustered = absurd comes
+answered_mustered (Explain file traitors) files first text s are comes mustered = absurd comes
+answered_mustered (Form n m c) files first text s are comes mustered = absurd comes
 answered_mustered (Play scenario listing) files first text s are comes mustered = absurd comes
 answered_mustered (Muster scenario) files first text s are comes mustered =
     let some = some_second files.second in (first, are, (some.0, some.1, (s, comes, mustered)))
@@ -66,9 +74,13 @@ answered_mustered (Audit scenario chronicle) files first text s are comes muster
 pub answered_audited : (task : Task) (files : Files) (first text : List ℕ) (s : Scenario) → AreBytes files.first first
     → ComesTo task first (outcome.Audit s) → IsAuditOf files.second s text → IsAnswer task files text
 answered_audited (Check file) files first text s are comes audit = absurd comes
-answered_audited (Assemble file) files first text s are comes audit = absurd comes
+answered_audited (CheckAssembly file) files first text s are comes audit = absurd comes
+answered_audited (Assemble file spelling target) files first text s are comes audit = absurd comes
 answered_audited (Disassemble file) files first text s are comes audit = absurd comes
+answered_audited (DisassembleUnits file) files first text s are comes audit = absurd comes
 answered_audited (Book file) files first text s are comes audit = absurd comes
+answered_audited (Explain file traitors) files first text s are comes audit = absurd comes
+answered_audited (Form n m c) files first text s are comes audit = absurd comes
 answered_audited (Play scenario listing) files first text s are comes audit = absurd comes
 answered_audited (Muster scenario) files first text s are comes audit = absurd comes
 answered_audited (Audit scenario chronicle) files first text s are comes (bytes, known, audited) =
@@ -77,23 +89,31 @@ answered_audited (Audit scenario chronicle) files first text s are comes (bytes,
 
 -- what stops a task behind its first file: its schedule, the threads, or the chronicle
 stopped_playing : (task : Task) (unread : Type 0) (first name : List ℕ) (s : Scenario) (known : Option (Option (List ℕ))) (fault : Fault)
-    → ComesTo task first (outcome.Play s) → Stops unread (IsScheduleRefused known) name fault
-    → GoesOn task first s × Stops unread (IsRefusedLater task s known) name fault
+    → ComesTo task first (outcome.Play s) → Stops unread (NoLikeness (IsScheduleRefused known)) name fault
+    → GoesOn task first s × Stops unread (NoLikeness (IsRefusedLater task s known)) name fault
 stopped_playing (Check file) unread first name s known fault comes why = absurd comes
-stopped_playing (Assemble file) unread first name s known fault comes why = absurd comes
+stopped_playing (CheckAssembly file) unread first name s known fault comes why = absurd comes
+stopped_playing (Assemble file spelling target) unread first name s known fault comes why = absurd comes
 stopped_playing (Disassemble file) unread first name s known fault comes why = absurd comes
+stopped_playing (DisassembleUnits file) unread first name s known fault comes why = absurd comes
 stopped_playing (Book file) unread first name s known fault comes why = absurd comes
+stopped_playing (Explain file traitors) unread first name s known fault comes why = absurd comes
+stopped_playing (Form n m c) unread first name s known fault comes why = absurd comes
 stopped_playing (Play scenario listing) unread first name s known fault comes why = (comes, why)
 stopped_playing (Muster scenario) unread first name s known fault comes why = absurd comes
 stopped_playing (Audit scenario chronicle) unread first name s known fault comes why = absurd comes
 
 stopped_auditing : (task : Task) (unread : Type 0) (first name : List ℕ) (s : Scenario) (known : Option (Option (List ℕ))) (fault : Fault)
-    → ComesTo task first (outcome.Audit s) → Stops unread (IsChronicleRefused s known) name fault
-    → GoesOn task first s × Stops unread (IsRefusedLater task s known) name fault
+    → ComesTo task first (outcome.Audit s) → Stops unread (NoLikeness (IsChronicleRefused s known)) name fault
+    → GoesOn task first s × Stops unread (NoLikeness (IsRefusedLater task s known)) name fault
 stopped_auditing (Check file) unread first name s known fault comes why = absurd comes
-stopped_auditing (Assemble file) unread first name s known fault comes why = absurd comes
+stopped_auditing (CheckAssembly file) unread first name s known fault comes why = absurd comes
+stopped_auditing (Assemble file spelling target) unread first name s known fault comes why = absurd comes
 stopped_auditing (Disassemble file) unread first name s known fault comes why = absurd comes
+stopped_auditing (DisassembleUnits file) unread first name s known fault comes why = absurd comes
 stopped_auditing (Book file) unread first name s known fault comes why = absurd comes
+stopped_auditing (Explain file traitors) unread first name s known fault comes why = absurd comes
+stopped_auditing (Form n m c) unread first name s known fault comes why = absurd comes
 stopped_auditing (Play scenario listing) unread first name s known fault comes why = absurd comes
 stopped_auditing (Muster scenario) unread first name s known fault comes why = absurd comes
 stopped_auditing (Audit scenario chronicle) unread first name s known fault comes why = (comes, why)
@@ -101,19 +121,19 @@ stopped_auditing (Audit scenario chronicle) unread first name s known fault come
 -- why it has no answer then
 pub prevented_playing : (task : Task) (files : Files) (unread second_unread : Type 0) (first name : List ℕ) (s : Scenario) (fault : Fault)
     → AreBytes files.first first → ComesTo task first (outcome.Play s) → name ≡ second_name task
-    → Stops second_unread (IsScheduleRefused files.second) name fault → Prevents unread second_unread task files fault
+    → Stops second_unread (NoLikeness (IsScheduleRefused files.second)) name fault → Prevents unread second_unread task files fault
 prevented_playing task files unread second_unread first name s fault are comes named why =
-    let own : Stops second_unread (IsScheduleRefused files.second) (second_name task) fault =
-    subst (λ (n : List ℕ). Stops second_unread (IsScheduleRefused files.second) n fault) named why in
+    let own : Stops second_unread (NoLikeness (IsScheduleRefused files.second)) (second_name task) fault =
+    subst (λ (n : List ℕ). Stops second_unread (NoLikeness (IsScheduleRefused files.second)) n fault) named why in
     let stopped = stopped_playing task second_unread first (second_name task) s files.second fault comes own in
     inr (s, (first, are, stopped.0), stopped.1)
 
 pub prevented_auditing : (task : Task) (files : Files) (unread second_unread : Type 0) (first name : List ℕ) (s : Scenario) (fault : Fault)
     → AreBytes files.first first → ComesTo task first (outcome.Audit s) → name ≡ second_name task
-    → Stops second_unread (IsChronicleRefused s files.second) name fault → Prevents unread second_unread task files fault
+    → Stops second_unread (NoLikeness (IsChronicleRefused s files.second)) name fault → Prevents unread second_unread task files fault
 prevented_auditing task files unread second_unread first name s fault are comes named why =
-    let own : Stops second_unread (IsChronicleRefused s files.second) (second_name task) fault =
-    subst (λ (n : List ℕ). Stops second_unread (IsChronicleRefused s files.second) n fault) named why in
+    let own : Stops second_unread (NoLikeness (IsChronicleRefused s files.second)) (second_name task) fault =
+    subst (λ (n : List ℕ). Stops second_unread (NoLikeness (IsChronicleRefused s files.second)) n fault) named why in
     let stopped = stopped_auditing task second_unread first (second_name task) s files.second fault comes own in
     inr (s, (first, are, stopped.0), stopped.1)
 
@@ -122,7 +142,13 @@ unwrapped : (o : Option (Bor (List ℕ))) (empty : Bor (List ℕ)) → empty.now
 unwrapped None empty none = none
 unwrapped (Some file) empty none = refl
 
-pub second_named : (task : Task) (o : Option (Bor (List ℕ))) (result empty : Bor (List ℕ)) → option_map (λ (file : Bor (List ℕ)). file.now) o ≡ (told_of task).second
+pub second_named : (task : Task) (o : Option (Bor (List ℕ))) (result empty : Bor (List ℕ)) → option_map (λ (file : Bor (List ℕ)). file.now) o ≡ second_of task
     → result ≡ unwrap_or o empty → empty.now ≡ [] → result.now ≡ second_name task
 second_named task o result empty told is none =
     ap (λ (file : Bor (List ℕ)). file.now) is ∙ (unwrapped o empty none ∙ ap (λ (second : Option (List ℕ)). unwrap_or second []) told)
+
+-- that of the first
+pub first_named : (task : Task) (o : Option (Bor (List ℕ))) (result empty : Bor (List ℕ)) → option_map (λ (file : Bor (List ℕ)). file.now) o ≡ file_of task
+    → result ≡ unwrap_or o empty → empty.now ≡ [] → result.now ≡ first_name task
+first_named task o result empty told is none =
+    ap (λ (file : Bor (List ℕ)). file.now) is ∙ (unwrapped o empty none ∙ ap (λ (first : Option (List ℕ)). unwrap_or first []) told)

@@ -8,3 +8,5 @@ pub mod ReadLemmas
 pub mod RefusalLemmas
 pub mod BoardRunLemmas
 pub mod ScheduleLemmas
+pub mod FirstLemmas
+pub mod FormLemmas

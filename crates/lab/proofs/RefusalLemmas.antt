@@ -1,15 +1,14 @@
--- What the verifier's refusals say of the bytes.
-use Rattle.std.proofs.Common.{◌≡◌, ◌≢◌, ◌⊎◌, ℕ, List, inl, inr, sym, subst}
+-- What the verifier's refusals say of the program.
+use Rattle.std.proofs.Common.{◌≡◌, ◌≢◌, ◌⊎◌, List, inl, inr, sym, subst}
 use Rattle.std.specs.Prelude.{None, IfSome}
 use Rattle.insn.specs.declared.insn.Insn.{Insn}
 use Rattle.semantics.specs.Plain.{IsPlain}
-use Rattle.codec.specs.Program.{SpellsProgram}
 use Rattle.verify.specs.declared.fault.Fault.{Fault}
 use Rattle.verify.specs.declared.fault.Fault.TheVariants.{BackJump, JumpOut, JumpInWide, LastNotExit, Unset, FrameWrite, PointerUse, Bounds, StackUnset, ContextWrite, Helper, Argument, ExitPointer, Memory}
 use Rattle.verify.specs.Structure.{structural_fault, IsOwnFault}
 use Rattle.verify.specs.Passes.{IsFirstFault}
 use Rattle.lab.specs.declared.refusal.Refusal.{Refusal}
-use Rattle.lab.specs.Refusals.{verifier_refusal, RefusesProgram, RefusesCheck}
+use Rattle.lab.specs.Refusals.{verifier_refusal, RefusesProgram, RefusesRun}
 
 -- the verifier's answer
 pub record IsRefused (program : List Insn) (fault : Fault) : Type 0 where
@@ -32,22 +31,21 @@ named program fault other r = record {
   first = λ none. on_pass program fault other (r.first none);
 }
 
-by_fault : (bytes : List ℕ) (program : List Insn) (fault : Fault) → SpellsProgram bytes program → IsRefused program fault → RefusesCheck bytes (verifier_refusal fault)
-by_fault bytes program (BackJump unit) spells r = (program, spells, named program (BackJump unit) (λ e. cc) r)
-by_fault bytes program (JumpOut unit) spells r = (program, spells, named program (JumpOut unit) (λ e. cc) r)
-by_fault bytes program (JumpInWide unit) spells r = (program, spells, named program (JumpInWide unit) (λ e. cc) r)
-by_fault bytes program (LastNotExit unit) spells r = (program, spells, named program (LastNotExit unit) (λ e. cc) r)
-by_fault bytes program (Unset unit) spells r = (program, spells, named program (Unset unit) (λ e. cc) r)
-by_fault bytes program (FrameWrite unit) spells r = (program, spells, named program (FrameWrite unit) (λ e. cc) r)
-by_fault bytes program (PointerUse unit) spells r = (program, spells, named program (PointerUse unit) (λ e. cc) r)
-by_fault bytes program (Bounds unit) spells r = (program, spells, named program (Bounds unit) (λ e. cc) r)
-by_fault bytes program (StackUnset unit) spells r = (program, spells, named program (StackUnset unit) (λ e. cc) r)
-by_fault bytes program (ContextWrite unit) spells r = (program, spells, named program (ContextWrite unit) (λ e. cc) r)
-by_fault bytes program (Helper unit) spells r = (program, spells, named program (Helper unit) (λ e. cc) r)
-by_fault bytes program (Argument unit) spells r = (program, spells, named program (Argument unit) (λ e. cc) r)
-by_fault bytes program (ExitPointer unit) spells r = (program, spells, named program (ExitPointer unit) (λ e. cc) r)
-by_fault bytes program Memory spells r = tt
+by_fault : (program : List Insn) (fault : Fault) → IsRefused program fault → RefusesRun program (verifier_refusal fault)
+by_fault program (BackJump unit) r = named program (BackJump unit) (λ e. cc) r
+by_fault program (JumpOut unit) r = named program (JumpOut unit) (λ e. cc) r
+by_fault program (JumpInWide unit) r = named program (JumpInWide unit) (λ e. cc) r
+by_fault program (LastNotExit unit) r = named program (LastNotExit unit) (λ e. cc) r
+by_fault program (Unset unit) r = named program (Unset unit) (λ e. cc) r
+by_fault program (FrameWrite unit) r = named program (FrameWrite unit) (λ e. cc) r
+by_fault program (PointerUse unit) r = named program (PointerUse unit) (λ e. cc) r
+by_fault program (Bounds unit) r = named program (Bounds unit) (λ e. cc) r
+by_fault program (StackUnset unit) r = named program (StackUnset unit) (λ e. cc) r
+by_fault program (ContextWrite unit) r = named program (ContextWrite unit) (λ e. cc) r
+by_fault program (Helper unit) r = named program (Helper unit) (λ e. cc) r
+by_fault program (Argument unit) r = named program (Argument unit) (λ e. cc) r
+by_fault program (ExitPointer unit) r = named program (ExitPointer unit) (λ e. cc) r
+by_fault program Memory r = tt
 
-pub refused_program : (bytes : List ℕ) (program : List Insn) (fault : Fault) (refusal : Refusal) → refusal ≡ verifier_refusal fault → SpellsProgram bytes program →
-    IsRefused program fault → RefusesCheck bytes refusal
-refused_program bytes program fault refusal e spells r = subst (λ (x : Refusal). RefusesCheck bytes x) (sym e) (by_fault bytes program fault spells r)
+pub refused_program : (program : List Insn) (fault : Fault) (refusal : Refusal) → refusal ≡ verifier_refusal fault → IsRefused program fault → RefusesRun program refusal
+refused_program program fault refusal e r = subst (λ (x : Refusal). RefusesRun program x) (sym e) (by_fault program fault r)

@@ -11,7 +11,7 @@ use Rattle.trace.specs.declared.fault.TraceError.TheVariants.{Line}
 use Rattle.lab.specs.Faults.{Stops, fault_of}
 use Rattle.lab.specs.Reading.{BeginsSo, IsFront}
 use Rattle.lab.specs.Refusals.{RefusesSchedule, RefusesText}
-use Rattle.lab.specs.Serving.{AreBytes, IsScheduleOf, IsScheduleRefused}
+use Rattle.lab.specs.Serving.{AreBytes, IsScheduleOf, IsScheduleRefused, NoLikeness}
 use Rattle.lab.specs.declared.fault.Fault.{Fault}
 use Rattle.lab.specs.declared.refusal.Refusal.{Refusal}
 use Rattle.lab.specs.declared.refusal.Refusal.TheVariants as refusal
@@ -44,22 +44,22 @@ front_told bytes second own front schedule is begins told =
 
 -- why it tells none
 refused_as : (unread : Type 0) (known : Option (List ℕ)) (all : List ℕ) (file : Bor (List ℕ)) (refusal : Refusal)
-    → AreBytes known all → RefusesText RefusesSchedule all refusal → Stops unread (IsScheduleRefused (Some known)) file.now (fault_of refusal file)
+    → AreBytes known all → RefusesText RefusesSchedule all refusal → Stops unread (NoLikeness (IsScheduleRefused (Some known))) file.now (fault_of refusal file)
 refused_as unread known all file (refusal.Codec error) are refuses = absurd refuses
 refused_as unread known all file (refusal.Verifier fault) are refuses = absurd refuses
 refused_as unread known all file (refusal.Assembly error) are refuses = absurd refuses
 refused_as unread known all file (refusal.Table error) are refuses = absurd refuses
 refused_as unread known all file (refusal.Scenario error) are refuses = absurd refuses
-refused_as unread known all file (refusal.Trace error) are refuses = (λ e. cc, (λ e. cc, (all, are, refuses)))
+refused_as unread known all file (refusal.Trace error) are refuses = (λ e. cc, ((λ e. cc, (all, are, refuses)), refl))
 refused_as unread known all file (refusal.Threads error) are refuses = absurd refuses
-refused_as unread known all file refusal.NotText are refuses = ((λ e. cc, (all, are, refuses)), refl)
+refused_as unread known all file refusal.NotText are refuses = (((λ e. cc, (all, are, refuses)), refl), refl)
 refused_as unread known all file refusal.Memory are refuses = tt
 
 pub front_refused : {R : Type 0} (bytes : R → Option (List ℕ)) (unread : Type 0) (second : Option R) (own : R) (front : List ℕ) (file : Bor (List ℕ)) (refusal : Refusal) (fault : Fault)
     → second ≡ Some own → IsFront 1048576 (bytes own) front → ((all : List ℕ) → BeginsSo 1048576 all front → RefusesText RefusesSchedule all refusal) → fault ≡ fault_of refusal file
-    → Stops unread (IsScheduleRefused (option_map bytes second)) file.now fault
+    → Stops unread (NoLikeness (IsScheduleRefused (option_map bytes second))) file.now fault
 front_refused {R} bytes unread second own front file refusal fault is begins refuses same =
     let all = all_of 1048576 (bytes own) front begins in
-    let stops : Stops unread (IsScheduleRefused (Some (bytes own))) file.now (fault_of refusal file) = refused_as unread (bytes own) all.0 file refusal all.1 (refuses all.0 all.2) in
-    subst (λ (o : Option R). Stops unread (IsScheduleRefused (option_map bytes o)) file.now fault) (sym is)
-    (subst (λ (f : Fault). Stops unread (IsScheduleRefused (Some (bytes own))) file.now f) (sym same) stops)
+    let stops : Stops unread (NoLikeness (IsScheduleRefused (Some (bytes own)))) file.now (fault_of refusal file) = refused_as unread (bytes own) all.0 file refusal all.1 (refuses all.0 all.2) in
+    subst (λ (o : Option R). Stops unread (NoLikeness (IsScheduleRefused (option_map bytes o))) file.now fault) (sym is)
+    (subst (λ (f : Fault). Stops unread (NoLikeness (IsScheduleRefused (Some (bytes own)))) file.now f) (sym same) stops)

@@ -1,21 +1,27 @@
 -- What a task prints on files of some bytes.
-use Rattle.std.specs.Prelude.{ℕ, ◌≡◌, List, Option, Some, Ok, length, string_bytes}
+use Rattle.std.specs.Prelude.{ℕ, ◌≡◌, true, List, Option, Some, Ok, length, string_bytes}
 use Rattle.insn.specs.declared.insn.Insn.{Insn}
 use Rattle.insn.specs.Program.{slots_of}
 use Rattle.semantics.specs.Run.{IsSound}
 use Rattle.codec.specs.Program.{SpellsProgram}
+use Rattle.codec.specs.Spelling.{program_bytes}
+use Rattle.combine.specs.declared.chosen.Rule.{Rule}
 use Rattle.asm.specs.Program.{program_of}
-use Rattle.asm.specs.Printing.{text_of}
+use Rattle.asm.specs.Printing.{text_of, unit_lines}
 use Rattle.book.specs.Decisions.{decisions_of, TableAgrees}
-use Rattle.book.specs.Grammar.{table_told}
+use Rattle.book.specs.Explained.{explained}
+use Rattle.book.specs.Forms.{form_text}
+use Rattle.book.specs.Grammar.{is_within, table_told}
 use Rattle.book.specs.Table.{MessageTable}
+use Rattle.command_line.specs.declared.tasks.Spelling.TheVariants.{Hex, Raw}
 use Rattle.command_line.specs.declared.tasks.Task.{Task}
-use Rattle.command_line.specs.declared.tasks.Task.TheVariants.{Check, Assemble, Disassemble, Book, Play, Muster, Audit}
+use Rattle.command_line.specs.declared.tasks.Task.TheVariants.{Check, CheckAssembly, Assemble, Disassemble, DisassembleUnits, Book, Explain, Form, Play, Muster, Audit}
 use Rattle.round.specs.Scenario.{Scenario}
 use Rattle.scenario.specs.Told.{Tells}
 use Rattle.lab.specs.Bench.{bench_bytes, bench_shape}
 use Rattle.lab.specs.BoardRun.{IsServed}
 use Rattle.lab.specs.Campaigns.{Audits, Musters, Plays}
+use Rattle.lab.specs.Numbers.{numbers_in}
 use Rattle.lab.specs.Lines.{checked_lines, decision_lines, hex_line}
 use Rattle.lab.specs.declared.checking.Checked.{Checked}
 use Rattle.lab.specs.declared.outcome.Outcome.{Outcome}
@@ -32,6 +38,15 @@ pub record IsRun (program : List Insn) (checked : Checked) : Type 0 where
 abbrev pub Checks : List ℕ → Checked → Type 0
 Checks bytes checked = (program : List Insn) × SpellsProgram bytes program × IsRun program checked
 
+-- the text says a program, and this is its run
+abbrev pub ChecksText : List ℕ → Checked → Type 0
+ChecksText text checked = (program : List Insn) × (program_of text ≡ Some program) × IsRun program checked
+
+-- the text says a program, and these are its bytes
+abbrev pub AssemblesRaw : List ℕ → List ℕ → Type 0
+AssemblesRaw text bytes =
+    (program : List Insn) × (program_of text ≡ Some program) × (bytes ≡ program_bytes program)
+
 -- the text says a program, and this is its line
 abbrev pub Assembles : List ℕ → List ℕ → Type 0
 Assembles text line =
@@ -42,6 +57,22 @@ abbrev pub Disassembles : List ℕ → List ℕ → Type 0
 Disassembles bytes text =
     (program : List Insn) × SpellsProgram bytes program × (text ≡ text_of program)
 
+-- the bytes spell a program, and this is its text with the units
+abbrev pub DisassemblesUnits : List ℕ → List ℕ → Type 0
+DisassemblesUnits bytes text =
+    (program : List Insn) × SpellsProgram bytes program × (text ≡ unit_lines 0 program)
+
+-- the text tells a table, and this is how its decisions come about, where these generals are named as traitors
+abbrev pub ExplainsTable : List ℕ → List ℕ → List ℕ → Type 0
+ExplainsTable text traitors lines =
+    (table : MessageTable) × (table_told text ≡ Ok table) × (lines ≡ explained table traitors)
+
+-- the words are numbers within the limits of a campaign, and this is its table to fill in
+abbrev pub IsFormOf : List ℕ → List ℕ → List ℕ → List ℕ → Type 0
+IsFormOf n m c text =
+    (head : ℕ × ℕ × ℕ × Rule) × (numbers_in n m c ≡ Some head) × (is_within head.0 head.1 head.2 ≡ true)
+    × (text ≡ form_text head.0 head.1 head.2)
+
 -- the text tells a table, and these are its decisions, which agree where the bound holds
 abbrev pub Decides : List ℕ → List ℕ → Type 0
 Decides text lines =
@@ -51,9 +82,14 @@ Decides text lines =
 -- the task prints this text on files of these bytes
 abbrev pub Prints : Task → List ℕ → Option (List ℕ) → List ℕ → Type 0
 Prints (Check file) first second text = (checked : Checked) × Checks first checked × (text ≡ checked_lines checked)
-Prints (Assemble file) first second text = Assembles first text
+Prints (CheckAssembly file) first second text = (checked : Checked) × ChecksText first checked × (text ≡ checked_lines checked)
+Prints (Assemble file Hex target) first second text = Assembles first text
+Prints (Assemble file Raw target) first second text = AssemblesRaw first text
 Prints (Disassemble file) first second text = Disassembles first text
+Prints (DisassembleUnits file) first second text = DisassemblesUnits first text
 Prints (Book file) first second text = Decides first text
+Prints (Explain file traitors) first second text = ExplainsTable first traitors.items text
+Prints (Form n m c) first second text = IsFormOf (string_bytes n) (string_bytes m) (string_bytes c) text
 Prints (Play scenario schedule) first second text = Plays first second text
 Prints (Muster scenario) first second text = Musters first text
 Prints (Audit scenario chronicle) first second text = Audits first second text
@@ -68,6 +104,7 @@ GoesOn _ first s = ⊥
 -- what the task comes to on its first file: a text, whatever the second has, or a campaign with which it goes on
 abbrev pub ComesTo : Task → List ℕ → Outcome → Type 0
 ComesTo task first (outcome.Text text) = (second : Option (List ℕ)) → Prints task first second (string_bytes text)
+ComesTo task first (outcome.Bytes bytes) = (second : Option (List ℕ)) → Prints task first second bytes.items
 ComesTo (Play scenario schedule) first (outcome.Play s) = Tells first s
 ComesTo (Muster scenario) first (outcome.Muster s) = Tells first s
 ComesTo (Audit scenario chronicle) first (outcome.Audit s) = Tells first s

@@ -5,7 +5,9 @@ pub mod Campaigns
 pub mod Faults
 pub mod Lines
 pub mod Names
+pub mod Numbers
 pub mod Reading
 pub mod Refusals
+pub mod Seeming
 pub mod Serving
 pub mod Telling

@@ -1,16 +1,18 @@
 -- How much is read of a file.
-use Rattle.std.specs.Prelude.{ℕ, ◌≡◌, ◌≤◌, ◌<◌, ◌⊎◌, ◌++◌, List, Option, IfSome, length, slice_index}
+use Rattle.std.specs.Prelude.{ℕ, ◌≡◌, ◌≤◌, ◌<◌, ◌⊎◌, ◌++◌, List, Option, IfSome, length, slice_index, take}
 use Rattle.lab.specs.declared.refusal.Refusal.{Refusal}
 use Rattle.lab.specs.declared.refusal.Refusal.TheVariants.{Codec}
 use Rattle.lab.specs.declared.within.Within.{Within}
 use Rattle.lab.specs.declared.within.Within.TheVariants.{Whole, Longer}
 use Rattle.lab.specs.Refusals.{RefusesBytes}
+use Rattle.lab.specs.Seeming.{seems_at_first}
+use Rattle.lab.specs.declared.seeming.Likeness.{Likeness}
 use Rattle.lab.specs.Serving.{AreBytes}
 
--- all bytes, which are at most so many, or the number of more
+-- all bytes, which are at most so many, or the number of more, with some that begin as they do
 abbrev pub IsWithin : ℕ → Option (List ℕ) → Within → Type 0
 IsWithin most known (Whole bytes) = (length bytes.items ≤ most) × AreBytes known bytes.items
-IsWithin most known (Longer number) = (most < number) × IfSome known (λ all. length all ≡ number)
+IsWithin most known (Longer front number) = (most < number) × IfSome known (λ all. (length all ≡ number) × (take most front.items ≡ take most all))
 
 -- all bytes, where they are at most so many, else some with which they begin
 pub record BeginsSo (most : ℕ) (all front : List ℕ) : Type 0 where
@@ -27,7 +29,9 @@ IsStart bytes place =
     (place ≤ length bytes)
     × (0 < place → (place < length bytes) × ((slice_index bytes place < 128) ⊎ (192 ≤ slice_index bytes place)))
 
--- the bytes spell no program, by this first fault
-abbrev pub IsTooLong : Option (List ℕ) → Refusal → Type 0
-IsTooLong known (Codec error) = (bytes : List ℕ) × AreBytes known bytes × RefusesBytes bytes error
-IsTooLong known _ = ⊥
+-- the bytes spell no program, by this first fault, and the first of them seem to be this
+abbrev pub IsTooLong : Option (List ℕ) → Refusal → Option Likeness → Type 0
+IsTooLong known (Codec error) likeness =
+    ((bytes : List ℕ) × AreBytes known bytes × RefusesBytes bytes error)
+    × IfSome known (λ all. likeness ≡ seems_at_first all)
+IsTooLong known _ likeness = ⊥

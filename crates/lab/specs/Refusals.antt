@@ -1,15 +1,15 @@
 -- Why a task does not take a file of some bytes.
-use Rattle.std.specs.Prelude.{ℕ, ◌≡◌, ◌≢◌, List, None, Err, IfSome}
+use Rattle.std.specs.Prelude.{ℕ, ◌≡◌, ◌≢◌, List, None, Some, Err, IfSome, string_bytes}
 use Rattle.std.specs.Str.{IsUtf8}
 use Rattle.insn.specs.declared.insn.Insn.{Insn}
 use Rattle.semantics.specs.Plain.{IsPlain}
 use Rattle.codec.specs.Program.{IsFirstFault, SpellsProgram}
 use Rattle.codec.specs.declared.fault.CodecError.{CodecError}
 use Rattle.codec.specs.declared.fault.CodecError.TheVariants as codec
-use Rattle.asm.specs.Program.{said}
+use Rattle.asm.specs.Program.{program_of, said}
 use Rattle.asm.specs.declared.fault.AsmError.{AsmError}
 use Rattle.asm.specs.declared.fault.AsmError.TheVariants as asm
-use Rattle.book.specs.Grammar.{table_told}
+use Rattle.book.specs.Grammar.{opened, table_told}
 use Rattle.book.specs.declared.fault.TableError.{TableError}
 use Rattle.book.specs.declared.fault.TableError.TheVariants as table
 use Rattle.toml.specs.Parse.{parse_document}
@@ -29,7 +29,8 @@ use Rattle.verify.specs.declared.fault.Fault.TheVariants as verifier
 use Rattle.verify.specs.Structure.{structural_fault, IsOwnFault}
 use Rattle.verify.specs.Passes as on_pass
 use Rattle.command_line.specs.declared.tasks.Task.{Task}
-use Rattle.command_line.specs.declared.tasks.Task.TheVariants.{Check, Assemble, Disassemble, Book, Play, Muster, Audit}
+use Rattle.command_line.specs.declared.tasks.Task.TheVariants.{Check, CheckAssembly, Assemble, Disassemble, DisassembleUnits, Book, Explain, Form, Play, Muster, Audit}
+use Rattle.lab.specs.Numbers.{numbers_in}
 use Rattle.lab.specs.declared.refusal.Refusal.{Refusal}
 use Rattle.lab.specs.declared.refusal.Refusal.TheVariants.{Codec, Verifier, Assembly, Table, Scenario, Trace, Threads, NotText, Memory}
 
@@ -75,6 +76,12 @@ pub record RefusesProgram (program : List Insn) (fault : Fault) : Type 0 where
   pub unstructural : structural_fault program ≡ None → IsOwnFault program fault
   pub first : structural_fault program ≡ None → on_pass.IsFirstFault program fault
 
+-- the verifier refuses the program
+abbrev pub RefusesRun : List Insn → Refusal → Type 0
+RefusesRun program (Verifier fault) = RefusesProgram program fault
+RefusesRun program Memory = Unit {0}
+RefusesRun program _ = ⊥
+
 -- the bytes spell no program, or the verifier refuses the program that they spell
 abbrev pub RefusesCheck : List ℕ → Refusal → Type 0
 RefusesCheck bytes (Codec error) = RefusesBytes bytes error
@@ -92,6 +99,19 @@ abbrev pub RefusesAssembly : List ℕ → Refusal → Type 0
 RefusesAssembly text (Assembly error) = said text ≡ Err error
 RefusesAssembly text Memory = Unit {0}
 RefusesAssembly text _ = ⊥
+
+-- the text says no program, or the verifier refuses the program that it says
+abbrev pub RefusesCheckAssembly : List ℕ → Refusal → Type 0
+RefusesCheckAssembly text (Assembly error) = said text ≡ Err error
+RefusesCheckAssembly text (Verifier fault) = (program : List Insn) × (program_of text ≡ Some program) × RefusesProgram program fault
+RefusesCheckAssembly text Memory = Unit {0}
+RefusesCheckAssembly text _ = ⊥
+
+-- the words are no numbers of a campaign: the fault of a first line that has them
+abbrev pub RefusesForm : List ℕ → List ℕ → List ℕ → Refusal → Type 0
+RefusesForm n m c (Table error) = opened (numbers_in n m c) ≡ Err error
+RefusesForm n m c Memory = Unit {0}
+RefusesForm n m c _ = ⊥
 
 -- the text tells no table, by this first fault
 abbrev pub RefusesTable : List ℕ → Refusal → Type 0
@@ -131,9 +151,13 @@ RefusesText refuses bytes refusal = refuses bytes refusal
 -- the task does not take an only or first file of these bytes
 abbrev pub Refuses : Task → List ℕ → Refusal → Type 0
 Refuses (Check file) bytes refusal = RefusesCheck bytes refusal
-Refuses (Assemble file) bytes refusal = RefusesText RefusesAssembly bytes refusal
+Refuses (CheckAssembly file) bytes refusal = RefusesText RefusesCheckAssembly bytes refusal
+Refuses (Assemble file spelling target) bytes refusal = RefusesText RefusesAssembly bytes refusal
 Refuses (Disassemble file) bytes refusal = RefusesDisassembly bytes refusal
+Refuses (DisassembleUnits file) bytes refusal = RefusesDisassembly bytes refusal
 Refuses (Book file) bytes refusal = RefusesText RefusesTable bytes refusal
+Refuses (Explain file traitors) bytes refusal = RefusesText RefusesTable bytes refusal
+Refuses (Form n m c) bytes refusal = RefusesForm (string_bytes n) (string_bytes m) (string_bytes c) refusal
 Refuses (Play scenario schedule) bytes refusal = RefusesText RefusesScenario bytes refusal
 Refuses (Muster scenario) bytes refusal = RefusesText RefusesScenario bytes refusal
 Refuses (Audit scenario chronicle) bytes refusal = RefusesText RefusesScenario bytes refusal

@@ -1,7 +1,7 @@
 -- How a task on its files ends. What a file has and what a stream holds are given where they are known.
 use Rattle.std.specs.Prelude.{ℕ, ◌≡◌, ◌≢◌, ◌⊎◌, List, [], ◌∷◌, ◌++◌, Option, None, Some, IfSome, IsSomeAnd, codes, option_map, unwrap_or}
 use Rattle.std.specs.Io.KnownBytes.{Appends}
-use Rattle.command_line.specs.Told.{told_of}
+use Rattle.command_line.specs.Told.{file_of, second_of}
 use Rattle.command_line.specs.declared.tasks.Task.{Task}
 use Rattle.command_line.specs.declared.tasks.Task.TheVariants.{Play, Muster, Audit}
 use Rattle.round.specs.Scenario.{Scenario}
@@ -11,6 +11,8 @@ use Rattle.lab.specs.declared.refusal.Refusal.TheVariants.{NotText, Memory}
 use Rattle.lab.specs.Answers.{GoesOn, Prints}
 use Rattle.lab.specs.Campaigns.{IsAudited, IsPlayed, IsSchedule}
 use Rattle.lab.specs.Names.{shown}
+use Rattle.lab.specs.Seeming.{likeness_of, seems_behind}
+use Rattle.lab.specs.declared.seeming.Likeness.{Likeness}
 use Rattle.lab.specs.Telling.{refusal_text}
 use Rattle.lab.specs.Refusals.{Refuses, RefusesChronicle, RefusesMuster, RefusesSchedule, RefusesText}
 
@@ -22,12 +24,12 @@ pub record Files : Type 0 where
 abbrev pub files : {R : Type 0} → (R → Option (List ℕ)) → R → Option R → Files
 files bytes first second = record { first = bytes first; second = option_map bytes second }
 
--- the names of the files, the second's empty where the words name none
+-- the names of the files, empty where the words name none
 abbrev pub first_name : Task → List ℕ
-first_name task = (told_of task).file
+first_name task = unwrap_or (file_of task) []
 
 abbrev pub second_name : Task → List ℕ
-second_name task = unwrap_or (told_of task).second []
+second_name task = unwrap_or (second_of task) []
 
 -- the bytes are the file's
 abbrev pub AreBytes : Option (List ℕ) → List ℕ → Type 0
@@ -69,10 +71,15 @@ HasAnswer task files = (text : List ℕ) × IsAnswer task files text
 abbrev pub IsPrinted : Task → Files → Option (List ℕ) → Option (List ℕ) → Type 0
 IsPrinted task files old new = (text : List ℕ) × IsAnswer task files text × Appends old new text
 
--- the task refuses its only or first file so, and not for want of memory
-abbrev pub IsRefused : Task → Option (List ℕ) → Refusal → Type 0
-IsRefused task known refusal =
+-- the task refuses its only or first file so, and not for want of memory; and the file's bytes seem to be this
+abbrev pub IsRefused : Task → Option (List ℕ) → Refusal → Option Likeness → Type 0
+IsRefused task known refusal likeness =
     (refusal ≢ Memory) × ((bytes : List ℕ) × AreBytes known bytes × Refuses task bytes refusal)
+    × IfSome known (λ all. likeness ≡ likeness_of refusal all)
+
+-- it is refused so, and seems to be nothing else
+abbrev pub NoLikeness : (Refusal → Type 0) → Refusal → Option Likeness → Type 0
+NoLikeness refused refusal likeness = refused refusal × (likeness ≡ None)
 
 -- the task takes its first file, and goes on with this campaign
 abbrev pub IsTaken : Task → Option (List ℕ) → Scenario → Type 0
@@ -107,16 +114,16 @@ Tells fails old new line = fails ⊎ Appends old new (line ++ 10 ∷ [])
 abbrev pub TellsName : (List ℕ → Type 0) → List ℕ → List ℕ → Type 0
 TellsName tells words name = IfSome (shown name) (λ told. tells (words ++ told))
 
--- the line that tells of a refusal of the file with this name: its code and its place
-abbrev pub TellsRefusal : List ℕ → (List ℕ → Type 0) → Refusal → Type 0
-TellsRefusal name tells NotText = TellsName tells (codes "fault text ") name
-TellsRefusal name tells refusal = tells (codes "refused " ++ refusal_text refusal)
+-- the line that tells of a refusal of the file with this name: its code and its place, and behind it what it seems to be
+abbrev pub TellsRefusal : List ℕ → (List ℕ → Type 0) → Refusal → Option Likeness → Type 0
+TellsRefusal name tells NotText likeness = TellsName tells (codes "fault text ") name
+TellsRefusal name tells refusal likeness = tells (codes "refused " ++ refusal_text refusal ++ seems_behind likeness)
 
 -- the file with this name was not read, since its reader failed, or a refusal has come; and a line says so
-abbrev pub IsTurnedDown : Type 0 → (Refusal → Type 0) → List ℕ → (List ℕ → Type 0) → Type 0
+abbrev pub IsTurnedDown : Type 0 → (Refusal → Option Likeness → Type 0) → List ℕ → (List ℕ → Type 0) → Type 0
 IsTurnedDown unread refused name tells =
     (unread × TellsName tells (codes "fault read ") name)
-    ⊎ ((refusal : Refusal) × refused refusal × TellsRefusal name tells refusal)
+    ⊎ ((refusal : Refusal) × ((likeness : Option Likeness) × refused refusal likeness × TellsRefusal name tells refusal likeness))
 
 -- the output failed on the task's answer, and a line says so
 abbrev pub IsUnwritten : Type 0 → Task → Files → (List ℕ → Type 0) → Type 0
@@ -126,5 +133,5 @@ IsUnwritten unwritten task files tells = unwritten × HasAnswer task files × te
 abbrev pub IsFault : Type 0 → Type 0 → Type 0 → Task → Files → Type 0 → (List ℕ → Type 0) → Type 0
 IsFault unread second_unread unwritten task files kept tells =
     (kept × (IsTurnedDown unread (IsRefused task files.first) (first_name task) tells
-    ⊎ ((s : Scenario) × IsTaken task files.first s × IsTurnedDown second_unread (IsRefusedLater task s files.second) (second_name task) tells)))
+    ⊎ ((s : Scenario) × IsTaken task files.first s × IsTurnedDown second_unread (NoLikeness (IsRefusedLater task s files.second)) (second_name task) tells)))
     ⊎ IsUnwritten unwritten task files tells

@@ -1,14 +1,16 @@
 ghost use Rattle.std.specs.Prelude.{◌≡◌, IfOk, IfErr, string_bytes};
-ghost use Rattle.lab.specs.Answers.{Checks, IsRun};
+ghost use Rattle.lab.specs.Answers.{Checks, ChecksText, IsRun};
 ghost use Rattle.lab.specs.Bench.{bench_shape};
 ghost use Rattle.lab.specs.Lines.{checked_lines};
-ghost use Rattle.lab.specs.Refusals.{RefusesCheck};
+ghost use Rattle.lab.specs.Refusals.{RefusesCheck, RefusesCheckAssembly, RefusesRun};
 ghost use Rattle.lab.specs.BoardRun.{IsServed};
 
 use crate::bench::{bench_context, bench_shape};
 use crate::refusal::Refusal;
+use asm::assemble;
 use board::Board;
 use codec::decode;
+use insn::Program;
 use machine::{Activation, Stop};
 use mem::Context;
 use outbox::Outbox;
@@ -37,6 +39,27 @@ pub fn check(alloc: Global, bytes: &[u8]) -> Result<Checked, Refusal>
     ensures refused { IfErr result (RefusesCheck bytes.now) }
 {
     let program = decode(alloc, bytes)?;
+    check_program(alloc, program)
+}
+
+/// Verifies and runs the program that the assembly says, in the same way.
+///
+/// # Errors
+///
+/// What the assembler or the verifier refuses, or want of memory.
+pub fn check_text(alloc: Global, text: &str) -> Result<Checked, Refusal>
+    ensures checked { IfOk result (ChecksText text.now) }
+    ensures refused { IfErr result (RefusesCheckAssembly text.now) }
+{
+    let program = assemble(alloc, text)?;
+    check_program(alloc, program)
+}
+
+/// Verifies and runs a program.
+fn check_program(alloc: Global, program: Program) -> Result<Checked, Refusal>
+    ensures checked { IfOk result (IsRun program) }
+    ensures refused { IfErr result (RefusesRun program) }
+{
     let verified = match verify(alloc, program) {
         Ok(verified) => verified,
         Err(refusal) => return Err(Refusal::from(refusal.fault)),

@@ -1,12 +1,12 @@
 ghost use Rattle.std.specs.Prelude.{◌≡◌, ◌≢◌, ◌<◌, ◌++◌, IfOk, IfErr, OnOk, string_bytes};
 ghost use Rattle.book.specs.Decisions.{decisions_of, TableAgrees};
 ghost use Rattle.book.specs.Grammar.{table_told};
-ghost use Rattle.lab.specs.Answers.{Decides};
+ghost use Rattle.lab.specs.Answers.{Decides, ExplainsTable};
 ghost use Rattle.lab.specs.Lines.{decision_line, decision_lines};
 ghost use Rattle.lab.specs.Refusals.{RefusesTable};
 
 use crate::refusal::Refusal;
-use book::{Table, decisions, read_table};
+use book::{Table, decisions, explain, read_table};
 use std::alloc::{AllocError, Global};
 
 /// What the lieutenants of the message table decide.
@@ -20,6 +20,19 @@ pub fn decided(alloc: Global, text: &str) -> Result<String, Refusal>
 {
     let table = read_table(alloc, text)?;
     Ok(decisions_text(alloc, &table)?)
+}
+
+/// How the decisions of the message table come about, where these generals are named as traitors.
+///
+/// # Errors
+///
+/// What the table refuses, or want of memory.
+pub fn explained(alloc: Global, text: &str, traitors: &[u8]) -> Result<String, Refusal>
+    ensures explained { IfOk result (λ lines. ExplainsTable text.now traitors.now (string_bytes lines)) }
+    ensures refused { IfErr result (RefusesTable text.now) }
+{
+    let table = read_table(alloc, text)?;
+    Ok(explain(alloc, &table, traitors)?)
 }
 
 /// A line for each lieutenant, ascending: his number and what he decides.

@@ -1,8 +1,9 @@
 ghost use Rattle.std.specs.Prelude.{◌≡◌};
-ghost use Rattle.lab.specs.Faults.{fault_of, status_of};
+ghost use Rattle.lab.specs.Faults.{fault_of, fault_of_bytes, status_of};
 
 use crate::name::FileName;
 use crate::refusal::Refusal;
+use crate::seeming::{Likeness, seems};
 use std::fmt;
 
 /// Why a task was not done.
@@ -12,8 +13,8 @@ pub(crate) enum Fault<'a> {
     Read(&'a str),
     /// The file of this name is no text in UTF-8.
     Text(&'a str),
-    /// What a file has is refused.
-    Refused(Refusal),
+    /// What a file has is refused, and seems to be this.
+    Refused(Refusal, Option<Likeness>),
     /// The output failed.
     Write,
     /// Want of memory.
@@ -29,7 +30,8 @@ impl fmt::Display for Fault<'_> {
         match self {
             Fault::Read(file) => write!(f, "fault read {}", FileName(file)),
             Fault::Text(file) => write!(f, "fault text {}", FileName(file)),
-            Fault::Refused(refusal) => write!(f, "refused {refusal}"),
+            Fault::Refused(refusal, None) => write!(f, "refused {refusal}"),
+            Fault::Refused(refusal, Some(likeness)) => write!(f, "refused {refusal}\n{likeness}"),
             Fault::Write => f.write_str("fault write"),
             Fault::Memory => f.write_str("out of memory"),
         }
@@ -44,7 +46,17 @@ impl<'a> Fault<'a> {
         match refusal {
             Refusal::Memory => Fault::Memory,
             Refusal::NotText => Fault::Text(file),
-            refusal => Fault::Refused(refusal),
+            refusal => Fault::Refused(refusal, None),
+        }
+    }
+
+    /// The fault of a file of these bytes: where they spell no program, with what they seem to be.
+    pub(crate) fn of_bytes(refusal: Refusal, file: &'a str, bytes: &[u8]) -> Fault<'a>
+        ensures { result ≡ fault_of_bytes refusal file.entry bytes.now }
+    {
+        match refusal {
+            Refusal::Codec(error) => Fault::Refused(Refusal::Codec(error), seems(bytes)),
+            refusal => Fault::of(refusal, file),
         }
     }
 

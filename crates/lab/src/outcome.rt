@@ -5,6 +5,8 @@ use round::Scenario;
 pub enum Outcome {
     /// All that it prints.
     Text(String),
+    /// The same, where it is no text.
+    Bytes(Vec<u8>),
     /// A campaign to play, by the schedule of the second file.
     Play(Scenario),
     /// A campaign to run with a thread for each general.

@@ -30,8 +30,10 @@ pub(crate) fn read_first<'a, R: Source>(
         (Stops (R.fails first) (IsRefused task.entry.now (R.bytes first)) (first_name task.entry.now)) }
 {
     match task {
-        Task::Check(file) | Task::Disassemble(file) => read_program(alloc, file.as_str(), first),
-        _ => read(alloc, task.file(), first),
+        Task::Check(file) | Task::Disassemble(file) | Task::DisassembleUnits(file) => {
+            read_program(alloc, file.as_str(), first)
+        }
+        _ => read(alloc, task.file().unwrap_or(""), first),
     }
 }
 
@@ -46,7 +48,10 @@ fn read_program<'a, R: Source>(
 {
     match source.read_within(alloc, MOST_OF_A_PROGRAM) {
         Ok(Within::Whole(bytes)) => Ok(bytes),
-        Ok(Within::Longer(number)) => Err(Fault::Refused(Refusal::Codec(too_long(number)))),
+        Ok(Within::Longer { front, number }) => {
+            let refusal = Refusal::Codec(too_long(number));
+            Err(Fault::of_bytes(refusal, file, front.as_slice()))
+        }
         Err(error) => Err(unread(&error, file)),
     }
 }
@@ -70,7 +75,7 @@ pub(crate) fn read_schedule<'a, R: Source>(
     source: R,
 ) -> Result<Vec<u8>, Fault<'a>>
     ensures front { IfOk result (λ front. IsFront 1048576 (R.bytes source) front.items) }
-    ensures fault { IfErr result (Stops (R.fails source) (λ _. ⊥) file.entry.now) }
+    ensures fault { IfErr result (Stops (R.fails source) (λ _ _. ⊥) file.entry.now) }
 {
     match source.read_front(alloc, MOST_OF_A_SCHEDULE) {
         Ok(front) => Ok(front),
@@ -85,7 +90,7 @@ pub(crate) fn read_second<'a, R: Source>(
     second: Option<R>,
 ) -> Result<Vec<u8>, Fault<'a>>
     ensures whole { IfOk result (λ all. AreSecondBytes (option_map R.bytes second) all.items) }
-    ensures fault { IfErr result (Stops (IsSomeAnd second R.fails) (λ _. ⊥) file.entry.now) }
+    ensures fault { IfErr result (Stops (IsSomeAnd second R.fails) (λ _ _. ⊥) file.entry.now) }
 {
     match second {
         Some(second) => read(alloc, file, second),
@@ -96,7 +101,7 @@ pub(crate) fn read_second<'a, R: Source>(
 /// All bytes of the file with this name.
 fn read<'a, R: Source>(alloc: Global, file: &'a str, source: R) -> Result<Vec<u8>, Fault<'a>>
     ensures whole { IfOk result (λ all. AreBytes (R.bytes source) all.items) }
-    ensures fault { IfErr result (Stops (R.fails source) (λ _. ⊥) file.entry.now) }
+    ensures fault { IfErr result (Stops (R.fails source) (λ _ _. ⊥) file.entry.now) }
 {
     match source.read_all(alloc) {
         Ok(bytes) => Ok(bytes),
@@ -106,7 +111,7 @@ fn read<'a, R: Source>(alloc: Global, file: &'a str, source: R) -> Result<Vec<u8
 
 /// The fault of a file with this name whose reading failed so.
 fn unread<'a>(error: &io::Error, file: &'a str) -> Fault<'a>
-    ensures { Stops (Unit {0}) (λ _. ⊥) file.entry.now result }
+    ensures { Stops (Unit {0}) (λ _ _. ⊥) file.entry.now result }
 {
     match error.kind() {
         ErrorKind::OutOfMemory => Fault::Memory,

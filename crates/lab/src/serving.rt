@@ -1,6 +1,6 @@
 ghost use Rattle.std.specs.Prelude.{◌≡◌, ◌≢◌, ◌⊎◌, IfOk, IfErr, IsSomeAnd, OnOk, codes, option_map};
 ghost use Rattle.lab.specs.Faults.{Explains, Prevents, Stops};
-ghost use Rattle.lab.specs.Serving.{IsAnswer, IsAuditOf, IsChronicleRefused, IsFault, IsPlayedBy, IsPrinted, IsScheduleOf, IsScheduleRefused, Tells, files, second_name};
+ghost use Rattle.lab.specs.Serving.{IsAnswer, IsAuditOf, IsChronicleRefused, IsFault, IsPlayedBy, IsPrinted, IsScheduleOf, IsScheduleRefused, NoLikeness, Tells, files, second_name};
 ghost use Rattle.lab.specs.declared.fault.Fault.TheVariants.{Write as unwritten};
 
 use crate::answering::answer;
@@ -20,7 +20,7 @@ use world::Schedule;
 
 /// Does the task on its files: prints what it answers, or one line of what is at fault. The second file is read where the
 /// task has one, and only where the first is not refused. All that is printed is in memory first. Only a muster starts threads,
-/// and it waits for them. The result is the exit status: 0 done, 1 refused or a fault of a file, 3 want of memory.
+/// and it waits for them. A task that reads no file is given an empty one. The result is the exit status: 0 done, 1 refused or a fault of a file, 3 want of memory.
 pub fn serve<T, R, O, F>(
     rt: &T,
     alloc: Global,
@@ -104,13 +104,14 @@ where
     let file = task.second().unwrap_or("");
     match answer(alloc, task, bytes.as_slice()) {
         Ok(Outcome::Text(text)) => Ok(text.into_bytes()),
+        Ok(Outcome::Bytes(bytes)) => Ok(bytes),
         Ok(Outcome::Play(scenario)) => play_by(alloc, scenario, file, second),
         Ok(Outcome::Muster(scenario)) => match mustered(rt, alloc, scenario) {
             Ok(text) => Ok(text),
             Err(refusal) => Err(Fault::of(refusal, file)),
         },
         Ok(Outcome::Audit(scenario)) => audit_of(alloc, &scenario, file, second),
-        Err(refusal) => Err(Fault::of(refusal, task.file())),
+        Err(refusal) => Err(Fault::of_bytes(refusal, task.file().unwrap_or(""), bytes.as_slice())),
     }
 }
 
@@ -123,7 +124,7 @@ fn play_by<'a, R: Source>(
 ) -> Result<Vec<u8>, Fault<'a>>
     ensures played { IfOk result (λ text. IsPlayedBy (option_map R.bytes second) scenario text.items) }
     ensures fault { IfErr result
-        (Stops (IsSomeAnd second R.fails) (IsScheduleRefused (option_map R.bytes second)) file.entry.now) }
+        (Stops (IsSomeAnd second R.fails) (NoLikeness (IsScheduleRefused (option_map R.bytes second))) file.entry.now) }
 {
     let schedule = scheduled(alloc, file, second)?;
     match played(alloc, scenario, &schedule) {
@@ -140,7 +141,7 @@ fn scheduled<'a, R: Source>(
 ) -> Result<Schedule, Fault<'a>>
     ensures told { IfOk result (λ schedule. IsScheduleOf (option_map R.bytes second) schedule) }
     ensures fault { IfErr result
-        (Stops (IsSomeAnd second R.fails) (IsScheduleRefused (option_map R.bytes second)) file.entry.now) }
+        (Stops (IsSomeAnd second R.fails) (NoLikeness (IsScheduleRefused (option_map R.bytes second))) file.entry.now) }
 {
     let Some(second) = second else {
         return Ok(Schedule {
@@ -163,7 +164,7 @@ fn audit_of<'a, R: Source>(
 ) -> Result<Vec<u8>, Fault<'a>>
     ensures audited { IfOk result (λ text. IsAuditOf (option_map R.bytes second) scenario.now text.items) }
     ensures fault { IfErr result
-        (Stops (IsSomeAnd second R.fails) (IsChronicleRefused scenario.now (option_map R.bytes second)) file.entry.now) }
+        (Stops (IsSomeAnd second R.fails) (NoLikeness (IsChronicleRefused scenario.now (option_map R.bytes second))) file.entry.now) }
 {
     let bytes = read_second(alloc, file, second)?;
     match audited(alloc, scenario, bytes.as_slice()) {

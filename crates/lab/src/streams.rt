@@ -28,7 +28,7 @@ pub trait Source: Drop {
         ensures whole { IfOk result (λ all. IfSome (bytes self) (λ known. all.items ≡ known)) }
         ensures failed { OnErr result (fails self) };
 
-    /// All bytes where there are at most so many. Where there are more, they are counted to their end, and none is kept.
+    /// All bytes where there are at most so many. Where there are more, they are counted to their end, and the first alone are kept.
     ///
     /// # Errors
     ///
@@ -65,7 +65,7 @@ impl<R: Read + Drop> Source for R {
         }
         let rest = io::copy(&mut self, &mut io::sink())?;
         match front.len().checked_add(rest as usize) {
-            Some(number) => Ok(Within::Longer(number)),
+            Some(number) => Ok(Within::Longer { front, number }),
             None => Err(io::Error::from(ErrorKind::Other)),
         }
     }

@@ -1,5 +1,4 @@
-use Rattle.std.proofs.Common.{◌≡◌, ℕ, ◌+◌, ◌-◌, ◌<◌, ◌≤◌, true, false, Option, Some, refl, rules, arith}
-use Rattle.asm.specs.declared.number.Number.{Number}
+use Rattle.std.proofs.Common.{◌≡◌, ℕ, ◌-◌, ◌<◌, ◌≤◌, true, false, Some, refl, rules}
 use Rattle.asm.specs.Distance.{distance_of, between}
 use Rattle.asm.proofs.resolver.distance.Goals as goal
 

@@ -4,7 +4,7 @@ use Rattle.clap.specs.declared.error.kind.ErrorKind.TheVariants.{OutOfMemory}
 use Rattle.command_line.specs.Asked.{is_task, words_of}
 use Rattle.command_line.specs.Met.{told_by}
 use Rattle.command_line.specs.Told.{Told}
-use Rattle.command_line.proofs.CallLemmas.{kind_among, none_found, task_found}
+use Rattle.command_line.proofs.CallLemmas.{error_is_refused, kind_among, none_found, task_found, task_is_asked, traitors_are_refused}
 use Rattle.command_line.proofs.reading.task.Goals as goal
 
 pub of-requires : goal.of-requires
@@ -21,11 +21,23 @@ task-requires c =
     let told_is : found.task ≡ told_by c.of.result = cc in
     subst (λ (told : Told). is_task told ≡ true) told_is found.known
 
-pub returns-in_ok-task-in-Ok-clause-found : goal.returns-in_ok-task-in-Ok-clause-found
-returns-in_ok-task-in-Ok-clause-found c =
+pub returns-in-Ok-clause-found : goal.returns-in-Ok-clause-found
+returns-in-Ok-clause-found c =
     let found = task_found _ (words_of c.args.words.now) (subcommand_rows_of c.in-Ok.matches) c.in_ok-lab.ensures
     c.in-Ok.ensures.kinds (λ e. (c.in-Ok.ensures.matches e).1) in
-    found.asked_is ∙ (sym (c.of.ensures ∙ found.met_is) ∙ ap Some (sym c.in_ok-task-in-Ok.ensures))
+    task_is_asked (words_of c.args.words.now) (told_by c.of.result) (found.spelt_is ∙ sym (c.of.ensures ∙ found.met_is)) c.task.result c.task.ensures.task
+
+pub returns-in-Ok-clause-refused : goal.returns-in-Ok-clause-refused
+returns-in-Ok-clause-refused c =
+    let found = task_found _ (words_of c.args.words.now) (subcommand_rows_of c.in-Ok.matches) c.in_ok-lab.ensures
+    c.in-Ok.ensures.kinds (λ e. (c.in-Ok.ensures.matches e).1) in
+    error_is_refused (words_of c.args.words.now) (told_by c.of.result) (found.spelt_is ∙ sym (c.of.ensures ∙ found.met_is)) c.task.result c.task.ensures.refused
+
+pub returns-in-Ok-clause-traitors : goal.returns-in-Ok-clause-traitors
+returns-in-Ok-clause-traitors c =
+    let found = task_found _ (words_of c.args.words.now) (subcommand_rows_of c.in-Ok.matches) c.in_ok-lab.ensures
+    c.in-Ok.ensures.kinds (λ e. (c.in-Ok.ensures.matches e).1) in
+    traitors_are_refused (words_of c.args.words.now) (told_by c.of.result) (found.spelt_is ∙ sym (c.of.ensures ∙ found.met_is)) c.task.result c.task.ensures.refused
 
 pub returns-else-eq-clause-refused : goal.returns-else-eq-clause-refused
 returns-else-eq-clause-refused c =

@@ -5,5 +5,5 @@ use Rattle.lab.proofs.reading.read_program.Goals as goal
 
 pub returns-in-Ok-Longer-clause-fault : goal.returns-in-Ok-Longer-clause-fault
 returns-in-Ok-Longer-clause-fault g c =
-    let within : IsWithin 32768 (g.R.Source.bytes c.args.source) (Longer c.in-Ok-Longer.number) = rw c.in-Ok-Longer.field-0-is at c.in-Ok-Longer.ensures.within in
-    (λ e. cc, refused_long (g.R.Source.bytes c.args.source) c.in-Ok-Longer.number c.too_long.result within.1 c.too_long.ensures)
+    let within : IsWithin 32768 (g.R.Source.bytes c.args.source) (Longer c.in-Ok-Longer.front c.in-Ok-Longer.number) = rw c.in-Ok-Longer.field-0-is at c.in-Ok-Longer.ensures.within in
+    rw (c.of_bytes.ensures, c.as_slice.ensures.value) (λ e. cc, refused_long (g.R.Source.bytes c.args.source) c.in-Ok-Longer.number c.in-Ok-Longer.front.items c.too_long.result within.1 c.too_long.ensures)

@@ -1,9 +1,11 @@
 use Rattle.std.proofs.Common.{ℕ, ◌≡◌, List, ap, refl, subst, sym}
 use Rattle.std.proofs.lemmas.Result.{IfErr-weaker, IfOk-weaker}
 use Rattle.lab.specs.Answers.{ComesTo, Prints}
+use Rattle.lab.specs.Refusals.{Refuses}
 use Rattle.lab.specs.Serving.{Files, files}
-use Rattle.lab.specs.declared.outcome.Outcome.TheVariants.{Text, Play, Muster, Audit}
-use Rattle.lab.proofs.FilesLemmas.{answered_alone, answered_audited, answered_mustered, answered_played, prevented_auditing, prevented_playing, second_named}
+use Rattle.lab.specs.declared.outcome.Outcome.TheVariants.{Text, Bytes, Play, Muster, Audit}
+use Rattle.lab.proofs.FilesLemmas.{answered_alone, answered_audited, answered_mustered, answered_played, first_named, prevented_auditing, prevented_playing, second_named}
+use Rattle.lab.proofs.FirstLemmas.{prevented_first}
 use Rattle.lab.proofs.serving.answered.Goals as goal
 
 pub returns-in-Ok-Text-clause-answer : goal.returns-in-Ok-Text-clause-answer
@@ -14,6 +16,13 @@ returns-in-Ok-Text-clause-answer g c =
     let answered : ComesTo task c.in_ok-bytes.bytes.items (Text c.in-Ok-Text.text) = rw (c.as_slice.ensures.value, is) at c.in-Ok-Text.ensures.answered in
     answered_alone task both c.in_ok-bytes.bytes.items c.into_bytes.result.items c.in_ok-bytes.ensures.whole
     (λ second. subst (λ (text : List ℕ). Prints task c.in_ok-bytes.bytes.items second text) (sym (ap (λ v. v.items) c.into_bytes.ensures.value)) (answered second))
+
+pub returns-in-Ok-Bytes-clause-answer : goal.returns-in-Ok-Bytes-clause-answer
+returns-in-Ok-Bytes-clause-answer g c =
+    let both : Files = files g.R.Source.bytes c.args.first c.args.second in
+    let is : c.in-Ok-Bytes.field-0 ≡ Bytes c.in-Ok-Bytes.bytes = c.in-Ok-Bytes.field-0-is in
+    let answered : ComesTo c.args.task.now c.in_ok-bytes.bytes.items (Bytes c.in-Ok-Bytes.bytes) = rw (c.as_slice.ensures.value, is) at c.in-Ok-Bytes.ensures.answered in
+    answered_alone c.args.task.now both c.in_ok-bytes.bytes.items c.in-Ok-Bytes.bytes.items c.in_ok-bytes.ensures.whole answered
 
 pub returns-in-Ok-Play-clause-answer : goal.returns-in-Ok-Play-clause-answer
 returns-in-Ok-Play-clause-answer g c =
@@ -61,3 +70,11 @@ returns-in-Ok-Audit-clause-fault g c =
     prevented_auditing c.args.task.now both _ _ c.in_ok-bytes.bytes.items c.unwrap_or-file.result.now c.in-Ok-Audit.scenario fault c.in_ok-bytes.ensures.whole comes
     (second_named c.args.task.now c.second.result c.unwrap_or-file.result _ c.second.ensures c.unwrap_or-file.ensures refl) why)
     c.audit_of.ensures.fault
+
+pub returns-clause-fault : goal.returns-clause-fault
+returns-clause-fault g c =
+    let both : Files = files g.R.Source.bytes c.args.first c.args.second in
+    let refuses : Refuses c.args.task.now c.in_ok-bytes.bytes.items c.in-Err.refusal = rw (c.as_slice.ensures.value) at c.in-Err.ensures.refused in
+    rw (c.of_bytes.ensures, c.as_slice-in-Err.ensures.value)
+    (prevented_first c.args.task.now both _ _ c.in_ok-bytes.bytes.items c.in-Err.refusal c.unwrap_or.result c.in_ok-bytes.ensures.whole
+    (first_named c.args.task.now c.file.result c.unwrap_or.result _ c.file.ensures c.unwrap_or.ensures refl) refuses)

@@ -1,0 +1,45 @@
+use std::fs::File;
+use std::io::{self, Stdout, Write};
+
+/// Where a task's answer goes.
+#[derive(Drop)]
+pub enum Target<'a> {
+    /// Standard output.
+    Standard(Stdout),
+    /// A file of this name, which is made by the first write: where there is no answer, none is.
+    Unmade { rt: &'a HostRuntime, name: &'a str },
+    /// The file, once it is made.
+    File(File),
+}
+
+impl<'a> Target<'a> {
+    /// The file of this name; where there is none, or a hyphen, standard output.
+    pub fn of(rt: &'a HostRuntime, name: Option<&'a str>) -> Target<'a> {
+        match name {
+            None | Some("-") => Target::Standard(rt.stdout()),
+            Some(name) => Target::Unmade { rt, name },
+        }
+    }
+}
+
+impl Write for Target<'_> {
+    fn write(&mut self, buf: &[u8]) -> io::Result<usize> {
+        if let Target::Unmade { rt, name } = self {
+            let made = File::create(*rt, *name)?;
+            *self = Target::File(made);
+        }
+        match self {
+            Target::Standard(stdout) => stdout.write(buf),
+            Target::File(file) => file.write(buf),
+            Target::Unmade { .. } => Ok(0),
+        }
+    }
+
+    fn flush(&mut self) -> io::Result<()> {
+        match self {
+            Target::Standard(stdout) => stdout.flush(),
+            Target::File(file) => file.flush(),
+            Target::Unmade { .. } => Ok(()),
+        }
+    }
+}

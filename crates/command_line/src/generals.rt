@@ -1,0 +1,58 @@
+ghost use Rattle.std.specs.Prelude.{◌≡◌, ◌≢◌, IfOk, IfErr, Some, None};
+ghost use Rattle.command_line.specs.Generals.{general_in, generals_in};
+ghost use Rattle.command_line.specs.declared.generals.GeneralsError.TheVariants.{Memory};
+
+use std::alloc::{AllocError, Global};
+use text::{Stop, decimal, piece};
+
+const COMMA: Stop = Stop::Byte(b',');
+
+/// Why a word names no generals.
+pub(crate) enum GeneralsError {
+    /// A part of it is no number of a general.
+    NoGeneral,
+    /// Want of memory.
+    Memory,
+}
+
+impl From<AllocError> for GeneralsError {
+    ghost from_gives = { λ _ e. e ≡ Memory };
+
+    fn from(_error: AllocError) -> GeneralsError {
+        GeneralsError::Memory
+    }
+}
+
+/// The generals of `G,H`.
+#[tactic(auto, unfolding(crate::specs::Generals::generals_in))]
+pub(crate) fn generals(alloc: Global, word: &str) -> Result<Vec<u8>, GeneralsError>
+    ensures named { IfOk result (λ generals. generals_in word.now ≡ Some generals.items) }
+    ensures none { IfErr result (λ e. e ≢ Memory → generals_in word.now ≡ None) }
+{
+    let mut generals = Vec::new(alloc);
+    let mut rest = Some(word.as_bytes());
+    while let Some(parts) = rest {
+        let (part, behind) = piece(COMMA, parts);
+        let Some(named) = general(part) else {
+            return Err(GeneralsError::NoGeneral);
+        };
+        if let Err(error) = generals.push(named) {
+            return Err(GeneralsError::from(AllocError::from(error)));
+        }
+        rest = behind;
+    }
+    Ok(generals)
+}
+
+/// The number of a general.
+#[tactic(auto, unfolding(crate::specs::Generals::general_in))]
+fn general(part: &[u8]) -> Option<u8>
+    ensures { result ≡ general_in part.now }
+{
+    let number = decimal(part)?;
+    if number < 13 {
+        Some(number as u8)
+    } else {
+        None
+    }
+}
