@@ -44,5 +44,5 @@ pub sum_by-kept : (sources : List Kept) → sum_by placed_units (map kept_view s
 sum_by-kept [] = refl
 sum_by-kept (k ∷ ks) = sum_by-cons placed_units (kept_view k) (map kept_view ks) ∙ ap (λ n. placed_units (kept_view k) + n) (sum_by-kept ks) ∙ sym (sum_by-cons (λ x. placed_units (kept_view x)) k ks)
 
-pub units_are : (kept : Reading) (r : Read) → Keeps kept r → kept.units ≡ units_kept kept.sources.items
-units_are kept r k = k.units ∙ ap (λ s. sum_by placed_units s) (sym k.sources) ∙ sum_by-kept kept.sources.items
+pub units_are : (kept : Reading) (r : Read) → Keeps kept r → kept.units ≤ 4096 → kept.units ≡ units_kept kept.sources.items
+units_are kept r k few = k.units ∙ ap (λ s. sum_by placed_units s) (sym (k.sources few)) ∙ sum_by-kept kept.sources.items
