@@ -1,5 +1,5 @@
 -- What a text says extends 32 bits at 64 alone.
-use Rattle.std.proofs.Common.{◌≡◌, ℕ, ◌+◌, ◌<◌, Bool, true, false, cond, List, [], ◌∷◌, ◌++◌, Option, Some, None, map, get_or, length, refl, sym, subst}
+use Rattle.std.proofs.Common.{◌≡◌, ℕ, ◌+◌, ◌<◌, ◌≤◌, Bool, true, false, cond, List, [], ◌∷◌, ◌++◌, Option, Some, None, map, get_or, length, refl, sym, subst}
 use Rattle.std.specs.Prelude.{Result, Ok, Err, is_some, slice_index, ◌^◌}
 use Rattle.std.specs.Option.{ok_or}
 use Rattle.std.specs.List.{AllByRecursion}
@@ -126,8 +126,8 @@ kept_well [] all = tt
 kept_well (k ∷ ks) all = (all.0, kept_well ks all.1)
 
 -- what was read of a text
-pub gathered_well : (kept : Reading) (texts : List (List ℕ)) (r : Read) → read_on nothing 1 texts ≡ Ok r → Keeps kept r → AreWellKept kept.sources.items
-gathered_well kept texts r h k = kept_well kept.sources.items (subst (AllByRecursion IsWellPlaced) (sym k.sources) (read_well texts 1 nothing r h tt))
+pub gathered_well : (kept : Reading) (texts : List (List ℕ)) (r : Read) → read_on nothing 1 texts ≡ Ok r → Keeps kept r → kept.units ≤ 4096 → AreWellKept kept.sources.items
+gathered_well kept texts r h k few = kept_well kept.sources.items (subst (AllByRecursion IsWellPlaced) (sym (k.sources few)) (read_well texts 1 nothing r h tt))
 
 -- one of them
 pub kept_well_at : (sources : List Kept) (i : ℕ) (k : Kept) → AreWellKept sources → i < length sources → k ≡ get_or sources i k → IsWellSource (kept_view k).source

@@ -1,5 +1,5 @@
 -- What the assembler keeps.
-use Rattle.std.specs.Prelude.{ℕ, ◌≡◌, ◌+◌, List, [], ◌∷◌, map, length, Option, Some, None, Result, Ok, Err}
+use Rattle.std.specs.Prelude.{ℕ, ◌≡◌, ◌+◌, ◌≤◌, List, [], ◌∷◌, map, length, Option, Some, None, Result, Ok, Err}
 use Rattle.std.proofs.Common.{Bor}
 use Rattle.std.specs.Cmp.Lexicographic.{slice_cmp}
 use Rattle.std.specs.Ordering.{nat_cmp}
@@ -23,10 +23,11 @@ use Rattle.asm.specs.Views.{Fails, kept_view}
 abbrev pub Finds : BTreeMap (Bor (List ℕ)) ℕ → List (List ℕ × ℕ) → Type 0
 Finds map names = (name : List ℕ) → get_by (λ k. slice_cmp nat_cmp name k.now) map ≡ defined names name
 
--- the code's reading is this one
+-- the code's reading is this one; at most as many statements are kept as a program has, and where their units are no more, all
 pub record Keeps (kept : Reading) (r : Read) : Type 0 where
   pub units : kept.units ≡ units_in r
-  pub sources : map kept_view kept.sources.items ≡ r.sources
+  pub sources : kept.units ≤ 4096 → map kept_view kept.sources.items ≡ r.sources
+  pub few : length kept.sources.items ≤ 4096
   pub names : Finds kept.names r.names
 
 -- how many units the kept statements take

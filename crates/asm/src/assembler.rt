@@ -1,22 +1,22 @@
 //! The assembler.
 
-ghost use Rattle.std.specs.Prelude.{◌≡◌, Some, IfOk};
+ghost use Rattle.std.specs.Prelude.{◌≡◌, ◌≤◌, Some, IfOk};
 ghost use Rattle.asm.specs.Program.{Read, said, program_of, program_in};
 ghost use Rattle.asm.specs.Keeping.{Keeps, Answers, AreWellKept, units_kept};
 
 use crate::fault::{AsmError, Fault};
-use crate::reading::{Reading, gather};
+use crate::reading::{MOST_UNITS, Reading, gather};
 use crate::resolver::resolve_all;
 use insn::Program;
 use std::alloc::Global;
 
 /// The program of what was read.
 fn finish(alloc: Global, reading: &Reading<'_>) -> Result<Program, AsmError>
-    requires units { reading.now.units ≡ units_kept reading.now.sources.items }
-    requires well { AreWellKept reading.now.sources.items }
+    requires units { reading.now.units ≤ 4096 → reading.now.units ≡ units_kept reading.now.sources.items }
+    requires well { reading.now.units ≤ 4096 → AreWellKept reading.now.sources.items }
     ensures { (r : Read) → Keeps reading.now r → Answers result (program_in reading.now.lines r) }
 {
-    if reading.units == 0 || reading.units > 4096 {
+    if reading.units == 0 || reading.units > MOST_UNITS {
         return Err(AsmError::At(
             Fault::Count,
             if reading.lines == 0 { 1 } else { reading.lines },

@@ -10,8 +10,12 @@ use crate::kept::{Draft, Kept, Statement, units};
 use crate::line::next_line;
 use crate::outline::read_outline;
 use crate::statement::read_statement;
+use insn::Program;
 use std::alloc::Global;
 use std::collections::BTreeMap;
+
+/// The greatest number of units of a program; statements past it are counted, and not kept.
+pub const MOST_UNITS: u64 = Program::MOST_UNITS as u64;
 
 /// What the lines so far say.
 #[derive(Drop)]
@@ -20,6 +24,7 @@ pub struct Reading<'a> {
     pub names: BTreeMap<&'a [u8], u64>,
     /// How many units the statements take.
     pub units: u64,
+    /// The statements, where they take at most 4,096 units: past those none is added.
     pub sources: Vec<Kept<'a>>,
     /// How many lines there are.
     pub lines: u64,
@@ -61,6 +66,7 @@ fn push_kept<'a>(
     Ok(())
 }
 
+/// Counts a statement, and keeps it where the program has room for it.
 fn put_source<'a>(
     reading: &mut Reading<'a>,
     statement: &Statement<'a>,
@@ -70,8 +76,10 @@ fn put_source<'a>(
     ensures read { (r : Read) → Keeps reading.old r → KeepsRead result reading.new (with_source r line (Some (source_view statement.now))) }
     ensures units { reading.new.units ≤ reading.old.units + 2 }
 {
-    push_kept(&mut reading.sources, statement.draft, statement.name, line)?;
     reading.units += units(statement);
+    if reading.units <= MOST_UNITS {
+        push_kept(&mut reading.sources, statement.draft, statement.name, line)?;
+    }
     Ok(())
 }
 
@@ -115,7 +123,7 @@ fn read_line<'a>(
 /// What the lines of the text say.
 pub fn gather<'a>(alloc: Global, text: &'a [u8]) -> Result<Reading<'a>, AsmError>
     ensures read { GivesGathered result (read_on nothing 1 (lines_of text.now)) }
-    ensures units { IfOk result (λ reading. reading.units ≡ units_kept reading.sources.items) }
+    ensures units { IfOk result (λ reading. reading.units ≤ 4096 → reading.units ≡ units_kept reading.sources.items) }
     ensures lines { IfOk result (λ reading. reading.lines ≡ length (lines_of text.now)) }
 {
     let mut reading = Reading {

@@ -84,7 +84,8 @@ fn resolve(
 
 /// The instructions of what was read.
 pub fn resolve_all(alloc: Global, reading: &Reading<'_>) -> Result<Vec<Insn>, AsmError>
-    requires bound { units_kept reading.now.sources.items ≤ 4096 }
+    requires bound { reading.now.units ≤ 4096 }
+    requires units { reading.now.units ≡ units_kept reading.now.sources.items }
     requires well { AreWellKept reading.now.sources.items }
     ensures said { (r : Read) → Keeps reading.now r → AnswersBy (λ v. v.items) result (insns_on r.names 0 [] r.sources) }
     ensures units { IfOk result (λ v. length (slots_of v.items) ≡ units_kept reading.now.sources.items) }

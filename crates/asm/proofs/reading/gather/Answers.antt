@@ -9,7 +9,7 @@ loop-line-init c = record {
   room = omega arith;
   counted = omega arith;
   numbered = omega arith;
-  kept = (nothing, record { units = refl; sources = search rules; names = λ q. grind (arith, common_steps) }, refl);
+  kept = (nothing, record { units = refl; sources = λ few. search rules; few = search rules; names = λ q. grind (arith, common_steps) }, refl);
 }
 
 pub returns-clause-units : goal.returns-clause-units
