@@ -1,0 +1,45 @@
+-- The lines that are printed of a trial.
+use Rattle.std.specs.Prelude.{ℕ, ◌==◌, if◌then◌else◌, List, [], ◌++◌, map, length, codes, Option, Some, None}
+use Rattle.std.specs.Fmt.{decimal}
+use Rattle.std.specs.List.{flat_map, enumerate_from}
+use Rattle.insn.specs.declared.insn.Insn.{Insn}
+use Rattle.insn.specs.Program.{slots_of}
+use Rattle.label.specs.declared.shape.Shape.{Shape}
+use Rattle.label.specs.Relay.{relay, receivers}
+use Rattle.semantics.specs.State.{Outbox}
+use Rattle.outbox.specs.Contents.{order_at}
+use Rattle.trial.specs.Setting.{Setting}
+use Rattle.trial.specs.Trial.{Ending}
+
+-- how large the program is, and how it exited
+abbrev pub first_lines : List Insn → ℕ → ℕ → List ℕ
+first_lines program r0 steps =
+    codes "accepted " ++ decimal (length program) ++ codes " instructions "
+    ++ decimal (length (slots_of program)) ++ codes " units\nr0 " ++ decimal r0
+    ++ codes " steps " ++ decimal steps ++ codes "\n"
+
+-- the order for a label and a receiver, where one was put
+abbrev pub put_line : ℕ → ℕ → Option ℕ → List ℕ
+put_line rank receiver None = []
+put_line rank receiver (Some order) =
+    codes "put " ++ decimal rank ++ codes " " ++ decimal receiver ++ codes " " ++ decimal order ++ codes "\n"
+
+-- those for a label, by receiver
+unfoldable pub row_lines : Shape → Outbox → ℕ → List ℕ → List ℕ
+row_lines shape outbox rank names = flat_map (λ p. put_line rank p (order_at shape outbox rank p)) names
+
+-- those for all labels that are relayed, by rank
+unfoldable pub put_lines : Shape → Outbox → List ℕ
+put_lines shape outbox = flat_map (λ row. row_lines shape outbox row.0 row.1) (enumerate_from 0 (map (receivers shape) (relay shape)))
+
+-- a word of the board, where it is not zero any more
+abbrev pub word_line : ℕ → ℕ → List ℕ
+word_line index word = if word == 0 then [] else codes "word " ++ decimal index ++ codes " " ++ decimal word ++ codes "\n"
+
+unfoldable pub word_lines : List ℕ → List ℕ
+word_lines words = flat_map (λ w. word_line w.0 w.1) (enumerate_from 0 words)
+
+-- all lines of a trial that ended so
+abbrev pub trial_lines : List Insn → Setting → Ending → List ℕ
+trial_lines program setting e =
+    first_lines program e.r0 e.state.steps ++ put_lines setting.shape e.state.outbox ++ word_lines e.words
