@@ -1,3 +1,5 @@
+pub mod Histories
 pub mod Items
 pub mod Rows
 pub mod Serving
+pub mod Trying

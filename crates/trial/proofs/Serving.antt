@@ -1,5 +1,5 @@
 -- Requests that are served in turn.
-use Rattle.std.proofs.Common.{◌≡◌, ℕ, zero, suc, ◌+◌, ◌-◌, ◌<◌, ◌≤◌, List, [], ◌∷◌, ◌++◌, Some, None, true, refl, sym, ap, subst, ◌∙◌, length, arith}
+use Rattle.std.proofs.Common.{◌≡◌, ℕ, zero, suc, ◌+◌, ◌-◌, ◌<◌, ◌≤◌, List, Option, Some, refl, sym, ap, subst, ◌∙◌, length, arith}
 use Rattle.std.specs.Prelude.{replicate}
 use Rattle.insn.specs.declared.insn.Insn.{Insn}
 use Rattle.label.specs.declared.shape.Shape.{Shape}
@@ -14,6 +14,7 @@ use Rattle.semantics.specs.Whole.{CountsOnce}
 use Rattle.semantics.proofs.StepLaws.{step_counts, resumed_counts}
 use Rattle.board.specs.Board.{reply, next}
 use Rattle.board.specs.Ledger.{RecordedBoard}
+use Rattle.machine.specs.declared.pause.Ended.{Ended}
 use Rattle.machine.specs.Standing.{Standing, Asking}
 use Rattle.machine.specs.Advance.{IsOfRun, Leads, Requests, Exits}
 use Rattle.machine.proofs.AdvanceLemmas.{fewer}
@@ -32,7 +33,7 @@ served_from program context shape a b run same zeros begun =
     record {
       of_run = run;
       shape_kept = same;
-      rest = rw (at, zeros) refl;
+      rest = (let all : length program - 0 ≡ length program = omega arith in rw (at, zeros) (ap (λ (k : ℕ). ending program context shape k (replicate 64 0) (entry (empty_outbox shape))) all));
     }
 
 -- a step that goes on
@@ -51,14 +52,17 @@ ending_exits : (program : List Insn) (context : List ℕ) (shape : Shape) (k : �
 unfolding ending
 ending_exits program context shape k words s out r0 e = ap (λ (o : Outcome). served (λ left u. ending program context shape k left u) words o) e
 
--- one step fewer is left behind a step
-left_less : (most k steps : ℕ) → most - steps ≡ suc k → most - (steps + 1) ≡ k
-left_less most k steps e = omega arith
+leads_counts : (program : List Insn) (context : List ℕ) (shape : Shape) (n : ℕ) (s t : State) → Leads program context shape n s t → s.steps ≤ t.steps
+leads_counts program context shape zero s t same = let e : s.steps ≡ t.steps = ap (λ (u : State). u.steps) same in omega arith
+leads_counts program context shape (suc n) s t (next, is, more) =
+    let counted : next.steps ≡ s.steps + 1 = subst (λ (o : Outcome). CountsOnce s o) is (step_counts program context shape s) in
+    let ih = leads_counts program context shape n next t more in
+    omega arith
 
 -- so many steps on
 ending_leads : (program : List Insn) (context : List ℕ) (shape : Shape) (n : ℕ) (words : List ℕ) (s t : State) → Leads program context shape n s t → t.steps < length program
     → ending program context shape (length program - s.steps) words s ≡ ending program context shape (length program - t.steps) words t
-ending_leads program context shape zero words s t same lt = rw same refl
+ending_leads program context shape zero words s t same lt = ap (λ (u : State). ending program context shape (length program - u.steps) words u) same
 ending_leads program context shape (suc n) words s t (u, is, more) lt =
     let counted : u.steps ≡ s.steps + 1 = subst (λ (o : Outcome). CountsOnce s o) is (step_counts program context shape s) in
     let few : u.steps ≤ t.steps = leads_counts program context shape n u t more in
@@ -66,10 +70,64 @@ ending_leads program context shape (suc n) words s t (u, is, more) lt =
     ap (λ (k : ℕ). ending program context shape k words s) left
     ∙ (ending_next program context shape (length program - u.steps) words s u is
     ∙ ending_leads program context shape n words u t more lt)
+
+-- it goes on from the board's answer
+pub serves_on : (program : List Insn) (context : List ℕ) (shape : Shape) (limit : ℕ) (a t : Standing) (b d : RecordedBoard) (request : Request) (w : Asking) (words : List ℕ) (s : IsServing program context shape a b) → limit ≤ length program →
+    Requests program context a.shape s.of_run.answers limit a.state request w → t.shape ≡ w.shape → t.state ≡ resumed w.request words w.state → IsOfRun program context t →
+    words ≡ reply b.words request → d.words ≡ next b.words request → IsServing program context shape t d
+serves_on program context shape limit a t b d request w words s few r same is run answer left =
+    let most = length program in
+    let leads : Leads program context shape r.taken a.state w.last = subst (λ (own : Shape). Leads program context own r.taken a.state w.last) s.shape_kept r.leads in
+    let asks : step program context shape w.last ≡ Ask request w.state = ap (λ (own : Shape). step program context own w.last) (sym s.shape_kept) ∙ r.asks in
+    let on : t.state ≡ resumed request (reply b.words request) w.state = is ∙ (ap (λ (q : Request). resumed q words w.state) r.same ∙ ap (λ (l : List ℕ). resumed request l w.state) answer) in
+    let last : w.last.steps < most = (let h = r.before in omega arith) in
+    let counted : w.state.steps ≡ w.last.steps + 1 = r.counted in
+    let kept : t.state.steps ≡ w.state.steps = ap (λ (u : State). u.steps) is ∙ resumed_counts w.request words w.state in
+    let fewer_left : most - w.last.steps ≡ suc (most - t.state.steps) = omega arith in
+    record {
+      of_run = run;
+      shape_kept = same ∙ (r.shape_kept ∙ s.shape_kept);
+      rest = (
+          ap (λ (ws : List ℕ). ending program context shape (most - t.state.steps) ws t.state) left
+          ∙ (ap (λ (u : State). ending program context shape (most - t.state.steps) (next b.words request) u) on
+          ∙ (sym (ending_asks program context shape (most - t.state.steps) b.words w.last w.state request asks)
+          ∙ (ap (λ (k : ℕ). ending program context shape k b.words w.last) (sym fewer_left)
+          ∙ (sym (ending_leads program context shape r.taken b.words a.state w.last leads last) ∙ s.rest))))
+          );
+    }
+
+-- each answer leaves fewer steps
+pub goes_further : (program : List Insn) (context : List ℕ) (limit : ℕ) (answers : List (List ℕ)) (a t : Standing) (request : Request) (w : Asking) (words : List ℕ) → IsSound program → IsOfRun program context a →
+    Requests program context a.shape answers limit a.state request w → t.state ≡ resumed w.request words w.state → length program - t.state.steps < length program - a.state.steps
+goes_further program context limit answers a t request w words sound run r is =
+    let less : a.state.steps < length program = fewer program context a sound run in
+    let on : a.state.steps ≤ w.last.steps = leads_counts program context a.shape r.taken a.state w.last r.leads in
+    let counted : w.state.steps ≡ w.last.steps + 1 = r.counted in
+    let same : t.state.steps ≡ w.state.steps = ap (λ (u : State). u.steps) is ∙ resumed_counts w.request words w.state in
+    omega arith
+
+-- the exit
+pub served_to : (program : List Insn) (context : List ℕ) (shape : Shape) (limit r0 : ℕ) (a new : Standing) (b : RecordedBoard) (ended : Ended) (s : IsServing program context shape a b) → limit ≤ length program →
+    Exits program context a.shape s.of_run.answers limit a.state ended → ended.steps ≡ new.state.steps → after program context a.shape s.of_run.answers new.state.steps ≡ Exited r0 new.state
+    → trial program context shape ≡ Some (record { r0 = r0; state = new.state; words = b.words })
+served_to program context shape limit r0 a new b ended s few e count stands =
+    let most = length program in
+    let leads : Leads program context shape e.taken a.state e.last = subst (λ (own : Shape). Leads program context own e.taken a.state e.last) s.shape_kept e.leads in
+    let exit : step program context shape e.last ≡ Exit e.r0 e.out = ap (λ (own : Shape). step program context own e.last) (sym s.shape_kept) ∙ e.exit in
+    let last : e.last.steps < most = (let h = e.before in omega arith) in
+    let one : most - e.last.steps ≡ suc (most - e.last.steps - 1) = omega arith in
+    let both : Exited e.r0 e.out ≡ Exited r0 new.state = sym e.run ∙ (ap (λ (n : ℕ). after program context a.shape s.of_run.answers n) count ∙ stands) in
+    sym s.rest
+    ∙ (ending_leads program context shape e.taken b.words a.state e.last leads last
+    ∙ (ap (λ (k : ℕ). ending program context shape k b.words e.last) one
+    ∙ (ending_exits program context shape (most - e.last.steps - 1) b.words e.last e.out e.r0 exit
+    ∙ same_end e.r0 r0 e.out new.state b.words both)))
   where
-    leads_counts : (program : List Insn) (context : List ℕ) (shape : Shape) (n : ℕ) (s t : State) → Leads program context shape n s t → s.steps ≤ t.steps
-    leads_counts program context shape zero s t same = let e : s.steps ≡ t.steps = ap (λ (u : State). u.steps) same in omega arith
-    leads_counts program context shape (suc n) s t (next, is, more) =
-        let counted : next.steps ≡ s.steps + 1 = subst (λ (o : Outcome). CountsOnce s o) is (step_counts program context shape s) in
-        let ih = leads_counts program context shape n next t more in
-        omega arith
+    ended_so : ℕ → State → List ℕ → Option Ending
+    ended_so n s words = Some (record { r0 = n; state = s; words = words })
+
+    same_end : (m n : ℕ) (s t : State) (words : List ℕ) → Exited m s ≡ Exited n t → ended_so m s words ≡ ended_so n t words
+    same_end m n s t words e =
+        let numbers : m ≡ n = (let h = e in cc) in
+        let states : s ≡ t = (let h = e in cc) in
+        ap (λ (k : ℕ). ended_so k s words) numbers ∙ ap (λ (u : State). ended_so n u words) states

@@ -12,10 +12,10 @@ use Rattle.trial.specs.Setting.{Setting}
 use Rattle.trial.specs.Trial.{Ending}
 
 -- how large the program is, and how it exited
-abbrev pub first_lines : List Insn → ℕ → ℕ → List ℕ
-first_lines program r0 steps =
-    codes "accepted " ++ decimal (length program) ++ codes " instructions "
-    ++ decimal (length (slots_of program)) ++ codes " units\nr0 " ++ decimal r0
+abbrev pub first_lines : ℕ → ℕ → ℕ → ℕ → List ℕ
+first_lines instructions units r0 steps =
+    codes "accepted " ++ decimal instructions ++ codes " instructions "
+    ++ decimal units ++ codes " units\nr0 " ++ decimal r0
     ++ codes " steps " ++ decimal steps ++ codes "\n"
 
 -- the order for a label and a receiver, where one was put
@@ -42,4 +42,5 @@ word_lines words = flat_map (λ w. word_line w.0 w.1) (enumerate_from 0 words)
 -- all lines of a trial that ended so
 abbrev pub trial_lines : List Insn → Setting → Ending → List ℕ
 trial_lines program setting e =
-    first_lines program e.r0 e.state.steps ++ put_lines setting.shape e.state.outbox ++ word_lines e.words
+    first_lines (length program) (length (slots_of program)) e.r0 e.state.steps
+    ++ put_lines setting.shape e.state.outbox ++ word_lines e.words

@@ -11,9 +11,10 @@ pub record Setting : Type 0 where
   pub taken : List ℕ
 
 -- the limits of a campaign, and an order for each label
-pub record IsSetting (s : Setting) : Type 0 where
+pub record IsTold (s : Setting) : Type 0 where
   pub shape : IsShape s.shape
   pub rounds : s.shape.round ≤ s.bound + 1
+  pub few : s.bound ≤ 4
   pub enough : s.bound + 2 ≤ s.shape.generals
   pub each : length s.taken ≡ length (relay s.shape)
 

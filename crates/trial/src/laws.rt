@@ -1,7 +1,13 @@
 //! Laws of trials: each function does nothing, and its contract is the law.
-ghost use Rattle.trial.specs.Laws.{TrialsAreRuns};
+ghost use Rattle.trial.specs.Laws.{TrialsAreRuns, ContextsAreSettings};
 
 /// A trial that ends is the run of its program with the answers that a board of zeros gave, and it leaves that board's words.
 pub fn trials_are_runs()
     ensures { TrialsAreRuns }
+{}
+
+/// What a general is told in a campaign is what he is told in a setting: that of his relay, the campaign's bound, and the
+/// orders that he took.
+pub fn contexts_are_settings()
+    ensures { ContextsAreSettings }
 {}

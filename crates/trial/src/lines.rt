@@ -1,5 +1,6 @@
 //! What is printed of a trial.
-ghost use Rattle.std.specs.Prelude.{◌≡◌, ◌++◌, Some, IfOk, OnOk, string_bytes};
+ghost use Rattle.std.specs.Prelude.{◌≡◌, ◌++◌, Some, IfOk, OnOk, length, string_bytes};
+ghost use Rattle.insn.specs.Program.{slots_of};
 ghost use Rattle.trial.specs.Lines.{first_lines, put_line, row_lines, put_lines, word_line, word_lines};
 ghost use Rattle.trial.specs.Told.{IsTried};
 
@@ -32,11 +33,17 @@ pub fn tried(alloc: Global, verified: &Verified, setting: &Setting) -> Result<St
 /// The lines of a run that has ended.
 fn lines(alloc: Global, program: &Program, exited: &Exited) -> Result<String, AllocError>
     ensures { IfOk result (λ text. string_bytes text ≡
-        first_lines program.now exited.now.r0 exited.now.activation.state.steps
+        first_lines (length program.now) (length (slots_of program.now)) exited.now.r0 exited.now.activation.state.steps
         ++ put_lines exited.now.activation.shape exited.now.activation.state.outbox
         ++ word_lines exited.now.board.words) }
 {
-    let mut text = first_lines(alloc, program, exited.r0, exited.activation.steps())?;
+    let mut text = first_lines(
+        alloc,
+        program.len(),
+        program.units(),
+        exited.r0,
+        exited.activation.steps(),
+    )?;
     push_orders(alloc, &mut text, exited.activation.outbox())?;
     push_words(alloc, &mut text, exited.board.words())?;
     Ok(text)
@@ -45,14 +52,13 @@ fn lines(alloc: Global, program: &Program, exited: &Exited) -> Result<String, Al
 /// How large the program is, and how it exited.
 fn first_lines(
     alloc: Global,
-    program: &Program,
+    instructions: usize,
+    units: usize,
     r0: u64,
     steps: u32,
 ) -> Result<String, AllocError>
-    ensures { IfOk result (λ text. string_bytes text ≡ first_lines program.now r0 steps) }
+    ensures { IfOk result (λ text. string_bytes text ≡ first_lines instructions units r0 steps) }
 {
-    let instructions = program.len();
-    let units = program.units();
     format!(in alloc; "accepted {instructions} instructions {units} units\nr0 {r0} steps {steps}\n")
 }
 
@@ -110,12 +116,7 @@ fn push_words(alloc: Global, text: &mut String, words: &[u64]) -> Result<(), All
 }
 
 /// Adds the line of one word.
-fn push_word(
-    alloc: Global,
-    text: &mut String,
-    index: usize,
-    word: u64,
-) -> Result<(), AllocError>
+fn push_word(alloc: Global, text: &mut String, index: usize, word: u64) -> Result<(), AllocError>
     ensures { OnOk result (string_bytes text.new ≡ string_bytes text.old ++ word_line index word) }
 {
     if word == 0 {

@@ -34,8 +34,17 @@ fn setting(alloc: Global, table: &Table) -> Result<Setting, SettingError>
     let bound = number(Place::Key(Name::Bound), 0, most, at(table, Name::Bound))?;
     let place = Place::Key(Name::Commander);
     let commander = general(place, generals, at(table, Name::Commander))?;
-    let own = general(Place::Key(Name::General), generals, at(table, Name::General))?;
-    let round = number(Place::Key(Name::Round), 1, bound + 1, at(table, Name::Round))?;
+    let own = general(
+        Place::Key(Name::General),
+        generals,
+        at(table, Name::General),
+    )?;
+    let round = number(
+        Place::Key(Name::Round),
+        1,
+        bound + 1,
+        at(table, Name::Round),
+    )?;
     let shape = Shape {
         generals,
         commander,

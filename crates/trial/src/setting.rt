@@ -1,6 +1,5 @@
-ghost use Rattle.std.specs.Prelude.{◌≡◌, ◌<◌, ◌≤◌, ◌+◌, length, IfOk};
+ghost use Rattle.std.specs.Prelude.{◌≡◌, ◌≤◌, ◌+◌, length, vec_len, IfOk};
 ghost use Rattle.label.specs.Relay.{IsShape, relay};
-ghost use Rattle.semantics.specs.Relay.{IsContext};
 ghost use Rattle.trial.specs.Setting.{context_in};
 
 use crate::spelling::spell;
@@ -18,20 +17,21 @@ pub struct Setting {
 }
 
 impl Model for Setting {
-    ghost use Rattle.trial.specs.Setting.{Setting as Told, IsSetting};
+    ghost use Rattle.trial.specs.Setting.{Setting as Told, IsTold};
 
     ghost Value = { Told };
 
     ghost view = { λ s. record { shape = s.shape; bound = s.bound; taken = s.taken.items } };
 
-    ghost invariant = { λ s. IsSetting (record { shape = s.shape; bound = s.bound; taken = s.taken.items }) };
+    ghost invariant = { λ s. IsTold (record { shape = s.shape; bound = s.bound; taken = s.taken.items }) };
 }
 
 impl Setting {
     /// The setting of a general's relay in a campaign with this bound, with an order for each label that he relays.
-    pub fn new(shape: Shape, bound: u32, taken: Vec<u32>) -> Setting
+    pub(crate) fn new(shape: Shape, bound: u32, taken: Vec<u32>) -> Setting
         requires shape { IsShape shape }
         requires rounds { shape.round ≤ bound + 1 }
+        requires few { bound ≤ 4 }
         requires enough { bound + 2 ≤ shape.generals }
         requires each { length taken.items ≡ length (relay shape) }
         ensures { result ≡ record { shape = shape; bound = bound; taken = taken.items } }
@@ -44,26 +44,11 @@ impl Setting {
     }
 
     /// Whose relay it is.
-    pub fn shape(&self) -> Shape
+    pub(crate) fn shape(&self) -> Shape
         ensures same { result ≡ self.now.shape }
         ensures within { IsShape result }
     {
         self.shape
-    }
-
-    /// The campaign's bound, 0 to 4.
-    pub fn bound(&self) -> u32
-        ensures same { result ≡ self.now.bound }
-    {
-        self.bound
-    }
-
-    /// The orders that the general took, by the rank of their labels.
-    pub fn taken(&self) -> &[u32]
-        ensures same { result.now ≡ self.now.taken }
-        ensures each { length self.now.taken ≡ length (relay self.now.shape) }
-    {
-        self.taken.as_slice()
     }
 
     /// What the general is told there: the 4,096 bytes of his context.
@@ -71,9 +56,9 @@ impl Setting {
     /// # Errors
     ///
     /// `AllocError` where the memory for them is refused.
-    pub fn context(&self, alloc: Global) -> Result<Vec<u8>, AllocError>
+    pub(crate) fn context(&self, alloc: Global) -> Result<Vec<u8>, AllocError>
         ensures bytes { IfOk result (λ bytes. bytes.items ≡ context_in self.now) }
-        ensures context { IfOk result (λ bytes. IsContext bytes.items) }
+        ensures whole { IfOk result (λ bytes. vec_len bytes ≡ 4096) }
     {
         let Shape {
             generals,
