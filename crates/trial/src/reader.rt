@@ -32,8 +32,11 @@ fn setting(alloc: Global, table: &Table) -> Result<Setting, SettingError>
     let generals = number(Place::Key(Name::Generals), 2, 13, at(table, Name::Generals))?;
     let most = most_traitors(generals);
     let bound = number(Place::Key(Name::Bound), 0, most, at(table, Name::Bound))?;
-    let place = Place::Key(Name::Commander);
-    let commander = general(place, generals, at(table, Name::Commander))?;
+    let commander = general(
+        Place::Key(Name::Commander),
+        generals,
+        at(table, Name::Commander),
+    )?;
     let own = general(
         Place::Key(Name::General),
         generals,
