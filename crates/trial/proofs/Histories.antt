@@ -1,9 +1,12 @@
 -- A trial, access by access.
 use Rattle.std.proofs.Common.{◌≡◌, ℕ, zero, suc, ◌<◌, ◌^◌, List, [], ◌∷◌, Some, None, false, true, All, length, refl, sym, ap, subst, ◌∙◌, arith}
-use Rattle.std.specs.Prelude.{replicate}
+use Rattle.std.specs.Prelude.{replicate, IsSome}
 use Rattle.std.proofs.lemmas.List.Elements.{All-replicate}
 use Rattle.insn.specs.declared.insn.Insn.{Insn}
-use Rattle.semantics.specs.Relay.{Relay}
+use Rattle.semantics.specs.Relay.{Relay, IsRelay, IsContext}
+use Rattle.semantics.specs.Run.{IsSound}
+use Rattle.semantics.specs.Safety.{LeadsTo, IsSafe}
+use Rattle.semantics.proofs.SafetyLaws.{safe_of_sound}
 use Rattle.semantics.specs.declared.request.Request.{Request}
 use Rattle.semantics.specs.State.{State, Outcome, Next, Ask, Exit, Trap, entry}
 use Rattle.semantics.specs.Outbox.{empty_outbox}
@@ -115,3 +118,22 @@ trial_is_run program context relay e is =
       legal = w.legal;
       left = w.left;
     }
+
+-- a safe state's trial ends
+ends : (program : List Insn) (context : List ℕ) (relay : Relay) (k : ℕ) (words : List ℕ) (s : State) → IsBoard words → IsSafe program context relay k s → IsSome (ending program context relay k words s)
+unfolding ending IsSafe
+ends program context relay zero words s board safe = absurd safe
+ends program context relay (suc k) words s board safe = by (λ left t kept rest. ends program context relay k left t kept rest) (step program context relay s) refl safe
+  where
+    by : ((left : List ℕ) (t : State) → IsBoard left → IsSafe program context relay k t → IsSome (ending program context relay k left t)) → (o : Outcome) → step program context relay s ≡ o
+        → LeadsTo (λ t. IsSafe program context relay k t) o → IsSome (served (λ left t. ending program context relay k left t) words o)
+    by ih (Next t) same leads = ih words t board leads
+    by ih (Ask request t) same leads =
+        let within = asks_within program context relay s t request same in
+        ih (next words request) (resumed request (reply words request) t) (next_board words request board within) (leads (reply words request) (reply_fits words request board within))
+    by ih (Exit r0 t) same leads = refl
+    by ih (Trap cause) same leads = absurd leads
+
+pub trial_ends : (program : List Insn) (context : List ℕ) (relay : Relay) → IsSound program → IsContext context → IsRelay relay → IsSome (trial program context relay)
+trial_ends program context relay sound in_context in_limits =
+    ends program context relay (length program) (replicate 64 0) (entry (empty_outbox relay)) zeros (safe_of_sound program context relay sound in_context in_limits)

@@ -1,8 +1,9 @@
 -- What holds of every trial. Each statement is the contract of a function of this crate.
-use Rattle.std.specs.Prelude.{ℕ, suc, ◌≡◌, ◌<◌, ◌≤◌, false, List, None, Some, length, map, replicate}
+use Rattle.std.specs.Prelude.{ℕ, suc, ◌≡◌, ◌<◌, ◌≤◌, false, List, None, Some, length, map, replicate, IsSome}
 use Rattle.insn.specs.declared.insn.Insn.{Insn}
 use Rattle.label.specs.Relay.{relay}
-use Rattle.semantics.specs.Relay.{Relay}
+use Rattle.semantics.specs.Relay.{Relay, IsRelay, IsContext}
+use Rattle.semantics.specs.Run.{IsSound}
 use Rattle.semantics.specs.State.{Exit}
 use Rattle.semantics.specs.Execution.{step}
 use Rattle.board.specs.Board.{Access, IsLegal, words_after}
@@ -26,6 +27,10 @@ pub record IsRun (program : List Insn) (context : List ℕ) (relay : Relay) (e :
 
 abbrev pub TrialsAreRuns : Type 0
 TrialsAreRuns = (program : List Insn) (context : List ℕ) (relay : Relay) (e : Ending) → trial program context relay ≡ Some e → IsRun program context relay e
+
+-- whatever it is told, a sound program's trial ends
+abbrev pub TrialsEnd : Type 0
+TrialsEnd = (program : List Insn) (context : List ℕ) (relay : Relay) → IsSound program → IsContext context → IsRelay relay → IsSome (trial program context relay)
 
 -- the setting of a general in the round behind these
 abbrev pub setting_of : Scenario → List (List Letter) → ℕ → Setting

@@ -1,5 +1,10 @@
 //! Laws of trials: each function does nothing, and its contract is the law.
-ghost use Rattle.trial.specs.Laws.{TrialsAreRuns, ContextsAreSettings};
+ghost use Rattle.trial.specs.Laws.{TrialsEnd, TrialsAreRuns, ContextsAreSettings};
+
+/// The trial of a sound program ends, whatever its general is told.
+pub fn trials_end()
+    ensures { TrialsEnd }
+{}
 
 /// A trial that ends is the run of its program with the answers that a board of zeros gave, and it leaves that board's words.
 pub fn trials_are_runs()

@@ -14,7 +14,7 @@ mod setting;
 mod spelling;
 
 pub use fault::{Fault, SettingError};
-pub use laws::{contexts_are_settings, trials_are_runs};
+pub use laws::{contexts_are_settings, trials_are_runs, trials_end};
 pub use lines::tried;
 pub use place::{Name, Place};
 pub use reader::read;
