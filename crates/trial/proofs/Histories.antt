@@ -1,5 +1,5 @@
 -- A trial, access by access.
-use Rattle.std.proofs.Common.{◌≡◌, ℕ, zero, suc, ◌<◌, ◌^◌, List, [], ◌∷◌, Some, None, false, true, All, length, refl, sym, ap, subst, ◌∙◌, arith}
+use Rattle.std.proofs.Common.{◌≡◌, ℕ, zero, suc, ◌<◌, ◌^◌, List, [], ◌∷◌, Some, None, false, length, refl, sym, subst, arith}
 use Rattle.std.specs.Prelude.{replicate, IsSome}
 use Rattle.std.proofs.lemmas.List.Elements.{All-replicate}
 use Rattle.insn.specs.declared.insn.Insn.{Insn}
@@ -15,7 +15,7 @@ use Rattle.semantics.specs.Execution.{step}
 use Rattle.board.specs.Board.{Access, IsBoard, IsLegal, words_after, reply, next}
 use Rattle.board.proofs.Asking.{asks_within}
 use Rattle.board.proofs.Serving.{reply_fits, next_board}
-use Rattle.round.specs.Activation.{Activation, Turn, turned, started}
+use Rattle.round.specs.Activation.{Activation, turned}
 use Rattle.round.specs.Runs.{Onward, Runs, AreFitting}
 use Rattle.round.specs.Running.{AreAccessesOf}
 use Rattle.trial.specs.Trial.{Ending, served, ending, trial}

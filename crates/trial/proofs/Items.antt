@@ -1,5 +1,5 @@
 -- Items of an array, one after the other, beside a loop over the values.
-use Rattle.std.proofs.Common.{◌≡◌, ℕ, zero, suc, ◌+◌, ◌<◌, ◌≤◌, List, [], ◌∷◌, length, drop, get_or, Result, Ok, Err, refl, ap, sym, ◌∙◌, arith}
+use Rattle.std.proofs.Common.{◌≡◌, ℕ, zero, suc, ◌+◌, ◌<◌, ◌≤◌, List, [], ◌∷◌, length, drop, get_or, Result, Ok, refl, ap, sym, ◌∙◌, arith}
 use Rattle.toml.proofs.Views.{items_view-drop}
 use Rattle.toml.specs.Data.{Data, no_items}
 use Rattle.toml.specs.View.{view, items_view}

@@ -1,11 +1,11 @@
 -- The lines of a program's trial.
-use Rattle.std.proofs.Common.{◌≡◌, ℕ, List, ◌++◌, Some, Option, length, refl, sym, ap, subst, ◌∙◌}
+use Rattle.std.proofs.Common.{◌≡◌, ℕ, List, ◌++◌, Some, length, sym, ap, ◌∙◌}
 use Rattle.insn.specs.declared.insn.Insn.{Insn}
 use Rattle.insn.specs.Program.{slots_of}
 use Rattle.label.specs.declared.shape.Shape.{Shape}
 use Rattle.semantics.specs.State.{State}
 use Rattle.trial.specs.Setting.{Setting, context_in}
-use Rattle.trial.specs.Trial.{Ending, trial}
+use Rattle.trial.specs.Trial.{trial}
 use Rattle.trial.specs.Lines.{first_lines, put_lines, word_lines}
 use Rattle.trial.specs.Told.{IsTried}
 

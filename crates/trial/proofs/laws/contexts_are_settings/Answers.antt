@@ -1,4 +1,4 @@
-use Rattle.std.proofs.Common.{suc, ◌≤◌, ◌+◌, length, refl, arith}
+use Rattle.std.proofs.Common.{suc, length, refl, arith}
 use Rattle.std.proofs.lemmas.List.{length-map}
 use Rattle.label.specs.Relay.{relay}
 use Rattle.round.specs.Scenario.{shape_of}

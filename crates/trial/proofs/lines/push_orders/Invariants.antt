@@ -1,4 +1,4 @@
-use Rattle.std.proofs.Common.{◌≡◌, ◌++◌, ◌≤◌, length, map, take}
+use Rattle.std.proofs.Common.{◌≡◌, ◌++◌, map, take}
 use Rattle.std.specs.List.{flat_map, enumerate_from}
 use Rattle.std.specs.String.{string_bytes}
 use Rattle.label.specs.Relay.{relay, receivers}

@@ -1,5 +1,5 @@
 -- Each answer leads on.
-use Rattle.std.proofs.Common.{ℕ, ◌≡◌, ◌≤◌, ◌∙◌, length, refl, sym, ap, subst, arith}
+use Rattle.std.proofs.Common.{◌≤◌, length, refl, ap, arith}
 use Rattle.semantics.specs.Replies.{words_in}
 use Rattle.machine.specs.Standing.{Standing, Asking, before}
 use Rattle.trial.proofs.Serving.{serves_on, goes_further, served_to}
