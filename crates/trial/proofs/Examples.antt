@@ -20,7 +20,7 @@ use Rattle.trial.specs.Flaws.{Flaw, unknown, faulty}
 use Rattle.trial.specs.Checks.{setting, number, general, over, orders, taken}
 use Rattle.trial.specs.Setting.{Setting, context_in}
 use Rattle.trial.specs.Trial.{ending, trial}
-use Rattle.trial.specs.Lines.{row_lines, put_lines, word_lines, trial_lines}
+use Rattle.trial.specs.Lines.{label_lines, put_lines, word_lines, trial_lines}
 
 -- general 2 of 5 in round 3: of the labels 0.1, 0.3 and 0.4 he took the orders 1, 0 and 1
 told : Setting
@@ -36,7 +36,7 @@ shown = set 1 3 ∷ Call (pos 9) ∷ set 1 1 ∷ set 2 1 ∷ set 3 7 ∷ Call (p
 -- 3 hears the truth of the labels on which he does not stand, 1 an order for that of rank 1, and a word is counted
 printed : option_map (trial_lines shown told) (trial shown (context_in told) told.shape)
     ≡ Some (codes "accepted 10 instructions 10 units\nr0 0 steps 10\nput 0 3 1\nput 1 1 7\nput 2 3 1\nword 5 1\n")
-unfolding told set shown ending step labels context_bytes put_lines row_lines word_lines digits
+unfolding told set shown ending step labels context_bytes put_lines label_lines word_lines digits
 printed = refl
 
 -- what a text of these lines tells

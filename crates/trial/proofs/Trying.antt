@@ -11,10 +11,10 @@ use Rattle.trial.specs.Told.{IsTried}
 
 pub tried_is : (program code : List Insn) (s : Setting) (context lines words : List ℕ) (own kept : Shape) (r0 : ℕ) (state : State) → context ≡ context_in s → own ≡ s.shape → kept ≡ own → code ≡ program
     → trial program context own ≡ Some (record { r0 = r0; state = state; words = words })
-    → lines ≡ first_lines (length code) (length (slots_of code)) r0 state.steps ++ put_lines kept state.outbox ++ word_lines words → IsTried program s lines
+    → lines ≡ first_lines (length code) (length (slots_of code)) r0 state.steps ++ put_lines (record { shape = kept; rows = state.outbox }) ++ word_lines words → IsTried program s lines
 tried_is program code s context lines words own kept r0 state told shape same read ended are = (
   record { r0 = r0; state = state; words = words },
   ap (λ (bytes : List ℕ). trial program bytes s.shape) (sym told) ∙ (ap (λ (relay : Shape). trial program context relay) (sym shape) ∙ ended),
-  are ∙ (ap (λ (shown : List Insn). first_lines (length shown) (length (slots_of shown)) r0 state.steps ++ put_lines kept state.outbox ++ word_lines words) read
-      ∙ ap (λ (relay : Shape). first_lines (length program) (length (slots_of program)) r0 state.steps ++ put_lines relay state.outbox ++ word_lines words) (same ∙ shape)),
+  are ∙ (ap (λ (shown : List Insn). first_lines (length shown) (length (slots_of shown)) r0 state.steps ++ put_lines (record { shape = kept; rows = state.outbox }) ++ word_lines words) read
+      ∙ ap (λ (relay : Shape). first_lines (length program) (length (slots_of program)) r0 state.steps ++ put_lines (record { shape = relay; rows = state.outbox }) ++ word_lines words) (same ∙ shape)),
 )

@@ -1,13 +1,12 @@
 -- The lines that are printed of a trial.
-use Rattle.std.specs.Prelude.{ℕ, ◌==◌, if◌then◌else◌, List, [], ◌++◌, map, length, codes, Option, Some, None}
+use Rattle.std.specs.Prelude.{ℕ, ◌==◌, if◌then◌else◌, List, [], ◌++◌, length, codes, Option, Some, None}
 use Rattle.std.specs.Fmt.{decimal}
 use Rattle.std.specs.List.{flat_map, enumerate_from}
 use Rattle.insn.specs.declared.insn.Insn.{Insn}
 use Rattle.insn.specs.Program.{slots_of}
-use Rattle.label.specs.declared.shape.Shape.{Shape}
 use Rattle.label.specs.Relay.{relay, receivers}
-use Rattle.semantics.specs.State.{Outbox}
-use Rattle.outbox.specs.Contents.{order_at}
+use Rattle.outbox.specs.Contents.{Contents}
+use Rattle.round.specs.Letters.{tells}
 use Rattle.trial.specs.Setting.{Setting}
 use Rattle.trial.specs.Trial.{Ending}
 
@@ -24,13 +23,13 @@ put_line rank receiver None = []
 put_line rank receiver (Some order) =
     codes "put " ++ decimal rank ++ codes " " ++ decimal receiver ++ codes " " ++ decimal order ++ codes "\n"
 
--- those for a label, by receiver
-unfoldable pub row_lines : Shape → Outbox → ℕ → List ℕ → List ℕ
-row_lines shape outbox rank names = flat_map (λ p. put_line rank p (order_at shape outbox rank p)) names
+-- what the outbox tells of the label of that rank, by receiver
+unfoldable pub label_lines : Contents → ℕ → List ℕ → List ℕ
+label_lines outbox rank label = flat_map (λ p. put_line rank p (tells outbox label p)) (receivers outbox.shape label)
 
--- those for all labels that are relayed, by rank
-unfoldable pub put_lines : Shape → Outbox → List ℕ
-put_lines shape outbox = flat_map (λ row. row_lines shape outbox row.0 row.1) (enumerate_from 0 (map (receivers shape) (relay shape)))
+-- and of all labels that are relayed, by rank
+unfoldable pub put_lines : Contents → List ℕ
+put_lines outbox = flat_map (λ l. label_lines outbox l.0 l.1) (enumerate_from 0 (relay outbox.shape))
 
 -- a word of the board, where it is not zero any more
 abbrev pub word_line : ℕ → ℕ → List ℕ
@@ -43,4 +42,4 @@ word_lines words = flat_map (λ w. word_line w.0 w.1) (enumerate_from 0 words)
 abbrev pub trial_lines : List Insn → Setting → Ending → List ℕ
 trial_lines program setting e =
     first_lines (length program) (length (slots_of program)) e.r0 e.state.steps
-    ++ put_lines setting.shape e.state.outbox ++ word_lines e.words
+    ++ put_lines (record { shape = setting.shape; rows = e.state.outbox }) ++ word_lines e.words

@@ -1,7 +1,8 @@
 //! What is printed of a trial.
-ghost use Rattle.std.specs.Prelude.{◌≡◌, ◌++◌, Some, IfOk, OnOk, length, string_bytes};
+ghost use Rattle.std.specs.Prelude.{◌≡◌, ◌<◌, ◌++◌, ℕ, List, Some, IfOk, OnOk, length, slice_get, string_bytes};
 ghost use Rattle.insn.specs.Program.{slots_of};
-ghost use Rattle.trial.specs.Lines.{first_lines, put_line, row_lines, put_lines, word_line, word_lines};
+ghost use Rattle.label.specs.Relay.{relay};
+ghost use Rattle.trial.specs.Lines.{first_lines, put_line, label_lines, put_lines, word_line, word_lines};
 ghost use Rattle.trial.specs.Told.{IsTried};
 
 use crate::run::{Exited, run};
@@ -34,7 +35,7 @@ pub fn tried(alloc: Global, verified: &Verified, setting: &Setting) -> Result<St
 fn lines(alloc: Global, program: &Program, exited: &Exited) -> Result<String, AllocError>
     ensures { IfOk result (λ text. string_bytes text ≡
         first_lines (length program.now) (length (slots_of program.now)) exited.now.r0 exited.now.activation.state.steps
-        ++ put_lines exited.now.activation.shape exited.now.activation.state.outbox
+        ++ put_lines (record { shape = exited.now.activation.shape; rows = exited.now.activation.state.outbox })
         ++ word_lines exited.now.board.words) }
 {
     let mut text = first_lines(
@@ -64,25 +65,26 @@ fn first_lines(
 
 /// Adds a line for each order that was put.
 fn push_orders(alloc: Global, text: &mut String, outbox: &Outbox) -> Result<(), AllocError>
-    ensures { OnOk result (string_bytes text.new ≡ string_bytes text.old ++ put_lines outbox.now.shape outbox.now.rows) }
+    ensures { OnOk result (string_bytes text.new ≡ string_bytes text.old ++ put_lines outbox.now) }
 {
     for rank in 0..outbox.labels() {
-        push_row(alloc, text, outbox, rank, outbox.receivers(rank))?;
+        push_label(alloc, text, outbox, rank)?;
     }
     Ok(())
 }
 
-/// Adds the lines of one label, by its receivers.
-fn push_row(
+/// Adds the lines of the label of that rank.
+fn push_label(
     alloc: Global,
     text: &mut String,
     outbox: &Outbox,
     rank: u32,
-    receivers: &[u8],
 ) -> Result<(), AllocError>
-    ensures { OnOk result (string_bytes text.new ≡ string_bytes text.old ++ row_lines outbox.now.shape outbox.now.rows rank receivers.now) }
+    requires { rank < length outbox.now.rows }
+    ensures { OnOk result ((label : List ℕ) → slice_get (relay outbox.now.shape) rank ≡ Some label → string_bytes text.new ≡ string_bytes text.old ++ label_lines outbox.now rank label) }
 {
-    for receiver in receivers {
+    let _shape = outbox.shape();
+    for receiver in outbox.receivers(rank) {
         let receiver = u32::from(*receiver);
         if let Some(order) = outbox.get(rank, receiver) {
             push_order(alloc, text, rank, receiver, order)?;

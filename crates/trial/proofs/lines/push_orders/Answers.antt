@@ -1,22 +1,24 @@
-use Rattle.std.proofs.Common.{◌≡◌, ℕ, List, length, map, arith}
+use Rattle.std.proofs.Common.{◌≡◌, ◌<◌, ◌≤◌, ℕ, List, [], length, get_or, arith}
 use Rattle.std.specs.String.{string_bytes}
-use Rattle.std.proofs.lemmas.List.{length-map}
-use Rattle.label.specs.Relay.{relay, receivers}
-use Rattle.trial.specs.Lines.{row_lines, put_lines}
+use Rattle.std.proofs.lemmas.Option.{slice_get-get_or}
+use Rattle.label.specs.Relay.{relay}
+use Rattle.trial.specs.Lines.{label_lines, put_lines}
 use Rattle.trial.proofs.Rows.{lines_next, lines_all}
 use Rattle.trial.proofs.lines.push_orders.Goals as goal
 
 pub loop-rank-preserved : goal.loop-rank-preserved
 loop-rank-preserved c =
     let o = c.args.outbox.now in
-    lines_next (λ (row : ℕ × List ℕ). row_lines o.shape o.rows row.0 row.1) c.loop-rank.rank (map (receivers o.shape) (relay o.shape)) c.receivers.result.now (string_bytes c.args.text.now) (string_bytes c.loop-rank.text) (string_bytes c.push_row.new.text)
-    c.receivers.ensures.row c.loop-rank.invariant c.in_ok-push_row.ensures
+    let r : c.labels-rank-end.result ≡ length (relay o.shape) = c.labels-rank-end.ensures.relayed in
+    let below : c.loop-rank.rank < length (relay c.args.outbox.now.shape) = (let t = c.loop-rank-test.true in omega arith) in
+    let at = slice_get-get_or (relay o.shape) c.loop-rank.rank [] below in
+    lines_next (λ (label : ℕ × List ℕ). label_lines o label.0 label.1) c.loop-rank.rank (relay o.shape) (get_or (relay o.shape) c.loop-rank.rank []) (string_bytes c.args.text.now) (string_bytes c.loop-rank.text) (string_bytes c.push_label.new.text)
+    at c.loop-rank.invariant (c.in_ok-push_label.ensures (get_or (relay o.shape) c.loop-rank.rank []) at)
 
 pub returns : goal.returns
 unfolding put_lines
 returns c =
     let o = c.args.outbox.now in
-    let e : length (map (receivers o.shape) (relay o.shape)) ≡ length (relay o.shape) = length-map (relay o.shape) (receivers o.shape) in
     let r : c.labels-rank-end.result ≡ length (relay o.shape) = c.labels-rank-end.ensures.relayed in
-    let t = c.loop-rank-test.false in
-    lines_all (λ (row : ℕ × List ℕ). row_lines o.shape o.rows row.0 row.1) c.loop-rank.rank (map (receivers o.shape) (relay o.shape)) (string_bytes c.args.text.now) (string_bytes c.loop-rank.text) (omega arith) c.loop-rank.invariant
+    let past : length (relay c.args.outbox.now.shape) ≤ c.loop-rank.rank = (let t = c.loop-rank-test.false in omega arith) in
+    lines_all (λ (label : ℕ × List ℕ). label_lines o label.0 label.1) c.loop-rank.rank (relay o.shape) (string_bytes c.args.text.now) (string_bytes c.loop-rank.text) past c.loop-rank.invariant
