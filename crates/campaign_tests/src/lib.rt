@@ -39,6 +39,8 @@ mod tasks;
 #[cfg(test)]
 mod threaded;
 #[cfg(test)]
+mod trials;
+#[cfg(test)]
 mod verdicts;
 #[cfg(test)]
 mod worlds;

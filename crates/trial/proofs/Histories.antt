@@ -1,0 +1,139 @@
+-- A trial, access by access.
+use Rattle.std.proofs.Common.{◌≡◌, ℕ, zero, suc, ◌<◌, ◌^◌, List, [], ◌∷◌, Some, None, false, length, refl, sym, subst, arith}
+use Rattle.std.specs.Prelude.{replicate, IsSome}
+use Rattle.std.proofs.lemmas.List.Elements.{All-replicate}
+use Rattle.insn.specs.declared.insn.Insn.{Insn}
+use Rattle.semantics.specs.Relay.{Relay, IsRelay, IsContext}
+use Rattle.semantics.specs.Run.{IsSound}
+use Rattle.semantics.specs.Safety.{LeadsTo, IsSafe}
+use Rattle.semantics.proofs.SafetyLaws.{safe_of_sound}
+use Rattle.semantics.specs.declared.request.Request.{Request}
+use Rattle.semantics.specs.State.{State, Outcome, Next, Ask, Exit, Trap, entry}
+use Rattle.semantics.specs.Outbox.{empty_outbox}
+use Rattle.semantics.specs.Call.{resumed}
+use Rattle.semantics.specs.Execution.{step}
+use Rattle.board.specs.Board.{Access, IsBoard, IsLegal, words_after, reply, next}
+use Rattle.board.proofs.Asking.{asks_within}
+use Rattle.board.proofs.Serving.{reply_fits, next_board}
+use Rattle.round.specs.Activation.{Activation, turned}
+use Rattle.round.specs.Runs.{Onward, Runs, AreFitting}
+use Rattle.round.specs.Running.{AreAccessesOf}
+use Rattle.trial.specs.Trial.{Ending, served, ending, trial}
+use Rattle.trial.specs.Laws.{IsRun}
+
+-- where it stands, as an activation without a patience
+abbrev here : List Insn → List ℕ → Relay → State → Activation
+here program context relay s =
+    record { program = program; context = context; shape = relay; patience = None; state = s; over = false }
+
+-- the accesses from a state on, to the exit
+record Went (program : List Insn) (context : List ℕ) (relay : Relay) (words : List ℕ) (s : State) (e : Ending) : Type 0 where
+  ledger : List Access
+  last : State
+  steps : ℕ
+  run : Runs steps (here program context relay s) ledger (here program context relay last)
+  own : AreAccessesOf relay.general relay.round ledger
+  fitting : AreFitting ledger
+  exit : step program context relay last ≡ Exit e.r0 e.state
+  legal : IsLegal words ledger
+  left : e.words ≡ words_after words ledger
+
+own_none : (general round : ℕ) → AreAccessesOf general round []
+own_none general round k d lt = absurd (omega arith)
+
+own_more : (general round : ℕ) (a : Access) (ledger : List Access) → (a.general ≡ general) × (a.round ≡ round) → AreAccessesOf general round ledger → AreAccessesOf general round (a ∷ ledger)
+own_more general round a ledger h all zero d lt = h
+own_more general round a ledger h all (suc k) d lt = all k d (omega arith)
+
+-- a step that goes on
+went_next : (program : List Insn) (context : List ℕ) (relay : Relay) (words : List ℕ) (s t : State) (e : Ending) → step program context relay s ≡ Next t → Went program context relay words t e → Went program context relay words s e
+went_next program context relay words s t e is w = record {
+  ledger = w.ledger;
+  last = w.last;
+  steps = suc w.steps;
+  run = subst (λ (o : Outcome). Onward (Runs w.steps) (turned (here program context relay s) o) w.ledger (here program context relay w.last)) (sym is) w.run;
+  own = w.own;
+  fitting = w.fitting;
+  exit = w.exit;
+  legal = w.legal;
+  left = w.left;
+}
+
+-- a request, and its answer
+went_asks : (program : List Insn) (context : List ℕ) (relay : Relay) (words : List ℕ) (s t : State) (request : Request) (e : Ending) → IsBoard words → step program context relay s ≡ Ask request t
+    → Went program context relay (next words request) (resumed request (reply words request) t) e → Went program context relay words s e
+went_asks program context relay words s t request e board is w =
+    let a : Access = record { general = relay.general; round = relay.round; request = request; reply = reply words request } in
+    record {
+      ledger = a ∷ w.ledger;
+      last = w.last;
+      steps = suc w.steps;
+      run = subst (λ (o : Outcome). Onward (Runs w.steps) (turned (here program context relay s) o) (a ∷ w.ledger) (here program context relay w.last)) (sym is) (refl, w.run);
+      own = own_more relay.general relay.round a w.ledger (refl, refl) w.own;
+      fitting = (reply_fits words request board (asks_within program context relay s t request is), w.fitting);
+      exit = w.exit;
+      legal = (refl, w.legal);
+      left = w.left;
+    }
+
+went_exits : (program : List Insn) (context : List ℕ) (relay : Relay) (words : List ℕ) (s t : State) (r0 : ℕ) (e : Ending) → step program context relay s ≡ Exit r0 t
+    → record { r0 = r0; state = t; words = words } ≡ e → Went program context relay words s e
+went_exits program context relay words s t r0 e is same = subst (λ (f : Ending). Went program context relay words s f) same (record {
+  ledger = [];
+  last = s;
+  steps = 0;
+  run = (refl, refl);
+  own = own_none relay.general relay.round;
+  fitting = tt;
+  exit = is;
+  legal = tt;
+  left = refl;
+})
+
+went : (program : List Insn) (context : List ℕ) (relay : Relay) (k : ℕ) (words : List ℕ) (s : State) (e : Ending) → IsBoard words → ending program context relay k words s ≡ Some e → Went program context relay words s e
+unfolding ending
+went program context relay zero words s e board is = absurd (let h = is in cc)
+went program context relay (suc k) words s e board is = by (λ left t kept rest. went program context relay k left t e kept rest) (step program context relay s) refl is
+  where
+    by : ((left : List ℕ) (t : State) → IsBoard left → ending program context relay k left t ≡ Some e → Went program context relay left t e) → (o : Outcome) → step program context relay s ≡ o → served (λ left t. ending program context relay k left t) words o ≡ Some e → Went program context relay words s e
+    by ih (Next t) same rest = went_next program context relay words s t e same (ih words t board rest)
+    by ih (Ask request t) same rest =
+        went_asks program context relay words s t request e board same
+        (ih (next words request) (resumed request (reply words request) t) (next_board words request board (asks_within program context relay s t request same)) rest)
+    by ih (Exit r0 t) same rest = went_exits program context relay words s t r0 e same (let h = rest in cc)
+    by ih (Trap cause) same rest = absurd (let h = rest in cc)
+
+zeros : IsBoard (replicate 64 0)
+zeros = record { long = refl; each = All-replicate (λ word. word < 2 ^ 64) 64 0 (omega arith) }
+
+pub trial_is_run : (program : List Insn) (context : List ℕ) (relay : Relay) (e : Ending) → trial program context relay ≡ Some e → IsRun program context relay e
+trial_is_run program context relay e is =
+    let w = went program context relay (length program) (replicate 64 0) (entry (empty_outbox relay)) e zeros is in
+    record {
+      ledger = w.ledger;
+      last = here program context relay w.last;
+      way = record { same = record { program = refl; context = refl; shape = refl; patience = refl }; run = (w.steps, w.run); own = w.own; fitting = w.fitting };
+      going = refl;
+      exit = w.exit;
+      legal = w.legal;
+      left = w.left;
+    }
+
+-- a safe state's trial ends
+ends : (program : List Insn) (context : List ℕ) (relay : Relay) (k : ℕ) (words : List ℕ) (s : State) → IsBoard words → IsSafe program context relay k s → IsSome (ending program context relay k words s)
+unfolding ending IsSafe
+ends program context relay zero words s board safe = absurd safe
+ends program context relay (suc k) words s board safe = by (λ left t kept rest. ends program context relay k left t kept rest) (step program context relay s) refl safe
+  where
+    by : ((left : List ℕ) (t : State) → IsBoard left → IsSafe program context relay k t → IsSome (ending program context relay k left t)) → (o : Outcome) → step program context relay s ≡ o
+        → LeadsTo (λ t. IsSafe program context relay k t) o → IsSome (served (λ left t. ending program context relay k left t) words o)
+    by ih (Next t) same leads = ih words t board leads
+    by ih (Ask request t) same leads =
+        let within = asks_within program context relay s t request same in
+        ih (next words request) (resumed request (reply words request) t) (next_board words request board within) (leads (reply words request) (reply_fits words request board within))
+    by ih (Exit r0 t) same leads = refl
+    by ih (Trap cause) same leads = absurd leads
+
+pub trial_ends : (program : List Insn) (context : List ℕ) (relay : Relay) → IsSound program → IsContext context → IsRelay relay → IsSome (trial program context relay)
+trial_ends program context relay sound in_context in_limits =
+    ends program context relay (length program) (replicate 64 0) (entry (empty_outbox relay)) zeros (safe_of_sound program context relay sound in_context in_limits)

@@ -1,0 +1,6 @@
+mod Examples
+pub mod Histories
+pub mod Items
+pub mod Rows
+pub mod Serving
+pub mod Trying

@@ -1,0 +1,101 @@
+-- The checks of a setting's keys, in order: the value, or the first fault (own; TOML 1.0 for the text).
+use Rattle.std.specs.Prelude.{ℕ, suc, ℤ, pos, negsuc, Bool, ◌+◌, ◌-◌, min, nat_lt, nat_le, ◌&&◌, cond, List, length, slice_set, replicate, Option, Some, None, Result, Ok, Err, codes}
+use Rattle.std.specs.Option.{ok_or}
+use Rattle.toml.specs.Data.{Data, Items, Members, no_items, item, no_members, member, get_member, as_integer, as_array}
+use Rattle.label.specs.declared.shape.Shape.{Shape}
+use Rattle.label.specs.Relay.{relay}
+use Rattle.trial.specs.declared.place.Name.TheVariants as names
+use Rattle.trial.specs.declared.place.Place.{Place}
+use Rattle.trial.specs.declared.place.Place.TheVariants as places
+use Rattle.trial.specs.declared.fault.Fault.{Fault}
+use Rattle.trial.specs.declared.fault.Fault.TheVariants as faults
+use Rattle.trial.specs.Names.{is_key}
+use Rattle.trial.specs.Flaws.{Flaw, unknown, faulty, ◌>>=◌}
+use Rattle.trial.specs.Setting.{Setting}
+
+-- the least key by bytes that is none of a setting, since members ascend
+abbrev pub first_unknown : Members → Option (List ℕ)
+first_unknown no_members = None
+first_unknown (member k d ms) = cond (is_key k) (first_unknown ms) (Some k)
+
+abbrev pub known : Option (List ℕ) → Result (Unit {0}) Flaw
+known None = Ok tt
+known (Some k) = Err (unknown k)
+
+abbrev pub required : Place → Option Data → Result Data Flaw
+required s None = Err (faulty (faults.Key s))
+required s (Some d) = Ok d
+
+abbrev pub whole : Place → Data → Result ℤ Flaw
+whole s d = ok_or (as_integer d) (faulty (faults.Kind s))
+
+abbrev pub natural : Flaw → ℤ → Result ℕ Flaw
+natural f (pos n) = Ok n
+natural f (negsuc n) = Err f
+
+abbrev pub test : Bool → Fault → Result (Unit {0}) Flaw
+test b f = cond b (Ok tt) (Err (faulty f))
+
+-- a number between two others
+unfoldable pub number : Place → ℕ → ℕ → Option Data → Result ℕ Flaw
+number s least most o = do
+  d ← required s o
+  z ← whole s d
+  n ← natural (faulty (faults.Range s)) z
+  within ← test (nat_le least n && nat_le n most) (faults.Range s)
+  Ok n
+
+-- one of n generals
+unfoldable pub general : Place → ℕ → Option Data → Result ℕ Flaw
+general s n o = do
+  d ← required s o
+  z ← whole s d
+  g ← natural (faulty (faults.General s)) z
+  within ← test (nat_lt g n) (faults.General s)
+  Ok g
+
+-- one item after the other, from place i on
+unfoldable pub over : {A : Type 0} → (ℕ → A → Data → Result A Flaw) → ℕ → A → Items → Result A Flaw
+over step i x no_items = Ok x
+over step i x (item d ds) = step i x d >>= λ y. over step (i + 1) y ds
+
+-- the order taken for the label of a rank
+abbrev pub set_order : ℕ → List ℕ → Data → Result (List ℕ) Flaw
+set_order rank orders d = number (places.Order rank) 0 4294967295 (Some d) >>= λ order. Ok (slice_set orders rank order)
+
+abbrev pub items_length : Items → ℕ
+items_length no_items = 0
+items_length (item d ds) = suc (items_length ds)
+
+-- the items of an array
+abbrev pub elements : Place → Data → Result Items Flaw
+elements s d = ok_or (as_array d) (faulty (faults.Kind s))
+
+-- at most as many orders as labels; RETREAT for those of further ranks
+unfoldable pub orders : ℕ → Items → Result (List ℕ) Flaw
+orders labels ds = do
+  few ← test (nat_le (items_length ds) labels) (faults.Range (places.Key names.Taken))
+  over set_order 0 (replicate labels 0) ds
+
+-- the orders taken for so many labels
+unfoldable pub taken : ℕ → Option Data → Result (List ℕ) Flaw
+taken labels None = Ok (replicate labels 0)
+taken labels (Some d) = do
+  ds ← elements (places.Key names.Taken) d
+  orders labels ds
+
+-- the relay of general g in round r, among n generals under c
+abbrev pub shape_of : ℕ → ℕ → ℕ → ℕ → Shape
+shape_of n c g r = record { generals = n; commander = c; general = g; round = r }
+
+-- the setting of a table, or its first fault
+unfoldable pub setting : Members → Result Setting Flaw
+setting ms = do
+  none ← known (first_unknown ms)
+  n ← number (places.Key names.Generals) 2 13 (get_member (codes "generals") ms)
+  m ← number (places.Key names.Bound) 0 (min 4 (n - 2)) (get_member (codes "bound") ms)
+  c ← general (places.Key names.Commander) n (get_member (codes "commander") ms)
+  g ← general (places.Key names.General) n (get_member (codes "general") ms)
+  r ← number (places.Key names.Round) 1 (m + 1) (get_member (codes "round") ms)
+  orders ← taken (length (relay (shape_of n c g r))) (get_member (codes "taken") ms)
+  Ok (record { shape = shape_of n c g r; bound = m; taken = orders })

@@ -1,0 +1,9 @@
+pub mod Names
+pub mod Flaws
+pub mod Checks
+pub mod Setting
+pub mod Trial
+pub mod Lines
+pub mod Told
+pub mod Telling
+pub mod Laws

@@ -1,0 +1,23 @@
+-- What a program is tried in (own).
+use Rattle.std.specs.Prelude.{ℕ, ◌≡◌, ◌≤◌, ◌+◌, List, length}
+use Rattle.label.specs.declared.shape.Shape.{Shape}
+use Rattle.label.specs.Relay.{IsShape, relay}
+use Rattle.round.specs.Contexts.{context_bytes, context_numbers}
+
+-- whose relay it is, the campaign's bound, and the order that the general took for each label that he relays, by rank
+pub record Setting : Type 0 where
+  pub shape : Shape
+  pub bound : ℕ
+  pub taken : List ℕ
+
+-- the limits of a campaign, and an order for each label
+pub record IsTold (s : Setting) : Type 0 where
+  pub shape : IsShape s.shape
+  pub rounds : s.shape.round ≤ s.bound + 1
+  pub few : s.bound ≤ 4
+  pub enough : s.bound + 2 ≤ s.shape.generals
+  pub each : length s.taken ≡ length (relay s.shape)
+
+-- what the general is told there
+abbrev pub context_in : Setting → List ℕ
+context_in s = context_bytes (context_numbers s.shape s.bound s.taken)

@@ -1,0 +1,31 @@
+-- One run of a program with a board of its own, which begins with zeros (own).
+use Rattle.std.specs.Prelude.{ℕ, zero, suc, List, Option, None, Some, length, replicate}
+use Rattle.insn.specs.declared.insn.Insn.{Insn}
+use Rattle.semantics.specs.Relay.{Relay}
+use Rattle.semantics.specs.State.{State, Outcome, Next, Ask, Exit, Trap, entry}
+use Rattle.semantics.specs.Outbox.{empty_outbox}
+use Rattle.semantics.specs.Call.{resumed}
+use Rattle.semantics.specs.Execution.{step}
+use Rattle.board.specs.Board.{reply, next}
+
+-- how a run has ended: the number that it exited with, its last state, and the board's words
+pub record Ending : Type 0 where
+  pub r0 : ℕ
+  pub state : State
+  pub words : List ℕ
+
+-- what follows an outcome: a board of these words answers a request at once
+abbrev pub served : (List ℕ → State → Option Ending) → List ℕ → Outcome → Option Ending
+served rest words (Next s) = rest words s
+served rest words (Ask request s) = rest (next words request) (resumed request (reply words request) s)
+served rest words (Exit r0 s) = Some (record { r0 = r0; state = s; words = words })
+served rest words (Trap cause) = None
+
+-- how it ends within k steps from a state, with a board of these words
+unfoldable pub ending : List Insn → List ℕ → Relay → ℕ → List ℕ → State → Option Ending
+ending program context relay zero words s = None
+ending program context relay (suc k) words s = served (λ left t. ending program context relay k left t) words (step program context relay s)
+
+-- how it ends from its entry, within as many steps as it has instructions
+abbrev pub trial : List Insn → List ℕ → Relay → Option Ending
+trial program context relay = ending program context relay (length program) (replicate 64 0) (entry (empty_outbox relay))

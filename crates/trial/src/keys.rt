@@ -1,0 +1,133 @@
+//! The values of single keys, each the value or the first fault of its checks.
+ghost use Rattle.std.specs.Prelude.{◌≡◌, ℕ, ◌≤◌, ◌<◌, option_map, IfOk};
+ghost use Rattle.toml.specs.Data.{get_member};
+ghost use Rattle.toml.specs.View.{view, table_view, items_view};
+ghost use Rattle.trial.specs.Names.{is_key, text_of};
+ghost use Rattle.trial.specs.Checks.{first_unknown, known, required, whole, elements, natural, number, general};
+ghost use Rattle.trial.specs.Flaws.{Gives, faulty};
+
+use crate::fault::{Fault, SettingError};
+use crate::place::{Name, Place};
+use std::alloc::Global;
+use toml::{Table, Value};
+
+/// Whether a setting has the key.
+fn is_key(key: &str) -> bool
+    ensures { result ≡ is_key key.now }
+{
+    key == "generals"
+        || key == "bound"
+        || key == "commander"
+        || key == "general"
+        || key == "round"
+        || key == "taken"
+}
+
+fn first_unknown(table: &Table) -> Option<&str>
+    ensures { option_map (λ k. k.now) result ≡ first_unknown (table_view table.now) }
+{
+    for (key, _) in table {
+        if !is_key(key.as_str()) {
+            return Some(key.as_str());
+        }
+    }
+    None
+}
+
+fn refuse_unknown(alloc: Global, unknown: Option<&str>) -> Result<(), SettingError>
+    ensures { Gives (λ _. tt) result (known (option_map (λ k. k.now) unknown.entry)) }
+{
+    match unknown {
+        None => Ok(()),
+        Some(key) => Err(SettingError::Unknown(String::from_str(alloc, key)?)),
+    }
+}
+
+/// All keys are known.
+pub fn keys_are_known(alloc: Global, table: &Table) -> Result<(), SettingError>
+    ensures { Gives (λ _. tt) result (known (first_unknown (table_view table.now))) }
+{
+    refuse_unknown(alloc, first_unknown(table))
+}
+
+/// The value at a key.
+pub fn at<'a>(table: &'a Table, name: Name) -> Option<&'a Value>
+    ensures { option_map (λ v. view v.now) result ≡ get_member (text_of name) (table_view table.now) }
+{
+    table.get(name.text())
+}
+
+/// The value of a required key.
+fn required(place: Place, value: Option<&Value>) -> Result<&Value, SettingError>
+    ensures { Gives (λ v. view v.now) result (required place (option_map (λ v. view v.now) value.entry)) }
+{
+    match value {
+        Some(value) => Ok(value),
+        None => Err(SettingError::Fault(Fault::Key(place))),
+    }
+}
+
+/// An integer.
+pub fn whole(place: Place, value: &Value) -> Result<i64, SettingError>
+    ensures { Gives (λ z. z) result (whole place (view value.now)) }
+{
+    match value.as_integer() {
+        Some(integer) => Ok(integer),
+        None => Err(SettingError::Fault(Fault::Kind(place))),
+    }
+}
+
+/// The elements of an array.
+pub fn elements(place: Place, value: &Value) -> Result<&[Value], SettingError>
+    ensures { Gives (λ a. items_view a.now) result (elements place (view value.now)) }
+{
+    match value.as_array() {
+        Some(array) => Ok(array.as_slice()),
+        None => Err(SettingError::Fault(Fault::Kind(place))),
+    }
+}
+
+/// An integer that is not below 0.
+fn natural(fault: Fault, integer: i64) -> Result<u64, SettingError>
+    ensures { Gives (λ n. n) result (natural (faulty fault) integer) }
+{
+    match u64::try_from(integer) {
+        Ok(number) => Ok(number),
+        Err(_) => Err(SettingError::Fault(fault)),
+    }
+}
+
+/// A number between two others.
+#[tactic(auto, unfolding(crate::specs::Checks::number))]
+pub fn number(
+    place: Place,
+    least: u32,
+    most: u32,
+    value: Option<&Value>,
+) -> Result<u32, SettingError>
+    ensures value { Gives (λ n. n) result (number place least most (option_map (λ v. view v.now) value.entry)) }
+    ensures within { IfOk result (λ n. (least ≤ n) × (n ≤ most)) }
+{
+    let value = required(place, value)?;
+    let integer = whole(place, value)?;
+    let number = natural(Fault::Range(place), integer)?;
+    if u64::from(least) <= number && number <= u64::from(most) {
+        return Ok(number as u32);
+    }
+    Err(SettingError::Fault(Fault::Range(place)))
+}
+
+/// One of the generals.
+#[tactic(auto, unfolding(crate::specs::Checks::general))]
+pub fn general(place: Place, generals: u32, value: Option<&Value>) -> Result<u32, SettingError>
+    ensures value { Gives (λ n. n) result (general place generals (option_map (λ v. view v.now) value.entry)) }
+    ensures small { IfOk result (λ g. g < generals) }
+{
+    let value = required(place, value)?;
+    let integer = whole(place, value)?;
+    let number = natural(Fault::General(place), integer)?;
+    if number < u64::from(generals) {
+        return Ok(number as u32);
+    }
+    Err(SettingError::Fault(Fault::General(place)))
+}

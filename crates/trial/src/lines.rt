@@ -1,0 +1,129 @@
+//! What is printed of a trial.
+ghost use Rattle.std.specs.Prelude.{◌≡◌, ◌<◌, ◌++◌, ℕ, List, Some, IfOk, OnOk, length, slice_get, string_bytes};
+ghost use Rattle.insn.specs.Program.{slots_of};
+ghost use Rattle.label.specs.Relay.{relay};
+ghost use Rattle.trial.specs.Lines.{first_lines, put_line, label_lines, put_lines, word_line, word_lines};
+ghost use Rattle.trial.specs.Told.{IsTried};
+
+use crate::run::{Exited, run};
+use crate::setting::Setting;
+use insn::Program;
+use mem::Context;
+use outbox::Outbox;
+use std::alloc::{AllocError, Global};
+use verify::Verified;
+
+/// Runs a program in a setting, with a board that begins with zeros: what is printed of it. How large the program is, what
+/// it exited with and after how many steps, what it put, by the rank of the label and the receiver, and the words of the
+/// board that are not zero.
+///
+/// # Errors
+///
+/// `AllocError` where the memory for the context, the outbox, an access or the lines is refused.
+pub fn tried(alloc: Global, verified: &Verified, setting: &Setting) -> Result<String, AllocError>
+    ensures { IfOk result (λ text. IsTried verified.now setting.now (string_bytes text)) }
+{
+    let bytes = setting.context(alloc)?;
+    let Some(context) = Context::new(bytes.as_slice()) else {
+        unreachable!();
+    };
+    let exited = run(alloc, verified, &context, setting.shape())?;
+    lines(alloc, verified.program(), &exited)
+}
+
+/// The lines of a run that has ended.
+fn lines(alloc: Global, program: &Program, exited: &Exited) -> Result<String, AllocError>
+    ensures { IfOk result (λ text. string_bytes text ≡
+        first_lines (length program.now) (length (slots_of program.now)) exited.now.r0 exited.now.activation.state.steps
+        ++ put_lines (record { shape = exited.now.activation.shape; rows = exited.now.activation.state.outbox })
+        ++ word_lines exited.now.board.words) }
+{
+    let mut text = first_lines(
+        alloc,
+        program.len(),
+        program.units(),
+        exited.r0,
+        exited.activation.steps(),
+    )?;
+    push_orders(alloc, &mut text, exited.activation.outbox())?;
+    push_words(alloc, &mut text, exited.board.words())?;
+    Ok(text)
+}
+
+/// How large the program is, and how it exited.
+fn first_lines(
+    alloc: Global,
+    instructions: usize,
+    units: usize,
+    r0: u64,
+    steps: u32,
+) -> Result<String, AllocError>
+    ensures { IfOk result (λ text. string_bytes text ≡ first_lines instructions units r0 steps) }
+{
+    format!(in alloc; "accepted {instructions} instructions {units} units\nr0 {r0} steps {steps}\n")
+}
+
+/// Adds a line for each order that was put.
+fn push_orders(alloc: Global, text: &mut String, outbox: &Outbox) -> Result<(), AllocError>
+    ensures { OnOk result (string_bytes text.new ≡ string_bytes text.old ++ put_lines outbox.now) }
+{
+    for rank in 0..outbox.labels() {
+        push_label(alloc, text, outbox, rank)?;
+    }
+    Ok(())
+}
+
+/// Adds the lines of the label of that rank.
+fn push_label(
+    alloc: Global,
+    text: &mut String,
+    outbox: &Outbox,
+    rank: u32,
+) -> Result<(), AllocError>
+    requires { rank < length outbox.now.rows }
+    ensures { OnOk result ((label : List ℕ) → slice_get (relay outbox.now.shape) rank ≡ Some label → string_bytes text.new ≡ string_bytes text.old ++ label_lines outbox.now rank label) }
+{
+    let _shape = outbox.shape();
+    for receiver in outbox.receivers(rank) {
+        let receiver = u32::from(*receiver);
+        if let Some(order) = outbox.get(rank, receiver) {
+            push_order(alloc, text, rank, receiver, order)?;
+        }
+    }
+    Ok(())
+}
+
+/// Adds the line of one order.
+fn push_order(
+    alloc: Global,
+    text: &mut String,
+    rank: u32,
+    receiver: u32,
+    order: u32,
+) -> Result<(), AllocError>
+    ensures { OnOk result (string_bytes text.new ≡ string_bytes text.old ++ put_line rank receiver (Some order)) }
+{
+    let line = format!(in alloc; "put {rank} {receiver} {order}\n")?;
+    text.push_str(line.as_str())
+}
+
+/// Adds a line for each word that is not zero.
+fn push_words(alloc: Global, text: &mut String, words: &[u64]) -> Result<(), AllocError>
+    ensures { OnOk result (string_bytes text.new ≡ string_bytes text.old ++ word_lines words.now) }
+{
+    for index in 0..words.len() {
+        push_word(alloc, text, index, words[index])?;
+    }
+    Ok(())
+}
+
+/// Adds the line of one word.
+fn push_word(alloc: Global, text: &mut String, index: usize, word: u64) -> Result<(), AllocError>
+    ensures { OnOk result (string_bytes text.new ≡ string_bytes text.old ++ word_line index word) }
+{
+    if word == 0 {
+        return Ok(());
+    }
+    let line = format!(in alloc; "word {index} {word}\n")?;
+    text.push_str(line.as_str())
+}

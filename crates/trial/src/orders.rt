@@ -1,0 +1,47 @@
+//! The orders that a general has taken.
+ghost use Rattle.std.specs.Prelude.{◌≡◌, ◌≤◌, IfOk, length, replicate, option_map};
+ghost use Rattle.toml.specs.View.{view, items_view};
+ghost use Rattle.trial.specs.Checks.{over, set_order, orders, taken};
+ghost use Rattle.trial.specs.Flaws.{Gives};
+
+use crate::fault::{Fault, SettingError};
+use crate::keys::{elements, number};
+use crate::place::{Name, Place};
+use std::alloc::Global;
+use toml::Value;
+
+/// The orders of a list, and 0 for the labels of further ranks.
+fn listed(alloc: Global, labels: u32, values: &[Value]) -> Result<Vec<u32>, SettingError>
+    requires { length values.now ≤ labels }
+    ensures gives { Gives (λ orders. orders.items) result (over set_order 0 (replicate labels 0) (items_view values.now)) }
+    ensures long { IfOk result (λ orders. length orders.items ≡ labels) }
+{
+    let mut orders = vec![in alloc; 0; labels as usize]?;
+    for index in 0..values.len() {
+        orders[index] = number(Place::Order(index), 0, u32::MAX, Some(&values[index]))?;
+    }
+    Ok(orders)
+}
+
+#[tactic(auto, unfolding(crate::specs::Checks::orders), using(crate::proofs::Items::items_length_view))]
+fn orders(alloc: Global, labels: u32, values: &[Value]) -> Result<Vec<u32>, SettingError>
+    ensures gives { Gives (λ orders. orders.items) result (orders labels (items_view values.now)) }
+    ensures long { IfOk result (λ orders. length orders.items ≡ labels) }
+{
+    if values.len() > labels as usize {
+        return Err(SettingError::Fault(Fault::Range(Place::Key(Name::Taken))));
+    }
+    listed(alloc, labels, values)
+}
+
+/// The order taken for each of so many labels, by rank; 0, which is RETREAT, where none is told.
+#[tactic(auto, unfolding(crate::specs::Checks::taken))]
+pub fn taken(alloc: Global, labels: u32, value: Option<&Value>) -> Result<Vec<u32>, SettingError>
+    ensures gives { Gives (λ orders. orders.items) result (taken labels (option_map (λ v. view v.now) value.entry)) }
+    ensures long { IfOk result (λ orders. length orders.items ≡ labels) }
+{
+    match value {
+        None => Ok(vec![in alloc; 0; labels as usize]?),
+        Some(value) => orders(alloc, labels, elements(Place::Key(Name::Taken), value)?),
+    }
+}

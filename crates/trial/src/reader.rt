@@ -1,0 +1,79 @@
+//! Settings, read from their text.
+ghost use Rattle.std.specs.Prelude.{◌≡◌, ◌-◌, ◌≤◌, min, Some};
+ghost use Rattle.toml.specs.Parse.{parse_document};
+ghost use Rattle.toml.specs.View.{table_view};
+ghost use Rattle.trial.specs.Flaws.{Gives};
+ghost use Rattle.trial.specs.Checks.{setting};
+ghost use Rattle.trial.specs.Told.{Reads};
+
+use crate::fault::SettingError;
+use crate::keys::{at, general, keys_are_known, number};
+use crate::orders::taken;
+use crate::place::{Name, Place};
+use crate::relayed::labels_relayed;
+use crate::setting::Setting;
+use label::Shape;
+use std::alloc::Global;
+use toml::Table;
+
+/// The greatest bound that so many generals may have.
+fn most_traitors(generals: u32) -> u32
+    ensures { result ≡ min 4 (generals - 2) }
+{
+    generals.saturating_sub(2).min(4)
+}
+
+/// The setting of a table.
+#[tactic(auto, unfolding(crate::specs::Checks::setting))]
+fn setting(alloc: Global, table: &Table) -> Result<Setting, SettingError>
+    ensures { Gives (λ s. s) result (setting (table_view table.now)) }
+{
+    keys_are_known(alloc, table)?;
+    let generals = number(Place::Key(Name::Generals), 2, 13, at(table, Name::Generals))?;
+    let most = most_traitors(generals);
+    let bound = number(Place::Key(Name::Bound), 0, most, at(table, Name::Bound))?;
+    let commander = general(
+        Place::Key(Name::Commander),
+        generals,
+        at(table, Name::Commander),
+    )?;
+    let own = general(
+        Place::Key(Name::General),
+        generals,
+        at(table, Name::General),
+    )?;
+    let round = number(
+        Place::Key(Name::Round),
+        1,
+        bound + 1,
+        at(table, Name::Round),
+    )?;
+    let shape = Shape {
+        generals,
+        commander,
+        general: own,
+        round,
+    };
+    let taken = taken(alloc, labels_relayed(shape), at(table, Name::Taken))?;
+    Ok(Setting::new(shape, bound, taken))
+}
+
+/// The setting that a text tells.
+///
+/// # Errors
+///
+/// The first fault, with its place: that the text is no TOML, then an unknown key (the least by bytes), then `generals`,
+/// `bound`, `commander`, `general`, `round` and `taken`.
+pub fn read(alloc: Global, text: &str) -> Result<Setting, SettingError>
+    ensures { Reads (parse_document text.now) result }
+{
+    match toml::table_from_str(alloc, text) {
+        Ok(table) => setting(alloc, &table),
+        Err(error) => {
+            if error.is_memory() {
+                return Err(SettingError::Memory);
+            }
+            Err(SettingError::Toml)
+        }
+    }
+}

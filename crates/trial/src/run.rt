@@ -1,0 +1,59 @@
+//! One run of a program, with a board of its own.
+ghost use Rattle.std.specs.Prelude.{◌≡◌, Some, IfOk, replicate};
+ghost use Rattle.label.specs.Relay.{IsShape};
+ghost use Rattle.trial.specs.Trial.{trial};
+
+use board::Board;
+use label::Shape;
+use machine::{Activation, Stop};
+use mem::Context;
+use outbox::Outbox;
+use std::alloc::{AllocError, Global};
+use verify::Verified;
+
+/// A program that has exited.
+#[derive(Drop)]
+pub struct Exited {
+    /// What it exited with.
+    pub r0: u64,
+    /// The activation at its end, with its outbox.
+    pub activation: Activation,
+    /// The board as it left it.
+    pub board: Board,
+}
+
+/// Runs a program to its exit, with a board that begins with zeros.
+///
+/// # Errors
+///
+/// `AllocError` where the memory for the outbox or an access is refused.
+pub fn run(
+    alloc: Global,
+    verified: &Verified,
+    context: &Context,
+    shape: Shape,
+) -> Result<Exited, AllocError>
+    requires { IsShape shape }
+    ensures ending { IfOk result (λ e. trial verified.now context.now shape ≡ Some (record { r0 = e.r0; state = e.activation.state; words = e.board.words })) }
+    ensures shape { IfOk result (λ e. e.activation.shape ≡ shape) }
+{
+    let limit = verified.program().len() as u32;
+    let mut board = Board::new(alloc, [0; 64]);
+    let mut activation = Activation::start(verified, context, Outbox::new(alloc, shape)?);
+    loop {
+        match activation.run(verified, context, limit) {
+            Stop::Asked(request) => {
+                let reply = board.apply(shape.general, shape.round, request)?;
+                activation.resume(&request, &reply);
+            }
+            Stop::Exited(r0) => {
+                return Ok(Exited {
+                    r0,
+                    activation,
+                    board,
+                });
+            }
+            Stop::Limit => unreachable!(),
+        }
+    }
+}

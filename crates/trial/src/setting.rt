@@ -1,0 +1,86 @@
+ghost use Rattle.std.specs.Prelude.{◌≡◌, ◌≤◌, ◌+◌, length, vec_len, IfOk};
+ghost use Rattle.label.specs.Relay.{IsShape, relay};
+ghost use Rattle.trial.specs.Setting.{context_in};
+
+use crate::spelling::spell;
+use label::Shape;
+use std::alloc::{AllocError, Global};
+use std::marker::Model;
+
+/// What a program is tried in: whose relay it is, the campaign's bound, and the order that the general took for each
+/// label that he relays, by rank.
+#[derive(Debug, Drop)]
+pub struct Setting {
+    shape: Shape,
+    bound: u32,
+    taken: Vec<u32>,
+}
+
+impl Model for Setting {
+    ghost use Rattle.trial.specs.Setting.{Setting as Told, IsTold};
+
+    ghost Value = { Told };
+
+    ghost view = { λ s. record { shape = s.shape; bound = s.bound; taken = s.taken.items } };
+
+    ghost invariant = { λ s. IsTold (record { shape = s.shape; bound = s.bound; taken = s.taken.items }) };
+}
+
+impl Setting {
+    /// The setting of a general's relay in a campaign with this bound, with an order for each label that he relays.
+    pub(crate) fn new(shape: Shape, bound: u32, taken: Vec<u32>) -> Setting
+        requires shape { IsShape shape }
+        requires rounds { shape.round ≤ bound + 1 }
+        requires few { bound ≤ 4 }
+        requires enough { bound + 2 ≤ shape.generals }
+        requires each { length taken.items ≡ length (relay shape) }
+        ensures { result ≡ record { shape = shape; bound = bound; taken = taken.items } }
+    {
+        Setting {
+            shape,
+            bound,
+            taken,
+        }
+    }
+
+    /// Whose relay it is.
+    pub(crate) fn shape(&self) -> Shape
+        ensures same { result ≡ self.now.shape }
+        ensures within { IsShape result }
+    {
+        self.shape
+    }
+
+    /// What the general is told there: the 4,096 bytes of his context.
+    ///
+    /// # Errors
+    ///
+    /// `AllocError` where the memory for them is refused.
+    pub(crate) fn context(&self, alloc: Global) -> Result<Vec<u8>, AllocError>
+        ensures bytes { IfOk result (λ bytes. bytes.items ≡ context_in self.now) }
+        ensures whole { IfOk result (λ bytes. vec_len bytes ≡ 4096) }
+    {
+        let Shape {
+            generals,
+            commander,
+            general,
+            round,
+        } = self.shape;
+        let taken = self.taken.as_slice();
+        let header = [
+            generals,
+            self.bound,
+            general,
+            commander,
+            round,
+            taken.len() as u32,
+            generals - round,
+            0,
+        ];
+        let mut bytes = Vec::with_capacity(alloc, 4096)?;
+        spell(&mut bytes, &header)?;
+        spell(&mut bytes, taken)?;
+        bytes.resize(4096, 0)?;
+        Ok(bytes)
+    }
+}
