@@ -17,3 +17,16 @@ pub mod Holding
 pub mod Idling
 pub mod Verdicts
 pub mod Entering
+pub mod Midst
+pub mod Bytes
+pub mod Safe
+pub mod Reached
+pub mod Ripening
+pub mod Completing
+pub mod Follow
+pub mod Again
+pub mod Replayed
+pub mod ProgramRows
+pub mod Exits
+pub mod Signing
+pub mod Sending
