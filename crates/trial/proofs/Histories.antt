@@ -24,7 +24,7 @@ use Rattle.trial.specs.Laws.{IsRun}
 -- where it stands, as an activation without a patience
 abbrev here : List Insn → List ℕ → Relay → State → Activation
 here program context relay s =
-    record { program = program; context = context; shape = relay; patience = None; state = s; over = false }
+    record { program = program; context = context; relay = relay; patience = None; state = s; over = false }
 
 -- the accesses from a state on, to the exit
 record Went (program : List Insn) (context : List ℕ) (relay : Relay) (words : List ℕ) (s : State) (e : Ending) : Type 0 where
@@ -32,7 +32,7 @@ record Went (program : List Insn) (context : List ℕ) (relay : Relay) (words : 
   last : State
   steps : ℕ
   run : Runs steps (here program context relay s) ledger (here program context relay last)
-  own : AreAccessesOf relay.general relay.round ledger
+  own : AreAccessesOf relay.shape.general relay.shape.round ledger
   fitting : AreFitting ledger
   exit : step program context relay last ≡ Exit e.r0 e.state
   legal : IsLegal words ledger
@@ -63,13 +63,13 @@ went_next program context relay words s t e is w = record {
 went_asks : (program : List Insn) (context : List ℕ) (relay : Relay) (words : List ℕ) (s t : State) (request : Request) (e : Ending) → IsBoard words → step program context relay s ≡ Ask request t
     → Went program context relay (next words request) (resumed request (reply words request) t) e → Went program context relay words s e
 went_asks program context relay words s t request e board is w =
-    let a : Access = record { general = relay.general; round = relay.round; request = request; reply = reply words request } in
+    let a : Access = record { general = relay.shape.general; round = relay.shape.round; request = request; reply = reply words request } in
     record {
       ledger = a ∷ w.ledger;
       last = w.last;
       steps = suc w.steps;
       run = subst (λ (o : Outcome). Onward (Runs w.steps) (turned (here program context relay s) o) (a ∷ w.ledger) (here program context relay w.last)) (sym is) (refl, w.run);
-      own = own_more relay.general relay.round a w.ledger (refl, refl) w.own;
+      own = own_more relay.shape.general relay.shape.round a w.ledger (refl, refl) w.own;
       fitting = (reply_fits words request board (asks_within program context relay s t request is), w.fitting);
       exit = w.exit;
       legal = (refl, w.legal);
@@ -83,7 +83,7 @@ went_exits program context relay words s t r0 e is same = subst (λ (f : Ending)
   last = s;
   steps = 0;
   run = (refl, refl);
-  own = own_none relay.general relay.round;
+  own = own_none relay.shape.general relay.shape.round;
   fitting = tt;
   exit = is;
   legal = tt;
@@ -112,7 +112,7 @@ trial_is_run program context relay e is =
     record {
       ledger = w.ledger;
       last = here program context relay w.last;
-      way = record { same = record { program = refl; context = refl; shape = refl; patience = refl }; run = (w.steps, w.run); own = w.own; fitting = w.fitting };
+      way = record { same = record { program = refl; context = refl; relay = refl; patience = refl }; run = (w.steps, w.run); own = w.own; fitting = w.fitting };
       going = refl;
       exit = w.exit;
       legal = w.legal;

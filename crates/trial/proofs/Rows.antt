@@ -6,6 +6,8 @@ use Rattle.std.proofs.lemmas.Option.{slice_get-map}
 use Rattle.label.specs.Relay.{IsShape, relay, receivers}
 use Rattle.outbox.specs.Contents.{Contents, order_at}
 use Rattle.round.proofs.Senders.{order_tells}
+use Rattle.semantics.specs.Relay.{Kind, Oral, Signed, labels_told, relayed}
+use Rattle.label.specs.declared.shape.Shape.{Shape}
 use Rattle.trial.specs.Lines.{put_line, label_lines}
 use Rattle.std.specs.Prelude.{slice_get}
 use Rattle.std.specs.List.{flat_map, enumerate_from}
@@ -41,12 +43,17 @@ pub lines_all : {A : Type 0} (line : ℕ × A → List ℕ) (i : ℕ) (xs : List
     → text ≡ old ++ flat_map line (enumerate_from 0 (take i xs)) → text ≡ old ++ flat_map line (enumerate_from 0 xs)
 lines_all line i xs old text past so_far = so_far ∙ ap (λ ys. old ++ flat_map line (enumerate_from 0 ys)) (take_all i xs past)
 
+-- a label that is relayed is one of the shape
+of_shape : (kind : Kind) (s : Shape) (rank : ℕ) (label : List ℕ) → slice_get (labels_told kind s) rank ≡ Some label → slice_get (relay s) rank ≡ Some label
+of_shape Oral s rank label at = at
+of_shape (Signed held) s rank label at = absurd (let h = at in cc)
+
 -- all receivers of a label: the order at each one's place is what the outbox tells him
-pub label_all : (o : Contents) (rank i : ℕ) (names label : List ℕ) (old text : List ℕ) → IsShape o.shape → slice_get (map (receivers o.shape) (relay o.shape)) rank ≡ Some names → length names ≤ i
-    → text ≡ old ++ flat_map (λ p. put_line rank p (order_at o.shape o.rows rank p)) (take i names) → slice_get (relay o.shape) rank ≡ Some label → text ≡ old ++ label_lines o rank label
+pub label_all : (o : Contents) (rank i : ℕ) (names label : List ℕ) (old text : List ℕ) → IsShape o.relay.shape → slice_get (map (receivers o.relay.shape) (relayed o.relay)) rank ≡ Some names → length names ≤ i
+    → text ≡ old ++ flat_map (λ p. put_line rank p (order_at o.relay o.rows rank p)) (take i names) → slice_get (relayed o.relay) rank ≡ Some label → text ≡ old ++ label_lines o rank label
 unfolding label_lines
 label_all o rank i names label old text within heard past so_far at =
-    let both : Some names ≡ Some (receivers o.shape label) = sym heard ∙ (slice_get-map (receivers o.shape) (relay o.shape) rank ∙ ap (option_map (receivers o.shape)) at) in
-    let same : names ≡ receivers o.shape label = (let h = both in cc) in
-    so_far ∙ (ap (λ ys. old ++ flat_map (λ p. put_line rank p (order_at o.shape o.rows rank p)) ys) (take_all i names past ∙ same)
-    ∙ (λ j. old ++ flat_map (λ p. put_line rank p (order_tells o.shape o.rows label p rank within.commander within.general at j)) (receivers o.shape label)))
+    let both : Some names ≡ Some (receivers o.relay.shape label) = sym heard ∙ (slice_get-map (receivers o.relay.shape) (relayed o.relay) rank ∙ ap (option_map (receivers o.relay.shape)) at) in
+    let same : names ≡ receivers o.relay.shape label = (let h = both in cc) in
+    so_far ∙ (ap (λ ys. old ++ flat_map (λ p. put_line rank p (order_at o.relay o.rows rank p)) ys) (take_all i names past ∙ same)
+    ∙ (λ j. old ++ flat_map (λ p. put_line rank p (order_tells o.relay o.rows o.entries label p rank within.commander within.general (of_shape o.relay.kind o.relay.shape rank label at) j)) (receivers o.relay.shape label)))

@@ -2,7 +2,7 @@
 use Rattle.std.proofs.Common.{◌≡◌, ℕ, zero, suc, ◌+◌, ◌-◌, ◌<◌, ◌≤◌, List, Option, Some, sym, ap, subst, ◌∙◌, length, arith}
 use Rattle.std.specs.Prelude.{replicate}
 use Rattle.insn.specs.declared.insn.Insn.{Insn}
-use Rattle.label.specs.declared.shape.Shape.{Shape}
+use Rattle.semantics.specs.Relay.{Relay}
 use Rattle.semantics.specs.declared.request.Request.{Request}
 use Rattle.semantics.specs.State.{State, Outcome, Next, Ask, Exit, entry}
 use Rattle.semantics.specs.Outbox.{empty_outbox}
@@ -20,64 +20,64 @@ use Rattle.machine.proofs.AdvanceLemmas.{fewer}
 use Rattle.trial.specs.Trial.{Ending, served, ending, trial}
 
 -- what is left of the trial, from where the program stands and the board's words
-pub record IsServing (program : List Insn) (context : List ℕ) (shape : Shape) (a : Standing) (b : RecordedBoard) : Type 0 where
+pub record IsServing (program : List Insn) (context : List ℕ) (relay : Relay) (a : Standing) (b : RecordedBoard) : Type 0 where
   pub of_run : IsOfRun program context a
-  pub shape_kept : a.shape ≡ shape
-  pub rest : ending program context shape (length program - a.state.steps) b.words a.state ≡ trial program context shape
+  pub relay_kept : a.relay ≡ relay
+  pub rest : ending program context relay (length program - a.state.steps) b.words a.state ≡ trial program context relay
 
-pub served_from : (program : List Insn) (context : List ℕ) (shape : Shape) (a : Standing) (b : RecordedBoard) → IsOfRun program context a → a.shape ≡ shape →
-    b.words ≡ replicate 64 0 → a.state ≡ entry (empty_outbox a.shape) → IsServing program context shape a b
-served_from program context shape a b run same zeros begun =
-    let at : a.state ≡ entry (empty_outbox shape) = begun ∙ ap (λ (s : Shape). entry (empty_outbox s)) same in
+pub served_from : (program : List Insn) (context : List ℕ) (relay : Relay) (a : Standing) (b : RecordedBoard) → IsOfRun program context a → a.relay ≡ relay →
+    b.words ≡ replicate 64 0 → a.state ≡ entry (empty_outbox a.relay) → IsServing program context relay a b
+served_from program context relay a b run same zeros begun =
+    let at : a.state ≡ entry (empty_outbox relay) = begun ∙ ap (λ (s : Relay). entry (empty_outbox s)) same in
     record {
       of_run = run;
-      shape_kept = same;
-      rest = (let all : length program - 0 ≡ length program = omega arith in rw (at, zeros) (ap (λ (k : ℕ). ending program context shape k (replicate 64 0) (entry (empty_outbox shape))) all));
+      relay_kept = same;
+      rest = (let all : length program - 0 ≡ length program = omega arith in rw (at, zeros) (ap (λ (k : ℕ). ending program context relay k (replicate 64 0) (entry (empty_outbox relay))) all));
     }
 
 -- a step that goes on
-ending_next : (program : List Insn) (context : List ℕ) (shape : Shape) (k : ℕ) (words : List ℕ) (s t : State) → step program context shape s ≡ Next t
-    → ending program context shape (suc k) words s ≡ ending program context shape k words t
+ending_next : (program : List Insn) (context : List ℕ) (relay : Relay) (k : ℕ) (words : List ℕ) (s t : State) → step program context relay s ≡ Next t
+    → ending program context relay (suc k) words s ≡ ending program context relay k words t
 unfolding ending
-ending_next program context shape k words s t e = ap (λ (o : Outcome). served (λ left u. ending program context shape k left u) words o) e
+ending_next program context relay k words s t e = ap (λ (o : Outcome). served (λ left u. ending program context relay k left u) words o) e
 
-ending_asks : (program : List Insn) (context : List ℕ) (shape : Shape) (k : ℕ) (words : List ℕ) (s t : State) (request : Request) → step program context shape s ≡ Ask request t
-    → ending program context shape (suc k) words s ≡ ending program context shape k (next words request) (resumed request (reply words request) t)
+ending_asks : (program : List Insn) (context : List ℕ) (relay : Relay) (k : ℕ) (words : List ℕ) (s t : State) (request : Request) → step program context relay s ≡ Ask request t
+    → ending program context relay (suc k) words s ≡ ending program context relay k (next words request) (resumed request (reply words request) t)
 unfolding ending
-ending_asks program context shape k words s t request e = ap (λ (o : Outcome). served (λ left u. ending program context shape k left u) words o) e
+ending_asks program context relay k words s t request e = ap (λ (o : Outcome). served (λ left u. ending program context relay k left u) words o) e
 
-ending_exits : (program : List Insn) (context : List ℕ) (shape : Shape) (k : ℕ) (words : List ℕ) (s out : State) (r0 : ℕ) → step program context shape s ≡ Exit r0 out
-    → ending program context shape (suc k) words s ≡ Some (record { r0 = r0; state = out; words = words })
+ending_exits : (program : List Insn) (context : List ℕ) (relay : Relay) (k : ℕ) (words : List ℕ) (s out : State) (r0 : ℕ) → step program context relay s ≡ Exit r0 out
+    → ending program context relay (suc k) words s ≡ Some (record { r0 = r0; state = out; words = words })
 unfolding ending
-ending_exits program context shape k words s out r0 e = ap (λ (o : Outcome). served (λ left u. ending program context shape k left u) words o) e
+ending_exits program context relay k words s out r0 e = ap (λ (o : Outcome). served (λ left u. ending program context relay k left u) words o) e
 
-leads_counts : (program : List Insn) (context : List ℕ) (shape : Shape) (n : ℕ) (s t : State) → Leads program context shape n s t → s.steps ≤ t.steps
-leads_counts program context shape zero s t same = let e : s.steps ≡ t.steps = ap (λ (u : State). u.steps) same in omega arith
-leads_counts program context shape (suc n) s t (next, is, more) =
-    let counted : next.steps ≡ s.steps + 1 = subst (λ (o : Outcome). CountsOnce s o) is (step_counts program context shape s) in
-    let ih = leads_counts program context shape n next t more in
+leads_counts : (program : List Insn) (context : List ℕ) (relay : Relay) (n : ℕ) (s t : State) → Leads program context relay n s t → s.steps ≤ t.steps
+leads_counts program context relay zero s t same = let e : s.steps ≡ t.steps = ap (λ (u : State). u.steps) same in omega arith
+leads_counts program context relay (suc n) s t (next, is, more) =
+    let counted : next.steps ≡ s.steps + 1 = subst (λ (o : Outcome). CountsOnce s o) is (step_counts program context relay s) in
+    let ih = leads_counts program context relay n next t more in
     omega arith
 
 -- so many steps on
-ending_leads : (program : List Insn) (context : List ℕ) (shape : Shape) (n : ℕ) (words : List ℕ) (s t : State) → Leads program context shape n s t → t.steps < length program
-    → ending program context shape (length program - s.steps) words s ≡ ending program context shape (length program - t.steps) words t
-ending_leads program context shape zero words s t same lt = ap (λ (u : State). ending program context shape (length program - u.steps) words u) same
-ending_leads program context shape (suc n) words s t (u, is, more) lt =
-    let counted : u.steps ≡ s.steps + 1 = subst (λ (o : Outcome). CountsOnce s o) is (step_counts program context shape s) in
-    let few : u.steps ≤ t.steps = leads_counts program context shape n u t more in
+ending_leads : (program : List Insn) (context : List ℕ) (relay : Relay) (n : ℕ) (words : List ℕ) (s t : State) → Leads program context relay n s t → t.steps < length program
+    → ending program context relay (length program - s.steps) words s ≡ ending program context relay (length program - t.steps) words t
+ending_leads program context relay zero words s t same lt = ap (λ (u : State). ending program context relay (length program - u.steps) words u) same
+ending_leads program context relay (suc n) words s t (u, is, more) lt =
+    let counted : u.steps ≡ s.steps + 1 = subst (λ (o : Outcome). CountsOnce s o) is (step_counts program context relay s) in
+    let few : u.steps ≤ t.steps = leads_counts program context relay n u t more in
     let left : length program - s.steps ≡ suc (length program - u.steps) = omega arith in
-    ap (λ (k : ℕ). ending program context shape k words s) left
-    ∙ (ending_next program context shape (length program - u.steps) words s u is
-    ∙ ending_leads program context shape n words u t more lt)
+    ap (λ (k : ℕ). ending program context relay k words s) left
+    ∙ (ending_next program context relay (length program - u.steps) words s u is
+    ∙ ending_leads program context relay n words u t more lt)
 
 -- it goes on from the board's answer
-pub serves_on : (program : List Insn) (context : List ℕ) (shape : Shape) (limit : ℕ) (a t : Standing) (b d : RecordedBoard) (request : Request) (w : Asking) (words : List ℕ) (s : IsServing program context shape a b) → limit ≤ length program →
-    Requests program context a.shape s.of_run.answers limit a.state request w → t.shape ≡ w.shape → t.state ≡ resumed w.request words w.state → IsOfRun program context t →
-    words ≡ reply b.words request → d.words ≡ next b.words request → IsServing program context shape t d
-serves_on program context shape limit a t b d request w words s few r same is run answer left =
+pub serves_on : (program : List Insn) (context : List ℕ) (relay : Relay) (limit : ℕ) (a t : Standing) (b d : RecordedBoard) (request : Request) (w : Asking) (words : List ℕ) (s : IsServing program context relay a b) → limit ≤ length program →
+    Requests program context a.relay s.of_run.answers limit a.state request w → t.relay ≡ w.relay → t.state ≡ resumed w.request words w.state → IsOfRun program context t →
+    words ≡ reply b.words request → d.words ≡ next b.words request → IsServing program context relay t d
+serves_on program context relay limit a t b d request w words s few r same is run answer left =
     let most = length program in
-    let leads : Leads program context shape r.taken a.state w.last = subst (λ (own : Shape). Leads program context own r.taken a.state w.last) s.shape_kept r.leads in
-    let asks : step program context shape w.last ≡ Ask request w.state = ap (λ (own : Shape). step program context own w.last) (sym s.shape_kept) ∙ r.asks in
+    let leads : Leads program context relay r.taken a.state w.last = subst (λ (own : Relay). Leads program context own r.taken a.state w.last) s.relay_kept r.leads in
+    let asks : step program context relay w.last ≡ Ask request w.state = ap (λ (own : Relay). step program context own w.last) (sym s.relay_kept) ∙ r.asks in
     let on : t.state ≡ resumed request (reply b.words request) w.state = is ∙ (ap (λ (q : Request). resumed q words w.state) r.same ∙ ap (λ (l : List ℕ). resumed request l w.state) answer) in
     let last : w.last.steps < most = (let h = r.before in omega arith) in
     let counted : w.state.steps ≡ w.last.steps + 1 = r.counted in
@@ -85,41 +85,41 @@ serves_on program context shape limit a t b d request w words s few r same is ru
     let fewer_left : most - w.last.steps ≡ suc (most - t.state.steps) = omega arith in
     record {
       of_run = run;
-      shape_kept = same ∙ (r.shape_kept ∙ s.shape_kept);
+      relay_kept = same ∙ (r.relay_kept ∙ s.relay_kept);
       rest = (
-          ap (λ (ws : List ℕ). ending program context shape (most - t.state.steps) ws t.state) left
-          ∙ (ap (λ (u : State). ending program context shape (most - t.state.steps) (next b.words request) u) on
-          ∙ (sym (ending_asks program context shape (most - t.state.steps) b.words w.last w.state request asks)
-          ∙ (ap (λ (k : ℕ). ending program context shape k b.words w.last) (sym fewer_left)
-          ∙ (sym (ending_leads program context shape r.taken b.words a.state w.last leads last) ∙ s.rest))))
+          ap (λ (ws : List ℕ). ending program context relay (most - t.state.steps) ws t.state) left
+          ∙ (ap (λ (u : State). ending program context relay (most - t.state.steps) (next b.words request) u) on
+          ∙ (sym (ending_asks program context relay (most - t.state.steps) b.words w.last w.state request asks)
+          ∙ (ap (λ (k : ℕ). ending program context relay k b.words w.last) (sym fewer_left)
+          ∙ (sym (ending_leads program context relay r.taken b.words a.state w.last leads last) ∙ s.rest))))
           );
     }
 
 -- each answer leaves fewer steps
 pub goes_further : (program : List Insn) (context : List ℕ) (limit : ℕ) (answers : List (List ℕ)) (a t : Standing) (request : Request) (w : Asking) (words : List ℕ) → IsSound program → IsOfRun program context a →
-    Requests program context a.shape answers limit a.state request w → t.state ≡ resumed w.request words w.state → length program - t.state.steps < length program - a.state.steps
+    Requests program context a.relay answers limit a.state request w → t.state ≡ resumed w.request words w.state → length program - t.state.steps < length program - a.state.steps
 goes_further program context limit answers a t request w words sound run r is =
     let less : a.state.steps < length program = fewer program context a sound run in
-    let on : a.state.steps ≤ w.last.steps = leads_counts program context a.shape r.taken a.state w.last r.leads in
+    let on : a.state.steps ≤ w.last.steps = leads_counts program context a.relay r.taken a.state w.last r.leads in
     let counted : w.state.steps ≡ w.last.steps + 1 = r.counted in
     let same : t.state.steps ≡ w.state.steps = ap (λ (u : State). u.steps) is ∙ resumed_counts w.request words w.state in
     omega arith
 
 -- the exit
-pub served_to : (program : List Insn) (context : List ℕ) (shape : Shape) (limit r0 : ℕ) (a new : Standing) (b : RecordedBoard) (ended : Ended) (s : IsServing program context shape a b) → limit ≤ length program →
-    Exits program context a.shape s.of_run.answers limit a.state ended → ended.steps ≡ new.state.steps → after program context a.shape s.of_run.answers new.state.steps ≡ Exited r0 new.state
-    → trial program context shape ≡ Some (record { r0 = r0; state = new.state; words = b.words })
-served_to program context shape limit r0 a new b ended s few e count stands =
+pub served_to : (program : List Insn) (context : List ℕ) (relay : Relay) (limit r0 : ℕ) (a new : Standing) (b : RecordedBoard) (ended : Ended) (s : IsServing program context relay a b) → limit ≤ length program →
+    Exits program context a.relay s.of_run.answers limit a.state ended → ended.steps ≡ new.state.steps → after program context a.relay s.of_run.answers new.state.steps ≡ Exited r0 new.state
+    → trial program context relay ≡ Some (record { r0 = r0; state = new.state; words = b.words })
+served_to program context relay limit r0 a new b ended s few e count stands =
     let most = length program in
-    let leads : Leads program context shape e.taken a.state e.last = subst (λ (own : Shape). Leads program context own e.taken a.state e.last) s.shape_kept e.leads in
-    let exit : step program context shape e.last ≡ Exit e.r0 e.out = ap (λ (own : Shape). step program context own e.last) (sym s.shape_kept) ∙ e.exit in
+    let leads : Leads program context relay e.taken a.state e.last = subst (λ (own : Relay). Leads program context own e.taken a.state e.last) s.relay_kept e.leads in
+    let exit : step program context relay e.last ≡ Exit e.r0 e.out = ap (λ (own : Relay). step program context own e.last) (sym s.relay_kept) ∙ e.exit in
     let last : e.last.steps < most = (let h = e.before in omega arith) in
     let one : most - e.last.steps ≡ suc (most - e.last.steps - 1) = omega arith in
-    let both : Exited e.r0 e.out ≡ Exited r0 new.state = sym e.run ∙ (ap (λ (n : ℕ). after program context a.shape s.of_run.answers n) count ∙ stands) in
+    let both : Exited e.r0 e.out ≡ Exited r0 new.state = sym e.run ∙ (ap (λ (n : ℕ). after program context a.relay s.of_run.answers n) count ∙ stands) in
     sym s.rest
-    ∙ (ending_leads program context shape e.taken b.words a.state e.last leads last
-    ∙ (ap (λ (k : ℕ). ending program context shape k b.words e.last) one
-    ∙ (ending_exits program context shape (most - e.last.steps - 1) b.words e.last e.out e.r0 exit
+    ∙ (ending_leads program context relay e.taken b.words a.state e.last leads last
+    ∙ (ap (λ (k : ℕ). ending program context relay k b.words e.last) one
+    ∙ (ending_exits program context relay (most - e.last.steps - 1) b.words e.last e.out e.r0 exit
     ∙ same_end e.r0 r0 e.out new.state b.words both)))
   where
     ended_so : ℕ → State → List ℕ → Option Ending

@@ -19,7 +19,7 @@ use Rattle.trial.specs.Trial.{Ending, trial}
 pub record IsRun (program : List Insn) (context : List ℕ) (relay : Relay) (e : Ending) : Type 0 where
   pub ledger : List Access
   pub last : Activation
-  pub way : IsOnWay relay.general relay.round (started None program context relay) last ledger
+  pub way : IsOnWay relay.shape.general relay.shape.round (started None program context relay) last ledger
   pub going : last.over ≡ false
   pub exit : step program context relay last.state ≡ Exit e.r0 e.state
   pub legal : IsLegal (replicate 64 0) ledger

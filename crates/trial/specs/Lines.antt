@@ -4,7 +4,8 @@ use Rattle.std.specs.Fmt.{decimal}
 use Rattle.std.specs.List.{flat_map, enumerate_from}
 use Rattle.insn.specs.declared.insn.Insn.{Insn}
 use Rattle.insn.specs.Program.{slots_of}
-use Rattle.label.specs.Relay.{relay, receivers}
+use Rattle.label.specs.Relay.{receivers}
+use Rattle.semantics.specs.Relay.{oral, relayed}
 use Rattle.outbox.specs.Contents.{Contents}
 use Rattle.round.specs.Letters.{tells}
 use Rattle.trial.specs.Setting.{Setting}
@@ -25,11 +26,11 @@ put_line rank receiver (Some order) =
 
 -- what the outbox tells of the label of that rank, by receiver
 unfoldable pub label_lines : Contents → ℕ → List ℕ → List ℕ
-label_lines outbox rank label = flat_map (λ p. put_line rank p (tells outbox label p)) (receivers outbox.shape label)
+label_lines outbox rank label = flat_map (λ p. put_line rank p (tells outbox label p)) (receivers outbox.relay.shape label)
 
 -- and of all labels that are relayed, by rank
 unfoldable pub put_lines : Contents → List ℕ
-put_lines outbox = flat_map (λ l. label_lines outbox l.0 l.1) (enumerate_from 0 (relay outbox.shape))
+put_lines outbox = flat_map (λ l. label_lines outbox l.0 l.1) (enumerate_from 0 (relayed outbox.relay))
 
 -- a word of the board, where it is not zero any more
 abbrev pub word_line : ℕ → ℕ → List ℕ
@@ -42,4 +43,4 @@ word_lines words = flat_map (λ w. word_line w.0 w.1) (enumerate_from 0 words)
 abbrev pub trial_lines : List Insn → Setting → Ending → List ℕ
 trial_lines program setting e =
     first_lines (length program) (length (slots_of program)) e.r0 e.state.steps
-    ++ put_lines (record { shape = setting.shape; rows = e.state.outbox }) ++ word_lines e.words
+    ++ put_lines (record { relay = oral setting.shape; rows = e.state.outbox; entries = e.state.entries }) ++ word_lines e.words

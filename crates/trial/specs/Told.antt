@@ -3,6 +3,7 @@ use Rattle.std.specs.Prelude.{ℕ, ◌≡◌, List, Option, Some, None, Result, 
 use Rattle.toml.specs.Data.{Members}
 use Rattle.toml.specs.Parse.{parse_document}
 use Rattle.insn.specs.declared.insn.Insn.{Insn}
+use Rattle.semantics.specs.Relay.{oral}
 use Rattle.trial.specs.declared.fault.SettingError.{SettingError}
 use Rattle.trial.specs.declared.fault.SettingError.TheVariants as errors
 use Rattle.trial.specs.Flaws.{Gives}
@@ -25,4 +26,4 @@ Tells text s = Reads (parse_document text) (Ok s)
 -- the program's trial in the setting has ended, and these are its lines
 abbrev pub IsTried : List Insn → Setting → List ℕ → Type 0
 IsTried program s lines =
-    (e : Ending) × (trial program (context_in s) s.shape ≡ Some e) × (lines ≡ trial_lines program s e)
+    (e : Ending) × (trial program (context_in s) (oral s.shape) ≡ Some e) × (lines ≡ trial_lines program s e)

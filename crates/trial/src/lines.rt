@@ -1,7 +1,7 @@
 //! What is printed of a trial.
 ghost use Rattle.std.specs.Prelude.{◌≡◌, ◌<◌, ◌++◌, ℕ, List, Some, IfOk, OnOk, length, slice_get, string_bytes};
 ghost use Rattle.insn.specs.Program.{slots_of};
-ghost use Rattle.label.specs.Relay.{relay};
+ghost use Rattle.semantics.specs.Relay.{relayed};
 ghost use Rattle.trial.specs.Lines.{first_lines, put_line, label_lines, put_lines, word_line, word_lines};
 ghost use Rattle.trial.specs.Told.{IsTried};
 
@@ -35,7 +35,7 @@ pub fn tried(alloc: Global, verified: &Verified, setting: &Setting) -> Result<St
 fn lines(alloc: Global, program: &Program, exited: &Exited) -> Result<String, AllocError>
     ensures { IfOk result (λ text. string_bytes text ≡
         first_lines (length program.now) (length (slots_of program.now)) exited.now.r0 exited.now.activation.state.steps
-        ++ put_lines (record { shape = exited.now.activation.shape; rows = exited.now.activation.state.outbox })
+        ++ put_lines (record { relay = exited.now.activation.relay; rows = exited.now.activation.state.outbox; entries = exited.now.activation.state.entries })
         ++ word_lines exited.now.board.words) }
 {
     let mut text = first_lines(
@@ -81,7 +81,7 @@ fn push_label(
     rank: u32,
 ) -> Result<(), AllocError>
     requires { rank < length outbox.now.rows }
-    ensures { OnOk result ((label : List ℕ) → slice_get (relay outbox.now.shape) rank ≡ Some label → string_bytes text.new ≡ string_bytes text.old ++ label_lines outbox.now rank label) }
+    ensures { OnOk result ((label : List ℕ) → slice_get (relayed outbox.now.relay) rank ≡ Some label → string_bytes text.new ≡ string_bytes text.old ++ label_lines outbox.now rank label) }
 {
     let _shape = outbox.shape();
     for receiver in outbox.receivers(rank) {

@@ -1,6 +1,7 @@
 //! One run of a program, with a board of its own.
 ghost use Rattle.std.specs.Prelude.{◌≡◌, Some, IfOk, replicate};
 ghost use Rattle.label.specs.Relay.{IsShape};
+ghost use Rattle.semantics.specs.Relay.{oral};
 ghost use Rattle.trial.specs.Trial.{trial};
 
 use board::Board;
@@ -34,8 +35,8 @@ pub fn run(
     shape: Shape,
 ) -> Result<Exited, AllocError>
     requires { IsShape shape }
-    ensures ending { IfOk result (λ e. trial verified.now context.now shape ≡ Some (record { r0 = e.r0; state = e.activation.state; words = e.board.words })) }
-    ensures shape { IfOk result (λ e. e.activation.shape ≡ shape) }
+    ensures ending { IfOk result (λ e. trial verified.now context.now (oral shape) ≡ Some (record { r0 = e.r0; state = e.activation.state; words = e.board.words })) }
+    ensures relay { IfOk result (λ e. e.activation.relay ≡ oral shape) }
 {
     let limit = verified.program().len() as u32;
     let mut board = Board::new(alloc, [0; 64]);

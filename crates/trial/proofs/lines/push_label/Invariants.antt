@@ -8,4 +8,4 @@ use Rattle.trial.proofs.lines.push_label.Given as goal
 -- the lines of the receivers so far
 abbrev pub invariant-loop-receiver : goal.invariant-loop-receiver
 invariant-loop-receiver l =
-    string_bytes l.text ≡ string_bytes l.initial.text ++ flat_map (λ p. put_line l.rank p (order_at l.outbox.shape l.outbox.rows l.rank p)) (take l.receiver-index l.receiver-items)
+    string_bytes l.text ≡ string_bytes l.initial.text ++ flat_map (λ p. put_line l.rank p (order_at l.outbox.relay l.outbox.rows l.rank p)) (take l.receiver-index l.receiver-items)

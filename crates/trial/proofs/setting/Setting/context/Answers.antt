@@ -2,6 +2,7 @@ use Rattle.std.proofs.Common.{◌≡◌, ◌≤◌, ◌++◌, ℕ, List, flat_ma
 use Rattle.std.specs.Vec.{vec_len}
 use Rattle.semantics.proofs.PlacesLaws.{relays_few}
 use Rattle.label.specs.Relay.{relay}
+use Rattle.semantics.specs.Relay.{oral}
 use Rattle.round.proofs.Spelling.{header_numbers, context_done}
 use Rattle.word.specs.Bytes.{little_bytes}
 use Rattle.trial.specs.Setting.{context_in}
@@ -9,7 +10,7 @@ use Rattle.trial.proofs.setting.Setting.context.Goals as goal
 
 pub overflow_cast-header : goal.overflow_cast-header
 overflow_cast-header c =
-    let few : length (relay c.self.inside.shape) ≤ 990 = relays_few c.self.inside.shape c.self.invariant.shape in
+    let few : length (relay c.self.inside.shape) ≤ 990 = relays_few (oral c.self.inside.shape) c.self.invariant.shape in
     let each : length c.self.inside.taken.items ≡ length (relay c.self.inside.shape) = c.self.invariant.each in
     let len : length c.as_slice-taken.result.now ≡ length c.self.inside.taken.items = ap length c.as_slice-taken.ensures.value in
     omega arith
@@ -17,7 +18,7 @@ overflow_cast-header c =
 pub returns-clause-bytes : goal.returns-clause-bytes
 returns-clause-bytes c =
     let s = c.self.inside in
-    let few : length (relay s.shape) ≤ 990 = relays_few s.shape c.self.invariant.shape in
+    let few : length (relay s.shape) ≤ 990 = relays_few (oral s.shape) c.self.invariant.shape in
     let each : length s.taken.items ≡ length (relay s.shape) = c.self.invariant.each in
     let same : length c.as_slice-taken.result.now ≡ length s.taken.items = ap length c.as_slice-taken.ensures.value in
     let coded : header_numbers s.shape s.bound (length c.as_slice-taken.result.now) ≡ header_numbers s.shape s.bound (length s.taken.items) = ap (header_numbers s.shape s.bound) same in
