@@ -14,7 +14,7 @@ use insn::Program;
 use std::alloc::Global;
 use std::collections::BTreeMap;
 
-/// The greatest number of units of a program; statements past it are counted, and not kept.
+/// The greatest number of units of a program; statements past them are counted, and not kept.
 pub const MOST_UNITS: u64 = Program::MOST_UNITS as u64;
 
 /// What the lines so far say.
@@ -24,7 +24,7 @@ pub struct Reading<'a> {
     pub names: BTreeMap<&'a [u8], u64>,
     /// How many units the statements take.
     pub units: u64,
-    /// The statements, where they take at most 4,096 units: past those none is added.
+    /// The statements, as long as they take at most 4,096 units; past those none is added.
     pub sources: Vec<Kept<'a>>,
     /// How many lines there are.
     pub lines: u64,
