@@ -17,3 +17,9 @@ pub mod Holding
 pub mod Idling
 pub mod Verdicts
 pub mod Entering
+pub mod Midst
+pub mod Bytes
+pub mod Safe
+pub mod Reached
+pub mod Ripening
+pub mod Completing

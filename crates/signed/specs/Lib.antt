@@ -10,3 +10,6 @@ pub mod Chronicle
 pub mod Text
 pub mod Signers
 pub mod Verdicts
+pub mod Programs
+pub mod Lists
+pub mod Plays

@@ -1,0 +1,56 @@
+-- What holds of signed campaigns whose traitors run programs. Each statement is the contract of a function of this crate.
+use Rattle.std.specs.Prelude.{ℕ, suc, ◌≡◌, ◌≢◌, ◌<◌, ◌≤◌, true, false, All, List, length, slice_get, Option, None, Some}
+use Rattle.semantics.specs.State.{Cause, Trap}
+use Rattle.semantics.specs.Execution.{step}
+use Rattle.board.specs.Board.{Access, IsLegal}
+use Rattle.round.specs.Contexts.{context_bytes}
+use Rattle.round.specs.Activation.{Activation, has_ended}
+use Rattle.world.specs.Lists.{names_in}
+use Rattle.signed.specs.Campaign.{is_traitor}
+use Rattle.signed.specs.World.{Letter, Acting, Event, context_behind}
+use Rattle.signed.specs.Chronicle.{chronicle_of}
+use Rattle.signed.specs.Programs.{SignedScenario, IsSignedScenario, RunWorld, shape_in, played}
+use Rattle.signed.specs.Lists.{IsComplete, listed, replayed}
+
+-- the activation is that of a traitor in the round behind these, which is one of the campaign: what he runs, what he is told, whom he relays to, and his patience
+pub record IsPlaced (s : SignedScenario) (w : RunWorld) (g : ℕ) (a : Activation) : Type 0 where
+  pub general : g < s.campaign.generals
+  pub traitor : is_traitor s.campaign g ≡ true
+  pub rounds : length w.closed ≤ s.campaign.bound
+  pub program : a.program ≡ s.program g
+  pub context : a.context ≡ context_bytes (context_behind s.campaign w.closed g)
+  pub relay : a.shape ≡ shape_in s.campaign g (suc (length w.closed))
+  pub patience : a.patience ≡ s.campaign.patience
+
+-- a traitor's letter has no more steps than his program has instructions
+abbrev pub IsShort : SignedScenario → Option Letter → Type 0
+IsShort s None = Unit {0}
+IsShort s (Some l) = (steps : ℕ) → l.steps ≡ Some steps → steps ≤ length (s.program l.general)
+
+-- whatever happens, no activation traps or takes more steps than its program has instructions, and each is that of a traitor in the open round
+pub record SignedActivationsAreSafe : Type 0 where
+  pub untrapped : (s : SignedScenario) (events : List Event) (g : ℕ) (a : Activation) (cause : Cause) → IsSignedScenario s →
+      slice_get (played s events).parts g ≡ Some (Acting a) → has_ended a ≡ false → step a.program a.context a.shape a.state ≢ Trap cause
+  pub fewer : (s : SignedScenario) (events : List Event) (g : ℕ) (a : Activation) → IsSignedScenario s →
+      slice_get (played s events).parts g ≡ Some (Acting a) → a.state.steps ≤ length a.program
+  pub placed : (s : SignedScenario) (events : List Event) (g : ℕ) (a : Activation) → IsSignedScenario s →
+      slice_get (played s events).parts g ≡ Some (Acting a) → IsPlaced s (played s events) g a
+  pub letters : (s : SignedScenario) (events : List Event) → IsSignedScenario s → All (λ letters. All (IsShort s) letters) (played s events).closed
+
+-- listed and replayed lists of events are complete
+pub record SignedListsAreComplete : Type 0 where
+  pub listed : (s : SignedScenario) (lines : List (List ℕ)) → IsSignedScenario s → IsComplete s (listed s lines)
+  pub replayed : (s : SignedScenario) (names : List (List ℕ)) → IsSignedScenario s → IsComplete s (replayed s names)
+
+-- the world of the replay of a ledger
+abbrev pub replay_of : SignedScenario → List Access → RunWorld
+replay_of s ledger = played s (replayed s (names_in 1 ledger (suc s.campaign.bound)))
+
+-- a complete run is the replay of its own accesses, and so its chronicle is that of the replay; its ledger is legal from the board's opening words on, and has accesses of the campaign's traitors alone
+pub record SignedRunsAreReplays : Type 0 where
+  pub worlds : (s : SignedScenario) (events : List Event) → IsSignedScenario s → IsComplete s events → replay_of s (played s events).board.ledger ≡ played s events
+  pub chronicles : (s : SignedScenario) (events : List Event) → IsSignedScenario s → IsComplete s events →
+      chronicle_of (played s events) ≡ chronicle_of (replay_of s (played s events).board.ledger)
+  pub legal : (s : SignedScenario) (events : List Event) → IsSignedScenario s → IsLegal s.board (played s events).board.ledger
+  pub traitors : (s : SignedScenario) (events : List Event) → IsSignedScenario s →
+      All (λ a. (a.general < s.campaign.generals) × (is_traitor s.campaign a.general ≡ true)) (played s events).board.ledger
