@@ -134,7 +134,7 @@ listed_ends s is (suc k) lines closed board full w h e =
     (wound_then s is closed board full w es (listed_rounds s k (later_lines lines)) i r
     (listed_ends s is k (later_lines lines) (w3.closed ++ row ∷ []) w3.board (w3.full && list_all has_posted w3.parts) (closing (conduct_of s) w3) (next_in s closed board full w3 r.in_round r.is_open) (omega arith)))
 
-named_moves : (g : ℕ) (o : Option (Part Activation)) → AreMoves (ticks_named g o)
+pub named_moves : (g : ℕ) (o : Option (Part Activation)) → AreMoves (ticks_named g o)
 named_moves g None = tt
 named_moves g (Some (Acting a)) = ticks_are_moves _ g
 named_moves g (Some Silent) = tt

@@ -29,7 +29,7 @@ no_close A B d w false e = refl
 none_at : (A B : Type 0) (w : World A B) (g : ℕ) → w.parts ≡ [] → slice_get w.parts g ≡ None
 none_at A B w g e = ap (λ ps. slice_get ps g) e
 
-over_idle : (A B : Type 0) (d : Conduct A B) (w : World A B) (e : Event) → Keeps A B w → round_open w.campaign w.closed ≡ false → happen d w e ≡ w
+pub over_idle : (A B : Type 0) (d : Conduct A B) (w : World A B) (e : Event) → Keeps A B w → round_open w.campaign w.closed ≡ false → happen d w e ≡ w
 over_idle A B d w (Tick g) k o = ap (ticked d w g) (none_at A B w g (k.over o))
 over_idle A B d w (Post g) k o = ap (posting w g) (none_at A B w g (k.over o))
 over_idle A B d w Close k o = no_close A B d w (round_open w.campaign w.closed) o

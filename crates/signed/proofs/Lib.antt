@@ -23,3 +23,6 @@ pub mod Safe
 pub mod Reached
 pub mod Ripening
 pub mod Completing
+pub mod Follow
+pub mod Again
+pub mod Replayed

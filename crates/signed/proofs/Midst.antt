@@ -189,12 +189,16 @@ module _ (s : SignedScenario) (closed : List Row) (board : RecordedBoard) where
   began g a true e = cc
   began g a false e = absurd (let f : Silent ≡ Acting a = e in cc)
 
-  first_ways : (more : Bool) (g : ℕ) (a : Activation) → slice_get (cond more (map (begins (conduct_of s) s.campaign closed) (generals s.campaign.generals)) []) g ≡ Some (Acting a) → Came [] g a
-  first_ways false g a e = absurd (let f : None ≡ Some (Acting a) = e in cc)
-  first_ways true g a e = elim (cases_lt g s.campaign.generals) [
-    | inl within ↦ (0, (refl, began g a (is_traitor s.campaign g) (let q : Some (begins (conduct_of s) s.campaign closed g) ≡ Some (Acting a) = sym (row_at (begins (conduct_of s) s.campaign closed) s.campaign.generals g within) ∙ e in cc)))
+  begun_first : (more : Bool) (g : ℕ) (a : Activation) → slice_get (cond more (map (begins (conduct_of s) s.campaign closed) (generals s.campaign.generals)) []) g ≡ Some (Acting a) → start s closed g ≡ a
+  begun_first false g a e = absurd (let f : None ≡ Some (Acting a) = e in cc)
+  begun_first true g a e = elim (cases_lt g s.campaign.generals) [
+    | inl within ↦ began g a (is_traitor s.campaign g) (let q : Some (begins (conduct_of s) s.campaign closed g) ≡ Some (Acting a) = sym (row_at (begins (conduct_of s) s.campaign closed) s.campaign.generals g within) ∙ e in cc)
     | inr past ↦ absurd (let f : None ≡ Some (Acting a) = sym (row_past (begins (conduct_of s) s.campaign closed) s.campaign.generals g past) ∙ e in cc)
   ]
+
+  -- in its beginning each activation is at its start
+  pub first_starts : (full : Bool) (g : ℕ) (a : Activation) → slice_get (begun (conduct_of s) s.campaign closed board full).parts g ≡ Some (Acting a) → start s closed g ≡ a
+  first_starts full g a e = begun_first (round_open s.campaign closed) g a e
 
   pub midst_first : (full : Bool) → IsBoard board.words → Midst (begun (conduct_of s) s.campaign closed board full)
   midst_first full whole = record {
@@ -207,7 +211,7 @@ module _ (s : SignedScenario) (closed : List Row) (board : RecordedBoard) where
     fitting = tt;
     of_round = tt;
     traitors = tt;
-    ways = first_ways (round_open s.campaign closed);
+    ways = λ g a e. (0, (refl, first_starts full g a e));
   }
 
   post_midst : (w : RunWorld) (g : ℕ) → Midst w → (o : Option (Part Activation)) → slice_get w.parts g ≡ o → Midst (posting w g o)

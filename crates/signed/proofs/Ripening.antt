@@ -140,7 +140,7 @@ posted_now w g part at kind (Some Posted) e = (let A : Option (Part Activation) 
 
 module _ (s : SignedScenario) (is : IsSignedScenario s) (closed : List Row) (board : RecordedBoard) (full : Bool) where
   -- every general has a part of his kind
-  his_part : (w : RunWorld) (g : ℕ) → InRound s closed board full w → round_open s.campaign closed ≡ true → g < s.campaign.generals → (part : Part Activation) × (slice_get w.parts g ≡ Some part) × IsKind Activation (is_traitor s.campaign g) part
+  pub his_part : (w : RunWorld) (g : ℕ) → InRound s closed board full w → round_open s.campaign closed ≡ true → g < s.campaign.generals → (part : Part Activation) × (slice_get w.parts g ≡ Some part) × IsKind Activation (is_traitor s.campaign g) part
   his_part w g h more lt =
       let open_is : round_open w.campaign w.closed ≡ true = (λ i. round_open (h.same.campaign i) (h.same.closed_is i)) ∙ more in
       let there = there_is w.parts g (let c = h.kept.count open_is in let n = ap (λ c. c.generals) h.same.campaign in omega arith) in
@@ -152,7 +152,7 @@ module _ (s : SignedScenario) (is : IsSignedScenario s) (closed : List Row) (boa
       let kind : IsKind Activation false p.0 = (let A : Bool → Type 0 = λ b. IsKind Activation b p.0 in subst A loyal p.2) in
       (let B : Bool → Type 0 = λ b. IsDone (slice_get (run (conduct_of s) w (cond b [] (Post g ∷ []))).parts g) in subst B (sym loyal) (posted_now w g p.0 p.1 kind (slice_get w.parts g) refl))
 
-  acting : (g : ℕ) (part : Part Activation) → IsKind Activation true part → (a : Activation) × (part ≡ Acting a)
+  pub acting : (g : ℕ) (part : Part Activation) → IsKind Activation true part → (a : Activation) × (part ≡ Acting a)
   acting g (Acting a) k = (a, refl)
   acting g Silent k = absurd k
   acting g Posted k = absurd k
