@@ -18,4 +18,4 @@ all_entered c g held before (e ∷ entries) all few =
     ∙ (all_entered c g held (before ++ e ∷ []) entries all.1 (omega arith) ∙ append_assoc before (e ∷ []) entries)
 
 pub entries_entered : EntriesAreEntered
-entries_entered c g held entries all few = all_entered c g held [] entries all few
+entries_entered c g held entries all few = all_entered c g held [] entries all (omega arith)

@@ -1,8 +1,9 @@
 -- Activations of sound programs neither trap nor take more steps than their programs have instructions.
-use Rattle.std.proofs.Common.{◌≡◌, ◌≢◌, ℕ, zero, suc, ◌+◌, ◌<◌, ◌≤◌, Bool, true, false, List, [], ◌∷◌, ◌++◌, length, refl, sym, ap, subst, ◌∙◌, Option, Some, None, arith}
+use Rattle.std.proofs.Common.{◌≡◌, ◌≢◌, ℕ, zero, suc, ◌+◌, ◌<◌, ◌≤◌, Bool, true, false, List, [], ◌∷◌, ◌++◌, drop, map, flat_map, length, refl, sym, ap, subst, ◌∙◌, Option, Some, None, arith}
 use Rattle.std.specs.Prelude.{slice_get, ◌==◌}
 use Rattle.std.proofs.lemmas.Bool.{ltb-true}
 use Rattle.semantics.specs.Call.{fits}
+use Rattle.semantics.specs.Relay.{signed}
 use Rattle.semantics.specs.Safety.{LeadsTo}
 use Rattle.semantics.specs.State.{Cause, Outcome, Trap}
 use Rattle.semantics.specs.Execution.{step}
@@ -17,9 +18,11 @@ use Rattle.round.proofs.Fitting.{fitting_among}
 use Rattle.round.proofs.Going.{IsGoing, TurnsTo, turn_safe, going_zero, over_ended}
 use Rattle.round.proofs.Settled.{IsSettled, runs_settled}
 use Rattle.world.specs.World.{accesses_of}
+use Rattle.signed.specs.Chains.{Chain}
+use Rattle.signed.specs.Contexts.{signer_bits}
 use Rattle.signed.specs.Campaign.{is_traitor}
-use Rattle.signed.specs.World.{Acting, context_behind, round_open}
-use Rattle.signed.specs.Programs.{SignedScenario, IsSignedScenario, RunWorld, shape_in}
+use Rattle.signed.specs.World.{Acting, held_behind, context_behind, round_open}
+use Rattle.signed.specs.Programs.{SignedScenario, IsSignedScenario, RunWorld, shape_in, signers_told}
 use Rattle.signed.specs.Plays.{IsPlaced}
 use Rattle.signed.proofs.Making.{Row}
 use Rattle.signed.proofs.Midst.{InRound, start, has_part, his}
@@ -64,10 +67,10 @@ due s closed board full w g a is h at =
     let rounds : length closed ≤ s.campaign.bound = (let l = ltb-true (length closed) (suc s.campaign.bound) more in omega arith) in
     let c = h.midst.ways g a at in
     let context = context_bytes (context_behind s.campaign closed g) in
-    let shape = shape_in s.campaign g (suc (length closed)) in
+    let relay = signed (shape_in s.campaign g (suc (length closed))) (signers_told (drop 8 (context_behind s.campaign closed g))) in
     let l = runs_left (length (s.program g)) c.0 (start s closed g) (accesses_of g h.midst.piece) a (fitting_among (λ x. x.general == g) h.midst.piece h.midst.fitting)
-    (λ on. safe_of_sound (s.program g) context shape (is.sound g who.1) (bytes_context (context_behind s.campaign closed g)) (shape_is s g (length closed) is who.0 rounds)) c.1 in
-    let steps : a.state.steps ≡ c.0 = steps_taken s.campaign.patience (s.program g) context shape c.0 (accesses_of g h.midst.piece) a c.1 in
+    (λ on. safe_of_sound (s.program g) context relay (is.sound g who.1) (bytes_context (context_behind s.campaign closed g)) (shape_is s g (length closed) is who.0 rounds)) c.1 in
+    let steps : a.state.steps ≡ c.0 = steps_taken s.campaign.patience (s.program g) context relay c.0 (accesses_of g h.midst.piece) a c.1 in
     record {
       general = who.0;
       traitor = who.1;
@@ -78,13 +81,18 @@ due s closed board full w g a is h at =
       going = l.going;
     }
 
-pub untrapped : (s : SignedScenario) (closed : List Row) (g : ℕ) (a : Activation) (cause : Cause) → IsDue s closed g a → has_ended a ≡ false → step a.program a.context a.shape a.state ≢ Trap cause
+pub untrapped : (s : SignedScenario) (closed : List Row) (g : ℕ) (a : Activation) (cause : Cause) → IsDue s closed g a → has_ended a ≡ false → step a.program a.context a.relay a.state ≢ Trap cause
 untrapped s closed g a cause d on e =
-    let h = IsSafe-no_trap a.program a.context a.shape d.left a.state (d.going on) in
+    let h = IsSafe-no_trap a.program a.context a.relay d.left a.state (d.going on) in
     (let A : Outcome → Type 0 = λ o. LeadsTo (λ next. Unit {0}) o in subst A e h)
 
 pub fewer : (s : SignedScenario) (closed : List Row) (g : ℕ) (a : Activation) → IsDue s closed g a → a.state.steps ≤ length a.program
 fewer s closed g a d = (let e = d.within in let p = ap length d.settled.program in omega arith)
+
+-- a context tells the signers of each chain held
+signers_held : (held : List Chain) → signers_told (flat_map (λ ch. ch.order ∷ signer_bits ch ∷ []) held) ≡ map signer_bits held
+signers_held [] = refl
+signers_held (ch ∷ held) = ap (λ l. signer_bits ch ∷ l) (signers_held held)
 
 pub placed : (s : SignedScenario) (w : RunWorld) (g : ℕ) (a : Activation) → IsDue s w.closed g a → IsPlaced s w g a
 placed s w g a d = record {
@@ -93,6 +101,6 @@ placed s w g a d = record {
   rounds = d.rounds;
   program = d.settled.program;
   context = d.settled.context;
-  relay = d.settled.shape;
+  relay = d.settled.relay ∙ ap (λ (held : List ℕ). signed (shape_in s.campaign g (suc (length w.closed))) held) (signers_held (held_behind s.campaign w.closed g));
   patience = d.settled.patience;
 }

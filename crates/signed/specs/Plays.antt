@@ -1,13 +1,15 @@
 -- What holds of signed campaigns whose traitors run programs. Each statement is the contract of a function of this crate.
-use Rattle.std.specs.Prelude.{ℕ, suc, ◌≡◌, ◌≢◌, ◌<◌, ◌≤◌, true, false, All, List, length, slice_get, Option, None, Some}
+use Rattle.std.specs.Prelude.{ℕ, suc, ◌≡◌, ◌≢◌, ◌<◌, ◌≤◌, true, false, All, List, length, map, slice_get, Option, None, Some}
+use Rattle.semantics.specs.Relay.{signed}
 use Rattle.semantics.specs.State.{Cause, Trap}
 use Rattle.semantics.specs.Execution.{step}
 use Rattle.board.specs.Board.{Access, IsLegal}
 use Rattle.round.specs.Contexts.{context_bytes}
 use Rattle.round.specs.Activation.{Activation, has_ended}
 use Rattle.world.specs.Lists.{names_in}
+use Rattle.signed.specs.Contexts.{signer_bits}
 use Rattle.signed.specs.Campaign.{is_traitor}
-use Rattle.signed.specs.World.{Letter, Acting, Event, context_behind}
+use Rattle.signed.specs.World.{Letter, Acting, Event, held_behind, context_behind}
 use Rattle.signed.specs.Chronicle.{chronicle_of}
 use Rattle.signed.specs.Programs.{SignedScenario, IsSignedScenario, RunWorld, shape_in, played}
 use Rattle.signed.specs.Lists.{IsComplete, listed, replayed}
@@ -19,7 +21,7 @@ pub record IsPlaced (s : SignedScenario) (w : RunWorld) (g : ℕ) (a : Activatio
   pub rounds : length w.closed ≤ s.campaign.bound
   pub program : a.program ≡ s.program g
   pub context : a.context ≡ context_bytes (context_behind s.campaign w.closed g)
-  pub relay : a.shape ≡ shape_in s.campaign g (suc (length w.closed))
+  pub relay : a.relay ≡ signed (shape_in s.campaign g (suc (length w.closed))) (map signer_bits (held_behind s.campaign w.closed g))
   pub patience : a.patience ≡ s.campaign.patience
 
 -- a traitor's letter has no more steps than his program has instructions
@@ -30,7 +32,7 @@ IsShort s (Some l) = (steps : ℕ) → l.steps ≡ Some steps → steps ≤ leng
 -- whatever happens, no activation traps or takes more steps than its program has instructions, and each is that of a traitor in the open round
 pub record SignedActivationsAreSafe : Type 0 where
   pub untrapped : (s : SignedScenario) (events : List Event) (g : ℕ) (a : Activation) (cause : Cause) → IsSignedScenario s →
-      slice_get (played s events).parts g ≡ Some (Acting a) → has_ended a ≡ false → step a.program a.context a.shape a.state ≢ Trap cause
+      slice_get (played s events).parts g ≡ Some (Acting a) → has_ended a ≡ false → step a.program a.context a.relay a.state ≢ Trap cause
   pub fewer : (s : SignedScenario) (events : List Event) (g : ℕ) (a : Activation) → IsSignedScenario s →
       slice_get (played s events).parts g ≡ Some (Acting a) → a.state.steps ≤ length a.program
   pub placed : (s : SignedScenario) (events : List Event) (g : ℕ) (a : Activation) → IsSignedScenario s →

@@ -1,7 +1,8 @@
 -- Traitors' programs as a conduct: how their activations go, and the board that they share (own).
-use Rattle.std.specs.Prelude.{ℕ, ◌≡◌, ◌<◌, ◌≤◌, true, List, []}
+use Rattle.std.specs.Prelude.{ℕ, ◌≡◌, ◌<◌, ◌≤◌, true, List, [], ◌∷◌, drop}
 use Rattle.insn.specs.declared.insn.Insn.{Insn}
 use Rattle.label.specs.declared.shape.Shape.{Shape}
+use Rattle.semantics.specs.Relay.{signed}
 use Rattle.semantics.specs.Run.{IsSound}
 use Rattle.board.specs.Board.{IsBoard}
 use Rattle.board.specs.Ledger.{RecordedBoard}
@@ -29,9 +30,15 @@ pub record IsSignedScenario (s : SignedScenario) : Type 0 where
 abbrev pub shape_in : Campaign → ℕ → ℕ → Shape
 shape_in s g round = record { generals = s.generals; commander = s.commander; general = g; round = round }
 
--- an activation at its start, from the numbers of its context
+-- of chains held, each told by its order and its signers, the signers
+abbrev pub signers_told : List ℕ → List ℕ
+signers_told (order ∷ signers ∷ numbers) = signers ∷ signers_told numbers
+signers_told _ = []
+
+-- an activation at its start, from the numbers of its context: behind the first eight they tell the chains held
 abbrev pub begun_by : SignedScenario → ℕ → ℕ → List ℕ → Activation
-begun_by s g round numbers = started s.campaign.patience (s.program g) (context_bytes numbers) (shape_in s.campaign g round)
+begun_by s g round numbers =
+    started s.campaign.patience (s.program g) (context_bytes numbers) (signed (shape_in s.campaign g round) (signers_told (drop 8 numbers)))
 
 -- what the traitors do by their programs, on a board with its ledger; a request is served within its turn
 abbrev pub conduct_of : SignedScenario → Conduct Activation RecordedBoard
@@ -39,7 +46,7 @@ conduct_of s = record {
   board = record { opening = s.board; words = s.board; ledger = [] };
   begins = begun_by s;
   turn = λ g round a board. moved g round a board (turn a);
-  attempts = λ a. [];
+  attempts = λ a. a.state.entries;
   steps = λ a. a.state.steps;
 }
 

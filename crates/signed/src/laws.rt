@@ -1,5 +1,5 @@
 //! Laws of signed messages: each function does nothing, and its contract is the law.
-//! The two types are those of activations and of the board that they share; nothing is known of either.
+//! The two types, where a law has them, are those of activations and of the board that they share; nothing is known of either.
 ghost use Rattle.signed.specs.Agreement.{SignedAgreementHolds};
 ghost use Rattle.signed.specs.Laws.{
   ChainsAreFew,
@@ -9,6 +9,7 @@ ghost use Rattle.signed.specs.Laws.{
   IdleEventsChangeNothing,
   SignedWorldsAgree,
 };
+ghost use Rattle.signed.specs.Plays.{SignedActivationsAreSafe, SignedListsAreComplete, SignedRunsAreReplays};
 ghost use Rattle.signed.specs.Verdicts.{SignedVerdictsMean};
 
 /// With at most m traitors, whatever they sign, all loyal lieutenants accept the same orders and decide alike, on a loyal commander's order (TOPLAS 1982, Theorem 2).
@@ -49,4 +50,19 @@ pub fn signed_verdicts_mean<A, B>()
 /// Entries that can be sent, at most eight, are all entered: so what a program has entered may stand for what it has attempted.
 pub fn entries_are_entered()
     ensures { EntriesAreEntered }
+{}
+
+/// Where traitors run programs, whatever happens, no activation traps or takes more steps than its program has instructions.
+pub fn signed_activations_are_safe()
+    ensures { SignedActivationsAreSafe }
+{}
+
+/// Lists of events by a schedule and by names are punctual and complete.
+pub fn signed_lists_are_complete()
+    ensures { SignedListsAreComplete }
+{}
+
+/// A complete run is the replay of its own accesses, which are legal and traitors' alone.
+pub fn signed_runs_are_replays()
+    ensures { SignedRunsAreReplays }
 {}
