@@ -26,3 +26,4 @@ pub mod Completing
 pub mod Follow
 pub mod Again
 pub mod Replayed
+pub mod ProgramRows

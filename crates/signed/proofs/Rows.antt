@@ -10,7 +10,7 @@ use Rattle.signed.specs.World.{Event, Tick, Post, Close, opening, run, context_b
 use Rattle.signed.specs.Chronicle.{chronicle_of, decisions}
 use Rattle.signed.specs.Text.{Line, signed_lines, signed_text}
 
-abbrev whole : List (List ℕ) → List ℕ
+abbrev pub whole : List (List ℕ) → List ℕ
 whole [] = []
 whole (l ∷ ls) = l ++ 10 ∷ whole ls
 
