@@ -27,3 +27,6 @@ pub mod Follow
 pub mod Again
 pub mod Replayed
 pub mod ProgramRows
+pub mod Exits
+pub mod Signing
+pub mod Sending

@@ -1,5 +1,6 @@
 -- What holds of signed campaigns whose traitors run programs. Each statement is the contract of a function of this crate.
-use Rattle.std.specs.Prelude.{ℕ, suc, ◌≡◌, ◌≢◌, ◌<◌, ◌≤◌, true, false, All, List, length, map, slice_get, Option, None, Some}
+use Rattle.std.specs.Prelude.{ℕ, suc, ◌≡◌, ◌≢◌, ◌<◌, ◌≤◌, true, false, All, List, [], length, map, slice_get, Option, None, Some, is_some}
+use Rattle.std.specs.List.{AllByRecursion}
 use Rattle.semantics.specs.Relay.{signed}
 use Rattle.semantics.specs.State.{Cause, Trap}
 use Rattle.semantics.specs.Execution.{step}
@@ -8,6 +9,7 @@ use Rattle.round.specs.Contexts.{context_bytes}
 use Rattle.round.specs.Activation.{Activation, has_ended}
 use Rattle.world.specs.Lists.{names_in}
 use Rattle.signed.specs.Contexts.{signer_bits}
+use Rattle.signed.specs.Entries.{chain_of, entered}
 use Rattle.signed.specs.Campaign.{is_traitor}
 use Rattle.signed.specs.World.{Letter, Acting, Event, held_behind, context_behind}
 use Rattle.signed.specs.Chronicle.{chronicle_of}
@@ -38,6 +40,13 @@ pub record SignedActivationsAreSafe : Type 0 where
   pub placed : (s : SignedScenario) (events : List Event) (g : ℕ) (a : Activation) → IsSignedScenario s →
       slice_get (played s events).parts g ≡ Some (Acting a) → IsPlaced s (played s events) g a
   pub letters : (s : SignedScenario) (events : List Event) → IsSignedScenario s → All (λ letters. All (IsShort s) letters) (played s events).closed
+
+-- what a program has entered is all sent when the round closes: each of its entries has a chain, and each is entered
+pub record SignedEntriesAreSent : Type 0 where
+  pub each : (s : SignedScenario) (events : List Event) (g : ℕ) (a : Activation) → IsSignedScenario s → slice_get (played s events).parts g ≡ Some (Acting a) →
+      AllByRecursion (λ e. is_some (chain_of s.campaign.commander g (held_behind s.campaign (played s events).closed g) e) ≡ true) a.state.entries
+  pub entered : (s : SignedScenario) (events : List Event) (g : ℕ) (a : Activation) → IsSignedScenario s → slice_get (played s events).parts g ≡ Some (Acting a) →
+      entered s.campaign.commander g (held_behind s.campaign (played s events).closed g) [] a.state.entries ≡ a.state.entries
 
 -- listed and replayed lists of events are complete
 pub record SignedListsAreComplete : Type 0 where

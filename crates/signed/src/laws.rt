@@ -9,7 +9,7 @@ ghost use Rattle.signed.specs.Laws.{
   IdleEventsChangeNothing,
   SignedWorldsAgree,
 };
-ghost use Rattle.signed.specs.Plays.{SignedActivationsAreSafe, SignedListsAreComplete, SignedRunsAreReplays};
+ghost use Rattle.signed.specs.Plays.{SignedActivationsAreSafe, SignedEntriesAreSent, SignedListsAreComplete, SignedRunsAreReplays};
 ghost use Rattle.signed.specs.Verdicts.{SignedVerdictsMean};
 
 /// With at most m traitors, whatever they sign, all loyal lieutenants accept the same orders and decide alike, on a loyal commander's order (TOPLAS 1982, Theorem 2).
@@ -55,6 +55,11 @@ pub fn entries_are_entered()
 /// Where traitors run programs, whatever happens, no activation traps or takes more steps than its program has instructions.
 pub fn signed_activations_are_safe()
     ensures { SignedActivationsAreSafe }
+{}
+
+/// What a traitor's program has entered is all sent when the round closes.
+pub fn signed_entries_are_sent()
+    ensures { SignedEntriesAreSent }
 {}
 
 /// Lists of events by a schedule and by names are punctual and complete.

@@ -1,0 +1,84 @@
+-- What a program may enter by the numbers of its relay is a chain that its general can send.
+use Rattle.std.proofs.Common.{◌≡◌, ◌≢◌, ℕ, zero, suc, ◌+◌, ◌*◌, ◌^◌, ◌<◌, ◌≤◌, min, max, Bool, true, false, not, cond, List, [], ◌∷◌, ◌++◌, map, refl, sym, ap, subst, ◌∙◌, inl, inr, ⊎_elim, Option, Some, None, arith}
+use Rattle.std.specs.Prelude.{◌==◌, ◌&&◌, ◌||◌, slice_get, is_some, sum_by}
+use Rattle.std.specs.Int.{bit_at}
+use Rattle.std.specs.Int.Bits.{bit_or, bit_and}
+use Rattle.std.proofs.lemmas.Bool.{and_parts, not-true, cases_Bool, eq-eqb, ne_eqb}
+use Rattle.std.proofs.lemmas.Bool.Decides.{eqb_tells}
+use Rattle.std.proofs.lemmas.Nat.{or_disjoint}
+use Rattle.std.proofs.lemmas.List.Sums.{sum_by-cons}
+use Rattle.std.proofs.lemmas.Nat.Bits.{bit_at_or, bit_at-zero, bit_at-lt, bit_at-pow_same, bit_at-pow_other, and_pow}
+use Rattle.std.specs.List.{AllByRecursion}
+use Rattle.label.specs.Labels.{on, is_distinct}
+use Rattle.semantics.specs.Relay.{signed}
+use Rattle.semantics.specs.Entries.{is_unsigned, is_sendable}
+use Rattle.signed.specs.Chains.{Chain, Among, signed_alone, signed_also}
+use Rattle.signed.specs.Contexts.{signer_bits}
+use Rattle.signed.specs.Entries.{Entry, Sign, Pass, passed_on, chain_of}
+use Rattle.signed.specs.Campaign.{Campaign}
+use Rattle.signed.specs.Programs.{shape_in}
+
+-- a bit more
+bit_more : (n x i : ℕ) → bit_at n x ≡ 0 → bit_at (n + 2 ^ x) i ≡ max (bit_at n i) (bit_at (2 ^ x) i)
+bit_more n x i none =
+    let apart : bit_and n (2 ^ x) ≡ zero = and_pow n x ∙ ap (λ b. b * 2 ^ x) none ∙ (omega arith) in
+    ap (λ m. bit_at m i) (sym (or_disjoint n (2 ^ x) apart)) ∙ bit_at_or n (2 ^ x) i
+
+max_left : (b : ℕ) → b < 2 → max b 0 ≡ b
+max_left b lt = omega arith
+
+-- of different generals, bit by bit
+pub bits_are : (xs : List ℕ) (i : ℕ) → is_distinct xs ≡ true → bit_at (sum_by (λ g. 2 ^ g) xs) i ≡ cond (on xs i) 1 0
+bits_are [] i d = bit_at-zero i
+bits_are (x ∷ xs) i d =
+    let both = and_parts (not (on xs x)) (is_distinct xs) d in
+    let off : on xs x ≡ false = not-true (on xs x) both.0 in
+    let S = sum_by (λ (g : ℕ). 2 ^ g) xs in
+    let none : bit_at S x ≡ 0 = bits_are xs x both.1 ∙ ap (λ b. cond {A = ℕ} b 1 0) off in
+    let sum : sum_by (λ g. 2 ^ g) (x ∷ xs) ≡ S + 2 ^ x = (let e = sum_by-cons (λ (g : ℕ). 2 ^ g) x xs in omega arith) in
+    ap (λ m. bit_at m i) sum ∙ (bit_more S x i none ∙ ⊎_elim
+    (λ (h : (x == i ≡ true) × (x ≡ i)).
+    let one : bit_at (2 ^ x) i ≡ 1 = (let A : ℕ → Type 0 = λ j. bit_at (2 ^ x) j ≡ 1 in subst A h.1 (bit_at-pow_same x)) in
+    let small : bit_at S i < 2 = bit_at-lt S i in
+    let most : max (bit_at S i) (bit_at (2 ^ x) i) ≡ 1 = omega arith in
+    most ∙ sym (ap (λ b. cond {A = ℕ} (b || on xs i) 1 0) h.0))
+    (λ (h : (x == i ≡ false) × (x ≢ i)).
+    let zero_bit : bit_at (2 ^ x) i ≡ 0 = bit_at-pow_other x i (λ e. h.1 (sym e)) in
+    let most : max (bit_at S i) (bit_at (2 ^ x) i) ≡ bit_at S i = omega arith in
+    most ∙ (bits_are xs i both.1 ∙ sym (ap (λ b. cond {A = ℕ} (b || on xs i) 1 0) h.0)))
+    (eqb_tells x i))
+
+-- so a chain held that counts as unsigned is one on which the general does not stand
+pub unsigned_off : (ch : Chain) (g : ℕ) → is_distinct ch.signers ≡ true → not (bit_at (signer_bits ch) g == 1) ≡ true → on ch.signers g ≡ false
+unsigned_off ch g d h = elim (cases_Bool (on ch.signers g)) [
+  | inl there ↦ absurd (
+      let one : bit_at (signer_bits ch) g ≡ 1 = bits_are ch.signers g d ∙ ap (λ b. cond {A = ℕ} b 1 0) there in
+      let yes_one : (bit_at (signer_bits ch) g == 1) ≡ true = eq-eqb (bit_at (signer_bits ch) g) 1 one in
+      let no_one : (bit_at (signer_bits ch) g == 1) ≡ false = not-true (bit_at (signer_bits ch) g == 1) h in
+      let f : true ≡ false = sym yes_one ∙ no_one in cc)
+  | inr off ↦ off
+]
+
+is_begun : (c g order : ℕ) (b : Bool) → b ≡ true → is_some (cond b (Some (signed_alone order g)) None) ≡ true
+is_begun c g order b e = ap (λ x. is_some (cond x (Some (signed_alone order g)) None)) e
+
+is_prolonged : (ch : Chain) (g : ℕ) (b : Bool) → b ≡ false → is_some (cond b None (Some (signed_also ch g))) ≡ true
+is_prolonged ch g b e = ap (λ x. is_some (cond x None (Some (signed_also ch g)))) e
+
+abbrev AreDistinct : List Chain → Type 0
+AreDistinct held = (ch : Chain) → Among ch held → is_distinct ch.signers ≡ true
+
+passes : (g place : ℕ) (held : List Chain) → AreDistinct held → is_unsigned g (slice_get (map signer_bits held) place) ≡ true → is_some (passed_on g (slice_get held place)) ≡ true
+passes g place [] d h = absurd (let f : false ≡ true = h in cc)
+passes g zero (ch ∷ held) d h = is_prolonged ch g (on ch.signers g) (unsigned_off ch g (d ch (inl refl)) h)
+passes g (suc place) (ch ∷ held) d h = passes g place held (λ k there. d k (inr there)) h
+
+-- where the relay has the signers of the chains held, what it lets be sent has a chain
+pub sends_chain : (s : Campaign) (g round : ℕ) (held : List Chain) (e : Entry) → AreDistinct held → is_sendable (signed (shape_in s g round) (map signer_bits held)) e ≡ true → is_some (chain_of s.commander g held e) ≡ true
+sends_chain s g round held (Sign order bits) d h = is_begun s.commander g order (g == s.commander) h
+sends_chain s g round held (Pass place bits) d h = passes g place held d h
+
+pub all_send : (s : Campaign) (g round : ℕ) (held : List Chain) (es : List Entry) → AreDistinct held → AllByRecursion (λ e. is_sendable (signed (shape_in s g round) (map signer_bits held)) e ≡ true) es →
+    AllByRecursion (λ e. is_some (chain_of s.commander g held e) ≡ true) es
+all_send s g round held [] d h = tt
+all_send s g round held (e ∷ es) d h = (sends_chain s g round held e d h.0, all_send s g round held es d h.1)
