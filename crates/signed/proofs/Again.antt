@@ -1,33 +1,23 @@
 -- A complete run is the replay of its own accesses.
-use Rattle.std.proofs.Common.{◌≡◌, ℕ, zero, suc, ◌+◌, ◌<◌, ◌≤◌, Bool, true, false, List, [], ◌∷◌, ◌++◌, map, length, refl, sym, ap, subst, ◌∙◌, Option, Some, None, arith, length-append, append_assoc, append-nil}
-use Rattle.std.specs.Prelude.{slice_get, filter, nat_lt, ◌==◌, ◌&&◌}
-use Rattle.std.specs.List.{list_all}
-use Rattle.std.proofs.lemmas.Bool.{cases_Bool, lt-ltb, ltb-true, ltb-false}
-use Rattle.std.proofs.lemmas.Option.{slice_get_within}
+use Rattle.std.proofs.Common.{◌≡◌, ℕ, suc, ◌<◌, Bool, true, false, List, [], ◌∷◌, ◌++◌, map, length, refl, sym, ap, subst, ◌∙◌, Some, arith}
+use Rattle.std.specs.Prelude.{slice_get}
+use Rattle.std.proofs.lemmas.Bool.{lt-ltb}
 use Rattle.board.specs.Board.{Access, IsLegal, words_after}
 use Rattle.board.specs.Ledger.{RecordedBoard}
-use Rattle.round.specs.Activation.{Activation, has_ended}
+use Rattle.round.specs.Activation.{Activation}
 use Rattle.round.specs.Runs.{Runs}
 use Rattle.round.proofs.Stepping.{runs_steps}
-use Rattle.world.specs.Lists.{names_in}
 use Rattle.world.specs.World.{accesses_of}
-use Rattle.world.proofs.Cutting.{AreFrom, filter_here, names_skip}
-use Rattle.world.proofs.Following.{AreOf}
 use Rattle.signed.specs.Campaign.{Campaign, is_traitor}
-use Rattle.signed.specs.World.{Part, Acting, Silent, Posted, Event, Tick, Post, Close, IsPunctual, has_posted, begun, round_open, round_letters, closing, happen, run}
-use Rattle.signed.specs.Chronicle.{chronicle_of}
-use Rattle.signed.specs.Programs.{SignedScenario, IsSignedScenario, RunWorld, conduct_of, after, opened, played}
-use Rattle.signed.specs.Lists.{HasEnded, EndsInTime, IsComplete, names_events, wound_up, replayed_rounds}
-use Rattle.signed.specs.Plays.{replay_of, SignedRunsAreReplays}
+use Rattle.signed.specs.World.{Part, Acting, Silent, Posted, begun, round_open, closing, run}
+use Rattle.signed.specs.Programs.{SignedScenario, IsSignedScenario, RunWorld, conduct_of}
+use Rattle.signed.specs.Lists.{names_events, wound_up}
 use Rattle.signed.proofs.Making.{Row}
-use Rattle.signed.proofs.Keeping.{IsKind, Keeps}
-use Rattle.signed.proofs.Places.{all_at}
-use Rattle.signed.proofs.Idling.{over_idle}
-use Rattle.signed.proofs.Midst.{AreTraitors, InRound, start, his, first_starts, move_in, moves_in}
+use Rattle.signed.proofs.Keeping.{IsKind}
+use Rattle.signed.proofs.Midst.{InRound, start, his, first_starts}
 use Rattle.signed.proofs.Safe.{due, fewer}
-use Rattle.signed.proofs.Reached.{midway, ledger_is, opened_in, traitors_all}
-use Rattle.signed.proofs.Ripening.{IsDone, run-append, his_part, acting, posts, ends, posts_moves, ends_moves}
-use Rattle.signed.proofs.Completing.{AreDone, RoundDone, rounded, round_done, wound, close_open, names_moves, next_in}
+use Rattle.signed.proofs.Ripening.{IsDone, his_part, acting, posts, ends, posts_moves, ends_moves}
+use Rattle.signed.proofs.Completing.{AreDone, rounded, round_done, wound, names_moves}
 use Rattle.signed.proofs.Follow.{Way, Ways, Followed, follow, moves_still, way_ended}
 
 -- lists of one length with the same elements

@@ -1,5 +1,5 @@
 -- Named traitors make the accesses of a piece of the ledger again, and behind them nobody makes one.
-use Rattle.std.proofs.Common.{◌≡◌, ◌≢◌, ℕ, zero, suc, ◌<◌, ◌≤◌, Bool, true, false, List, [], ◌∷◌, ◌++◌, map, length, refl, sym, ap, subst, ◌∙◌, ◌⊎◌, ⊎_elim, Option, Some, None, arith, append_assoc, append-nil}
+use Rattle.std.proofs.Common.{◌≡◌, ◌≢◌, ℕ, zero, suc, ◌≤◌, Bool, true, false, List, [], ◌∷◌, ◌++◌, map, length, refl, sym, ap, subst, ◌∙◌, ⊎_elim, Option, Some, None, arith, append_assoc, append-nil}
 use Rattle.std.specs.Prelude.{slice_get, slice_set, replicate, ◌==◌}
 use Rattle.std.proofs.lemmas.Bool.Decides.{eqb_tells}
 use Rattle.semantics.specs.declared.request.Request.{Request}
@@ -15,7 +15,6 @@ use Rattle.world.proofs.Following.{AreOf, of_first, of_next}
 use Rattle.world.proofs.Listing.{set-here, set-other}
 use Rattle.world.proofs.Moves.{set-cases}
 use Rattle.world.proofs.Ways.{access}
-use Rattle.signed.specs.Campaign.{is_traitor}
 use Rattle.signed.specs.World.{Part, Acting, Silent, Posted, Event, Tick, Post, Close, round_open, ticked, posting, happen, run}
 use Rattle.signed.specs.Programs.{SignedScenario, IsSignedScenario, RunWorld, conduct_of}
 use Rattle.signed.specs.Lists.{ticks_named, names_events}
@@ -185,10 +184,13 @@ module _ (s : SignedScenario) (E : ℕ → Activation → Type 0) where
   post_still : (w : RunWorld) (g : ℕ) → Ways [] w → (o : Option (Part Activation)) → slice_get w.parts g ≡ o → Still w (posting w g o)
   post_still w g ways None e = (refl, ways)
   post_still w g ways (Some (Acting a)) e = (refl, ways)
-  post_still w g ways (Some Silent) e = (refl, λ h a is. ⊎_elim
-      (λ (q : (h ≡ g) × (Acting a ≡ Posted)). absurd (let f = q.1 in cc))
-      (λ (q : (h ≢ g) × (slice_get w.parts h ≡ Some (Acting a))). ways h a q.1)
-      (set-cases w.parts g h Posted (Acting a) is))
+  post_still w g ways (Some Silent) e = (
+    refl,
+    λ h a is. ⊎_elim
+        (λ (q : (h ≡ g) × (Acting a ≡ Posted)). absurd (let f = q.1 in cc))
+        (λ (q : (h ≢ g) × (slice_get w.parts h ≡ Some (Acting a))). ways h a q.1)
+        (set-cases w.parts g h Posted (Acting a) is),
+  )
   post_still w g ways (Some Posted) e = (refl, ways)
 
   move_still : (w : RunWorld) (e : Event) → IsMove e → Ways [] w → Still w (happen (conduct_of s) w e)

@@ -4,8 +4,6 @@ use Rattle.std.specs.Prelude.{slice_get, slice_set}
 use Rattle.std.proofs.lemmas.Bool.{cases_lt}
 use Rattle.std.proofs.lemmas.Option.{slice_get_within}
 use Rattle.label.specs.Labels.{generals}
-use Rattle.semantics.specs.declared.request.Request.{Request}
-use Rattle.semantics.specs.Call.{fits}
 use Rattle.board.specs.Board.{Access, IsBoard, IsLegal, reply, next, words_after}
 use Rattle.board.specs.Ledger.{RecordedBoard}
 use Rattle.board.proofs.Histories.{words_after-snoc, IsLegal-snoc}

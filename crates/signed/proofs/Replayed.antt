@@ -1,6 +1,6 @@
 -- The rounds of a complete run, one after the other, are those of the replay of its accesses.
-use Rattle.std.proofs.Common.{◌≡◌, ℕ, zero, suc, ◌+◌, ◌<◌, ◌≤◌, Bool, true, false, List, [], ◌∷◌, ◌++◌, map, length, refl, sym, ap, subst, ◌∙◌, Option, Some, None, arith, length-append, append_assoc, append-nil}
-use Rattle.std.specs.Prelude.{slice_get, filter, nat_lt, ◌==◌, ◌&&◌}
+use Rattle.std.proofs.Common.{◌≡◌, ℕ, zero, suc, ◌+◌, ◌<◌, ◌≤◌, Bool, true, false, List, [], ◌∷◌, ◌++◌, map, length, refl, sym, ap, subst, ◌∙◌, Some, arith, length-append, append_assoc, append-nil}
+use Rattle.std.specs.Prelude.{slice_get, nat_lt, ◌&&◌}
 use Rattle.std.specs.List.{list_all}
 use Rattle.std.proofs.lemmas.Bool.{lt-ltb, ltb-true, ltb-false}
 use Rattle.board.specs.Board.{Access}
@@ -9,7 +9,6 @@ use Rattle.round.specs.Activation.{Activation}
 use Rattle.world.specs.Lists.{names_in}
 use Rattle.world.proofs.Cutting.{AreFrom, filter_here, names_skip}
 use Rattle.world.proofs.Following.{AreOf}
-use Rattle.signed.specs.Campaign.{Campaign}
 use Rattle.signed.specs.World.{Part, Acting, Silent, Posted, Event, Tick, Post, Close, IsPunctual, has_posted, begun, round_open, round_letters, closing, happen, run}
 use Rattle.signed.specs.Chronicle.{chronicle_of}
 use Rattle.signed.specs.Programs.{SignedScenario, IsSignedScenario, RunWorld, conduct_of, opened, played}

@@ -1,10 +1,8 @@
 -- Behind all posts and ticks of a round every loyal general has posted, and every activation has ended.
-use Rattle.std.proofs.Common.{◌≡◌, ◌≢◌, ℕ, zero, suc, ◌<◌, ◌≤◌, Bool, true, false, cond, List, [], ◌∷◌, ◌++◌, length, flat_map, refl, sym, ap, subst, ◌∙◌, ◌⊎◌, inl, inr, ⊎_elim, Option, Some, None, arith}
+use Rattle.std.proofs.Common.{◌≡◌, ◌≢◌, ℕ, zero, suc, ◌<◌, ◌≤◌, Bool, true, false, cond, List, [], ◌∷◌, ◌++◌, length, flat_map, refl, sym, ap, subst, ◌∙◌, inl, inr, ⊎_elim, Option, Some, None, arith}
 use Rattle.std.specs.Prelude.{slice_get, slice_set, replicate, ◌==◌}
-use Rattle.std.specs.List.{list_all}
 use Rattle.std.proofs.lemmas.Bool.{cases_Bool, or_cases, eqb-true}
 use Rattle.std.proofs.lemmas.Bool.Decides.{eqb_tells}
-use Rattle.std.proofs.lemmas.Option.{slice_get_within}
 use Rattle.label.specs.Labels.{on, generals}
 use Rattle.label.proofs.Counting.{range-on}
 use Rattle.board.specs.Board.{IsBoard, reply}
@@ -15,11 +13,11 @@ use Rattle.round.proofs.Going.{IsGoing, turn_within, going_zero, over_ended, end
 use Rattle.world.proofs.Complete.{Within, WithinAfter, turn_left}
 use Rattle.world.proofs.Listing.{set-here, set-other}
 use Rattle.signed.specs.Campaign.{Campaign, is_traitor}
-use Rattle.signed.specs.World.{Part, Acting, Silent, Posted, Event, Tick, Post, Close, has_posted, round_open, ticked, posting, happen, run}
+use Rattle.signed.specs.World.{Part, Acting, Silent, Posted, Event, Tick, Post, Close, round_open, ticked, posting, happen, run}
 use Rattle.signed.specs.Programs.{SignedScenario, IsSignedScenario, RunWorld, conduct_of}
 use Rattle.signed.specs.Lists.{post_of, ticks_of}
 use Rattle.signed.proofs.Making.{Row}
-use Rattle.signed.proofs.Keeping.{IsKind, Keeps}
+use Rattle.signed.proofs.Keeping.{IsKind}
 use Rattle.signed.proofs.Places.{there_is}
 use Rattle.signed.proofs.Midst.{IsMove, AreMoves, InRound, turned_to, tick_is, moves_in}
 use Rattle.signed.proofs.Safe.{due}

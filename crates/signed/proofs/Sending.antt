@@ -1,5 +1,5 @@
 -- What a program has entered is all sent.
-use Rattle.std.proofs.Common.{◌≡◌, ℕ, zero, suc, ◌<◌, ◌≤◌, Bool, true, false, cond, List, [], ◌∷◌, ◌++◌, drop, map, length, refl, sym, ap, subst, ◌∙◌, Option, Some, None, arith}
+use Rattle.std.proofs.Common.{◌≡◌, ℕ, zero, suc, ◌<◌, ◌≤◌, Bool, true, false, cond, List, [], ◌∷◌, ◌++◌, drop, length, refl, sym, ap, subst, ◌∙◌, Option, Some, arith}
 use Rattle.std.specs.Prelude.{slice_get, is_some, ◌==◌, ◌||◌}
 use Rattle.std.specs.List.{AllByRecursion}
 use Rattle.insn.specs.declared.insn.Insn.{Insn}
@@ -7,7 +7,7 @@ use Rattle.label.specs.Labels.{is_distinct}
 use Rattle.semantics.specs.declared.entry.Entry.{Entry as Entered}
 use Rattle.semantics.specs.Call.{fits, resumed}
 use Rattle.semantics.specs.Relay.{Relay, signed}
-use Rattle.semantics.specs.State.{Cause, Outcome, Next, Ask, Exit, Trap}
+use Rattle.semantics.specs.State.{Outcome, Next, Ask, Exit, Trap}
 use Rattle.semantics.specs.Execution.{step}
 use Rattle.semantics.specs.Safety.{LeadsTo}
 use Rattle.semantics.specs.Entries.{is_sendable}
@@ -24,8 +24,7 @@ use Rattle.round.specs.Activation.{Activation, started, Turn, Goes, Asks, Ended,
 use Rattle.round.specs.Runs.{Onward, Runs, AreFitting}
 use Rattle.round.proofs.Going.{IsGoing, TurnsTo, turn_safe, going_zero, over_ended}
 use Rattle.signed.specs.Chains.{Chain, Among}
-use Rattle.signed.specs.Contexts.{signer_bits}
-use Rattle.signed.specs.Entries.{chain_of, entered}
+use Rattle.signed.specs.Entries.{chain_of, dispatched}
 use Rattle.signed.specs.Accepted.{held}
 use Rattle.signed.specs.Campaign.{Campaign}
 use Rattle.signed.specs.World.{World, Event, Acting, held_behind, context_behind, sent, delivered}
@@ -154,5 +153,8 @@ has_entered s es g a is at =
 pub proved_sent : SignedEntriesAreSent
 proved_sent = record {
   each = λ s es g a is at. (has_entered s es g a is at).each;
-  entered = λ s es g a is at. (let e = has_entered s es g a is at in entries_entered s.campaign.commander g (held_behind s.campaign (played s es).closed g) a.state.entries e.each e.few);
+  sent = λ s es g a is at.
+      let e = has_entered s es g a is at in
+      let held = held_behind s.campaign (played s es).closed g in
+      ap (dispatched s.campaign.generals s.campaign.commander g held) (entries_entered s.campaign.commander g held a.state.entries e.each e.few);
 }

@@ -1,5 +1,5 @@
 -- What holds of signed campaigns whose traitors run programs. Each statement is the contract of a function of this crate.
-use Rattle.std.specs.Prelude.{ℕ, suc, ◌≡◌, ◌≢◌, ◌<◌, ◌≤◌, true, false, All, List, [], length, map, slice_get, Option, None, Some, is_some}
+use Rattle.std.specs.Prelude.{ℕ, suc, ◌≡◌, ◌≢◌, ◌<◌, ◌≤◌, true, false, All, List, length, map, slice_get, Option, None, Some, is_some}
 use Rattle.std.specs.List.{AllByRecursion}
 use Rattle.semantics.specs.Relay.{signed}
 use Rattle.semantics.specs.State.{Cause, Trap}
@@ -9,11 +9,11 @@ use Rattle.round.specs.Contexts.{context_bytes}
 use Rattle.round.specs.Activation.{Activation, has_ended}
 use Rattle.world.specs.Lists.{names_in}
 use Rattle.signed.specs.Contexts.{signer_bits}
-use Rattle.signed.specs.Entries.{chain_of, entered}
+use Rattle.signed.specs.Entries.{chain_of, dispatched}
 use Rattle.signed.specs.Campaign.{is_traitor}
-use Rattle.signed.specs.World.{Letter, Acting, Event, held_behind, context_behind}
+use Rattle.signed.specs.World.{Letter, Acting, Event, sent_in, letter_at, held_behind, context_behind}
 use Rattle.signed.specs.Chronicle.{chronicle_of}
-use Rattle.signed.specs.Programs.{SignedScenario, IsSignedScenario, RunWorld, shape_in, played}
+use Rattle.signed.specs.Programs.{SignedScenario, IsSignedScenario, RunWorld, shape_in, conduct_of, played}
 use Rattle.signed.specs.Lists.{IsComplete, listed, replayed}
 
 -- the activation is that of a traitor in the round behind these, which is one of the campaign: what he runs, what he is told, whom he relays to, and his patience
@@ -41,12 +41,13 @@ pub record SignedActivationsAreSafe : Type 0 where
       slice_get (played s events).parts g ≡ Some (Acting a) → IsPlaced s (played s events) g a
   pub letters : (s : SignedScenario) (events : List Event) → IsSignedScenario s → All (λ letters. All (IsShort s) letters) (played s events).closed
 
--- what a program has entered is all sent when the round closes: each of its entries has a chain, and each is entered
+-- when the round closes, what a program has entered is all sent: each of its entries has a chain, and the letter has the chains of all
 pub record SignedEntriesAreSent : Type 0 where
   pub each : (s : SignedScenario) (events : List Event) (g : ℕ) (a : Activation) → IsSignedScenario s → slice_get (played s events).parts g ≡ Some (Acting a) →
       AllByRecursion (λ e. is_some (chain_of s.campaign.commander g (held_behind s.campaign (played s events).closed g) e) ≡ true) a.state.entries
-  pub entered : (s : SignedScenario) (events : List Event) (g : ℕ) (a : Activation) → IsSignedScenario s → slice_get (played s events).parts g ≡ Some (Acting a) →
-      entered s.campaign.commander g (held_behind s.campaign (played s events).closed g) [] a.state.entries ≡ a.state.entries
+  pub sent : (s : SignedScenario) (events : List Event) (g : ℕ) (a : Activation) → IsSignedScenario s → slice_get (played s events).parts g ≡ Some (Acting a) →
+      sent_in (letter_at (conduct_of s) s.campaign (played s events).closed g (Some (Acting a)))
+      ≡ dispatched s.campaign.generals s.campaign.commander g (held_behind s.campaign (played s events).closed g) a.state.entries
 
 -- listed and replayed lists of events are complete
 pub record SignedListsAreComplete : Type 0 where
