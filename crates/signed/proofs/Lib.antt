@@ -30,3 +30,4 @@ pub mod ProgramRows
 pub mod Exits
 pub mod Signing
 pub mod Sending
+pub mod Deciding
