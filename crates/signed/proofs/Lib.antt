@@ -31,3 +31,4 @@ pub mod Exits
 pub mod Signing
 pub mod Sending
 pub mod Deciding
+pub mod Example
