@@ -72,7 +72,7 @@ module _ (s : SignedScenario) (is : IsSignedScenario s) (closed : List Row) (boa
       way_to first w h b done g a act.0 at (p.1 ∙ ap Some act.1)
 
   -- worlds of one round with one board, both done, in which those who act stand where the others do
-  same_world : (v w : RunWorld) → InRound s closed board full v → InRound s closed board full w → round_open s.campaign closed ≡ true → AreDone v → AreDone w → v.board ≡ w.board
+  pub same_world : (v w : RunWorld) → InRound s closed board full v → InRound s closed board full w → round_open s.campaign closed ≡ true → AreDone v → AreDone w → v.board ≡ w.board
       → ((g : ℕ) (a : Activation) → slice_get v.parts g ≡ Some (Acting a) → slice_get w.parts g ≡ Some (Acting a)) → v ≡ w
   same_world v w h k more done too board_is stands =
       let counted : (u : RunWorld) → InRound s closed board full u → length u.parts ≡ s.campaign.generals =

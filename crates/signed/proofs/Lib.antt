@@ -30,3 +30,5 @@ pub mod ProgramRows
 pub mod Exits
 pub mod Signing
 pub mod Sending
+pub mod Deciding
+pub mod Example

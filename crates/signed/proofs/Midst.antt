@@ -22,19 +22,10 @@ use Rattle.world.proofs.Ways.{access}
 use Rattle.signed.specs.Campaign.{Campaign, is_traitor}
 use Rattle.signed.specs.World.{Part, Acting, Silent, Posted, Event, Tick, Post, Close, context_behind, begins, begun, round_open, ticked, posting, happen, run}
 use Rattle.signed.specs.Programs.{SignedScenario, RunWorld, begun_by, conduct_of}
+pub use Rattle.signed.specs.Lists.{IsMove, AreMoves}
 use Rattle.signed.proofs.Making.{Row}
 use Rattle.signed.proofs.Keeping.{IsKind, Keeps, happen_kept}
 use Rattle.signed.proofs.Places.{row_at, row_past}
-
--- no round is closed
-abbrev pub IsMove : Event → Type 0
-IsMove (Tick g) = Unit {0}
-IsMove (Post g) = Unit {0}
-IsMove Close = ⊥
-
-abbrev pub AreMoves : List Event → Type 0
-AreMoves [] = Unit {0}
-AreMoves (e ∷ events) = IsMove e × AreMoves events
 
 -- each access is a traitor's
 abbrev pub AreTraitors : Campaign → List Access → Type 0

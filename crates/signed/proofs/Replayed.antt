@@ -44,7 +44,7 @@ pub record Again (s : SignedScenario) (closed : List Row) (board : RecordedBoard
   pub again : (m : ℕ) → length closed + m ≡ suc s.campaign.bound → run (conduct_of s) first (replayed_rounds s first m (names_in (suc (length closed)) later m)) ≡ end
 
 -- behind the last round nothing happens
-run_over : (s : SignedScenario) (es : List Event) (w : RunWorld) → Keeps Activation RecordedBoard w → round_open w.campaign w.closed ≡ false → run (conduct_of s) w es ≡ w
+pub run_over : (s : SignedScenario) (es : List Event) (w : RunWorld) → Keeps Activation RecordedBoard w → round_open w.campaign w.closed ≡ false → run (conduct_of s) w es ≡ w
 run_over s [] w k over = refl
 run_over s (e ∷ es) w k over = ap (λ (v : RunWorld). run (conduct_of s) v es) (over_idle Activation RecordedBoard (conduct_of s) w e k over) ∙ run_over s es w k over
 
@@ -57,7 +57,7 @@ none_again s closed first long = record {
 }
 
 -- in a ripe world everybody is done
-done_by : (w : RunWorld) → list_all has_posted w.parts ≡ true → ((g : ℕ) (part : Part Activation) → slice_get w.parts g ≡ Some part → HasEnded part) → AreDone w
+pub done_by : (w : RunWorld) → list_all has_posted w.parts ≡ true → ((g : ℕ) (part : Part Activation) → slice_get w.parts g ≡ Some part → HasEnded part) → AreDone w
 done_by w posted ended g part at = by part (all_at has_posted w.parts g part posted at) (ended g part at)
   where
     by : (part : Part Activation) → has_posted part ≡ true → HasEnded part → IsDone (Some part)

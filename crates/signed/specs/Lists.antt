@@ -1,15 +1,31 @@
 -- Kinds of lists of events of a signed campaign (own).
 use Rattle.std.specs.Prelude.{ℕ, zero, suc, ◌≡◌, nat_lt, true, cond, List, [], ◌∷◌, ◌++◌, length, map, flat_map, filter, replicate, slice_get, Option, Some}
+use Rattle.std.specs.List.{list_all}
 use Rattle.label.specs.Labels.{generals}
 use Rattle.round.specs.Activation.{Activation, has_ended}
 use Rattle.world.specs.Lists.{first_line, later_lines, until_access}
 use Rattle.signed.specs.Campaign.{Campaign, is_traitor}
-use Rattle.signed.specs.World.{Part, Acting, Event, Tick, Post, Close, IsPunctual}
+use Rattle.signed.specs.World.{Part, Acting, Event, Tick, Post, Close, has_posted, IsPunctual}
 use Rattle.signed.specs.Programs.{SignedScenario, RunWorld, conduct_of, after, opened, played}
 
 abbrev pub HasEnded : Part Activation → Type 0
 HasEnded (Acting a) = has_ended a ≡ true
 HasEnded _ = Unit {0}
+
+-- a move: no round is closed
+abbrev pub IsMove : Event → Type 0
+IsMove (Tick g) = Unit {0}
+IsMove (Post g) = Unit {0}
+IsMove Close = ⊥
+
+abbrev pub AreMoves : List Event → Type 0
+AreMoves [] = Unit {0}
+AreMoves (e ∷ events) = IsMove e × AreMoves events
+
+-- every loyal general has posted, and every activation has ended
+pub record IsRipe (w : RunWorld) : Type 0 where
+  pub posted_all : list_all has_posted w.parts ≡ true
+  pub ended_all : (g : ℕ) (part : Part Activation) → slice_get w.parts g ≡ Some part → HasEnded part
 
 -- before each close every traitor's activation has ended
 abbrev pub EndsInTime : SignedScenario → RunWorld → List Event → Type 0

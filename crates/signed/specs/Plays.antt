@@ -13,8 +13,8 @@ use Rattle.signed.specs.Entries.{chain_of, dispatched}
 use Rattle.signed.specs.Campaign.{is_traitor}
 use Rattle.signed.specs.World.{Letter, Acting, Event, sent_in, letter_at, held_behind, context_behind}
 use Rattle.signed.specs.Chronicle.{chronicle_of}
-use Rattle.signed.specs.Programs.{SignedScenario, IsSignedScenario, RunWorld, shape_in, conduct_of, played}
-use Rattle.signed.specs.Lists.{IsComplete, listed, replayed}
+use Rattle.signed.specs.Programs.{SignedScenario, IsSignedScenario, RunWorld, shape_in, conduct_of, after, played}
+use Rattle.signed.specs.Lists.{AreMoves, IsRipe, IsComplete, listed, replayed}
 
 -- the activation is that of a traitor in the round behind these, which is one of the campaign: what he runs, what he is told, whom he relays to, and his patience
 pub record IsPlaced (s : SignedScenario) (w : RunWorld) (g : ℕ) (a : Activation) : Type 0 where
@@ -53,6 +53,12 @@ pub record SignedEntriesAreSent : Type 0 where
 pub record SignedListsAreComplete : Type 0 where
   pub listed : (s : SignedScenario) (lines : List (List ℕ)) → IsSignedScenario s → IsComplete s (listed s lines)
   pub replayed : (s : SignedScenario) (names : List (List ℕ)) → IsSignedScenario s → IsComplete s (replayed s names)
+
+-- from one beginning two ripe worlds with one ledger are one world
+abbrev pub SignedLedgersDecide : Type 0
+SignedLedgersDecide = (s : SignedScenario) (before events others : List Event) → IsSignedScenario s → AreMoves events → AreMoves others →
+    IsRipe (after s (played s before) events) → IsRipe (after s (played s before) others) →
+    (after s (played s before) events).board.ledger ≡ (after s (played s before) others).board.ledger → after s (played s before) events ≡ after s (played s before) others
 
 -- the world of the replay of a ledger
 abbrev pub replay_of : SignedScenario → List Access → RunWorld

@@ -9,7 +9,7 @@ ghost use Rattle.signed.specs.Laws.{
   IdleEventsChangeNothing,
   SignedWorldsAgree,
 };
-ghost use Rattle.signed.specs.Plays.{SignedActivationsAreSafe, SignedEntriesAreSent, SignedListsAreComplete, SignedRunsAreReplays};
+ghost use Rattle.signed.specs.Plays.{SignedActivationsAreSafe, SignedEntriesAreSent, SignedLedgersDecide, SignedListsAreComplete, SignedRunsAreReplays};
 ghost use Rattle.signed.specs.Verdicts.{SignedVerdictsMean};
 
 /// With at most m traitors, whatever they sign, all loyal lieutenants accept the same orders and decide alike, on a loyal commander's order (TOPLAS 1982, Theorem 2).
@@ -65,6 +65,11 @@ pub fn signed_entries_are_sent()
 /// Lists of events by a schedule and by names are punctual and complete.
 pub fn signed_lists_are_complete()
     ensures { SignedListsAreComplete }
+{}
+
+/// From one beginning two worlds with one ledger, in which all have ended, are one.
+pub fn signed_ledgers_decide()
+    ensures { SignedLedgersDecide }
 {}
 
 /// A complete run is the replay of its own accesses, which are legal and traitors' alone.
