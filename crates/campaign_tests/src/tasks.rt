@@ -131,7 +131,8 @@ const NAMED: &[(&[&str], &[u8])] = &[
 #[test]
 fn traitors_are_named(rt: HostRuntime) -> Result<(), Fail> {
     for &(words, expected) in NAMED {
-        let Task::Explain { traitors, .. } = task(rt.alloc(), words)? else {
+        let task = task(rt.alloc(), words)?;
+        let Task::Explain { traitors, .. } = &task else {
             return Err("no explanation")?;
         };
         assert_eq!(rt; traitors.as_slice(), expected);
@@ -163,7 +164,7 @@ fn tables_have_three_numbers(rt: HostRuntime) -> Result<(), Fail> {
         generals,
         bound,
         commander,
-    } = task
+    } = &task
     else {
         return Err("no table")?;
     };
