@@ -59,14 +59,14 @@ holding_set word new mask b spills spill held small lt is bits = record {
   small = small;
   blocks = length-set spills b spill ∙ held.blocks;
   each = λ i inside. elim (cases_eq i b) [
-      | inl same ↦
-          let room : b < length spills = omega (arith, held.blocks) in
-          let one : bit_at mask i ≡ 1 = ap (λ (n : ℕ). bit_at n i) is ∙ (ap (λ (n : ℕ). bit_at (2 ^ b) n) same ∙ bit_at-pow_same b) in
-          bit_chosen (bit_at mask i == 1) word new i spill (bits i inside) (ap (λ (n : ℕ). n == 1) one)
-          ∙ ap bit_for (sym (ap (λ (n : ℕ). get_or (set spills b spill) n Free) same ∙ get_or-set_same spills b spill Free room))
-      | inr ne ↦
-          let none : bit_at mask i ≡ 0 = ap (λ (n : ℕ). bit_at n i) is ∙ bit_at-pow_other b i ne in
-          bit_left (bit_at mask i == 1) word new i spill (bits i inside) (ap (λ (n : ℕ). n == 1) none)
-          ∙ (held.each i inside ∙ ap bit_for (sym (get_or-set_other spills b i spill Free ne)))
-    ];
+    | inl same ↦
+        let room : b < length spills = omega (arith, held.blocks) in
+        let one : bit_at mask i ≡ 1 = ap (λ (n : ℕ). bit_at n i) is ∙ (ap (λ (n : ℕ). bit_at (2 ^ b) n) same ∙ bit_at-pow_same b) in
+        bit_chosen (bit_at mask i == 1) word new i spill (bits i inside) (ap (λ (n : ℕ). n == 1) one)
+        ∙ ap bit_for (sym (ap (λ (n : ℕ). get_or (set spills b spill) n Free) same ∙ get_or-set_same spills b spill Free room))
+    | inr ne ↦
+        let none : bit_at mask i ≡ 0 = ap (λ (n : ℕ). bit_at n i) is ∙ bit_at-pow_other b i ne in
+        bit_left (bit_at mask i == 1) word new i spill (bits i inside) (ap (λ (n : ℕ). n == 1) none)
+        ∙ (held.each i inside ∙ ap bit_for (sym (get_or-set_other spills b i spill Free ne)))
+  ];
 }

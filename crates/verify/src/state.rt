@@ -21,7 +21,7 @@ impl AbsState {
         ensures { result ≡ self.now }
     {
         AbsState {
-            registers: self.registers,
+            registers: registers::copied(&self.registers),
             stack: self.stack.copy(),
         }
     }
@@ -30,7 +30,7 @@ impl AbsState {
     pub fn assign(&mut self, other: &AbsState)
         ensures { self.new ≡ other.now }
     {
-        self.registers = other.registers;
+        registers::assign(&mut self.registers, &other.registers);
         self.stack.assign(&other.stack);
     }
 

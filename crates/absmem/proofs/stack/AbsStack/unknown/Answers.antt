@@ -1,4 +1,4 @@
-use Rattle.std.proofs.Common.{refl, ◌∙◌, ap, sym, subst, length, replicate, List, Bool, false}
+use Rattle.std.proofs.Common.{◌∙◌, ap, sym, subst, length, replicate, List, Bool, false}
 use Rattle.std.proofs.lemmas.List.{length-replicate}
 use Rattle.semantics.specs.declared.value.Cell.{Cell}
 use Rattle.absmem.specs.declared.spill.Spill.{Spill}
