@@ -245,7 +245,7 @@ same_everywhere zero a i = refl
 same_everywhere (suc n) a zero = refl
 same_everywhere (suc n) a (suc i) = same_everywhere n a i
 
-free_at : (b : ℕ) → spill_at (replicate 64 Free) b ≡ Free
+pub free_at : (b : ℕ) → spill_at (replicate 64 Free) b ≡ Free
 free_at b = same_everywhere 64 Free b
 
 unnoted_at : (k : ℕ) → byte_at (replicate 512 false) k ≡ false

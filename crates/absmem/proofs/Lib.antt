@@ -1,4 +1,5 @@
 pub mod Overwriting
 pub mod Keeping
+pub mod HoldingBits
 pub mod Masks
 pub mod Members

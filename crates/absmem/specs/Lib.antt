@@ -1,4 +1,5 @@
 pub mod Known
+pub mod Holding
 pub mod Members
 pub mod Laws
 pub mod Describes

@@ -1,6 +1,7 @@
 //! What the verifier knows of a stack: which cells are bytes, and where whole pointers stand.
 #![tactic(auto)]
 
+mod blocks;
 mod cell_set;
 mod mask;
 mod pointers;

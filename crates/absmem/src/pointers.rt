@@ -3,30 +3,34 @@ ghost use Rattle.std.specs.Prelude.{◌≡◌, ◌+◌, ◌/◌, ◌%◌, ◌<�
 ghost use Rattle.semantics.specs.Memory.{is_same_region};
 ghost use Rattle.absmem.specs.Known.{IsFiled, spill_at, left_of, joined_spill};
 
+use crate::blocks::Blocks;
 use crate::spill::Spill;
 use semantics::Region;
 
 /// Forgets each pointer of which a cell lies in the window.
-pub(crate) fn clear(spills: &mut [Spill; 64], place: usize, end: usize)
+pub(crate) fn clear(spills: &mut Blocks, place: usize, end: usize)
     requires ordered { place ≤ end }
     requires within { end ≤ 512 }
     requires filed { (b : ℕ) → b < 64 → IsFiled b (spill_at spills.old b) }
     ensures size { length spills.new ≡ 64 }
     ensures each { (b : ℕ) → b < 64 → spill_at spills.new b ≡ left_of place end b (spill_at spills.old b) }
 {
+    if spills.is_free() {
+        return;
+    }
     let first = place.saturating_sub(7) / 8;
     let last = (end + 7) / 8;
     for b in first..last {
-        spills[b] = left(spills[b], b, place, end);
+        spills.set(b, left(spills.at(b), b, place, end));
     }
 }
 
 /// Notes the pointer that is stored at the place.
-pub(crate) fn put(spills: &mut [Spill; 64], place: usize, region: Region, offset: i32)
+pub(crate) fn put(spills: &mut Blocks, place: usize, region: Region, offset: i32)
     requires { place + 8 ≤ 512 }
     ensures { spills.new ≡ slice_set spills.old (place / 8) (Spill.Whole (place % 8) region offset) }
 {
-    spills[place / 8] = whole(place, region, offset);
+    spills.set(place / 8, whole(place, region, offset));
 }
 
 /// A pointer that stands at the place.
@@ -57,21 +61,25 @@ fn left(spill: Spill, b: usize, place: usize, end: usize) -> Spill
 }
 
 /// Keeps what both know.
-pub(crate) fn join(spills: &mut [Spill; 64], other: &[Spill; 64])
+pub(crate) fn join(spills: &mut Blocks, other: &Blocks)
     ensures size { length spills.new ≡ 64 }
     ensures each { (b : ℕ) → b < 64 → spill_at spills.new b ≡ joined_spill (spill_at spills.old b) (spill_at other.now b) }
 {
+    if spills.is_free() {
+        return;
+    }
     for b in 0..64 {
-        settle(&mut spills[b], other[b]);
+        settle(spills, b, other.at(b));
     }
 }
 
 /// Keeps of a block what both know. Most blocks stay as they are, and are not written.
-fn settle(spill: &mut Spill, other: Spill)
-    ensures { spill.new ≡ joined_spill spill.old other }
+fn settle(spills: &mut Blocks, b: usize, other: Spill)
+    requires { b < 64 }
+    ensures { spills.new ≡ slice_set spills.old b (joined_spill (spill_at spills.old b) other) }
 {
-    if !stays(*spill, other) {
-        *spill = Spill::Free;
+    if !stays(spills.at(b), other) {
+        spills.set(b, Spill::Free);
     }
 }
 

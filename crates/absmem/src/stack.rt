@@ -4,6 +4,7 @@ ghost use Rattle.semantics.specs.Memory.{overwritten, pieces_of};
 ghost use Rattle.absmem.specs.Known.{byte_at, spill_at, IsSetTo, left_of, joined_spill, pointer_of};
 ghost use Rattle.absmem.specs.Describes.{Describes, AreBytes};
 
+use crate::blocks::Blocks;
 use crate::cell_set::CellSet;
 use crate::pointers;
 use crate::spill::Spill;
@@ -11,10 +12,10 @@ use semantics::Region;
 use std::marker::Model;
 
 /// What is known of a stack of 512 cells.
-#[derive(Clone, Copy, Debug)]
+#[derive(Debug, Drop)]
 pub struct AbsStack {
     bytes: CellSet,
-    spills: [Spill; 64],
+    spills: Blocks,
 }
 
 impl Model for AbsStack {
@@ -25,8 +26,6 @@ impl Model for AbsStack {
     ghost view = { λ s. record { bytes = s.bytes; spills = s.spills } };
 
     ghost invariant = { λ s. IsKnownStack s.bytes s.spills };
-
-    ghost inverse = { λ k. record { bytes = k.bytes; spills = k.spills } };
 }
 
 impl AbsStack {
@@ -38,8 +37,26 @@ impl AbsStack {
     {
         AbsStack {
             bytes: CellSet::none(),
-            spills: [Spill::Free; 64],
+            spills: Blocks::free(),
         }
+    }
+
+    /// The same once more.
+    pub fn copy(&self) -> AbsStack
+        ensures { result ≡ self.now }
+    {
+        AbsStack {
+            bytes: self.bytes,
+            spills: self.spills.copy(),
+        }
+    }
+
+    /// Becomes the same as the other.
+    pub fn assign(&mut self, other: &AbsStack)
+        ensures { self.new ≡ other.now }
+    {
+        self.bytes = other.bytes;
+        self.spills.assign(&other.spills);
     }
 
     /// Bytes are stored at the place.
@@ -100,7 +117,7 @@ impl AbsStack {
             shift,
             region,
             offset,
-        } = self.spills[place / 8]
+        } = self.spills.at(place / 8)
         else {
             return None;
         };

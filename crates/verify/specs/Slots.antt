@@ -16,6 +16,10 @@ use Rattle.semantics.specs.Relay.{IsSetting, Relay}
 abbrev pub Slot : Type 0
 Slot = Option (Box AbsState Global)
 
+-- what is kept for each unit
+pub record Slots : Type 0 where
+  pub items : List Slot
+
 abbrev pub Holds : Slot → State → Type 0
 Holds None s = ⊥
 Holds (Some a) s = Describes a.value s

@@ -18,6 +18,7 @@ use insn::{Operand, Reg};
 use word::{Condition, Width};
 
 /// What is left of two values where a condition on them goes one way; None where no two of theirs do so.
+#[inline(always)]
 fn refine_values(
     width: Width,
     condition: Condition,

@@ -21,7 +21,7 @@ ghost use Rattle.verify.specs.Slots.{Slot, IsAt, Keeps, LeadsOn, IsPassed, Edges
 
 use crate::comparison::Comparison;
 use crate::fault::Fault;
-use crate::pending::{Pending, boxed, empty, flow, take};
+use crate::pending::{Pending, boxed, empty, flow, second, take};
 use crate::state::AbsState;
 use crate::structure::forward_target;
 use crate::{branches, registers, steps};
@@ -112,7 +112,7 @@ fn pass_branch(
     if let Err(reason) = steps::compare(&state, compared) {
         return Err(reason.at(unit));
     }
-    let Ok(other) = boxed(alloc, *state) else {
+    let Ok(other) = second(alloc, pending, &state) else {
         return Err(Fault::Memory);
     };
     pass_edge(unit + 1, compared, false, other, pending);

@@ -7,9 +7,22 @@ ghost use Rattle.verify.specs.Slots.{Holds, IsAt, Keeps, IsBlank, BlanksComeTo};
 
 use crate::state::AbsState;
 use std::alloc::{AllocError, Global};
+use std::marker::Model;
 
-/// What is known at each unit to come.
-pub type Pending = Vec<Option<Box<AbsState>>>;
+/// What is known at each unit to come, and a box that none of them needs any more.
+#[derive(Drop)]
+pub struct Pending {
+    slots: Vec<Option<Box<AbsState>>>,
+    spare: Option<Box<AbsState>>,
+}
+
+impl Model for Pending {
+    ghost use Rattle.verify.specs.Slots.{Slots};
+
+    ghost Value = { Slots };
+
+    ghost view = { λ p. record { items = p.slots.items } };
+}
 
 /// A state of its own.
 pub fn boxed(alloc: Global, state: AbsState) -> Result<Box<AbsState>, AllocError>
@@ -23,11 +36,11 @@ pub fn boxed(alloc: Global, state: AbsState) -> Result<Box<AbsState>, AllocError
 pub fn empty(alloc: Global, units: usize) -> Result<Pending, AllocError>
     ensures { IfOk result (λ pending. pending.items ≡ replicate units None) }
 {
-    let mut pending = Vec::with_capacity(alloc, units)?;
+    let mut slots = Vec::with_capacity(alloc, units)?;
     for _unit in 0..units {
-        pending.push(None)?;
+        slots.push(None)?;
     }
-    Ok(pending)
+    Ok(Pending { slots, spare: None })
 }
 
 /// Takes out what is kept for a unit.
@@ -36,20 +49,45 @@ pub fn take(pending: &mut Pending, unit: usize) -> Option<Box<AbsState>>
     ensures value { result ≡ slice_index_or pending.old.items unit None }
     ensures rest { pending.new.items ≡ slice_set pending.old.items unit None }
 {
-    pending[unit].take()
+    pending.slots[unit].take()
 }
 
 /// A state with what is kept already.
-fn joined(kept: Option<Box<AbsState>>, mut state: Box<AbsState>) -> Box<AbsState>
-    ensures left { (s : State) → Holds kept s → Describes result.value s }
+fn joined(kept: &Option<Box<AbsState>>, mut state: Box<AbsState>) -> Box<AbsState>
+    ensures left { (s : State) → Holds kept.now s → Describes result.value s }
     ensures right { (s : State) → Describes state.value s → Describes result.value s }
-    ensures blank { (r : ℕ) → r < 11 → has_number result.value.registers r ≡ false → IsBlank kept r ⊎ (has_number state.value.registers r ≡ false) }
-    ensures exact { Takes kept state.value (Some result) }
+    ensures blank { (r : ℕ) → r < 11 → has_number result.value.registers r ≡ false → IsBlank kept.now r ⊎ (has_number state.value.registers r ≡ false) }
+    ensures exact { Takes kept.now state.value (Some result) }
 {
     if let Some(other) = kept {
-        state.join(&other);
+        state.join(other);
     }
     state
+}
+
+/// Keeps a box that no unit needs any more, if it is one, for the next state.
+fn set_aside(pending: &mut Pending, left: Option<Box<AbsState>>)
+    ensures { pending.new.items ≡ pending.old.items }
+{
+    if left.is_some() {
+        pending.spare = left;
+    }
+}
+
+/// The same state once more, in the box that no unit needs any more, else in a new one.
+pub fn second(
+    alloc: Global,
+    pending: &mut Pending,
+    state: &AbsState,
+) -> Result<Box<AbsState>, AllocError>
+    ensures value { IfOk result (λ b. b.value ≡ state.now) }
+    ensures rest { pending.new.items ≡ pending.old.items }
+{
+    let Some(mut spare) = pending.spare.take() else {
+        return boxed(alloc, state.copy());
+    };
+    spare.assign(state);
+    Ok(spare)
 }
 
 /// Keeps a state for a unit, with what is kept there.
@@ -62,5 +100,6 @@ pub fn flow(pending: &mut Pending, unit: usize, state: Box<AbsState>)
     ensures exact { Flows state.value unit pending.old.items pending.new.items }
 {
     let kept = take(pending, unit);
-    pending[unit] = Some(joined(kept, state));
+    pending.slots[unit] = Some(joined(&kept, state));
+    set_aside(pending, kept);
 }

@@ -101,3 +101,21 @@ pub fn join(registers: &mut [AbsVal; 11], other: &[AbsVal; 11])
         registers[i] = absval::join(registers[i], other[i]);
     }
 }
+
+/// What is known becomes the same as of the others.
+pub fn assign(registers: &mut [AbsVal; 11], other: &[AbsVal; 11])
+    ensures { registers.new ≡ other.now }
+{
+    for i in 0..11 {
+        registers[i] = other[i];
+    }
+}
+
+/// The same registers once more.
+pub fn copied(registers: &[AbsVal; 11]) -> [AbsVal; 11]
+    ensures { result ≡ registers.now }
+{
+    let mut copy = [AbsVal::Unset; 11];
+    assign(&mut copy, registers);
+    copy
+}

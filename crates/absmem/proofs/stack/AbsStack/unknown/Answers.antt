@@ -1,6 +1,7 @@
-use Rattle.std.proofs.Common.{refl, ◌∙◌, ap, sym, subst, length, replicate, List, Bool, false}
+use Rattle.std.proofs.Common.{◌∙◌, ap, sym, subst, length, replicate, List, Bool, false}
 use Rattle.std.proofs.lemmas.List.{length-replicate}
 use Rattle.semantics.specs.declared.value.Cell.{Cell}
+use Rattle.absmem.specs.declared.spill.Spill.{Spill}
 use Rattle.absmem.specs.declared.spill.Spill.TheVariants.{Free}
 use Rattle.absmem.specs.Describes.{Describes}
 use Rattle.absmem.proofs.Keeping.{nothing_described, nothing_filed}
@@ -9,10 +10,11 @@ use Rattle.absmem.proofs.stack.AbsStack.unknown.Goals as goal
 pub invariant_of-result : goal.invariant_of-result
 invariant_of-result c = record {
   cells = ap (λ flags. length flags) c.none.ensures ∙ length-replicate 512 false;
-  blocks = refl;
-  filed = nothing_filed;
+  blocks = ap (λ spills. length spills) c.free.ensures ∙ length-replicate 64 Free;
+  filed = λ b lt. rw (c.free.ensures) (nothing_filed b lt);
 }
 
 pub returns-clause-holds : goal.returns-clause-holds
 returns-clause-holds c =
-    subst (λ (flags : List Bool). (cells : List Cell) → Describes (record { bytes = flags; spills = replicate 64 Free }) cells) (sym c.none.ensures) nothing_described
+    subst (λ (flags : List Bool). (cells : List Cell) → Describes (record { bytes = flags; spills = c.free.result }) cells) (sym c.none.ensures)
+    (subst (λ (spills : List Spill). (cells : List Cell) → Describes (record { bytes = replicate 512 false; spills = spills }) cells) (sym c.free.ensures) nothing_described)

@@ -1,0 +1,24 @@
+use Rattle.std.proofs.Common.{arith, refl, ◌≡◌, ◌<◌, length, length-set, get_or}
+use Rattle.std.proofs.lemmas.List.{ext_get_or}
+use Rattle.absval.specs.declared.value.AbsVal.{AbsVal}
+use Rattle.absval.specs.declared.value.AbsVal.TheVariants.{Unset}
+use Rattle.verify.proofs.Zips.{at_set, at_read}
+use Rattle.verify.proofs.registers.assign.Goals as goal
+
+pub loop-i-preserved : goal.loop-i-preserved
+loop-i-preserved c =
+    let xs = c.loop-i.registers in
+    let i = c.loop-i.i in
+    let l : i < length xs = omega arith in
+    let m : i < length c.args.other.now = omega arith in
+    record {
+      size = rw (length-set xs i _) c.loop-i.invariant.size;
+      done = λ k j. at_set (λ (a : AbsVal). a ≡ get_or c.args.other.now k Unset) xs i k _ Unset l
+          (λ e. at_read (λ (a : AbsVal). a ≡ get_or c.args.other.now k Unset) c.args.other.now i k _ Unset m e refl)
+          (λ n. c.loop-i.invariant.done k (omega arith));
+    }
+
+pub returns : goal.returns
+returns c =
+    let long : length c.loop-i.registers ≡ length c.args.other.now = omega arith in
+    ext_get_or Unset c.loop-i.registers c.args.other.now long (λ k j. c.loop-i.invariant.done k (omega arith))
