@@ -67,9 +67,12 @@ module _ (s : Scenario) (closed : List (List Letter)) (piece : List Access) (let
             subst B (sym both.1) (runs_under s.patience l.steps start l.transcript is.0 (let W : ℕ → Type 0 = λ n. IsWithin s.patience n in subst W steps is.3) is.1));
         over = (λ i. sym ended i || is_reached s.patience (sym steps i)) ∙ is.4;
         is = λ m there.
-            let same : l ≡ m = (let f = sym at ∙ there in cc) in
-            (ap (λ (x : Letter). x.steps) (sym same) ∙ steps, ap (λ (x : Letter). x.outbox.rows) (sym same) ∙ ap (λ (x : Letter). x.outbox.rows) is.2, ap (λ (x : Letter). x.exited) (sym same) ∙ ended,
-            ap (λ (x : Letter). x.outbox.entries) (sym same) ∙ ap (λ (x : Letter). x.outbox.entries) is.2);
+            let same : l ≡ m = (let f = sym at ∙ there in cc) in (
+              ap (λ (x : Letter). x.steps) (sym same) ∙ steps,
+              ap (λ (x : Letter). x.outbox.rows) (sym same) ∙ ap (λ (x : Letter). x.outbox.rows) is.2,
+              ap (λ (x : Letter). x.exited) (sym same) ∙ ended,
+              ap (λ (x : Letter). x.outbox.entries) (sym same) ∙ ap (λ (x : Letter). x.outbox.entries) is.2,
+            );
       }
 
   pub ways_begin : (b : Bool) → AllParts (Ways (Tells letters) piece) (cond b (each s.generals (λ g. begins s closed g (program_of s g) ∷ [])) [])
