@@ -14,7 +14,6 @@ use Rattle.semantics.specs.declared.request.Helper.TheVariants.{BoardGet, BoardS
 use Rattle.semantics.specs.declared.request.Request.{Request}
 use Rattle.semantics.specs.declared.request.Request.TheVariants.{Get, Swap, Add, Cas, Copy}
 use Rattle.semantics.specs.declared.entry.Entry.{Entry}
-use Rattle.semantics.specs.declared.entry.Entry.TheVariants.{Sign, Pass}
 use Rattle.semantics.specs.State.{Cause, Argument, State, Next, Ask, given, value_at}
 use Rattle.semantics.specs.Memory.{cells_at, bytes_in, window, region_cells, stack_place}
 use Rattle.semantics.specs.Outbox.{Choice, places_set, along_row, at_receiver, as_taken}

@@ -5,7 +5,6 @@ use Rattle.semantics.specs.declared.request.Helper.{Helper}
 use Rattle.semantics.specs.declared.request.Helper.TheVariants.{BoardGet, BoardSwap, BoardAdd, BoardCas, BoardCopy, Send, SendRow, Sway, Honest, SignOrder, PassOn}
 use Rattle.semantics.specs.declared.request.Request.{Request}
 use Rattle.semantics.specs.declared.request.Request.TheVariants.{Get, Swap, Add, Cas}
-use Rattle.semantics.specs.declared.entry.Entry.{Entry}
 use Rattle.semantics.specs.declared.entry.Entry.TheVariants.{Sign, Pass}
 use Rattle.semantics.specs.State.{Cause, State, given}
 use Rattle.semantics.specs.Outbox.{Choice, at_place, along_row, at_receiver, as_taken}

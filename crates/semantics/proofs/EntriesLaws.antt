@@ -17,7 +17,7 @@ use Rattle.semantics.specs.declared.request.Helper.TheVariants.{BoardGet, BoardS
 use Rattle.semantics.specs.declared.request.Request.{Request}
 use Rattle.semantics.specs.declared.request.Request.TheVariants.{Get, Swap, Add, Cas, Copy}
 use Rattle.semantics.specs.declared.entry.Entry.{Entry}
-use Rattle.semantics.specs.State.{Cause, State, Outcome, Next, Trap, Outbox}
+use Rattle.semantics.specs.State.{Cause, State, Next, Trap, Outbox}
 use Rattle.semantics.specs.Outbox.{Choice, written, empty_outbox}
 use Rattle.semantics.specs.Entries.{is_sendable, is_entered, entered}
 use Rattle.semantics.specs.Step.{assigned, changed, arrived, branched, exited}

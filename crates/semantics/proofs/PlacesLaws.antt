@@ -6,7 +6,7 @@ use Rattle.std.proofs.lemmas.Bool.{cases_Bool, cases_eq, false≢true, and_parts
 use Rattle.std.proofs.lemmas.Bool.Decides.{eqb_tells}
 use Rattle.std.proofs.lemmas.List.Sums.{sum_by-cons}
 use Rattle.label.specs.declared.shape.Shape.{Shape}
-use Rattle.semantics.specs.Relay.{IsRelay, Kind, Oral, Signed, Relay, labels_told, relayed}
+use Rattle.semantics.specs.Relay.{Kind, Oral, Signed, Relay, labels_told, relayed}
 use Rattle.label.specs.Labels.{on, is_distinct, generals, others, labels}
 use Rattle.label.specs.Relay.{IsShape, relay, receivers}
 use Rattle.label.proofs.Counting.{on-filter, range-distinct}

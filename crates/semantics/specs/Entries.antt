@@ -1,5 +1,5 @@
 -- What a program enters of signed messages (own; TOPLAS 1982, section 4, algorithm SM(m)).
-use Rattle.std.specs.Prelude.{ℕ, ◌==◌, Bool, true, false, not, ◌&&◌, nat_lt, if◌then◌else◌, List, [], ◌∷◌, ◌++◌, length, Option, None, Some, slice_get}
+use Rattle.std.specs.Prelude.{ℕ, ◌==◌, Bool, false, not, ◌&&◌, nat_lt, if◌then◌else◌, List, [], ◌∷◌, ◌++◌, length, Option, None, Some, slice_get}
 use Rattle.std.specs.Int.{bit_at}
 use Rattle.label.specs.declared.shape.Shape.{Shape}
 use Rattle.semantics.specs.declared.entry.Entry.{Entry}

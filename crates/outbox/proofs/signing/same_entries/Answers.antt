@@ -1,9 +1,6 @@
 -- The same entries, each at its place.
-use Rattle.std.proofs.Common.{◌∙◌, List, ℕ, get_or, arith, sym, ap, refl, below_more}
-use Rattle.std.proofs.lemmas.Bool.{false≢true}
-use Rattle.semantics.specs.declared.entry.Entry.{Entry}
+use Rattle.std.proofs.Common.{arith, refl}
 use Rattle.semantics.specs.declared.entry.Entry.TheVariants.{Sign}
-use Rattle.outbox.proofs.Single.{same_default}
 use Rattle.outbox.proofs.Alike.{same_lists}
 use Rattle.outbox.proofs.signing.same_entries.Goals as goal
 

@@ -1,5 +1,5 @@
 use Rattle.std.proofs.Common.{◌≤◌, length, subst, arith}
-use Rattle.semantics.specs.Relay.{oral, relayed}
+use Rattle.semantics.specs.Relay.{relayed}
 use Rattle.outbox.specs.Contents.{Contents, HasPlaces, relay_of}
 use Rattle.outbox.proofs.Outcomes.{rows_few}
 use Rattle.outbox.proofs.LastOrders.{has_places}
