@@ -171,23 +171,23 @@ module _ (name switch own : Text) where
       same = switch_same;
       some = λ word v at. refl;
       awaits = λ position rows pending word ends other at good.
-      let is = own_option word None at in
-      subst (λ (w : Text). (turn_fault own_shape [] (walk_at position (held rows pending)) w ≡ [])
-      × (walked own_rules [] (walk_at position (held rows pending)) w ≡ waiting_at name switch option position (own_now rows pending)))
-      (sym (alone_is own word is.0 is.1)) (opens own_is position rows pending good, opened own_is position rows pending good);
+          let is = own_option word None at in
+          subst (λ (w : Text). (turn_fault own_shape [] (walk_at position (held rows pending)) w ≡ [])
+          × (walked own_rules [] (walk_at position (held rows pending)) w ≡ waiting_at name switch option position (own_now rows pending)))
+          (sym (alone_is own word is.0 is.1)) (opens own_is position rows pending good, opened own_is position rows pending good);
       attached = λ position rows pending word v ends other at good.
-      let is = own_option word (Some v) at in
-      subst (λ (w : Text). (turn_fault own_shape [] (walk_at position (held rows pending)) w
-      ≡ use_fault false (value_taker (long [])) (v ∷ []) (own_now rows pending))
-      × (walked own_rules [] (walk_at position (held rows pending)) w
-      ≡ walk_at position (held (value_met name switch option v (own_now rows pending)) None)))
-      (sym (attached_is own word v is.0 is.1)) (attached own_is position rows pending good v, goes_on own_is position rows pending good v);
+          let is = own_option word (Some v) at in
+          subst (λ (w : Text). (turn_fault own_shape [] (walk_at position (held rows pending)) w
+          ≡ use_fault false (value_taker (long [])) (v ∷ []) (own_now rows pending))
+          × (walked own_rules [] (walk_at position (held rows pending)) w
+          ≡ walk_at position (held (value_met name switch option v (own_now rows pending)) None)))
+          (sym (attached_is own word v is.0 is.1)) (attached own_is position rows pending good v, goes_on own_is position rows pending good v);
       unknown = λ position rows pending word ends other at flag.
-      flag_turn own_shape [] position idle rows pending word refl ends
-      (flag_word_fails own_rules false rows pending word
-      (other_long_fails switch option (held rows pending) word other
-      (λ n e. let same : own ≡ n = cc in subst (λ (m : Text). named_by m word ≡ false) same (own_other word at)))
-      (each_letter own_rules false rows pending word (λ x rest next. own_letter (held rows pending) x rest next _ refl)) ends flag);
+          flag_turn own_shape [] position idle rows pending word refl ends
+          (flag_word_fails own_rules false rows pending word
+          (other_long_fails switch option (held rows pending) word other
+          (λ n e. let same : own ≡ n = cc in subst (λ (m : Text). named_by m word ≡ false) same (own_other word at)))
+          (each_letter own_rules false rows pending word (λ x rest next. own_letter (held rows pending) x rest next _ refl)) ends flag);
     }
 
 -- ---- `check` and `book`
