@@ -10,7 +10,7 @@ _byzlab() {
     1:*) offered="$commands -h --help -V --version" ;;
     *:help:*) offered=$commands ;;
     *:play:-*) offered="--schedule -h --help" ;;
-    *:check:-*) offered="--asm -h --help" ;;
+    *:check:-*) offered="--asm --context -h --help" ;;
     *:asm:-*) offered="--raw -o -h --help" ;;
     *:dis:-*) offered="--units -h --help" ;;
     *:book:-*) offered="--explain --traitors -h --help" ;;

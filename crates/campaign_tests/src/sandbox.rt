@@ -1,6 +1,6 @@
 //! The programs of docs/SANDBOX.md. Their texts are those of the files in examples/, letter by letter.
 
-use command_line::{Spelling, Task};
+use command_line::{Notation, Spelling, Task};
 use lab::{Outcome, answer};
 use std::alloc::{AllocError, Global};
 use std::process::Abort;
@@ -211,8 +211,12 @@ pub(crate) fn verdict(rt: &impl Abort, alloc: Global, text: &str) -> Result<Stri
         Err(refusal) => return refusal.to_string(alloc),
     };
     let bytes = hex::decode(alloc, code.trim_end()).expect(rt, "hex");
-    let name = String::from_str(alloc, "p")?;
-    match answer(alloc, &Task::Check(name), bytes.as_slice()) {
+    let check = Task::Check {
+        program: String::from_str(alloc, "p")?,
+        notation: Notation::Bytecode,
+        context: None,
+    };
+    match answer(alloc, &check, bytes.as_slice()) {
         Ok(Outcome::Text(lines)) => Ok(lines),
         Ok(_) => String::from_str(alloc, "a campaign"),
         Err(refusal) => refusal.to_string(alloc),

@@ -1,6 +1,6 @@
 //! What each subcommand prints.
 
-use command_line::{Spelling, Task};
+use command_line::{Notation, Spelling, Task};
 use lab::serve;
 use std::alloc::Global;
 use std::io::{self, ErrorKind, Read, Write};
@@ -230,10 +230,27 @@ const KNOWN_BITS: &[(&str, &str)] = &[
 /// The programs of all these tables.
 const ACCEPTED: &[&[(&str, &str)]] = &[PROGRAMS, DIVISIONS, MEMORY_AND_CALLS, KNOWN_BITS];
 
+/// The task of `check`, in the context of a file of this name where there is one.
+fn check(alloc: Global, notation: Notation, context: Option<&str>) -> Result<Task, Fail> {
+    let program = match notation {
+        Notation::Bytecode => "p.bin",
+        Notation::Assembly => "p.asm",
+    };
+    let context = match context {
+        Some(name) => Some(String::from_str(alloc, name)?),
+        None => None,
+    };
+    Ok(Task::Check {
+        program: String::from_str(alloc, program)?,
+        notation,
+        context,
+    })
+}
+
 #[test]
 fn accepted_programs_are_run(rt: HostRuntime) -> Result<(), Fail> {
     let alloc = rt.alloc();
-    let task = Task::Check(String::from_str(alloc, "p.bin")?);
+    let task = check(alloc, Notation::Bytecode, None)?;
     for table in ACCEPTED {
         for &(code, lines) in *table {
             assert!(rt; answers_code(&rt, alloc, &task, code, (0, lines)), "{code}");
@@ -307,7 +324,7 @@ const REFUSALS: &[(&str, &str)] = &[
 #[test]
 fn refusals_name_their_place(rt: HostRuntime) -> Result<(), Fail> {
     let alloc = rt.alloc();
-    let task = Task::Check(String::from_str(alloc, "p.bin")?);
+    let task = check(alloc, Notation::Bytecode, None)?;
     for &(code, line) in REFUSALS {
         assert!(rt; answers_code(&rt, alloc, &task, code, (1, line)), "{code}");
     }
@@ -393,13 +410,66 @@ const CHECKED_TEXTS: &[(&[u8], u8, &str)] = &[
 #[test]
 fn assembly_is_checked(rt: HostRuntime) -> Result<(), Fail> {
     let alloc = rt.alloc();
-    let task = Task::CheckAssembly(String::from_str(alloc, "p.asm")?);
+    let task = check(alloc, Notation::Assembly, None)?;
     for &(text, status, lines) in CHECKED_TEXTS {
         assert!(rt;
             answers(&rt, alloc, &task, File::Bytes(text), (status, lines)),
             "{lines}"
         );
     }
+    Ok(())
+}
+
+/// Assembly and a context, the status, and what is printed or told.
+const TRIED: &[(&str, &[u8], u8, &str)] = &[
+    // general 2 of 5 in round 3 tells 3 what he took for the labels of 1 and 4, and 1 an order for that of 3
+    (
+        "mov r1, 3\ncall honest\nmov r1, 1\nmov r2, 1\nmov r3, 7\ncall send\nmov r1, 5\nmov r2, 1\ncall board_add\nexit\n",
+        b"generals = 5\nbound = 2\ncommander = 0\ngeneral = 2\nround = 3\ntaken = [1, 0, 1]\n",
+        0,
+        "accepted 10 instructions 10 units\nr0 0 steps 10\nput 0 3 1\nput 1 1 7\nput 2 3 1\nword 5 1\n",
+    ),
+    // the number of generals is the context's
+    (
+        "ldw r0, [r1+0]\nexit\n",
+        b"generals = 7\nbound = 0\ncommander = 1\ngeneral = 1\nround = 1\n",
+        0,
+        "accepted 2 instructions 2 units\nr0 7 steps 2\n",
+    ),
+    ("mov r0, 0\nexit\n", b"", 1, "refused K2 generals\n"),
+    ("mov r0, 0\nexit\n", b"generals =", 1, "refused K1\n"),
+    ("mov r0, 0\nexit\n", b"# \xff", 1, "fault text c.toml\n"),
+    // the program is judged first
+    ("exit\n", b"", 1, "refused V5 unit 0\n"),
+    ("mov r11, 0", b"# \xff", 1, "refused A3 line 1\n"),
+];
+
+#[test]
+fn programs_are_tried(rt: HostRuntime) -> Result<(), Fail> {
+    let alloc = rt.alloc();
+    let task = check(alloc, Notation::Assembly, Some("c.toml"))?;
+    for &(text, context, status, lines) in TRIED {
+        let told = served(
+            &rt,
+            alloc,
+            &task,
+            File::of(text),
+            Some(File::Bytes(context)),
+        );
+        assert!(rt; told.is(status, lines), "{lines}");
+    }
+    Ok(())
+}
+
+#[test]
+fn contexts_that_fail_are_told(rt: HostRuntime) -> Result<(), Fail> {
+    let alloc = rt.alloc();
+    let task = check(alloc, Notation::Bytecode, Some("c.toml"))?;
+    let program = File::Bytes(b"\xb7\0\0\0\x2a\0\0\0\x95\0\0\0\0\0\0\0".as_slice());
+    let told = served(&rt, alloc, &task, program, Some(File::Broken));
+    assert!(rt; told.is(1, "fault read c.toml\n"));
+    let told = served(&rt, alloc, &task, program, None);
+    assert!(rt; told.is(1, "refused K2 generals\n"));
     Ok(())
 }
 
@@ -613,7 +683,7 @@ const LIKENESSES: &[(&[u8], &str)] = &[
 #[test]
 fn what_bytes_seem_to_be_is_told(rt: HostRuntime) -> Result<(), Fail> {
     let alloc = rt.alloc();
-    let task = Task::Check(String::from_str(alloc, "p.bin")?);
+    let task = check(alloc, Notation::Bytecode, None)?;
     for &(bytes, fault) in LIKENESSES {
         assert!(rt;
             answers(&rt, alloc, &task, File::Bytes(bytes), (1, fault)),
@@ -626,7 +696,7 @@ fn what_bytes_seem_to_be_is_told(rt: HostRuntime) -> Result<(), Fail> {
 #[test]
 fn failing_files_are_told(rt: HostRuntime) -> Result<(), Fail> {
     let alloc = rt.alloc();
-    let task = Task::Check(String::from_str(alloc, "p.bin")?);
+    let task = check(alloc, Notation::Bytecode, None)?;
     let bytes = b"\xb7\0\0\0\x2a\0\0\0\x95\0\0\0\0\0\0\0".as_slice();
     assert!(rt; answers(&rt, alloc, &task, File::Broken, (1, "fault read p.bin\n")));
     assert!(rt; cannot_write(&rt, alloc, &task, File::Bytes(bytes)));

@@ -1,7 +1,7 @@
 //! The task that the words name.
 
 use clap::error::ErrorKind;
-use command_line::{Spelling, Task, TaskError, task};
+use command_line::{Notation, Spelling, Task, TaskError, task};
 use std::alloc::Global;
 use std::process::Abort;
 use std::test::Fail;
@@ -16,6 +16,13 @@ const TAKEN: &[(&[&str], &str, &str, Option<&str>)] = &[
     // a switch stands before or behind the file
     (&["check", "--asm", "p"], "check --asm", "p", None),
     (&["check", "p", "--asm"], "check --asm", "p", None),
+    (&["check", "--context", "c", "p"], "check", "p", Some("c")),
+    (
+        &["check", "p", "--context=c", "--asm"],
+        "check --asm",
+        "p",
+        Some("c"),
+    ),
     (&["asm", "--raw", "p"], "asm --raw", "p", None),
     (&["dis", "p", "--units", "--"], "dis --units", "p", None),
     (
@@ -68,8 +75,14 @@ const TAKEN: &[(&[&str], &str, &str, Option<&str>)] = &[
 /// The subcommand of a task, with its switch.
 fn subcommand(task: &Task) -> &'static str {
     match task {
-        Task::Check(_) => "check",
-        Task::CheckAssembly(_) => "check --asm",
+        Task::Check {
+            notation: Notation::Bytecode,
+            ..
+        } => "check",
+        Task::Check {
+            notation: Notation::Assembly,
+            ..
+        } => "check --asm",
         Task::Assemble {
             spelling: Spelling::Hex,
             ..

@@ -119,7 +119,7 @@ RuleAt name rest = Agrees (fault_of lab_app (name ∷ rest)) (subcommand_of lab_
 
 at_check : (rest : List Text) → RuleAt (codes "check") rest
 unfolding clap_on_literals
-at_check rest = named (codes "check") rest (flagged_shape (codes "check") (codes "asm") None) _ refl refl refl (check_agrees rest)
+at_check rest = named (codes "check") rest (flagged_shape (codes "check") (codes "asm") (Some (long (codes "context")))) _ refl refl refl (check_agrees rest)
 
 at_asm : (rest : List Text) → RuleAt (codes "asm") rest
 unfolding clap_on_literals

@@ -10,7 +10,7 @@ use Rattle.command_line.specs.Lab.{lab_app, task_met}
 use Rattle.command_line.specs.Told.{IfRefused, IfTraitors, IsRefusedWord, Says, Told, named}
 use Rattle.command_line.specs.Generals.{generals_in}
 use Rattle.command_line.specs.declared.tasks.Task.{Task}
-use Rattle.command_line.specs.declared.tasks.Task.TheVariants.{Check, CheckAssembly, Assemble, Disassemble, DisassembleUnits, Book, Explain, Form, Play, Muster, Audit}
+use Rattle.command_line.specs.declared.tasks.Task.TheVariants.{Check, Assemble, Disassemble, DisassembleUnits, Book, Explain, Form, Play, Muster, Audit}
 use Rattle.command_line.specs.declared.tasks.TaskError.{TaskError}
 use Rattle.command_line.specs.declared.tasks.TaskError.TheVariants.{Words, Traitors, Memory}
 use Rattle.command_line.proofs.AgreeLemmas.{Agrees}
@@ -74,8 +74,7 @@ none_found app words k lab fails apart =
 
 -- a task's words name generals where they have to
 names_well : (told : Told) (task : Task) → Says told task → names_generals told ≡ true
-names_well told (Check file) says = rw says refl
-names_well told (CheckAssembly file) says = rw says refl
+names_well told (Check file notation context) says = rw says refl
 names_well told (Assemble file spelling target) says = rw says refl
 names_well told (Disassemble file) says = rw says refl
 names_well told (DisassembleUnits file) says = rw says refl

@@ -86,108 +86,129 @@ module _ (name switch : Text) where
           (each_letter (takers switch None) false rows pending word (λ x rest next. letter_fails (held rows pending) x rest next _ refl)) ends flag);
     }
 
--- ---- `check` and `dis`
-
-check_known : (switched : Bool) (v : Option Text) (file : Text) → (is_some v ≡ true → false ≡ true) → is_task (one_file_with (codes "check") switched v file) ≡ true
-check_known switched None file none = refl
-check_known switched (Some v) file none = let bad : false ≡ true = none refl in absurd cc
+-- ---- `dis`
 
 dis_known : (switched : Bool) (v : Option Text) (file : Text) → (is_some v ≡ true → false ≡ true) → is_task (one_file_with (codes "dis") switched v file) ≡ true
 dis_known switched None file none = refl
 dis_known switched (Some v) file none = let bad : false ≡ true = none refl in absurd cc
 
-pub check_agrees : (words : List Text) → AgreesFrom (s (codes "check") (codes "asm") None) (walk_at 1 (held [] None)) words (flagged_in check_flags (codes "check") words)
-check_agrees = taken_agrees (codes "check") (codes "asm") None check_known (no_option (codes "check") (codes "asm") check_known refl refl refl)
-
 pub dis_agrees : (words : List Text) → AgreesFrom (s (codes "dis") (codes "units") None) (walk_at 1 (held [] None)) words (flagged_in dis_flags (codes "dis") words)
 dis_agrees = taken_agrees (codes "dis") (codes "units") None dis_known (no_option (codes "dis") (codes "units") dis_known refl refl refl)
 
--- ---- `book`
+-- ---- an option by its long name
 
 or_nothing : (kinds : Kinds) → or_else kinds [] ≡ kinds
 or_nothing [] = refl
 or_nothing (k ∷ kinds) = refl
 
-abbrev traitors : Option OptionName
-traitors = Some (long (codes "traitors"))
-
-abbrev book_rules : List Rule
-book_rules = takers (codes "explain") traitors
-
 abbrev named_by : Text → Text → Bool
 named_by name word = bytes_eq (flag_named name) (before_first is_equals word)
 
-module _ (position : ℕ) (rows : List Row) (pending : Option (Text × List Text)) (good : settle_fault book_rules false (held rows pending) ≡ []) where
-  abbrev book_here : Walk
-  book_here = walk_at position (held rows pending)
+-- the name is none of the other names, and a word by itself
+pub record IsOwn (switch own : Text) : Type 0 where
+  pub ends : is_end_of_flags (flag_named own) ≡ false
+  pub long_is : long_of (flag_named own) ≡ Some (own, None)
+  pub ends_before : (v : Text) → is_end_of_flags (flag_named own ++ 61 ∷ v) ≡ false
+  pub long_before : (v : Text) → long_of (flag_named own ++ 61 ∷ v) ≡ Some (own, Some v)
+  pub same : bytes_eq own own ≡ true
+  pub apart : bytes_eq switch own ≡ false
 
-  book_opens : turn_fault (s (codes "book") (codes "explain") traitors) [] book_here (codes "--traitors") ≡ []
-  unfolding clap_on_literals
-  book_opens = rw good refl
+module _ (name switch own : Text) where
+  abbrev option : Option OptionName
+  option = Some (long own)
 
-  book_opened : walked book_rules [] book_here (codes "--traitors") ≡ waiting_at (codes "book") (codes "explain") traitors position (now (codes "book") (codes "explain") traitors rows pending)
-  unfolding clap_on_literals
-  book_opened = refl
+  abbrev own_rules : List Rule
+  own_rules = takers switch option
 
-  book_attached : (v : Text) → turn_fault (s (codes "book") (codes "explain") traitors) [] book_here (codes "--traitors" ++ 61 ∷ v)
-      ≡ use_fault false (value_taker (long [])) (v ∷ []) (now (codes "book") (codes "explain") traitors rows pending)
-  unfolding clap_on_literals
-  book_attached v = rw good (or_nothing (use_fault false (value_taker (long [])) (v ∷ []) (now (codes "book") (codes "explain") traitors rows pending)))
+  abbrev own_shape : Shape
+  own_shape = s name switch option
 
-  book_walked : (v : Text) → walked book_rules [] book_here (codes "--traitors" ++ 61 ∷ v)
-      ≡ walk_at position (held (value_met (codes "book") (codes "explain") traitors v (now (codes "book") (codes "explain") traitors rows pending)) None)
-  unfolding clap_on_literals
-  book_walked v = refl
+  abbrev own_now : List Row → Option (Text × List Text) → List Row
+  own_now = now name switch option
 
-book_option : (word : Text) (v : Option Text) → option_in (flags (codes "book") (codes "explain") traitors) word ≡ Some v
-    → (named_by (codes "traitors") word ≡ true) × (long_value word ≡ v)
-book_option word v at = elim (true_or_false (named_by (codes "traitors") word)) [
-  | inl is ↦ let here : Some (long_value word) ≡ Some v = rw is at at in (is, cc)
-  | inr other ↦ let bad : None ≡ Some v = rw other at at in absurd cc
-]
+  module _ (is : IsOwn switch own) (position : ℕ) (rows : List Row) (pending : Option (Text × List Text)) (good : settle_fault own_rules false (held rows pending) ≡ []) where
+    abbrev here : Walk
+    here = walk_at position (held rows pending)
 
-book_other : (word : Text) → option_in (flags (codes "book") (codes "explain") traitors) word ≡ None → named_by (codes "traitors") word ≡ false
-book_other word at = elim (true_or_false (named_by (codes "traitors") word)) [
-  | inl is ↦ let bad : Some (long_value word) ≡ None = rw is at at in absurd cc
-  | inr other ↦ other
-]
+    opens : turn_fault own_shape [] here (flag_named own) ≡ []
+    opens = rw (is.ends, is.long_is, is.apart, is.same, good) refl
 
-book_letter : (h : Held) (x : ℕ) (rest : Text) (next : Held → Kinds) (b : Bool) → (104 == x) ≡ b
-    → Fails (short_fault book_rules false (arg_by_short book_rules x) rest h next)
-book_letter h x rest next true e = rw e (help_short_fails book_rules false h (Some help_taker) rest next (inr refl))
-book_letter h x rest next false e = rw e (λ e. cc)
+    opened : walked own_rules [] here (flag_named own) ≡ waiting_at name switch option position (own_now rows pending)
+    unfolding walked
+    opened = rw (is.ends, is.long_is, is.apart, is.same) refl
+
+    attached : (v : Text) → turn_fault own_shape [] here (flag_named own ++ 61 ∷ v) ≡ use_fault false (value_taker (long [])) (v ∷ []) (own_now rows pending)
+    attached v = rw (is.ends_before v, is.long_before v, is.apart, is.same, good) (or_nothing (use_fault false (value_taker (long [])) (v ∷ []) (own_now rows pending)))
+
+    goes_on : (v : Text) → walked own_rules [] here (flag_named own ++ 61 ∷ v) ≡ walk_at position (held (value_met name switch option v (own_now rows pending)) None)
+    unfolding walked
+    goes_on v = rw (is.ends_before v, is.long_before v, is.apart, is.same) refl
+
+  own_option : (word : Text) (v : Option Text) → option_in (flags name switch option) word ≡ Some v → (named_by own word ≡ true) × (long_value word ≡ v)
+  own_option word v at = elim (true_or_false (named_by own word)) [
+    | inl is ↦ let there : Some (long_value word) ≡ Some v = rw is at at in (is, cc)
+    | inr other ↦ let bad : None ≡ Some v = rw other at at in absurd cc
+  ]
+
+  own_other : (word : Text) → option_in (flags name switch option) word ≡ None → named_by own word ≡ false
+  own_other word at = elim (true_or_false (named_by own word)) [
+    | inl is ↦ let bad : Some (long_value word) ≡ None = rw is at at in absurd cc
+    | inr other ↦ other
+  ]
+
+  own_letter : (h : Held) (x : ℕ) (rest : Text) (next : Held → Kinds) (b : Bool) → (104 == x) ≡ b
+      → Fails (short_fault own_rules false (arg_by_short own_rules x) rest h next)
+  own_letter h x rest next true e = rw e (help_short_fails own_rules false h (Some help_taker) rest next (inr refl))
+  own_letter h x rest next false e = rw e (λ e. cc)
+
+  module _ (known : (switched : Bool) (v : Option Text) (file : Text) → (is_some v ≡ true → true ≡ true) → is_task (one_file_with name switched v file) ≡ true)
+      (switch_ends : is_end_of_flags (flag_named switch) ≡ false) (switch_long : long_of (flag_named switch) ≡ Some (switch, None)) (switch_same : bytes_eq switch switch ≡ true)
+      (own_is : IsOwn switch own) where
+    pub long_option : Words name switch option known
+    long_option = record {
+      ends = switch_ends;
+      long_is = switch_long;
+      same = switch_same;
+      some = λ word v at. refl;
+      awaits = λ position rows pending word ends other at good.
+          let is = own_option word None at in
+          subst (λ (w : Text). (turn_fault own_shape [] (walk_at position (held rows pending)) w ≡ [])
+          × (walked own_rules [] (walk_at position (held rows pending)) w ≡ waiting_at name switch option position (own_now rows pending)))
+          (sym (alone_is own word is.0 is.1)) (opens own_is position rows pending good, opened own_is position rows pending good);
+      attached = λ position rows pending word v ends other at good.
+          let is = own_option word (Some v) at in
+          subst (λ (w : Text). (turn_fault own_shape [] (walk_at position (held rows pending)) w
+          ≡ use_fault false (value_taker (long [])) (v ∷ []) (own_now rows pending))
+          × (walked own_rules [] (walk_at position (held rows pending)) w
+          ≡ walk_at position (held (value_met name switch option v (own_now rows pending)) None)))
+          (sym (attached_is own word v is.0 is.1)) (attached own_is position rows pending good v, goes_on own_is position rows pending good v);
+      unknown = λ position rows pending word ends other at flag.
+          flag_turn own_shape [] position idle rows pending word refl ends
+          (flag_word_fails own_rules false rows pending word
+          (other_long_fails switch option (held rows pending) word other
+          (λ n e. let same : own ≡ n = cc in subst (λ (m : Text). named_by m word ≡ false) same (own_other word at)))
+          (each_letter own_rules false rows pending word (λ x rest next. own_letter (held rows pending) x rest next _ refl)) ends flag);
+    }
+
+-- ---- `check` and `book`
+
+check_known : (switched : Bool) (v : Option Text) (file : Text) → (is_some v ≡ true → true ≡ true) → is_task (one_file_with (codes "check") switched v file) ≡ true
+check_known switched v file some = refl
+
+context_is : IsOwn (codes "asm") (codes "context")
+context_is = record { ends = refl; long_is = refl; ends_before = λ v. refl; long_before = λ v. refl; same = refl; apart = refl }
+
+pub check_agrees : (words : List Text) → AgreesFrom (s (codes "check") (codes "asm") (Some (long (codes "context")))) (walk_at 1 (held [] None)) words (flagged_in check_flags (codes "check") words)
+check_agrees = taken_agrees (codes "check") (codes "asm") (Some (long (codes "context"))) check_known (long_option (codes "check") (codes "asm") (codes "context") check_known refl refl refl context_is)
 
 book_known : (switched : Bool) (v : Option Text) (file : Text) → (is_some v ≡ true → true ≡ true) → is_task (one_file_with (codes "book") switched v file) ≡ true
 book_known switched v file some = refl
 
-book_words : Words (codes "book") (codes "explain") traitors book_known
-book_words = record {
-  ends = refl;
-  long_is = refl;
-  same = refl;
-  some = λ word v at. refl;
-  awaits = λ position rows pending word ends other at good.
-      let is = book_option word None at in
-      subst (λ (w : Text). (turn_fault (s (codes "book") (codes "explain") traitors) [] (walk_at position (held rows pending)) w ≡ [])
-      × (walked book_rules [] (walk_at position (held rows pending)) w ≡ waiting_at (codes "book") (codes "explain") traitors position (now (codes "book") (codes "explain") traitors rows pending)))
-      (sym (alone_is (codes "traitors") word is.0 is.1)) (book_opens position rows pending good, book_opened position rows pending good);
-  attached = λ position rows pending word v ends other at good.
-      let is = book_option word (Some v) at in
-      subst (λ (w : Text). (turn_fault (s (codes "book") (codes "explain") traitors) [] (walk_at position (held rows pending)) w
-      ≡ use_fault false (value_taker (long [])) (v ∷ []) (now (codes "book") (codes "explain") traitors rows pending))
-      × (walked book_rules [] (walk_at position (held rows pending)) w
-      ≡ walk_at position (held (value_met (codes "book") (codes "explain") traitors v (now (codes "book") (codes "explain") traitors rows pending)) None)))
-      (sym (attached_is (codes "traitors") word v is.0 is.1)) (book_attached position rows pending good v, book_walked position rows pending good v);
-  unknown = λ position rows pending word ends other at flag.
-      flag_turn (s (codes "book") (codes "explain") traitors) [] position idle rows pending word refl ends
-      (flag_word_fails book_rules false rows pending word
-      (other_long_fails (codes "explain") traitors (held rows pending) word other
-      (λ own e. let is : codes "traitors" ≡ own = cc in subst (λ (n : Text). named_by n word ≡ false) is (book_other word at)))
-      (each_letter book_rules false rows pending word (λ x rest next. book_letter (held rows pending) x rest next _ refl)) ends flag);
-}
+traitors_is : IsOwn (codes "explain") (codes "traitors")
+traitors_is = record { ends = refl; long_is = refl; ends_before = λ v. refl; long_before = λ v. refl; same = refl; apart = refl }
 
-pub book_agrees : (words : List Text) → AgreesFrom (s (codes "book") (codes "explain") traitors) (walk_at 1 (held [] None)) words (flagged_in book_flags (codes "book") words)
-book_agrees = taken_agrees (codes "book") (codes "explain") traitors book_known book_words
+pub book_agrees : (words : List Text) → AgreesFrom (s (codes "book") (codes "explain") (Some (long (codes "traitors")))) (walk_at 1 (held [] None)) words (flagged_in book_flags (codes "book") words)
+book_agrees = taken_agrees (codes "book") (codes "explain") (Some (long (codes "traitors"))) book_known (long_option (codes "book") (codes "explain") (codes "traitors") book_known refl refl refl traitors_is)
 
 -- ---- `asm`
 

@@ -11,19 +11,10 @@ told_with name file second third switched value =
 by_name : (P : Told → Type 0) (told : Told) (name : Text) → told.name ≡ name → P (record told { name = name }) → P told
 by_name P told name is p = subst (λ (n : Text). P (record told { name = n })) (sym is) p
 
--- ---- `check` and `dis`: a file, and perhaps the switch
+-- ---- `dis`: a file, and perhaps the switch
 
 abbrev Switched : Text → Told → Type 0
 Switched name told = is_task told ≡ true → told ≡ one_file_with name told.switched None told.file
-
-check_by : (file : Text) (second third : Option Text) (switched : Bool) (value : Option Text) → Switched (codes "check") (told_with (codes "check") file second third switched value)
-check_by file None None switched None is = refl
-check_by file (Some x) third switched value is = absurd cc
-check_by file None (Some x) switched value is = absurd cc
-check_by file None None switched (Some x) is = absurd cc
-
-pub check_told : (told : Told) → told.name ≡ codes "check" → Switched (codes "check") told
-check_told told is = by_name (Switched (codes "check")) told (codes "check") is (check_by told.file told.second told.third told.switched told.value)
 
 dis_by : (file : Text) (second third : Option Text) (switched : Bool) (value : Option Text) → Switched (codes "dis") (told_with (codes "dis") file second third switched value)
 dis_by file None None switched None is = refl
@@ -34,10 +25,18 @@ dis_by file None None switched (Some x) is = absurd cc
 pub dis_told : (told : Told) → told.name ≡ codes "dis" → Switched (codes "dis") told
 dis_told told is = by_name (Switched (codes "dis")) told (codes "dis") is (dis_by told.file told.second told.third told.switched told.value)
 
--- ---- `asm` and `book`: a file, perhaps the switch and the option
+-- ---- `check`, `asm` and `book`: a file, perhaps the switch and the option
 
 abbrev Valued : Text → Told → Type 0
 Valued name told = is_task told ≡ true → told ≡ one_file_with name told.switched told.value told.file
+
+check_by : (file : Text) (second third : Option Text) (switched : Bool) (value : Option Text) → Valued (codes "check") (told_with (codes "check") file second third switched value)
+check_by file None None switched value is = refl
+check_by file (Some x) third switched value is = absurd cc
+check_by file None (Some x) switched value is = absurd cc
+
+pub check_told : (told : Told) → told.name ≡ codes "check" → Valued (codes "check") told
+check_told told is = by_name (Valued (codes "check")) told (codes "check") is (check_by told.file told.second told.third told.switched told.value)
 
 asm_by : (file : Text) (second third : Option Text) (switched : Bool) (value : Option Text) → Valued (codes "asm") (told_with (codes "asm") file second third switched value)
 asm_by file None None switched value is = refl

@@ -99,7 +99,7 @@ form_in words = option_and_then three (files_in words)
 -- ---- one file, with a switch, and perhaps an option
 
 abbrev pub check_flags : Flags
-check_flags = record { switch = codes "asm"; option = None }
+check_flags = record { switch = codes "asm"; option = Some (long (codes "context")) }
 
 abbrev pub asm_flags : Flags
 asm_flags = record { switch = codes "raw"; option = Some (short 111) }
@@ -148,7 +148,7 @@ names_generals told = not (is_named (codes "book") told.name) || option_map_or (
 abbrev pub asked : List Text → Option Told
 asked words = option_and_then (λ told. if names_generals told then Some told else None) (spelt words)
 
--- only `table` has a third word, and must, and a second; `play` may have a second, and `audit` must; only `book` and `asm` have an option
+-- only `table` has a third word, and must, and a second; `play` may have a second, and `audit` must; only `check`, `asm` and `book` have an option
 abbrev pub is_alone : Told → Bool
 is_alone told = is_none told.second && is_none told.third
 
@@ -157,8 +157,8 @@ is_plain told = not told.switched && is_none told.value
 
 abbrev pub is_task : Told → Bool
 is_task told =
-    ((is_named (codes "check") told.name || is_named (codes "dis") told.name) && is_alone told && is_none told.value)
-    || ((is_named (codes "asm") told.name || is_named (codes "book") told.name) && is_alone told)
+    ((is_named (codes "check") told.name || is_named (codes "asm") told.name || is_named (codes "book") told.name) && is_alone told)
+    || (is_named (codes "dis") told.name && is_alone told && is_none told.value)
     || (is_named (codes "muster") told.name && is_alone told && is_plain told)
     || (is_named (codes "table") told.name && is_some told.second && is_some told.third && is_plain told)
     || (is_play told.name && is_none told.third && is_plain told)

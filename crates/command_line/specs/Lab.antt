@@ -30,7 +30,11 @@ abbrev pub switch_rule : Text → Rule
 switch_rule name =
     record (new_rule (codes "switch")) { long = Some name; action = Some SetTrue }
 
--- the options `--traitors G,H` and `-o FILE`
+-- the options `--context FILE`, `--traitors G,H` and `-o FILE`
+abbrev pub context_rule : Rule
+context_rule =
+    record (new_rule (codes "value")) { long = Some (codes "context"); value_names = 1 }
+
 abbrev pub traitors_rule : Rule
 traitors_rule =
     record (new_rule (codes "value")) { long = Some (codes "traitors"); value_names = 1 }
@@ -44,7 +48,7 @@ abbrev pub switched_app : Text → Text → App
 switched_app name switch = with_rule (file_app name) (switch_rule switch)
 
 abbrev pub check_app : App
-check_app = switched_app (codes "check") (codes "asm")
+check_app = with_rule (switched_app (codes "check") (codes "asm")) context_rule
 
 abbrev pub asm_app : App
 asm_app = with_rule (switched_app (codes "asm") (codes "raw")) target_rule

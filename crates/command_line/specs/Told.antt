@@ -3,10 +3,12 @@ use Rattle.std.specs.Prelude.{⊤, ℕ, ◌≡◌, Bool, true, false, List, [], 
 use Rattle.std.specs.String.{string_bytes}
 use Rattle.clap.specs.declared.error.Error.{Error}
 use Rattle.command_line.specs.Generals.{generals_in}
+use Rattle.command_line.specs.declared.tasks.Notation.{Notation}
+use Rattle.command_line.specs.declared.tasks.Notation.TheVariants.{Bytecode, Assembly}
 use Rattle.command_line.specs.declared.tasks.Spelling.{Spelling}
 use Rattle.command_line.specs.declared.tasks.Spelling.TheVariants.{Hex, Raw}
 use Rattle.command_line.specs.declared.tasks.Task.{Task}
-use Rattle.command_line.specs.declared.tasks.Task.TheVariants.{Check, CheckAssembly, Assemble, Disassemble, DisassembleUnits, Book, Explain, Form, Play, Muster, Audit}
+use Rattle.command_line.specs.declared.tasks.Task.TheVariants.{Check, Assemble, Disassemble, DisassembleUnits, Book, Explain, Form, Play, Muster, Audit}
 use Rattle.command_line.specs.declared.tasks.TaskError.{TaskError}
 use Rattle.command_line.specs.declared.tasks.TaskError.TheVariants.{Words, Traitors, Memory}
 
@@ -52,6 +54,10 @@ named switched (Some word) = generals_in word
 named true None = Some []
 named false None = None
 
+abbrev pub is_assembly : Notation → Bool
+is_assembly Bytecode = false
+is_assembly Assembly = true
+
 abbrev pub is_raw : Spelling → Bool
 is_raw Hex = false
 is_raw Raw = true
@@ -64,8 +70,8 @@ IsExplained told file traitors =
 
 -- the words say this task; of an explanation any words that name the same generals, with the switch or without it
 abbrev pub Says : Told → Task → Type 0
-Says told (Check file) = told ≡ one_file (codes "check") (string_bytes file)
-Says told (CheckAssembly file) = told ≡ one_file_with (codes "check") true None (string_bytes file)
+Says told (Check file notation context) =
+    told ≡ one_file_with (codes "check") (is_assembly notation) (option_map string_bytes context) (string_bytes file)
 Says told (Assemble file spelling target) =
     told ≡ one_file_with (codes "asm") (is_raw spelling) (option_map string_bytes target) (string_bytes file)
 Says told (Disassemble file) = told ≡ one_file (codes "dis") (string_bytes file)
@@ -80,8 +86,7 @@ Says told (Audit scenario chronicle) = told ≡ audited (string_bytes scenario) 
 
 -- the names of the task's files: of its only or first, of the second, and of the one that it writes
 abbrev pub file_of : Task → Option Text
-file_of (Check file) = Some (string_bytes file)
-file_of (CheckAssembly file) = Some (string_bytes file)
+file_of (Check file notation context) = Some (string_bytes file)
 file_of (Assemble file spelling target) = Some (string_bytes file)
 file_of (Disassemble file) = Some (string_bytes file)
 file_of (DisassembleUnits file) = Some (string_bytes file)
@@ -93,6 +98,7 @@ file_of (Muster scenario) = Some (string_bytes scenario)
 file_of (Audit scenario chronicle) = Some (string_bytes scenario)
 
 abbrev pub second_of : Task → Option Text
+second_of (Check file notation context) = option_map string_bytes context
 second_of (Play scenario schedule) = option_map string_bytes schedule
 second_of (Audit scenario chronicle) = Some (string_bytes chronicle)
 second_of _ = None

@@ -1,7 +1,7 @@
 ghost use Rattle.std.specs.Prelude.{◌≡◌, IfOk, false};
 ghost use Rattle.clap.specs.Words.{app_of, rule_of};
 ghost use Rattle.clap.specs.declared.builder.command.Command.TheViews.{out-Command};
-ghost use Rattle.command_line.specs.Lab.{asm_app, audit_app, bare_app, book_app, check_app, dis_app, files_app, lab_app, play_app, programs_app, required_rule, schedule_rule, switch_rule, table_app, target_rule, traitors_rule, with_audit_command, with_file_command, with_play_command};
+ghost use Rattle.command_line.specs.Lab.{asm_app, audit_app, bare_app, book_app, check_app, context_rule, dis_app, files_app, lab_app, play_app, programs_app, required_rule, schedule_rule, switch_rule, table_app, target_rule, traitors_rule, with_audit_command, with_file_command, with_play_command};
 
 use clap::{Arg, ArgAction, Command};
 use std::alloc::{AllocError, Global};
@@ -61,7 +61,8 @@ fn check_command<'a>(alloc: Global) -> Result<Command<'a>, AllocError>
     Command::new(alloc, "check")
         .about("Verifies raw bytecode and runs it")
         .arg(file)?
-        .arg(asm)
+        .arg(asm)?
+        .arg(context_argument(alloc))
 }
 
 /// The subcommand `asm`.
@@ -184,6 +185,17 @@ fn switch_argument<'a>(alloc: Global, name: &'a str, help: &'a str) -> Arg<'a>
         .long(name)
         .action(ArgAction::SetTrue)
         .help(help)
+}
+
+/// The option of a context.
+fn context_argument<'a>(alloc: Global) -> Arg<'a>
+    ensures rule { rule_of result ≡ context_rule }
+    ensures local { result.global ≡ false }
+{
+    Arg::new(alloc, "value")
+        .long("context")
+        .value_name("CONTEXT")
+        .help("Runs it in the context that this TOML tells, and prints what it put and changed")
 }
 
 /// The option of the generals that are named as traitors.

@@ -6,10 +6,10 @@ ghost use Rattle.clap.specs.Words.{subcommand_rows_of};
 ghost use Rattle.command_line.specs.Asked.{is_named, is_task};
 ghost use Rattle.command_line.specs.Lab.{task_met};
 ghost use Rattle.command_line.specs.Met.{told_by};
-ghost use Rattle.command_line.specs.Told.{IsRefusedWord, Says, is_raw};
+ghost use Rattle.command_line.specs.Told.{IsRefusedWord, Says, is_assembly, is_raw};
 
 use crate::generals::{GeneralsError, generals};
-use crate::tasks::{Spelling, Task, TaskError};
+use crate::tasks::{Notation, Spelling, Task, TaskError};
 use clap::ArgMatches;
 use std::alloc::{AllocError, Global};
 
@@ -58,8 +58,11 @@ impl<'a> Met<'a> {
     {
         let file = String::from_str(alloc, self.file)?;
         Ok(match self.name {
-            "check" if self.switched => Task::CheckAssembly(file),
-            "check" => Task::Check(file),
+            "check" => Task::Check {
+                program: file,
+                notation: notation(self.switched),
+                context: copied(alloc, self.value)?,
+            },
             "asm" => Task::Assemble {
                 text: file,
                 spelling: spelling(self.switched),
@@ -118,6 +121,17 @@ fn is_true(text: Option<&str>) -> bool
     ensures { result ≡ option_map_or (λ t. bytes_eq (codes "true") t.now) text.entry false }
 {
     text == Some("true")
+}
+
+/// How a program is written with the switch, and without it.
+fn notation(switched: bool) -> Notation
+    ensures { is_assembly result ≡ switched }
+{
+    if switched {
+        Notation::Assembly
+    } else {
+        Notation::Bytecode
+    }
 }
 
 /// How bytecode is written with the switch, and without it.

@@ -4,10 +4,12 @@ use std::alloc::AllocError;
 /// What the words ask for: a subcommand with the names of its files, and what its flags say.
 #[derive(Debug, Drop, PartialEq, Eq)]
 pub enum Task {
-    /// Decode, verify and run raw bytecode.
-    Check(String),
-    /// Translate assembly, and verify and run what it says.
-    CheckAssembly(String),
+    /// Verify and run a program, in the context that a second file tells where one is named.
+    Check {
+        program: String,
+        notation: Notation,
+        context: Option<String>,
+    },
     /// Translate assembly into bytecode, and write it in this spelling to another file where one is named.
     Assemble {
         text: String,
@@ -45,6 +47,15 @@ pub enum Task {
     },
 }
 
+/// How a program is written.
+#[derive(Clone, Copy, Debug, PartialEq, Eq)]
+pub enum Notation {
+    /// As raw bytecode.
+    Bytecode,
+    /// As assembly text.
+    Assembly,
+}
+
 /// How bytecode is written.
 #[derive(Clone, Copy, Debug, PartialEq, Eq)]
 pub enum Spelling {
@@ -63,8 +74,7 @@ impl Task {
         ensures { option_map (λ file. file.now) result ≡ file_of self.now }
     {
         match self {
-            Task::Check(file)
-            | Task::CheckAssembly(file)
+            Task::Check { program: file, .. }
             | Task::Assemble { text: file, .. }
             | Task::Disassemble(file)
             | Task::DisassembleUnits(file)
@@ -82,6 +92,7 @@ impl Task {
         ensures { option_map (λ file. file.now) result ≡ second_of self.now }
     {
         match self {
+            Task::Check { context, .. } => context.as_deref(),
             Task::Play { schedule, .. } => schedule.as_deref(),
             Task::Audit { chronicle, .. } => Some(chronicle.as_str()),
             _ => None,

@@ -4,11 +4,11 @@ use Rattle.std.specs.Prelude.{Option, None, Some, IfSome, Result, Ok, Err, OnErr
 use Rattle.std.specs.Fmt.{◌++?◌, with_newline}
 use Rattle.std.specs.Io.KnownBytes.{Appends}
 use Rattle.command_line.specs.declared.tasks.Task.{Task}
-use Rattle.round.specs.Scenario.{Scenario}
 use Rattle.lab.specs.declared.refusal.Refusal.{Refusal}
 use Rattle.lab.specs.declared.refusal.Refusal.TheVariants as refusal
 use Rattle.lab.specs.declared.fault.Fault.{Fault}
 use Rattle.lab.specs.declared.fault.Fault.TheVariants.{Read, Text, Refused, Write, Memory}
+use Rattle.lab.specs.declared.outcome.Outcome.{Outcome}
 use Rattle.lab.specs.declared.seeming.Likeness.{Likeness}
 use Rattle.lab.specs.Seeming.{seems_behind}
 use Rattle.lab.specs.Telling.{refusal_text}
@@ -29,6 +29,7 @@ refusal_told name tells (refusal.Verifier fault) likeness other told = told
 refusal_told name tells (refusal.Assembly error) likeness other told = told
 refusal_told name tells (refusal.Table error) likeness other told = told
 refusal_told name tells (refusal.Scenario error) likeness other told = told
+refusal_told name tells (refusal.Setting error) likeness other told = told
 refusal_told name tells (refusal.Trace error) likeness other told = told
 refusal_told name tells (refusal.Threads error) likeness other told = told
 refusal_told name tells refusal.NotText likeness other told = absurd (other refl)
@@ -60,11 +61,11 @@ turned_down unread refused name fails old new Memory why told one =
 prevented : (unread second_unread fails : Type 0) (task : Task) (files : Files) (old new : Option (List ℕ)) (fault : Fault)
     → Prevents unread second_unread task files fault → fails ⊎ IfSome (with_newline (fault_text fault)) (Appends old new) → status_of fault ≡ 1
     → IsTurnedDown unread (IsRefused task files.first) (first_name task) (Tells fails old new)
-    ⊎ ((s : Scenario) × IsTaken task files.first s × IsTurnedDown second_unread (NoLikeness (IsRefusedLater task s files.second)) (second_name task) (Tells fails old new))
+    ⊎ ((more : Outcome) × IsTaken task files.first more × IsTurnedDown second_unread (NoLikeness (IsRefusedLater more files.second)) (second_name task) (Tells fails old new))
 prevented unread second_unread fails task files old new fault (inl why) told one =
     inl (turned_down unread (IsRefused task files.first) (first_name task) fails old new fault why told one)
-prevented unread second_unread fails task files old new fault (inr (s, taken, why)) told one =
-    inr (s, taken, turned_down second_unread (NoLikeness (IsRefusedLater task s files.second)) (second_name task) fails old new fault why told one)
+prevented unread second_unread fails task files old new fault (inr (more, taken, why)) told one =
+    inr (more, taken, turned_down second_unread (NoLikeness (IsRefusedLater more files.second)) (second_name task) fails old new fault why told one)
 
 -- each fault but want of memory
 pub fault_ends : (unread second_unread unwritten fails : Type 0) (task : Task) (files : Files) (old new : Option (List ℕ)) (kept : Type 0) (fault : Fault)

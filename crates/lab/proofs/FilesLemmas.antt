@@ -2,17 +2,19 @@
 use Rattle.std.proofs.Common.{ℕ, ◌≡◌, ◌∙◌, List, [], ap, inr, refl, subst, sym}
 use Rattle.std.specs.Borrow.{Bor}
 use Rattle.std.specs.Prelude.{Option, None, Some, Ok, option_map, unwrap_or}
+use Rattle.insn.specs.declared.insn.Insn.{Insn}
 use Rattle.command_line.specs.Told.{file_of, second_of}
 use Rattle.command_line.specs.declared.tasks.Task.{Task}
-use Rattle.command_line.specs.declared.tasks.Task.TheVariants.{Check, CheckAssembly, Assemble, Disassemble, DisassembleUnits, Book, Explain, Form, Play, Muster, Audit}
+use Rattle.command_line.specs.declared.tasks.Task.TheVariants.{Check, Assemble, Disassemble, DisassembleUnits, Book, Explain, Form, Play, Muster, Audit}
 use Rattle.round.specs.Scenario.{Scenario}
 use Rattle.world.specs.declared.schedule.Repeat.{Repeat}
 use Rattle.trace.specs.Schedules.{schedule_told}
-use Rattle.lab.specs.Answers.{ComesTo, GoesOn, Prints}
+use Rattle.lab.specs.Answers.{ComesTo, GoesOn, IsTriedBy, Prints}
 use Rattle.lab.specs.Campaigns.{IsAudited, IsMustered}
 use Rattle.lab.specs.Faults.{Prevents, Stops}
-use Rattle.lab.specs.Serving.{AreBytes, AreSecond, AreSecondBytes, Files, IsAnswer, IsAuditOf, IsChronicleRefused, IsPlayedBy, IsRefusedLater, IsScheduleOf, IsScheduleRefused, NoLikeness, first_name, second_name}
+use Rattle.lab.specs.Serving.{AreBytes, AreSecond, AreSecondBytes, Files, IsAnswer, IsAuditOf, IsPlayedBy, IsRefusedLater, IsScheduleOf, IsTrialOf, NoLikeness, first_name, second_name}
 use Rattle.lab.specs.declared.fault.Fault.{Fault}
+use Rattle.lab.specs.declared.outcome.Outcome.{Outcome}
 use Rattle.lab.specs.declared.outcome.Outcome.TheVariants as outcome
 
 -- the schedule that the second file tells
@@ -41,8 +43,8 @@ second_bytes (Some known) bytes are = (Some bytes, are, refl)
 -- an answer by the second file's schedule
 pub answered_played : (task : Task) (files : Files) (first text : List ℕ) (s : Scenario) → AreBytes files.first first
     → ComesTo task first (outcome.Play s) → IsPlayedBy files.second s text → IsAnswer task files text
-answered_played (Check file) files first text s are comes by = absurd comes
-answered_played (CheckAssembly file) files first text s are comes by = absurd comes
+answered_played (Check file notation None) files first text s are comes by = absurd comes
+answered_played (Check file notation (Some context)) files first text s are comes by = absurd comes
 answered_played (Assemble file spelling target) files first text s are comes by = absurd comes
 answered_played (Disassemble file) files first text s are comes by = absurd comes
 answered_played (DisassembleUnits file) files first text s are comes by = absurd comes
@@ -57,8 +59,8 @@ answered_played (Audit scenario chronicle) files first text s are comes by = abs
 -- an answer of threads
 pub answered_mustered : (task : Task) (files : Files) (first text : List ℕ) (s : Scenario) → AreBytes files.first first
     → ComesTo task first (outcome.Muster s) → IsMustered s text → IsAnswer task files text
-answered_mustered (Check file) files first text s are comes mustered = absurd comes
-answered_mustered (CheckAssembly file) files first text s are comes mustered = absurd comes
+answered_mustered (Check file notation None) files first text s are comes mustered = absurd comes
+answered_mustered (Check file notation (Some context)) files first text s are comes mustered = absurd comes
 answered_mustered (Assemble file spelling target) files first text s are comes mustered = absurd comes
 answered_mustered (Disassemble file) files first text s are comes mustered = absurd comes
 answered_mustered (DisassembleUnits file) files first text s are comes mustered = absurd comes
@@ -73,8 +75,8 @@ answered_mustered (Audit scenario chronicle) files first text s are comes muster
 -- an answer on the second file
 pub answered_audited : (task : Task) (files : Files) (first text : List ℕ) (s : Scenario) → AreBytes files.first first
     → ComesTo task first (outcome.Audit s) → IsAuditOf files.second s text → IsAnswer task files text
-answered_audited (Check file) files first text s are comes audit = absurd comes
-answered_audited (CheckAssembly file) files first text s are comes audit = absurd comes
+answered_audited (Check file notation None) files first text s are comes audit = absurd comes
+answered_audited (Check file notation (Some context)) files first text s are comes audit = absurd comes
 answered_audited (Assemble file spelling target) files first text s are comes audit = absurd comes
 answered_audited (Disassemble file) files first text s are comes audit = absurd comes
 answered_audited (DisassembleUnits file) files first text s are comes audit = absurd comes
@@ -87,55 +89,29 @@ answered_audited (Audit scenario chronicle) files first text s are comes (bytes,
     let second = second_bytes files.second bytes known in
     (first, are, (second.0, second.1, (s, comes, subst (λ (own : List ℕ). IsAudited s own text) second.2 audited)))
 
--- what stops a task behind its first file: its schedule, the threads, or the chronicle
-stopped_playing : (task : Task) (unread : Type 0) (first name : List ℕ) (s : Scenario) (known : Option (Option (List ℕ))) (fault : Fault)
-    → ComesTo task first (outcome.Play s) → Stops unread (NoLikeness (IsScheduleRefused known)) name fault
-    → GoesOn task first s × Stops unread (NoLikeness (IsRefusedLater task s known)) name fault
-stopped_playing (Check file) unread first name s known fault comes why = absurd comes
-stopped_playing (CheckAssembly file) unread first name s known fault comes why = absurd comes
-stopped_playing (Assemble file spelling target) unread first name s known fault comes why = absurd comes
-stopped_playing (Disassemble file) unread first name s known fault comes why = absurd comes
-stopped_playing (DisassembleUnits file) unread first name s known fault comes why = absurd comes
-stopped_playing (Book file) unread first name s known fault comes why = absurd comes
-stopped_playing (Explain file traitors) unread first name s known fault comes why = absurd comes
-stopped_playing (Form n m c) unread first name s known fault comes why = absurd comes
-stopped_playing (Play scenario listing) unread first name s known fault comes why = (comes, why)
-stopped_playing (Muster scenario) unread first name s known fault comes why = absurd comes
-stopped_playing (Audit scenario chronicle) unread first name s known fault comes why = absurd comes
+-- an answer in the second file's setting
+pub answered_tried : (task : Task) (files : Files) (first text : List ℕ) (program : List Insn) → AreBytes files.first first
+    → ComesTo task first (outcome.Trial program) → IsTrialOf files.second program text → IsAnswer task files text
+answered_tried (Check file notation None) files first text program are comes tried = absurd comes
+answered_tried (Check file notation (Some context)) files first text program are comes (bytes, known, tried) =
+    let second = second_bytes files.second bytes known in
+    (first, are, (second.0, second.1, (program, comes.0, comes.1, subst (λ (own : List ℕ). IsTriedBy own program text) second.2 tried)))
+answered_tried (Assemble file spelling target) files first text program are comes tried = absurd comes
+answered_tried (Disassemble file) files first text program are comes tried = absurd comes
+answered_tried (DisassembleUnits file) files first text program are comes tried = absurd comes
+answered_tried (Book file) files first text program are comes tried = absurd comes
+answered_tried (Explain file traitors) files first text program are comes tried = absurd comes
+answered_tried (Form n m c) files first text program are comes tried = absurd comes
+answered_tried (Play scenario listing) files first text program are comes tried = absurd comes
+answered_tried (Muster scenario) files first text program are comes tried = absurd comes
+answered_tried (Audit scenario chronicle) files first text program are comes tried = absurd comes
 
-stopped_auditing : (task : Task) (unread : Type 0) (first name : List ℕ) (s : Scenario) (known : Option (Option (List ℕ))) (fault : Fault)
-    → ComesTo task first (outcome.Audit s) → Stops unread (NoLikeness (IsChronicleRefused s known)) name fault
-    → GoesOn task first s × Stops unread (NoLikeness (IsRefusedLater task s known)) name fault
-stopped_auditing (Check file) unread first name s known fault comes why = absurd comes
-stopped_auditing (CheckAssembly file) unread first name s known fault comes why = absurd comes
-stopped_auditing (Assemble file spelling target) unread first name s known fault comes why = absurd comes
-stopped_auditing (Disassemble file) unread first name s known fault comes why = absurd comes
-stopped_auditing (DisassembleUnits file) unread first name s known fault comes why = absurd comes
-stopped_auditing (Book file) unread first name s known fault comes why = absurd comes
-stopped_auditing (Explain file traitors) unread first name s known fault comes why = absurd comes
-stopped_auditing (Form n m c) unread first name s known fault comes why = absurd comes
-stopped_auditing (Play scenario listing) unread first name s known fault comes why = absurd comes
-stopped_auditing (Muster scenario) unread first name s known fault comes why = absurd comes
-stopped_auditing (Audit scenario chronicle) unread first name s known fault comes why = (comes, why)
-
--- why it has no answer then
-pub prevented_playing : (task : Task) (files : Files) (unread second_unread : Type 0) (first name : List ℕ) (s : Scenario) (fault : Fault)
-    → AreBytes files.first first → ComesTo task first (outcome.Play s) → name ≡ second_name task
-    → Stops second_unread (NoLikeness (IsScheduleRefused files.second)) name fault → Prevents unread second_unread task files fault
-prevented_playing task files unread second_unread first name s fault are comes named why =
-    let own : Stops second_unread (NoLikeness (IsScheduleRefused files.second)) (second_name task) fault =
-    subst (λ (n : List ℕ). Stops second_unread (NoLikeness (IsScheduleRefused files.second)) n fault) named why in
-    let stopped = stopped_playing task second_unread first (second_name task) s files.second fault comes own in
-    inr (s, (first, are, stopped.0), stopped.1)
-
-pub prevented_auditing : (task : Task) (files : Files) (unread second_unread : Type 0) (first name : List ℕ) (s : Scenario) (fault : Fault)
-    → AreBytes files.first first → ComesTo task first (outcome.Audit s) → name ≡ second_name task
-    → Stops second_unread (NoLikeness (IsChronicleRefused s files.second)) name fault → Prevents unread second_unread task files fault
-prevented_auditing task files unread second_unread first name s fault are comes named why =
-    let own : Stops second_unread (NoLikeness (IsChronicleRefused s files.second)) (second_name task) fault =
-    subst (λ (n : List ℕ). Stops second_unread (NoLikeness (IsChronicleRefused s files.second)) n fault) named why in
-    let stopped = stopped_auditing task second_unread first (second_name task) s files.second fault comes own in
-    inr (s, (first, are, stopped.0), stopped.1)
+-- why a task has no answer behind a first file with which it goes on
+pub prevented_later : (task : Task) (files : Files) (unread second_unread : Type 0) (first name : List ℕ) (more : Outcome) (fault : Fault)
+    → AreBytes files.first first → GoesOn task first more → name ≡ second_name task
+    → Stops second_unread (NoLikeness (IsRefusedLater more files.second)) name fault → Prevents unread second_unread task files fault
+prevented_later task files unread second_unread first name more fault are goes named why =
+    inr (more, (first, are, goes), subst (λ (n : List ℕ). Stops second_unread (NoLikeness (IsRefusedLater more files.second)) n fault) named why)
 
 -- the name of the second file, empty where the words name none
 unwrapped : (o : Option (Bor (List ℕ))) (empty : Bor (List ℕ)) → empty.now ≡ [] → (unwrap_or o empty).now ≡ unwrap_or (option_map (λ (file : Bor (List ℕ)). file.now) o) []

@@ -8,7 +8,7 @@ use Rattle.lab.specs.Refusals.{Refuses}
 use Rattle.lab.specs.Seeming.{likeness_of}
 use Rattle.lab.specs.Serving.{AreBytes, Files, IsRefused, first_name}
 use Rattle.lab.specs.declared.refusal.Refusal.{Refusal}
-use Rattle.lab.specs.declared.refusal.Refusal.TheVariants.{Codec, Verifier, Assembly, Table, Scenario, Trace, Threads, NotText, Memory}
+use Rattle.lab.specs.declared.refusal.Refusal.TheVariants.{Codec, Verifier, Assembly, Table, Scenario, Setting, Trace, Threads, NotText, Memory}
 
 -- what the file's bytes seem to be
 likeness_known : (known : Option (List ℕ)) (bytes : List ℕ) (refusal : Refusal) → AreBytes known bytes → IfSome known (λ all. likeness_of refusal bytes ≡ likeness_of refusal all)
@@ -27,6 +27,7 @@ stopped_first task unread known bytes (Verifier error) file are named refuses = 
 stopped_first task unread known bytes (Assembly error) file are named refuses = ((λ e. cc), refused_first task known bytes (Assembly error) are refuses (λ e. cc))
 stopped_first task unread known bytes (Table error) file are named refuses = ((λ e. cc), refused_first task known bytes (Table error) are refuses (λ e. cc))
 stopped_first task unread known bytes (Scenario error) file are named refuses = ((λ e. cc), refused_first task known bytes (Scenario error) are refuses (λ e. cc))
+stopped_first task unread known bytes (Setting error) file are named refuses = ((λ e. cc), refused_first task known bytes (Setting error) are refuses (λ e. cc))
 stopped_first task unread known bytes (Trace error) file are named refuses = ((λ e. cc), refused_first task known bytes (Trace error) are refuses (λ e. cc))
 stopped_first task unread known bytes (Threads error) file are named refuses = ((λ e. cc), refused_first task known bytes (Threads error) are refuses (λ e. cc))
 stopped_first task unread known bytes NotText file are named refuses = (refused_first task known bytes NotText are refuses (λ e. cc), named)

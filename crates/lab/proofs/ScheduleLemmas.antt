@@ -50,6 +50,7 @@ refused_as unread known all file (refusal.Verifier fault) are refuses = absurd r
 refused_as unread known all file (refusal.Assembly error) are refuses = absurd refuses
 refused_as unread known all file (refusal.Table error) are refuses = absurd refuses
 refused_as unread known all file (refusal.Scenario error) are refuses = absurd refuses
+refused_as unread known all file (refusal.Setting error) are refuses = absurd refuses
 refused_as unread known all file (refusal.Trace error) are refuses = (λ e. cc, ((λ e. cc, (all, are, refuses)), refl))
 refused_as unread known all file (refusal.Threads error) are refuses = absurd refuses
 refused_as unread known all file refusal.NotText are refuses = (((λ e. cc, (all, are, refuses)), refl), refl)

@@ -1,5 +1,5 @@
 -- What a task prints on files of some bytes.
-use Rattle.std.specs.Prelude.{ℕ, ◌≡◌, true, List, Option, Some, Ok, length, string_bytes}
+use Rattle.std.specs.Prelude.{ℕ, ◌≡◌, true, List, [], Option, None, Some, Ok, length, string_bytes, unwrap_or}
 use Rattle.insn.specs.declared.insn.Insn.{Insn}
 use Rattle.insn.specs.Program.{slots_of}
 use Rattle.semantics.specs.Run.{IsSound}
@@ -13,11 +13,14 @@ use Rattle.book.specs.Explained.{explained}
 use Rattle.book.specs.Forms.{form_text}
 use Rattle.book.specs.Grammar.{is_within, table_told}
 use Rattle.book.specs.Table.{MessageTable}
+use Rattle.command_line.specs.declared.tasks.Notation.{Notation}
+use Rattle.command_line.specs.declared.tasks.Notation.TheVariants.{Bytecode, Assembly}
 use Rattle.command_line.specs.declared.tasks.Spelling.TheVariants.{Hex, Raw}
 use Rattle.command_line.specs.declared.tasks.Task.{Task}
-use Rattle.command_line.specs.declared.tasks.Task.TheVariants.{Check, CheckAssembly, Assemble, Disassemble, DisassembleUnits, Book, Explain, Form, Play, Muster, Audit}
-use Rattle.round.specs.Scenario.{Scenario}
+use Rattle.command_line.specs.declared.tasks.Task.TheVariants.{Check, Assemble, Disassemble, DisassembleUnits, Book, Explain, Form, Play, Muster, Audit}
 use Rattle.scenario.specs.Told.{Tells}
+use Rattle.trial.specs.Setting.{Setting}
+use Rattle.trial.specs.Told as trial
 use Rattle.lab.specs.Bench.{bench_bytes, bench_shape}
 use Rattle.lab.specs.BoardRun.{IsServed}
 use Rattle.lab.specs.Campaigns.{Audits, Musters, Plays}
@@ -41,6 +44,26 @@ Checks bytes checked = (program : List Insn) × SpellsProgram bytes program × I
 -- the text says a program, and this is its run
 abbrev pub ChecksText : List ℕ → Checked → Type 0
 ChecksText text checked = (program : List Insn) × (program_of text ≡ Some program) × IsRun program checked
+
+-- the file has this program in its notation: the bytes spell it, or the text says it
+abbrev pub HasProgram : Notation → List ℕ → List Insn → Type 0
+HasProgram Bytecode bytes program = SpellsProgram bytes program
+HasProgram Assembly text program = program_of text ≡ Some program
+
+-- the file has a program in its notation, and this is its run
+abbrev pub ChecksIn : Notation → List ℕ → Checked → Type 0
+ChecksIn Bytecode bytes checked = Checks bytes checked
+ChecksIn Assembly text checked = ChecksText text checked
+
+-- the bytes tell a setting, and these are the lines of the program's trial in it
+abbrev pub IsTriedBy : List ℕ → List Insn → List ℕ → Type 0
+IsTriedBy bytes program lines = (s : Setting) × trial.Tells bytes s × trial.IsTried program s lines
+
+-- the first file has a sound program, and these are the lines of its trial in the setting of the second's; where there is no second file its bytes are none
+abbrev pub Tries : Notation → List ℕ → Option (List ℕ) → List ℕ → Type 0
+Tries notation first second lines =
+    (program : List Insn) × HasProgram notation first program × IsSound program
+    × IsTriedBy (unwrap_or second []) program lines
 
 -- the text says a program, and these are its bytes
 abbrev pub AssemblesRaw : List ℕ → List ℕ → Type 0
@@ -81,8 +104,9 @@ Decides text lines =
 
 -- the task prints this text on files of these bytes
 abbrev pub Prints : Task → List ℕ → Option (List ℕ) → List ℕ → Type 0
-Prints (Check file) first second text = (checked : Checked) × Checks first checked × (text ≡ checked_lines checked)
-Prints (CheckAssembly file) first second text = (checked : Checked) × ChecksText first checked × (text ≡ checked_lines checked)
+Prints (Check file notation None) first second text =
+    (checked : Checked) × ChecksIn notation first checked × (text ≡ checked_lines checked)
+Prints (Check file notation (Some context)) first second text = Tries notation first second text
 Prints (Assemble file Hex target) first second text = Assembles first text
 Prints (Assemble file Raw target) first second text = AssemblesRaw first text
 Prints (Disassemble file) first second text = Disassembles first text
@@ -94,18 +118,17 @@ Prints (Play scenario schedule) first second text = Plays first second text
 Prints (Muster scenario) first second text = Musters first text
 Prints (Audit scenario chronicle) first second text = Audits first second text
 
--- the task goes on with this campaign behind its first file
-abbrev pub GoesOn : Task → List ℕ → Scenario → Type 0
-GoesOn (Play scenario schedule) first s = Tells first s
-GoesOn (Muster scenario) first s = Tells first s
-GoesOn (Audit scenario chronicle) first s = Tells first s
-GoesOn _ first s = ⊥
+-- the task goes on with this behind its first file: a program to try, or a campaign
+abbrev pub GoesOn : Task → List ℕ → Outcome → Type 0
+GoesOn (Check file notation (Some context)) first (outcome.Trial program) =
+    HasProgram notation first program × IsSound program
+GoesOn (Play scenario schedule) first (outcome.Play s) = Tells first s
+GoesOn (Muster scenario) first (outcome.Muster s) = Tells first s
+GoesOn (Audit scenario chronicle) first (outcome.Audit s) = Tells first s
+GoesOn _ first _ = ⊥
 
--- what the task comes to on its first file: a text, whatever the second has, or a campaign with which it goes on
+-- what the task comes to on its first file: a text, whatever the second has, or that with which it goes on
 abbrev pub ComesTo : Task → List ℕ → Outcome → Type 0
 ComesTo task first (outcome.Text text) = (second : Option (List ℕ)) → Prints task first second (string_bytes text)
 ComesTo task first (outcome.Bytes bytes) = (second : Option (List ℕ)) → Prints task first second bytes.items
-ComesTo (Play scenario schedule) first (outcome.Play s) = Tells first s
-ComesTo (Muster scenario) first (outcome.Muster s) = Tells first s
-ComesTo (Audit scenario chronicle) first (outcome.Audit s) = Tells first s
-ComesTo _ first _ = ⊥
+ComesTo task first more = GoesOn task first more

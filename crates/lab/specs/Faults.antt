@@ -3,7 +3,7 @@ use Rattle.std.specs.Prelude.{ℕ, ◌≡◌, ◌≢◌, ◌⊎◌, ◌++◌, Li
 use Rattle.std.specs.Borrow.{Bor}
 use Rattle.std.specs.Fmt.{◌++?◌}
 use Rattle.command_line.specs.declared.tasks.Task.{Task}
-use Rattle.round.specs.Scenario.{Scenario}
+use Rattle.lab.specs.declared.outcome.Outcome.{Outcome}
 use Rattle.lab.specs.declared.refusal.Refusal.{Refusal}
 use Rattle.lab.specs.declared.refusal.Refusal.TheVariants as refusal
 use Rattle.lab.specs.declared.fault.Fault.{Fault}
@@ -51,7 +51,7 @@ Stops unread refused name Memory = Unit {0}
 abbrev pub Prevents : Type 0 → Type 0 → Task → Files → Fault → Type 0
 Prevents unread second_unread task files fault =
     Stops unread (IsRefused task files.first) (first_name task) fault
-    ⊎ ((s : Scenario) × IsTaken task files.first s × Stops second_unread (NoLikeness (IsRefusedLater task s files.second)) (second_name task) fault)
+    ⊎ ((more : Outcome) × IsTaken task files.first more × Stops second_unread (NoLikeness (IsRefusedLater more files.second)) (second_name task) fault)
 
 -- why a task is not done: it has no answer, or the output failed on its answer
 abbrev pub Explains : Type 0 → Type 0 → Type 0 → Task → Files → Fault → Type 0

@@ -17,6 +17,9 @@ use Rattle.round.specs.Scenario as round
 use Rattle.scenario.specs.Told.{Reads}
 use Rattle.scenario.specs.declared.fault.ScenarioError.{ScenarioError}
 use Rattle.scenario.specs.declared.fault.ScenarioError.TheVariants as scenario
+use Rattle.trial.specs.Told as trial
+use Rattle.trial.specs.declared.fault.SettingError.{SettingError}
+use Rattle.trial.specs.declared.fault.SettingError.TheVariants as setting
 use Rattle.threads.specs.declared.error.MusterError.{MusterError}
 use Rattle.threads.specs.declared.error.MusterError.TheVariants as muster
 use Rattle.trace.specs.Audit.{IsFaultOf}
@@ -28,11 +31,13 @@ use Rattle.verify.specs.declared.fault.Fault.{Fault}
 use Rattle.verify.specs.declared.fault.Fault.TheVariants as verifier
 use Rattle.verify.specs.Structure.{structural_fault, IsOwnFault}
 use Rattle.verify.specs.Passes as on_pass
+use Rattle.command_line.specs.declared.tasks.Notation.{Notation}
+use Rattle.command_line.specs.declared.tasks.Notation.TheVariants as notation
 use Rattle.command_line.specs.declared.tasks.Task.{Task}
-use Rattle.command_line.specs.declared.tasks.Task.TheVariants.{Check, CheckAssembly, Assemble, Disassemble, DisassembleUnits, Book, Explain, Form, Play, Muster, Audit}
+use Rattle.command_line.specs.declared.tasks.Task.TheVariants.{Check, Assemble, Disassemble, DisassembleUnits, Book, Explain, Form, Play, Muster, Audit}
 use Rattle.lab.specs.Numbers.{numbers_in}
 use Rattle.lab.specs.declared.refusal.Refusal.{Refusal}
-use Rattle.lab.specs.declared.refusal.Refusal.TheVariants.{Codec, Verifier, Assembly, Table, Scenario, Trace, Threads, NotText, Memory}
+use Rattle.lab.specs.declared.refusal.Refusal.TheVariants.{Codec, Verifier, Assembly, Table, Scenario, Setting, Trace, Threads, NotText, Memory}
 
 -- the refusal of each error: want of memory is the same everywhere
 abbrev pub codec_refusal : CodecError → Refusal
@@ -54,6 +59,10 @@ table_refusal error = Table error
 abbrev pub scenario_refusal : ScenarioError → Refusal
 scenario_refusal scenario.Memory = Memory
 scenario_refusal error = Scenario error
+
+abbrev pub setting_refusal : SettingError → Refusal
+setting_refusal setting.Memory = Memory
+setting_refusal error = Setting error
 
 abbrev pub trace_refusal : TraceError → Refusal
 trace_refusal trace.Memory = Memory
@@ -125,6 +134,12 @@ RefusesScenario text (Scenario error) = (error ≢ scenario.Memory) × Reads (pa
 RefusesScenario text Memory = Unit {0}
 RefusesScenario text _ = ⊥
 
+-- the text tells no setting, by this first fault
+abbrev pub RefusesSetting : List ℕ → Refusal → Type 0
+RefusesSetting text (Setting error) = (error ≢ setting.Memory) × trial.Reads (parse_document text) (Err error)
+RefusesSetting text Memory = Unit {0}
+RefusesSetting text _ = ⊥
+
 -- the text tells no schedule, by this first line
 abbrev pub RefusesSchedule : List ℕ → Refusal → Type 0
 RefusesSchedule text (Trace error) = schedule_told text ≡ Err error
@@ -148,10 +163,14 @@ abbrev pub RefusesText : (List ℕ → Refusal → Type 0) → List ℕ → Refu
 RefusesText refuses bytes NotText = IsUtf8 bytes → ⊥
 RefusesText refuses bytes refusal = refuses bytes refusal
 
+-- the file has no program in its notation, or the verifier refuses the program
+abbrev pub RefusesCheckIn : Notation → List ℕ → Refusal → Type 0
+RefusesCheckIn notation.Bytecode bytes refusal = RefusesCheck bytes refusal
+RefusesCheckIn notation.Assembly bytes refusal = RefusesText RefusesCheckAssembly bytes refusal
+
 -- the task does not take an only or first file of these bytes
 abbrev pub Refuses : Task → List ℕ → Refusal → Type 0
-Refuses (Check file) bytes refusal = RefusesCheck bytes refusal
-Refuses (CheckAssembly file) bytes refusal = RefusesText RefusesCheckAssembly bytes refusal
+Refuses (Check file notation context) bytes refusal = RefusesCheckIn notation bytes refusal
 Refuses (Assemble file spelling target) bytes refusal = RefusesText RefusesAssembly bytes refusal
 Refuses (Disassemble file) bytes refusal = RefusesDisassembly bytes refusal
 Refuses (DisassembleUnits file) bytes refusal = RefusesDisassembly bytes refusal

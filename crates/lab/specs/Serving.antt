@@ -3,18 +3,20 @@ use Rattle.std.specs.Prelude.{ℕ, ◌≡◌, ◌≢◌, ◌⊎◌, List, [], �
 use Rattle.std.specs.Io.KnownBytes.{Appends}
 use Rattle.command_line.specs.Told.{file_of, second_of}
 use Rattle.command_line.specs.declared.tasks.Task.{Task}
-use Rattle.command_line.specs.declared.tasks.Task.TheVariants.{Play, Muster, Audit}
+use Rattle.insn.specs.declared.insn.Insn.{Insn}
 use Rattle.round.specs.Scenario.{Scenario}
 use Rattle.world.specs.declared.schedule.Repeat.{Repeat}
 use Rattle.lab.specs.declared.refusal.Refusal.{Refusal}
 use Rattle.lab.specs.declared.refusal.Refusal.TheVariants.{NotText, Memory}
-use Rattle.lab.specs.Answers.{GoesOn, Prints}
+use Rattle.lab.specs.declared.outcome.Outcome.{Outcome}
+use Rattle.lab.specs.declared.outcome.Outcome.TheVariants as outcome
+use Rattle.lab.specs.Answers.{GoesOn, IsTriedBy, Prints}
 use Rattle.lab.specs.Campaigns.{IsAudited, IsPlayed, IsSchedule}
 use Rattle.lab.specs.Names.{shown}
 use Rattle.lab.specs.Seeming.{likeness_of, seems_behind}
 use Rattle.lab.specs.declared.seeming.Likeness.{Likeness}
 use Rattle.lab.specs.Telling.{refusal_text}
-use Rattle.lab.specs.Refusals.{Refuses, RefusesChronicle, RefusesMuster, RefusesSchedule, RefusesText}
+use Rattle.lab.specs.Refusals.{Refuses, RefusesChronicle, RefusesMuster, RefusesSchedule, RefusesSetting, RefusesText}
 
 -- the only or first file's bytes, and the second's where there is one
 pub record Files : Type 0 where
@@ -63,6 +65,10 @@ IsPlayedBy known s text = (schedule : List (List Repeat)) × IsScheduleOf known 
 abbrev pub IsAuditOf : Option (Option (List ℕ)) → Scenario → List ℕ → Type 0
 IsAuditOf known s text = (bytes : List ℕ) × AreSecondBytes known bytes × IsAudited s bytes text
 
+-- the lines are those of the program's trial in the second file's setting
+abbrev pub IsTrialOf : Option (Option (List ℕ)) → List Insn → List ℕ → Type 0
+IsTrialOf known program text = (bytes : List ℕ) × AreSecondBytes known bytes × IsTriedBy bytes program text
+
 -- the task has an answer on the files
 abbrev pub HasAnswer : Task → Files → Type 0
 HasAnswer task files = (text : List ℕ) × IsAnswer task files text
@@ -81,9 +87,14 @@ IsRefused task known refusal likeness =
 abbrev pub NoLikeness : (Refusal → Type 0) → Refusal → Option Likeness → Type 0
 NoLikeness refused refusal likeness = refused refusal × (likeness ≡ None)
 
--- the task takes its first file, and goes on with this campaign
-abbrev pub IsTaken : Task → Option (List ℕ) → Scenario → Type 0
-IsTaken task known s = (bytes : List ℕ) × AreBytes known bytes × GoesOn task bytes s
+-- the task takes its first file, and goes on with this
+abbrev pub IsTaken : Task → Option (List ℕ) → Outcome → Type 0
+IsTaken task known more = (bytes : List ℕ) × AreBytes known bytes × GoesOn task bytes more
+
+-- the second file is refused so as a setting, and not for want of memory
+abbrev pub IsSettingRefused : Option (Option (List ℕ)) → Refusal → Type 0
+IsSettingRefused known refusal =
+    (refusal ≢ Memory) × ((bytes : List ℕ) × AreSecondBytes known bytes × RefusesText RefusesSetting bytes refusal)
 
 -- the second file is there and refused so as a schedule, and not for want of memory
 abbrev pub IsScheduleRefused : Option (Option (List ℕ)) → Refusal → Type 0
@@ -99,12 +110,13 @@ IsChronicleRefused s known refusal =
 abbrev pub IsUnmustered : Refusal → Type 0
 IsUnmustered refusal = (refusal ≢ Memory) × RefusesMuster refusal
 
--- behind a first file with this campaign the task refuses so
-abbrev pub IsRefusedLater : Task → Scenario → Option (Option (List ℕ)) → Refusal → Type 0
-IsRefusedLater (Play scenario schedule) s known refusal = IsScheduleRefused known refusal
-IsRefusedLater (Muster scenario) s known refusal = IsUnmustered refusal
-IsRefusedLater (Audit scenario chronicle) s known refusal = IsChronicleRefused s known refusal
-IsRefusedLater _ s known refusal = ⊥
+-- behind a first file with which a task goes on so, it refuses so
+abbrev pub IsRefusedLater : Outcome → Option (Option (List ℕ)) → Refusal → Type 0
+IsRefusedLater (outcome.Trial program) known refusal = IsSettingRefused known refusal
+IsRefusedLater (outcome.Play s) known refusal = IsScheduleRefused known refusal
+IsRefusedLater (outcome.Muster s) known refusal = IsUnmustered refusal
+IsRefusedLater (outcome.Audit s) known refusal = IsChronicleRefused s known refusal
+IsRefusedLater _ known refusal = ⊥
 
 -- the stream has grown by this line, or it failed
 abbrev pub Tells : Type 0 → Option (List ℕ) → Option (List ℕ) → List ℕ → Type 0
@@ -133,5 +145,5 @@ IsUnwritten unwritten task files tells = unwritten × HasAnswer task files × te
 abbrev pub IsFault : Type 0 → Type 0 → Type 0 → Task → Files → Type 0 → (List ℕ → Type 0) → Type 0
 IsFault unread second_unread unwritten task files kept tells =
     (kept × (IsTurnedDown unread (IsRefused task files.first) (first_name task) tells
-    ⊎ ((s : Scenario) × IsTaken task files.first s × IsTurnedDown second_unread (NoLikeness (IsRefusedLater task s files.second)) (second_name task) tells)))
+    ⊎ ((more : Outcome) × IsTaken task files.first more × IsTurnedDown second_unread (NoLikeness (IsRefusedLater more files.second)) (second_name task) tells)))
     ⊎ IsUnwritten unwritten task files tells

@@ -6,9 +6,10 @@ use Rattle.codec.specs.Telling as codec
 use Rattle.scenario.specs.Telling as scenario
 use Rattle.threads.specs.Telling as threads
 use Rattle.trace.specs.Telling as trace
+use Rattle.trial.specs.Telling as trial
 use Rattle.verify.specs.Telling as verify
 use Rattle.lab.specs.declared.refusal.Refusal.{Refusal}
-use Rattle.lab.specs.declared.refusal.Refusal.TheVariants.{Codec, Verifier, Assembly, Table, Scenario, Trace, Threads, NotText, Memory}
+use Rattle.lab.specs.declared.refusal.Refusal.TheVariants.{Codec, Verifier, Assembly, Table, Scenario, Setting, Trace, Threads, NotText, Memory}
 
 abbrev pub refusal_text : Refusal → List ℕ
 refusal_text (Codec error) = codec.told error
@@ -16,6 +17,7 @@ refusal_text (Verifier fault) = verify.told fault
 refusal_text (Assembly error) = asm.told error
 refusal_text (Table error) = book.told error
 refusal_text (Scenario error) = scenario.told error
+refusal_text (Setting error) = trial.told error
 refusal_text (Trace error) = trace.told error
 refusal_text (Threads error) = threads.told error
 refusal_text NotText = codes "not UTF-8"

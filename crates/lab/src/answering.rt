@@ -1,17 +1,21 @@
-ghost use Rattle.std.specs.Prelude.{IfOk, IfErr};
-ghost use Rattle.lab.specs.Answers.{ComesTo};
-ghost use Rattle.lab.specs.Refusals.{Refuses};
+ghost use Rattle.std.specs.Prelude.{◌≡◌, IfOk, IfErr, string_bytes};
+ghost use Rattle.semantics.specs.Run.{IsSound};
+ghost use Rattle.lab.specs.Answers.{ChecksIn, ComesTo, HasProgram};
+ghost use Rattle.lab.specs.Lines.{checked_lines};
+ghost use Rattle.lab.specs.Refusals.{Refuses, RefusesCheckIn};
+ghost use Rattle.lab.specs.declared.checking.Checked.{Checked};
 
 use crate::assembling::{assembled, assembled_raw, disassembled, disassembled_units};
-use crate::checking::{check, check_text, checked_text};
+use crate::checking::{accepted, accepted_text, check, check_text, checked_text};
 use crate::deciding::{decided, explained};
 use crate::forming::formed;
 use crate::outcome::Outcome;
 use crate::playing::campaign;
 use crate::refusal::Refusal;
 use crate::texts::text_of;
-use command_line::{Spelling, Task};
+use command_line::{Notation, Spelling, Task};
 use std::alloc::Global;
+use verify::Verified;
 
 /// What the task comes to on an only or first file of these bytes.
 ///
@@ -23,14 +27,16 @@ pub fn answer(alloc: Global, task: &Task, bytes: &[u8]) -> Result<Outcome, Refus
     ensures refused { IfErr result (Refuses task.now bytes.now) }
 {
     let text = match task {
-        Task::Check(_) => {
-            let checked = check(alloc, bytes)?;
-            checked_text(alloc, &checked)?
-        }
-        Task::CheckAssembly(_) => {
-            let checked = check_text(alloc, text_of(bytes)?)?;
-            checked_text(alloc, &checked)?
-        }
+        Task::Check {
+            notation,
+            context: None,
+            ..
+        } => checked_in(alloc, *notation, bytes)?,
+        Task::Check {
+            notation,
+            context: Some(_),
+            ..
+        } => return Ok(Outcome::Trial(accepted_in(alloc, *notation, bytes)?)),
         Task::Assemble {
             spelling: Spelling::Hex,
             ..
@@ -55,4 +61,27 @@ pub fn answer(alloc: Global, task: &Task, bytes: &[u8]) -> Result<Outcome, Refus
         Task::Audit { .. } => return Ok(Outcome::Audit(campaign(alloc, bytes)?)),
     };
     Ok(Outcome::Text(text))
+}
+
+/// What a check prints of a file with a program in this notation.
+fn checked_in(alloc: Global, notation: Notation, bytes: &[u8]) -> Result<String, Refusal>
+    ensures checked { IfOk result (λ text. (checked : Checked) × ChecksIn notation bytes.now checked × (string_bytes text ≡ checked_lines checked)) }
+    ensures refused { IfErr result (RefusesCheckIn notation bytes.now) }
+{
+    let checked = match notation {
+        Notation::Bytecode => check(alloc, bytes)?,
+        Notation::Assembly => check_text(alloc, text_of(bytes)?)?,
+    };
+    Ok(checked_text(alloc, &checked)?)
+}
+
+/// The program in this notation that a file has, verified.
+fn accepted_in(alloc: Global, notation: Notation, bytes: &[u8]) -> Result<Verified, Refusal>
+    ensures accepted { IfOk result (λ program. HasProgram notation bytes.now program × IsSound program) }
+    ensures refused { IfErr result (RefusesCheckIn notation bytes.now) }
+{
+    match notation {
+        Notation::Bytecode => accepted(alloc, bytes),
+        Notation::Assembly => accepted_text(alloc, text_of(bytes)?),
+    }
 }

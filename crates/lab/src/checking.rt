@@ -1,4 +1,7 @@
-ghost use Rattle.std.specs.Prelude.{◌≡◌, IfOk, IfErr, string_bytes};
+ghost use Rattle.std.specs.Prelude.{◌≡◌, IfOk, IfErr, Some, string_bytes};
+ghost use Rattle.asm.specs.Program.{program_of};
+ghost use Rattle.codec.specs.Program.{SpellsProgram};
+ghost use Rattle.semantics.specs.Run.{IsSound};
 ghost use Rattle.lab.specs.Answers.{Checks, ChecksText, IsRun};
 ghost use Rattle.lab.specs.Bench.{bench_shape};
 ghost use Rattle.lab.specs.Lines.{checked_lines};
@@ -38,8 +41,8 @@ pub fn check(alloc: Global, bytes: &[u8]) -> Result<Checked, Refusal>
     ensures checked { IfOk result (Checks bytes.now) }
     ensures refused { IfErr result (RefusesCheck bytes.now) }
 {
-    let program = decode(alloc, bytes)?;
-    check_program(alloc, program)
+    let verified = accepted(alloc, bytes)?;
+    Ok(run(alloc, &verified)?)
 }
 
 /// Verifies and runs the program that the assembly says, in the same way.
@@ -51,20 +54,45 @@ pub fn check_text(alloc: Global, text: &str) -> Result<Checked, Refusal>
     ensures checked { IfOk result (ChecksText text.now) }
     ensures refused { IfErr result (RefusesCheckAssembly text.now) }
 {
-    let program = assemble(alloc, text)?;
-    check_program(alloc, program)
+    let verified = accepted_text(alloc, text)?;
+    Ok(run(alloc, &verified)?)
 }
 
-/// Verifies and runs a program.
-fn check_program(alloc: Global, program: Program) -> Result<Checked, Refusal>
-    ensures checked { IfOk result (IsRun program) }
+/// Decodes and verifies a program.
+///
+/// # Errors
+///
+/// What the codec or the verifier refuses, or want of memory.
+pub fn accepted(alloc: Global, bytes: &[u8]) -> Result<Verified, Refusal>
+    ensures spelt { IfOk result (λ program. SpellsProgram bytes.now program × IsSound program) }
+    ensures refused { IfErr result (RefusesCheck bytes.now) }
+{
+    let program = decode(alloc, bytes)?;
+    accepted_program(alloc, program)
+}
+
+/// Verifies the program that the assembly says.
+///
+/// # Errors
+///
+/// What the assembler or the verifier refuses, or want of memory.
+pub fn accepted_text(alloc: Global, text: &str) -> Result<Verified, Refusal>
+    ensures said { IfOk result (λ program. (program_of text.now ≡ Some program) × IsSound program) }
+    ensures refused { IfErr result (RefusesCheckAssembly text.now) }
+{
+    let program = assemble(alloc, text)?;
+    accepted_program(alloc, program)
+}
+
+/// Verifies a program.
+fn accepted_program(alloc: Global, program: Program) -> Result<Verified, Refusal>
+    ensures accepted { IfOk result (λ verified. (verified ≡ program) × IsSound verified) }
     ensures refused { IfErr result (RefusesRun program) }
 {
-    let verified = match verify(alloc, program) {
-        Ok(verified) => verified,
-        Err(refusal) => return Err(Refusal::from(refusal.fault)),
-    };
-    Ok(run(alloc, &verified)?)
+    match verify(alloc, program) {
+        Ok(verified) => Ok(verified),
+        Err(refusal) => Err(Refusal::from(refusal.fault)),
+    }
 }
 
 /// Runs a program in the bench context.

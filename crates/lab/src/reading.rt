@@ -11,7 +11,7 @@ use crate::refusal::Refusal;
 use crate::streams::Source;
 use crate::within::Within;
 use codec::{CodecError, Fault as CodecFault};
-use command_line::Task;
+use command_line::{Notation, Task};
 use insn::Program;
 use std::alloc::Global;
 use std::io::{self, ErrorKind};
@@ -30,9 +30,13 @@ pub(crate) fn read_first<'a, R: Source>(
         (Stops (R.fails first) (IsRefused task.entry.now (R.bytes first)) (first_name task.entry.now)) }
 {
     match task {
-        Task::Check(file) | Task::Disassemble(file) | Task::DisassembleUnits(file) => {
-            read_program(alloc, file.as_str(), first)
+        Task::Check {
+            program: file,
+            notation: Notation::Bytecode,
+            ..
         }
+        | Task::Disassemble(file)
+        | Task::DisassembleUnits(file) => read_program(alloc, file.as_str(), first),
         _ => read(alloc, task.file().unwrap_or(""), first),
     }
 }

@@ -7,6 +7,7 @@ use std::error::Error;
 use std::fmt;
 use threads::MusterError;
 use trace::TraceError;
+use trial::SettingError;
 use verify::Fault;
 
 /// Why a task does not take a file's bytes: what is refused, with its code and place.
@@ -22,6 +23,8 @@ pub enum Refusal {
     Table(TableError),
     /// The text tells no scenario.
     Scenario(ScenarioError),
+    /// The text tells no setting.
+    Setting(SettingError),
     /// The text tells no schedule, or no chronicle of the scenario's.
     Trace(TraceError),
     /// The threads gave no chronicle.
@@ -45,6 +48,7 @@ impl fmt::Display for Refusal {
             Refusal::Assembly(error) => write!(f, "{error}"),
             Refusal::Table(error) => write!(f, "{error}"),
             Refusal::Scenario(error) => write!(f, "{error}"),
+            Refusal::Setting(error) => write!(f, "{error}"),
             Refusal::Trace(error) => write!(f, "{error}"),
             Refusal::Threads(error) => write!(f, "{error}"),
             Refusal::NotText => f.write_str("not UTF-8"),
@@ -132,6 +136,20 @@ impl From<ScenarioError> for Refusal {
         match error {
             ScenarioError::Memory => Refusal::Memory,
             error => Refusal::Scenario(error),
+        }
+    }
+}
+
+impl From<SettingError> for Refusal {
+    ghost use Rattle.std.specs.Prelude.{◌≡◌};
+    ghost use Rattle.lab.specs.Refusals.{setting_refusal};
+
+    ghost from_gives = { λ error refusal. refusal ≡ setting_refusal error };
+
+    fn from(error: SettingError) -> Refusal {
+        match error {
+            SettingError::Memory => Refusal::Memory,
+            error => Refusal::Setting(error),
         }
     }
 }

@@ -1,6 +1,6 @@
 ghost use Rattle.std.specs.Prelude.{◌≡◌, ◌≢◌, ◌⊎◌, IfOk, IfErr, IsSomeAnd, OnOk, codes, option_map};
 ghost use Rattle.lab.specs.Faults.{Explains, Prevents, Stops};
-ghost use Rattle.lab.specs.Serving.{IsAnswer, IsAuditOf, IsChronicleRefused, IsFault, IsPlayedBy, IsPrinted, IsScheduleOf, IsScheduleRefused, NoLikeness, Tells, files, second_name};
+ghost use Rattle.lab.specs.Serving.{IsAnswer, IsAuditOf, IsChronicleRefused, IsFault, IsPlayedBy, IsPrinted, IsScheduleOf, IsScheduleRefused, IsSettingRefused, IsTrialOf, NoLikeness, Tells, files, second_name};
 ghost use Rattle.lab.specs.declared.fault.Fault.TheVariants.{Write as unwritten};
 
 use crate::answering::answer;
@@ -11,11 +11,13 @@ use crate::outcome::Outcome;
 use crate::playing::{played, schedule_of};
 use crate::reading::{read_first, read_schedule, read_second};
 use crate::streams::{Output, Source};
+use crate::trying::tried_by;
 use command_line::Task;
 use round::Scenario;
 use std::alloc::Global;
 use std::sync::Wait;
 use std::thread::Threads;
+use verify::Verified;
 use world::Schedule;
 
 /// Does the task on its files: prints what it answers, or one line of what is at fault. The second file is read where the
@@ -105,6 +107,7 @@ where
     match answer(alloc, task, bytes.as_slice()) {
         Ok(Outcome::Text(text)) => Ok(text.into_bytes()),
         Ok(Outcome::Bytes(bytes)) => Ok(bytes),
+        Ok(Outcome::Trial(program)) => trial_of(alloc, &program, file, second),
         Ok(Outcome::Play(scenario)) => play_by(alloc, scenario, file, second),
         Ok(Outcome::Muster(scenario)) => match mustered(rt, alloc, scenario) {
             Ok(text) => Ok(text),
@@ -112,6 +115,24 @@ where
         },
         Ok(Outcome::Audit(scenario)) => audit_of(alloc, &scenario, file, second),
         Err(refusal) => Err(Fault::of_bytes(refusal, task.file().unwrap_or(""), bytes.as_slice())),
+    }
+}
+
+/// The lines of the program's trial in the setting of the second file.
+fn trial_of<'a, R: Source>(
+    alloc: Global,
+    program: &Verified,
+    file: &'a str,
+    second: Option<R>,
+) -> Result<Vec<u8>, Fault<'a>>
+    ensures tried { IfOk result (λ text. IsTrialOf (option_map R.bytes second) program.now text.items) }
+    ensures fault { IfErr result
+        (Stops (IsSomeAnd second R.fails) (NoLikeness (IsSettingRefused (option_map R.bytes second))) file.entry.now) }
+{
+    let bytes = read_second(alloc, file, second)?;
+    match tried_by(alloc, program, bytes.as_slice()) {
+        Ok(text) => Ok(text.into_bytes()),
+        Err(refusal) => Err(Fault::of(refusal, file)),
     }
 }
 

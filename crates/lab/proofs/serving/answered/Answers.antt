@@ -3,8 +3,8 @@ use Rattle.std.proofs.lemmas.Result.{IfErr-weaker, IfOk-weaker}
 use Rattle.lab.specs.Answers.{ComesTo, Prints}
 use Rattle.lab.specs.Refusals.{Refuses}
 use Rattle.lab.specs.Serving.{Files, files}
-use Rattle.lab.specs.declared.outcome.Outcome.TheVariants.{Text, Bytes, Play, Muster, Audit}
-use Rattle.lab.proofs.FilesLemmas.{answered_alone, answered_audited, answered_mustered, answered_played, first_named, prevented_auditing, prevented_playing, second_named}
+use Rattle.lab.specs.declared.outcome.Outcome.TheVariants.{Text, Bytes, Trial, Play, Muster, Audit}
+use Rattle.lab.proofs.FilesLemmas.{answered_alone, answered_audited, answered_mustered, answered_played, answered_tried, first_named, prevented_later, second_named}
 use Rattle.lab.proofs.FirstLemmas.{prevented_first}
 use Rattle.lab.proofs.serving.answered.Goals as goal
 
@@ -24,6 +24,26 @@ returns-in-Ok-Bytes-clause-answer g c =
     let answered : ComesTo c.args.task.now c.in_ok-bytes.bytes.items (Bytes c.in-Ok-Bytes.bytes) = rw (c.as_slice.ensures.value, is) at c.in-Ok-Bytes.ensures.answered in
     answered_alone c.args.task.now both c.in_ok-bytes.bytes.items c.in-Ok-Bytes.bytes.items c.in_ok-bytes.ensures.whole answered
 
+pub returns-in-Ok-Trial-clause-answer : goal.returns-in-Ok-Trial-clause-answer
+returns-in-Ok-Trial-clause-answer g c =
+    let both : Files = files g.R.Source.bytes c.args.first c.args.second in
+    let is : c.in-Ok-Trial.field-0 ≡ Trial c.in-Ok-Trial.program = c.in-Ok-Trial.field-0-is in
+    let comes : ComesTo c.args.task.now c.in_ok-bytes.bytes.items (Trial c.in-Ok-Trial.program) = rw (c.as_slice.ensures.value, is) at c.in-Ok-Trial.ensures.answered in
+    IfOk-weaker c.trial_of.result _ _
+    (λ text tried. answered_tried c.args.task.now both c.in_ok-bytes.bytes.items text.items c.in-Ok-Trial.program c.in_ok-bytes.ensures.whole comes tried)
+    c.trial_of.ensures.tried
+
+pub returns-in-Ok-Trial-clause-fault : goal.returns-in-Ok-Trial-clause-fault
+returns-in-Ok-Trial-clause-fault g c =
+    let both : Files = files g.R.Source.bytes c.args.first c.args.second in
+    let is : c.in-Ok-Trial.field-0 ≡ Trial c.in-Ok-Trial.program = c.in-Ok-Trial.field-0-is in
+    let comes : ComesTo c.args.task.now c.in_ok-bytes.bytes.items (Trial c.in-Ok-Trial.program) = rw (c.as_slice.ensures.value, is) at c.in-Ok-Trial.ensures.answered in
+    IfErr-weaker c.trial_of.result _ _
+    (λ fault why.
+    prevented_later c.args.task.now both _ _ c.in_ok-bytes.bytes.items c.unwrap_or-file.result.now (Trial c.in-Ok-Trial.program) fault c.in_ok-bytes.ensures.whole comes
+    (second_named c.args.task.now c.second.result c.unwrap_or-file.result _ c.second.ensures c.unwrap_or-file.ensures refl) why)
+    c.trial_of.ensures.fault
+
 pub returns-in-Ok-Play-clause-answer : goal.returns-in-Ok-Play-clause-answer
 returns-in-Ok-Play-clause-answer g c =
     let both : Files = files g.R.Source.bytes c.args.first c.args.second in
@@ -40,7 +60,7 @@ returns-in-Ok-Play-clause-fault g c =
     let comes : ComesTo c.args.task.now c.in_ok-bytes.bytes.items (Play c.in-Ok-Play.scenario) = rw (c.as_slice.ensures.value, is) at c.in-Ok-Play.ensures.answered in
     IfErr-weaker c.play_by.result _ _
     (λ fault why.
-    prevented_playing c.args.task.now both _ _ c.in_ok-bytes.bytes.items c.unwrap_or-file.result.now c.in-Ok-Play.scenario fault c.in_ok-bytes.ensures.whole comes
+    prevented_later c.args.task.now both _ _ c.in_ok-bytes.bytes.items c.unwrap_or-file.result.now (Play c.in-Ok-Play.scenario) fault c.in_ok-bytes.ensures.whole comes
     (second_named c.args.task.now c.second.result c.unwrap_or-file.result _ c.second.ensures c.unwrap_or-file.ensures refl) why)
     c.play_by.ensures.fault
 
@@ -67,7 +87,7 @@ returns-in-Ok-Audit-clause-fault g c =
     let comes : ComesTo c.args.task.now c.in_ok-bytes.bytes.items (Audit c.in-Ok-Audit.scenario) = rw (c.as_slice.ensures.value, is) at c.in-Ok-Audit.ensures.answered in
     IfErr-weaker c.audit_of.result _ _
     (λ fault why.
-    prevented_auditing c.args.task.now both _ _ c.in_ok-bytes.bytes.items c.unwrap_or-file.result.now c.in-Ok-Audit.scenario fault c.in_ok-bytes.ensures.whole comes
+    prevented_later c.args.task.now both _ _ c.in_ok-bytes.bytes.items c.unwrap_or-file.result.now (Audit c.in-Ok-Audit.scenario) fault c.in_ok-bytes.ensures.whole comes
     (second_named c.args.task.now c.second.result c.unwrap_or-file.result _ c.second.ensures c.unwrap_or-file.ensures refl) why)
     c.audit_of.ensures.fault
 

@@ -3,7 +3,7 @@ use Rattle.command_line.specs.Met.{told_by}
 use Rattle.command_line.specs.Told.{one_file, one_file_with}
 use Rattle.command_line.proofs.AgreeLemmas.{no_other_task}
 use Rattle.command_line.proofs.TaskLemmas.{asm_told, audit_told, check_told, dis_told, muster_told, play_told, table_told, told_with}
-use Rattle.command_line.proofs.met.Met.task.Goals.{in-check, in-check-2, in-asm+in_ok-copied-in-asm, in-dis, in-dis-2, in-table+in_ok-required-in-table+in_ok-required-in-table-2, in-play+in_ok-copied-in-play, in-muster, in-audit+in_ok-required-in-audit}
+use Rattle.command_line.proofs.met.Met.task.Goals.{in-check+in_ok-copied-in-check, in-asm+in_ok-copied-in-asm, in-dis, in-dis-2, in-table+in_ok-required-in-table+in_ok-required-in-table-2, in-play+in_ok-copied-in-play, in-muster, in-audit+in_ok-required-in-audit}
 use Rattle.command_line.proofs.met.Met.task.Goals as goal
 
 pub unreachable-requires : goal.unreachable-requires
@@ -15,13 +15,14 @@ returns-clause-task c =
     let told = told_by c.args.self in
     let file = sym c.in_ok-file.ensures.ok in
     elim c.match-self.branch [
-      | in-check w ↦ rw w.result-is (check_told told w.in-check.is c.requires ∙ (λ i. one_file_with (codes "check") (w.if-self.true i) None (file i)))
-      | in-check-2 w ↦ rw w.result-is (check_told told w.in-check.is c.requires ∙ (λ i. one_file_with (codes "check") (w.if-self.false i) None (file i)))
+      | in-check+in_ok-copied-in-check w ↦
+          let context = sym w.in_ok-copied-in-check.ensures in
+          rw w.result-is (check_told told w.in-check.is c.requires ∙ (λ i. one_file_with (codes "check") (sym w.notation.ensures i) (context i) (file i)))
       | in-asm+in_ok-copied-in-asm w ↦
           let target = sym w.in_ok-copied-in-asm.ensures in
           rw w.result-is (asm_told told w.in-asm.is c.requires ∙ (λ i. one_file_with (codes "asm") (sym w.spelling.ensures i) (target i) (file i)))
-      | in-dis w ↦ rw w.result-is (dis_told told w.in-dis.is c.requires ∙ (λ i. one_file_with (codes "dis") (w.if-self-2.true i) None (file i)))
-      | in-dis-2 w ↦ rw w.result-is (dis_told told w.in-dis.is c.requires ∙ (λ i. one_file_with (codes "dis") (w.if-self-2.false i) None (file i)))
+      | in-dis w ↦ rw w.result-is (dis_told told w.in-dis.is c.requires ∙ (λ i. one_file_with (codes "dis") (w.if-self.true i) None (file i)))
+      | in-dis-2 w ↦ rw w.result-is (dis_told told w.in-dis.is c.requires ∙ (λ i. one_file_with (codes "dis") (w.if-self.false i) None (file i)))
       | in-table+in_ok-required-in-table+in_ok-required-in-table-2 w ↦
           let bound = sym w.in_ok-required-in-table.ensures in
           let commander = sym w.in_ok-required-in-table-2.ensures in

@@ -1,5 +1,5 @@
 use Rattle.lab.proofs.RefusalLemmas.{refused_program}
-use Rattle.lab.proofs.checking.check_program.Goals as goal
+use Rattle.lab.proofs.checking.accepted_program.Goals as goal
 
 pub returns-in-Err-clause-refused : goal.returns-in-Err-clause-refused
 returns-in-Err-clause-refused c =
