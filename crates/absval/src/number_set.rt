@@ -148,6 +148,7 @@ impl NumberSet {
 
     /// What is left of two sets where a jump on a condition is taken, or is not taken; None where no pair of
     /// their numbers goes that way.
+    #[inline(always)]
     pub fn refine(
         width: Width,
         condition: Condition,
@@ -170,6 +171,7 @@ impl NumberSet {
 
 /// The numbers of a range that have these bits, once: the bits of one number are known, and the ends lie
 /// within what the bits allow. None where there is no such number.
+#[inline(always)]
 fn reduce(range: Range, bits: Bits) -> Option<NumberSet>
     ensures exact { result ≡ reduced range bits }
     ensures holds { (x : ℕ) → IsIn range.0 range.1 x → HasBits bits x → IsSomeAnd result (λ n. Has n x) }
@@ -189,6 +191,7 @@ fn reduce(range: Range, bits: Bits) -> Option<NumberSet>
 }
 
 /// The only number of a range, if it has these bits.
+#[inline(always)]
 fn single_with(range: Range, bits: Bits) -> Option<NumberSet>
     requires { range.0 ≡ range.1 }
     ensures exact { result ≡ reduced range bits }

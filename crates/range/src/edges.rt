@@ -11,6 +11,7 @@ use word::{Condition, Width};
 
 /// What is left of two ranges where a jump on a condition is taken, or is not taken; None where no pair of
 /// their numbers goes that way.
+#[inline(always)]
 pub fn refine(
     width: Width,
     condition: Condition,
@@ -33,6 +34,7 @@ pub fn refine(
 }
 
 /// Whether anything is told of two ranges on an edge of a jump on the condition.
+#[inline(always)]
 pub fn tells(width: Width, condition: Condition, a: Range, b: Range) -> bool
     ensures { result ≡ is_refined width condition a b }
 {
@@ -41,6 +43,7 @@ pub fn tells(width: Width, condition: Condition, a: Range, b: Range) -> bool
 }
 
 /// The greatest number that is refined: of a signed condition the greatest that is not negative.
+#[inline(always)]
 fn greatest_refined(width: Width, condition: Condition) -> u64
     ensures { result + 1 ≡ edge_limit width condition }
 {
@@ -60,6 +63,7 @@ fn greatest_refined(width: Width, condition: Condition) -> u64
 }
 
 /// The condition that holds where this one does not.
+#[inline(always)]
 fn other_edge(condition: Condition) -> Condition
     ensures { result ≡ opposite condition }
 {
@@ -79,6 +83,7 @@ fn other_edge(condition: Condition) -> Condition
 }
 
 /// What is left where a condition holds of numbers that are the same as signed.
+#[inline(always)]
 fn edge_where(condition: Condition, a: Range, b: Range) -> Option<(Range, Range)>
     ensures exact { result ≡ edge condition a b }
     ensures holds { (x y : ℕ) → IsIn a.0 a.1 x → IsIn b.0 b.1 y → meets condition x y ≡ true
@@ -111,6 +116,7 @@ fn turned(pair: Option<(Range, Range)>) -> Option<(Range, Range)>
 }
 
 /// What is left where both numbers are the same.
+#[inline(always)]
 fn where_equal(a: Range, b: Range) -> Option<(Range, Range)>
     ensures exact { result ≡ equal a b }
     ensures holds { (x y : ℕ) → IsIn a.0 a.1 x → IsIn b.0 b.1 y → x ≡ y → HoldBoth result x y }
@@ -125,6 +131,7 @@ fn where_equal(a: Range, b: Range) -> Option<(Range, Range)>
 }
 
 /// What is left where the numbers differ.
+#[inline(always)]
 fn where_different(a: Range, b: Range) -> Option<(Range, Range)>
     ensures exact { result ≡ different a b }
     ensures holds { (x y : ℕ) → IsIn a.0 a.1 x → IsIn b.0 b.1 y → x ≢ y → HoldBoth result x y }
@@ -136,6 +143,7 @@ fn where_different(a: Range, b: Range) -> Option<(Range, Range)>
 }
 
 /// A range less the other's only number, where that is one of its ends.
+#[inline(always)]
 fn less_number(a: Range, b: Range) -> Range
     requires { a.0 ≡ b.1 → b.0 ≢ a.1 }
     ensures exact { result ≡ without a b }
@@ -160,6 +168,7 @@ fn less_number(a: Range, b: Range) -> Range
 }
 
 /// What is left where the first number is above the second.
+#[inline(always)]
 fn where_above(a: Range, b: Range) -> Option<(Range, Range)>
     ensures exact { result ≡ above a b }
     ensures holds { (x y : ℕ) → IsIn a.0 a.1 x → IsIn b.0 b.1 y → y < x → HoldBoth result x y }
@@ -179,6 +188,7 @@ fn where_above(a: Range, b: Range) -> Option<(Range, Range)>
 }
 
 /// What is left where the first number is at least the second.
+#[inline(always)]
 fn where_at_least(a: Range, b: Range) -> Option<(Range, Range)>
     ensures exact { result ≡ at_least a b }
     ensures holds { (x y : ℕ) → IsIn a.0 a.1 x → IsIn b.0 b.1 y → y ≤ x → HoldBoth result x y }
