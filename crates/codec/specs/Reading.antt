@@ -40,7 +40,7 @@ is_no_swap n = not (n == 16 || n == 32 || n == 64)
 abbrev pub is_reserved_set : Fields → Bool
 is_reserved_set f = is_set f.opcode || is_set f.dst || is_set f.src || is_set f.offset
 
--- the checks of an instruction in their order: used registers, operands that choose, unused fields, the second half
+-- the checks of an instruction in their order, behind that of its opcode: used registers, a form that is left out, operands that choose, unused fields, the second half
 abbrev pub checks_of : Form → Fields → List ℕ → List (Bool × Fault)
 checks_of (forms.Immediate width operation) f behind =
     (is_past f.dst, faults.Register) ∷ (is_set f.src, faults.Reserved) ∷ (is_set f.offset, faults.Reserved) ∷ []
