@@ -2,6 +2,7 @@ pub mod Structure
 pub mod Forward
 pub mod Safe
 pub mod Gamma
+pub mod Tables
 pub mod Registers
 pub mod Reasons
 pub mod Reads
@@ -16,4 +17,8 @@ pub mod MemoryTable
 pub mod Flow
 pub mod Instructions
 pub mod Passes
+pub mod Knowledge
+pub mod Transfer
+pub mod Judgement
+pub mod Laws
 pub mod Telling
