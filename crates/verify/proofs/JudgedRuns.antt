@@ -13,7 +13,7 @@ use Rattle.verify.specs.declared.comparison.Comparison.{Comparison}
 use Rattle.verify.specs.declared.fault.Fault.{Fault}
 use Rattle.verify.specs.declared.reason.Reason.{Reason}
 use Rattle.verify.specs.declared.state.AbsState.{AbsState}
-use Rattle.verify.specs.Faults.{fault_at}
+use Rattle.verify.specs.declared.fault.Fault.TheVariants.{At}
 use Rattle.verify.specs.Forward.{IsForward}
 use Rattle.verify.specs.Structure.{structural_fault}
 use Rattle.verify.specs.Slots.{Slot}
@@ -171,7 +171,7 @@ through_judged program none h =
     ap (λ (o : Option Fault). first_of o (passed_to program (length (slots_of program)))) none ∙ ap (first_of None) last.1
 
 stopped_at : (unit : ℕ) (o : Option Insn) (kept : Slot) (reached : Reached) (reason : Reason) → reason_at o kept ≡ Some reason →
-    passed_at unit o (known kept) reached ≡ Err (fault_at reason unit)
+    passed_at unit o (known kept) reached ≡ Err (At reason unit)
 stopped_at unit None kept reached reason e = absurd cc
 stopped_at unit (Some i) None reached reason e = absurd cc
 stopped_at unit (Some i) (Some a) reached reason e =
@@ -189,18 +189,18 @@ there_is : (o : Option Insn) (kept : Slot) (reason : Reason) → reason_at o kep
 there_is None kept reason e = absurd cc
 there_is (Some i) kept reason e = refl
 
-stop_judged : (program : List Insn) (unit : ℕ) (reason : Reason) → structural_fault program ≡ None → IsStopped program unit reason → judged program ≡ Some (fault_at reason unit)
+stop_judged : (program : List Insn) (unit : ℕ) (reason : Reason) → structural_fault program ≡ None → IsStopped program unit reason → judged program ≡ Some (At reason unit)
 unfolding judged passed_to
 stop_judged program unit reason none h =
     let units = length (slots_of program) in
     let inside : unit < length (slots_of program) = start_inside program unit (there_is (instruction_at program unit) (slot_at h.slots unit) reason h.stops) in
     let before = comes_agree program (forward_of_structure program none) unit h.slots (omega arith) h.comes in
-    let here : passed_at unit (instruction_at program unit) (reached_at before.0 unit) before.0 ≡ Err (fault_at reason unit) =
+    let here : passed_at unit (instruction_at program unit) (reached_at before.0 unit) before.0 ≡ Err (At reason unit) =
     ap (λ (o : Option AbsState). passed_at unit (instruction_at program unit) o before.0) (sym (before.2.each unit (omega arith) inside))
     ∙ stopped_at unit (instruction_at program unit) (slot_at h.slots unit) before.0 reason h.stops in
-    let now : passed_to program (suc unit) ≡ Err (fault_at reason unit) = ap (passed_on program unit) before.1 ∙ here in
+    let now : passed_to program (suc unit) ≡ Err (At reason unit) = ap (passed_on program unit) before.1 ∙ here in
     let sum : (units - suc unit) + suc unit ≡ units = omega arith in
-    let then : passed_to program units ≡ Err (fault_at reason unit) = ap (passed_to program) (sym sum) ∙ stays program (fault_at reason unit) (suc unit) (units - suc unit) now in
+    let then : passed_to program units ≡ Err (At reason unit) = ap (passed_to program) (sym sum) ∙ stays program (At reason unit) (suc unit) (units - suc unit) now in
     ap (λ (o : Option Fault). first_of o (passed_to program units)) none ∙ ap (first_of None) then
 
 -- and of one that is refused on the pass

@@ -23,6 +23,7 @@ pub mod Seen
 pub mod SeenEdges
 pub mod MemoryRows
 pub mod StepReasons
+pub mod OwnReasons
 pub mod InstructionLemmas
 pub mod PassRuns
 pub mod SameReads

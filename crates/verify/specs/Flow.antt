@@ -4,11 +4,10 @@ use Rattle.absval.specs.Table.{Ends}
 use Rattle.absmem.specs.Known.{byte_at, spill_at, joined_spill}
 use Rattle.verify.specs.declared.comparison.Comparison.{Comparison}
 use Rattle.verify.specs.declared.fault.Fault.{Fault}
-use Rattle.verify.specs.declared.fault.Fault.TheVariants.{Memory}
+use Rattle.verify.specs.declared.fault.Fault.TheVariants.{At, Memory}
 use Rattle.verify.specs.declared.reason.Reason.{Reason}
 use Rattle.verify.specs.declared.state.AbsState.{AbsState}
 use Rattle.verify.specs.Registers.{seen, joined_all, edge_known}
-use Rattle.verify.specs.Faults.{fault_at}
 use Rattle.verify.specs.Slots.{Slot}
 
 -- a state in which two are joined
@@ -47,6 +46,6 @@ BranchFlows c distance a unit old new = (between : List Slot) × EdgeFlows (edge
 
 -- what the pass answers at a unit whose instruction has that reason, or none: its fault, or none but want of memory
 abbrev pub Answers : Option Reason → ℕ → Result (Unit {0}) Fault → Type 0
-Answers (Some reason) unit result = result ≡ Err (fault_at reason unit)
+Answers (Some reason) unit result = result ≡ Err (At reason unit)
 Answers None unit (Ok u) = Unit {0}
 Answers None unit (Err fault) = fault ≡ Memory

@@ -5,7 +5,7 @@ use Rattle.insn.specs.Program.{slots_of, instruction_at}
 use Rattle.verify.specs.declared.fault.Fault.{Fault}
 use Rattle.verify.specs.declared.reason.Reason.{Reason}
 use Rattle.verify.specs.declared.state.AbsState.{AbsState}
-use Rattle.verify.specs.Faults.{fault_at}
+use Rattle.verify.specs.declared.fault.Fault.TheVariants.{At}
 use Rattle.verify.specs.Structure.{structural_fault}
 use Rattle.verify.specs.Instructions.{reason_of}
 use Rattle.verify.specs.Knowledge.{at_entry, met}
@@ -34,7 +34,7 @@ along_all (e ∷ es) reached = along_all es (along e reached)
 -- the fault of an instruction that may not run, or what is known once its edges are followed
 abbrev pub settled : Option Reason → ℕ → Reached → Result Reached Fault
 settled None unit reached = Ok reached
-settled (Some reason) unit reached = Err (fault_at reason unit)
+settled (Some reason) unit reached = Err (At reason unit)
 
 -- a unit is passed: nothing is done where no instruction starts, or no path leads
 abbrev pub passed_at : ℕ → Option Insn → Option AbsState → Reached → Result Reached Fault

@@ -8,7 +8,6 @@ pub mod Reasons
 pub mod Reads
 pub mod Outcomes
 pub mod Slots
-pub mod Faults
 pub mod Branches
 pub mod Stores
 pub mod Calls

@@ -19,5 +19,6 @@ mod verifier;
 
 pub use fault::{Fault, Refusal};
 pub use laws::passes_agree;
+pub use reason::Reason;
 pub use verified::Verified;
 pub use verifier::verify;
