@@ -57,7 +57,9 @@ refused (Some argument ∷ arguments) r registers = or_else (test_of (bound_of a
 
 -- a call of the helper traps for the first of these arguments that is refused
 abbrev pub TestsThese : Helper → List (Option Argument) → Type 0
-TestsThese helper arguments = (context : List ℕ) (relay : Relay) (s : State) (cause : Cause) → refused arguments 1 s.registers ≡ Some cause → called context relay s (Some helper) ≡ Trap cause
+TestsThese helper arguments =
+    (context : List ℕ) (relay : Relay) (s : State) (cause : Cause) → refused arguments 1 s.registers ≡ Some cause
+    → called context relay s (Some helper) ≡ Trap cause
 
 -- the helpers that also go by the cells at a pointer
 abbrev pub HasWindow : Helper → Type 0
@@ -75,4 +77,6 @@ HasWindow PassOn = ⊥
 
 -- where none of these is refused, a call traps only for what is at a pointer
 abbrev pub AcceptsThese : Helper → List (Option Argument) → Type 0
-AcceptsThese helper arguments = (context : List ℕ) (relay : Relay) (s : State) (cause : Cause) → refused arguments 1 s.registers ≡ None → called context relay s (Some helper) ≡ Trap cause → HasWindow helper
+AcceptsThese helper arguments =
+    (context : List ℕ) (relay : Relay) (s : State) (cause : Cause) → refused arguments 1 s.registers ≡ None
+    → called context relay s (Some helper) ≡ Trap cause → HasWindow helper
