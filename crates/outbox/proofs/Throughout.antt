@@ -27,7 +27,7 @@ kept_alike mask order n lt =
     let e : 0 + n ≡ n = omega arith in
     let long : length (replicate 13 order) ≡ 13 = long_alike 13 order in
     kept_at mask 0 n (replicate 13 order) (omega arith) ∙ (ap (λ k. if has_bit mask k then Some (get_or (replicate 13 order) n 0) else None) e
-    ∙ ap (λ v. if has_bit mask n then Some v else None) (get_or-replicate 13 order n lt))
+    ∙ ap (λ v. if has_bit mask n then Some v else None) (get_or-replicate 13 n order 0 lt))
 
 -- a row of them
 pub row_all : (os new : List (Option ℕ)) (ns : List ℕ) (order : ℕ) → ((n : ℕ) → on ns n ≡ true → get_or new n None ≡ Some order) → row_of new ns ≡ all_put order (row_of os ns)

@@ -55,7 +55,7 @@ table_from trees none e = record {
   long = refl;
   found = λ j t lt there. absurd (omega arith);
   only = λ g t within there.
-      let past : slice_index (replicate 13 none) g ≡ none = get_or-replicate 13 none g within in
+      let past : slice_index (replicate 13 none) g ≡ none = get_or-replicate 13 g none 0 within in
       let inside = slice_get_within trees (slice_index (replicate 13 none) g) t there in
       absurd (omega arith);
 }
