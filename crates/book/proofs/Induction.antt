@@ -11,6 +11,7 @@ use Rattle.label.specs.Oral.{IsLabel, Messages, taken, heard, order_of, om, IsFa
 use Rattle.book.specs.Theorem.{AgreementHolds}
 use Rattle.label.proofs.Pushes.{IsLabel-push, heard-push}
 use Rattle.label.proofs.Counting.{on-push, others-on, others-split, others-length, majority_counts, map_agree}
+use Rattle.label.proofs.Ranks.{all_kept}
 
 -- the setting of a whole campaign
 pub record Campaign : Type 0 where
@@ -149,10 +150,6 @@ alike x (suc k) u g p q r few many rp rq =
     ]
 
 -- the whole campaign: Theorem 1 at the label of the commander alone
-all_kept : (xs : List ℕ) → filter (λ j. not (on [] j)) xs ≡ xs
-all_kept [] = refl
-all_kept (x ∷ xs) = ap (λ ys. x ∷ ys) (all_kept xs)
-
 start : (x : Campaign) (k : ℕ) → x.c < x.n → k ≤ x.m → Reached x [] x.c k
 start x k inside le = record { label = record { first = refl; below = (inside, tt); distinct = refl }; time = omega arith; within = inside }
 

@@ -14,11 +14,7 @@ use Rattle.book.specs.Table.{MessageTable, told}
 use Rattle.label.specs.Lieutenants.{lieutenants, IsLoyalAt}
 use Rattle.book.specs.Decisions.{decision_of, decisions_of, AgreesIfBound}
 use Rattle.book.proofs.Steps.{entries_few}
-
-on-get_or : (xs : List ℕ) (i : ℕ) → i < length xs → on xs (get_or xs i 0) ≡ true
-on-get_or [] i l = absurd (omega arith)
-on-get_or (x ∷ xs) zero l = or_left (x == x) (on xs x) (eq-eqb x x refl)
-on-get_or (x ∷ xs) (suc i) l = or_right (x == get_or xs i 0) (on xs (get_or xs i 0)) (on-get_or xs i (omega arith))
+use Rattle.label.proofs.Bounds.{on-get_or}
 
 read_map : (d : ℕ → ℕ) (xs : List ℕ) (i : ℕ) → i < length xs → get_or (map d xs) i 0 ≡ d (get_or xs i 0)
 read_map d [] i l = absurd (omega arith)

@@ -5,7 +5,7 @@ ghost use Rattle.book.specs.Grammar.{opened, head_of, checked, message_of, is_wi
 use crate::fault::TableError;
 use crate::message::Message;
 use crate::parts::{head, shape};
-use crate::placing::placed;
+use crate::placing::{can_hear, label_in};
 use crate::table::Table;
 use std::alloc::Global;
 use text::line;
@@ -64,9 +64,10 @@ fn read_message(table: &Table, number: u64, line: &[u8]) -> Result<Message, Tabl
     let Some((label, receiver, order)) = shape(line) else {
         return Err(TableError::Line(number));
     };
-    let Some(label) = placed(table, label, receiver) else {
+    let label = label_in(table, number, label)?;
+    if !can_hear(table, &label, receiver) {
         return Err(TableError::Place(number));
-    };
+    }
     if table.told(&label, receiver as u8).is_some() {
         return Err(TableError::Twice(number));
     }

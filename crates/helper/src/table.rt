@@ -3,7 +3,7 @@ ghost use Rattle.semantics.specs.Call.{helper_of};
 ghost use Rattle.helper.specs.Table.{arguments_of, AcceptsThese, TestsThese};
 ghost use Rattle.helper.specs.Results.{result_of, Returns};
 
-use crate::argument::Argument;
+use crate::argument::{Argument, BOARD_WORDS, MOST_GENERALS, MOST_LABELS};
 use range::Range;
 use semantics::Helper;
 
@@ -67,10 +67,10 @@ pub fn result(helper: Helper) -> Range
 {
     let hi = match helper {
         Helper::BoardGet | Helper::BoardSwap | Helper::BoardAdd | Helper::BoardCas => u64::MAX,
-        Helper::BoardCopy => 64,
+        Helper::BoardCopy => BOARD_WORDS,
         Helper::Send | Helper::SignOrder | Helper::PassOn => 1,
-        Helper::SendRow => 13,
-        Helper::Sway | Helper::Honest => 1016,
+        Helper::SendRow => MOST_GENERALS,
+        Helper::Sway | Helper::Honest => MOST_LABELS,
     };
     Range { lo: 0, hi }
 }

@@ -42,7 +42,9 @@ om f n M (suc k) w p = f (map (λ j. cond (j == p) (taken M w p) (om f n M k (w 
 
 -- a general tells each receiver what it took
 abbrev pub IsFaithful : ℕ → ℕ → ℕ → ℕ → Messages → ℕ → Type 0
-IsFaithful n c m order M g = (u : List ℕ) (p : ℕ) → IsLabel n c (u ++ g ∷ []) → length u ≤ m → p < n → on (u ++ g ∷ []) p ≡ false → M (u ++ g ∷ []) p ≡ Some (heard M order u g)
+IsFaithful n c m order M g =
+    (u : List ℕ) (p : ℕ) → IsLabel n c (u ++ g ∷ []) → length u ≤ m → p < n → on (u ++ g ∷ []) p ≡ false
+    → M (u ++ g ∷ []) p ≡ Some (heard M order u g)
 
 pub record IsLoyalLieutenant (n c : ℕ) (traitor : ℕ → Bool) (p : ℕ) : Type 0 where
   pub general : p < n

@@ -8,12 +8,13 @@ use Rattle.label.specs.Labels.{on, is_distinct}
 use Rattle.semantics.specs.Relay.{Relay, relayed}
 use Rattle.semantics.specs.declared.entry.Entry.{Entry}
 use Rattle.semantics.specs.Outbox.{Choice, written, places_set, at_place, along_row}
-use Rattle.semantics.proofs.PlacesLaws.{row_from, sets, others-distinct}
+use Rattle.semantics.proofs.PlacesLaws.{row_from, sets}
 use Rattle.outbox.specs.Rows.{RowOrders, receivers_in, orders_in, put_row, filled}
 use Rattle.outbox.specs.Contents.{Contents, contents_of, IsOutbox}
 use Rattle.outbox.proofs.Writing.{row_written, row_one_written, row_along_written, sets_one, sets_along}
 use Rattle.outbox.proofs.Whole.{Stand, stand_parts}
 use Rattle.outbox.proofs.One.{OnlyAt, kept_written, kept_unset, one_written, one_set, set_stands}
+use Rattle.label.proofs.Counting.{others-distinct}
 
 -- an element that is there
 pub same_default : {A : Type 0} (xs : List A) (i : ℕ) (d e : A) → i < length xs → get_or xs i d ≡ get_or xs i e

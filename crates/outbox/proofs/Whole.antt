@@ -6,9 +6,10 @@ use Rattle.label.specs.Labels.{on}
 use Rattle.label.specs.Relay.{receivers}
 use Rattle.semantics.specs.State.{Outbox}
 use Rattle.semantics.specs.Outbox.{Choice}
-use Rattle.semantics.proofs.PlacesLaws.{row_from, sets, rows_from, sets_in, sets_in-cons, others-distinct}
+use Rattle.semantics.proofs.PlacesLaws.{row_from, sets, rows_from, sets_in, sets_in-cons}
 use Rattle.outbox.specs.Rows.{RowOrders, receivers_in, orders_in, put_row}
 use Rattle.outbox.proofs.Writing.{row_written, row_one_written, sets_one}
+use Rattle.label.proofs.Counting.{others-distinct}
 
 -- rows of which each is its label's
 abbrev pub Stand : Shape → List RowOrders → List (List ℕ) → Type 0

@@ -12,12 +12,13 @@ use Rattle.label.proofs.Places.{first_label, children_stand}
 use Rattle.label.proofs.Ranks.{others-count}
 use Rattle.std.proofs.lemmas.List.FromFn.{length-range_with_len}
 use Rattle.tree.specs.LieutenantTree.{LieutenantTree, IsCampaign, IsFilled, level_of, level_told}
-use Rattle.tree.proofs.Levels.{levels-at, told-at, read-at}
+use Rattle.tree.proofs.Levels.{levels-at, told-at}
 use Rattle.resolve.specs.Decided.{decided, child_place, order_at_rank}
 use Rattle.label.proofs.Below.{absent}
 use Rattle.label.proofs.Counts.{on-get}
 use Rattle.label.proofs.Parts.{by_place, wide}
 use Rattle.resolve.proofs.Below.{child-below}
+use Rattle.std.proofs.lemmas.Option.{get_or_from_slice_get}
 
 -- what the tree says of a label
 pub order-told : (t : LieutenantTree) (M : Messages) (size rank : ℕ) (w : List ℕ) → IsFilled t M → 0 < size → size ≤ t.bound + 1 → slice_get (labels t.generals t.commander t.general size) rank ≡ Some w → order_at_rank t size rank ≡ taken M w t.general
@@ -26,7 +27,7 @@ order-told t M size rank w f some short at =
     let level : level_of t size ≡ level_told t.generals t.commander t.general M size =
     ap (λ ls. unwrap_or (slice_get ls (size - 1)) []) f ∙ (ap (λ o. unwrap_or o []) (levels-at t.generals t.commander t.general M 1 (t.bound + 1) (size - 1) (omega arith)) ∙ ap (λ (k : ℕ). level_told t.generals t.commander t.general M k) up)
     in
-    ap order_of (read-at (level_of t size) rank (M w t.general) None (told-at t.generals t.commander t.general size rank M w (level_of t size) level at))
+    ap order_of (get_or_from_slice_get (level_of t size) rank (M w t.general) None (told-at t.generals t.commander t.general size rank M w (level_of t size) level at))
 
 -- the step, with what is known of the children
 step : (f : List ℕ → ℕ) (t : LieutenantTree) (M : Messages) (k size rank place : ℕ) (w : List ℕ) → IsCampaign t → IsFilled t M → suc size + suc k ≤ t.bound + 1 → slice_get (labels t.generals t.commander t.general (suc size)) rank ≡ Some w → place ≡ length (others t.general w)

@@ -87,7 +87,9 @@ fn level_at_once<C: Combine + Sync, R: Threads + Sync>(
         .into_par_iter()
         .map(
             |rank: usize| -> u32
-                requires { (0 < size) × (size ≤ tree.now.bound) × (length below.now ≡ length (labels tree.now.generals tree.now.commander tree.now.general (size + 1))) × (rank < length (labels tree.now.generals tree.now.commander tree.now.general size)) }
+                requires { (0 < size) × (size ≤ tree.now.bound)
+                    × (length below.now ≡ length (labels tree.now.generals tree.now.commander tree.now.general (size + 1)))
+                    × (rank < length (labels tree.now.generals tree.now.commander tree.now.general size)) }
                 ensures { result ≡ upward (C.combined rule.entry.now) tree.entry.now below.entry.now size rank }
             { upward(tree, rule, size, below, rank) },
         )

@@ -13,6 +13,8 @@ use Rattle.tree.proofs.Also.{also-here, also-other}
 use Rattle.round.specs.Letters.{Letter}
 use Rattle.round.specs.Told.{told_now, heard_also, round_of}
 use Rattle.round.specs.Delivery.{IsPartly, IsFilledBetween}
+use Rattle.round.proofs.Lists.{some_same}
+use Rattle.std.proofs.lemmas.List.{nil_from_length}
 
 pub same_map : {B : Type 0} (F G : List ℕ → B) (ws : List (List ℕ)) → ((i : ℕ) (w : List ℕ) → slice_get ws i ≡ Some w → F w ≡ G w) → map F ws ≡ map G ws
 same_map F G [] h = refl
@@ -59,9 +61,6 @@ told_on t row k i j l u v h g = record {
 pub record IsToldUpTo (M : Messages) (row : List Letter) (n c p k i : ℕ) (N : Messages) : Type 0 where
   pub others : (w : List ℕ) → (length w ≡ k → ⊥) → N w p ≡ M w p
   pub done : (j : ℕ) (w : List ℕ) → j < i → slice_get (labels n c p k) j ≡ Some w → N w p ≡ told_now row w p
-
-some_same : {A : Type 0} {a b : A} → Some a ≡ Some b → a ≡ b
-some_same e = cc
 
 told_next : (M N : Messages) (row : List Letter) (n c p k i : ℕ) (w : List ℕ) (value : Option ℕ) → c < n → p < n → p ≢ c → IsToldUpTo M row n c p k i N →
     slice_get (labels n c p k) i ≡ Some w → value ≡ told_now row w p → IsToldUpTo M row n c p k (suc i) (told_also N w value)
@@ -135,7 +134,3 @@ pub told_all : (t : LieutenantTree) (row : List Letter) (k i : ℕ) (u : Lieuten
 told_all t row k i u c ek h all M filled =
     let p = h.partly M (record { N = M; filled = filled; others = λ w ne. refl; done = λ j w lt at. absurd (omega arith) }) in
     p.filled ∙ (rw (h.same.generals, h.same.commander, h.same.general) (levels-same t.generals t.commander t.general p.N (heard_also M row) 1 (u.bound + 1) (each_same t row k i u M c ek all p)))
-
-pub no_letters : (row : List Letter) → length row ≡ 0 → row ≡ []
-no_letters [] e = refl
-no_letters (l ∷ row) e = cc

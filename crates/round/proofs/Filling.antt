@@ -12,6 +12,7 @@ use Rattle.round.specs.Letters.{Letter, messages, told_by, letter_of}
 use Rattle.round.specs.Told.{IsTreeOf, AreDue, AreLettersOf, Heard, WasTold, told_now, heard_also, round_of, lieutenant_at}
 use Rattle.round.proofs.Delivering.{levels-same, heard_here, heard_other}
 use Rattle.round.specs.Delivery.{AreApart, AreEach, AreOfCampaign, AreDueIn, IsTold}
+use Rattle.std.proofs.lemmas.List.{get_or_past}
 
 get-end : {A : Type 0} (xs : List A) (x d : A) → get_or (xs ++ x ∷ []) (length xs) d ≡ x
 get-end [] x d = refl
@@ -34,15 +35,10 @@ unfolding messages
 messages-past before row w p some ne =
     ap (λ ls. told_by (letter_of ls (slice_index w (length w - 1))) (take (length w - 1) w) p) (get-other before row [] (length w - 1) (λ e. ne (omega arith)))
 
-get_past : {A : Type 0} (xs : List A) (i : ℕ) (d : A) → length xs ≤ i → get_or xs i d ≡ d
-get_past [] i d l = refl
-get_past (x ∷ xs) zero d l = absurd (omega arith)
-get_past (x ∷ xs) (suc i) d l = get_past xs i d (omega arith)
-
 -- of a round that is not closed there is no message
 pub messages-none : (before : List (List Letter)) (w : List ℕ) (p : ℕ) → length before ≤ length w - 1 → messages before w p ≡ None
 unfolding messages
-messages-none before w p le = ap (λ ls. told_by (letter_of ls (slice_index w (length w - 1))) (take (length w - 1) w) p) (get_past before (length w - 1) [] le)
+messages-none before w p le = ap (λ ls. told_by (letter_of ls (slice_index w (length w - 1))) (take (length w - 1) w) p) (get_or_past before (length w - 1) [] le)
 
 -- one round more
 heard_more : (before : List (List Letter)) (row : List Letter) (w : List ℕ) (p : ℕ) → 0 < length w → ((i : ℕ) (l : Letter) → slice_get row i ≡ Some l → l.round ≡ suc (length before)) → heard_also (messages before) row w p ≡ messages (before ++ row ∷ []) w p

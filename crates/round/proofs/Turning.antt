@@ -1,6 +1,6 @@
 -- One step of the machine is one turn.
 use Rattle.std.proofs.Common.{◌≡◌, ℕ, zero, suc, ◌+◌, ◌<◌, ◌≤◌, List, [], Bool, true, false, cond, Some, None, Option, refl, sym, ap, subst, ◌∙◌, arith, ◌||◌}
-use Rattle.std.proofs.lemmas.Bool.{leb-false}
+use Rattle.std.proofs.lemmas.Bool.{leb-false, or_parts}
 use Rattle.insn.specs.declared.insn.Insn.{Insn}
 use Rattle.semantics.specs.Relay.{Relay}
 use Rattle.semantics.specs.declared.request.Request.{Request}
@@ -201,10 +201,6 @@ lesser_within : (p : Option ℕ) (limit most old new : ℕ) → most ≡ lesser 
 lesser_within None limit most old new is few within = tt
 lesser_within (Some p) limit most old new is few within = within p few (omega arith)
 
-or_first : (b c : Bool) → (b || c) ≡ false → b ≡ false
-or_first true c h = cc
-or_first false c h = refl
-
 -- as it is called under a patience
 pub went_under : (p : Option ℕ) (program code : List Insn) (context bytes : List ℕ) (limit most : ℕ) (old new : Standing) (was over : Bool) (a : Activation) → code ≡ program → bytes ≡ context → most ≡ lesser p limit →
     activation_of p program context old was ≡ a → has_ended a ≡ false → IsWithin p old.state.steps → ((m : ℕ) → old.state.steps ≤ m → most ≤ m → new.state.steps ≤ m) →
@@ -212,7 +208,7 @@ pub went_under : (p : Option ℕ) (program code : List Insn) (context bytes : Li
     Pauses most (activation_of None code bytes new over) (turn (activation_of None code bytes new over)) →
     Silently a (activation_of p program context new over) × Pauses limit (activation_of p program context new over) (turn (activation_of p program context new over))
 went_under p program code context bytes limit most old new was over a same_code same_bytes is view going few within went pauses =
-    let closed : was ≡ false = or_first was (is_reached p old.state.steps) (subst (λ (x : Activation). has_ended x ≡ false) (sym view) going) in
+    let closed : was ≡ false = (or_parts was (is_reached p old.state.steps) (subst (λ (x : Activation). has_ended x ≡ false) (sym view) going)).0 in
     let went' : Silently (activation_of None program context old false) (activation_of None program context new over) =
     subst (λ (c : List Insn). Silently (activation_of None c context old false) (activation_of None c context new over)) same_code
     (subst (λ (l : List ℕ). Silently (activation_of None code l old false) (activation_of None code l new over)) same_bytes went) in

@@ -15,10 +15,10 @@ use Rattle.round.specs.Letters.{Letter, messages}
 use Rattle.round.specs.Contexts.{value_of, context_bytes, context_numbers, context_of, AreWords}
 use Rattle.std.specs.declared.alloc.Global.{Global}
 use Rattle.round.specs.Told.{IsTreeOf, Heard, WasTold, lieutenant_at}
-use Rattle.round.proofs.Telling.{few_labels}
 use Rattle.round.proofs.Delivering.{same_map}
 use Rattle.round.proofs.Filling.{own_tree}
 use Rattle.round.proofs.Fronts.{messages-front}
+use Rattle.semantics.proofs.PlacesLaws.{round_few}
 
 map_twice : {B C : Type 0} (F : B → C) (G : List ℕ → B) (ws : List (List ℕ)) → map (λ w. F (G w)) ws ≡ map F (map G ws)
 map_twice F G [] = refl
@@ -78,7 +78,7 @@ later_is s before g k bound t shape level is h le some es eb told =
 pub few_values : (s : Scenario) (before : List (List Letter)) (g k : ℕ) (t : LieutenantTree) (level : List (Option ℕ)) → IsScenario s → IsTreeOf s before g t → k ≤ s.bound → length level ≡ length (labels t.generals t.commander t.general k) → length level ≤ 1000
 few_values s before g k t level is h le long =
     let same : length (labels t.generals t.commander t.general k) ≡ length (labels s.generals s.commander g k) = (λ i. length (labels (h.generals i) (h.commander i) (h.general i) k)) in
-    let few : length (labels s.generals s.commander g k) ≤ 1000 = (let l = few_labels s.generals s.commander g k is.few is.commander h.within h.lieutenant (let r = is.rounds in omega arith) in omega arith) in
+    let few : length (labels s.generals s.commander g k) ≤ 1000 = (let l = round_few s.generals s.commander g k is.few is.commander h.within h.lieutenant (let r = is.rounds in omega arith) in omega arith) in
     omega arith
 
 none_relayed : (s : Scenario) (g k : ℕ) → (g ≢ s.commander → k ≡ 0) → (((g ≡ s.commander) × (k + 1 ≢ 1)) ⊎ (g ≢ s.commander)) → relay (shape_of s g (suc k)) ≡ []

@@ -22,22 +22,15 @@ use Rattle.round.specs.declared.front.Front.{Front}
 use Rattle.round.proofs.Senders.{order_tells, letter_stands}
 use Rattle.round.proofs.Prolonging.{child_rank, child_fits, off-lieutenant, begun-long}
 use Rattle.round.proofs.Delivering.{told_on, told_one}
-
--- the label without its last general, and he
-last_is : (w : List ℕ) (x : ℕ) → slice_index (w ++ x ∷ []) (length w) ≡ x
-last_is [] x = refl
-last_is (y ∷ w) x = last_is w x
-
-front_is : (w : List ℕ) (x : ℕ) → take (length w) (w ++ x ∷ []) ≡ w
-front_is [] x = refl
-front_is (y ∷ w) x = ap (λ v. y ∷ v) (front_is w x)
+use Rattle.round.proofs.Fronts.{last-push, front-push}
+use Rattle.round.proofs.Lists.{some_same}
 
 pub told_last : (row : List Letter) (w : List ℕ) (x p : ℕ) → told_now row (w ++ x ∷ []) p ≡ told_by (letter_of row x) w p
 told_last row w x p =
     let l = length-append w (x ∷ []) in
     let e : length (w ++ x ∷ []) - 1 ≡ length w = omega arith in
     ap (λ (k : ℕ). told_by (letter_of row (slice_index (w ++ x ∷ []) k)) (take k (w ++ x ∷ [])) p) e
-    ∙ (ap (λ (g : ℕ). told_by (letter_of row g) (take (length w) (w ++ x ∷ [])) p) (last_is w x) ∙ ap (λ u. told_by (letter_of row x) u p) (front_is w x))
+    ∙ (ap (λ (g : ℕ). told_by (letter_of row g) (take (length w) (w ++ x ∷ [])) p) (last-push w x) ∙ ap (λ u. told_by (letter_of row x) u p) (front-push w x))
 
 -- what the letter of a general who is due tells, by the label's rank among those that he relays
 order_by : (o : Option Letter) (s : Shape) (u : List ℕ) (p rank : ℕ) → ((l : Letter) → o ≡ Some l → l.outbox.relay.shape ≡ s) → s.commander < s.generals → s.general < s.generals → slice_get (relay s) rank ≡ Some u → order_in_letter o rank p ≡ told_by o u p
@@ -196,9 +189,6 @@ tell_child t row places k f walk last c first width place x ew ef within away ep
     let it : walk.w ++ x ∷ [] ≡ w = some_same (sym at ∙ there) in
     child_told t row walk.w x (slice_index f.ranks x) value walk.due c.commander within (off-lieutenant t.commander x walk.w h.label.first parts.1) round (h.stands x within parts.1) is
     ∙ ap (λ u. told_now row u t.general) it
-  where
-    some_same : {A : Type 0} {a b : A} → Some a ≡ Some b → a ≡ b
-    some_same e = cc
 
 -- the children fill one run
 pub children_fit : (t : LieutenantTree) (row : List Letter) (places : List ℕ) (k : ℕ) (f : Front) (walk : IsWalk t row places k f) → f.size + 1 ≡ k → IsCampaign t → (first width : ℕ) → width ≡ t.generals - k → first ≡ slice_index f.ranks t.general * width →

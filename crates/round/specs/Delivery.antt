@@ -98,7 +98,8 @@ pub record AreTellers (row : List Letter) (n : ℕ) (f : Front) (x : ℕ) (t : T
   pub wide : length t.rows ≡ 13
   pub few : t.count ≤ x
   pub names : (c : ℕ) (w : List ℕ) → IsFront n c w f → take t.count t.generals ≡ others x w
-  pub rows : (i p : ℕ) (r : Bor RowOrders) → i < t.count → slice_get t.rows i ≡ Some r → order_in p r.now ≡ order_in_letter (letter_of row (slice_index t.generals i)) (slice_index f.ranks (slice_index t.generals i)) p
+  pub rows : (i p : ℕ) (r : Bor RowOrders) → i < t.count → slice_get t.rows i ≡ Some r →
+      order_in p r.now ≡ order_in_letter (letter_of row (slice_index t.generals i)) (slice_index f.ranks (slice_index t.generals i)) p
 
 -- the rows of those who are off a label, of whom the tree's lieutenant is the one of that number
 pub record AreTellersOf (row : List Letter) (t : LieutenantTree) (f : Front) (i : ℕ) (rows : List (Bor RowOrders)) : Type 0 where

@@ -55,7 +55,10 @@ pub record RunsAreSafe : Type 0 where
 
 -- where a sound program has come by its accesses and has not exited, there the replies lead; and where its next step is the exit, the run of the replies has exited
 pub record RunsFollowAnswers : Type 0 where
-  pub reached : (program : List Insn) (context : List ℕ) (relay : Relay) (k : ℕ) (transcript : List Access) (end : Activation) → IsSound program → IsContext context → IsRelay relay → AreFitting transcript →
+  pub reached : (program : List Insn) (context : List ℕ) (relay : Relay) (k : ℕ) (transcript : List Access) (end : Activation) →
+      IsSound program → IsContext context → IsRelay relay → AreFitting transcript →
       Runs k (started None program context relay) transcript end → end.over ≡ false → Reached program context relay (map (λ a. a.reply) transcript) end.state
-  pub exited : (program : List Insn) (context : List ℕ) (relay : Relay) (k : ℕ) (transcript : List Access) (end : Activation) (r0 : ℕ) (out : State) → IsSound program → IsContext context → IsRelay relay → AreFitting transcript →
-      Runs k (started None program context relay) transcript end → end.over ≡ false → step program context relay end.state ≡ Exit r0 out → after program context relay (map (λ a. a.reply) transcript) (suc k) ≡ Exited r0 out
+  pub exited : (program : List Insn) (context : List ℕ) (relay : Relay) (k : ℕ) (transcript : List Access) (end : Activation) (r0 : ℕ) (out : State) →
+      IsSound program → IsContext context → IsRelay relay → AreFitting transcript →
+      Runs k (started None program context relay) transcript end → end.over ≡ false → step program context relay end.state ≡ Exit r0 out →
+      after program context relay (map (λ a. a.reply) transcript) (suc k) ≡ Exited r0 out

@@ -51,7 +51,8 @@ pub(crate) fn gather<'a>(
 pub(crate) fn tell(own: usize, rows: &[&Row], size: u8, tree: &mut Tree, front: &Front)
     requires told { (row : List Written) × (places : List ℕ) × IsWalk tree.old row places size front.now × AreTellersOf row tree.old front.now own rows.now }
     requires last { front.now.size + 1 ≡ size }
-    ensures { (row : List Written) (places : List ℕ) → IsWalk tree.old row places size front.now → AreTellersOf row tree.old front.now own rows.now → IsFilledBetween tree.old row size (first_under tree.old front.now size) (past_under tree.old front.now size) tree.new }
+    ensures { (row : List Written) (places : List ℕ) → IsWalk tree.old row places size front.now → AreTellersOf row tree.old front.now own rows.now
+        → IsFilledBetween tree.old row size (first_under tree.old front.now size) (past_under tree.old front.now size) tree.new }
 {
     let space = tree.space();
     let width = usize::from(space.generals).saturating_sub(usize::from(size));

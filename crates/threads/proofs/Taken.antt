@@ -9,18 +9,11 @@ use Rattle.round.specs.Letters.{Letter}
 use Rattle.world.specs.World.{each}
 use Rattle.world.specs.Accounted.{letter_by, alone, row_by}
 use Rattle.threads.specs.Taking.{without, left_by, left_row, left_rounds}
+use Rattle.world.proofs.Holding.{each-same}
+use Rattle.world.proofs.Arranged.{by_true, by_false}
 
 abbrev pub is_by : ℕ → ℕ → Letter → Bool
 is_by g round l = (l.general == g) && (l.round == round)
-
-pub by_true : (g round : ℕ) (l : Letter) → l.general ≡ g → l.round ≡ round → is_by g round l ≡ true
-by_true g round l a b = rw (eq-eqb l.general g a, eq-eqb l.round round b) refl
-
-pub by_false : (g round : ℕ) (l : Letter) → (l.general ≡ g → l.round ≡ round → ⊥) → is_by g round l ≡ false
-by_false g round l not = ⊎_elim
-    (λ (x : (l.general == g ≡ true) × (l.general ≡ g)). rw x.0 (ne_eqb l.round round (λ e. not x.1 e)))
-    (λ (x : (l.general == g ≡ false) × (l.general ≢ g)). rw x.0 refl)
-    (eqb_tells l.general g)
 
 -- the first that passes stands where the front has none that does
 found_by : (p : Letter → Bool) (y x : Letter) (ys : List Letter) (i : ℕ) (b : Bool) → (find p (take i ys) ≡ None → (find p ys ≡ slice_get ys i) × (without p ys ≡ remove ys i))
@@ -74,10 +67,6 @@ row_same g round xs = row_others g round g round (λ k lt e f. omega arith) xs
 rounds_others : (n r h t : ℕ) → r ≤ t → (xs : List Letter) → letter_by h (suc t) (left_rounds n r xs) ≡ letter_by h (suc t) xs
 rounds_others n zero h t le xs = refl
 rounds_others n (suc r) h t le xs = row_others n (suc r) h (suc t) (λ k lt e f. omega arith) (left_rounds n r xs) ∙ rounds_others n r h t (omega arith) xs
-
-each-same : {A : Type 0} (n : ℕ) (f f' : ℕ → List A) → ((k : ℕ) → f k ≡ f' k) → each n f ≡ each n f'
-each-same zero f f' e = refl
-each-same (suc n) f f' e = λ i. each-same n f f' e i ++ e n i
 
 pub rounds_same : (n r : ℕ) (xs : List Letter) → row_by n (suc r) (left_rounds n r xs) ≡ row_by n (suc r) xs
 rounds_same n r xs = each-same n (λ g. alone (letter_by g (suc r) (left_rounds n r xs))) (λ g. alone (letter_by g (suc r) xs)) (λ g. ap alone (rounds_others n r g r (omega arith) xs))

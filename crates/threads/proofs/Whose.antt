@@ -17,13 +17,10 @@ use Rattle.round.proofs.Loyal.{shape_is_told, letter_is}
 use Rattle.world.specs.World.{accesses_of}
 use Rattle.world.specs.Accounted.{IsLetterOf, IsAccountedRound, AreAccounted}
 use Rattle.threads.specs.Holding.{IsOver, Stands}
-
-none_reached : (p : Option ℕ) → IsWithin p 0
-none_reached None = tt
-none_reached (Some p) = omega arith
+use Rattle.round.proofs.Patience.{within_none}
 
 loyal_over : (s : Scenario) (before : List (List Letter)) (g : ℕ) → IsOver s (loyal_letter s before g)
-loyal_over s before g = record { within = none_reached s.patience; over = refl }
+loyal_over s before g = record { within = within_none s.patience; over = refl }
 
 -- a letter of a general stands
 stood : (s : Scenario) (before : List (List Letter)) (piece : List Access) (g : ℕ) (o : Option (List Insn)) (l : Letter) → o ≡ program_of s g → IsLetterOf s before g o l → accesses_of g piece ≡ l.transcript

@@ -58,7 +58,8 @@ pub(crate) fn judge<R: Threads + Sync>(
         { account(alloc, scenario, board, rows, told) },
         || -> Result<ArrayVec<u32, 12>, AllocError>
             requires { (before : List (List Written)) × WasTold scenario.now before told.now }
-            ensures { IfOk result (λ orders. (before : List (List Written)) → WasTold scenario.entry.now before told.entry.now → orders.items ≡ decisions scenario.entry.now (messages before)) }
+            ensures { IfOk result (λ orders. (before : List (List Written)) → WasTold scenario.entry.now before told.entry.now
+                → orders.items ≡ decisions scenario.entry.now (messages before)) }
         { decide(rt, alloc, scenario, told) },
     );
     accounted?;

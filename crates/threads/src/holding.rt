@@ -70,7 +70,8 @@ fn has_context(
     requires passed { rounds ≤ told.now.rounds }
     requires left { rounds ≤ scenario.now.bound }
     requires general { general < scenario.now.generals }
-    ensures context { IfOk result (λ b. (rows : List (List Written)) → WasTold scenario.now rows told.now → IsTrue b ↔ (letter.now.context ≡ context_of scenario.now (take rounds rows) general)) }
+    ensures context { IfOk result (λ b. (rows : List (List Written)) → WasTold scenario.now rows told.now
+        → IsTrue b ↔ (letter.now.context ≡ context_of scenario.now (take rounds rows) general)) }
     ensures words { OnOk result ((rows : List (List Written)) → WasTold scenario.now rows told.now → AreWords scenario.now (take rounds rows) general) }
 {
     let context = told.context_after(alloc, scenario, general, rounds)?;

@@ -42,7 +42,8 @@ fn row(
     generals: u32,
     round: u32,
 ) -> Result<Option<Vec<Letter>>, AllocError>
-    ensures row { IfOk result (λ o. MatchOption o (length (row_by generals round letters.old.items) < generals) (λ row. (row.items ≡ row_by generals round letters.old.items) × (length row.items ≡ generals))) }
+    ensures row { IfOk result (λ o. MatchOption o (length (row_by generals round letters.old.items) < generals)
+        (λ row. (row.items ≡ row_by generals round letters.old.items) × (length row.items ≡ generals))) }
     ensures left { IfOk result (λ o. IfSome o (λ _. letters.new.items ≡ left_row generals round letters.old.items)) }
     ensures fewer { IfOk result (λ o. IfSome o (λ _. length letters.new.items + generals ≡ length letters.old.items)) }
 {

@@ -18,7 +18,9 @@ use world::{Chronicle, Verdict};
 
 /// The campaign's numbers, which begin the second line.
 fn put_numbers<S: Sink>(sink: &mut S, scenario: &Scenario)
-    ensures { Wrote (S.contents sink.old) (S.has_failed sink.old) (spaced (campaign_words scenario.now.generals scenario.now.bound scenario.now.commander scenario.now.order)) (S.contents sink.new) (S.has_failed sink.new) }
+    ensures { Wrote (S.contents sink.old) (S.has_failed sink.old)
+        (spaced (campaign_words scenario.now.generals scenario.now.bound scenario.now.commander scenario.now.order))
+        (S.contents sink.new) (S.has_failed sink.new) }
 {
     put_campaign(
         sink,
@@ -55,7 +57,9 @@ fn put_letters<S: Sink>(sink: &mut S, chronicle: &Chronicle)
 
 /// The lines of the decisions.
 fn put_decided<S: Sink>(sink: &mut S, chronicle: &Chronicle)
-    ensures { Wrote (S.contents sink.old) (S.has_failed sink.old) (text (decision_lines chronicle.now.scenario (lieutenants chronicle.now.scenario.generals chronicle.now.scenario.commander) chronicle.now.decisions)) (S.contents sink.new) (S.has_failed sink.new) }
+    ensures { Wrote (S.contents sink.old) (S.has_failed sink.old)
+        (text (decision_lines chronicle.now.scenario (lieutenants chronicle.now.scenario.generals chronicle.now.scenario.commander) chronicle.now.decisions))
+        (S.contents sink.new) (S.has_failed sink.new) }
 {
     put_decisions(sink, chronicle.scenario(), chronicle.decisions());
 }

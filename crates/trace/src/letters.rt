@@ -119,7 +119,9 @@ fn put_decided<S: Sink>(sink: &mut S, scenario: &Scenario, general: u8, decision
 
 /// The lines of the lieutenants' decisions, ascending by number.
 pub fn put_decisions<S: Sink>(sink: &mut S, scenario: &Scenario, decisions: &[u32])
-    ensures { Wrote (S.contents sink.old) (S.has_failed sink.old) (text (decision_lines scenario.now (lieutenants scenario.now.generals scenario.now.commander) decisions.now)) (S.contents sink.new) (S.has_failed sink.new) }
+    ensures { Wrote (S.contents sink.old) (S.has_failed sink.old)
+        (text (decision_lines scenario.now (lieutenants scenario.now.generals scenario.now.commander) decisions.now))
+        (S.contents sink.new) (S.has_failed sink.new) }
 {
     let mut place = 0;
     for general in 0..scenario.generals() {

@@ -1,5 +1,5 @@
 -- Registers behind a call, and checks one after another.
-use Rattle.std.proofs.Common.{◌≡◌, ◌∙◌, ℕ, zero, suc, ◌+◌, ◌≤◌, List, Option, Some, None, refl, sym, ap, subst, length, drop, get_or, arith}
+use Rattle.std.proofs.Common.{◌≡◌, ◌∙◌, ℕ, zero, suc, ◌+◌, List, Option, Some, None, refl, sym, ap, subst, length, drop, get_or, arith}
 use Rattle.std.specs.Prelude.{Result, Ok, Err, IsErrAnd}
 use Rattle.std.proofs.lemmas.List.{length-drop, get_or-drop}
 use Rattle.range.specs.Interval.{IsIn}
@@ -8,7 +8,7 @@ use Rattle.semantics.specs.declared.value.Value.TheVariants as value
 use Rattle.absval.specs.declared.number_set.NumberSet.{NumberSet}
 use Rattle.absval.specs.NumberSets.{Has, within}
 use Rattle.absval.specs.declared.value.AbsVal.{AbsVal}
-use Rattle.absval.specs.declared.value.AbsVal.TheVariants.{Unset, Number, Pointer}
+use Rattle.absval.specs.declared.value.AbsVal.TheVariants.{Unset, Number}
 use Rattle.absval.specs.Contains.{Contains}
 use Rattle.verify.specs.declared.reason.Reason.{Reason}
 use Rattle.verify.specs.Gamma.{RegistersDescribe}

@@ -9,12 +9,12 @@ use Rattle.verify.specs.declared.fault.Fault.{Fault}
 use Rattle.verify.specs.declared.reason.Reason.{Reason}
 use Rattle.verify.specs.declared.state.AbsState.{AbsState}
 use Rattle.verify.specs.Outcomes.{IsStraight}
-use Rattle.verify.specs.Faults.{fault_at}
+use Rattle.verify.specs.declared.fault.Fault.TheVariants.{At}
 use Rattle.verify.specs.Slots.{Slot}
 use Rattle.verify.specs.Flow.{Answers, JumpFlows}
 use Rattle.verify.specs.Instructions.{straight_reason, reason_of, StraightFlows, StateFlows, AnswersAt, UnitFlows}
 
-answers_of : (o : Option Reason) (unit : ℕ) (r : Result (Unit {0}) Fault) → result_err r ≡ option_map (λ x. fault_at x unit) o → Answers o unit r
+answers_of : (o : Option Reason) (unit : ℕ) (r : Result (Unit {0}) Fault) → result_err r ≡ option_map (λ x. At x unit) o → Answers o unit r
 answers_of None unit (Ok u) e = tt
 answers_of None unit (Err f) e = absurd cc
 answers_of (Some x) unit (Ok u) e = absurd cc
@@ -36,7 +36,7 @@ straight_of (Call helper) a s = refl
 straight_of Exit a s = absurd s
 
 pub straight_answers : (i : Insn) (a : AbsState) (unit : ℕ) (r : Result (Unit {0}) Fault) → IsStraight i →
-    result_err r ≡ option_map (λ x. fault_at x unit) (straight_reason i a) → Answers (reason_of i a) unit r
+    result_err r ≡ option_map (λ x. At x unit) (straight_reason i a) → Answers (reason_of i a) unit r
 straight_answers i a unit r s e = subst (λ (o : Option Reason). Answers o unit r) (straight_of i a s) (answers_of (straight_reason i a) unit r e)
 
 pub straight_flows : (i : Insn) (a : AbsState) (unit : ℕ) (old new : List Slot) → IsStraight i → StraightFlows a i unit old new → StateFlows i a unit old new

@@ -5,6 +5,7 @@ pub mod Walk
 pub mod PlainWalk
 pub mod SafeLaws
 pub mod Zips
+pub mod TableLemmas
 pub mod Numbers
 pub mod EdgeEnds
 pub mod Jumps
@@ -22,5 +23,9 @@ pub mod Seen
 pub mod SeenEdges
 pub mod MemoryRows
 pub mod StepReasons
+pub mod OwnReasons
 pub mod InstructionLemmas
 pub mod PassRuns
+pub mod SameReads
+pub mod Determined
+pub mod JudgedRuns

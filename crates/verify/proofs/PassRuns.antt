@@ -4,10 +4,9 @@ use Rattle.std.specs.Prelude.{replicate, IfErr}
 use Rattle.insn.specs.declared.insn.Insn.{Insn}
 use Rattle.insn.specs.Program.{slots_of, instruction_at}
 use Rattle.verify.specs.declared.fault.Fault.{Fault}
-use Rattle.verify.specs.declared.fault.Fault.TheVariants.{Memory}
+use Rattle.verify.specs.declared.fault.Fault.TheVariants.{At, Memory}
 use Rattle.verify.specs.declared.reason.Reason.{Reason}
 use Rattle.verify.specs.declared.state.AbsState.{AbsState}
-use Rattle.verify.specs.Faults.{fault_at}
 use Rattle.verify.specs.Slots.{Slot}
 use Rattle.verify.specs.Flow.{slot_at, Flows, Answers}
 use Rattle.verify.specs.Instructions.{reason_of, AnswersAt, UnitFlows}
@@ -24,7 +23,7 @@ none_at (Some i) (Some a) unit u h = no_reason (reason_of i a.value) unit u h
 
 -- a fault is told for a reason, or memory was refused
 abbrev IsTold : Option Reason → ℕ → Fault → Type 0
-IsTold o unit fault = (fault ≡ Memory) ⊎ ((reason : Reason) × (o ≡ Some reason) × (fault ≡ fault_at reason unit))
+IsTold o unit fault = (fault ≡ Memory) ⊎ ((reason : Reason) × (o ≡ Some reason) × (fault ≡ At reason unit))
 
 told : (o : Option Reason) (unit : ℕ) (fault : Fault) → Answers o unit (Err fault) → IsTold o unit fault
 told None unit fault h = inl h

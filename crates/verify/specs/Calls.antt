@@ -1,5 +1,5 @@
 -- Calls of helpers, on what is known (own).
-use Rattle.std.specs.Prelude.{ℕ, ℤ, pos, ◌≡◌, ◌+◌, ◌*◌, ◌≤◌, ◌<◌, ◌&&◌, not, nat_lt, Bool, true, false, List, [], ◌∷◌, Option, Some, None, Result, Ok, Err, slice_index_or}
+use Rattle.std.specs.Prelude.{ℕ, ℤ, pos, ◌≡◌, ◌+◌, ◌*◌, ◌≤◌, ◌<◌, ◌&&◌, not, nat_lt, Bool, true, false, List, [], ◌∷◌, Option, Some, None, Result, Ok, Err, drop, slice_index_or}
 use Rattle.std.specs.Ordering.{int_eq}
 use Rattle.semantics.specs.declared.value.Region.{Region}
 use Rattle.semantics.specs.declared.value.Region.TheVariants.{Stack, Context}
@@ -117,10 +117,14 @@ call_reason a number = helper_reason (helper_of number) a
 -- ---- what is left
 
 -- r0 is a number of these, r1 to r5 are unset, and the others are as before
+abbrev pub known_behind : NumberSet → List AbsVal → List AbsVal
+known_behind numbers known = Number numbers ∷ Unset ∷ Unset ∷ Unset ∷ Unset ∷ Unset ∷ drop 6 known
+
 pub record IsBehind (numbers : NumberSet) (old new : List AbsVal) : Type 0 where
   pub first : known_at new 0 ≡ Number numbers
   pub unset : (r : ℕ) → 1 ≤ r → r ≤ 5 → known_at new r ≡ Unset
   pub others : (r : ℕ) → 6 ≤ r → known_at new r ≡ known_at old r
+  pub whole : new ≡ known_behind numbers old
 
 -- bytes at one place are certain; elsewhere no more is known than before
 abbrev pub BytesWritten : Bool → ℕ → ℕ → List Bool → List Bool → Type 0

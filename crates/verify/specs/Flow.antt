@@ -4,16 +4,15 @@ use Rattle.absval.specs.Table.{Ends}
 use Rattle.absmem.specs.Known.{byte_at, spill_at, joined_spill}
 use Rattle.verify.specs.declared.comparison.Comparison.{Comparison}
 use Rattle.verify.specs.declared.fault.Fault.{Fault}
-use Rattle.verify.specs.declared.fault.Fault.TheVariants.{Memory}
+use Rattle.verify.specs.declared.fault.Fault.TheVariants.{At, Memory}
 use Rattle.verify.specs.declared.reason.Reason.{Reason}
 use Rattle.verify.specs.declared.state.AbsState.{AbsState}
-use Rattle.verify.specs.Registers.{seen, Joins, edge_known}
-use Rattle.verify.specs.Faults.{fault_at}
+use Rattle.verify.specs.Registers.{seen, joined_all, edge_known}
 use Rattle.verify.specs.Slots.{Slot}
 
 -- a state in which two are joined
 pub record IsJoin (old other new : AbsState) : Type 0 where
-  pub registers : Joins old.registers other.registers new.registers 11
+  pub registers : seen new.registers ≡ joined_all (seen old.registers) (seen other.registers)
   pub bytes : (k : ℕ) → byte_at new.stack.bytes k ≡ (byte_at old.stack.bytes k && byte_at other.stack.bytes k)
   pub spills : (b : ℕ) → b < 64 → spill_at new.stack.spills b ≡ joined_spill (spill_at old.stack.spills b) (spill_at other.stack.spills b)
 
@@ -47,6 +46,6 @@ BranchFlows c distance a unit old new = (between : List Slot) × EdgeFlows (edge
 
 -- what the pass answers at a unit whose instruction has that reason, or none: its fault, or none but want of memory
 abbrev pub Answers : Option Reason → ℕ → Result (Unit {0}) Fault → Type 0
-Answers (Some reason) unit result = result ≡ Err (fault_at reason unit)
+Answers (Some reason) unit result = result ≡ Err (At reason unit)
 Answers None unit (Ok u) = Unit {0}
 Answers None unit (Err fault) = fault ≡ Memory

@@ -7,7 +7,7 @@ use Rattle.verify.specs.declared.fault.Fault.{Fault}
 use Rattle.verify.specs.declared.reason.Reason.{Reason}
 use Rattle.verify.specs.declared.state.AbsState.{AbsState}
 use Rattle.verify.specs.Registers.{seen, entry_known}
-use Rattle.verify.specs.Faults.{fault_at}
+use Rattle.verify.specs.declared.fault.Fault.TheVariants.{At}
 use Rattle.verify.specs.Slots.{Slot}
 use Rattle.verify.specs.Flow.{slot_at, Flows}
 use Rattle.verify.specs.Instructions.{reason_of, UnitFlows}
@@ -50,4 +50,4 @@ pub record IsStopped (program : List Insn) (unit : ℕ) (reason : Reason) : Type
 
 -- the fault is that of the first instruction that may not run
 abbrev pub IsFirstFault : List Insn → Fault → Type 0
-IsFirstFault program fault = (unit : ℕ) × (reason : Reason) × IsStopped program unit reason × (fault ≡ fault_at reason unit)
+IsFirstFault program fault = (unit : ℕ) × (reason : Reason) × IsStopped program unit reason × (fault ≡ At reason unit)

@@ -5,6 +5,7 @@ mod branches;
 mod calls;
 mod comparison;
 mod fault;
+mod laws;
 mod memory;
 mod pass;
 mod pending;
@@ -17,5 +18,7 @@ mod verified;
 mod verifier;
 
 pub use fault::{Fault, Refusal};
+pub use laws::passes_agree;
+pub use reason::Reason;
 pub use verified::Verified;
 pub use verifier::verify;

@@ -1,7 +1,6 @@
 //! The forward pass.
 ghost use Rattle.std.specs.Prelude.{◌≡◌, ◌≤◌, ◌<◌, ◌+◌, ◌∷◌, ◌⊎◌, List, ℕ, pos, ◌<ℤ◌, ◌+ℤ◌, length, IfOk, IfErr, OnOk, IsOk, IsErrAnd, Ok, option_map};
 ghost use Rattle.std.specs.Result.{result_err};
-ghost use Rattle.verify.specs.Faults.{fault_at};
 ghost use Rattle.verify.specs.Registers.{seen, known_at, operand_known, edge_known};
 ghost use Rattle.verify.specs.Reasons.{first_reason, compare_checks, exit_checks};
 ghost use Rattle.verify.specs.Flow.{JumpFlows, EdgeFlows, BranchFlows, Answers, slot_at};
@@ -44,11 +43,11 @@ fn pass_straight(
     ensures own { IfErr result (IsFaultAt unit) }
     ensures plain { IsOfNumbers insn.now → (IsIn 10 (writes insn.now) → ⊥) → AllRead insn.now state.value.registers → IfErr result (λ fault. fault ≡ Fault.Memory) }
     ensures blanks { OnOk result (IsOfNumbers insn.now → AllRead insn.now state.value.registers → BlanksFrom insn.now unit state.value.registers pending.old.items pending.new.items) }
-    ensures refused { result_err result ≡ option_map (λ r. fault_at r unit) (straight_reason insn.now state.value) }
+    ensures refused { result_err result ≡ option_map (λ r. Fault.At r unit) (straight_reason insn.now state.value) }
     ensures flows { OnOk result (StraightFlows state.value insn.now unit pending.old.items pending.new.items) }
 {
     if let Err(reason) = steps::straight(&mut state, insn) {
-        return Err(reason.at(unit));
+        return Err(Fault::At(reason, unit));
     }
     flow(pending, unit + insn.units() as usize, state);
     Ok(())
@@ -110,7 +109,7 @@ fn pass_branch(
     ensures flows { OnOk result (BranchFlows compared.now distance state.value unit pending.old.items pending.new.items) }
 {
     if let Err(reason) = steps::compare(&state, compared) {
-        return Err(reason.at(unit));
+        return Err(Fault::At(reason, unit));
     }
     let Ok(other) = second(alloc, pending, &state) else {
         return Err(Fault::Memory);
@@ -126,10 +125,10 @@ fn pass_exit(unit: usize, state: Box<AbsState>) -> Result<(), Fault>
     ensures leads { OnOk result ((pending : List Slot) → LeadsOn state.value Insn.Exit unit pending) }
     ensures own { IfErr result (IsFaultAt unit) }
     ensures plain { AllRead Insn.Exit state.value.registers → IfErr result (λ fault. fault ≡ Fault.Memory) }
-    ensures refused { result_err result ≡ option_map (λ r. fault_at r unit) (first_reason (exit_checks (known_at (seen state.value.registers) 0))) }
+    ensures refused { result_err result ≡ option_map (λ r. Fault.At r unit) (first_reason (exit_checks (known_at (seen state.value.registers) 0))) }
 {
     if let Err(reason) = steps::exit(&state) {
-        return Err(reason.at(unit));
+        return Err(Fault::At(reason, unit));
     }
     Ok(())
 }

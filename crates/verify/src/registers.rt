@@ -8,7 +8,7 @@ ghost use Rattle.absval.specs.Contains.{Contains, is_number};
 ghost use Rattle.verify.specs.Gamma.{RegistersDescribe, Describes, has_number};
 ghost use Rattle.absmem.specs.declared.spill.Spill.{Spill};
 ghost use Rattle.absval.specs.Table.{ends_of};
-ghost use Rattle.verify.specs.Registers.{seen, known_at, operand_known, first_known, entry_known, Joins};
+ghost use Rattle.verify.specs.Registers.{seen, known_at, operand_known, first_known, entry_known, joined_all};
 ghost use Rattle.verify.specs.Branches.{StayNumbers};
 ghost use Rattle.verify.specs.Reads.{AllNumbers, LeavesBut, JoinsNumbers};
 
@@ -95,7 +95,7 @@ pub fn join(registers: &mut [AbsVal; 11], other: &[AbsVal; 11])
     ensures left { (vs : List Value) → RegistersDescribe registers.old vs → RegistersDescribe registers.new vs }
     ensures right { (vs : List Value) → RegistersDescribe other.now vs → RegistersDescribe registers.new vs }
     ensures numbers { JoinsNumbers registers.old other.now registers.new 11 }
-    ensures exact { Joins registers.old other.now registers.new 11 }
+    ensures exact { seen registers.new ≡ joined_all (seen registers.old) (seen other.now) }
 {
     for i in 0..11 {
         registers[i] = absval::join(registers[i], other[i]);

@@ -4,6 +4,7 @@ ghost use Rattle.insn.specs.Program.{slots_of};
 ghost use Rattle.verify.specs.Structure.{first_fault, target_checks, jump_checks, checks_from, last_checks, structural_fault, is_exit};
 
 use crate::fault::Fault;
+use crate::reason::Reason;
 use insn::{Insn, Program};
 
 /// Where a jump from a unit leads, counted in units.
@@ -32,14 +33,14 @@ fn target_fault(program: &Program, end: usize, unit: usize, distance: i32) -> Op
 {
     let target = target(unit, distance);
     if target <= unit as i64 {
-        return Some(Fault::BackJump(unit));
+        return Some(Fault::At(Reason::BackJump, unit));
     }
     let target = target as usize;
     if target >= end {
-        return Some(Fault::JumpOut(unit));
+        return Some(Fault::At(Reason::JumpOut, unit));
     }
     if program.at(target).is_none() {
-        return Some(Fault::JumpInWide(unit));
+        return Some(Fault::At(Reason::JumpInWide, unit));
     }
     None
 }
@@ -92,7 +93,7 @@ fn last_fault(program: &Program) -> Option<Fault>
     if is_the_exit(&program.instructions()[last]) {
         return None;
     }
-    Some(Fault::LastNotExit(program.unit_of(last)))
+    Some(Fault::At(Reason::LastNotExit, program.unit_of(last)))
 }
 
 /// The first fault of a program's structure.

@@ -2,6 +2,7 @@ ghost use Rattle.std.specs.Prelude.{◌≡◌, ◌⊎◌, None, Some, IfOk, IfEr
 ghost use Rattle.semantics.specs.Run.{IsSound};
 ghost use Rattle.semantics.specs.Plain.{IsPlain};
 ghost use Rattle.verify.specs.Structure.{structural_fault, IsOwnFault};
+ghost use Rattle.verify.specs.Judgement.{judged};
 ghost use Rattle.verify.specs.Passes.{IsFirstFault, ComesThrough};
 ghost use Rattle.verify.specs.Safe.{StartsSafe};
 
@@ -20,6 +21,8 @@ fn check(alloc: Global, program: &Program) -> Result<(), Fault>
     ensures unstructural { structural_fault program.now ≡ None → IfErr result (IsOwnFault program.now) }
     ensures first { structural_fault program.now ≡ None → IfErr result (λ fault. (fault ≡ Fault.Memory) ⊎ IsFirstFault program.now fault) }
     ensures passed { OnOk result (ComesThrough program.now) }
+    ensures accepted { OnOk result (judged program.now ≡ None) }
+    ensures refused { IfErr result (λ fault. (fault ≡ Fault.Memory) ⊎ (judged program.now ≡ Some fault)) }
 {
     if let Some(fault) = find_fault(program) {
         return Err(fault);
@@ -43,6 +46,10 @@ pub fn verify(alloc: Global, program: Program) -> Result<Verified, Refusal>
     // Then it is that of the first instruction at which the pass may not go on, or want of memory. Through what is accepted the pass comes to the end.
     ensures first { structural_fault program ≡ None → IfErr result (λ r. (r.fault ≡ Fault.Memory) ⊎ IsFirstFault program r.fault) }
     ensures passed { IfOk result (λ v. ComesThrough v) }
+
+    // So the answer is that of one function from programs to faults, want of memory aside.
+    ensures accepted { IfOk result (λ v. judged v ≡ None) }
+    ensures refused { IfErr result (λ r. (r.fault ≡ Fault.Memory) ⊎ (judged program ≡ Some r.fault)) }
 {
     match check(alloc, &program) {
         Ok(()) => Ok(Verified::of(program)),

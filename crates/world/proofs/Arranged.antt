@@ -12,14 +12,15 @@ use Rattle.round.specs.Letters.{Letter}
 use Rattle.world.specs.World.{each}
 use Rattle.world.specs.Accounted.{IsLetterOf, AreAccounted, letter_by, alone, row_by, rounds_of, IsAccounted}
 use Rattle.world.proofs.Accounting.{accounted_count}
+use Rattle.round.proofs.Lists.{some_at}
 
 abbrev is_by : ℕ → ℕ → Letter → Bool
 is_by g round l = (l.general == g) && (l.round == round)
 
-by_true : (g round : ℕ) (l : Letter) → l.general ≡ g → l.round ≡ round → is_by g round l ≡ true
+pub by_true : (g round : ℕ) (l : Letter) → l.general ≡ g → l.round ≡ round → is_by g round l ≡ true
 by_true g round l a b = rw (eq-eqb l.general g a, eq-eqb l.round round b) refl
 
-by_false : (g round : ℕ) (l : Letter) → (l.general ≡ g → l.round ≡ round → ⊥) → is_by g round l ≡ false
+pub by_false : (g round : ℕ) (l : Letter) → (l.general ≡ g → l.round ≡ round → ⊥) → is_by g round l ≡ false
 by_false g round l not = ⊎_elim
     (λ (x : (l.general == g ≡ true) × (l.general ≡ g)). rw x.0 (ne_eqb l.round round (λ e. not x.1 e)))
     (λ (x : (l.general == g ≡ false) × (l.general ≢ g)). rw x.0 refl)
@@ -64,15 +65,10 @@ snoc [] n x e = cc
 snoc (y ∷ xs) zero x e = (let f : y ≡ x = cc in ap (λ z. z ∷ []) f)
 snoc (y ∷ xs) (suc n) x e = ap (λ ys. y ∷ ys) (snoc xs n x e)
 
-inside : {A : Type 0} (xs : List A) (n : ℕ) → n < length xs → (x : A) × (slice_get xs n ≡ Some x)
-inside [] n lt = absurd (omega arith)
-inside (x ∷ xs) zero lt = (x, refl)
-inside (x ∷ xs) (suc n) lt = inside xs n (omega arith)
-
 each_front : {A : Type 0} (xs : List A) (f : ℕ → List A) → ((g : ℕ) (x : A) → slice_get xs g ≡ Some x → f g ≡ x ∷ []) → (n : ℕ) → n ≤ length xs → each n f ≡ take n xs
 each_front xs f h zero le = refl
 each_front xs f h (suc n) le =
-    let l = inside xs n (omega arith) in
+    let l = some_at xs n (omega arith) in
     (λ i. each_front xs f h n (omega arith) i ++ h n l.0 l.1 i) ∙ sym (snoc xs n l.0 l.1)
 
 grid_long : (n t i : ℕ) (rounds : List (List Letter)) (row : List Letter) → IsGridFrom n t rounds → slice_get rounds i ≡ Some row → length row ≡ n

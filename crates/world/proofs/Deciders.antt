@@ -19,7 +19,7 @@ use Rattle.world.specs.Part.{Part}
 use Rattle.world.specs.World.{World, each}
 use Rattle.world.specs.Reached.{world_of}
 use Rattle.world.specs.Chronicle.{decision, decisions}
-use Rattle.world.proofs.Listed.{get_at}
+use Rattle.std.proofs.lemmas.Option.{slice_get-get_or}
 
 at_below : (c i : ℕ) → i < c → lieutenant_at c i ≡ i
 at_below c i lt = rw (lt-ltb i c lt) refl
@@ -77,7 +77,7 @@ module _ (s : Scenario) (closed : List (List Letter)) (k : Board) (opened : ℕ)
   pub tree_decides : (rule : Rule) (i order : ℕ) (t : LieutenantTree) → rule ≡ s.rule → i < length trees → t ≡ get_or trees i t → Decides (combined_by rule) t order →
       order ≡ decision w.scenario (messages w.closed) (lieutenant_at w.scenario.commander i)
   tree_decides rule i order t ruled lt here decides =
-      let at : slice_get told.trees i ≡ Some t = ap (λ (l : List LieutenantTree). slice_get l i) (sym same) ∙ (get_at trees i t lt ∙ ap (λ (x : LieutenantTree). Some x) (sym here)) in
+      let at : slice_get told.trees i ≡ Some t = ap (λ (l : List LieutenantTree). slice_get l i) (sym same) ∙ (slice_get-get_or trees i t lt ∙ ap (λ (x : LieutenantTree). Some x) (sym here)) in
       let of = was.trees i t at in
       decides (messages closed) of.filled
       ∙ ((λ j. om (combined_by (ruled j)) (of.generals j) (messages closed) (of.bound j) (of.commander j ∷ []) (of.general j))

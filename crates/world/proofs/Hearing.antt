@@ -1,8 +1,8 @@
 -- What a close tells the lieutenants, and what a loyal general's letter is made from.
 use Rattle.std.proofs.Common.{◌≡◌, ℕ, zero, suc, ◌<◌, ◌≤◌, List, [], ◌∷◌, ◌++◌, length, drop, refl, sym, ap, subst, ◌∙◌, All, Bool, get_or, Option, Some, None, Result, Ok, Err, arith}
 use Rattle.std.specs.Prelude.{slice_get, IfOk}
-use Rattle.std.proofs.lemmas.Option.{slice_get_within}
-use Rattle.std.proofs.lemmas.List.Elements.{All-append}
+use Rattle.std.proofs.lemmas.Option.{slice_get_within, slice_get-get_or}
+use Rattle.std.proofs.lemmas.List.Elements.{All-append, All-nil}
 use Rattle.label.specs.Relay.{IsShape}
 use Rattle.board.specs.Board.{Access}
 use Rattle.board.specs.Ledger.{RecordedBoard}
@@ -20,17 +20,13 @@ use Rattle.world.specs.Reached.{IsHeld}
 use Rattle.world.specs.Held.{written, letters_held}
 use Rattle.world.specs.Safety.{IsPlaced}
 use Rattle.world.proofs.Standing.{proved_parts_are_placed}
-use Rattle.world.proofs.Listed.{get_at}
-
-all_none : {A : Type 0} (P : A → Type 0) → All P []
-all_none P k d lt = absurd (omega arith)
 
 all_one : {A : Type 0} (P : A → Type 0) (x : A) → P x → All P (x ∷ [])
 all_one P x h zero d lt = h
 all_one P x h (suc k) d lt = absurd (omega arith)
 
 each_all : {A : Type 0} (P : A → Type 0) (n : ℕ) (f : ℕ → List A) → ((g : ℕ) → All P (f g)) → All P (each n f)
-each_all P zero f h = all_none P
+each_all P zero f h = All-nil P
 each_all P (suc n) f h = All-append P (each n f) (f n) (each_all P n f h) (h n)
 
 -- the letter is of this round of the campaign
@@ -39,9 +35,9 @@ IsOfRound s round l = (l.round ≡ round) × (l.outbox.relay.shape ≡ shape_of 
 
 written_round : (s : Scenario) (closed : List (List Letter)) (accesses : List Access) (g : ℕ) (o : Option Part) → ((a : Activation) → o ≡ Some (Acting a) → IsPlaced s closed g a) →
     All (IsOfRound s (suc (length closed))) (written s closed accesses g o)
-written_round s closed accesses g None h = all_none (IsOfRound s (suc (length closed)))
+written_round s closed accesses g None h = All-nil (IsOfRound s (suc (length closed)))
 written_round s closed accesses g (Some (Acting a)) h = all_one (IsOfRound s (suc (length closed))) _ (refl, ap (λ (r : Relay). r.shape) (h a refl).relay)
-written_round s closed accesses g (Some Silent) h = all_none (IsOfRound s (suc (length closed)))
+written_round s closed accesses g (Some Silent) h = All-nil (IsOfRound s (suc (length closed)))
 written_round s closed accesses g (Some Posted) h = all_one (IsOfRound s (suc (length closed))) (loyal_letter s closed g) (refl, refl)
 
 -- the letters of a held world's round are of that round
@@ -53,7 +49,7 @@ row_told s closed k opened ps full told row is h was same i l at =
     let all = each_all (IsOfRound s (suc (length closed))) s.generals (λ g. written s closed (drop opened k.ledger) g (slice_get ps g)) (λ g. written_round s closed (drop opened k.ledger) g (slice_get ps g) (λ a e. placed g a e)) in
     let here : slice_get (letters_held s closed (drop opened k.ledger) ps) i ≡ Some l = ap (λ (r : List Letter). slice_get r i) (sym same) ∙ at in
     let within = slice_get_within (letters_held s closed (drop opened k.ledger) ps) i l here in
-    let it : get_or (letters_held s closed (drop opened k.ledger) ps) i l ≡ l = (let f : Some (get_or (letters_held s closed (drop opened k.ledger) ps) i l) ≡ Some l = sym (get_at (letters_held s closed (drop opened k.ledger) ps) i l within) ∙ here in cc) in
+    let it : get_or (letters_held s closed (drop opened k.ledger) ps) i l ≡ l = (let f : Some (get_or (letters_held s closed (drop opened k.ledger) ps) i l) ≡ Some l = sym (slice_get-get_or (letters_held s closed (drop opened k.ledger) ps) i l within) ∙ here in cc) in
     let one : IsOfRound s (suc (length closed)) l = subst (IsOfRound s (suc (length closed))) it (all i l within) in
     subst (λ (n : ℕ). IsOfRound s (suc n) l) (sym was.rounds) one
 

@@ -2,8 +2,7 @@
 use Rattle.std.proofs.Common.{◌≡◌, ℕ, zero, suc, ◌≤◌, ◌+◌, ◌-◌, List, [], ◌∷◌, ◌++◌, length, drop, Bool, true, false, cond, refl, sym, ap, subst, ◌∙◌, ◌⊎◌, inl, inr, ⊎_elim, Option, Some, None, Result, Ok, Err, arith, append-nil}
 use Rattle.std.specs.Prelude.{slice_get, slice_set, replicate, OnOk, OnErr, nat_lt, ◌&&◌}
 use Rattle.std.specs.List.{list_all}
-use Rattle.std.proofs.lemmas.Bool.{lt-ltb, ltb-true, ltb-false}
-use Rattle.round.proofs.Lists.{either_way}
+use Rattle.std.proofs.lemmas.Bool.{lt-ltb, ltb-true, ltb-false, cases_Bool}
 use Rattle.board.specs.Ledger.{RecordedBoard}
 use Rattle.round.specs.Scenario.{Scenario, IsScenario}
 use Rattle.round.specs.Letters.{Letter}
@@ -37,7 +36,7 @@ set-twice (z ∷ xs) zero x y = refl
 set-twice (z ∷ xs) (suc i) x y = ap (λ l. z ∷ l) (set-twice xs i x y)
 
 either_le : (m n : ℕ) → (m ≤ n) ⊎ (n ≤ m)
-either_le m n = ⊎_elim (λ (h : nat_lt m n ≡ true). inl (let l = ltb-true m n h in omega arith)) (λ (h : nat_lt m n ≡ false). inr (ltb-false m n h)) (either_way (nat_lt m n))
+either_le m n = ⊎_elim (λ (h : nat_lt m n ≡ true). inl (let l = ltb-true m n h in omega arith)) (λ (h : nat_lt m n ≡ false). inr (ltb-false m n h)) (cases_Bool (nat_lt m n))
 
 -- who does not act stays
 pub idle_turn : (ps : List Part) (b : RecordedBoard) (g r place : ℕ) (x : Part) → place ≡ g → slice_get ps place ≡ Some x → x ≡ Silent ⊎ x ≡ Posted → (slice_set ps place x, b) ≡ ticked_of g r ps b (slice_get ps g)
@@ -216,7 +215,7 @@ same_letter w g (Some (Acting a)) h =
 same_letter w g (Some Silent) h = refl
 same_letter w g (Some Posted) h = refl
 
-each-same : {A : Type 0} (n : ℕ) (f h : ℕ → List A) → ((g : ℕ) → f g ≡ h g) → each n f ≡ each n h
+pub each-same : {A : Type 0} (n : ℕ) (f h : ℕ → List A) → ((g : ℕ) → f g ≡ h g) → each n f ≡ each n h
 each-same zero f h e = refl
 each-same (suc n) f h e = (λ i. each-same n f h e i ++ e n i)
 

@@ -2,7 +2,7 @@
 use Rattle.std.proofs.Common.{◌≡◌, ◌≢◌, ℕ, zero, suc, ◌<◌, ◌≤◌, List, [], ◌∷◌, ◌++◌, length, take, get_or, Bool, true, false, cond, refl, sym, ap, subst, ◌∙◌, ⊎_elim, Option, Some, None, arith, length-append}
 use Rattle.std.specs.Prelude.{is_some, find, slice_get, ◌==◌}
 use Rattle.std.specs.List.{list_all}
-use Rattle.std.proofs.lemmas.Bool.{eq-eqb, ne_eqb, and_parts, ltb-true, lt-ltb}
+use Rattle.std.proofs.lemmas.Bool.{eq-eqb, ne_eqb, and_parts, ltb-true, lt-ltb, cases_Bool}
 use Rattle.std.proofs.lemmas.Bool.Decides.{eqb_tells}
 use Rattle.combine.specs.Chosen.{combined_by, chosen_is_rule}
 use Rattle.label.specs.Oral.{IsFaithful, IsBound, Agree}
@@ -20,7 +20,6 @@ use Rattle.world.specs.World.{World, begins, opening, round_open, letters_at, ro
 use Rattle.world.specs.Chronicle.{decision}
 use Rattle.world.proofs.Kept.{Fits, Tells, IsKept}
 use Rattle.world.proofs.Listing.{each-find, each-get_only, each-length, all-at, take-front, take-whole, get_or-left, get_or-seam}
-use Rattle.round.proofs.Lists.{either_way}
 use Rattle.world.proofs.Faithful.{faithful}
 use Rattle.world.specs.Lists.{IsMove}
 use Rattle.world.proofs.Moves.{move_same, AllParts, IsLasting, move_keeps, move_board}
@@ -147,7 +146,7 @@ happen_kept w (Post g) k = move_kept w (Post g) tt k
 happen_kept w Close k =
     ⊎_elim (λ (h : round_open w.scenario w.closed ≡ true). rw h (closing_kept w k (ltb-true (length w.closed) (suc w.scenario.bound) h)))
     (λ (h : round_open w.scenario w.closed ≡ false). rw h k)
-    (either_way (round_open w.scenario w.closed))
+    (cases_Bool (round_open w.scenario w.closed))
 
 pub run_kept : (es : List Event) (w : World) → IsKept w → IsKept (run w es)
 run_kept [] w k = k

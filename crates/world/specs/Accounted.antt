@@ -10,26 +10,26 @@ use Rattle.round.specs.Activation.{Activation, started, is_reached}
 use Rattle.round.specs.Runs.{Runs, IsWithin}
 use Rattle.world.specs.World.{accesses_of, each}
 
+-- the letter of a program that has come to an end of its activation, by these accesses and in so many steps
+abbrev pub letter_ended : Scenario → List (List Letter) → ℕ → List Insn → List Access → ℕ → Activation → Letter
+letter_ended s before g program transcript steps end = record {
+  general = g;
+  round = suc (length before);
+  context = context_of s before g;
+  program = Some program;
+  transcript = transcript;
+  steps = steps;
+  outbox = record { relay = oral (shape_of s g (suc (length before))); rows = end.state.outbox; entries = end.state.entries };
+  exited = end.over;
+}
+
 -- the letter is what the general's program, or the loyal general, makes of the round behind these:
 -- it has run, as far as the letter tells, within the patience, and has ended by itself or by the patience
 abbrev pub IsLetterOf : Scenario → List (List Letter) → ℕ → Option (List Insn) → Letter → Type 0
 IsLetterOf s before g None l = l ≡ loyal_letter s before g
 IsLetterOf s before g (Some program) l =
-    let round = suc (length before) in
-    let context = context_of s before g in
-    let shape = shape_of s g round in
-    (end : Activation) × Runs l.steps (started None program context (oral shape)) l.transcript end
-    × (l ≡ record {
-      general = g;
-      round = round;
-      context = context;
-      program = Some program;
-      transcript = l.transcript;
-      steps = l.steps;
-      outbox = record { relay = oral shape; rows = end.state.outbox; entries = end.state.entries };
-      exited = end.over;
-    })
-    × IsWithin s.patience l.steps × ((l.exited || is_reached s.patience l.steps) ≡ true)
+    (end : Activation) × Runs l.steps (started None program (context_of s before g) (oral (shape_of s g (suc (length before))))) l.transcript end
+    × (l ≡ letter_ended s before g program l.transcript l.steps end) × IsWithin s.patience l.steps × ((l.exited || is_reached s.patience l.steps) ≡ true)
 
 -- the letters of a round, by general, and the entries of a ledger that are theirs
 pub record IsAccountedRound (s : Scenario) (before : List (List Letter)) (piece : List Access) (letters : List Letter) : Type 0 where

@@ -124,7 +124,8 @@ fn write(
 )
     requires room { vec_len row.old < vec_capacity row.old }
     requires there { general < length drafts.old.items }
-    requires run { (transcript : List Entry) (a : Activation) → slice_get drafts.old.items general ≡ Some (Begun transcript) → slice_get parts.old.items general ≡ Some (Acting a) → IsLetter (letter_left general round transcript a) }
+    requires run { (transcript : List Entry) (a : Activation) → slice_get drafts.old.items general ≡ Some (Begun transcript)
+        → slice_get parts.old.items general ≡ Some (Acting a) → IsLetter (letter_left general round transcript a) }
     ensures row { row.new.items ≡ row.old.items ++ letter_from general round (slice_get drafts.old.items general) (slice_get parts.old.items general) }
     ensures few { vec_len row.new ≤ vec_len row.old + 1 }
     ensures room { vec_capacity row.new ≡ vec_capacity row.old }

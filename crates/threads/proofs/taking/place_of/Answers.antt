@@ -2,9 +2,10 @@ use Rattle.std.proofs.Common.{◌≡◌, true, false, ap, sym, ◌∙◌, Some, 
 use Rattle.std.specs.Prelude.{slice_get}
 use Rattle.std.proofs.lemmas.Option.{slice_get_read}
 use Rattle.round.specs.Letters.{Letter}
-use Rattle.threads.proofs.Taken.{is_by, by_true, by_false, found_at, none_more}
+use Rattle.threads.proofs.Taken.{is_by, found_at, none_more}
 use Rattle.threads.proofs.taking.place_of.Goals as goal
 use Rattle.threads.proofs.taking.place_of.Goals.{else-letter-general-via-then-letter-general+else-letter-round, else-letter-general-via-else-letter-general}
+use Rattle.world.proofs.Arranged.{by_true, by_false}
 
 pub returns-then-letter-round-clause-found : goal.returns-then-letter-round-clause-found
 returns-then-letter-round-clause-found c =

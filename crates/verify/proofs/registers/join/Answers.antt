@@ -5,6 +5,7 @@ use Rattle.absval.specs.declared.value.AbsVal.TheVariants.{Unset}
 use Rattle.absval.specs.Contains.{Contains, is_number}
 use Rattle.verify.specs.Gamma.{has_number}
 use Rattle.verify.proofs.Seen.{join_step}
+use Rattle.verify.proofs.TableLemmas.{joins_all}
 use Rattle.verify.proofs.Numbers.{number_back, joined_blank}
 use Rattle.verify.proofs.Zips.{AllZip-wider, at_set, at_read}
 use Rattle.verify.proofs.registers.join.Goals as goal
@@ -37,4 +38,4 @@ pub returns-clause-numbers : goal.returns-clause-numbers
 returns-clause-numbers c = λ k l. c.loop-i.invariant.number k (omega arith)
 
 pub returns-clause-exact : goal.returns-clause-exact
-returns-clause-exact c = λ k l. c.loop-i.invariant.exact k (omega arith)
+returns-clause-exact c = joins_all c.args.registers.now c.args.other.now c.loop-i.registers c.loop-i.invariant.size (λ k l. c.loop-i.invariant.exact k (omega arith))
