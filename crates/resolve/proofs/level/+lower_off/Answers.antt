@@ -3,7 +3,7 @@ use Rattle.std.proofs.lemmas.Bool.{cond-true, cond-false, lt-ltb, le-ltb}
 use Rattle.std.specs.Prelude.{nat_lt}
 use Rattle.resolve.proofs.Decisions.{first-place}
 use Rattle.resolve.proofs.Places.{place-one, grown, Grown}
-use Rattle.resolve.proofs.level.+place.Goals as goal
+use Rattle.resolve.proofs.level.+lower_off.Goals as goal
 
 pub returns-then-space : goal.returns-then-space
 returns-then-space t c =
@@ -39,8 +39,8 @@ nonzero_rem-rank t c =
     let up : Grown c.args.tree.now c.args.size c.args.rank c.from-width.result = grown c.args.tree.now c.args.size c.args.rank c.from-width.result c.space-space.ensures.kind (omega arith) (omega arith) c.requires.within in
     up.some
 
-pub place-parent-requires : goal.place-parent-requires
-place-parent-requires t c =
+pub lower_off-parent-requires : goal.lower_off-parent-requires
+lower_off-parent-requires t c =
     let some = c.requires.some in
     let short = c.requires.short in
     let more = c.if-size-eq1.false in
@@ -58,8 +58,8 @@ returns-then-rank-width t c =
     let e = c.from-width.ensures in
     let s = c.saturating_sub.ensures in
     let up : Grown c.args.tree.now c.args.size c.args.rank c.from-width.result = grown c.args.tree.now c.args.size c.args.rank c.from-width.result c.space-space.ensures.kind (omega arith) (omega arith) c.requires.within in
-    let low : c.args.rank % c.from-width.result < c.place-parent.result = let h = c.if-rank-width.true in let p = c.from.ensures in omega arith in
-    sym (cond-true (nat_lt (c.args.rank % c.from-width.result) c.place-parent.result) (c.place-parent.result - 1) c.place-parent.result (lt-ltb (c.args.rank % c.from-width.result) c.place-parent.result low)) ∙ up.place c.place-parent.result c.place-parent.ensures
+    let low : c.args.rank % c.from-width.result < c.lower_off-parent.result = let h = c.if-rank-width.true in let p = c.from.ensures in omega arith in
+    sym (cond-true (nat_lt (c.args.rank % c.from-width.result) c.lower_off-parent.result) (c.lower_off-parent.result - 1) c.lower_off-parent.result (lt-ltb (c.args.rank % c.from-width.result) c.lower_off-parent.result low)) ∙ up.lower_off c.lower_off-parent.result c.lower_off-parent.ensures
 
 pub returns-else-rank-width : goal.returns-else-rank-width
 returns-else-rank-width t c =
@@ -69,5 +69,5 @@ returns-else-rank-width t c =
     let e = c.from-width.ensures in
     let s = c.saturating_sub.ensures in
     let up : Grown c.args.tree.now c.args.size c.args.rank c.from-width.result = grown c.args.tree.now c.args.size c.args.rank c.from-width.result c.space-space.ensures.kind (omega arith) (omega arith) c.requires.within in
-    let high : c.place-parent.result ≤ c.args.rank % c.from-width.result = let h = c.if-rank-width.false in let p = c.from.ensures in omega arith in
-    sym (cond-false (nat_lt (c.args.rank % c.from-width.result) c.place-parent.result) (c.place-parent.result - 1) c.place-parent.result (le-ltb (c.args.rank % c.from-width.result) c.place-parent.result high)) ∙ up.place c.place-parent.result c.place-parent.ensures
+    let high : c.lower_off-parent.result ≤ c.args.rank % c.from-width.result = let h = c.if-rank-width.false in let p = c.from.ensures in omega arith in
+    sym (cond-false (nat_lt (c.args.rank % c.from-width.result) c.lower_off-parent.result) (c.lower_off-parent.result - 1) c.lower_off-parent.result (le-ltb (c.args.rank % c.from-width.result) c.lower_off-parent.result high)) ∙ up.lower_off c.lower_off-parent.result c.lower_off-parent.ensures
