@@ -12,7 +12,7 @@ use crate::forming::formed;
 use crate::outcome::Outcome;
 use crate::playing::campaign;
 use crate::refusal::Refusal;
-use crate::texts::text_of;
+use crate::texts::as_text;
 use command_line::{Notation, Spelling, Task};
 use std::alloc::Global;
 use verify::Verified;
@@ -40,16 +40,16 @@ pub fn answer(alloc: Global, task: &Task, bytes: &[u8]) -> Result<Outcome, Refus
         Task::Assemble {
             spelling: Spelling::Hex,
             ..
-        } => assembled(alloc, text_of(bytes)?)?,
+        } => assembled(alloc, as_text(bytes)?)?,
         Task::Assemble {
             spelling: Spelling::Raw,
             ..
-        } => return Ok(Outcome::Bytes(assembled_raw(alloc, text_of(bytes)?)?)),
+        } => return Ok(Outcome::Bytes(assembled_raw(alloc, as_text(bytes)?)?)),
         Task::Disassemble(_) => disassembled(alloc, bytes)?,
         Task::DisassembleUnits(_) => disassembled_units(alloc, bytes)?,
-        Task::Book(_) => decided(alloc, text_of(bytes)?)?,
+        Task::Book(_) => decided(alloc, as_text(bytes)?)?,
         Task::Explain { traitors, .. } => {
-            explained(alloc, text_of(bytes)?, traitors.as_slice())?
+            explained(alloc, as_text(bytes)?, traitors.as_slice())?
         }
         Task::Form {
             generals,
@@ -70,7 +70,7 @@ fn checked_in(alloc: Global, notation: Notation, bytes: &[u8]) -> Result<String,
 {
     let checked = match notation {
         Notation::Bytecode => check(alloc, bytes)?,
-        Notation::Assembly => check_text(alloc, text_of(bytes)?)?,
+        Notation::Assembly => check_text(alloc, as_text(bytes)?)?,
     };
     Ok(checked_text(alloc, &checked)?)
 }
@@ -82,6 +82,6 @@ fn accepted_in(alloc: Global, notation: Notation, bytes: &[u8]) -> Result<Verifi
 {
     match notation {
         Notation::Bytecode => accepted(alloc, bytes),
-        Notation::Assembly => accepted_text(alloc, text_of(bytes)?),
+        Notation::Assembly => accepted_text(alloc, as_text(bytes)?),
     }
 }

@@ -1,13 +1,13 @@
 ghost use Rattle.std.specs.Prelude.{◌≡◌, ℕ, List, IfOk, IfErr, Ok, Some};
 ghost use Rattle.scenario.specs.Told.{Tells};
 ghost use Rattle.trace.specs.Schedules.{schedule_told};
-ghost use Rattle.trace.specs.Text.{text_of};
+ghost use Rattle.trace.specs.Text.{chronicle_text};
 ghost use Rattle.lab.specs.Campaigns.{IsPlayed};
 ghost use Rattle.lab.specs.Reading.{IsFront};
 ghost use Rattle.lab.specs.Refusals.{RefusesScenario, RefusesSchedule, RefusesText};
 
 use crate::refusal::Refusal;
-use crate::texts::{may_begin_text, text_of};
+use crate::texts::{as_text, may_begin_text};
 use round::Scenario;
 use std::alloc::{AllocError, Global};
 use trace::{Latch, TraceError, read_schedule, write_chronicle};
@@ -25,7 +25,7 @@ pub fn campaign(alloc: Global, bytes: &[u8]) -> Result<Scenario, Refusal>
     ensures told { IfOk result (Tells bytes.now) }
     ensures refused { IfErr result (RefusesText RefusesScenario bytes.now) }
 {
-    Ok(scenario::read(alloc, text_of(bytes)?)?)
+    Ok(scenario::read(alloc, as_text(bytes)?)?)
 }
 
 /// The schedule that the bytes tell.
@@ -37,7 +37,7 @@ pub fn schedule(alloc: Global, bytes: &[u8]) -> Result<Schedule, Refusal>
     ensures told { IfOk result (λ schedule. schedule_told bytes.now ≡ Ok schedule) }
     ensures refused { IfErr result (RefusesText RefusesSchedule bytes.now) }
 {
-    Ok(read_schedule(alloc, text_of(bytes)?)?)
+    Ok(read_schedule(alloc, as_text(bytes)?)?)
 }
 
 /// The schedule of a file that has these bytes or, where they are more than a schedule has, begins with these: then there is
@@ -74,7 +74,7 @@ pub fn played(alloc: Global, scenario: Scenario, schedule: &Schedule) -> Result<
 
 /// The text of a chronicle.
 pub(crate) fn chronicle_text(alloc: Global, chronicle: &Chronicle) -> Result<Vec<u8>, AllocError>
-    ensures { IfOk result (λ text. text.items ≡ text_of chronicle.now) }
+    ensures { IfOk result (λ text. text.items ≡ chronicle_text chronicle.now) }
 {
     let mut latch = Latch::new(Vec::new(alloc));
     match write_chronicle(chronicle, &mut latch) {

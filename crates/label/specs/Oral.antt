@@ -56,7 +56,7 @@ pub record Agree (n c order : ℕ) (traitor : ℕ → Bool) (decision : ℕ → 
   pub alike : (p q : ℕ) → IsLoyalLieutenant n c traitor p → IsLoyalLieutenant n c traitor q → decision p ≡ decision q
   pub obeyed : traitor c ≡ false → (p : ℕ) → IsLoyalLieutenant n c traitor p → decision p ≡ order
 
--- more than three times as many generals as traitors
+-- more than three times as many generals as traitors are provided for, and no more traitors than these
 pub record IsBound (n m : ℕ) (traitor : ℕ → Bool) : Type 0 where
   pub enough : 3 * m < n
   pub few : count_by traitor (generals n) ≤ m

@@ -12,7 +12,7 @@ use Rattle.label.proofs.Ranks.{others-at, is_distinct-push}
 use Rattle.std.proofs.lemmas.Bool.Decides.{nat_tests}
 use Rattle.label.proofs.Same.{label_stands}
 use Rattle.round.specs.Scenario.{Scenario}
-use Rattle.round.specs.Letters.{Letter, beside, tells, telling, told_by, letter_of, messages}
+use Rattle.round.specs.Letters.{Letter, value_beside, tells, telling, told_by, letter_of, messages}
 use Rattle.round.specs.Contexts.{value_of}
 use Rattle.round.proofs.Lists.{beside-map, take-get_or}
 
@@ -49,7 +49,7 @@ pub tells-telling : (s : Shape) (F : List ℕ → ℕ) (u : List ℕ) (p : ℕ) 
     → IsLabel s.generals s.commander (u ++ s.general ∷ []) → on (u ++ s.general ∷ []) p ≡ false → tells (telling s F) u p ≡ Some (F u)
 tells-telling s F u p inside r within a off =
     let at = relay_stands s u inside r a in
-    ap (λ row. beside (λ j. j == p) None (receivers s u) row)
+    ap (λ row. value_beside (λ j. j == p) None (receivers s u) row)
     (beside-map (λ v. bytes_eq v u) [] (λ v. map (λ j. Some (F v)) (receivers s v)) (relay s) u at.0 at.1 ((bytes_eq-Decides u u).1 refl) (λ y h. (bytes_eq-Decides y u).0 h))
     ∙ beside-map (λ j. j == p) None (λ j. Some (F u)) (receivers s u) p (length (others p (u ++ s.general ∷ []))) (others-at s.generals (u ++ s.general ∷ []) p within off) (eq-eqb p p refl) (λ y h. eqb-true y p h)
 

@@ -1,7 +1,7 @@
 -- Lists by place.
 use Rattle.std.proofs.Common.{◌≡◌, ℕ, zero, suc, ◌<◌, List, [], ◌∷◌, take, map, get_or, Bool, true, false, refl, ap, ◌∙◌, ◌⊎◌, inl, inr, ⊎_elim, Some, arith, length, set}
 use Rattle.std.specs.Prelude.{slice_get}
-use Rattle.round.specs.Letters.{beside}
+use Rattle.round.specs.Letters.{value_beside}
 use Rattle.std.proofs.lemmas.Bool.{cases_Bool}
 
 -- the same element
@@ -36,7 +36,7 @@ module _ {A : Type 0} where
 
 module _ {A B : Type 0} where
   -- beside the only element that passes
-  pub beside-map : (is : A → Bool) (none : B) (f : A → B) (xs : List A) (x : A) (i : ℕ) → slice_get xs i ≡ Some x → is x ≡ true → ((y : A) → is y ≡ true → y ≡ x) → beside is none xs (map f xs) ≡ f x
+  pub beside-map : (is : A → Bool) (none : B) (f : A → B) (xs : List A) (x : A) (i : ℕ) → slice_get xs i ≡ Some x → is x ≡ true → ((y : A) → is y ≡ true → y ≡ x) → value_beside is none xs (map f xs) ≡ f x
   beside-map is none f [] x i e h only = cc
   beside-map is none f (y ∷ ys) x zero e h only = let s : y ≡ x = cc in rw (ap is s ∙ h) (ap f s)
   beside-map is none f (y ∷ ys) x (suc i) e h only =

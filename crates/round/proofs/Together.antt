@@ -15,7 +15,7 @@ use Rattle.tree.specs.LieutenantTree.{LieutenantTree, IsFilled, SameCampaign, to
 use Rattle.round.specs.Letters.{Letter, letter_of}
 use Rattle.round.specs.Fronts.{IsFront, under}
 use Rattle.round.specs.Told.{round_of, told_now}
-use Rattle.round.specs.Delivery.{AreEach, AreOfCampaign, AreTellers, IsDueIn, IsFilledBetween, IsRoute, IsTold, IsToldUnder, IsWalk, first_under, order_in_letter, Tellers}
+use Rattle.round.specs.Delivery.{AreEach, AreOfCampaign, AreTellers, IsDueIn, FillsFromTo, IsRoute, IsTold, IsToldUnder, IsWalk, first_under, order_in_letter, Tellers}
 use Rattle.round.specs.declared.front.Front.{Front}
 use Rattle.round.proofs.Delivering.{none_heard, told_all, told_none, told_on, told_one}
 use Rattle.round.proofs.Walking.{all_children, child_long, first_told, same_campaign, same_due, told_ends, under_first, under_past}
@@ -26,7 +26,7 @@ use Rattle.std.proofs.Math.Bool.{or-true}
 pub record IsToldUpTo (row : List Letter) (k : ℕ) (f : Front) (x : ℕ) (t u : LieutenantTree) : Type 0 where
   pub on : slice_index_or f.on t.general false ≡ true → u ≡ t
   pub off : slice_index_or f.on t.general false ≡ false → (w : List ℕ) → IsFront t.generals t.commander w f →
-      IsFilledBetween t row k (first_under t f k) ((slice_index f.ranks t.general * (t.generals - (f.size + 1)) + length (others x (t.general ∷ w))) * under t.generals (f.size + 1) (k - (f.size + 1))) u
+      FillsFromTo t row k (first_under t f k) ((slice_index f.ranks t.general * (t.generals - (f.size + 1)) + length (others x (t.general ∷ w))) * under t.generals (f.size + 1) (k - (f.size + 1))) u
 
 same_tree : {a b : LieutenantTree} → Some a ≡ Some b → a ≡ b
 same_tree e = cc

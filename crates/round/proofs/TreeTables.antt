@@ -10,7 +10,7 @@ use Rattle.label.proofs.Bounds.{others_here}
 use Rattle.label.proofs.Counting.{on-push, others-on}
 use Rattle.tree.specs.LieutenantTree.{LieutenantTree}
 use Rattle.round.specs.Letters.{Letter}
-use Rattle.round.specs.Delivery.{AreApart, AreEach, AreTellers, AreTellersOf, IsDueIn, IsFilledBetween, IsRoute, IsToldUnder, IsTreeTable, IsWalk, Tellers, first_under, past_under}
+use Rattle.round.specs.Delivery.{AreApart, AreEach, AreTellers, AreTellersOf, IsDueIn, FillsFromTo, IsRoute, IsToldUnder, IsTreeTable, IsWalk, Tellers, first_under, past_under}
 use Rattle.round.specs.declared.front.Front.{Front}
 use Rattle.round.proofs.Lists.{some_same, get_set, get_unset}
 use Rattle.round.proofs.Striking.{named, on_get, take_get, take_others, take_twice}
@@ -182,7 +182,7 @@ module _ (n : ℕ) (row : List Letter) (places : List ℕ) (k : ℕ) (f : Front)
       }
 
   pub named_next : (new : List LieutenantTree) (t u : LieutenantTree) → AreNamedTold row k f (take i tellers.generals) old new → place < length new → t ≡ get_or new place t →
-      ((letters : List Letter) (posts : List ℕ) → IsWalk t letters posts k f → AreTellersOf letters t f i tellers.rows → IsFilledBetween t letters k (first_under t f k) (past_under t f k) u) → AreNamedTold row k f (take (i + 1) tellers.generals) old (set new place u)
+      ((letters : List Letter) (posts : List ℕ) → IsWalk t letters posts k f → AreTellersOf letters t f i tellers.rows → FillsFromTo t letters k (first_under t f k) (past_under t f k) u) → AreNamedTold row k f (take (i + 1) tellers.generals) old (set new place u)
   named_next new t u h inside read told =
       let next = is_next new t h inside read in
       let filled = told row places next.walk next.tellers_of in

@@ -17,7 +17,7 @@ use Rattle.tree.specs.LieutenantTree.{LieutenantTree, IsCampaign, IsFilled, Same
 use Rattle.round.specs.Letters.{Letter, told_by, letter_of}
 use Rattle.round.specs.Told.{AreDue, told_now, round_of}
 use Rattle.round.specs.Fronts.{IsFront, under}
-use Rattle.round.specs.Delivery.{order_in_letter, IsFilledBetween, IsWalk}
+use Rattle.round.specs.Delivery.{order_in_letter, FillsFromTo, IsWalk}
 use Rattle.round.specs.declared.front.Front.{Front}
 use Rattle.round.proofs.Senders.{order_tells, letter_stands}
 use Rattle.round.proofs.Prolonging.{child_rank, child_fits, off-lieutenant, begun-long}
@@ -169,8 +169,8 @@ same_due t u row same due = record {
   letters = λ i l at. rw (same.generals, same.commander) (due.letters i l at);
 }
 
-pub told_ends : (t : LieutenantTree) (row : List Letter) (k i j a b : ℕ) (u : LieutenantTree) → i ≡ a → j ≡ b → IsFilledBetween t row k i j u → IsFilledBetween t row k a b u
-told_ends t row k i j a b u ei ej h = subst (λ (x : ℕ). IsFilledBetween t row k x b u) ei (subst (λ (y : ℕ). IsFilledBetween t row k i y u) ej h)
+pub told_ends : (t : LieutenantTree) (row : List Letter) (k i j a b : ℕ) (u : LieutenantTree) → i ≡ a → j ≡ b → FillsFromTo t row k i j u → FillsFromTo t row k a b u
+told_ends t row k i j a b u ei ej h = subst (λ (x : ℕ). FillsFromTo t row k x b u) ei (subst (λ (y : ℕ). FillsFromTo t row k i y u) ej h)
 
 -- what is told of a child
 pub tell_child : (t : LieutenantTree) (row : List Letter) (places : List ℕ) (k : ℕ) (f : Front) (walk : IsWalk t row places k f) → f.size + 1 ≡ k → IsCampaign t → (first width place x : ℕ) → width ≡ t.generals - k → first ≡ slice_index f.ranks t.general * width →

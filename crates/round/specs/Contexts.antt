@@ -33,24 +33,40 @@ context_of s before g =
 abbrev pub AreWords : Scenario → List (List Letter) → ℕ → Type 0
 AreWords s before g = (rank : ℕ) (u : List ℕ) → slice_get (relay (shape_of s g (suc (length before)))) rank ≡ Some u → value_of s before g u < 2 ^ 32
 
--- the number at this place of a context
+-- a word of a context, of 4 bytes
 abbrev pub number_told : List ℕ → ℕ → ℕ
-number_told context place = little_number (slice_range context (4 * place) (4 * place + 4))
+number_told context word = little_number (slice_range context (4 * word) (4 * word + 4))
+
+-- which words of a context tell what (`context_numbers`)
+abbrev pub at_generals : ℕ
+at_generals = 0
+
+abbrev pub at_general : ℕ
+at_general = 2
+
+abbrev pub at_commander : ℕ
+at_commander = 3
+
+abbrev pub at_round : ℕ
+at_round = 4
+
+abbrev pub at_kind : ℕ
+at_kind = 7
 
 -- a context tells this general and this round
 abbrev pub IsToldTo : ℕ → ℕ → List ℕ → Type 0
-IsToldTo g round context = (number_told context 2 ≡ g) × (number_told context 4 ≡ round)
+IsToldTo g round context = (number_told context at_general ≡ g) × (number_told context at_round ≡ round)
 
 -- the relay of a general in a round, in the campaign that his context tells
 abbrev pub shape_told : ℕ → ℕ → List ℕ → Shape
-shape_told g round context = record { generals = number_told context 0; commander = number_told context 3; general = g; round = round }
+shape_told g round context = record { generals = number_told context at_generals; commander = number_told context at_commander; general = g; round = round }
 
 -- that relay, where orders are oral, which a context tells by a zero
 abbrev pub relay_told : ℕ → ℕ → List ℕ → Relay
 relay_told g round context = oral (shape_told g round context)
 
 abbrev pub tells_oral : List ℕ → Type 0
-tells_oral context = number_told context 7 ≡ 0
+tells_oral context = number_told context at_kind ≡ 0
 
 -- the outbox that tells each receiver of each label the value that the context has
 abbrev pub outbox_told : Shape → List ℕ → Contents

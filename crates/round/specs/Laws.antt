@@ -11,7 +11,7 @@ use Rattle.semantics.specs.Reached.{Reached}
 use Rattle.board.specs.Board.{Access}
 use Rattle.round.specs.Scenario.{Scenario, IsScenario, shape_of}
 use Rattle.round.specs.Letters.{Letter}
-use Rattle.round.specs.Contexts.{AreWords, value_of, context_of, number_told, IsToldTo, shape_told, tells_oral, letter_told, loyal_letter}
+use Rattle.round.specs.Contexts.{AreWords, value_of, context_of, number_told, at_general, at_round, IsToldTo, shape_told, tells_oral, letter_told, loyal_letter}
 use Rattle.round.specs.Activation.{Activation, started, has_ended}
 use Rattle.round.specs.Runs.{Runs, IsWithin, AreFitting, IsLetter}
 
@@ -28,7 +28,7 @@ pub record ContextsTell : Type 0 where
 pub record LoyalLettersFollow : Type 0 where
   pub letter : (s : Scenario) (before : List (List Letter)) (g : ℕ) → IsScenario s → g < s.generals → length before ≤ s.bound → AreWords s before g →
       letter_told g (suc (length before)) (context_of s before g) ≡ loyal_letter s before g
-  pub kept : (context : List ℕ) → IsContext context → IsLetter (letter_told (number_told context 2) (number_told context 4) context)
+  pub kept : (context : List ℕ) → IsContext context → IsLetter (letter_told (number_told context at_general) (number_told context at_round) context)
 
 -- runs of one beginning, in as many steps and with the same accesses, have one end, also an unfinished one
 abbrev pub RunsHaveOneEnd : Type 0

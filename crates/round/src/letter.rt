@@ -32,10 +32,10 @@ pub struct Letter {
 }
 
 impl Model for Letter {
-    ghost use Rattle.round.specs.Letters.{Letter as Written};
+    ghost use Rattle.round.specs.Letters.{Letter as LetterSeen};
     ghost use Rattle.round.specs.Runs.{IsLetter};
 
-    ghost Value = { Written };
+    ghost Value = { LetterSeen };
 
     ghost view = { λ l. record {
       general = l.general;

@@ -24,9 +24,9 @@ pub struct Scenario {
 }
 
 impl Model for Scenario {
-    ghost use Rattle.round.specs.Scenario.{Scenario as Campaign, IsScenario};
+    ghost use Rattle.round.specs.Scenario.{Scenario as ScenarioSeen, IsScenario};
 
-    ghost Value = { Campaign };
+    ghost Value = { ScenarioSeen };
 
     ghost view = { λ s. record {
       generals = s.generals;
@@ -93,6 +93,13 @@ impl Scenario {
             patience,
             rule,
         }
+    }
+
+    /// What its type keeps.
+    pub fn recall(&self)
+        ensures { IsScenario self.now }
+    {
+        let _generals = self.generals;
     }
 
     /// How many generals there are, 2 to 13.

@@ -2,12 +2,12 @@
 #![tactic(auto)]
 
 mod fault;
+mod head;
 mod keys;
 mod place;
 mod programs;
 mod reader;
 mod tables;
-mod told;
 mod words;
 
 pub use fault::{Cause, Fault, ScenarioError};

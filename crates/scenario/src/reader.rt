@@ -11,7 +11,7 @@ use crate::fault::{Fault, ScenarioError};
 use crate::keys::{at, elements, general, number, optional_number, top_is_known};
 use crate::place::{Name, Place};
 use crate::tables::traitor;
-use crate::told::Head;
+use crate::head::Head;
 use crate::words::board;
 use combine::Rule;
 use round::{Scenario, Seat};
@@ -113,7 +113,7 @@ fn unseated(alloc: Global, generals: u8) -> Result<Vec<Seat>, AllocError>
 }
 
 /// The seat of a traitor with this program.
-fn taken(alloc: Global, program: Verified) -> Result<Seat, ScenarioError>
+fn seat_of(alloc: Global, program: Verified) -> Result<Seat, ScenarioError>
     ensures { MatchResult result (λ seat. seat ≡ Some program) (λ e. e ≡ Memory) }
 {
     Ok(Seat::new(Some(Arc::new(alloc, program)?)))
@@ -135,7 +135,7 @@ fn seated(alloc: Global, head: Head, values: &[Value]) -> Result<Scenario, Scena
     let mut seats = unseated(alloc, generals)?;
     for index in 0..values.len() {
         let (general, program) = traitor(alloc, generals, seats.as_slice(), index, &values[index])?;
-        seats[usize::from(general)] = taken(alloc, program)?;
+        seats[usize::from(general)] = seat_of(alloc, program)?;
     }
     Ok(Scenario::new(
         generals, bound, commander, order, board, seats, patience, rule,

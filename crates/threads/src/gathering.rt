@@ -5,7 +5,7 @@ ghost use Rattle.world.specs.Accounted.{rounds_of, IsAccounted};
 ghost use Rattle.threads.specs.declared.error.MusterError.TheVariants.{Unaccounted, Spawn, Post};
 
 use crate::error::MusterError;
-use crate::holding::are_accounted;
+use crate::account::are_accounted;
 use crate::rounds::are_of_round;
 use crate::taking::arrange;
 use board::Access;

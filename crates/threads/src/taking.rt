@@ -8,8 +8,8 @@ ghost use Rattle.threads.specs.Taking.{left_by, left_row, IsGrid};
 use round::{Letter, Round};
 use std::alloc::{AllocError, Global};
 
-/// Where the first letter of a general in a round stands.
-fn place_of(letters: &[Letter], general: u32, round: u32) -> Option<usize>
+/// The index of the first letter of a general in a round.
+fn index_of(letters: &[Letter], general: u32, round: u32) -> Option<usize>
     ensures within { IfSome result (λ i. i < length letters.now) }
     ensures found { MatchOption result (letter_by general round letters.now ≡ None) (λ i. letter_by general round letters.now ≡ slice_get letters.now i) }
     ensures left { IfSome result (λ i. left_by general round letters.now ≡ remove letters.now i) }
@@ -29,7 +29,7 @@ fn take(letters: &mut Vec<Letter>, general: u32, round: u32) -> Option<Letter>
     ensures left { IfSome result (λ _. letters.new.items ≡ left_by general round letters.old.items) }
     ensures fewer { IfSome result (λ _. length letters.new.items + 1 ≡ length letters.old.items) }
 {
-    match place_of(letters.as_slice(), general, round) {
+    match index_of(letters.as_slice(), general, round) {
         Some(i) => Some(letters.remove(i)),
         None => None,
     }

@@ -7,7 +7,7 @@ ghost use Rattle.trace.specs.Sinks.{Wrote};
 ghost use Rattle.trace.specs.Text.{text, row_lines, letter_lines, round_lines, decision_lines};
 ghost use Rattle.trace.specs.Lines.{decided_lines, one_round};
 
-use crate::composing::Line;
+use crate::composing::LineBuffer;
 use crate::lines::{put_accesses, put_author, put_decision, put_round, put_row};
 use crate::sink::Sink;
 use board::Access;
@@ -18,7 +18,7 @@ use round::{Letter, Round, Scenario};
 fn put_rows<S: Sink>(sink: &mut S, outbox: &Outbox)
     ensures { Wrote (S.contents sink.old) (S.has_failed sink.old) (text (row_lines 0 outbox.now.rows)) (S.contents sink.new) (S.has_failed sink.new) }
 {
-    let mut line = Line::new();
+    let mut line = LineBuffer::new();
     for rank in 0..outbox.labels() {
         put_row(sink, &mut line, outbox, rank);
     }

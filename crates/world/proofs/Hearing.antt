@@ -17,7 +17,7 @@ use Rattle.round.proofs.Loyal.{shape_is_told, own_is_told, letter_is}
 use Rattle.world.specs.Part.{Part, Acting, Silent, Posted}
 use Rattle.world.specs.World.{World, each}
 use Rattle.world.specs.Reached.{IsHeld}
-use Rattle.world.specs.Held.{written, letters_held}
+use Rattle.world.specs.Held.{letter_held, letters_held}
 use Rattle.world.specs.Safety.{IsPlaced}
 use Rattle.world.proofs.Standing.{proved_parts_are_placed}
 
@@ -34,7 +34,7 @@ abbrev IsOfRound : Scenario → ℕ → Letter → Type 0
 IsOfRound s round l = (l.round ≡ round) × (l.outbox.relay.shape ≡ shape_of s l.general round)
 
 written_round : (s : Scenario) (closed : List (List Letter)) (accesses : List Access) (g : ℕ) (o : Option Part) → ((a : Activation) → o ≡ Some (Acting a) → IsPlaced s closed g a) →
-    All (IsOfRound s (suc (length closed))) (written s closed accesses g o)
+    All (IsOfRound s (suc (length closed))) (letter_held s closed accesses g o)
 written_round s closed accesses g None h = All-nil (IsOfRound s (suc (length closed)))
 written_round s closed accesses g (Some (Acting a)) h = all_one (IsOfRound s (suc (length closed))) _ (refl, ap (λ (r : Relay). r.shape) (h a refl).relay)
 written_round s closed accesses g (Some Silent) h = All-nil (IsOfRound s (suc (length closed)))
@@ -46,7 +46,7 @@ pub row_told : (s : Scenario) (closed : List (List Letter)) (k : RecordedBoard) 
 row_told s closed k opened ps full told row is h was same i l at =
     let Q : World → Type 0 = λ v. (g : ℕ) (a : Activation) → slice_get v.parts g ≡ Some (Acting a) → IsPlaced s v.closed g a in
     let placed = subst Q h.reached.1 (λ g a e. proved_parts_are_placed s h.reached.0 g a is e) in
-    let all = each_all (IsOfRound s (suc (length closed))) s.generals (λ g. written s closed (drop opened k.ledger) g (slice_get ps g)) (λ g. written_round s closed (drop opened k.ledger) g (slice_get ps g) (λ a e. placed g a e)) in
+    let all = each_all (IsOfRound s (suc (length closed))) s.generals (λ g. letter_held s closed (drop opened k.ledger) g (slice_get ps g)) (λ g. written_round s closed (drop opened k.ledger) g (slice_get ps g) (λ a e. placed g a e)) in
     let here : slice_get (letters_held s closed (drop opened k.ledger) ps) i ≡ Some l = ap (λ (r : List Letter). slice_get r i) (sym same) ∙ at in
     let within = slice_get_within (letters_held s closed (drop opened k.ledger) ps) i l here in
     let it : get_or (letters_held s closed (drop opened k.ledger) ps) i l ≡ l = (let f : Some (get_or (letters_held s closed (drop opened k.ledger) ps) i l) ≡ Some l = sym (slice_get-get_or (letters_held s closed (drop opened k.ledger) ps) i l within) ∙ here in cc) in

@@ -72,7 +72,7 @@ fn blank(
     requires inside { general < scenario.now.generals }
     ensures { IfOk result (λ running. running ≡ started scenario.now.patience (arc_value program.now) zeros (oral (shape_of scenario.now general (suc before)))) }
 {
-    let _few = scenario.bound();
+    scenario.recall();
     let context = zeros(alloc)?;
     let outbox = Outbox::new(alloc, scenario.shape(general, before + 1))?;
     let program = program.clone()?;

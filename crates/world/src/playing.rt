@@ -11,8 +11,8 @@ ghost use Rattle.world.specs.Lists.{event_of, post_of, ticks_of, wound_up, liste
 ghost use Rattle.world.specs.Schedules.{entries_of, lines_by};
 ghost use Rattle.world.specs.Playing.{line_events, lists_in};
 
-use crate::campaign::World;
-use crate::onward;
+use crate::world::World;
+use crate::parts;
 use crate::schedule::{Repeat, Schedule};
 use round::Scenario;
 use std::alloc::{AllocError, Global};
@@ -24,10 +24,10 @@ impl World {
     {
         let mut left = times;
         while left > 0 {
-            if onward::is_still(self.parts.as_slice(), general) {
+            if parts::is_still(self.parts.as_slice(), general) {
                 return Ok(());
             }
-            let steps = onward::steps(self.parts.as_slice(), general);
+            let steps = parts::steps(self.parts.as_slice(), general);
             let taken = self.ahead(general, steps.saturating_add(left));
             left -= taken;
             if left > 0 {
@@ -39,7 +39,7 @@ impl World {
     }
 
     /// A general's entries: a traitor's ticks or a loyal general's posts; none where there is no such general.
-    fn entry(&mut self, repeat: Repeat) -> Result<(), AllocError>
+    fn play_entry(&mut self, repeat: Repeat) -> Result<(), AllocError>
         ensures { OnOk result (self.new ≡ run self.old (line_events self.old.scenario (replicate repeat.times repeat.general))) }
     {
         if repeat.general >= self.scenario.generals() {
@@ -80,17 +80,17 @@ impl World {
         ensures { OnOk result (self.new ≡ run self.old (line_events self.old.scenario (entries_of repeats.now))) }
     {
         for repeat in repeats {
-            self.entry(*repeat)?;
+            self.play_entry(*repeat)?;
         }
         Ok(())
     }
 
     /// A named traitor's ticks until he has made one more access or has ended; nothing for another name.
-    fn name(&mut self, general: u32) -> Result<(), AllocError>
+    fn tick_to_access(&mut self, general: u32) -> Result<(), AllocError>
         ensures { OnOk result (self.new ≡ run self.old (ticks_named general (slice_get self.old.parts general))) }
     {
-        let _few = self.scenario.bound();
-        match onward::instructions(self.parts.as_slice(), general) {
+        self.scenario.recall();
+        match parts::instructions(self.parts.as_slice(), general) {
             None => Ok(()),
             Some(most) => {
                 self.ahead(general, most);
@@ -104,7 +104,7 @@ impl World {
         ensures { OnOk result (self.new ≡ run self.old (names_events self.old names.now)) }
     {
         for general in names {
-            self.name(u32::from(*general))?;
+            self.tick_to_access(u32::from(*general))?;
         }
         Ok(())
     }
@@ -120,7 +120,7 @@ impl World {
     }
 
     /// A traitor's ticks to his end.
-    fn ends(&mut self, general: u8) -> Result<(), AllocError>
+    fn tick_to_end(&mut self, general: u8) -> Result<(), AllocError>
         requires { general < self.old.scenario.generals }
         ensures { OnOk result (self.new ≡ run self.old (ticks_of general (program_of self.old.scenario general))) }
     {
@@ -147,7 +147,7 @@ impl World {
         ensures { OnOk result (self.new ≡ run self.old (each self.old.scenario.generals (λ g. ticks_of g (program_of self.old.scenario g)))) }
     {
         for general in 0..self.scenario.generals() {
-            self.ends(general)?;
+            self.tick_to_end(general)?;
         }
         Ok(())
     }
@@ -202,7 +202,7 @@ impl World {
         ensures agree { IfOk result (λ world. IsBound scenario.generals scenario.bound (is_traitor scenario) →
             Agree scenario.generals scenario.commander scenario.order (is_traitor scenario) (decision scenario (messages world.closed))) }
     {
-        let _few = scenario.bound();
+        scenario.recall();
         let mut world = World::open(alloc, scenario)?;
         let rounds = usize::from(world.scenario.bound()) + 1;
         for round in 0..rounds {
@@ -224,7 +224,7 @@ impl World {
         ensures replayed { IfOk result (λ world. world ≡ run (opening scenario) (replayed scenario (lists_in names.now))) }
         ensures finished { IfOk result IsFinished }
     {
-        let _few = scenario.bound();
+        scenario.recall();
         let mut world = World::open(alloc, scenario)?;
         let rounds = usize::from(world.scenario.bound()) + 1;
         for round in 0..rounds {
