@@ -15,7 +15,7 @@ use Rattle.signed.specs.Plays.{IsShort, SignedActivationsAreSafe}
 use Rattle.signed.proofs.Making.{Row}
 use Rattle.signed.proofs.Keeping.{Keeps, opening_kept, happen_kept}
 use Rattle.signed.proofs.Midst.{IsMove, AreTraitors, Midst, InRound, midst_first, move_in}
-use Rattle.signed.proofs.Safe.{IsDue, due, untrapped, fewer, placed}
+use Rattle.signed.proofs.Safe.{IsDue, due, untrapped, fewer, placed, ended_stays}
 
 -- the world has come from the beginning of its round, and before it the ledger was legal
 pub record Midway (s : SignedScenario) (w : RunWorld) : Type 0 where
@@ -167,4 +167,5 @@ proved_safe = record {
   fewer = λ s es g a is at. fewer s (played s es).closed g a (acts s es g a is at);
   placed = λ s es g a is at. placed s (played s es) g a (acts s es g a is at);
   letters = λ s es is. (let m = midway s es is in let A : List Row → Type 0 = λ c. All (λ row. All (IsShort s) row) c in subst A (sym m.in_round.same.closed_is) m.short);
+  ended = λ s es g a at over. ended_stays s (played s es) g a at over;
 }

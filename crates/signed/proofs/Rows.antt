@@ -2,13 +2,14 @@
 use Rattle.std.proofs.Common.{◌≡◌, ℕ, ◌+◌, true, false, cond, arith, List, [], ◌∷◌, ◌++◌, length, refl, None, Some}
 use Rattle.std.specs.Prelude.{◌==◌, nat_le, codes, replicate}
 use Rattle.std.specs.Fmt.{digits}
+use Rattle.trace.specs.Text.{Line}
 use Rattle.signed.specs.Chains.{IsChain, begin, prolong}
 use Rattle.signed.specs.Accepted.{held, accepted, loyal_chains, counts, firsts, decided}
 use Rattle.signed.specs.Entries.{Entry, Sign, sign_order, pass_on, receivers_in, entered, answer_to}
 use Rattle.signed.specs.Campaign.{Campaign, Conduct}
 use Rattle.signed.specs.World.{Event, Tick, Post, Close, opening, run, context_behind, accepted_in, delivered, refusal, NotOpen, NoGeneral}
 use Rattle.signed.specs.Chronicle.{chronicle_of, decisions}
-use Rattle.signed.specs.Text.{Line, signed_lines, signed_text}
+use Rattle.signed.specs.Text.{signed_lines, signed_text}
 
 abbrev pub whole : List (List ℕ) → List ℕ
 whole [] = []

@@ -18,14 +18,15 @@ use Rattle.round.proofs.Fitting.{fitting_among}
 use Rattle.round.proofs.Going.{IsGoing, TurnsTo, turn_safe, going_zero, over_ended}
 use Rattle.round.proofs.Settled.{IsSettled, runs_settled}
 use Rattle.world.specs.World.{accesses_of}
+use Rattle.world.proofs.Holding.{set-same}
 use Rattle.signed.specs.Chains.{Chain}
 use Rattle.signed.specs.Contexts.{signer_bits}
 use Rattle.signed.specs.Campaign.{is_traitor}
-use Rattle.signed.specs.World.{Acting, held_behind, context_behind, round_open}
-use Rattle.signed.specs.Programs.{SignedScenario, IsSignedScenario, RunWorld, shape_in, signers_told}
+use Rattle.signed.specs.World.{Part, Acting, Tick, happen, held_behind, context_behind, round_open}
+use Rattle.signed.specs.Programs.{SignedScenario, IsSignedScenario, RunWorld, shape_in, signers_told, conduct_of}
 use Rattle.signed.specs.Plays.{IsPlaced}
 use Rattle.signed.proofs.Making.{Row}
-use Rattle.signed.proofs.Midst.{InRound, start, has_part, his}
+use Rattle.signed.proofs.Midst.{InRound, start, has_part, his, tick_is}
 use Rattle.signed.proofs.Bytes.{bytes_context, shape_is}
 
 -- of so many steps for which a run's beginning is safe, those that are left at its end
@@ -88,6 +89,11 @@ untrapped s closed g a cause d on e =
 
 pub fewer : (s : SignedScenario) (closed : List Row) (g : ℕ) (a : Activation) → IsDue s closed g a → a.state.steps ≤ length a.program
 fewer s closed g a d = (let e = d.within in let p = ap length d.settled.program in omega arith)
+
+-- a tick of an ended activation changes nothing
+pub ended_stays : (s : SignedScenario) (w : RunWorld) (g : ℕ) (a : Activation) → slice_get w.parts g ≡ Some (Acting a) → has_ended a ≡ true → happen (conduct_of s) w (Tick g) ≡ w
+ended_stays s w g a at over =
+    tick_is s w g a Ended at (over_ended a over) ∙ ap (λ (parts : List (Part Activation)). record w { parts = parts }) (set-same w.parts g (Acting a) at)
 
 -- a context tells the signers of each chain held
 signers_held : (held : List Chain) → signers_told (flat_map (λ ch. ch.order ∷ signer_bits ch ∷ []) held) ≡ map signer_bits held

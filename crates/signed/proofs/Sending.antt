@@ -35,7 +35,7 @@ use Rattle.signed.proofs.Making.{Row, IsMade}
 use Rattle.signed.proofs.Forging.{world_unforged}
 use Rattle.signed.proofs.Exits.{exit_same}
 use Rattle.signed.proofs.Entering.{entries_entered}
-use Rattle.signed.proofs.Signing.{all_send}
+use Rattle.signed.proofs.Signing.{sendable_is, all_send}
 use Rattle.signed.proofs.Bytes.{bytes_context, shape_is}
 use Rattle.signed.proofs.Midst.{InRound, start}
 use Rattle.signed.proofs.Safe.{IsDue, due, placed}
@@ -128,8 +128,9 @@ kept_in s closed board full w g a is h at =
     (λ on. safe_of_sound (s.program g) (context_bytes numbers) relay (is.sound g d.traitor) (bytes_context numbers) (shape_is s g (length closed) is d.general d.rounds))
     (start_kept s.campaign.patience (s.program g) (context_bytes numbers) relay) c.1
 
--- the entries of an acting general, as those of the chains that he holds
+-- what an acting general can enter, and has entered, by the chains that he holds
 pub record HasEntered (s : SignedScenario) (w : RunWorld) (g : ℕ) (a : Activation) : Type 0 where
+  pub agree : (e : Entered) → is_sendable a.relay e ≡ is_some (chain_of s.campaign.commander g (held_behind s.campaign w.closed g) e)
   pub few : length a.state.entries ≤ 8
   pub each : AllByRecursion (λ e. is_some (chain_of s.campaign.commander g (held_behind s.campaign w.closed g) e) ≡ true) a.state.entries
 
@@ -145,13 +146,17 @@ has_entered s es g a is at =
     let distinct : (ch : Chain) → Among ch held → is_distinct ch.signers ≡ true =
     (λ ch there. (let A : Campaign → Type 0 = λ c. c.commander < c.generals → Among ch (held_behind c w.closed g) → is_distinct ch.signers ≡ true in
     subst A h.same.campaign (λ inside. held_distinct Activation RecordedBoard w made inside (suc (length w.closed)) g ch)) is.commander there) in
+    let agree : (e : Entered) → is_sendable a.relay e ≡ is_some (chain_of s.campaign.commander g held e) =
+    (λ e. ap (λ (r : Relay). is_sendable r e) p.relay ∙ sendable_is s.campaign g (suc (length w.closed)) held e distinct) in
     record {
+      agree = agree;
       few = k.sendable.few;
-      each = all_send s.campaign g (suc (length w.closed)) held a.state.entries distinct (let A : Relay → Type 0 = λ r. AllByRecursion (λ e. is_sendable r e ≡ true) a.state.entries in subst A p.relay k.sendable.each);
+      each = all_send (is_sendable a.relay) s.campaign.commander g held a.state.entries agree k.sendable.each;
     }
 
 pub proved_sent : SignedEntriesAreSent
 proved_sent = record {
+  agree = λ s es g a e is at. (has_entered s es g a is at).agree e;
   each = λ s es g a is at. (has_entered s es g a is at).each;
   sent = λ s es g a is at.
       let e = has_entered s es g a is at in

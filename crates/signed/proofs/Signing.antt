@@ -1,9 +1,9 @@
--- What a program may enter by the numbers of its relay is a chain that its general can send.
+-- What a program may enter by the numbers of its relay is just what its general has a chain to send of.
 use Rattle.std.proofs.Common.{◌≡◌, ◌≢◌, ℕ, zero, suc, ◌+◌, ◌*◌, ◌^◌, ◌<◌, max, Bool, true, false, not, cond, List, [], ◌∷◌, map, refl, sym, ap, subst, ◌∙◌, inl, inr, ⊎_elim, Some, None, arith}
 use Rattle.std.specs.Prelude.{◌==◌, ◌||◌, slice_get, is_some, sum_by}
 use Rattle.std.specs.Int.{bit_at}
 use Rattle.std.specs.Int.Bits.{bit_and}
-use Rattle.std.proofs.lemmas.Bool.{and_parts, not-true, cases_Bool, eq-eqb}
+use Rattle.std.proofs.lemmas.Bool.{and_parts, not-true}
 use Rattle.std.proofs.lemmas.Bool.Decides.{eqb_tells}
 use Rattle.std.proofs.lemmas.Nat.{or_disjoint}
 use Rattle.std.proofs.lemmas.List.Sums.{sum_by-cons}
@@ -12,7 +12,7 @@ use Rattle.std.specs.List.{AllByRecursion}
 use Rattle.label.specs.Labels.{on, is_distinct}
 use Rattle.semantics.specs.Relay.{signed}
 use Rattle.semantics.specs.Entries.{is_unsigned, is_sendable}
-use Rattle.signed.specs.Chains.{Chain, Among, signed_alone, signed_also}
+use Rattle.signed.specs.Chains.{Chain, Among, signed_alone, signed_also, begin, prolong}
 use Rattle.signed.specs.Contexts.{signer_bits}
 use Rattle.signed.specs.Entries.{Entry, Sign, Pass, passed_on, chain_of}
 use Rattle.signed.specs.Campaign.{Campaign}
@@ -48,37 +48,35 @@ bits_are (x ∷ xs) i d =
     most ∙ (bits_are xs i both.1 ∙ sym (ap (λ b. cond {A = ℕ} (b || on xs i) 1 0) h.0)))
     (eqb_tells x i))
 
--- so a chain held that counts as unsigned is one on which the general does not stand
-pub unsigned_off : (ch : Chain) (g : ℕ) → is_distinct ch.signers ≡ true → not (bit_at (signer_bits ch) g == 1) ≡ true → on ch.signers g ≡ false
-unsigned_off ch g d h = elim (cases_Bool (on ch.signers g)) [
-  | inl there ↦ absurd (
-      let one : bit_at (signer_bits ch) g ≡ 1 = bits_are ch.signers g d ∙ ap (λ b. cond {A = ℕ} b 1 0) there in
-      let yes_one : (bit_at (signer_bits ch) g == 1) ≡ true = eq-eqb (bit_at (signer_bits ch) g) 1 one in
-      let no_one : (bit_at (signer_bits ch) g == 1) ≡ false = not-true (bit_at (signer_bits ch) g == 1) h in
-      let f : true ≡ false = sym yes_one ∙ no_one in cc)
-  | inr off ↦ off
-]
+-- so the bits of a chain's signers tell who can prolong it
+unsigned_is : (ch : Chain) (g : ℕ) → is_distinct ch.signers ≡ true → not (bit_at (signer_bits ch) g == 1) ≡ is_some (prolong ch g)
+unsigned_is ch g d = ap (λ b. not (b == 1)) (bits_are ch.signers g d) ∙ by (on ch.signers g)
+  where
+    by : (b : Bool) → not (cond {A = ℕ} b 1 0 == 1) ≡ is_some (cond b None (Some (signed_also ch g)))
+    by true = refl
+    by false = refl
 
-is_begun : (c g order : ℕ) (b : Bool) → b ≡ true → is_some (cond b (Some (signed_alone order g)) None) ≡ true
-is_begun c g order b e = ap (λ x. is_some (cond x (Some (signed_alone order g)) None)) e
-
-is_prolonged : (ch : Chain) (g : ℕ) (b : Bool) → b ≡ false → is_some (cond b None (Some (signed_also ch g))) ≡ true
-is_prolonged ch g b e = ap (λ x. is_some (cond x None (Some (signed_also ch g)))) e
+begun_is : (c g order : ℕ) → (g == c) ≡ is_some (begin c g order)
+begun_is c g order = by (g == c)
+  where
+    by : (b : Bool) → b ≡ is_some (cond b (Some (signed_alone order g)) None)
+    by true = refl
+    by false = refl
 
 abbrev AreDistinct : List Chain → Type 0
 AreDistinct held = (ch : Chain) → Among ch held → is_distinct ch.signers ≡ true
 
-passes : (g place : ℕ) (held : List Chain) → AreDistinct held → is_unsigned g (slice_get (map signer_bits held) place) ≡ true → is_some (passed_on g (slice_get held place)) ≡ true
-passes g place [] d h = absurd (let f : false ≡ true = h in cc)
-passes g zero (ch ∷ held) d h = is_prolonged ch g (on ch.signers g) (unsigned_off ch g (d ch (inl refl)) h)
-passes g (suc place) (ch ∷ held) d h = passes g place held (λ k there. d k (inr there)) h
+passed_is : (g place : ℕ) (held : List Chain) → AreDistinct held → is_unsigned g (slice_get (map signer_bits held) place) ≡ is_some (passed_on g (slice_get held place))
+passed_is g place [] d = refl
+passed_is g zero (ch ∷ held) d = unsigned_is ch g (d ch (inl refl))
+passed_is g (suc place) (ch ∷ held) d = passed_is g place held (λ k there. d k (inr there))
 
--- where the relay has the signers of the chains held, what it lets be sent has a chain
-pub sends_chain : (s : Campaign) (g round : ℕ) (held : List Chain) (e : Entry) → AreDistinct held → is_sendable (signed (shape_in s g round) (map signer_bits held)) e ≡ true → is_some (chain_of s.commander g held e) ≡ true
-sends_chain s g round held (Sign order bits) d h = is_begun s.commander g order (g == s.commander) h
-sends_chain s g round held (Pass place bits) d h = passes g place held d h
+-- where the relay has the signers of the chains held, it lets be sent what has a chain
+pub sendable_is : (s : Campaign) (g round : ℕ) (held : List Chain) (e : Entry) → AreDistinct held → is_sendable (signed (shape_in s g round) (map signer_bits held)) e ≡ is_some (chain_of s.commander g held e)
+sendable_is s g round held (Sign order bits) d = begun_is s.commander g order
+sendable_is s g round held (Pass place bits) d = passed_is g place held d
 
-pub all_send : (s : Campaign) (g round : ℕ) (held : List Chain) (es : List Entry) → AreDistinct held → AllByRecursion (λ e. is_sendable (signed (shape_in s g round) (map signer_bits held)) e ≡ true) es →
-    AllByRecursion (λ e. is_some (chain_of s.commander g held e) ≡ true) es
-all_send s g round held [] d h = tt
-all_send s g round held (e ∷ es) d h = (sends_chain s g round held e d h.0, all_send s g round held es d h.1)
+pub all_send : (t : Entry → Bool) (c g : ℕ) (held : List Chain) (es : List Entry) → ((e : Entry) → t e ≡ is_some (chain_of c g held e)) → AllByRecursion (λ e. t e ≡ true) es →
+    AllByRecursion (λ e. is_some (chain_of c g held e) ≡ true) es
+all_send t c g held [] is h = tt
+all_send t c g held (e ∷ es) is h = (sym (is e) ∙ h.0, all_send t c g held es is h.1)

@@ -12,4 +12,5 @@ pub mod Signers
 pub mod Verdicts
 pub mod Programs
 pub mod Lists
+pub mod Told
 pub mod Plays

@@ -1,33 +1,16 @@
--- The text of a signed campaign's chronicle, the third version, line by line (own).
-use Rattle.std.specs.Prelude.{ℕ, suc, Bool, true, false, List, [], ◌∷◌, ◌++◌, map, flat_map, decimal, codes, Option, None, Some}
+-- The text of a signed campaign's chronicle, the third version, line by line (own). Lines of decisions are those of the other versions.
+use Rattle.std.specs.Prelude.{ℕ, suc, List, [], ◌∷◌, ◌++◌, map, flat_map, decimal, codes, Option, None, Some}
 use Rattle.label.specs.Lieutenants.{lieutenants}
+use Rattle.trace.specs.Text.{Line, text, place, decision_line, yes_no, yes_no_none}
 use Rattle.signed.specs.Entries.{Dispatch}
 use Rattle.signed.specs.Campaign.{Campaign, is_traitor}
 use Rattle.signed.specs.World.{Letter}
 use Rattle.signed.specs.Chronicle.{Verdict, Chronicle}
 
-abbrev pub Line : Type 0
-Line = List (List ℕ)
-
--- words with a byte before each
-abbrev pub further : ℕ → Line → List ℕ
-further byte [] = []
-further byte (w ∷ ws) = byte ∷ w ++ further byte ws
-
--- words with a byte between them
-abbrev pub joined : ℕ → Line → List ℕ
-joined byte [] = []
-joined byte (w ∷ ws) = w ++ further byte ws
-
--- lines, each with its LF, and with a space between its words
-abbrev pub text : List Line → List ℕ
-text [] = []
-text (l ∷ ls) = joined 32 l ++ 10 ∷ text ls
-
 -- generals joined by dots, or - for none
 abbrev pub dotted : List ℕ → List ℕ
 dotted [] = codes "-"
-dotted (g ∷ gs) = joined 46 (map decimal (g ∷ gs))
+dotted (g ∷ gs) = decimal g ++ flat_map (λ h. 46 ∷ decimal h) gs
 
 -- a chain, its signers in their order, and its receivers
 abbrev pub chain_line : Dispatch → Line
@@ -46,34 +29,17 @@ round_lines accesses round [] = []
 round_lines accesses round (letters ∷ rounds) =
     (codes "round" ∷ decimal round ∷ []) ∷ (accesses round ++ (flat_map letter_lines letters ++ round_lines accesses (suc round) rounds))
 
-abbrev pub decision_line : ℕ → Bool → ℕ → Line
-decision_line g true d = codes "decision" ∷ decimal g ∷ codes "traitor" ∷ decimal d ∷ []
-decision_line g false d = codes "decision" ∷ decimal g ∷ decimal d ∷ []
-
 abbrev pub decision_lines : Campaign → List ℕ → List ℕ → List Line
 decision_lines s (g ∷ gs) (d ∷ ds) = decision_line g (is_traitor s g) d ∷ decision_lines s gs ds
 decision_lines s _ _ = []
 
-abbrev pub yes_no : Bool → List ℕ
-yes_no true = codes "yes"
-yes_no false = codes "no"
-
-abbrev pub yes_no_none : Option Bool → List ℕ
-yes_no_none None = codes "-"
-yes_no_none (Some b) = yes_no b
-
 abbrev pub verdict_line : Verdict → Line
 verdict_line v = codes "verdict" ∷ codes "alike" ∷ yes_no v.alike ∷ codes "obeyed" ∷ yes_no_none v.obeyed ∷ codes "bound" ∷ yes_no v.bound ∷ []
-
--- a number, or - for nothing
-abbrev pub number_or_none : Option ℕ → List ℕ
-number_or_none None = codes "-"
-number_or_none (Some number) = decimal number
 
 abbrev pub head_lines : Campaign → List Line
 head_lines s =
     (codes "chronicle" ∷ codes "3" ∷ [])
-    ∷ (codes "signed" ∷ codes "generals" ∷ decimal s.generals ∷ codes "bound" ∷ decimal s.bound ∷ codes "commander" ∷ decimal s.commander ∷ codes "order" ∷ decimal s.order ∷ codes "patience" ∷ number_or_none s.patience ∷ [])
+    ∷ (codes "signed" ∷ codes "generals" ∷ decimal s.generals ∷ codes "bound" ∷ decimal s.bound ∷ codes "commander" ∷ decimal s.commander ∷ codes "order" ∷ decimal s.order ∷ codes "patience" ∷ place s.patience ∷ [])
     ∷ []
 
 unfoldable pub signed_lines : (ℕ → List Line) → Chronicle → List Line

@@ -52,12 +52,12 @@ pub fn entries_are_entered()
     ensures { EntriesAreEntered }
 {}
 
-/// Where traitors run programs, whatever happens, no activation traps or takes more steps than its program has instructions.
+/// Where traitors run programs, whatever happens, no activation traps or takes more steps than its program has instructions, and an ended one stays as it is.
 pub fn signed_activations_are_safe()
     ensures { SignedActivationsAreSafe }
 {}
 
-/// What a traitor's program has entered is all sent when the round closes.
+/// The machine lets an entry be sent exactly where the definition has a chain for it, and what a traitor's program has entered is all sent when the round closes.
 pub fn signed_entries_are_sent()
     ensures { SignedEntriesAreSent }
 {}
@@ -72,7 +72,7 @@ pub fn signed_ledgers_decide()
     ensures { SignedLedgersDecide }
 {}
 
-/// A complete run is the replay of its own accesses, which are legal and traitors' alone.
+/// A complete run is the replay of its own accesses, and so is its text; they are legal and traitors' alone.
 pub fn signed_runs_are_replays()
     ensures { SignedRunsAreReplays }
 {}
