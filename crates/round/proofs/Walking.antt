@@ -12,16 +12,14 @@ use Rattle.label.specs.declared.space.Space.{Space}
 use Rattle.label.proofs.Bounds.{others_length_more}
 use Rattle.label.proofs.Counts.{count-more, row-fits}
 use Rattle.label.proofs.Parts.{wide}
-use Rattle.label.specs.Oral.{Messages}
-use Rattle.tree.specs.LieutenantTree.{LieutenantTree, IsCampaign, IsFilled, SameCampaign, told_also}
+use Rattle.tree.specs.LieutenantTree.{LieutenantTree, IsCampaign, SameCampaign}
 use Rattle.round.specs.Letters.{Letter, told_by, letter_of}
 use Rattle.round.specs.Told.{AreDue, told_now, round_of}
 use Rattle.round.specs.Fronts.{IsFront, under}
 use Rattle.round.specs.Delivery.{order_in_letter, FillsFromTo, IsWalk}
 use Rattle.round.specs.declared.front.Front.{Front}
 use Rattle.round.proofs.Senders.{order_tells, letter_stands}
-use Rattle.round.proofs.Prolonging.{child_rank, child_fits, off-lieutenant, begun-long}
-use Rattle.round.proofs.Delivering.{told_on, told_one}
+use Rattle.round.proofs.Prolonging.{child_rank, off-lieutenant, begun-long}
 use Rattle.round.proofs.Fronts.{last-push, front-push}
 use Rattle.round.proofs.Lists.{some_same}
 

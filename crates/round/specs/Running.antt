@@ -7,8 +7,8 @@ use Rattle.board.specs.Board.{Access, reply, next}
 use Rattle.board.specs.Ledger.{RecordedBoard}
 use Rattle.machine.specs.Standing.{Standing, before}
 use Rattle.machine.specs.Advance.{IsOfRun}
-use Rattle.machine.specs.declared.pause.Stop.{Stop}
-use Rattle.machine.specs.declared.pause.Stop.TheVariants.{Asked, Exited, Limit}
+use Rattle.machine.specs.declared.stop.Stop.{Stop}
+use Rattle.machine.specs.declared.stop.Stop.TheVariants.{Asked, Exited, Limit}
 use Rattle.insn.specs.declared.insn.Insn.{Insn}
 use Rattle.round.specs.Letters.{Letter}
 use Rattle.round.specs.Contexts.{relay_told}

@@ -135,7 +135,7 @@ fn answered<S: Server>(
     ensures undone { OnErr result (activation.new.state ≡ before activation.old.state) }
     ensures unserved { OnErr result (S.served server.new ≡ S.served server.old) }
     ensures of_run { (code : List Insn) (context : List ℕ) →
-        IsAskOfRun code context (record { relay = activation.old.relay; request = request; last = before activation.old.state; state = activation.old.state }) → IsOfRun code context activation.new }
+        IsAskOfRun code context request activation.old → IsOfRun code context activation.new }
 {
     match server.serve(general, round, request) {
         Ok(reply) => {

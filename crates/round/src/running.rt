@@ -58,10 +58,8 @@ impl Running {
         requires unentered { outbox.entries ≡ [] }
         ensures { result ≡ started patience (arc_value program) context.items outbox.relay }
     {
-        let Some(bytes) = Context::new(context.as_slice()) else {
-            unreachable!()
-        };
-        let activation = Activation::start(&program, &bytes, outbox);
+        let told = Context::new(context.as_slice());
+        let activation = Activation::start(&program, &told, outbox);
         Running {
             program,
             context,
@@ -96,15 +94,15 @@ impl Running {
             over,
             ..
         } = self;
-        let ended = activation.end();
+        let steps = activation.steps();
         Letter {
             general,
             round,
             context,
             program: Seat::new(Some(program)),
             transcript,
-            steps: ended.steps,
-            outbox: ended.outbox,
+            steps,
+            outbox: activation.into_outbox(),
             exited: over,
         }
     }
