@@ -24,3 +24,4 @@ pub mod MemoryRows
 pub mod StepReasons
 pub mod InstructionLemmas
 pub mod PassRuns
+pub mod KnownLemmas

@@ -17,3 +17,4 @@ pub mod Flow
 pub mod Instructions
 pub mod Passes
 pub mod Telling
+pub mod KnownAtUnits

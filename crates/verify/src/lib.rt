@@ -5,6 +5,7 @@ mod branches;
 mod calls;
 mod comparison;
 mod fault;
+mod known;
 mod memory;
 mod pass;
 mod pending;
@@ -17,5 +18,7 @@ mod verified;
 mod verifier;
 
 pub use fault::{Fault, Refusal};
+pub use known::{Survey, known_at_units};
+pub use state::AbsState;
 pub use verified::Verified;
 pub use verifier::verify;
