@@ -29,3 +29,4 @@ pub mod PassRuns
 pub mod SameReads
 pub mod Determined
 pub mod JudgedRuns
+pub mod KnownLemmas

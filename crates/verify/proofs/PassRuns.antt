@@ -22,14 +22,14 @@ none_at (Some i) None unit u h = refl
 none_at (Some i) (Some a) unit u h = no_reason (reason_of i a.value) unit u h
 
 -- a fault is told for a reason, or memory was refused
-abbrev IsTold : Option Reason → ℕ → Fault → Type 0
+abbrev pub IsTold : Option Reason → ℕ → Fault → Type 0
 IsTold o unit fault = (fault ≡ Memory) ⊎ ((reason : Reason) × (o ≡ Some reason) × (fault ≡ At reason unit))
 
 told : (o : Option Reason) (unit : ℕ) (fault : Fault) → Answers o unit (Err fault) → IsTold o unit fault
 told None unit fault h = inl h
 told (Some reason) unit fault h = inr (reason, refl, cc)
 
-told_at : (o : Option Insn) (kept : Slot) (unit : ℕ) (fault : Fault) → AnswersAt o kept unit (Err fault) → IsTold (reason_at o kept) unit fault
+pub told_at : (o : Option Insn) (kept : Slot) (unit : ℕ) (fault : Fault) → AnswersAt o kept unit (Err fault) → IsTold (reason_at o kept) unit fault
 told_at None kept unit fault h = absurd cc
 told_at (Some i) None unit fault h = absurd cc
 told_at (Some i) (Some a) unit fault h = told (reason_of i a.value) unit fault h

@@ -21,3 +21,4 @@ pub mod Transfer
 pub mod Judgement
 pub mod Laws
 pub mod Telling
+pub mod KnownAtUnits

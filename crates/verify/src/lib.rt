@@ -5,6 +5,7 @@ mod branches;
 mod calls;
 mod comparison;
 mod fault;
+mod known;
 mod laws;
 mod memory;
 mod pass;
@@ -18,7 +19,9 @@ mod verified;
 mod verifier;
 
 pub use fault::{Fault, Refusal};
+pub use known::{Survey, known_at_units};
 pub use laws::passes_agree;
 pub use reason::Reason;
+pub use state::AbsState;
 pub use verified::Verified;
 pub use verifier::verify;

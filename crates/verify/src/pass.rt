@@ -183,7 +183,7 @@ fn pass_state(
 }
 
 /// The next unit: what is kept for it flows on.
-fn pass_unit(
+pub fn pass_unit(
     alloc: Global,
     program: &Program,
     unit: usize,

@@ -4,6 +4,7 @@ ghost use Rattle.semantics.specs.State.{State};
 ghost use Rattle.verify.specs.Gamma.{Describes, has_number};
 ghost use Rattle.verify.specs.Flow.{Takes, Flows};
 ghost use Rattle.verify.specs.Slots.{Holds, IsAt, Keeps, IsBlank, BlanksComeTo};
+ghost use Rattle.verify.specs.KnownAtUnits.{known_of};
 
 use crate::state::AbsState;
 use std::alloc::{AllocError, Global};
@@ -50,6 +51,17 @@ pub fn take(pending: &mut Pending, unit: usize) -> Option<Box<AbsState>>
     ensures rest { pending.new.items ≡ slice_set pending.old.items unit None }
 {
     pending.slots[unit].take()
+}
+
+/// What is kept for a unit, once more.
+pub fn kept(pending: &Pending, unit: usize) -> Option<AbsState>
+    requires { unit < length pending.now.items }
+    ensures { result ≡ known_of (slice_index_or pending.now.items unit None) }
+{
+    match &pending.slots[unit] {
+        Some(state) => Some(state.copy()),
+        None => None,
+    }
 }
 
 /// A state with what is kept already.
