@@ -6,7 +6,6 @@ pub mod FilesLemmas
 pub mod LineLemmas
 pub mod ReadLemmas
 pub mod RefusalLemmas
-pub mod BoardRunLemmas
 pub mod ScheduleLemmas
 pub mod FirstLemmas
 pub mod FormLemmas

@@ -2,6 +2,7 @@
 use Rattle.std.specs.Prelude.{ℕ, ◌≡◌, true, List, [], Option, None, Some, Ok, length, string_bytes, unwrap_or}
 use Rattle.insn.specs.declared.insn.Insn.{Insn}
 use Rattle.insn.specs.Program.{slots_of}
+use Rattle.semantics.specs.Relay.{oral}
 use Rattle.semantics.specs.Run.{IsSound}
 use Rattle.codec.specs.Program.{SpellsProgram}
 use Rattle.codec.specs.Spelling.{program_bytes}
@@ -20,9 +21,9 @@ use Rattle.command_line.specs.declared.tasks.Task.{Task}
 use Rattle.command_line.specs.declared.tasks.Task.TheVariants.{Check, Assemble, Disassemble, DisassembleUnits, Book, Explain, Form, Play, Muster, Audit}
 use Rattle.scenario.specs.Told.{Tells}
 use Rattle.trial.specs.Setting.{Setting}
-use Rattle.trial.specs.Told as trial
+use Rattle.trial.specs.Told.{IsTried, Tells as TellsSetting}
+use Rattle.trial.specs.Trial.{Ending, trial}
 use Rattle.lab.specs.Bench.{bench_bytes, bench_shape}
-use Rattle.lab.specs.BoardRun.{IsServed}
 use Rattle.lab.specs.Campaigns.{Audits, Musters, Plays}
 use Rattle.lab.specs.Numbers.{numbers_in}
 use Rattle.lab.specs.Lines.{checked_lines, decision_lines, hex_line}
@@ -30,12 +31,15 @@ use Rattle.lab.specs.declared.checking.Checked.{Checked}
 use Rattle.lab.specs.declared.outcome.Outcome.{Outcome}
 use Rattle.lab.specs.declared.outcome.Outcome.TheVariants as outcome
 
--- the program is sound, and its run in the bench context, with a board that begins with zeros, ended so
+-- the program is sound, and its trial on the bench, with a board that begins with zeros, ended so
 pub record IsRun (program : List Insn) (checked : Checked) : Type 0 where
   pub sound : IsSound program
   pub instructions : checked.instructions ≡ length program
   pub units : checked.units ≡ length (slots_of program)
-  pub served : IsServed program bench_bytes bench_shape checked.r0 checked.steps
+  pub ending : Ending
+  pub ended : trial program bench_bytes (oral bench_shape) ≡ Some ending
+  pub r0 : checked.r0 ≡ ending.r0
+  pub steps : checked.steps ≡ ending.state.steps
 
 -- the bytes spell a program, and this is its run
 abbrev pub Checks : List ℕ → Checked → Type 0
@@ -57,7 +61,7 @@ ChecksIn Assembly text checked = ChecksText text checked
 
 -- the bytes tell a setting, and these are the lines of the program's trial in it
 abbrev pub IsTriedBy : List ℕ → List Insn → List ℕ → Type 0
-IsTriedBy bytes program lines = (s : Setting) × trial.Tells bytes s × trial.IsTried program s lines
+IsTriedBy bytes program lines = (s : Setting) × TellsSetting bytes s × IsTried program s lines
 
 -- the first file has a sound program, and these are the lines of its trial in the setting of the second's; where there is no second file its bytes are none
 abbrev pub Tries : Notation → List ℕ → Option (List ℕ) → List ℕ → Type 0

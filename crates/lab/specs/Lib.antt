@@ -1,6 +1,5 @@
 pub mod Answers
 pub mod Bench
-pub mod BoardRun
 pub mod Campaigns
 pub mod Faults
 pub mod Lines

@@ -3,21 +3,17 @@ ghost use Rattle.asm.specs.Program.{program_of};
 ghost use Rattle.codec.specs.Program.{SpellsProgram};
 ghost use Rattle.semantics.specs.Run.{IsSound};
 ghost use Rattle.lab.specs.Answers.{Checks, ChecksText, IsRun};
-ghost use Rattle.lab.specs.Bench.{bench_shape};
 ghost use Rattle.lab.specs.Lines.{checked_lines};
 ghost use Rattle.lab.specs.Refusals.{RefusesCheck, RefusesCheckAssembly, RefusesRun};
-ghost use Rattle.lab.specs.BoardRun.{IsServed};
 
 use crate::bench::{bench_context, bench_shape};
 use crate::refusal::Refusal;
 use asm::assemble;
-use board::Board;
 use codec::decode;
 use insn::Program;
-use machine::{Activation, Stop};
 use mem::Context;
-use outbox::Outbox;
 use std::alloc::{AllocError, Global};
+use trial::first_lines;
 use verify::{Verified, verify};
 
 /// An accepted program and its run in the bench context.
@@ -99,50 +95,16 @@ fn accepted_program(alloc: Global, program: Program) -> Result<Verified, Refusal
 fn run(alloc: Global, verified: &Verified) -> Result<Checked, AllocError>
     ensures { IfOk result (IsRun verified.now) }
 {
-    let numbers = bench_context(alloc)?;
-    let Some(context) = Context::new(numbers.as_slice()) else {
-        unreachable!();
-    };
+    let bytes = bench_context(alloc)?;
+    let context = Context::new(bytes.as_slice());
+    let exited = trial::run(alloc, verified, &context, bench_shape())?;
     let program = verified.program();
-    let instructions = program.len();
-    let units = program.units();
-    let Exit { r0, steps } = serve_board(alloc, verified, &context)?;
     Ok(Checked {
-        instructions,
-        units,
-        r0,
-        steps,
+        instructions: program.len(),
+        units: program.units(),
+        r0: exited.r0,
+        steps: exited.activation.steps(),
     })
-}
-
-/// How a program has exited.
-struct Exit {
-    r0: u64,
-    steps: u32,
-}
-
-/// Runs a program to its exit, with a board that begins with zeros.
-fn serve_board(alloc: Global, verified: &Verified, context: &Context) -> Result<Exit, AllocError>
-    ensures { IfOk result (λ e. IsServed verified.now context.now bench_shape e.r0 e.steps) }
-{
-    let shape = bench_shape();
-    let limit = verified.program().len() as u32;
-    let mut board = Board::new(alloc, [0; 64]);
-    let mut activation = Activation::start(verified, context, Outbox::new(alloc, shape)?);
-    loop {
-        match activation.run(verified, context, limit) {
-            Stop::Asked(request) => {
-                let reply = board.apply(shape.general, shape.round, request)?;
-                activation.resume(&request, &reply);
-            }
-            Stop::Exited(r0) => {
-                let _accesses = board.ledger();
-                let steps = activation.steps();
-                return Ok(Exit { r0, steps });
-            }
-            Stop::Limit => unreachable!(),
-        }
-    }
 }
 
 /// What a check prints.
@@ -155,5 +117,5 @@ pub fn checked_text(alloc: Global, checked: &Checked) -> Result<String, AllocErr
         r0,
         steps,
     } = *checked;
-    format!(in alloc; "accepted {instructions} instructions {units} units\nr0 {r0} steps {steps}\n")
+    first_lines(alloc, instructions, units, r0, steps)
 }

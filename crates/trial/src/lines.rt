@@ -5,7 +5,7 @@ ghost use Rattle.semantics.specs.Relay.{relayed};
 ghost use Rattle.trial.specs.Lines.{first_lines, put_line, label_lines, put_lines, word_line, word_lines};
 ghost use Rattle.trial.specs.Told.{IsTried};
 
-use crate::run::{Exited, run};
+use crate::running::{Exited, run};
 use crate::setting::Setting;
 use insn::Program;
 use mem::Context;
@@ -24,9 +24,7 @@ pub fn tried(alloc: Global, verified: &Verified, setting: &Setting) -> Result<St
     ensures { IfOk result (λ text. IsTried verified.now setting.now (string_bytes text)) }
 {
     let bytes = setting.context(alloc)?;
-    let Some(context) = Context::new(bytes.as_slice()) else {
-        unreachable!();
-    };
+    let context = Context::new(bytes.as_slice());
     let exited = run(alloc, verified, &context, setting.shape())?;
     lines(alloc, verified.program(), &exited)
 }
@@ -51,7 +49,11 @@ fn lines(alloc: Global, program: &Program, exited: &Exited) -> Result<String, Al
 }
 
 /// How large the program is, and how it exited.
-fn first_lines(
+///
+/// # Errors
+///
+/// `AllocError` where the memory for the lines is refused.
+pub fn first_lines(
     alloc: Global,
     instructions: usize,
     units: usize,

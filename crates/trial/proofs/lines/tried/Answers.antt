@@ -7,5 +7,5 @@ pub returns : goal.returns
 returns c =
     let e = c.in_ok-exited.exited in
     IfOk-weaker c.lines.result _ _ (λ text lines.
-    tried_is c.args.verified.now c.program.result.now c.args.setting.now c.in-Some.context _ e.board.words c.shape.result e.activation.relay e.r0 e.activation.state
-    (c.in-Some.ensures.some.0 ∙ (c.as_slice.ensures.value ∙ c.in_ok-bytes.ensures.bytes)) c.shape.ensures.same c.in_ok-exited.ensures.relay c.program.ensures.same c.in_ok-exited.ensures.ending lines) c.lines.ensures
+    tried_is c.args.verified.now c.program.result.now c.args.setting.now c.new-context.result _ e.board.words c.shape.result e.activation.relay e.r0 e.activation.state
+    (c.new-context.ensures.same ∙ (c.as_slice.ensures.value ∙ c.in_ok-bytes.ensures.bytes)) c.shape.ensures.same c.in_ok-exited.ensures.relay c.program.ensures.same c.in_ok-exited.ensures.ending lines) c.lines.ensures

@@ -1,7 +1,7 @@
 use Rattle.std.proofs.Common.{◌-◌, length}
 use Rattle.semantics.specs.Relay.{oral}
 use Rattle.trial.proofs.Serving.{IsServing}
-use Rattle.trial.proofs.run.run.Given as goal
+use Rattle.trial.proofs.running.run.Given as goal
 
 abbrev pub invariant-loop-request : goal.invariant-loop-request
 invariant-loop-request l = IsServing l.verified l.context (oral l.shape) l.activation l.board
