@@ -25,7 +25,14 @@ pub fn resolve<C: Combine>(tree: &Tree, rule: &C) -> u32
 ///
 /// `lower_off` says how many of the generals below the lieutenant are off the label: so many of its
 /// children come before his own value in the list that is combined.
-fn decide<C: Combine>(tree: &Tree, rule: &C, relays: u8, size: u8, rank: usize, lower_off: u8) -> u32
+fn decide<C: Combine>(
+    tree: &Tree,
+    rule: &C,
+    relays: u8,
+    size: u8,
+    rank: usize,
+    lower_off: u8,
+) -> u32
     requires some { 0 < size }
     requires short { size + relays ≤ tree.now.bound + 1 }
     requires within { rank < length (labels tree.now.generals tree.now.commander tree.now.general size) }
@@ -55,7 +62,14 @@ fn decide<C: Combine>(tree: &Tree, rule: &C, relays: u8, size: u8, rank: usize, 
     }
     orders.push(own);
     for j in lower_off..width {
-        orders.push(decide(tree, rule, relays - 1, size + 1, first + j as usize, lower_off));
+        orders.push(decide(
+            tree,
+            rule,
+            relays - 1,
+            size + 1,
+            first + j as usize,
+            lower_off,
+        ));
     }
     rule.combine(orders.as_slice())
 }

@@ -8,10 +8,10 @@ ghost use Rattle.scenario.specs.Told.{Answers, scenario_of, unseated, Reads};
 ghost use Rattle.scenario.specs.declared.fault.ScenarioError.TheVariants.{Memory};
 
 use crate::fault::{Fault, ScenarioError};
+use crate::head::Head;
 use crate::keys::{at, elements, general, number, optional_number, top_is_known};
 use crate::place::{Name, Place};
 use crate::tables::traitor;
-use crate::head::Head;
 use crate::words::board;
 use combine::Rule;
 use round::{Scenario, Seat};

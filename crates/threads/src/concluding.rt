@@ -11,8 +11,8 @@ ghost use Rattle.world.specs.Replay.{replay_of};
 ghost use Rattle.world.specs.Safety.{IsShort};
 ghost use Rattle.threads.specs.declared.error.MusterError.TheVariants.{Spawn};
 
-use crate::error::MusterError;
 use crate::account::are_accounted;
+use crate::error::MusterError;
 use arrayvec::ArrayVec;
 use board::{Access, Board};
 use resolve::resolve_all;

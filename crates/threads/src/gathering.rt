@@ -4,8 +4,8 @@ ghost use Rattle.round.specs.Told.{WasTold, AreRoundsOf};
 ghost use Rattle.world.specs.Accounted.{rounds_of, IsAccounted};
 ghost use Rattle.threads.specs.declared.error.MusterError.TheVariants.{Unaccounted, Spawn, Post};
 
-use crate::error::MusterError;
 use crate::account::are_accounted;
+use crate::error::MusterError;
 use crate::rounds::are_of_round;
 use crate::taking::arrange;
 use board::Access;

@@ -5,8 +5,8 @@ ghost use Rattle.world.specs.Agreement.{IsFinished};
 ghost use Rattle.world.specs.Chronicle.{decisions, chronicle_of};
 ghost use Rattle.world.specs.Promises.{AgreeUnderBound};
 
-use crate::world::World;
 use crate::chronicle::Chronicle;
+use crate::world::World;
 use arrayvec::ArrayVec;
 use resolve::resolve;
 

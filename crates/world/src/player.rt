@@ -8,9 +8,9 @@ ghost use Rattle.world.specs.Promises.{AgreeUnderBound, IsVerdictOn, IsWellUnder
 ghost use Rattle.world.specs.Schedules.{lines_by};
 ghost use Rattle.world.specs.World.{opening, run};
 
-use crate::world::World;
 use crate::chronicle::Chronicle;
 use crate::schedule::Schedule;
+use crate::world::World;
 use round::Scenario;
 use std::alloc::{AllocError, Global};
 

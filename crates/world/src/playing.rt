@@ -11,9 +11,9 @@ ghost use Rattle.world.specs.Lists.{event_of, post_of, ticks_of, wound_up, liste
 ghost use Rattle.world.specs.Schedules.{entries_of, lines_by};
 ghost use Rattle.world.specs.Playing.{line_events, lists_in};
 
-use crate::world::World;
 use crate::parts;
 use crate::schedule::{Repeat, Schedule};
+use crate::world::World;
 use round::Scenario;
 use std::alloc::{AllocError, Global};
 
