@@ -8,7 +8,8 @@ _byzlab() {
     local word=${COMP_WORDS[COMP_CWORD]} commands="check asm dis book table muster play audit help" offered
     case $COMP_CWORD:${COMP_WORDS[1]-}:$word in
     1:*) offered="$commands -h --help -V --version" ;;
-    *:help:*) offered=$commands ;;
+    2:help:*) offered=$commands ;;
+    *:help:*) offered= ;;
     *:play:-*) offered="--schedule -h --help" ;;
     *:check:-*) offered="--asm --context -h --help" ;;
     *:asm:-*) offered="--raw -o -h --help" ;;
