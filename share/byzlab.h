@@ -36,4 +36,8 @@ static u64 (*const send_row)(u64 label, const u32 *orders, u64 count) = (void *)
 static u64 (*const sway)(u64 receiver, u64 order) = (void *)8;                     /* how many were set */
 static u64 (*const honest)(u64 receiver) = (void *)9;                              /* how many were set */
 
+/* Where orders are signed; bit g of the receivers stands for general g. No campaign that can be played is so: both answer 1. */
+static u64 (*const sign_order)(u64 order, u64 receivers) = (void *)10; /* 0 entered, 1 not */
+static u64 (*const pass_on)(u64 held, u64 receivers) = (void *)11;     /* 0 entered, 1 not */
+
 #endif
