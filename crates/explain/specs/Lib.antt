@@ -1,5 +1,0 @@
-pub mod Values
-pub mod Reads
-pub mod Sentences
-pub mod Shortfalls
-pub mod Explained
