@@ -29,3 +29,7 @@ pub mod PassRuns
 pub mod SameReads
 pub mod Determined
 pub mod JudgedRuns
+pub mod KnownNumbers
+pub mod PlainEdges
+pub mod PlainRuns
+pub mod PlainJudged

@@ -18,7 +18,7 @@ mod verified;
 mod verifier;
 
 pub use fault::{Fault, Refusal};
-pub use laws::passes_agree;
+pub use laws::{passes_agree, plain_is_accepted};
 pub use reason::Reason;
 pub use verified::Verified;
 pub use verifier::verify;
