@@ -30,3 +30,7 @@ pub mod SameReads
 pub mod Determined
 pub mod JudgedRuns
 pub mod KnownLemmas
+pub mod KnownNumbers
+pub mod PlainEdges
+pub mod PlainRuns
+pub mod PlainJudged

@@ -1,7 +1,12 @@
 //! Laws of the verifier: each function does nothing, and its contract is the law.
-ghost use Rattle.verify.specs.Laws.{PassesAgree};
+ghost use Rattle.verify.specs.Laws.{PassesAgree, PlainIsAccepted};
 
 /// The runs of the pass over a program agree: all come to its end, or all are stopped by the same fault.
 pub fn passes_agree()
     ensures { PassesAgree }
+{}
+
+/// A plain program has no fault.
+pub fn plain_is_accepted()
+    ensures { PlainIsAccepted }
 {}

@@ -20,7 +20,7 @@ mod verifier;
 
 pub use fault::{Fault, Refusal};
 pub use known::{Survey, known_at_units};
-pub use laws::passes_agree;
+pub use laws::{passes_agree, plain_is_accepted};
 pub use reason::Reason;
 pub use state::AbsState;
 pub use verified::Verified;
