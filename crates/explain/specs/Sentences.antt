@@ -18,11 +18,21 @@ use Rattle.explain.specs.declared.sentence.Misfit.TheVariants as misfit
 use Rattle.explain.specs.Values.{span_text, region_text, value_text}
 
 -- where a jump leads
+unfoldable pub leads_text : ℤ → List ℕ
+leads_text to = codes "the jump leads to unit " ++ signed_decimal to
+
 abbrev pub structure_text : Structure → List ℕ
-structure_text (structure.Back to) = codes "the jump leads to unit " ++ signed_decimal to ++ codes ", and jumps lead forward only"
-structure_text (structure.Out to units) = codes "the jump leads to unit " ++ signed_decimal to ++ codes ", and the program has " ++ decimal units ++ codes ", from 0 on"
-structure_text (structure.Inside to) = codes "the jump leads to unit " ++ signed_decimal to ++ codes ", the second half of a wide instruction"
+structure_text (structure.Back to) = leads_text to ++ codes ": a jump leads only forward"
+structure_text (structure.Out to units) = leads_text to ++ codes ", past all " ++ decimal units
+structure_text (structure.Inside to) = leads_text to ++ codes ", inside a wide instruction"
 structure_text structure.NoExit = codes "the last instruction is not the exit"
+
+-- a part of a region, and a register through which it may be reached
+unfoldable pub place_text : Region → Span → List ℕ
+place_text region span = codes "the " ++ region_text region ++ codes " at " ++ span_text (span.low, span.high)
+
+unfoldable pub reached_text : ℕ → Region → Span → List ℕ
+reached_text r region span = codes "r" ++ decimal r ++ codes " may reach " ++ place_text region span
 
 -- a register, and what is known of it
 abbrev pub named_text : ℕ → AbsVal → List ℕ
@@ -36,8 +46,7 @@ limit_text high = if int_le high (pos 65536) then codes "-65536" else codes "655
 abbrev pub misuse_text : Misuse → List ℕ
 misuse_text (misuse.Unset r) = codes "r" ++ decimal r ++ codes " is read, and may be unset"
 misuse_text misuse.Frame = codes "r10 is written, which marks the end of the stack"
-misuse_text (misuse.Far r region span) =
-    codes "r" ++ decimal r ++ codes " would point into the " ++ region_text region ++ codes " at " ++ span_text (span.low, span.high) ++ codes ", past " ++ limit_text span.high
+misuse_text (misuse.Far r region span) = reached_text r region span ++ codes ", past " ++ limit_text span.high
 misuse_text (misuse.EitherSign r value) = named_text r value ++ codes ": a number that moves a pointer is read as signed, and this one may be above or below 0"
 misuse_text (misuse.Computed r value) = named_text r value ++ codes ": of a pointer only a copy is made, or the 64-bit sum or difference with a number"
 misuse_text (misuse.Stored r value base at) =
@@ -52,11 +61,8 @@ extent_text Context = codes "0 to 4095"
 
 -- what an access may touch
 abbrev pub access_text : Access → List ℕ
-access_text (access.Outside r region span) =
-    codes "through r" ++ decimal r ++ codes " the " ++ region_text region ++ codes " may be touched at " ++ span_text (span.low, span.high)
-    ++ codes ", and it has " ++ extent_text region
-access_text (access.Empty r span at) =
-    codes "through r" ++ decimal r ++ codes " the stack may be read at " ++ span_text (span.low, span.high) ++ codes ", and at " ++ signed_decimal at ++ codes " it may hold no byte"
+access_text (access.Outside r region span) = reached_text r region span ++ codes ": it has " ++ extent_text region
+access_text (access.Empty r span at) = reached_text r Stack span ++ codes ": unset at " ++ signed_decimal at
 access_text (access.Context r value) = named_text r value ++ codes ": the context is only read"
 
 -- what a call asks

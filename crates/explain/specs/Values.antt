@@ -1,5 +1,5 @@
 -- What is known of a value, as text (own).
-use Rattle.std.specs.Prelude.{ℕ, ℤ, pos, ◌+◌, ◌%◌, ◌^◌, ◌==◌, ◌&&◌, ◌||◌, not, nat_le, bit_and, Bool, true, false, if◌then◌else◌, List, [], ◌++◌, codes, decimal}
+use Rattle.std.specs.Prelude.{ℕ, ℤ, pos, ◌+◌, ◌-◌, ◌%◌, ◌^◌, ◌==◌, ◌&&◌, ◌||◌, not, nat_le, bit_and, Bool, true, false, if◌then◌else◌, List, [], ◌++◌, codes, decimal}
 use Rattle.std.specs.Fmt.{signed_decimal, digits}
 use Rattle.std.specs.Int.{w64, cast_signed}
 use Rattle.std.specs.Ordering.{int_eq}

@@ -2,7 +2,7 @@
 #![tactic(auto)]
 
 mod accesses;
-mod explanation;
+mod lines;
 mod misfits;
 mod misuse;
 mod moving;
@@ -12,6 +12,6 @@ mod sentence;
 mod shortfall;
 mod values;
 
-pub use explanation::explanation;
+pub use lines::explanation;
 pub use sentence::{Access, Misfit, Misuse, Sentence, Structure};
 pub use values::{Known, Span};

@@ -1,12 +1,11 @@
 //! Pointers that numbers move too far.
-ghost use Rattle.std.specs.Prelude.{◌≡◌, ◌||◌, pos, negsuc, ◌≤ℤ◌, ◌^◌, ℤ};
-ghost use Rattle.std.specs.Int.{w64, cast_unsigned};
+ghost use Rattle.std.specs.Prelude.{◌≡◌, ◌+ℤ◌, ◌-ℤ◌};
 ghost use Rattle.explain.specs.Shortfalls.{signed_row, lowers, clamped, moved, either_sign, far, operand_at, sum_misuse};
 
 use crate::reach::known_at;
 use crate::reads::of_operand;
 use crate::sentence::{Misuse, Sentence};
-use crate::values::{Span, signed};
+use crate::values::{Span, between, signed};
 use absval::{AbsVal, NumberSet, Offsets};
 use insn::{Operand, Reg};
 use range::Range;
@@ -48,22 +47,30 @@ fn clamped(z: i128) -> i64
     }
 }
 
+/// An offset, a number on.
+fn raised(offset: i32, by: i64) -> i64
+    ensures { result ≡ clamped (offset +ℤ by) }
+{
+    clamped(i128::from(offset) + i128::from(by))
+}
+
+/// An offset, a number back.
+fn lowered(offset: i32, by: i64) -> i64
+    ensures { result ≡ clamped (offset -ℤ by) }
+{
+    clamped(i128::from(offset) - i128::from(by))
+}
+
 /// Where offsets lead, moved by numbers.
 fn moved(down: bool, offsets: Offsets, by: Span) -> Span
     ensures { result ≡ moved down offsets by }
 {
-    let low = i128::from(offsets.low);
-    let high = i128::from(offsets.high);
     if down {
-        Span {
-            low: clamped(low - i128::from(by.high)),
-            high: clamped(high - i128::from(by.low)),
-        }
+        let low = lowered(offsets.low, by.high);
+        between(low, lowered(offsets.high, by.low))
     } else {
-        Span {
-            low: clamped(low + i128::from(by.low)),
-            high: clamped(high + i128::from(by.high)),
-        }
+        let low = raised(offsets.low, by.low);
+        between(low, raised(offsets.high, by.high))
     }
 }
 
@@ -92,7 +99,7 @@ pub(crate) fn operand_at(registers: &[AbsVal; 11], operand: Operand) -> AbsVal
 
 /// A pointer in a register that numbers move.
 #[derive(Clone, Copy)]
-struct Moved {
+struct Start {
     down: bool,
     dst: Reg,
     region: Region,
@@ -100,7 +107,7 @@ struct Moved {
 }
 
 /// The pointer is moved by the operand, whose numbers are these.
-fn far(pointer: Moved, operand: Operand, numbers: NumberSet) -> Option<Sentence>
+fn far(pointer: Start, operand: Operand, numbers: NumberSet) -> Option<Sentence>
     ensures { result ≡ far pointer.down pointer.dst pointer.region pointer.offsets operand numbers (signed_row numbers.range) }
 {
     let Some(by) = signed_row(numbers.range()) else {
@@ -131,7 +138,7 @@ pub(crate) fn sum_misuse(
     let AbsVal::Number(numbers) = second else {
         return None;
     };
-    let pointer = Moved {
+    let pointer = Start {
         down,
         dst,
         region,

@@ -1,12 +1,12 @@
 //! What an instruction may touch of memory.
-ghost use Rattle.std.specs.Prelude.{◌≡◌, ◌≤◌, IfSome};
+ghost use Rattle.std.specs.Prelude.{◌≡◌, ◌≤◌, ◌≤ℤ◌, ◌+ℤ◌, ◌-ℤ◌, ◌^◌, pos, negsuc, IfSome};
 ghost use Rattle.insn.specs.Insn.{bytes_of, part_bytes};
 ghost use Rattle.semantics.specs.Call.{helper_of};
 ghost use Rattle.verify.specs.Calls.{known_at};
 ghost use Rattle.explain.specs.Shortfalls.{counted, call_reach, reach_of, touched};
 
 use crate::reads::numbered;
-use crate::values::Span;
+use crate::values::{Span, between};
 use absval::{AbsVal, Offsets};
 use helper::Helper;
 use insn::{Insn, Reg, Size};
@@ -28,7 +28,7 @@ pub(crate) fn known_at(registers: &[AbsVal; 11], r: Reg) -> AbsVal
 }
 
 fn bytes(size: Size) -> usize
-    ensures { result ≡ bytes_of size }
+    ensures bytes { result ≡ bytes_of size }
     ensures few { result ≤ 8 }
 {
     match size {
@@ -40,7 +40,7 @@ fn bytes(size: Size) -> usize
 }
 
 fn bytes_of_part(part: Narrow) -> usize
-    ensures { result ≡ part_bytes part }
+    ensures bytes { result ≡ part_bytes part }
     ensures few { result ≤ 8 }
 {
     match part {
@@ -118,14 +118,29 @@ pub(crate) fn reach_of(insn: &Insn, registers: &[AbsVal; 11]) -> Option<Reach>
     }
 }
 
+/// The first offset that may be touched.
+fn first_touched(offset: i32, distance: i16) -> i64
+    ensures { result ≡ offset +ℤ distance }
+{
+    i64::from(offset) + i64::from(distance)
+}
+
+/// The last of so many bytes.
+fn last_touched(first: i64, size: usize) -> i64
+    requires size { size ≤ 512 }
+    requires low { negsuc (2 ^ 40) ≤ℤ first }
+    requires high { first ≤ℤ pos (2 ^ 40) }
+    ensures { result ≡ (first +ℤ pos size) -ℤ pos 1 }
+{
+    first + size as i64 - 1
+}
+
 /// The offsets that may be touched from these on.
 pub(crate) fn touched(offsets: Offsets, reach: &Reach) -> Span
     requires { reach.now.size ≤ 512 }
     ensures { result ≡ touched offsets reach.now }
 {
-    let distance = i64::from(reach.distance);
-    Span {
-        low: i64::from(offsets.low) + distance,
-        high: i64::from(offsets.high) + distance + reach.size as i64 - 1,
-    }
+    let low = first_touched(offsets.low, reach.distance);
+    let high = first_touched(offsets.high, reach.distance);
+    between(low, last_touched(high, reach.size))
 }

@@ -75,6 +75,23 @@ pub enum Misfit {
     Board(u64),
 }
 
+/// Where a jump leads.
+#[derive(Clone, Copy)]
+struct Leads(i64);
+
+impl fmt::Display for Leads {
+    ghost use Rattle.std.specs.Prelude.{Some};
+    ghost use Rattle.explain.specs.Sentences.{leads_text};
+
+    ghost output = { λ l. Some (leads_text l.0) };
+
+    #[tactic(auto, unfolding(crate::specs::Sentences::leads_text))]
+    fn fmt<W: fmt::Write>(&self, f: &mut fmt::Formatter<W>) -> fmt::Result {
+        let to = self.0;
+        write!(f, "the jump leads to unit {to}")
+    }
+}
+
 impl fmt::Display for Structure {
     ghost use Rattle.std.specs.Prelude.{Some};
     ghost use Rattle.explain.specs.Sentences.{structure_text};
@@ -84,13 +101,16 @@ impl fmt::Display for Structure {
     fn fmt<W: fmt::Write>(&self, f: &mut fmt::Formatter<W>) -> fmt::Result {
         match *self {
             Structure::Back(to) => {
-                write!(f, "the jump leads to unit {to}, and jumps lead forward only")
+                let leads = Leads(to);
+                write!(f, "{leads}: a jump leads only forward")
             }
             Structure::Out(to, units) => {
-                write!(f, "the jump leads to unit {to}, and the program has {units}, from 0 on")
+                let leads = Leads(to);
+                write!(f, "{leads}, past all {units}")
             }
             Structure::Inside(to) => {
-                write!(f, "the jump leads to unit {to}, the second half of a wide instruction")
+                let leads = Leads(to);
+                write!(f, "{leads}, inside a wide instruction")
             }
             Structure::NoExit => f.write_str("the last instruction is not the exit"),
         }
@@ -98,6 +118,7 @@ impl fmt::Display for Structure {
 }
 
 /// A register by its name, and what is known of it.
+#[derive(Clone, Copy)]
 struct Named(Reg, AbsVal);
 
 impl fmt::Display for Named {
@@ -110,6 +131,42 @@ impl fmt::Display for Named {
         let r = self.0.number();
         let known = Known(self.1);
         write!(f, "r{r} {known}")
+    }
+}
+
+/// A part of a region.
+#[derive(Clone, Copy)]
+struct Place(Region, Span);
+
+impl fmt::Display for Place {
+    ghost use Rattle.std.specs.Prelude.{Some};
+    ghost use Rattle.explain.specs.Sentences.{place_text};
+
+    ghost output = { λ p. Some (place_text p.0 p.1) };
+
+    #[tactic(auto, unfolding(crate::specs::Sentences::place_text))]
+    fn fmt<W: fmt::Write>(&self, f: &mut fmt::Formatter<W>) -> fmt::Result {
+        let region = region_name(self.0);
+        let span = self.1;
+        write!(f, "the {region} at {span}")
+    }
+}
+
+/// What may be reached through a register.
+#[derive(Clone, Copy)]
+struct Reached(Reg, Place);
+
+impl fmt::Display for Reached {
+    ghost use Rattle.std.specs.Prelude.{Some};
+    ghost use Rattle.explain.specs.Sentences.{reached_text};
+
+    ghost output = { λ r. Some (reached_text r.0 r.1.0 r.1.1) };
+
+    #[tactic(auto, unfolding(crate::specs::Sentences::reached_text))]
+    fn fmt<W: fmt::Write>(&self, f: &mut fmt::Formatter<W>) -> fmt::Result {
+        let r = self.0.number();
+        let place = self.1;
+        write!(f, "r{r} may reach {place}")
     }
 }
 
@@ -138,10 +195,9 @@ impl fmt::Display for Misuse {
             }
             Misuse::Frame => f.write_str("r10 is written, which marks the end of the stack"),
             Misuse::Far(r, region, span) => {
-                let r = r.number();
-                let region = region_name(region);
+                let reached = Reached(r, Place(region, span));
                 let limit = limit(span.high);
-                write!(f, "r{r} would point into the {region} at {span}, past {limit}")
+                write!(f, "{reached}, past {limit}")
             }
             Misuse::EitherSign(r, value) => {
                 let named = Named(r, value);
@@ -187,14 +243,13 @@ impl fmt::Display for Access {
     fn fmt<W: fmt::Write>(&self, f: &mut fmt::Formatter<W>) -> fmt::Result {
         match *self {
             Access::Outside(r, region, span) => {
-                let r = r.number();
+                let reached = Reached(r, Place(region, span));
                 let extent = extent(region);
-                let region = region_name(region);
-                write!(f, "through r{r} the {region} may be touched at {span}, and it has {extent}")
+                write!(f, "{reached}: it has {extent}")
             }
             Access::Empty(r, span, at) => {
-                let r = r.number();
-                write!(f, "through r{r} the stack may be read at {span}, and at {at} it may hold no byte")
+                let reached = Reached(r, Place(Region::Stack, span));
+                write!(f, "{reached}: unset at {at}")
             }
             Access::Context(r, value) => {
                 let named = Named(r, value);

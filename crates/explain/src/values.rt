@@ -18,6 +18,13 @@ pub struct Span {
     pub high: i64,
 }
 
+/// From one number to another.
+pub(crate) fn between(low: i64, high: i64) -> Span
+    ensures { result ≡ record { low = low; high = high } }
+{
+    Span { low, high }
+}
+
 impl fmt::Display for Span {
     ghost use Rattle.std.specs.Prelude.{Some};
     ghost use Rattle.explain.specs.Values.{span_text};
@@ -35,6 +42,7 @@ impl fmt::Display for Span {
 }
 
 /// A range of words.
+#[derive(Clone, Copy)]
 struct Words(Range);
 
 impl fmt::Display for Words {
@@ -71,6 +79,7 @@ pub(crate) fn signed(range: Range) -> Span
 }
 
 /// A range of numbers, told as negative ones where each is.
+#[derive(Clone, Copy)]
 struct Spread(Range);
 
 impl fmt::Display for Spread {
@@ -102,6 +111,7 @@ fn is_bound(bits: Bits) -> bool
 }
 
 /// Numbers of a range that have some bits.
+#[derive(Clone, Copy)]
 struct Numbers(NumberSet);
 
 impl fmt::Display for Numbers {

@@ -50,7 +50,7 @@ fn put_reads(
 
 /// Adds what is known where an instruction stands.
 fn put_known(out: &mut String, insn: &Insn, state: Option<&AbsState>) -> Result<(), AllocError>
-    ensures { OnOk result (string_bytes out.new ≡ string_bytes out.old ++ known_text insn.now (option_map (λ a. a.now) state)) }
+    ensures { OnOk result (string_bytes out.new ≡ string_bytes out.old ++ known_text insn.now (option_map (λ a. a.now) state.entry)) }
 {
     match state {
         None => out.push_str(" ; no way leads here"),
@@ -73,7 +73,7 @@ fn put_unit(
     insn: &Insn,
     state: Option<&AbsState>,
 ) -> Result<(), AllocError>
-    ensures { OnOk result (string_bytes out.new ≡ string_bytes out.old ++ unit_line unit insn.now (option_map (λ a. a.now) state)) }
+    ensures { OnOk result (string_bytes out.new ≡ string_bytes out.old ++ unit_line unit insn.now (option_map (λ a. a.now) state.entry)) }
 {
     put_place(out, unit, insn)?;
     put_known(out, insn, state)?;
@@ -167,7 +167,7 @@ fn sentence_of(
     state: Option<&AbsState>,
 ) -> Option<Sentence>
     requires { unit < 4096 }
-    ensures { result ≡ sentence_of units fault.now unit insn.now (option_map (λ a. a.now) state) }
+    ensures { result ≡ sentence_of units fault.now unit insn.now (option_map (λ a. a.now) state.entry) }
 {
     let structure = match fault {
         Fault::BackJump(_) => Structure::Back(target_of(unit, insn)?),
@@ -223,7 +223,7 @@ pub fn explanation(alloc: Global, program: &Program) -> Result<String, AllocErro
 {
     let survey = known_at_units(alloc, program)?;
     let states = survey.states.as_slice();
-    let mut out = String::with_capacity(alloc, 32 * states.len())?;
+    let mut out = String::with_capacity(alloc, 32 * program.units())?;
     put_units(&mut out, program.instructions(), states)?;
     put_refused(&mut out, program, states, &survey.fault)?;
     Ok(out)
