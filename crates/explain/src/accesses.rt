@@ -56,11 +56,7 @@ pub(crate) fn empty_cell(stack: &AbsStack, reach: Reach, value: AbsVal) -> Optio
     let window = window_of(Region::Stack, offsets, reach.distance, reach.size);
     let cell = empty_in(stack, window)?;
     let span = touched(offsets, &reach);
-    Some(Sentence::Memory(Access::Empty(
-        reach.base,
-        span,
-        cell as i64 - 512,
-    )))
+    Some(Sentence::Memory(Access::Empty(reach.base, span, cell as i64 - 512)))
 }
 
 /// The context is written.

@@ -35,11 +35,7 @@ fn put_read(
 }
 
 /// Adds the registers that are read.
-fn put_reads(
-    out: &mut String,
-    registers: &[AbsVal; 11],
-    read: Registers,
-) -> Result<(), AllocError>
+fn put_reads(out: &mut String, registers: &[AbsVal; 11], read: Registers) -> Result<(), AllocError>
     ensures { OnOk result (string_bytes out.new ≡ string_bytes out.old ++ reads_text registers.now read) }
 {
     let [first, second, third] = read;

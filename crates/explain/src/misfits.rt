@@ -61,10 +61,7 @@ fn past_board(slots: AbsVal, counts: AbsVal) -> Option<Sentence>
 }
 
 /// The arguments in their order, then slot and count together.
-fn arguments_misfit(
-    registers: &[AbsVal; 11],
-    arguments: [Option<Argument>; 3],
-) -> Option<Sentence>
+fn arguments_misfit(registers: &[AbsVal; 11], arguments: [Option<Argument>; 3]) -> Option<Sentence>
     ensures { result ≡ arguments_misfit registers.now arguments }
 {
     let [first, second, third] = arguments;

@@ -104,16 +104,19 @@ pub(crate) fn pointer_misuse(insn: &Insn, registers: &[AbsVal; 11]) -> Option<Se
         } => {
             let first = known_at(registers, *dst);
             let second = operand_at(registers, *operand);
-            if let Some(sentence) = sum_misuse((*width, *operation), *dst, *operand, first, second)
-            {
+            if let Some(sentence) = sum_misuse(
+                (*width, *operation),
+                *dst,
+                *operand,
+                first,
+                second,
+            ) {
                 return Some(sentence);
             }
             first_pointer(registers, read_by(insn))
         }
         Insn::Load { base, .. } | Insn::LoadSigned { base, .. } => no_base(registers, *base),
-        Insn::Store { base, source, .. } => {
-            store_misuse(registers, *base, of_operand(*source))
-        }
+        Insn::Store { base, source, .. } => { store_misuse(registers, *base, of_operand(*source)) }
         _ => first_pointer(registers, read_by(insn)),
     }
 }

@@ -79,10 +79,7 @@ fn either_sign(register: Option<Reg>, numbers: NumberSet) -> Option<Sentence>
     ensures { result ≡ either_sign register numbers }
 {
     let r = register?;
-    Some(Sentence::Register(Misuse::EitherSign(
-        r,
-        AbsVal::Number(numbers),
-    )))
+    Some(Sentence::Register(Misuse::EitherSign(r, AbsVal::Number(numbers))))
 }
 
 /// What is known of an operand.
@@ -114,11 +111,7 @@ fn far(pointer: Start, operand: Operand, numbers: NumberSet) -> Option<Sentence>
         return either_sign(of_operand(operand), numbers);
     };
     let span = moved(pointer.down, pointer.offsets, by);
-    Some(Sentence::Register(Misuse::Far(
-        pointer.dst,
-        pointer.region,
-        span,
-    )))
+    Some(Sentence::Register(Misuse::Far(pointer.dst, pointer.region, span)))
 }
 
 /// A pointer and a number, of which a sum or difference is made.

@@ -174,11 +174,7 @@ impl fmt::Display for Reached {
 fn limit(high: i64) -> &'static str
     ensures { result.now ≡ limit_text high }
 {
-    if high > 65_536 {
-        "65536"
-    } else {
-        "-65536"
-    }
+    if high > 65_536 { "65536" } else { "-65536" }
 }
 
 impl fmt::Display for Misuse {
@@ -201,16 +197,25 @@ impl fmt::Display for Misuse {
             }
             Misuse::EitherSign(r, value) => {
                 let named = Named(r, value);
-                write!(f, "{named}: a number that moves a pointer is read as signed, and this one may be above or below 0")
+                write!(
+                    f,
+                    "{named}: a number that moves a pointer is read as signed, and this one may be above or below 0"
+                )
             }
             Misuse::Computed(r, value) => {
                 let named = Named(r, value);
-                write!(f, "{named}: of a pointer only a copy is made, or the 64-bit sum or difference with a number")
+                write!(
+                    f,
+                    "{named}: of a pointer only a copy is made, or the 64-bit sum or difference with a number"
+                )
             }
             Misuse::Stored(r, value, base, at) => {
                 let stored = Named(r, value);
                 let base = Named(base, at);
-                write!(f, "{stored}, stored at {base}: a pointer is stored as 8 bytes, with one offset, at one address")
+                write!(
+                    f,
+                    "{stored}, stored at {base}: a pointer is stored as 8 bytes, with one offset, at one address"
+                )
             }
             Misuse::NoBase(r, value) => {
                 let named = Named(r, value);
@@ -279,7 +284,10 @@ impl fmt::Display for Misfit {
                 write!(f, "{named}: the helper takes a pointer there")
             }
             Misfit::Board(sum) => {
-                write!(f, "r1 and r3 together may be {sum}, and the board has 64 words")
+                write!(
+                    f,
+                    "r1 and r3 together may be {sum}, and the board has 64 words"
+                )
             }
         }
     }

@@ -17,7 +17,6 @@ loop-unit-preserved c = record {
   so_far = ap length c.in_ok-push.ensures.items ∙ (length-append c.loop-unit.states.items (c.kept.result ∷ []) ∙ ap (λ n. n + 1) c.loop-unit.invariant.so_far);
 }
 
-
 pub returns-in-Err-clause-known : goal.returns-in-Err-clause-known
 returns-in-Err-clause-known c = subst (λ (s : List (Option AbsState)). AreKnown c.args.program.now s) (sym c.in_ok-push.ensures.items)
     (known_more c.args.program.now c.loop-unit.states.items c.loop-unit.pending.items c.kept.result c.loop-unit.unit c.loop-unit.invariant.known c.loop-unit.invariant.so_far
@@ -26,6 +25,6 @@ returns-in-Err-clause-known c = subst (λ (s : List (Option AbsState)). AreKnown
 pub returns-in-Err-clause-ends : goal.returns-in-Err-clause-ends
 returns-in-Err-clause-ends c =
     let last : IsLast c.args.program.now c.push.new.self.items c.in-Err.fault = subst (λ (s : List (Option AbsState)). IsLast c.args.program.now s c.in-Err.fault) (sym c.in_ok-push.ensures.items)
-        (stops_last c.args.program.now c.loop-unit.states.items c.loop-unit.pending.items c.kept.result c.loop-unit.unit c.in-Err.fault c.loop-unit.invariant.comes
-        c.kept.ensures c.loop-unit.invariant.so_far c.in_ok-named-in-Err.ensures.named c.in-Err.ensures.refused) in
+    (stops_last c.args.program.now c.loop-unit.states.items c.loop-unit.pending.items c.kept.result c.loop-unit.unit c.in-Err.fault c.loop-unit.invariant.comes
+    c.kept.ensures c.loop-unit.invariant.so_far c.in_ok-named-in-Err.ensures.named c.in-Err.ensures.refused) in
     subst (λ (fault : Fault). IsLast c.args.program.now c.push.new.self.items fault) (sym c.in_ok-named-in-Err.ensures.same) last
