@@ -11,7 +11,7 @@ _byzlab() {
     2:help:*) offered=$commands ;;
     *:help:*) offered= ;;
     *:play:-*) offered="--schedule -h --help" ;;
-    *:check:-*) offered="--asm --context -h --help" ;;
+    *:check:-*) offered="--asm --explain --context -h --help" ;;
     *:asm:-*) offered="--raw -o -h --help" ;;
     *:dis:-*) offered="--units -h --help" ;;
     *:book:-*) offered="--explain --traitors -h --help" ;;

@@ -63,11 +63,19 @@ impl NumberSet {
     }
 
     /// The range that they lie in.
-    pub(crate) fn range(self) -> Range
+    pub fn range(self) -> Range
         ensures exact { result ≡ self.range }
         ensures holds { (x : ℕ) → Has self x → IsIn result.0 result.1 x }
     {
         self.range
+    }
+
+    /// The bits that they have.
+    pub fn bits(self) -> Bits
+        ensures exact { result ≡ self.bits }
+        ensures holds { (x : ℕ) → Has self x → HasBits result x }
+    {
+        self.bits
     }
 
     /// The greatest number of its range.

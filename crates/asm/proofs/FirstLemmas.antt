@@ -12,6 +12,7 @@ use Rattle.asm.specs.declared.fault.AsmError.TheVariants.{At}
 use Rattle.asm.specs.Faults.{at_line, ◌>>=◌}
 use Rattle.asm.specs.Program.{Placed, Read, placed_units, units_in, line_read, read_on, nothing, insn_of, insns_on, program_in, lines_of, said}
 use Rattle.asm.specs.Laws.{IsFirstLine, IsMiscounted, IsFirstJump}
+use Rattle.asm.proofs.SaidLemmas.{held}
 
 -- the first of these lines that has a fault, behind what was read
 record FirstFrom (r : Read) (start : ℕ) (lines : List (List ℕ)) (e : AsmError) : Type 0 where
@@ -63,11 +64,6 @@ read_step r start line lines e (Ok next) said ih h =
 read_first : (lines : List (List ℕ)) (r : Read) (start : ℕ) (e : AsmError) → read_on r start lines ≡ Err e → FirstFrom r start lines e
 read_first [] r start e h = absurd cc
 read_first (line ∷ lines) r start e h = read_step r start line lines e (line_read r start line) refl (λ next. read_first lines next (start + 1) e) h
-
--- what gave the result
-held : {A B : Type 0} (line : ℕ) (o : Result A Fault) (f : A → Result B AsmError) (b : B) → (at_line line o >>= f) ≡ Ok b → (a : A) × (o ≡ Ok a) × (f a ≡ Ok b)
-held line (Err e) f b h = absurd cc
-held line (Ok a) f b h = (a, refl, h)
 
 read_same : (r before : Read) (start : ℕ) → read_on r start [] ≡ Ok before → before ≡ r
 read_same r before start h = cc

@@ -23,20 +23,9 @@ use Rattle.asm.specs.Distance.{defined, distance_of}
 use Rattle.asm.specs.Program.{Placed, Read, placed_units, source_units, units_in, with_name, with_source, with_words, with_line, line_read, read_on, nothing, insn_of, insns_on, program_in, lines_of, said}
 use Rattle.asm.proofs.DistanceLaws.{Reaches, reaches}
 use Rattle.asm.specs.Names.{name_in, goal_name, distance_in, IsDefinedAt, JumpsLeadToNames}
+use Rattle.asm.proofs.SaidLemmas.{bound, had, held}
 
 -- ---- what gave a result
-
-bound : {A B E : Type 0} (o : Result A E) (f : A → Result B E) (b : B) → (o >>= f) ≡ Ok b → (a : A) × (o ≡ Ok a) × (f a ≡ Ok b)
-bound (Err e) f b h = absurd cc
-bound (Ok a) f b h = (a, refl, h)
-
-had : {A B E : Type 0} (o : Option A) (e : E) (f : A → Result B E) (b : B) → (ok_or o e >>= f) ≡ Ok b → (a : A) × (o ≡ Some a) × (f a ≡ Ok b)
-had None e f b h = absurd cc
-had (Some a) e f b h = (a, refl, h)
-
-held : {A B : Type 0} (line : ℕ) (o : Result A Fault) (f : A → Result B AsmError) (b : B) → (at_line line o >>= f) ≡ Ok b → (a : A) × (o ≡ Ok a) × (f a ≡ Ok b)
-held line (Err e) f b h = absurd cc
-held line (Ok a) f b h = (a, refl, h)
 
 abbrev fine : {A E : Type 0} → A → Result A E
 fine a = Ok a

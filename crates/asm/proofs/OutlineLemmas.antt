@@ -13,14 +13,14 @@ use Rattle.insn.specs.declared.insn.Insn.TheVariants as insns
 use Rattle.insn.specs.declared.insn.Operand.TheVariants.{Register, Immediate}
 use Rattle.insn.specs.Insn.{IsInsn}
 use Rattle.asm.specs.Table.{IsMnemonic, name_of}
-use Rattle.asm.specs.Line.{Outline, is_word, words_of, outlined, outline_of}
+use Rattle.asm.specs.Line.{Outline, is_word, line_words, outlined, outline_of}
 use Rattle.asm.specs.Program.{Read, without_return, with_words, with_line, line_read}
 use Rattle.asm.specs.Printing.{more_text, operands_text, word_of, operands_of, insn_text}
 use Rattle.asm.proofs.MnemonicLemmas.{mnemonic_of-name}
 use Rattle.asm.proofs.SourceLemmas.{source_for, source_of-text}
 use Rattle.asm.proofs.TokenLemmas.{is_plain, IsPlain, ArePlain, plain_operands}
 use Rattle.asm.proofs.WordLemmas.{is_fine, is_fine-name}
-use Rattle.asm.proofs.WordsLemmas.{append-nil, plain_blank, until_solid, words_of-text}
+use Rattle.asm.proofs.WordsLemmas.{append-nil, plain_blank, until_solid, line_words-text}
 
 -- a byte of a line: visible or a space, no semicolon
 abbrev pub in_line : ℕ → Bool
@@ -65,7 +65,7 @@ return_free line h = rw (no_return line (length line - 1) h) refl
 not_less : (n : ℕ) → nat_lt n n ≡ false
 not_less n = grind (arith, nat_tests)
 
-outlined-line : (code w : List ℕ) (ts : List (List ℕ)) → before Blank code ≡ w → until colon w ≡ length w → words_of code ≡ Some (w ∷ ts) → outlined code ≡ Some (record { name = None; words = w ∷ ts })
+outlined-line : (code w : List ℕ) (ts : List (List ℕ)) → before Blank code ≡ w → until colon w ≡ length w → line_words code ≡ Some (w ∷ ts) → outlined code ≡ Some (record { name = None; words = w ∷ ts })
 unfolding outlined
 outlined-line code w ts b u h = rw (b, u, not_less (length w), h) refl
 
@@ -82,7 +82,7 @@ outline_of-text w ts word p ps =
     let line : List ℕ = w ++ operands_text ts in
     outline_of-line line _ (before-all semicolon line (all-weaker in_line (λ c. not (is_stop semicolon c)) line_semicolon line (line_bytes w ts p ps)))
     (until_solid w (operands_text ts) p.some p.bytes)
-    (outlined-line line w ts (before_blank w ts p) (until-all colon w (all-weaker is_plain (λ c. not (is_stop colon c)) plain_colon w p.bytes)) (words_of-text w ts word p ps))
+    (outlined-line line w ts (before_blank w ts p) (until-all colon w (all-weaker is_plain (λ c. not (is_stop colon c)) plain_colon w p.bytes)) (line_words-text w ts word p ps))
 
 -- the word of an instruction
 fine_word : (w : List ℕ) → is_fine w ≡ true → is_word w ≡ true

@@ -57,15 +57,15 @@ source_well words.Call os well = after (one_of os) faults.Operand _ (λ a. eithe
 source_well words.Exit os well = after (none_of os) faults.Operand _ (λ o. tt)
 
 -- what gave the result
-bound : {A B E : Type 0} (o : Result A E) (f : A → Result B E) (b : B) → (o >>= f) ≡ Ok b → (a : A) × (o ≡ Ok a) × (f a ≡ Ok b)
+pub bound : {A B E : Type 0} (o : Result A E) (f : A → Result B E) (b : B) → (o >>= f) ≡ Ok b → (a : A) × (o ≡ Ok a) × (f a ≡ Ok b)
 bound (Err e) f b h = absurd cc
 bound (Ok a) f b h = (a, refl, h)
 
-had : {A B E : Type 0} (o : Option A) (e : E) (f : A → Result B E) (b : B) → (ok_or o e >>= f) ≡ Ok b → (a : A) × (o ≡ Some a) × (f a ≡ Ok b)
+pub had : {A B E : Type 0} (o : Option A) (e : E) (f : A → Result B E) (b : B) → (ok_or o e >>= f) ≡ Ok b → (a : A) × (o ≡ Some a) × (f a ≡ Ok b)
 had None e f b h = absurd cc
 had (Some a) e f b h = (a, refl, h)
 
-held : {A B : Type 0} (line : ℕ) (o : Result A Fault) (f : A → Result B AsmError) (b : B) → (at_line line o >>= f) ≡ Ok b → (a : A) × (o ≡ Ok a) × (f a ≡ Ok b)
+pub held : {A B : Type 0} (line : ℕ) (o : Result A Fault) (f : A → Result B AsmError) (b : B) → (at_line line o >>= f) ≡ Ok b → (a : A) × (o ≡ Ok a) × (f a ≡ Ok b)
 held line (Err e) f b h = absurd cc
 held line (Ok a) f b h = (a, refl, h)
 

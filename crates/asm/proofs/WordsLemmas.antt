@@ -10,7 +10,7 @@ use Rattle.text.specs.Stop.{is_stop, comma}
 use Rattle.text.specs.Parts.{until, before, from, pieces}
 use Rattle.text.proofs.BytesLemmas.{all-weaker, and_both, and_first, and_second}
 use Rattle.text.proofs.CutLemmas.{Lacks, before-all, from-all, before-append, from-append, pieces-all, pieces-append}
-use Rattle.asm.specs.Line.{is_token, is_word, is_all_blank, one_word, token_of, tokens_on, words_of}
+use Rattle.asm.specs.Line.{is_token, is_word, is_all_blank, one_word, token_of, tokens_on, line_words}
 use Rattle.asm.specs.Printing.{more_text, operands_text}
 use Rattle.asm.proofs.TokenLemmas.{is_plain, IsPlain, ArePlain}
 
@@ -82,20 +82,20 @@ pieces-tokens a [] p ps = ap (λ l. pieces comma (32 ∷ l)) (append-nil a) ∙ 
 pieces-tokens a (b ∷ rest) p ps = pieces-append comma (32 ∷ a) 44 (32 ∷ (b ++ more_text rest)) (lacks_comma a p) refl ∙ ap (λ l. (32 ∷ a) ∷ l) (pieces-tokens b rest ps.0 ps.1)
 
 -- a word alone, or with operands behind it
-words_of-alone : (body w : List ℕ) → 0 < length body → before Blank body ≡ w → from Blank body ≡ [] → is_word w ≡ true → words_of body ≡ Some (w ∷ [])
-unfolding words_of
-words_of-alone body w some b f word = rw (not_empty body some, b, f, word) refl
+line_words-alone : (body w : List ℕ) → 0 < length body → before Blank body ≡ w → from Blank body ≡ [] → is_word w ≡ true → line_words body ≡ Some (w ∷ [])
+unfolding line_words
+line_words-alone body w some b f word = rw (not_empty body some, b, f, word) refl
 
-words_of-parts : (body w back : List ℕ) (ts : List (List ℕ)) → 0 < length body → before Blank body ≡ w → from Blank body ≡ back → is_word w ≡ true → is_all_blank back ≡ false
-    → tokens_on (w ∷ []) (pieces comma back) ≡ Some (w ∷ ts) → words_of body ≡ Some (w ∷ ts)
-unfolding words_of
-words_of-parts body w back ts some b f word blank h = rw (not_empty body some, b, f, word, blank) h
+line_words-parts : (body w back : List ℕ) (ts : List (List ℕ)) → 0 < length body → before Blank body ≡ w → from Blank body ≡ back → is_word w ≡ true → is_all_blank back ≡ false
+    → tokens_on (w ∷ []) (pieces comma back) ≡ Some (w ∷ ts) → line_words body ≡ Some (w ∷ ts)
+unfolding line_words
+line_words-parts body w back ts some b f word blank h = rw (not_empty body some, b, f, word, blank) h
 
-pub words_of-text : (w : List ℕ) (ts : List (List ℕ)) → is_word w ≡ true → IsPlain w → ArePlain ts → words_of (w ++ operands_text ts) ≡ Some (w ∷ ts)
-words_of-text w [] word p ps = ap words_of (append-nil w) ∙ words_of-alone w w p.some (before-all Blank w (lacks_blank w p.bytes)) (from-all Blank w (lacks_blank w p.bytes)) word
-words_of-text w (a ∷ rest) word p ps =
+pub line_words-text : (w : List ℕ) (ts : List (List ℕ)) → is_word w ≡ true → IsPlain w → ArePlain ts → line_words (w ++ operands_text ts) ≡ Some (w ∷ ts)
+line_words-text w [] word p ps = ap line_words (append-nil w) ∙ line_words-alone w w p.some (before-all Blank w (lacks_blank w p.bytes)) (from-all Blank w (lacks_blank w p.bytes)) word
+line_words-text w (a ∷ rest) word p ps =
     let back : List ℕ = a ++ more_text rest in
-    words_of-parts (w ++ 32 ∷ back) w (32 ∷ back) (a ∷ rest) (some_append w (32 ∷ back) p.some)
+    line_words-parts (w ++ 32 ∷ back) w (32 ∷ back) (a ∷ rest) (some_append w (32 ∷ back) p.some)
     (before-append Blank w 32 back (lacks_blank w p.bytes) refl) (from-append Blank w 32 back (lacks_blank w p.bytes) refl) word
     (not_blank back (until_solid a (more_text rest) ps.0.some ps.0.bytes) (some_append a (more_text rest) ps.0.some))
     (ap (tokens_on (w ∷ [])) (pieces-tokens a rest ps.0 ps.1) ∙ tokens_on-spaced (w ∷ []) (a ∷ rest) ps)

@@ -5,7 +5,10 @@ use Rattle.text.specs.Options.{◌>>=◌}
 
 -- the names, from number 1 on
 abbrev pub helpers : List (List ℕ)
-helpers = codes "board_get" ∷ codes "board_swap" ∷ codes "board_add" ∷ codes "board_cas" ∷ codes "board_copy" ∷ codes "send" ∷ codes "send_row" ∷ codes "sway" ∷ codes "honest" ∷ codes "sign_order" ∷ codes "pass_on" ∷ []
+helpers =
+    codes "board_get" ∷ codes "board_swap" ∷ codes "board_add" ∷ codes "board_cas" ∷ codes "board_copy"
+    ∷ codes "send" ∷ codes "send_row" ∷ codes "sway" ∷ codes "honest"
+    ∷ codes "sign_order" ∷ codes "pass_on" ∷ []
 
 -- the place of a word among names
 abbrev pub place_in : List ℕ → ℕ → List (List ℕ) → Option ℕ

@@ -35,8 +35,8 @@ tokens_on done [] = Some done
 tokens_on done (piece ∷ pieces) = token_of piece >>= λ token. tokens_on (done ++ token ∷ []) pieces
 
 -- a word, and its operands between commas
-unfoldable pub words_of : List ℕ → Option (List (List ℕ))
-words_of body =
+unfoldable pub line_words : List ℕ → Option (List (List ℕ))
+line_words body =
     if length body == 0 then Some []
     else if is_word (before Blank body) then
     if is_all_blank (from Blank body) then Some (before Blank body ∷ [])
@@ -50,14 +50,14 @@ pub record Outline : Type 0 where
 
 unfoldable pub named : List ℕ → Option Outline
 named code =
-    if is_name (before colon code) then (words_of (from Solid (drop 1 (from colon code))) >>= λ words. Some (record { name = Some (before colon code); words = words }))
+    if is_name (before colon code) then (line_words (from Solid (drop 1 (from colon code))) >>= λ words. Some (record { name = Some (before colon code); words = words }))
     else None
 
 -- a line has a name where a colon stands in its first word
 unfoldable pub outlined : List ℕ → Option Outline
 outlined code =
     if nat_lt (until colon (before Blank code)) (length (before Blank code)) then named code
-    else (words_of code >>= λ words. Some (record { name = None; words = words }))
+    else (line_words code >>= λ words. Some (record { name = None; words = words }))
 
 unfoldable pub outline_of : List ℕ → Option Outline
 outline_of line = outlined (from Solid (before semicolon line))

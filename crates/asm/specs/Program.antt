@@ -83,9 +83,18 @@ read_on r line (text ∷ texts) = at_line line (line_read r line text) >>= λ ne
 -- an instruction with its distance: the name is defined (A4), and the distance in its range (A6)
 abbrev pub insn_of : List (List ℕ × ℕ) → ℕ → Source → Result Insn Fault
 insn_of names unit (Plain insn) = Ok insn
-insn_of names unit (Jump goal) = ok_or (distance_of names unit goal) faults.Label >>= λ n. ok_or (signed_within (2 ^ 15) n) faults.Range >>= λ distance. Ok (insns.Jump distance)
-insn_of names unit (LongJump goal) = ok_or (distance_of names unit goal) faults.Label >>= λ n. ok_or (signed_within (2 ^ 31) n) faults.Range >>= λ distance. Ok (insns.LongJump distance)
-insn_of names unit (Branch width condition dst operand goal) = ok_or (distance_of names unit goal) faults.Label >>= λ n. ok_or (signed_within (2 ^ 15) n) faults.Range >>= λ distance. Ok (insns.Branch width condition dst operand distance)
+insn_of names unit (Jump goal) =
+    ok_or (distance_of names unit goal) faults.Label >>= λ n.
+    ok_or (signed_within (2 ^ 15) n) faults.Range >>= λ distance.
+    Ok (insns.Jump distance)
+insn_of names unit (LongJump goal) =
+    ok_or (distance_of names unit goal) faults.Label >>= λ n.
+    ok_or (signed_within (2 ^ 31) n) faults.Range >>= λ distance.
+    Ok (insns.LongJump distance)
+insn_of names unit (Branch width condition dst operand goal) =
+    ok_or (distance_of names unit goal) faults.Label >>= λ n.
+    ok_or (signed_within (2 ^ 15) n) faults.Range >>= λ distance.
+    Ok (insns.Branch width condition dst operand distance)
 
 -- the instructions behind those that are done
 abbrev pub insns_on : List (List ℕ × ℕ) → ℕ → List Insn → List Placed → Result (List Insn) AsmError

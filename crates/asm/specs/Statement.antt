@@ -57,19 +57,75 @@ three_of (a ∷ b ∷ c ∷ d ∷ rest) = None
 
 -- the operands of each mnemonic: their number and kinds (A3), then their ranges (A6)
 abbrev pub source_of : Mnemonic → List (List ℕ) → Result Source Fault
-source_of (words.Arithmetic width operation) operands = ok_or (two_of operands) faults.Operand >>= λ o. ok_or (register_of o.0) faults.Operand >>= λ dst. ok_or (raw_of o.1) faults.Operand >>= λ raw. ok_or (fitted raw) faults.Range >>= λ operand. Ok (Plain (insns.Arithmetic width operation dst operand))
-source_of (words.Negate width) operands = ok_or (one_of operands) faults.Operand >>= λ a. ok_or (register_of a) faults.Operand >>= λ dst. Ok (Plain (insns.Negate width dst))
-source_of (words.SignExtend width part) operands = ok_or (two_of operands) faults.Operand >>= λ o. ok_or (register_of o.0) faults.Operand >>= λ dst. ok_or (register_of o.1) faults.Operand >>= λ src. Ok (Plain (insns.SignExtend width part dst src))
-source_of (words.Swap order bytes) operands = ok_or (one_of operands) faults.Operand >>= λ a. ok_or (register_of a) faults.Operand >>= λ dst. Ok (Plain (insns.Swap order bytes dst))
-source_of words.LoadNumber operands = ok_or (two_of operands) faults.Operand >>= λ o. ok_or (register_of o.0) faults.Operand >>= λ dst. ok_or (number_of o.1) faults.Operand >>= λ n. ok_or (bits_within n) faults.Range >>= λ number. Ok (Plain (insns.LoadNumber dst number))
-source_of words.Jump operands = ok_or (one_of operands) faults.Operand >>= λ a. ok_or (goal_of a) faults.Operand >>= λ goal. Ok (Jump goal)
-source_of words.LongJump operands = ok_or (one_of operands) faults.Operand >>= λ a. ok_or (goal_of a) faults.Operand >>= λ goal. Ok (LongJump goal)
-source_of (words.Branch width condition) operands = ok_or (three_of operands) faults.Operand >>= λ o. ok_or (register_of o.0) faults.Operand >>= λ dst. ok_or (raw_of o.1) faults.Operand >>= λ raw. ok_or (goal_of o.2) faults.Operand >>= λ goal. ok_or (fitted raw) faults.Range >>= λ operand. Ok (Branch width condition dst operand goal)
-source_of (words.Load bytes) operands = ok_or (two_of operands) faults.Operand >>= λ o. ok_or (register_of o.0) faults.Operand >>= λ dst. ok_or (place_of o.1) faults.Operand >>= λ place. ok_or (signed_within (2 ^ 15) place.1) faults.Range >>= λ offset. Ok (Plain (insns.Load bytes dst place.0 offset))
-source_of (words.LoadSigned part) operands = ok_or (two_of operands) faults.Operand >>= λ o. ok_or (register_of o.0) faults.Operand >>= λ dst. ok_or (place_of o.1) faults.Operand >>= λ place. ok_or (signed_within (2 ^ 15) place.1) faults.Range >>= λ offset. Ok (Plain (insns.LoadSigned part dst place.0 offset))
-source_of (words.StoreRegister bytes) operands = ok_or (two_of operands) faults.Operand >>= λ o. ok_or (place_of o.0) faults.Operand >>= λ place. ok_or (register_of o.1) faults.Operand >>= λ src. ok_or (signed_within (2 ^ 15) place.1) faults.Range >>= λ offset. Ok (Plain (insns.Store bytes place.0 offset (seconds.Register src)))
-source_of (words.StoreNumber bytes) operands = ok_or (two_of operands) faults.Operand >>= λ o. ok_or (place_of o.0) faults.Operand >>= λ place. ok_or (number_of o.1) faults.Operand >>= λ n. ok_or (signed_within (2 ^ 15) place.1) faults.Range >>= λ offset. ok_or (signed_within (2 ^ 31) n) faults.Range >>= λ number. Ok (Plain (insns.Store bytes place.0 offset (seconds.Immediate number)))
-source_of words.Call operands = ok_or (one_of operands) faults.Operand >>= λ a. if is_letter (slice_index a 0) then (ok_or (helper_of a) faults.Operand >>= λ helper. Ok (Plain (insns.Call helper))) else (ok_or (number_of a) faults.Operand >>= λ n. ok_or (signed_within (2 ^ 31) n) faults.Range >>= λ helper. Ok (Plain (insns.Call helper)))
+source_of (words.Arithmetic width operation) operands =
+    ok_or (two_of operands) faults.Operand >>= λ o.
+    ok_or (register_of o.0) faults.Operand >>= λ dst.
+    ok_or (raw_of o.1) faults.Operand >>= λ raw.
+    ok_or (fitted raw) faults.Range >>= λ operand.
+    Ok (Plain (insns.Arithmetic width operation dst operand))
+source_of (words.Negate width) operands =
+    ok_or (one_of operands) faults.Operand >>= λ a.
+    ok_or (register_of a) faults.Operand >>= λ dst.
+    Ok (Plain (insns.Negate width dst))
+source_of (words.SignExtend width part) operands =
+    ok_or (two_of operands) faults.Operand >>= λ o.
+    ok_or (register_of o.0) faults.Operand >>= λ dst.
+    ok_or (register_of o.1) faults.Operand >>= λ src.
+    Ok (Plain (insns.SignExtend width part dst src))
+source_of (words.Swap order bytes) operands =
+    ok_or (one_of operands) faults.Operand >>= λ a.
+    ok_or (register_of a) faults.Operand >>= λ dst.
+    Ok (Plain (insns.Swap order bytes dst))
+source_of words.LoadNumber operands =
+    ok_or (two_of operands) faults.Operand >>= λ o.
+    ok_or (register_of o.0) faults.Operand >>= λ dst.
+    ok_or (number_of o.1) faults.Operand >>= λ n.
+    ok_or (bits_within n) faults.Range >>= λ number.
+    Ok (Plain (insns.LoadNumber dst number))
+source_of words.Jump operands =
+    ok_or (one_of operands) faults.Operand >>= λ a.
+    ok_or (goal_of a) faults.Operand >>= λ goal.
+    Ok (Jump goal)
+source_of words.LongJump operands =
+    ok_or (one_of operands) faults.Operand >>= λ a.
+    ok_or (goal_of a) faults.Operand >>= λ goal.
+    Ok (LongJump goal)
+source_of (words.Branch width condition) operands =
+    ok_or (three_of operands) faults.Operand >>= λ o.
+    ok_or (register_of o.0) faults.Operand >>= λ dst.
+    ok_or (raw_of o.1) faults.Operand >>= λ raw.
+    ok_or (goal_of o.2) faults.Operand >>= λ goal.
+    ok_or (fitted raw) faults.Range >>= λ operand.
+    Ok (Branch width condition dst operand goal)
+source_of (words.Load bytes) operands =
+    ok_or (two_of operands) faults.Operand >>= λ o.
+    ok_or (register_of o.0) faults.Operand >>= λ dst.
+    ok_or (place_of o.1) faults.Operand >>= λ place.
+    ok_or (signed_within (2 ^ 15) place.1) faults.Range >>= λ offset.
+    Ok (Plain (insns.Load bytes dst place.0 offset))
+source_of (words.LoadSigned part) operands =
+    ok_or (two_of operands) faults.Operand >>= λ o.
+    ok_or (register_of o.0) faults.Operand >>= λ dst.
+    ok_or (place_of o.1) faults.Operand >>= λ place.
+    ok_or (signed_within (2 ^ 15) place.1) faults.Range >>= λ offset.
+    Ok (Plain (insns.LoadSigned part dst place.0 offset))
+source_of (words.StoreRegister bytes) operands =
+    ok_or (two_of operands) faults.Operand >>= λ o.
+    ok_or (place_of o.0) faults.Operand >>= λ place.
+    ok_or (register_of o.1) faults.Operand >>= λ src.
+    ok_or (signed_within (2 ^ 15) place.1) faults.Range >>= λ offset.
+    Ok (Plain (insns.Store bytes place.0 offset (seconds.Register src)))
+source_of (words.StoreNumber bytes) operands =
+    ok_or (two_of operands) faults.Operand >>= λ o.
+    ok_or (place_of o.0) faults.Operand >>= λ place.
+    ok_or (number_of o.1) faults.Operand >>= λ n.
+    ok_or (signed_within (2 ^ 15) place.1) faults.Range >>= λ offset.
+    ok_or (signed_within (2 ^ 31) n) faults.Range >>= λ number.
+    Ok (Plain (insns.Store bytes place.0 offset (seconds.Immediate number)))
+source_of words.Call operands =
+    ok_or (one_of operands) faults.Operand >>= λ a.
+    if is_letter (slice_index a 0) then (ok_or (helper_of a) faults.Operand >>= λ helper. Ok (Plain (insns.Call helper)))
+    else (ok_or (number_of a) faults.Operand >>= λ n. ok_or (signed_within (2 ^ 31) n) faults.Range >>= λ helper. Ok (Plain (insns.Call helper)))
 source_of words.Exit operands = ok_or (none_of operands) faults.Operand >>= λ o. Ok (Plain insns.Exit)
 
 -- the statement of these words, if there are any: the mnemonic (A2), then its operands

@@ -24,3 +24,4 @@ pub use laws::{
     faults_are_first, helpers_are_numbered, jumps_lead_to_names, mnemonics_are_named,
     registers_are_numbered,
 };
+pub use printing::put_instruction;

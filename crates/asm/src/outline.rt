@@ -4,7 +4,7 @@ ghost use Rattle.std.specs.Prelude.{◌≡◌, [], map, drop};
 ghost use Rattle.text.specs.declared.stop.Stop.TheVariants.{Solid};
 ghost use Rattle.text.specs.Stop.{comma};
 ghost use Rattle.text.specs.Parts.{from, pieces};
-ghost use Rattle.asm.specs.Line.{is_token, is_word, is_all_blank, token_of, tokens_on, words_of, outline_of, outlined, named};
+ghost use Rattle.asm.specs.Line.{is_token, is_word, is_all_blank, token_of, tokens_on, line_words, outline_of, outlined, named};
 ghost use Rattle.asm.specs.Views.{GivesOption, GivesWords, GivesOutline};
 
 use crate::fault::{Fault, LineError};
@@ -78,10 +78,10 @@ fn push_operands<'a>(words: &mut Vec<&'a [u8]>, text: &'a [u8]) -> Result<(), Li
 }
 
 /// The word and its operands.
-#[tactic(auto, unfolding(crate::specs::Line::words_of))]
+#[tactic(auto, unfolding(crate::specs::Line::line_words))]
 fn push_words<'a>(words: &mut Vec<&'a [u8]>, body: &'a [u8]) -> Result<(), LineError>
     requires { words.old.items ≡ [] }
-    ensures { GivesWords words.new.items result (words_of body.now) }
+    ensures { GivesWords words.new.items result (line_words body.now) }
 {
     if body.is_empty() {
         return Ok(());

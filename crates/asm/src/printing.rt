@@ -2,7 +2,7 @@
 
 ghost use Rattle.std.specs.Prelude.{◌≡◌, ◌++◌, [], ◌∷◌, codes, decimal, string_bytes, OnOk};
 ghost use Rattle.std.specs.Fmt.{signed_decimal};
-ghost use Rattle.asm.specs.Printing.{register_text, operand_text, signed_text, place_text, word_of, operands_of, operands_text, line_text};
+ghost use Rattle.asm.specs.Printing.{register_text, operand_text, signed_text, place_text, word_of, operands_of, operands_text, insn_text, line_text};
 
 use crate::mnemonic::{Mnemonic, name};
 use insn::{Insn, Operand, Reg};
@@ -229,13 +229,20 @@ fn put_operands(out: &mut String, insn: &Insn) -> Result<(), AllocError>
     }
 }
 
-/// The instruction and a line feed.
+/// Adds an instruction: its mnemonic and its operands.
 #[tactic(auto, unfolding(crate::specs::Printing::insn_text))]
+pub fn put_instruction(out: &mut String, insn: &Insn) -> Result<(), AllocError>
+    ensures { OnOk result (string_bytes out.new ≡ string_bytes out.old ++ insn_text insn.now) }
+{
+    out.push_str(name(mnemonic_for(insn)))?;
+    put_operands(out, insn)
+}
+
+/// The instruction and a line feed.
 pub fn put_line(out: &mut String, insn: &Insn) -> Result<(), AllocError>
     ensures { OnOk result (string_bytes out.new ≡ string_bytes out.old ++ line_text insn.now) }
 {
-    out.push_str(name(mnemonic_for(insn)))?;
-    put_operands(out, insn)?;
+    put_instruction(out, insn)?;
     out.push_str("\n")?;
     Ok(())
 }

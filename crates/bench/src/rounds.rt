@@ -1,6 +1,6 @@
 //! Times the contexts of a round, and the delivery of its letters.
 ghost use Rattle.std.specs.Prelude.{◌≡◌, ◌≤◌, suc, List, IsTrue, IfOk, length};
-ghost use Rattle.round.specs.Letters.{Letter as Written};
+ghost use Rattle.round.specs.Letters.{Letter as LetterSeen};
 ghost use Rattle.round.specs.Scenario.{shape_of};
 ghost use Rattle.round.specs.Told.{AreLettersOf, AreRoundsOf, WasTold};
 
@@ -95,7 +95,7 @@ fn report_context<R: Print + Eprint + Clock + AllocGlobal>(
     scenario: &Scenario,
     told: &Told,
 ) -> Result<()>
-    requires told { (before : List (List Written)) × WasTold scenario.now before told.now }
+    requires told { (before : List (List LetterSeen)) × WasTold scenario.now before told.now }
     requires left { told.now.rounds ≤ scenario.now.bound }
 {
     let mut sum = 0;
@@ -115,7 +115,7 @@ fn context_time<C: Clock>(
     told: &Told,
     sum: &mut u64,
 ) -> Result<u64>
-    requires told { (before : List (List Written)) × WasTold scenario.now before told.now }
+    requires told { (before : List (List LetterSeen)) × WasTold scenario.now before told.now }
     requires left { told.now.rounds ≤ scenario.now.bound }
 {
     let general = scenario.generals() - 1;
@@ -135,7 +135,7 @@ fn report_delivery<R: Print + Eprint + Clock + AllocGlobal>(
     told: &mut Told,
     letters: &[Letter],
 ) -> Result<()>
-    requires told { (before : List (List Written)) × WasTold scenario.now before told.old }
+    requires told { (before : List (List LetterSeen)) × WasTold scenario.now before told.old }
     requires left { told.old.rounds ≤ scenario.now.bound }
 {
     let time = delivery_time(rt.alloc(), rt, scenario, told, letters)?;
@@ -152,7 +152,7 @@ fn delivery_time<C: Clock>(
     told: &mut Told,
     letters: &[Letter],
 ) -> Result<u64>
-    requires told { (before : List (List Written)) × WasTold scenario.now before told.old }
+    requires told { (before : List (List LetterSeen)) × WasTold scenario.now before told.old }
     requires left { told.old.rounds ≤ scenario.now.bound }
 {
     let _few = scenario.bound();
@@ -173,10 +173,10 @@ fn deliver_once<C: Clock>(
     told: &mut Told,
     letters: &[Letter],
 ) -> Result<u64>
-    requires told { (before : List (List Written)) × WasTold scenario.now before told.old }
+    requires told { (before : List (List LetterSeen)) × WasTold scenario.now before told.old }
     requires left { told.old.rounds ≤ scenario.now.bound }
     requires letters { AreLettersOf scenario.now (suc told.old.rounds) letters.now }
-    ensures told { (before : List (List Written)) → WasTold scenario.now before told.old → WasTold scenario.now before told.new }
+    ensures told { (before : List (List LetterSeen)) → WasTold scenario.now before told.old → WasTold scenario.now before told.new }
     ensures rounds { told.new.rounds ≡ told.old.rounds }
 {
     let start = Instant::now(clock)?;

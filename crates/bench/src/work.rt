@@ -1,6 +1,5 @@
 ghost use Rattle.std.specs.Prelude.{List, ℕ, OnOk};
 ghost use Rattle.insn.specs.declared.insn.Insn.{Insn};
-ghost use Rattle.machine.specs.Standing.{before};
 ghost use Rattle.machine.specs.Advance.{IsOfRun, IsAskOfRun};
 
 use crate::bytecode::{UNITS, bytecode};
@@ -145,7 +144,7 @@ fn time_activations<C: Clock>(
     limit: u32,
     sum: &mut u64,
 ) -> Result<u64> {
-    let Some(context) = Context::new(material.context.as_slice()) else {
+    let Some(context) = Context::try_new(material.context.as_slice()) else {
         bail!("a context has 4,096 bytes");
     };
     let mut time = 0u64;
@@ -184,7 +183,7 @@ fn served(
 /// The board answers an activation's request.
 fn answer(activation: &mut Activation, board: &mut Board, request: &Request) -> Result<()>
     ensures of_run { OnOk result ((program : List Insn) (context : List ℕ) →
-        IsAskOfRun program context (record { relay = activation.old.relay; request = request.now; last = before activation.old.state; state = activation.old.state }) →
+        IsAskOfRun program context request.now activation.old →
         IsOfRun program context activation.new) }
 {
     let reply = board.apply(SHAPE.general, SHAPE.round, *request)?;

@@ -5,6 +5,7 @@ ghost use Rattle.board.specs.Board.{reply, next, IsLegal, words_after};
 ghost use Rattle.board.specs.Requests.{IsReplyTo};
 
 use crate::access::Access;
+use crate::recalling::{recall_board, recall_request};
 use crate::words;
 use semantics::{Reply, Request};
 use std::alloc::{AllocError, Global};
@@ -36,7 +37,7 @@ impl Board {
         ensures words { result.words ≡ words }
         ensures ledger { result.ledger ≡ [] }
     {
-        words::tell_board(&words);
+        recall_board(&words);
         Board {
             opening: words,
             words,
@@ -56,7 +57,7 @@ impl Board {
         ensures opening { self.new.opening ≡ self.old.opening }
         ensures unserved { OnErr result (self.new ≡ self.old) }
     {
-        words::tell(&request);
+        recall_request(&request);
         let alloc = self.alloc;
         let reply = words::answer(alloc, &self.words, request)?;
         let entry = Access {

@@ -2,7 +2,7 @@
 use Rattle.std.proofs.Common.{ℕ, zero, suc, ◌*◌, ◌<◌, ◌≤◌, ◌≡◌, Bool, true, false, List, [], ◌∷◌, map, length, refl, sym, ap, ◌∙◌, arith, inl, inr, Option, Some, None}
 use Rattle.std.specs.Prelude.{◌==◌, ◌↔◌, nat_lt, nat_le, if◌then◌else◌}
 use Rattle.std.specs.List.{list_all}
-use Rattle.std.proofs.lemmas.Bool.{cases_Bool, and_parts, and_from, or_left, or_right, or_cases, or_parts, or_from, eq-eqb, eqb-true, eqb-false, ne_eqb, lt-ltb, ltb-true, le-leb, leb-true, true≢false}
+use Rattle.std.proofs.lemmas.Bool.{cases_Bool, and_parts, and_from, or_left, or_cases, or_parts, or_from, eq-eqb, eqb-true, eqb-false, ne_eqb, lt-ltb, ltb-true, le-leb, leb-true, true≢false}
 use Rattle.combine.specs.Chosen.{combined_by, chosen_is_rule}
 use Rattle.label.specs.Labels.{on, others}
 use Rattle.label.specs.Lieutenants.{lieutenants}
@@ -17,17 +17,15 @@ use Rattle.book.specs.Consistency.{IsLoyal, DecideAlike, DecideOn, TellsAll, IsW
 use Rattle.book.specs.Decisions.{decision_of}
 use Rattle.book.specs.Table.{MessageTable, told}
 use Rattle.book.proofs.Induction.{holds}
+use Rattle.book.proofs.Gathering.{on_behind}
 
-head_on : (x : ℕ) (xs : List ℕ) → on (x ∷ xs) x ≡ true
+pub head_on : (x : ℕ) (xs : List ℕ) → on (x ∷ xs) x ≡ true
 head_on x xs = or_left (x == x) (on xs x) (eq-eqb x x refl)
-
-tail_on : (x p : ℕ) (xs : List ℕ) → on xs p ≡ true → on (x ∷ xs) p ≡ true
-tail_on x p xs h = or_right (x == p) (on xs p) h
 
 -- each of a list has the same
 all_from : (F : ℕ → ℕ) (v : ℕ) (xs : List ℕ) → ((p : ℕ) → on xs p ≡ true → F p ≡ v) → list_all (λ d. d == v) (map F xs) ≡ true
 all_from F v [] h = refl
-all_from F v (x ∷ xs) h = and_from (F x == v) (list_all (λ d. d == v) (map F xs)) (eq-eqb (F x) v (h x (head_on x xs))) (all_from F v xs (λ p i. h p (tail_on x p xs i)))
+all_from F v (x ∷ xs) h = and_from (F x == v) (list_all (λ d. d == v) (map F xs)) (eq-eqb (F x) v (h x (head_on x xs))) (all_from F v xs (λ p i. h p (on_behind x p xs i)))
 
 all_to : (F : ℕ → ℕ) (v : ℕ) (xs : List ℕ) → list_all (λ d. d == v) (map F xs) ≡ true → (p : ℕ) → on xs p ≡ true → F p ≡ v
 all_to F v [] a p i = absurd (true≢false (sym i))
@@ -40,7 +38,7 @@ all_to F v (x ∷ xs) a p i =
 
 alike_from : (F : ℕ → ℕ) (xs : List ℕ) → ((p q : ℕ) → on xs p ≡ true → on xs q ≡ true → F p ≡ F q) → are_alike (map F xs) ≡ true
 alike_from F [] h = refl
-alike_from F (x ∷ xs) h = all_from F (F x) xs (λ p i. h p x (tail_on x p xs i) (head_on x xs))
+alike_from F (x ∷ xs) h = all_from F (F x) xs (λ p i. h p x (on_behind x p xs i) (head_on x xs))
 
 alike_to : (F : ℕ → ℕ) (xs : List ℕ) → are_alike (map F xs) ≡ true → (p q : ℕ) → on xs p ≡ true → on xs q ≡ true → F p ≡ F q
 alike_to F [] a p q i j = absurd (true≢false (sym i))
@@ -58,7 +56,7 @@ told_from v o e = rw e (eq-eqb v v refl)
 
 all_told_from : (G : ℕ → Option ℕ) (v : ℕ) (xs : List ℕ) → ((p : ℕ) → on xs p ≡ true → G p ≡ Some v) → list_all (is_told v) (map G xs) ≡ true
 all_told_from G v [] h = refl
-all_told_from G v (x ∷ xs) h = and_from (is_told v (G x)) (list_all (is_told v) (map G xs)) (told_from v (G x) (h x (head_on x xs))) (all_told_from G v xs (λ p i. h p (tail_on x p xs i)))
+all_told_from G v (x ∷ xs) h = and_from (is_told v (G x)) (list_all (is_told v) (map G xs)) (told_from v (G x) (h x (head_on x xs))) (all_told_from G v xs (λ p i. h p (on_behind x p xs i)))
 
 all_told_to : (G : ℕ → Option ℕ) (v : ℕ) (xs : List ℕ) → list_all (is_told v) (map G xs) ≡ true → (p : ℕ) → on xs p ≡ true → G p ≡ Some v
 all_told_to G v [] a p i = absurd (true≢false (sym i))
@@ -91,7 +89,7 @@ same_from : (G : ℕ → Option ℕ) (v : ℕ) (xs : List ℕ) (some : ℕ) → 
 same_from G v [] some there h = absurd (true≢false (sym there))
 same_from G v (x ∷ xs) some there h =
     let first : G x ≡ Some v = h x (head_on x xs) in
-    let rest : list_all (is_told v) (map G xs) ≡ true = all_told_from G v xs (λ p i. h p (tail_on x p xs i)) in
+    let rest : list_all (is_told v) (map G xs) ≡ true = all_told_from G v xs (λ p i. h p (on_behind x p xs i)) in
     rw (first, rest) refl
 
 -- who stands among the others

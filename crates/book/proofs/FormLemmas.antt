@@ -239,7 +239,7 @@ lines_are_told : (order : List ℕ → ℕ → ℕ) → ((w : List ℕ) (p : ℕ
     → AllByRecursion (λ z. is_place t z.0 z.1 ≡ true) zs → AllByRecursion IsSmall zs → AllDiffer zs → AreNew t.messages zs → lines_told t number (map (line order) zs) ≡ Ok (with_all t (map (message order) zs))
 lines_are_told order bits [] t number places smalls differ new = ap (λ ms. Ok (record t { messages = ms })) (sym (append-nil t.messages))
 lines_are_told order bits (z ∷ zs) t number places smalls differ new =
-    let good : checked t number (message_of (line order z)) ≡ Ok (message order z) = rw (line_read order bits z smalls.0, places.0, new.0) refl in
+    let good : checked t (message_of (line order z)) ≡ Ok (message order z) = rw (line_read order bits z smalls.0, places.0, new.0) refl in
     let next : MessageTable = with_message t (message order z) in
     let rest : lines_told next (suc number) (map (line order) zs) ≡ Ok (with_all next (map (message order) zs)) = lines_are_told order bits zs next (suc number) places.1 smalls.1 differ.1 (new_more order t.messages z zs new.1 differ.0) in
     rw good (rest ∙ ap (λ ms. Ok (record t { messages = ms })) (append_assoc t.messages (message order z ∷ []) (map (message order) zs)))

@@ -1,5 +1,5 @@
 -- Lists and texts that are gathered general by general.
-use Rattle.std.proofs.Common.{ℕ, zero, suc, add-zero, zero-add, ◌+◌, ◌≤◌, ◌≡◌, ◌≢◌, Bool, true, false, not, cond, List, [], ◌∷◌, ◌++◌, map, length, refl, sym, ap, ◌∙◌, arith, add-one, append_assoc}
+use Rattle.std.proofs.Common.{ℕ, add-zero, zero-add, ◌+◌, ◌≤◌, ◌≡◌, ◌≢◌, Bool, true, false, not, cond, List, [], ◌∷◌, ◌++◌, map, length, refl, sym, ap, ◌∙◌, arith, add-one, append_assoc}
 use Rattle.std.specs.Prelude.{◌==◌, count_by}
 use Rattle.std.specs.List.{flat_map, range_with_len}
 use Rattle.std.proofs.lemmas.Bool.{or_from, or_left, or_right, ne_eqb, eq-eqb}
@@ -8,6 +8,7 @@ use Rattle.std.proofs.lemmas.List.Sums.{length-filter, count_by-le-length, sum_b
 use Rattle.std.proofs.lemmas.List.FromFn.{length-range_with_len}
 use Rattle.label.specs.Labels.{on, others, generals}
 use Rattle.book.proofs.Steps.{others-more_no, others-more_yes}
+use Rattle.label.proofs.Ranks.{range_push}
 
 -- a general who is off the list
 pub map_yes : {A : Type 0} (F : ℕ → A) (w : List ℕ) (j : ℕ) → on w j ≡ false → map F (others (j + 1) w) ≡ map F (others j w) ++ F j ∷ []
@@ -35,12 +36,6 @@ off_first c g w ne h = or_from (c == g) (on w g) (ne_eqb c g (λ e. ne (sym e)))
 -- the first, and one behind him
 pub on_first : (c g : ℕ) (w : List ℕ) → g ≡ c → on (c ∷ w) g ≡ true
 on_first c g w e = or_left (c == g) (on w g) (eq-eqb c g (sym e))
-
-range_push : (a n : ℕ) → range_with_len a (suc n) ≡ range_with_len a n ++ (a + n) ∷ []
-range_push a zero = rw add-zero refl
-range_push a (suc n) =
-    let s : (a + 1) + n ≡ a + suc n = omega arith in
-    ap (λ xs. a ∷ xs) (range_push (a + 1) n ∙ ap (λ x. range_with_len (a + 1) n ++ x ∷ []) s)
 
 -- one number more
 pub range_more : (n : ℕ) → range_with_len 0 (n + 1) ≡ range_with_len 0 n ++ n ∷ []

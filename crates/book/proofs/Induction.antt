@@ -1,6 +1,6 @@
 -- The agreement theorem (TOPLAS 1982, Lemma 1 and Theorem 1), over a label u.g: g has just relayed u, and k relays are left.
-use Rattle.std.proofs.Common.{ℕ, zero, suc, ◌+◌, ◌*◌, ◌<◌, ◌≤◌, ◌≡◌, ◌≢◌, Bool, true, false, not, cond, List, [], ◌∷◌, ◌++◌, map, length, refl, sym, ap, ◌∙◌, arith, inl, inr, length-append}
-use Rattle.std.specs.Prelude.{filter, count_by, ◌==◌}
+use Rattle.std.proofs.Common.{ℕ, zero, suc, ◌+◌, ◌*◌, ◌<◌, ◌≤◌, ◌≡◌, ◌≢◌, Bool, true, false, cond, List, [], ◌∷◌, ◌++◌, map, length, refl, sym, ap, ◌∙◌, arith, inl, inr, length-append}
+use Rattle.std.specs.Prelude.{count_by, ◌==◌}
 use Rattle.std.proofs.lemmas.Bool.Decides.{nat_tests, eqb_tells}
 use Rattle.std.proofs.lemmas.Bool.{cases_Bool, or_from, ne_eqb, cond-true, cond-false}
 use Rattle.std.proofs.lemmas.List.FromFn.{length-range_with_len}
@@ -11,6 +11,7 @@ use Rattle.label.specs.Oral.{IsLabel, Messages, taken, heard, order_of, om, IsFa
 use Rattle.book.specs.Theorem.{AgreementHolds}
 use Rattle.label.proofs.Pushes.{IsLabel-push, heard-push}
 use Rattle.label.proofs.Counting.{on-push, others-on, others-split, others-length, majority_counts, map_agree}
+use Rattle.label.proofs.Ranks.{all_kept}
 
 -- the setting of a whole campaign
 pub record Campaign : Type 0 where
@@ -149,10 +150,6 @@ alike x (suc k) u g p q r few many rp rq =
     ]
 
 -- the whole campaign: Theorem 1 at the label of the commander alone
-all_kept : (xs : List ℕ) → filter (λ j. not (on [] j)) xs ≡ xs
-all_kept [] = refl
-all_kept (x ∷ xs) = ap (λ ys. x ∷ ys) (all_kept xs)
-
 start : (x : Campaign) (k : ℕ) → x.c < x.n → k ≤ x.m → Reached x [] x.c k
 start x k inside le = record { label = record { first = refl; below = (inside, tt); distinct = refl }; time = omega arith; within = inside }
 

@@ -8,9 +8,8 @@ use Rattle.std.proofs.lemmas.Bool.{and_parts, not-true, leb-true, le-leb, cases_
 use Rattle.label.specs.Labels.{on, is_distinct}
 use Rattle.label.proofs.Counting.{distinct-push}
 use Rattle.text.specs.Options.{◌>>=◌}
-use Rattle.text.specs.Number.{decimal_of}
 use Rattle.book.specs.Table.{MessageTable}
-use Rattle.book.specs.Grammar.{numbers_of, is_place}
+use Rattle.book.specs.Grammar.{is_place}
 use Rattle.book.specs.Reading.{prolonged_label, begun_label, placed_label}
 
 on_middle : (w : List ℕ) (j : ℕ) (js : List ℕ) → on (w ++ j ∷ js) j ≡ true
@@ -47,12 +46,6 @@ refused_here n m w j js e =
 taken_here : (n m : ℕ) (w : List ℕ) (j : ℕ) (js : List ℕ) → nat_lt j n ≡ true → fits n m w (j ∷ js) ≡ fits n m (w ++ j ∷ []) js
 taken_here n m w j js e = rw (e, append_assoc w (j ∷ []) js) refl
 
--- numbers of several parts
-all_numbers : (o : Option ℕ) (rest : Option (List ℕ)) (js : List ℕ) → (o >>= λ n. rest >>= λ ns. Some (n ∷ ns)) ≡ Some js → (n : ℕ) × (ns : List ℕ) × (o ≡ Some n) × (rest ≡ Some ns) × (js ≡ n ∷ ns)
-all_numbers None rest js e = cc
-all_numbers (Some n) None js e = cc
-all_numbers (Some n) (Some ns) js e = (n, ns, refl, refl, cc)
-
 step : (n m : ℕ) (w : List ℕ) (j : ℕ) (js : List ℕ) (more : Option (List ℕ)) → is_distinct w ≡ true
     → (is_distinct (w ++ j ∷ []) ≡ true → length (w ++ j ∷ []) ≤ m + 1 → more ≡ cond (fits n m (w ++ j ∷ []) js) (Some ((w ++ j ∷ []) ++ js)) None)
     → (if nat_le (length w) m && nat_lt j n && not (on w j) then more else None) ≡ cond (fits n m w (j ∷ js)) (Some (w ++ j ∷ js)) None
@@ -70,15 +63,10 @@ step n m w j js more d ih =
     ]
 
 -- the label that goes on is the whole, where the whole is one
-pub prolonged_label-whole : (n m : ℕ) (w : List ℕ) (parts : List (List ℕ)) (js : List ℕ) → numbers_of parts ≡ Some js → is_distinct w ≡ true → length w ≤ m + 1
-    → prolonged_label n m w parts ≡ cond (fits n m w js) (Some (w ++ js)) None
+pub prolonged_label-whole : (n m : ℕ) (w js : List ℕ) → is_distinct w ≡ true → length w ≤ m + 1 → prolonged_label n m w js ≡ cond (fits n m w js) (Some (w ++ js)) None
 unfolding prolonged_label
-prolonged_label-whole n m w [] js e d l = let h : js ≡ [] = cc in rw (h, append-nil w, d, le-leb (length w) (m + 1) l) refl
-prolonged_label-whole n m w (part ∷ parts) js e d l =
-    let s = all_numbers (decimal_of part) (numbers_of parts) js e in
-    ap (λ (o : Option ℕ). o >>= λ j. if nat_le (length w) m && nat_lt j n && not (on w j) then prolonged_label n m (w ++ j ∷ []) parts else None) s.2
-    ∙ (step n m w s.0 s.1 (prolonged_label n m (w ++ s.0 ∷ []) parts) d (λ d' l'. prolonged_label-whole n m (w ++ s.0 ∷ []) parts s.1 s.3 d' l')
-    ∙ ap (λ (v : List ℕ). cond (fits n m w v) (Some (w ++ v)) None) (sym s.4))
+prolonged_label-whole n m w [] d l = rw (append-nil w, d, le-leb (length w) (m + 1) l) refl
+prolonged_label-whole n m w (j ∷ js) d l = step n m w j js (prolonged_label n m (w ++ j ∷ []) js) d (λ d' l'. prolonged_label-whole n m (w ++ j ∷ []) js d' l')
 
 all_tests : (d a l p o : Bool) (w : List ℕ) (f : List ℕ → Option (List ℕ)) → f w ≡ (if o then None else Some w)
     → (if p then (cond (d && a && l) (Some w) None >>= f) else None) ≡ (if d && true && a && l && p && not o then Some w else None)
@@ -96,24 +84,32 @@ no_test : (b : Bool) → cond {A = Option (List ℕ)} b None None ≡ None
 no_test true = refl
 no_test false = refl
 
-after_first : (t : MessageTable) (parts : List (List ℕ)) (c : ℕ) (js : List ℕ) (p : ℕ) → t.commander < t.generals → numbers_of parts ≡ Some js
-    → (if nat_lt p t.generals then ((if c == t.commander then prolonged_label t.generals t.bound (t.commander ∷ []) parts else None) >>= λ w. if on w p then None else Some w) else None)
-    ≡ (if is_place t (c ∷ js) p then Some (c ∷ js) else None)
-after_first t parts c js p inside e =
+-- a label that begins with the commander is read whole
+pub begun_label-whole : (t : MessageTable) (w v : List ℕ) → begun_label t w ≡ Some v → w ≡ v
+unfolding begun_label
+begun_label-whole t [] v e = cc
+begun_label-whole t (c ∷ js) v e =
+    elim (cases_eq c t.commander) [
+      | inl same ↦
+          let read : cond (fits t.generals t.bound (t.commander ∷ []) js) (Some (t.commander ∷ js)) None ≡ Some v =
+          sym (prolonged_label-whole t.generals t.bound (t.commander ∷ []) js refl (omega arith)) ∙ rw (same, eq-eqb t.commander t.commander refl) at e in
+          ap (λ (x : ℕ). x ∷ js) same ∙ chosen (fits t.generals t.bound (t.commander ∷ []) js) (t.commander ∷ js) v read
+      | inr ne ↦ let none : None ≡ Some v = rw (ne_eqb c t.commander ne) at e in cc
+    ]
+  where
+    chosen : (b : Bool) (x y : List ℕ) → cond b (Some x) None ≡ Some y → x ≡ y
+    chosen true x y e = cc
+    chosen false x y e = cc
+
+-- the reader's label is the line's, where that is a place
+pub placed_label-is : (t : MessageTable) (w : List ℕ) (p : ℕ) → t.commander < t.generals → placed_label t w p ≡ (if is_place t w p then Some w else None)
+unfolding placed_label begun_label
+placed_label-is t [] p inside = no_test (nat_lt p t.generals)
+placed_label-is t (c ∷ js) p inside =
     elim (cases_eq c t.commander) [
       | inl same ↦
           let within : nat_lt t.commander t.generals ≡ true = lt-ltb t.commander t.generals inside in
-          rw (same, eq-eqb t.commander t.commander refl, prolonged_label-whole t.generals t.bound (t.commander ∷ []) parts js e refl (omega arith), within)
+          rw (same, eq-eqb t.commander t.commander refl, prolonged_label-whole t.generals t.bound (t.commander ∷ []) js refl (omega arith), within)
           (all_tests (is_distinct (t.commander ∷ js)) (list_all (λ x. nat_lt x t.generals) js) (nat_le (length (t.commander ∷ js)) (t.bound + 1)) (nat_lt p t.generals) (on (t.commander ∷ js) p) (t.commander ∷ js) (λ w. if on w p then None else Some w) refl)
       | inr ne ↦ rw (ne_eqb c t.commander ne, and_never (is_distinct (c ∷ js))) (no_test (nat_lt p t.generals))
     ]
-
--- the reader's label is the line's, where that is a place
-pub placed_label-is : (t : MessageTable) (parts : List (List ℕ)) (w : List ℕ) (p : ℕ) → t.commander < t.generals → numbers_of parts ≡ Some w
-    → placed_label t parts p ≡ (if is_place t w p then Some w else None)
-unfolding placed_label begun_label
-placed_label-is t [] w p inside e = let h : w ≡ [] = cc in rw h (no_test (nat_lt p t.generals))
-placed_label-is t (part ∷ parts) w p inside e =
-    let s = all_numbers (decimal_of part) (numbers_of parts) w e in
-    ap (λ (o : Option ℕ). if nat_lt p t.generals then ((o >>= λ c. if c == t.commander then prolonged_label t.generals t.bound (t.commander ∷ []) parts else None) >>= λ w. if on w p then None else Some w) else None) s.2
-    ∙ (after_first t parts s.0 s.1 p inside s.3 ∙ ap (λ (v : List ℕ). if is_place t v p then Some v else None) (sym s.4))

@@ -1,11 +1,11 @@
 -- The agreement theorem, place by place of a list of decisions.
-use Rattle.std.proofs.Common.{ℕ, zero, suc, ◌+◌, ◌<◌, ◌≤◌, ◌≡◌, ◌≢◌, Bool, true, false, List, [], ◌∷◌, map, length, get_or, refl, sym, ap, ◌∙◌, arith, inl, inr}
+use Rattle.std.proofs.Common.{ℕ, zero, suc, ◌+◌, ◌<◌, ◌≤◌, ◌≡◌, ◌≢◌, Bool, false, List, [], ◌∷◌, map, length, get_or, refl, sym, ap, ◌∙◌, arith, inl, inr}
 use Rattle.std.specs.Prelude.{◌==◌, slice_index}
-use Rattle.std.proofs.lemmas.Bool.{or_left, or_right, or_parts, eq-eqb, eqb-false, cases_lt}
+use Rattle.std.proofs.lemmas.Bool.{or_parts, eqb-false, cases_lt}
 use Rattle.std.proofs.lemmas.List.{length-map}
 use Rattle.combine.specs.Rule.{IsMajorityRule}
 use Rattle.combine.specs.Chosen.{combined_by, chosen_is_rule}
-use Rattle.label.specs.Labels.{on, others}
+use Rattle.label.specs.Labels.{others}
 use Rattle.label.specs.Oral.{om, Messages, Agree, IsLoyalLieutenant}
 use Rattle.label.proofs.Counting.{others-on}
 use Rattle.label.proofs.Ranks.{others-count}
@@ -14,18 +14,14 @@ use Rattle.book.specs.Table.{MessageTable, told}
 use Rattle.label.specs.Lieutenants.{lieutenants, IsLoyalAt}
 use Rattle.book.specs.Decisions.{decision_of, decisions_of, AgreesIfBound}
 use Rattle.book.proofs.Steps.{entries_few}
+use Rattle.label.proofs.Bounds.{on-get_or}
 
-on-get_or : (xs : List ℕ) (i : ℕ) → i < length xs → on xs (get_or xs i 0) ≡ true
-on-get_or [] i l = absurd (omega arith)
-on-get_or (x ∷ xs) zero l = or_left (x == x) (on xs x) (eq-eqb x x refl)
-on-get_or (x ∷ xs) (suc i) l = or_right (x == get_or xs i 0) (on xs (get_or xs i 0)) (on-get_or xs i (omega arith))
-
-read_map : (d : ℕ → ℕ) (xs : List ℕ) (i : ℕ) → i < length xs → get_or (map d xs) i 0 ≡ d (get_or xs i 0)
+pub read_map : (d : ℕ → ℕ) (xs : List ℕ) (i : ℕ) → i < length xs → get_or (map d xs) i 0 ≡ d (get_or xs i 0)
 read_map d [] i l = absurd (omega arith)
 read_map d (x ∷ xs) zero l = refl
 read_map d (x ∷ xs) (suc i) l = read_map d xs i (omega arith)
 
-loyal_at : (n c : ℕ) (traitor : ℕ → Bool) (i : ℕ) → IsLoyalAt n c traitor i → IsLoyalLieutenant n c traitor (slice_index (lieutenants n c) i)
+pub loyal_at : (n c : ℕ) (traitor : ℕ → Bool) (i : ℕ) → IsLoyalAt n c traitor i → IsLoyalLieutenant n c traitor (slice_index (lieutenants n c) i)
 loyal_at n c traitor i a =
     let there = others-on n (c ∷ []) (get_or (lieutenants n c) i 0) (on-get_or (lieutenants n c) i a.within) in
     record { general = there.0; lieutenant = λ e. eqb-false c (get_or (lieutenants n c) i 0) (or_parts (c == get_or (lieutenants n c) i 0) false there.1).0 (sym e); loyal = a.loyal }

@@ -1,5 +1,5 @@
 -- The places of a form, in its order.
-use Rattle.std.proofs.Common.{ℕ, zero, suc, ◌+◌, ◌-◌, ◌<◌, ◌≤◌, ◌≡◌, ◌≢◌, Bool, true, false, not, ◌&&◌, List, [], ◌∷◌, ◌++◌, length, get_or, refl, sym, ap, ◌∙◌, arith, inl, inr, length-append, append_assoc, append-nil, filter}
+use Rattle.std.proofs.Common.{ℕ, zero, suc, ◌+◌, ◌-◌, ◌<◌, ◌≤◌, ◌≡◌, ◌≢◌, Bool, true, false, not, ◌&&◌, List, [], ◌∷◌, ◌++◌, length, get_or, refl, sym, ap, ◌∙◌, arith, inl, inr, length-append, append_assoc, append-nil}
 use Rattle.std.specs.Prelude.{◌==◌, nat_lt, nat_le, bytes_eq}
 use Rattle.std.specs.List.{flat_map, range_with_len, list_all, list_any, AllByRecursion}
 use Rattle.std.proofs.lemmas.Bool.{cases_Bool, and_parts, and_from, not-true, or_left, or_right, or_cases, eq-eqb, eqb-true, lt-ltb, ltb-true, le-leb, leb-true, true≢false}
@@ -7,11 +7,12 @@ use Rattle.std.proofs.lemmas.List.{get_or_append_left}
 use Rattle.std.proofs.Math.Seq.{get_or-append_seam}
 use Rattle.std.proofs.lemmas.List.Folds.{list_any-append}
 use Rattle.std.proofs.lemmas.Slice.Eq.{bytes_eq-Decides}
-use Rattle.label.specs.Labels.{on, others, is_distinct, generals}
-use Rattle.label.proofs.Counting.{distinct-push, others-on, on-filter, range-distinct, range-on, range-on_within}
+use Rattle.label.specs.Labels.{on, others, is_distinct}
+use Rattle.label.proofs.Counting.{distinct-push, others-on, range-distinct, range-on, range-on_within, others-distinct}
 use Rattle.label.specs.Space.{begins_with}
 use Rattle.book.proofs.ConditionLemmas.{among}
 use Rattle.book.proofs.LabelLemmas.{twice}
+use Rattle.label.proofs.Places.{all-append}
 
 -- a label, and a general who is off it
 abbrev pub Place : Type 0
@@ -30,14 +31,10 @@ places_from n (suc k) w = flat_map (λ j. places_from n k (w ++ j ∷ [])) (othe
 abbrev pub places : ℕ → ℕ → ℕ → List Place
 places n m c = flat_map (λ k. places_from n k (c ∷ [])) (range_with_len 0 (m + 1))
 
-all_append : {A : Type 0} (P : A → Type 0) (xs ys : List A) → AllByRecursion P xs → AllByRecursion P ys → AllByRecursion P (xs ++ ys)
-all_append P [] ys a b = b
-all_append P (x ∷ xs) ys a b = (a.0, all_append P xs ys a.1 b)
-
 -- what holds in each part
 pub all_flat : {A : Type 0} (P : A → Type 0) (F : ℕ → List A) (xs : List ℕ) → ((x : ℕ) → on xs x ≡ true → AllByRecursion P (F x)) → AllByRecursion P (flat_map F xs)
 all_flat P F [] h = tt
-all_flat P F (x ∷ xs) h = all_append P (F x) (flat_map F xs) (h x (or_left (x == x) (on xs x) (eq-eqb x x refl))) (all_flat P F xs (λ y i. h y (or_right (x == y) (on xs y) i)))
+all_flat P F (x ∷ xs) h = all-append P (F x) (flat_map F xs) (h x (or_left (x == x) (on xs x) (eq-eqb x x refl))) (all_flat P F xs (λ y i. h y (or_right (x == y) (on xs y) i)))
 
 -- no place stands twice
 abbrev pub AllDiffer : List Place → Type 0
@@ -46,7 +43,7 @@ AllDiffer (x ∷ xs) = AllByRecursion (λ y. x ≢ y) xs × AllDiffer xs
 
 differ_append : (xs ys : List Place) → AllDiffer xs → AllDiffer ys → AllByRecursion (λ x. AllByRecursion (λ y. x ≢ y) ys) xs → AllDiffer (xs ++ ys)
 differ_append [] ys a b h = b
-differ_append (x ∷ xs) ys a b h = (all_append (λ y. x ≢ y) xs ys a.0 h.0, differ_append xs ys a.1 b h.1)
+differ_append (x ∷ xs) ys a b h = (all-append (λ y. x ≢ y) xs ys a.0 h.0, differ_append xs ys a.1 b h.1)
 
 weaker : {A : Type 0} (P Q : A → Type 0) (xs : List A) → ((x : A) → P x → Q x) → AllByRecursion P xs → AllByRecursion Q xs
 weaker P Q [] h a = tt
@@ -80,28 +77,13 @@ kept_length n (suc k) w =
     (λ j on. weaker (λ z. length z.0 ≡ length (w ++ j ∷ []) + k) (λ z. length z.0 ≡ length w + suc k) (places_from n k (w ++ j ∷ []))
     (λ z e. omega (arith, length-append w (j ∷ []))) (kept_length n k (w ++ j ∷ [])))
 
-distinct_filter : (t : ℕ → Bool) (xs : List ℕ) → is_distinct xs ≡ true → is_distinct (filter t xs) ≡ true
-distinct_filter t [] d = refl
-distinct_filter t (x ∷ xs) d =
-    let both = and_parts (not (on xs x)) (is_distinct xs) d in
-    let fresh : on xs x ≡ false = not-true (on xs x) both.0 in
-    elim (cases_Bool (t x)) [
-      | inl it ↦
-          let off : on (filter t xs) x ≡ false = elim (cases_Bool (on (filter t xs) x)) [ inl here ↦ absurd (true≢false (sym (on-filter t xs x here).0 ∙ fresh)) | inr gone ↦ gone ] in
-          rw (it, off) (distinct_filter t xs both.1)
-      | inr fails ↦ rw fails (distinct_filter t xs both.1)
-    ]
-
-others_distinct : (n : ℕ) (w : List ℕ) → is_distinct (others n w) ≡ true
-others_distinct n w = distinct_filter (λ j. not (on w j)) (generals n) (range-distinct 0 n)
-
 last_of : (w : List ℕ) (j : ℕ) → get_or (w ++ j ∷ []) (length w) 0 ≡ j
 last_of w j = get_or-append_seam w j [] 0
 
 differ_from : (n k : ℕ) (w : List ℕ) → AllDiffer (places_from n k w)
-differ_from n zero w = differ_flat (λ p. (w, p) ∷ []) (λ z. z.1) (others n w) (others_distinct n w) (λ p. (refl, tt)) (λ p. (tt, tt))
+differ_from n zero w = differ_flat (λ p. (w, p) ∷ []) (λ z. z.1) (others n w) (others-distinct n w) (λ p. (refl, tt)) (λ p. (tt, tt))
 differ_from n (suc k) w =
-    differ_flat (λ j. places_from n k (w ++ j ∷ [])) (λ z. get_or z.0 (length w) 0) (others n w) (others_distinct n w)
+    differ_flat (λ j. places_from n k (w ++ j ∷ [])) (λ z. get_or z.0 (length w) 0) (others n w) (others-distinct n w)
     (λ j. weaker (λ z. get_or z.0 (length w) 0 ≡ get_or (w ++ j ∷ []) (length w) 0) (λ z. get_or z.0 (length w) 0 ≡ j) (places_from n k (w ++ j ∷ []))
     (λ z e. e ∙ last_of w j) (kept_front n k (w ++ j ∷ []) (length w) (omega (arith, length-append w (j ∷ [])))))
     (λ j. differ_from n k (w ++ j ∷ []))

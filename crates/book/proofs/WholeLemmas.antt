@@ -13,16 +13,23 @@ use Rattle.label.specs.Labels.{on, is_distinct}
 use Rattle.label.specs.Space.{begins_with}
 use Rattle.label.proofs.Counts.{begins, below}
 use Rattle.book.specs.declared.message.Message.{Message}
+use Rattle.book.specs.declared.fault.Fault.{Fault}
+use Rattle.book.specs.declared.fault.Fault.TheVariants.{Range, Place, Twice}
 use Rattle.book.specs.declared.fault.TableError.{TableError}
-use Rattle.book.specs.declared.fault.TableError.TheVariants.{Range, Place, Twice}
+use Rattle.book.specs.declared.fault.TableError.TheVariants.{At}
 use Rattle.book.specs.Table.{MessageTable, AreNumbersWithin, is_about}
-use Rattle.book.specs.Grammar.{head_of, is_within, opened, tell_parts, numbers_of, order_in, message_of, is_place, checked, faultless, with_message, lines_told, told_by_lines, table_told}
+use Rattle.book.specs.Grammar.{head_of, is_within, opened, tell_parts, numbers_of, order_in, message_of, is_place, checked, at_line, faultless, with_message, lines_told, told_by_lines, table_told}
 use Rattle.book.specs.Laws.{IsMessage, EachOnce, IsWholeTable, ToldTablesAreWhole}
 
 -- a step behind another
 no_fault : {A B : Type 0} (r : Result A TableError) (f : A → Result B TableError) (u : B) → faultless r f ≡ Ok u → (x : A) × (r ≡ Ok x) × (f x ≡ Ok u)
 no_fault (Ok x) f u e = (x, refl, e)
 no_fault (Err x) f u e = cc
+
+-- a line without a fault
+pub line_ok : {A : Type 0} (number : ℕ) (r : Result A Fault) (x : A) → at_line number r ≡ Ok x → r ≡ Ok x
+line_ok number (Ok y) x e = let same : y ≡ x = cc in ap Ok same
+line_ok number (Err fault) x e = cc
 
 limits : (n m c : ℕ) → is_within n m c ≡ true → AreNumbersWithin n m c
 limits n m c e =
@@ -34,7 +41,7 @@ limits n m c e =
 ok_same : (x y : MessageTable) → ◌≡◌ {A = Result MessageTable TableError} (Ok x) (Ok y) → x ≡ y
 ok_same x y e = cc
 
-head_whole : (n m c : ℕ) (rule : Rule) (t : MessageTable) (b : Bool) → is_within n m c ≡ b → (if b then Ok (record { generals = n; bound = m; commander = c; rule = rule; messages = [] }) else Err (Range 1)) ≡ Ok t → IsWholeTable t
+head_whole : (n m c : ℕ) (rule : Rule) (t : MessageTable) (b : Bool) → is_within n m c ≡ b → (if b then Ok (record { generals = n; bound = m; commander = c; rule = rule; messages = [] }) else Err (At Range 1)) ≡ Ok t → IsWholeTable t
 head_whole n m c rule t true h e =
     let empty : MessageTable = record { generals = n; bound = m; commander = c; rule = rule; messages = [] } in
     let made : IsWholeTable empty = record { within = limits n m c h; messages = tt; once = tt } in
@@ -45,17 +52,17 @@ opened_whole : (head : Option (ℕ × ℕ × ℕ × Rule)) (t : MessageTable) �
 opened_whole None t e = cc
 opened_whole (Some h) t e = head_whole h.0 h.1 h.2 h.3 t (is_within h.0 h.1 h.2) refl e
 
-picked : (said x : Message) (number : ℕ) (place again : Bool) → (if place then (if again then Err (Twice number) else Ok said) else Err (Place number)) ≡ Ok x → (said ≡ x) × (place ≡ true) × (again ≡ false)
-picked said x number true true e = cc
-picked said x number true false e = (cc, refl, refl)
-picked said x number false again e = cc
+picked : (said x : Message) (place again : Bool) → (if place then (if again then Err Twice else Ok said) else Err Place) ≡ Ok x → (said ≡ x) × (place ≡ true) × (again ≡ false)
+picked said x true true e = cc
+picked said x true false e = (cc, refl, refl)
+picked said x false again e = cc
 
 -- a message that passes says a place that no earlier one is about
-pub checked_parts : (t : MessageTable) (number : ℕ) (o : Option Message) (x : Message) → checked t number o ≡ Ok x
+pub checked_parts : (t : MessageTable) (o : Option Message) (x : Message) → checked t o ≡ Ok x
     → (o ≡ Some x) × (is_place t x.label x.receiver ≡ true) × (list_any (is_about x.label x.receiver) t.messages ≡ false)
-checked_parts t number None x e = cc
-checked_parts t number (Some said) x e =
-    let p = picked said x number (is_place t said.label said.receiver) (list_any (is_about said.label said.receiver) t.messages) e in
+checked_parts t None x e = cc
+checked_parts t (Some said) x e =
+    let p = picked said x (is_place t said.label said.receiver) (list_any (is_about said.label said.receiver) t.messages) e in
     let P : Message → Type 0 = λ v. is_place t v.label v.receiver ≡ true in
     let Q : Message → Type 0 = λ v. list_any (is_about v.label v.receiver) t.messages ≡ false in
     (ap Some p.0, subst P p.0 p.1, subst Q p.0 p.2)
@@ -127,8 +134,8 @@ once-push (x ∷ xs) y once new =
 lines_whole : (lines : List (List ℕ)) (number : ℕ) (t u : MessageTable) → IsWholeTable t → lines_told t number lines ≡ Ok u → IsWholeTable u
 lines_whole [] number t u w e = subst IsWholeTable (ok_same t u e) w
 lines_whole (line ∷ lines) number t u w e =
-    let s = no_fault (checked t number (message_of line)) (λ said. lines_told (with_message t said) (suc number) lines) u e in
-    let c = checked_parts t number (message_of line) s.0 s.1 in
+    let s = no_fault (at_line number (checked t (message_of line))) (λ said. lines_told (with_message t said) (suc number) lines) u e in
+    let c = checked_parts t (message_of line) s.0 (line_ok number (checked t (message_of line)) s.0 s.1) in
     let more : IsWholeTable (with_message t s.0) = record {
       within = w.within;
       messages = all-push (IsMessage t.generals t.bound t.commander) t.messages s.0 w.messages (place_message t s.0 c.1 (message_small line s.0 c.0));

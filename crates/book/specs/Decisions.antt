@@ -15,7 +15,9 @@ decisions_of t = map (decision_of t) (lieutenants t.generals t.commander)
 
 -- with the bound, and loyal generals that tell what they took, the decisions agree
 abbrev pub AgreesIfBound : ℕ → ℕ → ℕ → Messages → List ℕ → Type 0
-AgreesIfBound n c m M decisions = (order : ℕ) (traitor : ℕ → Bool) → IsBound n m traitor → ((g : ℕ) → g < n → traitor g ≡ false → IsFaithful n c m order M g) → AgreeInList n c order traitor decisions
+AgreesIfBound n c m M decisions =
+    (order : ℕ) (traitor : ℕ → Bool) → IsBound n m traitor
+    → ((g : ℕ) → g < n → traitor g ≡ false → IsFaithful n c m order M g) → AgreeInList n c order traitor decisions
 
 -- so do those of a table
 abbrev pub TableAgrees : MessageTable → List ℕ → Type 0

@@ -10,8 +10,10 @@ use Rattle.text.specs.Number.{decimal_of}
 use Rattle.label.specs.Labels.{on, is_distinct}
 use Rattle.label.specs.Space.{begins_with}
 use Rattle.book.specs.declared.message.Message.{Message}
+use Rattle.book.specs.declared.fault.Fault.{Fault}
+use Rattle.book.specs.declared.fault.Fault.TheVariants.{Line, Range, Place, Twice}
 use Rattle.book.specs.declared.fault.TableError.{TableError}
-use Rattle.book.specs.declared.fault.TableError.TheVariants.{Line, Range, Place, Twice}
+use Rattle.book.specs.declared.fault.TableError.TheVariants.{At}
 use Rattle.book.specs.Table.{MessageTable, is_about}
 
 -- the rule of a name
@@ -40,9 +42,9 @@ is_within n m c = nat_le n 13 && nat_le m 4 && nat_le (m + 2) n && nat_lt c n
 
 -- the first line: a table without messages, or its fault
 abbrev pub opened : Option (ℕ × ℕ × ℕ × Rule) → Result MessageTable TableError
-opened None = Err (Line 1)
+opened None = Err (At Line 1)
 opened (Some head) =
-    if is_within head.0 head.1 head.2 then Ok (record { generals = head.0; bound = head.1; commander = head.2; rule = head.3; messages = [] }) else Err (Range 1)
+    if is_within head.0 head.1 head.2 then Ok (record { generals = head.0; bound = head.1; commander = head.2; rule = head.3; messages = [] }) else Err (At Range 1)
 
 -- the parts of `tell LABEL RECEIVER V` behind its word
 abbrev pub tell_parts : List (List ℕ) → Option (List ℕ × List ℕ × List ℕ)
@@ -69,10 +71,14 @@ is_place t w p =
     is_distinct w && begins_with t.commander w && list_all (λ x. nat_lt x t.generals) w && nat_le (length w) (t.bound + 1) && nat_lt p t.generals && not (on w p)
 
 -- a further line: its message, or the first of its faults in this order: its shape, no such place, a place told before
-abbrev pub checked : MessageTable → ℕ → Option Message → Result Message TableError
-checked t number None = Err (Line number)
-checked t number (Some said) =
-    if is_place t said.label said.receiver then (if list_any (is_about said.label said.receiver) t.messages then Err (Twice number) else Ok said) else Err (Place number)
+abbrev pub checked : MessageTable → Option Message → Result Message Fault
+checked t None = Err Line
+checked t (Some said) = if is_place t said.label said.receiver then (if list_any (is_about said.label said.receiver) t.messages then Err Twice else Ok said) else Err Place
+
+-- what the checks of a line give, a fault with the line's number
+abbrev pub at_line : {A : Type 0} → ℕ → Result A Fault → Result A TableError
+at_line number (Ok x) = Ok x
+at_line number (Err fault) = Err (At fault number)
 
 -- one step behind another that found no fault
 abbrev pub faultless : {A B : Type 0} → Result A TableError → (A → Result B TableError) → Result B TableError
@@ -86,11 +92,11 @@ with_message t said = record t { messages = t.messages ++ said ∷ [] }
 -- the further lines, in order, the first of them with this number
 abbrev pub lines_told : MessageTable → ℕ → List (List ℕ) → Result MessageTable TableError
 lines_told t number [] = Ok t
-lines_told t number (line ∷ lines) = faultless (checked t number (message_of line)) (λ said. lines_told (with_message t said) (suc number) lines)
+lines_told t number (line ∷ lines) = faultless (at_line number (checked t (message_of line))) (λ said. lines_told (with_message t said) (suc number) lines)
 
 -- the table that a text tells, or the first fault in the order of its lines; an empty text has no first line
 abbrev pub told_by_lines : List (List ℕ) → Result MessageTable TableError
-told_by_lines [] = Err (Line 1)
+told_by_lines [] = Err (At Line 1)
 told_by_lines (line ∷ lines) = faultless (opened (head_of line)) (λ t. lines_told t 2 lines)
 
 -- the same of the bytes of a text

@@ -3,7 +3,7 @@ use Rattle.std.specs.Prelude.{ℕ, ◌<◌, ◌≡◌, Bool, false, List, [], �
 use Rattle.combine.specs.Rule.{IsMajorityRule}
 use Rattle.label.specs.Oral.{Messages, om, IsFaithful, IsBound, Agree}
 
--- by a rule with the law, with more than three times as many generals as traitors, and whatever the traitors say or leave out,
+-- by a rule with the law, with more than three times as many generals as traitors are provided for and no more traitors than these, and whatever the traitors say or leave out,
 -- the loyal lieutenants decide alike, and on the order of a loyal commander
 abbrev pub AgreementHolds : Type 0
 AgreementHolds = (f : List ℕ → ℕ) → IsMajorityRule f →

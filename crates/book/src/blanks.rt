@@ -1,10 +1,11 @@
 //! Message tables to fill in.
 ghost use Rattle.std.specs.Prelude.{◌≡◌, ◌≢◌, ◌≤◌, ◌+◌, ◌++◌, true, false, length, IfOk, IfErr, OnOk, string_bytes};
-ghost use Rattle.book.specs.declared.fault.TableError.TheVariants.{Memory, Range};
+ghost use Rattle.book.specs.declared.fault.Fault.TheVariants.{Range};
+ghost use Rattle.book.specs.declared.fault.TableError.TheVariants.{At, Memory};
 ghost use Rattle.book.specs.Forms.{blank, form_text, place_line, place_lines};
 ghost use Rattle.book.specs.Grammar.{is_within};
 
-use crate::fault::TableError;
+use crate::fault::{Fault, TableError};
 use crate::listing::dotted;
 use crate::reader::is_within;
 use label::Label;
@@ -20,14 +21,14 @@ use std::alloc::{AllocError, Global};
 pub fn form(alloc: Global, generals: u64, bound: u64, commander: u64) -> Result<String, TableError>
     ensures form { IfOk result (λ text. string_bytes text ≡ form_text generals bound commander) }
     ensures within { IfOk result (λ _. is_within generals bound commander ≡ true) }
-    ensures fault { IfErr result (λ e. e ≢ Memory → (e ≡ Range 1) × (is_within generals bound commander ≡ false)) }
+    ensures fault { IfErr result (λ e. e ≢ Memory → (e ≡ At Range 1) × (is_within generals bound commander ≡ false)) }
 {
     if !is_within(
         u128::from(generals),
         u128::from(bound),
         u128::from(commander),
     ) {
-        return Err(TableError::Range(1));
+        return Err(TableError::At(Fault::Range, 1));
     }
     let mut text = format!(in alloc; "generals {generals} bound {bound} commander {commander}\n")?;
     let label = Label::of(commander as u8);

@@ -1,7 +1,8 @@
 //! How the lieutenants of a table come to their decisions, as a text.
 ghost use Rattle.std.specs.Prelude.{◌≡◌, ◌≢◌, ◌<◌, ◌++◌, IfOk, OnOk, string_bytes};
 ghost use Rattle.book.specs.Conditions.{judged};
-ghost use Rattle.book.specs.Explained.{alike_line, bound_line, condition_lines, decision_line, enough_part, enough_words, explained, few_part, few_words, lieutenant_lines, mark, obedience_line, yes_no};
+ghost use Rattle.book.specs.Explained.{alike_line, bound_line, condition_lines, decision_line, enough_part, enough_words, explained};
+ghost use Rattle.book.specs.Explained.{few_part, few_words, lieutenant_lines, mark, obedience_line, yes_no};
 
 use crate::conditions::{Conditions, Obedience};
 use crate::judging::{is_named, judge};

@@ -5,17 +5,42 @@ use std::alloc::AllocError;
 use std::error::Error;
 use std::fmt;
 
-/// Why a text tells no message table: the first fault, with its line, counted from 1.
-#[derive(Clone, Copy, Debug, PartialEq, Eq)]
-pub enum TableError {
-    /// A line of no shape, or an order above 2^32 - 1.
-    Line(u64),
+/// What is wrong with a line of a message table.
+#[derive(Clone, Copy, Debug, PartialEq, Eq, Drop)]
+pub enum Fault {
+    /// No shape, or an order above 2^32 - 1.
+    Line,
     /// Numbers of the first line out of their limits.
-    Range(u64),
+    Range,
     /// No label, a label longer than the rounds, or a receiver that no relay of it goes to.
-    Place(u64),
+    Place,
     /// A label and receiver that an earlier line tells.
-    Twice(u64),
+    Twice,
+}
+
+impl fmt::Display for Fault {
+    ghost use Rattle.std.specs.Prelude.{Some};
+    ghost use Rattle.book.specs.Telling.{code_of};
+
+    ghost output = { λ fault. Some (code_of fault) };
+
+    fn fmt<W: fmt::Write>(&self, f: &mut fmt::Formatter<W>) -> fmt::Result {
+        f.write_str(match self {
+            Fault::Line => "B1",
+            Fault::Range => "B2",
+            Fault::Place => "B3",
+            Fault::Twice => "B4",
+        })
+    }
+}
+
+impl Error for Fault {}
+
+/// Why a text tells no message table: the first fault with its line, or want of memory.
+#[derive(Clone, Copy, Debug, PartialEq, Eq, Drop)]
+pub enum TableError {
+    /// A fault at a line, counted from 1.
+    At(Fault, u64),
     /// No memory for a further line.
     Memory,
 }
@@ -28,10 +53,7 @@ impl fmt::Display for TableError {
 
     fn fmt<W: fmt::Write>(&self, f: &mut fmt::Formatter<W>) -> fmt::Result {
         match self {
-            TableError::Line(line) => write!(f, "B1 line {line}"),
-            TableError::Range(line) => write!(f, "B2 line {line}"),
-            TableError::Place(line) => write!(f, "B3 line {line}"),
-            TableError::Twice(line) => write!(f, "B4 line {line}"),
+            TableError::At(fault, line) => write!(f, "{fault} line {line}"),
             TableError::Memory => f.write_str("out of memory"),
         }
     }

@@ -18,7 +18,7 @@ mod theorem;
 pub use blanks::form;
 pub use conditions::{Conditions, Obedience};
 pub use explaining::explain;
-pub use fault::TableError;
+pub use fault::{Fault, TableError};
 pub use judging::judge;
 pub use message::Message;
 pub use reader::read_table;

@@ -1,16 +1,16 @@
 //! The parts of a message table's lines.
 ghost use Rattle.std.specs.Prelude.{◌≡◌, ◌≤◌, ◌<◌, ◌^◌, ◌↔◌, IsTrue, IfSome, option_map, is_some};
-ghost use Rattle.text.specs.Stop.{space, dot};
+ghost use Rattle.text.specs.Stop.{space};
 ghost use Rattle.text.specs.Parts.{pieces};
-ghost use Rattle.book.specs.Grammar.{head_parts, head_of, rule_named, rule_parts, tell_parts, numbers_of, order_in, message_of};
-ghost use Rattle.book.specs.Reading.{GivesShape, words_left};
+ghost use Rattle.book.specs.Grammar.{head_parts, head_of, rule_named, rule_parts, tell_parts, numbers_of, order_in};
+ghost use Rattle.book.specs.Reading.{left, shape_of, words_left};
 
 use combine::Rule;
 use text::{Stop, decimal, piece};
 
 const SPACE: Stop = Stop::Byte(b' ');
 
-const DOT: Stop = Stop::Byte(b'.');
+pub const DOT: Stop = Stop::Byte(b'.');
 
 /// The three numbers of the first line, and its rule.
 #[tactic(auto, unfolding(crate::specs::Grammar::head_of))]
@@ -113,17 +113,17 @@ fn cut_tell(line: &[u8]) -> Option<(&[u8], &[u8], &[u8])>
     }
 }
 
-/// Whether these are decimal numbers, joined by dots.
-fn are_numbers(part: &[u8]) -> bool
-    ensures { result ≡ is_some (numbers_of (pieces dot part.now)) }
+/// Whether what is left of a label are decimal numbers, joined by dots.
+pub fn are_numbers(rest: Option<&[u8]>) -> bool
+    ensures { result ≡ is_some (numbers_of (left rest.entry)) }
 {
-    let mut rest = Some(part);
-    while let Some(numbers) = rest {
+    let mut part = rest;
+    while let Some(numbers) = part {
         let (number, behind) = piece(DOT, numbers);
         if decimal(number).is_none() {
             return false;
         }
-        rest = behind;
+        part = behind;
     }
     true
 }
@@ -141,15 +141,12 @@ fn order(part: &[u8]) -> Option<u32>
     }
 }
 
-/// The label's part, the receiver and the order of a line of the right shape.
-#[tactic(auto, unfolding(crate::specs::Grammar::message_of))]
+/// The label's part, the receiver and the order of a line.
+#[tactic(auto, unfolding(crate::specs::Reading::shape_of))]
 pub fn shape(line: &[u8]) -> Option<(&[u8], u128, u32)>
-    ensures { GivesShape (option_map (λ s. (s.0.now, s.1, s.2)) result) (message_of line.now) }
+    ensures { option_map (λ s. (s.0.now, s.1, s.2)) result ≡ shape_of line.now }
 {
     let (label, receiver, number) = cut_tell(line)?;
-    if !are_numbers(label) {
-        return None;
-    }
     let receiver = decimal(receiver)?;
     let number = order(number)?;
     Some((label, receiver, number))

@@ -1,65 +1,68 @@
-//! The places of messages: a label, and a receiver who does not stand on it.
-ghost use Rattle.std.specs.Prelude.{◌≡◌, ◌≤◌, ◌<◌, ◌+◌, ◌&&◌, not, nat_le, nat_lt, length, IfSome};
+//! The labels of messages, read from a line.
+ghost use Rattle.std.specs.Prelude.{◌≡◌, ◌≤◌, ◌<◌, ◌+◌, ◌&&◌, not, nat_le, nat_lt, length, Err, None};
 ghost use Rattle.std.specs.Bool.{OnTrue};
 ghost use Rattle.label.specs.Labels.{on};
-ghost use Rattle.text.specs.Stop.{dot};
-ghost use Rattle.text.specs.Parts.{pieces};
 ghost use Rattle.book.specs.Table.{AreNumbersWithin};
-ghost use Rattle.book.specs.Reading.{left, prolonged_label, begun_label, placed_label};
+ghost use Rattle.book.specs.Grammar.{numbers_of};
+ghost use Rattle.book.specs.Reading.{left, numbers_or, prolonged_label, label_read};
 
+use crate::fault::Fault;
+use crate::parts::{DOT, are_numbers};
 use crate::table::Table;
 use label::Label;
-use text::{Stop, decimal, piece};
+use text::{decimal, piece};
 
-const DOT: Stop = Stop::Byte(b'.');
-
-/// The label, where it is one of the campaign and the receiver does not stand on it.
-#[tactic(auto, unfolding(crate::specs::Reading::placed_label))]
-pub fn placed(table: &Table, label: &[u8], receiver: u128) -> Option<Label>
-    ensures place { result ≡ placed_label table.now (pieces dot label.now) receiver }
-    ensures small { IfSome result (λ w. receiver < 13) }
+/// The label of a part of a line, its numbers joined by dots: the commander first. Each number is
+/// read once.
+///
+/// # Errors
+///
+/// `Line` where one is no number, else `Place` where they are no label of the campaign.
+#[tactic(auto, unfolding(crate::specs::Reading::label_read, crate::specs::Reading::begun_label))]
+pub fn label_in(table: &Table, part: &[u8]) -> Result<Label, Fault>
+    ensures label { result ≡ label_read table.now part.now }
     ensures within { AreNumbersWithin table.now.generals table.now.bound table.now.commander }
 {
-    if receiver >= (table.generals() as u128) {
-        return None;
-    }
-    let label = begun(table, label)?;
-    if label.has(receiver as u8) {
-        None
-    } else {
-        Some(label)
-    }
-}
-
-/// The label, where it is one of the campaign: the commander first.
-#[tactic(auto, unfolding(crate::specs::Reading::begun_label))]
-fn begun(table: &Table, label: &[u8]) -> Option<Label>
-    ensures { result ≡ begun_label table.now (pieces dot label.now) }
-{
-    let (first, rest) = piece(DOT, label);
+    let (first, rest) = piece(DOT, part);
     let commander = table.commander();
-    if decimal(first)? == (commander as u128) {
+    let Some(first) = decimal(first) else {
+        return Err(Fault::Line);
+    };
+    if first == (commander as u128) {
         prolonged(table, Label::of(commander), rest)
     } else {
-        None
+        Err(no_label(rest))
     }
 }
 
 /// The label with the generals that are left behind it, where each is a general and new to it.
 #[tactic(auto, unfolding(crate::specs::Reading::prolonged_label))]
-fn prolonged(table: &Table, label: Label, rest: Option<&[u8]>) -> Option<Label>
+fn prolonged(table: &Table, label: Label, rest: Option<&[u8]>) -> Result<Label, Fault>
     requires { length label ≤ table.now.bound + 1 }
-    ensures { result ≡ prolonged_label table.now.generals table.now.bound label (left rest.entry) }
+    ensures { result ≡ numbers_or (prolonged_label table.now.generals table.now.bound label) (numbers_of (left rest.entry)) }
 {
     let Some(rest) = rest else {
-        return Some(label);
+        return Ok(label);
     };
     let (next, behind) = piece(DOT, rest);
-    let next = decimal(next)?;
+    let Some(next) = decimal(next) else {
+        return Err(Fault::Line);
+    };
     if is_next(table, &label, next) {
         prolonged(table, label.with(next as u8), behind)
     } else {
-        None
+        Err(no_label(behind))
+    }
+}
+
+/// The fault of a line whose label ends here: there is no such place, where what is left are numbers.
+fn no_label(rest: Option<&[u8]>) -> Fault
+    ensures { Err result ≡ numbers_or (λ ns. None) (numbers_of (left rest.entry)) }
+{
+    if are_numbers(rest) {
+        Fault::Place
+    } else {
+        Fault::Line
     }
 }
 
@@ -71,4 +74,12 @@ fn is_next(table: &Table, label: &Label, next: u128) -> bool
     label.len() <= (table.bound() as usize)
         && next < (table.generals() as u128)
         && !label.has(next as u8)
+}
+
+/// Whether the receiver is a general who does not stand on the label.
+pub fn can_hear(table: &Table, label: &Label, receiver: u128) -> bool
+    ensures small { OnTrue result (receiver < 13) }
+    ensures value { result ≡ (nat_lt receiver table.now.generals && not (on label.now receiver)) }
+{
+    receiver < (table.generals() as u128) && !label.has(receiver as u8)
 }

@@ -1,11 +1,11 @@
 ghost use Rattle.std.specs.Prelude.{◌≡◌, ◌≢◌, ◌≤◌, ◌++◌, ◌∷◌, [], IfOk, IfErr, Ok, Err};
 ghost use Rattle.book.specs.declared.fault.TableError.TheVariants.{Memory};
-ghost use Rattle.book.specs.Grammar.{opened, head_of, checked, message_of, is_within, table_told};
+ghost use Rattle.book.specs.Grammar.{opened, head_of, checked, at_line, message_of, is_within, table_told};
 
-use crate::fault::TableError;
+use crate::fault::{Fault, TableError};
 use crate::message::Message;
 use crate::parts::{head, shape};
-use crate::placing::placed;
+use crate::placing::{can_hear, label_in};
 use crate::table::Table;
 use std::alloc::Global;
 use text::line;
@@ -21,13 +21,13 @@ pub fn read_table(alloc: Global, text: &str) -> Result<Table, TableError>
     ensures fault { IfErr result (λ e. e ≢ Memory → table_told text.now ≡ Err e) }
 {
     let Some((first, behind)) = line(text.as_bytes()) else {
-        return Err(TableError::Line(1));
+        return Err(TableError::At(Fault::Line, 1));
     };
     let mut table = read_head(alloc, first)?;
     let mut rest = behind;
     let mut number: u64 = 2;
     while let Some((next, behind)) = line(rest) {
-        let message = read_message(&table, number, next)?;
+        let message = message_at(&table, number, next)?;
         table = table.with(message)?;
         rest = behind;
         number += 1;
@@ -41,12 +41,12 @@ fn read_head(alloc: Global, line: &[u8]) -> Result<Table, TableError>
     ensures fault { IfErr result (λ e. e ≢ Memory → opened (head_of line.now) ≡ Err e) }
 {
     let Some((generals, bound, commander, rule)) = head(line) else {
-        return Err(TableError::Line(1));
+        return Err(TableError::At(Fault::Line, 1));
     };
     if is_within(generals, bound, commander) {
         Ok(Table::open(alloc, generals as u8, bound as u8, commander as u8, rule)?)
     } else {
-        Err(TableError::Range(1))
+        Err(TableError::At(Fault::Range, 1))
     }
 }
 
@@ -57,18 +57,29 @@ pub(crate) fn is_within(generals: u128, bound: u128, commander: u128) -> bool
     generals <= 13 && bound <= 4 && bound + 2 <= generals && commander < generals
 }
 
+/// The message of the further line of this number, its first fault otherwise.
+fn message_at(table: &Table, number: u64, line: &[u8]) -> Result<Message, TableError>
+    ensures { result ≡ at_line number (checked table.now (message_of line.now)) }
+{
+    match read_message(table, line) {
+        Ok(message) => Ok(message),
+        Err(fault) => Err(TableError::At(fault, number)),
+    }
+}
+
 /// The message of a further line, the first fault of the line otherwise.
-fn read_message(table: &Table, number: u64, line: &[u8]) -> Result<Message, TableError>
-    ensures { result ≡ checked table.now number (message_of line.now) }
+fn read_message(table: &Table, line: &[u8]) -> Result<Message, Fault>
+    ensures { result ≡ checked table.now (message_of line.now) }
 {
     let Some((label, receiver, order)) = shape(line) else {
-        return Err(TableError::Line(number));
+        return Err(Fault::Line);
     };
-    let Some(label) = placed(table, label, receiver) else {
-        return Err(TableError::Place(number));
-    };
+    let label = label_in(table, label)?;
+    if !can_hear(table, &label, receiver) {
+        return Err(Fault::Place);
+    }
     if table.told(&label, receiver as u8).is_some() {
-        return Err(TableError::Twice(number));
+        return Err(Fault::Twice);
     }
     Ok(Message {
         label,

@@ -1,3 +1,7 @@
+ghost use Rattle.std.specs.Prelude.{◌≡◌, IfOk, IfErr};
+ghost use Rattle.std.specs.IoError.{error_kind};
+ghost use Rattle.byzlab.specs.Files.{IsInputOf};
+
 use std::fs::File;
 use std::io::{self, ErrorKind, Read, Stdin};
 
@@ -18,7 +22,10 @@ impl Input {
     /// # Errors
     ///
     /// Want of memory.
-    pub fn open(rt: &HostRuntime, name: &str) -> io::Result<Option<Input>> {
+    pub fn open(rt: &HostRuntime, name: &str) -> io::Result<Option<Input>>
+        ensures input { IfOk result (IsInputOf name.now) }
+        ensures memory { IfErr result (λ error. error_kind error ≡ ErrorKind.OutOfMemory) }
+    {
         if name == "-" {
             return Ok(Some(Input::Standard(rt.stdin())));
         }

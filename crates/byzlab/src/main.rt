@@ -5,6 +5,11 @@
 mod input;
 mod target;
 
+ghost use Rattle.std.specs.Prelude.{◌≡◌, IfOk, IfErr};
+ghost use Rattle.std.specs.IoError.{error_kind};
+ghost use Rattle.byzlab.specs.Files.{IsInputOf};
+ghost use Rattle.byzlab.specs.Telling.{failure_of};
+
 use command_line::{Task, TaskError};
 use input::Input;
 use lab::{FileName, serve};
@@ -99,7 +104,10 @@ fn prepare(rt: &HostRuntime) -> io::Result<Ready> {
 }
 
 /// The file; none where it does not open, after the line that says so.
-fn opened(rt: &HostRuntime, name: &str) -> io::Result<Option<Input>> {
+fn opened(rt: &HostRuntime, name: &str) -> io::Result<Option<Input>>
+    ensures input { IfOk result (IsInputOf name.now) }
+    ensures memory { IfErr result (λ error. error_kind error ≡ ErrorKind.OutOfMemory) }
+{
     let input = Input::open(rt, name)?;
     if input.is_none() {
         let _ = rt.eprintln(format_args!("fault read {}", FileName(name)));
@@ -107,8 +115,10 @@ fn opened(rt: &HostRuntime, name: &str) -> io::Result<Option<Input>> {
     Ok(input)
 }
 
-/// The line and the exit status where the words could not be had, or help not be written.
-fn failure(kind: ErrorKind) -> (&'static str, u8) {
+/// The line and the exit status where the words could not be had, help not be written, or memory to open a file not be had.
+fn failure(kind: ErrorKind) -> (&'static str, u8)
+    ensures { ((result.0).now, result.1) ≡ failure_of kind }
+{
     match kind {
         ErrorKind::OutOfMemory => ("out of memory", 3),
         ErrorKind::InvalidData => ("error: the words are not UTF-8", 2),

@@ -1,3 +1,6 @@
+ghost use Rattle.std.specs.Prelude.{option_map};
+ghost use Rattle.byzlab.specs.Files.{IsTargetOf};
+
 use std::fs::File;
 use std::io::{self, Stdout, Write};
 
@@ -14,7 +17,9 @@ pub enum Target<'a> {
 
 impl<'a> Target<'a> {
     /// The file of this name; where there is none, or a hyphen, standard output.
-    pub fn of(rt: &'a HostRuntime, name: Option<&'a str>) -> Target<'a> {
+    pub fn of(rt: &'a HostRuntime, name: Option<&'a str>) -> Target<'a>
+        ensures { IsTargetOf (option_map (λ n. n.now) name.entry) result }
+    {
         match name {
             None | Some("-") => Target::Standard(rt.stdout()),
             Some(name) => Target::Unmade { rt, name },

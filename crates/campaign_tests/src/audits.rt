@@ -6,7 +6,7 @@ use round::Scenario;
 use scenario::read;
 use std::alloc::{AllocError, Global};
 use std::test::Fail;
-use trace::{TraceError, check};
+use trace::{Fault, TraceError, check};
 use world::Verdict;
 
 const OBEYED: Verdict = Verdict {
@@ -75,46 +75,54 @@ fn chronicles_are_sound(rt: HostRuntime) -> Result<(), Fail> {
 /// What is answered where another line stands in place of one of the chronicle.
 const CHANGED_LINES: &[(usize, &str, TraceError)] = &[
     // another order, one more, one less, a dash; a decision; the verdict
-    (16, "row 0 0 1\n", TraceError::Differs(16)),
-    (16, "row 0 0 0 0\n", TraceError::Differs(16)),
-    (16, "row 0 0\n", TraceError::Differs(16)),
-    (16, "row 0 - 0\n", TraceError::Differs(16)),
-    (17, "decision 1 0\n", TraceError::Differs(17)),
-    (17, "decision 1 traitor 1\n", TraceError::Differs(17)),
+    (16, "row 0 0 1\n", TraceError::At(Fault::Differs, 16)),
+    (16, "row 0 0 0 0\n", TraceError::At(Fault::Differs, 16)),
+    (16, "row 0 0\n", TraceError::At(Fault::Differs, 16)),
+    (16, "row 0 - 0\n", TraceError::At(Fault::Differs, 16)),
+    (17, "decision 1 0\n", TraceError::At(Fault::Differs, 17)),
+    (
+        17,
+        "decision 1 traitor 1\n",
+        TraceError::At(Fault::Differs, 17),
+    ),
     (
         20,
         "verdict alike yes obeyed - bound yes\n",
-        TraceError::Differs(20),
+        TraceError::At(Fault::Differs, 20),
     ),
     // a line that is missing, and one too many
-    (20, "", TraceError::Differs(20)),
-    (9, "", TraceError::Differs(9)),
-    (5, "row 0 1 1 1\nrow 1 1 1 1\n", TraceError::Differs(6)),
+    (20, "", TraceError::At(Fault::Differs, 20)),
+    (9, "", TraceError::At(Fault::Differs, 9)),
+    (
+        5,
+        "row 0 1 1 1\nrow 1 1 1 1\n",
+        TraceError::At(Fault::Differs, 6),
+    ),
     (
         8,
         "access 3 get 0 = 0\nletter 3 steps 7\n",
-        TraceError::Differs(8),
+        TraceError::At(Fault::Differs, 8),
     ),
     // the first two lines
     (
         2,
         "generals 4 bound 1 commander 0 order 2\n",
-        TraceError::Scenario(2),
+        TraceError::At(Fault::Scenario, 2),
     ),
     (
         2,
         "generals 4 bound 1 commander 0 order 99999999999\n",
-        TraceError::Scenario(2),
+        TraceError::At(Fault::Scenario, 2),
     ),
     (
         2,
         "generals 4 bound 1 commander 0 order 1 patience - rule majority\n",
-        TraceError::Scenario(2),
+        TraceError::At(Fault::Scenario, 2),
     ),
-    (2, "", TraceError::Scenario(2)),
-    (1, "chronicle 2\n", TraceError::Scenario(2)),
-    (1, "round 1\n", TraceError::Scenario(1)),
-    (1, "", TraceError::Scenario(1)),
+    (2, "", TraceError::At(Fault::Scenario, 2)),
+    (1, "chronicle 2\n", TraceError::At(Fault::Scenario, 2)),
+    (1, "round 1\n", TraceError::At(Fault::Scenario, 1)),
+    (1, "", TraceError::At(Fault::Scenario, 1)),
 ];
 
 /// Whether the chronicle of the swaying general is refused for this fault, with other lines in place of one.
@@ -174,9 +182,9 @@ const SHAPELESS_LINES: &[(usize, &str)] = &[
 
 /// Texts that end too early.
 const BEGINNINGS: &[(&str, TraceError)] = &[
-    ("", TraceError::Line(1)),
-    ("chronicle 1", TraceError::Line(1)),
-    ("chronicle 1\n", TraceError::Scenario(2)),
+    ("", TraceError::At(Fault::Line, 1)),
+    ("chronicle 1", TraceError::At(Fault::Line, 1)),
+    ("chronicle 1\n", TraceError::At(Fault::Scenario, 2)),
 ];
 
 /// Whether the line is refused in this place, also behind a second line that is not the scenario's.
@@ -190,7 +198,7 @@ fn is_shapeless(alloc: Global, number: usize, line: &str) -> Result<bool, AllocE
         second,
         "generals 4 bound 1 commander 0 order 2\n",
     )?;
-    let fault = TraceError::Line(number as u64);
+    let fault = TraceError::At(Fault::Line, number as u64);
     Ok(
         is_refused(alloc, SWAYED, text.as_str(), fault)
             && is_refused(alloc, SWAYED, other.as_str(), fault),
@@ -207,7 +215,7 @@ fn a_line_of_no_shape_comes_first(rt: HostRuntime) -> Result<(), Fail> {
         assert!(rt; is_refused(alloc, SWAYED, text, fault), "{text}");
     }
     let open = SWAYED_CHRONICLE.trim_end_matches('\n');
-    assert!(rt; is_refused(alloc, SWAYED, open, TraceError::Line(20)));
+    assert!(rt; is_refused(alloc, SWAYED, open, TraceError::At(Fault::Line, 20)));
     Ok(())
 }
 
@@ -232,7 +240,7 @@ const CHANGED_ACCESSES: &[(usize, &str, u64)] = &[
 fn parts_at(alloc: Global, number: usize, lines: &str, fault: u64) -> Result<bool, Fail> {
     let text = told(alloc, COLLUSION, "")?;
     let text = changed(alloc, text.as_str(), number, lines)?;
-    let fault = TraceError::Differs(fault);
+    let fault = TraceError::At(Fault::Differs, fault);
     Ok(is_refused(alloc, COLLUSION, text.as_str(), fault))
 }
 
@@ -254,7 +262,14 @@ fn accesses_have_their_order(rt: HostRuntime) -> Result<(), Fail> {
     }
     // with other replies the letters are others
     let other = turned_round(alloc)?;
-    assert!(rt; is_refused(alloc, COLLUSION, other.as_str(), TraceError::Differs(7)));
+    assert!(rt;
+        is_refused(
+            alloc,
+            COLLUSION,
+            other.as_str(),
+            TraceError::At(Fault::Differs, 7)
+        )
+    );
     Ok(())
 }
 
@@ -264,12 +279,12 @@ const CONDITIONS: &[(&str, &str, Option<TraceError>)] = &[
     (
         "rule = \"median\"\n",
         "patience - rule median",
-        Some(TraceError::Scenario(1)),
+        Some(TraceError::At(Fault::Scenario, 1)),
     ),
     (
         "patience = 4096\nrule = \"median\"\n",
         "patience 4096 rule median",
-        Some(TraceError::Scenario(1)),
+        Some(TraceError::At(Fault::Scenario, 1)),
     ),
 ];
 
@@ -299,7 +314,12 @@ fn are_admitted(
     Ok(
         is_first
             && is_sound(alloc, campaign, text.as_str(), OBEYED)
-            && is_refused(alloc, campaign, other.as_str(), TraceError::Scenario(2)),
+            && is_refused(
+                alloc,
+                campaign,
+                other.as_str(),
+                TraceError::At(Fault::Scenario, 2),
+            ),
     )
 }
 
@@ -317,7 +337,7 @@ fn versions_are_admitted_by_the_rule(rt: HostRuntime) -> Result<(), Fail> {
 /// Whether a text is refused as it is, and not for want of memory.
 fn is_at_fault(alloc: Global, scenario: &Scenario, text: &str) -> bool {
     match check(alloc, scenario, text) {
-        Err(TraceError::Line(_) | TraceError::Scenario(_) | TraceError::Differs(_)) => true,
+        Err(TraceError::At(..)) => true,
         Err(TraceError::Write | TraceError::Memory) | Ok(_) => false,
     }
 }

@@ -5,7 +5,7 @@ use scenario::{ScenarioError, read};
 use std::alloc::{AllocError, Global};
 use std::process::Abort;
 use std::test::Fail;
-use trace::{TraceError, read_schedule};
+use trace::{Fault, TraceError, read_schedule};
 
 /// What each of five rounds begins with.
 const SCHEDULE: &str = "4*15 0*2
@@ -140,7 +140,7 @@ fn schedules_are_refused(rt: HostRuntime) -> Result<(), Fail> {
     let alloc = rt.alloc();
     for &(text, line) in FAULTY_SCHEDULES {
         let fault = read_schedule(alloc, text).err();
-        assert!(rt; fault == Some(TraceError::Line(line)), "{text}");
+        assert!(rt; fault == Some(TraceError::At(Fault::Line, line)), "{text}");
     }
     for text in SCHEDULES {
         assert!(rt; read_schedule(alloc, text).is_ok(), "{text}");
@@ -150,9 +150,9 @@ fn schedules_are_refused(rt: HostRuntime) -> Result<(), Fail> {
 
 /// Faults, and how they are printed.
 const PRINTED_FAULTS: &[(TraceError, &str)] = &[
-    (TraceError::Line(6), "X1 line 6"),
-    (TraceError::Scenario(2), "X2 line 2"),
-    (TraceError::Differs(16), "X3 line 16"),
+    (TraceError::At(Fault::Line, 6), "X1 line 6"),
+    (TraceError::At(Fault::Scenario, 2), "X2 line 2"),
+    (TraceError::At(Fault::Differs, 16), "X3 line 16"),
     (TraceError::Write, "X4"),
     (TraceError::Memory, "out of memory"),
 ];
@@ -179,7 +179,7 @@ fn tells_scenario(alloc: Global, text: &str) -> Result<bool, AllocError> {
 fn tells_schedule(alloc: Global, text: &str) -> Option<bool> {
     match read_schedule(alloc, text) {
         Ok(_) => Some(true),
-        Err(TraceError::Line(1..=6)) => Some(false),
+        Err(TraceError::At(Fault::Line, 1..=6)) => Some(false),
         Err(_) => None,
     }
 }

@@ -9,6 +9,8 @@ mod campaigns;
 #[cfg(test)]
 mod chronicles;
 #[cfg(test)]
+mod explanations;
+#[cfg(test)]
 mod gates;
 #[cfg(test)]
 mod gathers;

@@ -60,7 +60,7 @@ fn lived(
     let Some(program) = letter.program.program() else {
         return Err(AllocError);
     };
-    letter.tell();
+    letter.recall();
     let _shape = letter.outbox.shape();
     let context = Vec::from_slice(alloc, letter.context.as_slice())?;
     live(

@@ -147,7 +147,7 @@ fn context_begins_with_its_bytes(rt: HostRuntime) -> Result<(), Fail> {
 
 /// The letter that a loyal general writes who is told what the writer of this one was.
 fn faithful(alloc: Global, letter: &Letter) -> Result<Letter, Fail> {
-    letter.tell();
+    letter.recall();
     let _shape = letter.outbox.shape();
     let context = Vec::from_slice(alloc, letter.context.as_slice())?;
     Ok(loyal_letter(alloc, letter.general, letter.round, context)?)

@@ -1,7 +1,7 @@
 //! The programs of docs/SANDBOX.md. Their texts are those of the files in examples/, letter by letter.
 
 use command_line::{Notation, Spelling, Task};
-use lab::{Outcome, answer};
+use lab::{FirstAnswer, answer};
 use std::alloc::{AllocError, Global};
 use std::process::Abort;
 use std::test::Fail;
@@ -206,7 +206,7 @@ pub(crate) fn verdict(rt: &impl Abort, alloc: Global, text: &str) -> Result<Stri
         target: None,
     };
     let code = match answer(alloc, &assembly, text.as_bytes()) {
-        Ok(Outcome::Text(code)) => code,
+        Ok(FirstAnswer::Text(code)) => code,
         Ok(_) => return String::from_str(alloc, "a campaign"),
         Err(refusal) => return refusal.to_string(alloc),
     };
@@ -215,9 +215,10 @@ pub(crate) fn verdict(rt: &impl Abort, alloc: Global, text: &str) -> Result<Stri
         program: String::from_str(alloc, "p")?,
         notation: Notation::Bytecode,
         context: None,
+        explained: false,
     };
     match answer(alloc, &check, bytes.as_slice()) {
-        Ok(Outcome::Text(lines)) => Ok(lines),
+        Ok(FirstAnswer::Text(lines)) => Ok(lines),
         Ok(_) => String::from_str(alloc, "a campaign"),
         Err(refusal) => refusal.to_string(alloc),
     }

@@ -244,6 +244,25 @@ fn check(alloc: Global, notation: Notation, context: Option<&str>) -> Result<Tas
         program: String::from_str(alloc, program)?,
         notation,
         context,
+        explained: false,
+    })
+}
+
+/// The task of `check --explain`.
+fn explained(alloc: Global, notation: Notation, context: Option<&str>) -> Result<Task, Fail> {
+    Ok(match check(alloc, notation, context)? {
+        Task::Check {
+            program,
+            notation,
+            context,
+            ..
+        } => Task::Check {
+            program,
+            notation,
+            context,
+            explained: true,
+        },
+        task => task,
     })
 }
 
@@ -444,6 +463,99 @@ const TRIED: &[(&str, &[u8], u8, &str)] = &[
     ("mov r11, 0", b"# \xff", 1, "refused A3 line 1\n"),
 ];
 
+/// Assembly that is checked and explained, the status, and what is printed or told.
+const EXPLAINED: &[(&[u8], u8, &str)] = &[
+    // behind the lines of an accepted program, and an empty one
+    (
+        b"mov r0, 42\nexit\n",
+        0,
+        "accepted 2 instructions 2 units\nr0 42 steps 2\n\n0 mov r0, 42\n1 exit ; r0 42\n",
+    ),
+    // behind the line of a refusal
+    (
+        b"mov r0, r10\nexit\n",
+        1,
+        "refused V13 unit 1\n0 mov r0, r10 ; r10 stack 0\n1 exit ; r0 stack 0\n1 exit: r0 stack 0: a program ends with a number\n",
+    ),
+    // what is no program has no explanation
+    (b"mov r11, 0", 1, "refused A3 line 1\n"),
+    (b"exit # \xff", 1, "fault text p.asm\n"),
+];
+
+#[test]
+fn programs_are_explained(rt: HostRuntime) -> Result<(), Fail> {
+    let alloc = rt.alloc();
+    let task = explained(alloc, Notation::Assembly, None)?;
+    for &(text, status, lines) in EXPLAINED {
+        assert!(rt;
+            answers(&rt, alloc, &task, File::Bytes(text), (status, lines)),
+            "{lines}"
+        );
+    }
+    Ok(())
+}
+
+/// Bytecode in hex that is refused, and what is told of it and its explanation.
+const EXPLAINED_CODES: &[(&str, &str)] = &[
+    (
+        "9500000000000000",
+        "refused V5 unit 0\n0 exit ; r0 perhaps unset\n0 exit: r0 is read, and may be unset\n",
+    ),
+    (
+        "72010000010000009500000000000000",
+        "refused V10 unit 0\n0 stb [r1+0], 1 ; r1 context 0\n0 stb [r1+0], 1: r1 context 0: the context is only read\n",
+    ),
+    // what spells no program seems to be something else, as ever
+    (
+        "616263",
+        "refused C1 unit 0\nit seems to be bytecode in hex, of which `xxd -r -p` makes bytes\n",
+    ),
+];
+
+#[test]
+fn bytecode_is_explained(rt: HostRuntime) -> Result<(), Fail> {
+    let alloc = rt.alloc();
+    let task = explained(alloc, Notation::Bytecode, None)?;
+    for &(code, lines) in EXPLAINED_CODES {
+        assert!(rt; answers_code(&rt, alloc, &task, code, (1, lines)), "{code}");
+    }
+    Ok(())
+}
+
+/// Assembly and a context, the status, and what is printed or told with the explanation.
+const EXPLAINED_TRIALS: &[(&str, &[u8], u8, &str)] = &[
+    (
+        "ldw r0, [r1+0]\nexit\n",
+        b"generals = 7\nbound = 0\ncommander = 1\ngeneral = 1\nround = 1\n",
+        0,
+        "accepted 2 instructions 2 units\nr0 7 steps 2\n\n0 ldw r0, [r1+0] ; r1 context 0\n1 exit ; r0 0 to 4294967295\n",
+    ),
+    ("mov r0, 0\nexit\n", b"", 1, "refused K2 generals\n"),
+    (
+        "exit\n",
+        b"",
+        1,
+        "refused V5 unit 0\n0 exit ; r0 perhaps unset\n0 exit: r0 is read, and may be unset\n",
+    ),
+];
+
+#[test]
+fn trials_are_explained(rt: HostRuntime) -> Result<(), Fail> {
+    let alloc = rt.alloc();
+    let task = explained(alloc, Notation::Assembly, Some("c.toml"))?;
+    for &(text, context, status, lines) in EXPLAINED_TRIALS {
+        let told = served(
+            &rt,
+            alloc,
+            &task,
+            File::of(text),
+            Some(File::Bytes(context)),
+        );
+        assert!(rt; told.is(status, lines), "{lines}");
+    }
+    Ok(())
+}
+
 #[test]
 fn programs_are_tried(rt: HostRuntime) -> Result<(), Fail> {
     let alloc = rt.alloc();
@@ -624,7 +736,7 @@ const LYING_LIEUTENANT: &str = "generals 4 bound 1 commander 0\ntell 0 1 1\ntell
                                 tell 0.2 3 0\ntell 0.3 1 1\ntell 0.3 2 1\n";
 
 /// Who is named as a traitor, and how the decisions of that table come about.
-const EXPLAINED: &[(&[u8], &str)] = &[
+const EXPLAINED_TABLES: &[(&[u8], &str)] = &[
     (
         &[2],
         "lieutenant 1\n0: told 1, 0.2 0, 0.3 1: majority 1\ndecision 1 1\n\
@@ -648,7 +760,7 @@ const EXPLAINED: &[(&[u8], &str)] = &[
 #[test]
 fn decisions_are_explained(rt: HostRuntime) -> Result<(), Fail> {
     let alloc = rt.alloc();
-    for &(named, lines) in EXPLAINED {
+    for &(named, lines) in EXPLAINED_TABLES {
         let mut traitors = Vec::new(alloc);
         traitors.extend_from_slice(named)?;
         let task = Task::Explain {

@@ -23,6 +23,20 @@ const TAKEN: &[(&[&str], &str, &str, Option<&str>)] = &[
         "p",
         Some("c"),
     ),
+    // two switches, in either order
+    (&["check", "--explain", "p"], "check --explain", "p", None),
+    (
+        &["check", "--explain", "p", "--asm"],
+        "check --asm --explain",
+        "p",
+        None,
+    ),
+    (
+        &["check", "--asm", "--context", "c", "--explain", "--", "-p"],
+        "check --asm --explain",
+        "-p",
+        Some("c"),
+    ),
     (&["asm", "--raw", "p"], "asm --raw", "p", None),
     (&["dis", "p", "--units", "--"], "dis --units", "p", None),
     (
@@ -77,12 +91,14 @@ fn subcommand(task: &Task) -> &'static str {
     match task {
         Task::Check {
             notation: Notation::Bytecode,
+            explained,
             ..
-        } => "check",
+        } => if *explained { "check --explain" } else { "check" },
         Task::Check {
             notation: Notation::Assembly,
+            explained,
             ..
-        } => "check --asm",
+        } => if *explained { "check --asm --explain" } else { "check --asm" },
         Task::Assemble {
             spelling: Spelling::Hex,
             ..
@@ -207,6 +223,17 @@ const REFUSED: &[(&[&str], ErrorKind, i32)] = &[
         ErrorKind::ArgumentConflict,
         2,
     ),
+    (
+        &["check", "--explain", "p", "--explain"],
+        ErrorKind::ArgumentConflict,
+        2,
+    ),
+    (
+        &["check", "--explain=asm", "p"],
+        ErrorKind::TooManyValues,
+        2,
+    ),
+    (&["dis", "--explain", "p"], ErrorKind::UnknownArgument, 2),
     (&["asm", "-of", "p", "-og"], ErrorKind::ArgumentConflict, 2),
     (&["check", "--asm=1", "p"], ErrorKind::TooManyValues, 2),
     (&["asm", "p", "-o"], ErrorKind::InvalidValue, 2),

@@ -1,6 +1,6 @@
 //! A campaign's chronicle as bytes.
 ghost use Rattle.std.specs.Prelude.{◌≡◌, IfOk};
-ghost use Rattle.trace.specs.Text.{text_of};
+ghost use Rattle.trace.specs.Text.{chronicle_text};
 ghost use Rattle.world.specs.Chronicle.{chronicle_of};
 ghost use Rattle.world.specs.Lists.{listed};
 ghost use Rattle.world.specs.Schedules.{lines_by};
@@ -17,7 +17,7 @@ pub fn chronicle_text(
     scenario: Scenario,
     schedule: &Schedule,
 ) -> Result<Vec<u8>, TraceError>
-    ensures { IfOk result (λ told. told.items ≡ text_of (chronicle_of (run (opening scenario) (listed scenario (lines_by schedule.now))))) }
+    ensures { IfOk result (λ told. told.items ≡ chronicle_text (chronicle_of (run (opening scenario) (listed scenario (lines_by schedule.now))))) }
 {
     let chronicle = play(alloc, scenario, schedule)?;
     let mut sink = Latch::new(Vec::new(alloc));

@@ -19,7 +19,7 @@ use Rattle.codec.specs.declared.fields.Fields.{Fields}
 use Rattle.codec.specs.Spelling.{spelling}
 use Rattle.codec.specs.Reading.{is_past, first_fault, is_reserved_set, fault_in, AreUnits}
 
-none_past : (r : ℕ) → r ≤ 10 → is_past r ≡ false
+pub none_past : (r : ℕ) → r ≤ 10 → is_past r ≡ false
 none_past r le = le-ltb 10 r le
 
 along : (f g : Fields) (behind : List ℕ) → f ≡ g → fault_in f behind ≡ None → fault_in g behind ≡ None

@@ -20,7 +20,7 @@ use Rattle.codec.specs.Spelling.{alu_class, jump_class, spelling, instruction_by
 use Rattle.codec.specs.Reading.{fields_of, is_set, is_past, is_reserved_set, checks_of, first_fault, fault_in, fault_at, AreUnits}
 use Rattle.codec.specs.Opcodes.{opcode_in, IsUsed, is_left_out, IsLeftOut, OpcodesAreTold}
 use Rattle.codec.proofs.FrontLemmas.{insn_front}
-use Rattle.codec.proofs.NoFault.{no_fault}
+use Rattle.codec.proofs.NoFault.{no_fault, none_past}
 use Rattle.codec.specs.Form.{divided, form_of, wide_form, load_form, store_form, store_register_form, immediate_form, register_form, jump_form, jump_register_form, IsOpcode}
 
 wide_opcode : (n : ℕ) → IsOpcode (wide_form n) n
@@ -307,9 +307,6 @@ source_set n e = grind (arith, nat_tests)
 register_low : (r : ℕ) → is_past r ≡ false → r ≤ 10
 register_low r e = grind (arith, nat_tests)
 
-low_register : (r : ℕ) → r ≤ 10 → is_past r ≡ false
-low_register r e = grind (arith, nat_tests)
-
 left_fault : (form : Form) (f : Fields) (behind : List ℕ) → IsOpcode form f.opcode → is_left_form form ≡ is_left_out f.opcode → first_fault (checks_of form f behind) ≡ Some faults.LeftOut → IsLeftOut f
 left_fault (forms.Immediate w o) f behind is same e = absurd (none_of is_left_fault faults.LeftOut (checks_of (forms.Immediate w o) f behind) refl refl e)
 left_fault (forms.Register w o) f behind is same e = absurd (none_of is_left_fault faults.LeftOut (checks_of (forms.Register w o) f behind) refl refl e)
@@ -363,7 +360,7 @@ left_back : (f : Fields) (behind : List ℕ) → IsLeftOut f → fault_in f behi
 left_back f behind (inl on) = ap (λ form. fault_by form f behind) (left_form (form_of f.opcode) (form_left f.opcode ∙ on))
 left_back f behind (inr (inl number)) =
     ap (λ n. fault_by (form_of n) f behind) number.0
-    ∙ (ap (λ t. if t then Some faults.Register else if is_set f.src then Some faults.LeftOut else number_rest) (low_register f.dst number.1)
+    ∙ (ap (λ t. if t then Some faults.Register else if is_set f.src then Some faults.LeftOut else number_rest) (none_past f.dst number.1)
     ∙ ap (λ t. if t then Some faults.LeftOut else number_rest) (source_set f.src number.2))
   where
     number_rest : Option Fault

@@ -7,9 +7,8 @@ ghost use Rattle.codec.specs.Form.{divided, IsMoved};
 ghost use Rattle.codec.specs.Reading.{checks_of, first_fault, is_no_part, is_no_swap};
 
 use crate::fault::Fault;
-use crate::fields::Fields;
+use crate::fields::{Fields, used};
 use crate::form::Division;
-use crate::register::used;
 use insn::{Insn, Operand};
 use word::{ByteOrder, Narrow, Operation, SwapSize, Width};
 

@@ -8,21 +8,21 @@ use std::fmt;
 /// What is wrong with the bytes of an instruction, or with how many there are.
 #[derive(Clone, Copy, Debug, PartialEq, Eq, Drop)]
 pub enum Fault {
-    /// The length is no multiple of 8.
+    /// C1: the length is no multiple of 8.
     Length,
-    /// No instruction has this opcode.
+    /// C2: no instruction has this opcode.
     Opcode,
-    /// An unused field, or the reserved bits of a wide instruction, are not zero.
+    /// C3: an unused field, or the reserved bits of a wide instruction, are not zero.
     Reserved,
-    /// The second half of a wide instruction is missing.
+    /// C4: the second half of a wide instruction is missing.
     WideCut,
-    /// A used register above r10.
+    /// C5: a used register above r10.
     Register,
-    /// An instruction of the standard that is left out.
+    /// C6: an instruction of the standard that is left out.
     LeftOut,
-    /// An operand that chooses the instruction has a value that chooses none.
+    /// C7: an operand that chooses the instruction has a value that chooses none.
     Operand,
-    /// No unit, or more than 4,096.
+    /// C8: no unit, or more than 4,096.
     Count,
 }
 

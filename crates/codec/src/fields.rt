@@ -1,9 +1,11 @@
-ghost use Rattle.std.specs.Prelude.{◌≡◌, ◌≤◌, ◌<◌, [], ◌∷◌, length, slice_index};
+ghost use Rattle.std.specs.Prelude.{◌≡◌, ◌≤◌, ◌<◌, [], ◌∷◌, length, slice_index, IfOk, IfErr};
 ghost use Rattle.std.specs.Int.{w16, w32, from_le_bytes, to_le_bytes};
 ghost use Rattle.codec.specs.Reading.{fields_of};
 ghost use Rattle.codec.specs.Spelling.{unit_bytes};
 
+use crate::fault::Fault;
 use byteorder::{ByteOrder, LittleEndian};
+use insn::Reg;
 
 /// The fields of a unit, unsigned (RFC 9669, section 3.1):
 ///
@@ -86,4 +88,12 @@ fn word_bytes(n: u32) -> [u8; 4]
     let mut bytes = [0; 4];
     LittleEndian::write_u32(&mut bytes, n);
     bytes
+}
+
+/// The register of a used field.
+pub fn used(number: u8) -> Result<Reg, Fault>
+    ensures found { IfOk result (λ r. (r ≡ number) × (number ≤ 10)) }
+    ensures fault { IfErr result (λ e. (e ≡ Fault.Register) × (10 < number)) }
+{
+    Reg::new(number).ok_or(Fault::Register)
 }

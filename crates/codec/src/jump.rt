@@ -5,8 +5,7 @@ ghost use Rattle.codec.specs.Spelling.{spelling, jump_class, condition_code};
 ghost use Rattle.codec.specs.Reading.{checks_of, first_fault};
 
 use crate::fault::Fault;
-use crate::fields::Fields;
-use crate::register::used;
+use crate::fields::{Fields, used};
 use insn::{Insn, Operand};
 use word::{Condition, Width};
 

@@ -10,7 +10,6 @@ mod form;
 mod jump;
 mod laws;
 mod memory;
-mod register;
 mod spelling;
 
 pub use decoder::{decode, first_fault};

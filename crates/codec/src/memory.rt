@@ -5,8 +5,7 @@ ghost use Rattle.codec.specs.Spelling.{spelling, size_code, part_code};
 ghost use Rattle.codec.specs.Reading.{checks_of, first_fault, fields_of};
 
 use crate::fault::Fault;
-use crate::fields::{Fields, read_fields};
-use crate::register::used;
+use crate::fields::{Fields, read_fields, used};
 use insn::{Insn, Operand, Size};
 use word::Narrow;
 

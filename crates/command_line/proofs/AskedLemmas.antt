@@ -106,7 +106,7 @@ module _ (name : Text) (rest : List Text) (s : Shape) (told : Option Told)
 as_told : (kinds : Kinds) (found : List Row) (file : Option Text)
     → FileAgrees kinds found file → Agrees kinds (Some (codes "muster", found)) (option_map (one_file (codes "muster")) file)
 as_told kinds found None fails = fails
-as_told kinds found (Some file) passes = let others = passes.2 in (passes.0, rw (passes.1, others.second, others.third, others.switch, others.value) refl, refl)
+as_told kinds found (Some file) passes = let others = passes.2 in (passes.0, rw (passes.1, others.second, others.third, others.switch, others.also, others.value) refl, refl)
 
 muster_agrees : (rest : List Text)
     → Agrees (below (file_shape (codes "muster")) rest) (Some (codes "muster", rows (codes "muster") rest)) (option_map (one_file (codes "muster")) (file_in rest))
@@ -119,19 +119,19 @@ RuleAt name rest = Agrees (fault_of lab_app (name ∷ rest)) (subcommand_of lab_
 
 at_check : (rest : List Text) → RuleAt (codes "check") rest
 unfolding clap_on_literals
-at_check rest = named (codes "check") rest (flagged_shape (codes "check") (codes "asm") (Some (long (codes "context")))) _ refl refl refl (check_agrees rest)
+at_check rest = named (codes "check") rest (flagged_shape (codes "check") (codes "asm") (Some (codes "explain")) (Some (long (codes "context")))) _ refl refl refl (check_agrees rest)
 
 at_asm : (rest : List Text) → RuleAt (codes "asm") rest
 unfolding clap_on_literals
-at_asm rest = named (codes "asm") rest (flagged_shape (codes "asm") (codes "raw") (Some (short 111))) _ refl refl refl (asm_agrees rest)
+at_asm rest = named (codes "asm") rest (flagged_shape (codes "asm") (codes "raw") None (Some (short 111))) _ refl refl refl (asm_agrees rest)
 
 at_dis : (rest : List Text) → RuleAt (codes "dis") rest
 unfolding clap_on_literals
-at_dis rest = named (codes "dis") rest (flagged_shape (codes "dis") (codes "units") None) _ refl refl refl (dis_agrees rest)
+at_dis rest = named (codes "dis") rest (flagged_shape (codes "dis") (codes "units") None None) _ refl refl refl (dis_agrees rest)
 
 at_book : (rest : List Text) → RuleAt (codes "book") rest
 unfolding clap_on_literals
-at_book rest = named (codes "book") rest (flagged_shape (codes "book") (codes "explain") (Some (long (codes "traitors")))) _ refl refl refl (book_agrees rest)
+at_book rest = named (codes "book") rest (flagged_shape (codes "book") (codes "explain") None (Some (long (codes "traitors")))) _ refl refl refl (book_agrees rest)
 
 at_table : (rest : List Text) → RuleAt (codes "table") rest
 unfolding clap_on_literals

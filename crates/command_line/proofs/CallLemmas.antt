@@ -74,7 +74,7 @@ none_found app words k lab fails apart =
 
 -- a task's words name generals where they have to
 names_well : (told : Told) (task : Task) → Says told task → names_generals told ≡ true
-names_well told (Check file notation context) says = rw says refl
+names_well told (Check file notation context explained) says = rw says refl
 names_well told (Assemble file spelling target) says = rw says refl
 names_well told (Disassemble file) says = rw says refl
 names_well told (DisassembleUnits file) says = rw says refl

@@ -24,6 +24,7 @@ pub record LacksOthers (rows : List Row) : Type 0 where
   pub second : first_of (codes "second") rows ≡ None
   pub third : first_of (codes "third") rows ≡ None
   pub switch : first_of (codes "switch") rows ≡ None
+  pub also : first_of (codes "also") rows ≡ None
   pub value : first_of (codes "value") rows ≡ None
 
 -- the words fail where the rule finds no file, and else they have its file
@@ -91,7 +92,7 @@ module _ (name : Text) where
   file_found file = refl
 
   lacks_others : (file : Text) → LacksOthers (finished s.rules (with_file file))
-  lacks_others file = record { second = refl; third = refl; switch = refl; value = refl }
+  lacks_others file = record { second = refl; third = refl; switch = refl; also = refl; value = refl }
 
   has_file : (file : Text) (words : List Text) → walk_fault s [] start words ≡ []
       → (walk s.rules [] nothing_held words).held ≡ with_file file → FileAgrees (faults words) (rows words) (Some file)

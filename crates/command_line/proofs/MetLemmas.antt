@@ -11,19 +11,20 @@ use Rattle.clap.specs.declared.parser.matches.SubCommand.{SubCommand}
 use Rattle.command_line.specs.Lab.{task_met}
 use Rattle.command_line.specs.Told.{Told}
 
-abbrev pub told_of : Text → Option Text → Option Text → Option Text → Option Text → Text → Told
-told_of name second third switch value file = record {
+abbrev pub told_of : Text → Option Text → Option Text → Option Text → Option Text → Option Text → Text → Told
+told_of name second third switch also value file = record {
   name = name;
   file = file;
   second = second;
   third = third;
   switched = option_map_or (bytes_eq (codes "true")) switch false;
+  also = option_map_or (bytes_eq (codes "true")) also false;
   value = value;
 }
 
 -- what the rows of a subcommand tell
 abbrev pub told_from : Text → List Row → Option Told
-told_from name rows = option_map (told_of name (first_of (codes "second") rows) (first_of (codes "third") rows) (first_of (codes "switch") rows) (first_of (codes "value") rows))
+told_from name rows = option_map (told_of name (first_of (codes "second") rows) (first_of (codes "third") rows) (first_of (codes "switch") rows) (first_of (codes "also") rows) (first_of (codes "value") rows))
     (first_of (codes "file") rows)
 
 -- a text behind a reference is what `clap` has of it

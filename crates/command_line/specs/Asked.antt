@@ -7,7 +7,7 @@ use Rattle.std.specs.List.{after_first, before_first, list_any}
 use Rattle.std.specs.Str.{bytes_eq}
 use Rattle.command_line.specs.Flags.{Flags, Taken, is_end_of_flags, is_equals, is_flag, long, nothing_taken, short, taken_in}
 use Rattle.command_line.specs.Generals.{generals_in}
-use Rattle.command_line.specs.Told.{Text, Told, audited, formed, one_file, one_file_with, played}
+use Rattle.command_line.specs.Told.{Text, Told, audited, formed, one_file, one_file_with_both, played}
 
 -- the texts behind the references
 abbrev pub words_of : List (Bor Text) → List Text
@@ -96,22 +96,22 @@ three _ = None
 abbrev pub form_in : List Text → Option Told
 form_in words = option_and_then three (files_in words)
 
--- ---- one file, with a switch, and perhaps an option
+-- ---- one file, with a switch, and perhaps a second one and an option
 
 abbrev pub check_flags : Flags
-check_flags = record { switch = codes "asm"; option = Some (long (codes "context")) }
+check_flags = record { switch = codes "asm"; also = Some (codes "explain"); option = Some (long (codes "context")) }
 
 abbrev pub asm_flags : Flags
-asm_flags = record { switch = codes "raw"; option = Some (short 111) }
+asm_flags = record { switch = codes "raw"; also = None; option = Some (short 111) }
 
 abbrev pub dis_flags : Flags
-dis_flags = record { switch = codes "units"; option = None }
+dis_flags = record { switch = codes "units"; also = None; option = None }
 
 abbrev pub book_flags : Flags
-book_flags = record { switch = codes "explain"; option = Some (long (codes "traitors")) }
+book_flags = record { switch = codes "explain"; also = None; option = Some (long (codes "traitors")) }
 
 abbrev pub one_taken : Text → Taken → Option Told
-one_taken name taken = option_map (one_file_with name taken.switched taken.value) taken.file
+one_taken name taken = option_map (one_file_with_both name taken.switched taken.also taken.value) taken.file
 
 abbrev pub flagged_in : Flags → Text → List Text → Option Told
 flagged_in flags name words = option_and_then (one_taken name) (taken_in flags false nothing_taken words)
@@ -148,17 +148,18 @@ names_generals told = not (is_named (codes "book") told.name) || option_map_or (
 abbrev pub asked : List Text → Option Told
 asked words = option_and_then (λ told. if names_generals told then Some told else None) (spelt words)
 
--- only `table` has a third word, and must, and a second; `play` may have a second, and `audit` must; only `check`, `asm` and `book` have an option
+-- only `table` has a third word, and must, and a second; `play` may have a second, and `audit` must; only `check`, `asm` and `book` have an option, and only `check` a second switch
 abbrev pub is_alone : Told → Bool
 is_alone told = is_none told.second && is_none told.third
 
 abbrev pub is_plain : Told → Bool
-is_plain told = not told.switched && is_none told.value
+is_plain told = not told.switched && not told.also && is_none told.value
 
 abbrev pub is_task : Told → Bool
 is_task told =
-    ((is_named (codes "check") told.name || is_named (codes "asm") told.name || is_named (codes "book") told.name) && is_alone told)
-    || (is_named (codes "dis") told.name && is_alone told && is_none told.value)
+    (is_named (codes "check") told.name && is_alone told)
+    || ((is_named (codes "asm") told.name || is_named (codes "book") told.name) && is_alone told && not told.also)
+    || (is_named (codes "dis") told.name && is_alone told && not told.also && is_none told.value)
     || (is_named (codes "muster") told.name && is_alone told && is_plain told)
     || (is_named (codes "table") told.name && is_some told.second && is_some told.third && is_plain told)
     || (is_play told.name && is_none told.third && is_plain told)

@@ -1,4 +1,4 @@
--- The words of a subcommand of one file that has a switch, and perhaps an option.
+-- The words of a subcommand of one file that has a switch, and perhaps a second one and an option.
 use Rattle.std.specs.Prelude.{ℕ, ◌==◌, ◌&&◌, ◌++◌, Bool, true, false, List, [], ◌∷◌, Option, Some, None}
 use Rattle.std.specs.Prelude.{codes, drop, if◌then◌else◌, is_some, option_and_then, slice_get}
 use Rattle.std.specs.List.{after_first, before_first, list_any}
@@ -24,23 +24,28 @@ pub data OptionName : Type 0 where
   long : Text → OptionName
   short : ℕ → OptionName
 
--- the name of the switch, and the option where there is one
+-- the name of the switch, that of the second one where there is one, and the option where there is one
 pub record Flags : Type 0 where
   pub switch : Text
+  pub also : Option Text
   pub option : Option OptionName
 
 -- what was met of the words
 pub record Taken : Type 0 where
   pub switched : Bool
+  pub also : Bool
   pub value : Option Text
   pub file : Option Text
 
 abbrev pub nothing_taken : Taken
-nothing_taken = record { switched = false; value = None; file = None }
+nothing_taken = record { switched = false; also = false; value = None; file = None }
 
--- the switch, the option and the file stand at most once each
+-- the switches, the option and the file stand at most once each
 abbrev pub with_switch : Taken → Option Taken
 with_switch met = if met.switched then None else Some (record met { switched = true })
+
+abbrev pub with_also : Taken → Option Taken
+with_also met = if met.also then None else Some (record met { also = true })
 
 abbrev pub with_value : Text → Taken → Option Taken
 with_value value met = if is_some met.value then None else Some (record met { value = Some value })
@@ -59,6 +64,9 @@ flag_named name = codes "--" ++ name
 
 abbrev pub is_switch : Flags → Text → Bool
 is_switch flags word = bytes_eq (flag_named flags.switch) word
+
+abbrev pub is_also : Flags → Text → Bool
+is_also flags word = option_map_or (λ name. bytes_eq (flag_named name) word) flags.also false
 
 -- the value of `--NAME=VALUE`
 abbrev pub long_value : Text → Option Text
@@ -83,7 +91,7 @@ option_at (short letter) word =
 abbrev pub option_in : Flags → Text → Option (Option Text)
 option_in flags word = option_and_then (λ spelt. option_at spelt word) flags.option
 
--- a word that is neither `--` nor the switch: a file, or the option; its value stands in the word, or is the next one
+-- a word that is neither `--` nor a switch: a file, or the option; its value stands in the word, or is the next one
 abbrev pub with_word : Option (Option Text) → Text → Taken → (Taken → Option Taken) → Option Taken → Option Taken
 with_word None word met behind awaiting =
     if is_flag word then None else option_and_then behind (with_file word met)
@@ -99,4 +107,5 @@ taken_in flags false met [] = Some met
 taken_in flags false met (word ∷ rest) =
     if is_end_of_flags word then with_files rest met
     else (if is_switch flags word then option_and_then (λ more. taken_in flags false more rest) (with_switch met)
-    else with_word (option_in flags word) word met (λ more. taken_in flags false more rest) (taken_in flags true met rest))
+    else (if is_also flags word then option_and_then (λ more. taken_in flags false more rest) (with_also met)
+    else with_word (option_in flags word) word met (λ more. taken_in flags false more rest) (taken_in flags true met rest)))

@@ -30,6 +30,11 @@ abbrev pub switch_rule : Text → Rule
 switch_rule name =
     record (new_rule (codes "switch")) { long = Some name; action = Some SetTrue }
 
+-- the second switch of a subcommand
+abbrev pub second_switch_rule : Text → Rule
+second_switch_rule name =
+    record (new_rule (codes "also")) { long = Some name; action = Some SetTrue }
+
 -- the options `--context FILE`, `--traitors G,H` and `-o FILE`
 abbrev pub context_rule : Rule
 context_rule =
@@ -48,7 +53,7 @@ abbrev pub switched_app : Text → Text → App
 switched_app name switch = with_rule (file_app name) (switch_rule switch)
 
 abbrev pub check_app : App
-check_app = with_rule (switched_app (codes "check") (codes "asm")) context_rule
+check_app = with_rule (with_rule (switched_app (codes "check") (codes "asm")) (second_switch_rule (codes "explain"))) context_rule
 
 abbrev pub asm_app : App
 asm_app = with_rule (switched_app (codes "asm") (codes "raw")) target_rule
@@ -105,5 +110,6 @@ task_met = option_and_then (λ met. option_map (λ file. record {
   second = first_of (codes "second") met.1;
   third = first_of (codes "third") met.1;
   switched = option_map_or (bytes_eq (codes "true")) (first_of (codes "switch") met.1) false;
+  also = option_map_or (bytes_eq (codes "true")) (first_of (codes "also") met.1) false;
   value = first_of (codes "value") met.1;
 }) (first_of (codes "file") met.1))

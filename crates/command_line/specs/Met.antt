@@ -10,5 +10,6 @@ told_by met = record {
   second = option_map (λ word. word.now) met.second;
   third = option_map (λ word. word.now) met.third;
   switched = met.switched;
+  also = met.also;
   value = option_map (λ word. word.now) met.value;
 }

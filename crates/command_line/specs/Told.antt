@@ -15,19 +15,24 @@ use Rattle.command_line.specs.declared.tasks.TaskError.TheVariants.{Words, Trait
 abbrev pub Text : Type 0
 Text = List ℕ
 
--- a subcommand's name, its words that are no flags, up to three, whether its switch stands in the words, and the value of its option
+-- a subcommand's name, its words that are no flags, up to three, whether its switch stands in the words, and its second one, and the value of its option
 pub record Told : Type 0 where
   pub name : Text
   pub file : Text
   pub second : Option Text
   pub third : Option Text
   pub switched : Bool
+  pub also : Bool
   pub value : Option Text
 
--- a subcommand of one file, with its switch or without it, and perhaps with its option
+-- a subcommand of one file, with its switches or without them, and perhaps with its option
+abbrev pub one_file_with_both : Text → Bool → Bool → Option Text → Text → Told
+one_file_with_both name switched also value file =
+    record { name = name; file = file; second = None; third = None; switched = switched; also = also; value = value }
+
+-- the same without a second switch
 abbrev pub one_file_with : Text → Bool → Option Text → Text → Told
-one_file_with name switched value file =
-    record { name = name; file = file; second = None; third = None; switched = switched; value = value }
+one_file_with name switched value file = one_file_with_both name switched false value file
 
 -- a subcommand of one file
 abbrev pub one_file : Text → Text → Told
@@ -36,17 +41,17 @@ one_file name file = one_file_with name false None file
 -- `table`
 abbrev pub formed : Text → Text → Text → Told
 formed n m c =
-    record { name = codes "table"; file = n; second = Some m; third = Some c; switched = false; value = None }
+    record { name = codes "table"; file = n; second = Some m; third = Some c; switched = false; also = false; value = None }
 
 -- `play`, perhaps with a schedule
 abbrev pub played : Option Text → Text → Told
 played schedule scenario =
-    record { name = codes "play"; file = scenario; second = schedule; third = None; switched = false; value = None }
+    record { name = codes "play"; file = scenario; second = schedule; third = None; switched = false; also = false; value = None }
 
 -- `audit`
 abbrev pub audited : Text → Text → Told
 audited scenario chronicle =
-    record { name = codes "audit"; file = scenario; second = Some chronicle; third = None; switched = false; value = None }
+    record { name = codes "audit"; file = scenario; second = Some chronicle; third = None; switched = false; also = false; value = None }
 
 -- whom the words of `book` name as traitors, where they ask for an explanation
 abbrev pub named : Bool → Option Text → Option (List ℕ)
@@ -70,8 +75,8 @@ IsExplained told file traitors =
 
 -- the words say this task; of an explanation any words that name the same generals, with the switch or without it
 abbrev pub Says : Told → Task → Type 0
-Says told (Check file notation context) =
-    told ≡ one_file_with (codes "check") (is_assembly notation) (option_map string_bytes context) (string_bytes file)
+Says told (Check file notation context explained) =
+    told ≡ one_file_with_both (codes "check") (is_assembly notation) explained (option_map string_bytes context) (string_bytes file)
 Says told (Assemble file spelling target) =
     told ≡ one_file_with (codes "asm") (is_raw spelling) (option_map string_bytes target) (string_bytes file)
 Says told (Disassemble file) = told ≡ one_file (codes "dis") (string_bytes file)
@@ -86,7 +91,7 @@ Says told (Audit scenario chronicle) = told ≡ audited (string_bytes scenario) 
 
 -- the names of the task's files: of its only or first, of the second, and of the one that it writes
 abbrev pub file_of : Task → Option Text
-file_of (Check file notation context) = Some (string_bytes file)
+file_of (Check file notation context explained) = Some (string_bytes file)
 file_of (Assemble file spelling target) = Some (string_bytes file)
 file_of (Disassemble file) = Some (string_bytes file)
 file_of (DisassembleUnits file) = Some (string_bytes file)
@@ -98,7 +103,7 @@ file_of (Muster scenario) = Some (string_bytes scenario)
 file_of (Audit scenario chronicle) = Some (string_bytes scenario)
 
 abbrev pub second_of : Task → Option Text
-second_of (Check file notation context) = option_map string_bytes context
+second_of (Check file notation context explained) = option_map string_bytes context
 second_of (Play scenario schedule) = option_map string_bytes schedule
 second_of (Audit scenario chronicle) = Some (string_bytes chronicle)
 second_of _ = None

@@ -1,7 +1,7 @@
 ghost use Rattle.std.specs.Prelude.{◌≡◌, IfOk, false};
 ghost use Rattle.clap.specs.Words.{app_of, rule_of};
 ghost use Rattle.clap.specs.declared.builder.command.Command.TheViews.{out-Command};
-ghost use Rattle.command_line.specs.Lab.{asm_app, audit_app, bare_app, book_app, check_app, context_rule, dis_app, files_app, lab_app, play_app, programs_app, required_rule, schedule_rule, switch_rule, table_app, target_rule, traitors_rule, with_audit_command, with_file_command, with_play_command};
+ghost use Rattle.command_line.specs.Lab.{asm_app, audit_app, bare_app, book_app, check_app, context_rule, dis_app, files_app, lab_app, play_app, programs_app, required_rule, schedule_rule, second_switch_rule, switch_rule, table_app, target_rule, traitors_rule, with_audit_command, with_file_command, with_play_command};
 
 use clap::{Arg, ArgAction, Command};
 use std::alloc::{AllocError, Global};
@@ -20,6 +20,8 @@ const SCENARIO: &str = "The campaign, as TOML: the generals, the order, the trai
 const SCHEDULE: &str = "The order of the turns; without it each round is punctual";
 
 const CHRONICLE: &str = "What `play` or `muster` has printed of this campaign";
+
+const EXPLAIN: &str = "Tells what is known at each unit, and what a refused instruction misses";
 
 /// The program's command line.
 pub(crate) fn lab_command<'a>(alloc: Global) -> Result<Command<'a>, AllocError>
@@ -58,10 +60,12 @@ fn check_command<'a>(alloc: Global) -> Result<Command<'a>, AllocError>
 {
     let file = required_argument(alloc, "file", "FILE", BYTECODE);
     let asm = switch_argument(alloc, "asm", "FILE is assembly text");
+    let explain = second_switch_argument(alloc, "explain", EXPLAIN);
     Command::new(alloc, "check")
         .about("Verifies raw bytecode and runs it")
         .arg(file)?
         .arg(asm)?
+        .arg(explain)?
         .arg(context_argument(alloc))
 }
 
@@ -182,6 +186,17 @@ fn switch_argument<'a>(alloc: Global, name: &'a str, help: &'a str) -> Arg<'a>
     ensures local { result.global ≡ false }
 {
     Arg::new(alloc, "switch")
+        .long(name)
+        .action(ArgAction::SetTrue)
+        .help(help)
+}
+
+/// A second switch, of this name.
+fn second_switch_argument<'a>(alloc: Global, name: &'a str, help: &'a str) -> Arg<'a>
+    ensures rule { rule_of result ≡ second_switch_rule name.entry.now }
+    ensures local { result.global ≡ false }
+{
+    Arg::new(alloc, "also")
         .long(name)
         .action(ArgAction::SetTrue)
         .help(help)

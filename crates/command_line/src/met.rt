@@ -24,6 +24,8 @@ pub(crate) struct Met<'a> {
     third: Option<&'a str>,
     /// Whether the subcommand's switch stands in the words.
     switched: bool,
+    /// Whether its second switch does.
+    also: bool,
     /// The value of its option.
     value: Option<&'a str>,
 }
@@ -46,6 +48,7 @@ impl<'a> Met<'a> {
             second: found.get_str("second"),
             third: found.get_str("third"),
             switched: is_true(found.get_str("switch")),
+            also: is_true(found.get_str("also")),
             value: found.get_str("value"),
         }
     }
@@ -62,6 +65,7 @@ impl<'a> Met<'a> {
                 program: file,
                 notation: notation(self.switched),
                 context: copied(alloc, self.value)?,
+                explained: self.also,
             },
             "asm" => Task::Assemble {
                 text: file,
@@ -93,7 +97,7 @@ impl<'a> Met<'a> {
     fn book(self, alloc: Global, table: String) -> Result<Task, TaskError>
         requires name { is_named (codes "book") self.name.now ≡ true }
         requires file { string_bytes table ≡ self.file.now }
-        requires alone { (self.second ≡ None) × (self.third ≡ None) }
+        requires alone { (self.second ≡ None) × (self.third ≡ None) × (self.also ≡ false) }
         ensures task { IfOk result (Says (told_by self.entry)) }
         ensures refused { IfErr result (IsRefusedWord (told_by self.entry)) }
     {

@@ -4,11 +4,12 @@ use std::alloc::AllocError;
 /// What the words ask for: a subcommand with the names of its files, and what its flags say.
 #[derive(Debug, Drop, PartialEq, Eq)]
 pub enum Task {
-    /// Verify and run a program, in the context that a second file tells where one is named.
+    /// Verify and run a program, in the context that a second file tells where one is named, and tell what is known at each unit if it is asked for.
     Check {
         program: String,
         notation: Notation,
         context: Option<String>,
+        explained: bool,
     },
     /// Translate assembly into bytecode, and write it in this spelling to another file where one is named.
     Assemble {

@@ -15,11 +15,11 @@ use Rattle.helper.specs.Table.{refusal, or_else, refused, arguments_of, AcceptsT
 use Rattle.helper.proofs.Chains.{back, back_last, back_second}
 use Rattle.helper.proofs.Tests.{place_in, sway_in}
 
-asked_trap : (s : State) (r : Result Request Cause) (cause : Cause) → asked s r ≡ Trap cause → r ≡ Err cause
+pub asked_trap : (s : State) (r : Result Request Cause) (cause : Cause) → asked s r ≡ Trap cause → r ≡ Err cause
 asked_trap s (Ok request) cause e = cc
 asked_trap s (Err other) cause e = let same : other ≡ cause = cc in ap Err same
 
-sent_trap : (relay : Relay) (s : State) (r0 : ℕ → ℕ) (r : Result Choice Cause) (cause : Cause) → sent relay s r0 r ≡ Trap cause → r ≡ Err cause
+pub sent_trap : (relay : Relay) (s : State) (r0 : ℕ → ℕ) (r : Result Choice Cause) (cause : Cause) → sent relay s r0 r ≡ Trap cause → r ≡ Err cause
 sent_trap relay s r0 (Ok choice) cause e = cc
 sent_trap relay s r0 (Err other) cause e = let same : other ≡ cause = cc in ap Err same
 

@@ -20,7 +20,7 @@ use Rattle.semantics.specs.Outbox.{Choice, places_set, along_row, at_receiver, a
 use Rattle.semantics.specs.Entries.{is_entered}
 use Rattle.semantics.specs.Call.{argument, slot_in, word_in, order_in, pointer_in, copy_of, orders_at, orders_of, asked, sent, sign_in, pass_in, attempted, fits, resumed}
 use Rattle.semantics.proofs.PlacesLaws.{ranges_kept}
-use Rattle.helper.specs.Results.{HoldsResult, Returns, result_of}
+use Rattle.helper.specs.Results.{HoldsResult, Returns, returned_range}
 use Rattle.helper.proofs.Chains.{given_ok, below_ok, ok_same}
 use Rattle.helper.proofs.Tests.{copy_in, place_in, row_in, sway_in}
 
@@ -191,7 +191,7 @@ attempted_held relay s after (Ok entry) e =
     bit true = (omega arith, omega arith)
     bit false = (omega arith, omega arith)
 
-pub calls_return : (h : Helper) → Returns h (result_of h).0 (result_of h).1
+pub calls_return : (h : Helper) → Returns h (returned_range h).0 (returned_range h).1
 calls_return BoardGet = record {
   at_once = λ context relay s after within e. absurd (asked_not s after (given (slot_in s) (λ slot. Ok (Get slot))) e);
   answered = λ context relay s waiting request words e fit. get_held s waiting request words (asked_is s waiting request (given (slot_in s) (λ slot. Ok (Get slot))) e) fit;

@@ -45,7 +45,7 @@ alone : {A B : Type 0} (r : Result A Cause) (f : A → B) → refusal (given r (
 alone (Ok a) f = refl
 alone (Err cause) f = refl
 
-number_if : (t : Bool) (m n : ℕ) → (if t then Ok m else Err Argument) ≡ Ok n → m ≡ n
+pub number_if : (t : Bool) (m n : ℕ) → (if t then Ok m else Err Argument) ≡ Ok n → m ≡ n
 number_if true m n e = cc
 number_if false m n e = cc
 
@@ -55,7 +55,7 @@ number_is bound Unset n e = cc
 number_is bound (Number m) n e = number_if (nat_lt m bound) m n e
 number_is bound (Pointer region offset) n e = cc
 
-pointer_is : (v p : Value) → pointer v ≡ Ok p → v ≡ p
+pub pointer_is : (v p : Value) → pointer v ≡ Ok p → v ≡ p
 pointer_is Unset p e = cc
 pointer_is (Number n) p e = cc
 pointer_is (Pointer region offset) p e = cc

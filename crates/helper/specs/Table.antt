@@ -1,5 +1,6 @@
 -- What the helpers take.
 use Rattle.std.specs.Prelude.{ℕ, ◌+◌, ◌^◌, ◌≡◌, List, [], ◌∷◌, Option, Some, None, Result, Ok, Err}
+use Rattle.semantics.specs.Limits.{board_words, most_generals, most_labels}
 use Rattle.semantics.specs.Relay.{Relay}
 use Rattle.semantics.specs.declared.value.Value.{Value}
 use Rattle.semantics.specs.declared.request.Helper.{Helper}
@@ -11,12 +12,12 @@ use Rattle.helper.specs.declared.argument.Argument.TheVariants.{Slot, Word, Labe
 
 -- an argument that is a number is below this one
 abbrev pub bound_of : Argument → Option ℕ
-bound_of Slot = Some 64
+bound_of Slot = Some board_words
 bound_of Word = Some (2 ^ 64)
-bound_of Label = Some 1016
-bound_of Receiver = Some 13
-bound_of Words = Some 65
-bound_of Orders = Some 14
+bound_of Label = Some most_labels
+bound_of Receiver = Some most_generals
+bound_of Words = Some (board_words + 1)
+bound_of Orders = Some (most_generals + 1)
 bound_of Held = Some 384
 bound_of Receivers = Some 8192
 bound_of StackPointer = None
@@ -57,7 +58,9 @@ refused (Some argument ∷ arguments) r registers = or_else (test_of (bound_of a
 
 -- a call of the helper traps for the first of these arguments that is refused
 abbrev pub TestsThese : Helper → List (Option Argument) → Type 0
-TestsThese helper arguments = (context : List ℕ) (relay : Relay) (s : State) (cause : Cause) → refused arguments 1 s.registers ≡ Some cause → called context relay s (Some helper) ≡ Trap cause
+TestsThese helper arguments =
+    (context : List ℕ) (relay : Relay) (s : State) (cause : Cause) → refused arguments 1 s.registers ≡ Some cause
+    → called context relay s (Some helper) ≡ Trap cause
 
 -- the helpers that also go by the cells at a pointer
 abbrev pub HasWindow : Helper → Type 0
@@ -75,4 +78,6 @@ HasWindow PassOn = ⊥
 
 -- where none of these is refused, a call traps only for what is at a pointer
 abbrev pub AcceptsThese : Helper → List (Option Argument) → Type 0
-AcceptsThese helper arguments = (context : List ℕ) (relay : Relay) (s : State) (cause : Cause) → refused arguments 1 s.registers ≡ None → called context relay s (Some helper) ≡ Trap cause → HasWindow helper
+AcceptsThese helper arguments =
+    (context : List ℕ) (relay : Relay) (s : State) (cause : Cause) → refused arguments 1 s.registers ≡ None
+    → called context relay s (Some helper) ≡ Trap cause → HasWindow helper

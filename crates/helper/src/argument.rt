@@ -1,6 +1,15 @@
 ghost use Rattle.std.specs.Prelude.{◌≡◌, ◌+◌, option_map};
 ghost use Rattle.helper.specs.Table.{bound_of};
 
+/// The words of the board.
+pub const BOARD_WORDS: u64 = 64;
+
+/// The generals of the largest campaign.
+pub const MOST_GENERALS: u64 = 13;
+
+/// The labels that a context has room for.
+pub const MOST_LABELS: u64 = 1016;
+
 /// What a helper takes in a register.
 #[derive(Clone, Copy, Debug, PartialEq, Eq)]
 pub enum Argument {
@@ -32,12 +41,12 @@ impl Argument {
         ensures { option_map (λ n. n + 1) result ≡ bound_of self }
     {
         match self {
-            Argument::Slot => Some(63),
+            Argument::Slot => Some(BOARD_WORDS - 1),
             Argument::Word => Some(u64::MAX),
-            Argument::Label => Some(1015),
-            Argument::Receiver => Some(12),
-            Argument::Words => Some(64),
-            Argument::Orders => Some(13),
+            Argument::Label => Some(MOST_LABELS - 1),
+            Argument::Receiver => Some(MOST_GENERALS - 1),
+            Argument::Words => Some(BOARD_WORDS),
+            Argument::Orders => Some(MOST_GENERALS),
             Argument::Held => Some(383),
             Argument::Receivers => Some(8191),
             Argument::StackPointer | Argument::ReadablePointer => None,

@@ -1,9 +1,9 @@
 ghost use Rattle.std.specs.Prelude.{◌≡◌};
 ghost use Rattle.semantics.specs.Call.{helper_of};
 ghost use Rattle.helper.specs.Table.{arguments_of, AcceptsThese, TestsThese};
-ghost use Rattle.helper.specs.Results.{result_of, Returns};
+ghost use Rattle.helper.specs.Results.{returned_range, Returns};
 
-use crate::argument::Argument;
+use crate::argument::{Argument, BOARD_WORDS, MOST_GENERALS, MOST_LABELS};
 use range::Range;
 use semantics::Helper;
 
@@ -62,15 +62,15 @@ pub fn arguments(helper: Helper) -> [Option<Argument>; 3]
 
 /// What the helper returns in r0.
 pub fn result(helper: Helper) -> Range
-    ensures exact { result ≡ result_of helper }
-    ensures holds { Returns helper (result_of helper).0 (result_of helper).1 }
+    ensures exact { result ≡ returned_range helper }
+    ensures holds { Returns helper (returned_range helper).0 (returned_range helper).1 }
 {
     let hi = match helper {
         Helper::BoardGet | Helper::BoardSwap | Helper::BoardAdd | Helper::BoardCas => u64::MAX,
-        Helper::BoardCopy => 64,
+        Helper::BoardCopy => BOARD_WORDS,
         Helper::Send | Helper::SignOrder | Helper::PassOn => 1,
-        Helper::SendRow => 13,
-        Helper::Sway | Helper::Honest => 1016,
+        Helper::SendRow => MOST_GENERALS,
+        Helper::Sway | Helper::Honest => MOST_LABELS,
     };
     Range { lo: 0, hi }
 }

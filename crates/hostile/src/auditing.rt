@@ -78,7 +78,7 @@ fn is_refused(alloc: Global, scenario: &Scenario, bytes: &[u8]) -> Result<bool> 
 /// Whether it is a fault of the text.
 fn is_of_text(fault: TraceError) -> bool {
     match fault {
-        TraceError::Line(_) | TraceError::Scenario(_) | TraceError::Differs(_) => true,
+        TraceError::At(..) => true,
         TraceError::Write | TraceError::Memory => false,
     }
 }

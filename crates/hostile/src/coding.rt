@@ -7,7 +7,7 @@ use asm::{AsmError, assemble, disassemble};
 use codec::{CodecError, decode, encode};
 use insn::Program;
 use std::alloc::Global;
-use verify::{Fault, Refusal, Verified, verify};
+use verify::{Refused, Verified, VerifyError, verify};
 
 /// `decode` of the bytecode.
 pub fn decodes<R: Print + AllocGlobal>(rt: &R, campaign: Campaign) -> Result<Outcome> {
@@ -75,7 +75,7 @@ pub fn verifies<R: Print + AllocGlobal>(rt: &R, campaign: Campaign) -> Result<Ou
 }
 
 /// What `verify` answers.
-fn answered<R: Print + AllocGlobal>(rt: &R, program: Program) -> Result<Result<Verified, Refusal>> {
+fn answered<R: Print + AllocGlobal>(rt: &R, program: Program) -> Result<Result<Verified, Refused>> {
     ready(rt)?;
     let answer = verify(rt.alloc(), program);
     back(rt)?;
@@ -85,12 +85,12 @@ fn answered<R: Print + AllocGlobal>(rt: &R, program: Program) -> Result<Result<V
 /// The program of the answer, which is accepted at last, and what the call came to.
 fn accepted_at_last(
     alloc: Global,
-    answer: Result<Verified, Refusal>,
+    answer: Result<Verified, Refused>,
 ) -> Result<(Verified, Outcome)> {
     match answer {
         Ok(verified) => Ok((verified, Outcome::Answered)),
-        Err(Refusal { program, fault }) => {
-            if fault != Fault::Memory {
+        Err(Refused { program, fault }) => {
+            if fault != VerifyError::Memory {
                 bail!("a program is refused that is to be accepted");
             }
             Ok((accepted(alloc, program)?, Outcome::Memory))

@@ -8,7 +8,7 @@ use anyhow::{Result, anyhow, bail};
 use round::Scenario;
 use scenario::{ScenarioError, read};
 use std::alloc::{AllocError, Global};
-use trace::{TraceError, read_schedule};
+use trace::{Fault, TraceError, read_schedule};
 use world::{Schedule, play};
 
 /// `read` of the scenario's text.
@@ -64,7 +64,7 @@ pub fn report<R: Print + AllocGlobal>(rt: &R) -> Result<()> {
             Ok(schedule) => {
                 play(alloc, scenario.copy(alloc)?, &schedule)?;
             }
-            Err(TraceError::Line(1..=6)) => {}
+            Err(TraceError::At(Fault::Line, 1..=6)) => {}
             Err(error) => bail!("{error}: {schedule}"),
         }
     }

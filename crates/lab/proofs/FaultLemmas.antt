@@ -8,13 +8,13 @@ use Rattle.lab.specs.declared.refusal.Refusal.{Refusal}
 use Rattle.lab.specs.declared.refusal.Refusal.TheVariants as refusal
 use Rattle.lab.specs.declared.fault.Fault.{Fault}
 use Rattle.lab.specs.declared.fault.Fault.TheVariants.{Read, Text, Refused, Write, Memory}
-use Rattle.lab.specs.declared.outcome.Outcome.{Outcome}
-use Rattle.lab.specs.declared.seeming.Likeness.{Likeness}
-use Rattle.lab.specs.Seeming.{seems_behind}
+use Rattle.lab.specs.declared.first_answer.FirstAnswer.{FirstAnswer}
+use Rattle.lab.specs.declared.hint.Hint.{Hint}
+use Rattle.lab.specs.Hints.{hint_behind}
 use Rattle.lab.specs.Telling.{refusal_text}
 use Rattle.lab.specs.Faults.{fault_text, status_of, Explains, Prevents, Stops}
 use Rattle.lab.specs.Names.{shown}
-use Rattle.lab.specs.Serving.{Files, IsFault, IsRefused, IsRefusedLater, IsTaken, IsTurnedDown, NoLikeness, Tells, TellsName, TellsRefusal, first_name, second_name}
+use Rattle.lab.specs.Serving.{Files, IsFault, IsRefused, IsRefusedLater, IsTaken, IsTurnedDown, NoHint, Tells, TellsName, TellsRefusal, first_name, second_name}
 
 -- a write that failed, or what it wrote
 pub written : {E : Type 0} (r : Result (Unit {0}) E) (P Q : Type 0) → OnOk r P → OnErr r Q → Q ⊎ P
@@ -22,18 +22,18 @@ written (Ok x) P Q p q = inr p
 written (Err e) P Q p q = inl q
 
 -- what is said of a refusal
-refusal_told : (name : List ℕ) (tells : List ℕ → Type 0) (cause : Refusal) (likeness : Option Likeness) → cause ≢ refusal.NotText
-    → tells (codes "refused " ++ refusal_text cause ++ seems_behind likeness) → TellsRefusal name tells cause likeness
-refusal_told name tells (refusal.Codec error) likeness other told = told
-refusal_told name tells (refusal.Verifier fault) likeness other told = told
-refusal_told name tells (refusal.Assembly error) likeness other told = told
-refusal_told name tells (refusal.Table error) likeness other told = told
-refusal_told name tells (refusal.Scenario error) likeness other told = told
-refusal_told name tells (refusal.Setting error) likeness other told = told
-refusal_told name tells (refusal.Trace error) likeness other told = told
-refusal_told name tells (refusal.Threads error) likeness other told = told
-refusal_told name tells refusal.NotText likeness other told = absurd (other refl)
-refusal_told name tells refusal.Memory likeness other told = told
+refusal_told : (name : List ℕ) (tells : List ℕ → Type 0) (cause : Refusal) (hint : Option Hint) → cause ≢ refusal.NotText
+    → tells (codes "refused " ++ refusal_text cause ++ hint_behind hint) → TellsRefusal name tells cause hint
+refusal_told name tells (refusal.Codec error) hint other told = told
+refusal_told name tells (refusal.Verifier fault) hint other told = told
+refusal_told name tells (refusal.Assembly error) hint other told = told
+refusal_told name tells (refusal.Table error) hint other told = told
+refusal_told name tells (refusal.Scenario error) hint other told = told
+refusal_told name tells (refusal.Setting error) hint other told = told
+refusal_told name tells (refusal.Trace error) hint other told = told
+refusal_told name tells (refusal.Threads error) hint other told = told
+refusal_told name tells refusal.NotText hint other told = absurd (other refl)
+refusal_told name tells refusal.Memory hint other told = told
 
 -- the line of some words and a name, where it is known how the name is told
 named_line : (fails : Type 0) (old new : Option (List ℕ)) (words : List ℕ) (told : Option (List ℕ))
@@ -42,7 +42,7 @@ named_line fails old new words None line = tt
 named_line fails old new words (Some name) line = line
 
 -- a file that stops a task, but for want of memory
-turned_down : (unread : Type 0) (refused : Refusal → Option Likeness → Type 0) (name : List ℕ) (fails : Type 0) (old new : Option (List ℕ)) (fault : Fault)
+turned_down : (unread : Type 0) (refused : Refusal → Option Hint → Type 0) (name : List ℕ) (fails : Type 0) (old new : Option (List ℕ)) (fault : Fault)
     → Stops unread refused name fault → fails ⊎ IfSome (with_newline (fault_text fault)) (Appends old new) → status_of fault ≡ 1
     → IsTurnedDown unread refused name (Tells fails old new)
 turned_down unread refused name fails old new (Read file) why told one =
@@ -51,8 +51,8 @@ turned_down unread refused name fails old new (Read file) why told one =
 turned_down unread refused name fails old new (Text file) why told one =
     let P : List ℕ → Type 0 = λ own. TellsName (Tells fails old new) (codes "fault text ") own in
     inr (refusal.NotText, (None, why.0, subst P why.1 (named_line fails old new (codes "fault text ") (shown file.now) told)))
-turned_down unread refused name fails old new (Refused cause likeness) why told one =
-    inr (cause, (likeness, why.1, refusal_told name (Tells fails old new) cause likeness why.0 told))
+turned_down unread refused name fails old new (Refused cause hint) why told one =
+    inr (cause, (hint, why.1, refusal_told name (Tells fails old new) cause hint why.0 told))
 turned_down unread refused name fails old new Write why told one = absurd why
 turned_down unread refused name fails old new Memory why told one =
     let no : ⊥ = omega (arith, one) in absurd no
@@ -61,11 +61,11 @@ turned_down unread refused name fails old new Memory why told one =
 prevented : (unread second_unread fails : Type 0) (task : Task) (files : Files) (old new : Option (List ℕ)) (fault : Fault)
     → Prevents unread second_unread task files fault → fails ⊎ IfSome (with_newline (fault_text fault)) (Appends old new) → status_of fault ≡ 1
     → IsTurnedDown unread (IsRefused task files.first) (first_name task) (Tells fails old new)
-    ⊎ ((more : Outcome) × IsTaken task files.first more × IsTurnedDown second_unread (NoLikeness (IsRefusedLater more files.second)) (second_name task) (Tells fails old new))
+    ⊎ ((more : FirstAnswer) × IsTaken task files.first more × IsTurnedDown second_unread (NoHint (IsRefusedLater more files.second)) (second_name task) (Tells fails old new))
 prevented unread second_unread fails task files old new fault (inl why) told one =
     inl (turned_down unread (IsRefused task files.first) (first_name task) fails old new fault why told one)
 prevented unread second_unread fails task files old new fault (inr (more, taken, why)) told one =
-    inr (more, taken, turned_down second_unread (NoLikeness (IsRefusedLater more files.second)) (second_name task) fails old new fault why told one)
+    inr (more, taken, turned_down second_unread (NoHint (IsRefusedLater more files.second)) (second_name task) fails old new fault why told one)
 
 -- each fault but want of memory
 pub fault_ends : (unread second_unread unwritten fails : Type 0) (task : Task) (files : Files) (old new : Option (List ℕ)) (kept : Type 0) (fault : Fault)
@@ -77,7 +77,7 @@ fault_ends unread second_unread unwritten fails task files old new kept (Read fi
     inl (same (λ e. cc), prevented unread second_unread fails task files old new (Read file) why told one)
 fault_ends unread second_unread unwritten fails task files old new kept (Text file) why same told one =
     inl (same (λ e. cc), prevented unread second_unread fails task files old new (Text file) why told one)
-fault_ends unread second_unread unwritten fails task files old new kept (Refused cause likeness) why same told one =
-    inl (same (λ e. cc), prevented unread second_unread fails task files old new (Refused cause likeness) why told one)
+fault_ends unread second_unread unwritten fails task files old new kept (Refused cause hint) why same told one =
+    inl (same (λ e. cc), prevented unread second_unread fails task files old new (Refused cause hint) why told one)
 fault_ends unread second_unread unwritten fails task files old new kept Memory why same told one =
     let no : ⊥ = omega (arith, one) in absurd no

@@ -1,7 +1,7 @@
 -- What is known of a task's two files.
 use Rattle.std.proofs.Common.{ℕ, ◌≡◌, ◌∙◌, List, [], ap, inr, refl, subst, sym}
 use Rattle.std.specs.Borrow.{Bor}
-use Rattle.std.specs.Prelude.{Option, None, Some, Ok, option_map, unwrap_or}
+use Rattle.std.specs.Prelude.{true, false, is_some, Option, None, Some, Ok, option_map, unwrap_or}
 use Rattle.insn.specs.declared.insn.Insn.{Insn}
 use Rattle.command_line.specs.Told.{file_of, second_of}
 use Rattle.command_line.specs.declared.tasks.Task.{Task}
@@ -10,12 +10,13 @@ use Rattle.round.specs.Scenario.{Scenario}
 use Rattle.world.specs.declared.schedule.Repeat.{Repeat}
 use Rattle.trace.specs.Schedules.{schedule_told}
 use Rattle.lab.specs.Answers.{ComesTo, GoesOn, IsTriedBy, Prints}
+use Rattle.lab.specs.Hints.{explained_in}
 use Rattle.lab.specs.Campaigns.{IsAudited, IsMustered}
 use Rattle.lab.specs.Faults.{Prevents, Stops}
-use Rattle.lab.specs.Serving.{AreBytes, AreSecond, AreSecondBytes, Files, IsAnswer, IsAuditOf, IsPlayedBy, IsRefusedLater, IsScheduleOf, IsTrialOf, NoLikeness, first_name, second_name}
+use Rattle.lab.specs.Serving.{AreBytes, AreSecond, AreSecondBytes, Files, IsAnswer, IsAuditOf, IsPlayedBy, IsRefusedLater, IsScheduleOf, IsTrialOf, NoHint, first_name, second_name}
 use Rattle.lab.specs.declared.fault.Fault.{Fault}
-use Rattle.lab.specs.declared.outcome.Outcome.{Outcome}
-use Rattle.lab.specs.declared.outcome.Outcome.TheVariants as outcome
+use Rattle.lab.specs.declared.first_answer.FirstAnswer.{FirstAnswer}
+use Rattle.lab.specs.declared.first_answer.FirstAnswer.TheVariants as outcome
 
 -- the schedule that the second file tells
 pub second_told : {R : Type 0} (bytes : R → Option (List ℕ)) (second : Option R) (own : R) (all : List ℕ) (schedule : List (List Repeat))
@@ -43,8 +44,8 @@ second_bytes (Some known) bytes are = (Some bytes, are, refl)
 -- an answer by the second file's schedule
 pub answered_played : (task : Task) (files : Files) (first text : List ℕ) (s : Scenario) → AreBytes files.first first
     → ComesTo task first (outcome.Play s) → IsPlayedBy files.second s text → IsAnswer task files text
-answered_played (Check file notation None) files first text s are comes by = absurd comes
-answered_played (Check file notation (Some context)) files first text s are comes by = absurd comes
+answered_played (Check file notation None explained) files first text s are comes by = absurd comes
+answered_played (Check file notation (Some context) explained) files first text s are comes by = absurd comes
 answered_played (Assemble file spelling target) files first text s are comes by = absurd comes
 answered_played (Disassemble file) files first text s are comes by = absurd comes
 answered_played (DisassembleUnits file) files first text s are comes by = absurd comes
@@ -59,8 +60,8 @@ answered_played (Audit scenario chronicle) files first text s are comes by = abs
 -- an answer of threads
 pub answered_mustered : (task : Task) (files : Files) (first text : List ℕ) (s : Scenario) → AreBytes files.first first
     → ComesTo task first (outcome.Muster s) → IsMustered s text → IsAnswer task files text
-answered_mustered (Check file notation None) files first text s are comes mustered = absurd comes
-answered_mustered (Check file notation (Some context)) files first text s are comes mustered = absurd comes
+answered_mustered (Check file notation None explained) files first text s are comes mustered = absurd comes
+answered_mustered (Check file notation (Some context) explained) files first text s are comes mustered = absurd comes
 answered_mustered (Assemble file spelling target) files first text s are comes mustered = absurd comes
 answered_mustered (Disassemble file) files first text s are comes mustered = absurd comes
 answered_mustered (DisassembleUnits file) files first text s are comes mustered = absurd comes
@@ -75,8 +76,8 @@ answered_mustered (Audit scenario chronicle) files first text s are comes muster
 -- an answer on the second file
 pub answered_audited : (task : Task) (files : Files) (first text : List ℕ) (s : Scenario) → AreBytes files.first first
     → ComesTo task first (outcome.Audit s) → IsAuditOf files.second s text → IsAnswer task files text
-answered_audited (Check file notation None) files first text s are comes audit = absurd comes
-answered_audited (Check file notation (Some context)) files first text s are comes audit = absurd comes
+answered_audited (Check file notation None explained) files first text s are comes audit = absurd comes
+answered_audited (Check file notation (Some context) explained) files first text s are comes audit = absurd comes
 answered_audited (Assemble file spelling target) files first text s are comes audit = absurd comes
 answered_audited (Disassemble file) files first text s are comes audit = absurd comes
 answered_audited (DisassembleUnits file) files first text s are comes audit = absurd comes
@@ -91,11 +92,14 @@ answered_audited (Audit scenario chronicle) files first text s are comes (bytes,
 
 -- an answer in the second file's setting
 pub answered_tried : (task : Task) (files : Files) (first text : List ℕ) (program : List Insn) → AreBytes files.first first
-    → ComesTo task first (outcome.Trial program) → IsTrialOf files.second program text → IsAnswer task files text
-answered_tried (Check file notation None) files first text program are comes tried = absurd comes
-answered_tried (Check file notation (Some context)) files first text program are comes (bytes, known, tried) =
+    → ComesTo task first (outcome.Trial program) → IsTrialOf files.second (is_some (explained_in task)) program text → IsAnswer task files text
+answered_tried (Check file notation None explained) files first text program are comes tried = absurd comes
+answered_tried (Check file notation (Some context) true) files first text program are comes (bytes, known, (lines, tried, behind)) =
     let second = second_bytes files.second bytes known in
-    (first, are, (second.0, second.1, (program, comes.0, comes.1, subst (λ (own : List ℕ). IsTriedBy own program text) second.2 tried)))
+    (first, are, (second.0, second.1, (program, comes.0, comes.1, comes.2, (lines, subst (λ (own : List ℕ). IsTriedBy own program lines) second.2 tried, behind))))
+answered_tried (Check file notation (Some context) false) files first text program are comes (bytes, known, (lines, tried, behind)) =
+    let second = second_bytes files.second bytes known in
+    (first, are, (second.0, second.1, (program, comes.0, comes.1, comes.2, (lines, subst (λ (own : List ℕ). IsTriedBy own program lines) second.2 tried, behind))))
 answered_tried (Assemble file spelling target) files first text program are comes tried = absurd comes
 answered_tried (Disassemble file) files first text program are comes tried = absurd comes
 answered_tried (DisassembleUnits file) files first text program are comes tried = absurd comes
@@ -107,11 +111,11 @@ answered_tried (Muster scenario) files first text program are comes tried = absu
 answered_tried (Audit scenario chronicle) files first text program are comes tried = absurd comes
 
 -- why a task has no answer behind a first file with which it goes on
-pub prevented_later : (task : Task) (files : Files) (unread second_unread : Type 0) (first name : List ℕ) (more : Outcome) (fault : Fault)
+pub prevented_later : (task : Task) (files : Files) (unread second_unread : Type 0) (first name : List ℕ) (more : FirstAnswer) (fault : Fault)
     → AreBytes files.first first → GoesOn task first more → name ≡ second_name task
-    → Stops second_unread (NoLikeness (IsRefusedLater more files.second)) name fault → Prevents unread second_unread task files fault
+    → Stops second_unread (NoHint (IsRefusedLater more files.second)) name fault → Prevents unread second_unread task files fault
 prevented_later task files unread second_unread first name more fault are goes named why =
-    inr (more, (first, are, goes), subst (λ (n : List ℕ). Stops second_unread (NoLikeness (IsRefusedLater more files.second)) n fault) named why)
+    inr (more, (first, are, goes), subst (λ (n : List ℕ). Stops second_unread (NoHint (IsRefusedLater more files.second)) n fault) named why)
 
 -- the name of the second file, empty where the words name none
 unwrapped : (o : Option (Bor (List ℕ))) (empty : Bor (List ℕ)) → empty.now ≡ [] → (unwrap_or o empty).now ≡ unwrap_or (option_map (λ (file : Bor (List ℕ)). file.now) o) []

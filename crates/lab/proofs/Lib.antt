@@ -1,4 +1,3 @@
-pub mod BenchLemmas
 pub mod CampaignLemmas
 pub mod CutTexts
 pub mod FaultLemmas
@@ -6,7 +5,6 @@ pub mod FilesLemmas
 pub mod LineLemmas
 pub mod ReadLemmas
 pub mod RefusalLemmas
-pub mod BoardRunLemmas
 pub mod ScheduleLemmas
 pub mod FirstLemmas
 pub mod FormLemmas

@@ -11,12 +11,6 @@ use Rattle.book.specs.Table.{MessageTable}
 use Rattle.book.proofs.Steps.{others-more_yes, entries_few}
 use Rattle.lab.specs.Lines.{decision_line, decision_lines}
 
--- one lieutenant more
-pub lines_more : (line : ℕ → List ℕ) (w : List ℕ) (j : ℕ) → on w j ≡ false
-    → flat_map line (others (j + 1) w) ≡ flat_map line (others j w) ++ line j
-lines_more line w j fresh =
-    ap (flat_map line) (others-more_yes w j fresh) ∙ sym (flat_map_more line [] (others j w) j)
-
 -- all lieutenants
 pub lines_all : (table : MessageTable) (lines : List ℕ) (j : ℕ) → table.generals ≤ j → j ≤ table.generals
     → lines ≡ flat_map (λ general. decision_line general (decision_of table general)) (others j (table.commander ∷ [])) → lines ≡ decision_lines table

@@ -7,18 +7,19 @@ use Rattle.std.proofs.lemmas.Bool.{lt-leb}
 use Rattle.std.proofs.lemmas.List.{append-nil, length-append}
 use Rattle.world.specs.declared.schedule.Repeat.{Repeat}
 use Rattle.trace.specs.Schedules.{schedule_told}
-use Rattle.trace.specs.declared.fault.TraceError.TheVariants.{Line}
+use Rattle.trace.specs.declared.fault.Fault.TheVariants.{Line}
+use Rattle.trace.specs.declared.fault.TraceError.TheVariants.{At}
 use Rattle.lab.specs.Faults.{Stops, fault_of}
 use Rattle.lab.specs.Reading.{BeginsSo, IsFront}
 use Rattle.lab.specs.Refusals.{RefusesSchedule, RefusesText}
-use Rattle.lab.specs.Serving.{AreBytes, IsScheduleOf, IsScheduleRefused, NoLikeness}
+use Rattle.lab.specs.Serving.{AreBytes, IsScheduleOf, IsScheduleRefused, NoHint}
 use Rattle.lab.specs.declared.fault.Fault.{Fault}
 use Rattle.lab.specs.declared.refusal.Refusal.{Refusal}
 use Rattle.lab.specs.declared.refusal.Refusal.TheVariants as refusal
 use Rattle.lab.proofs.FilesLemmas.{second_told}
 
 -- more bytes than a schedule has tell none
-pub too_many : (all front : List ℕ) → 1048576 < length front → BeginsSo 1048576 all front → schedule_told all ≡ Err (Line 1)
+pub too_many : (all front : List ℕ) → 1048576 < length front → BeginsSo 1048576 all front → schedule_told all ≡ Err (At Line 1)
 unfolding schedule_told
 too_many all front long begins =
     let lengths : length all ≡ length (front ++ begins.rest) = ap length begins.split in
@@ -44,7 +45,7 @@ front_told bytes second own front schedule is begins told =
 
 -- why it tells none
 refused_as : (unread : Type 0) (known : Option (List ℕ)) (all : List ℕ) (file : Bor (List ℕ)) (refusal : Refusal)
-    → AreBytes known all → RefusesText RefusesSchedule all refusal → Stops unread (NoLikeness (IsScheduleRefused (Some known))) file.now (fault_of refusal file)
+    → AreBytes known all → RefusesText RefusesSchedule all refusal → Stops unread (NoHint (IsScheduleRefused (Some known))) file.now (fault_of refusal file)
 refused_as unread known all file (refusal.Codec error) are refuses = absurd refuses
 refused_as unread known all file (refusal.Verifier fault) are refuses = absurd refuses
 refused_as unread known all file (refusal.Assembly error) are refuses = absurd refuses
@@ -58,9 +59,9 @@ refused_as unread known all file refusal.Memory are refuses = tt
 
 pub front_refused : {R : Type 0} (bytes : R → Option (List ℕ)) (unread : Type 0) (second : Option R) (own : R) (front : List ℕ) (file : Bor (List ℕ)) (refusal : Refusal) (fault : Fault)
     → second ≡ Some own → IsFront 1048576 (bytes own) front → ((all : List ℕ) → BeginsSo 1048576 all front → RefusesText RefusesSchedule all refusal) → fault ≡ fault_of refusal file
-    → Stops unread (NoLikeness (IsScheduleRefused (option_map bytes second))) file.now fault
+    → Stops unread (NoHint (IsScheduleRefused (option_map bytes second))) file.now fault
 front_refused {R} bytes unread second own front file refusal fault is begins refuses same =
     let all = all_of 1048576 (bytes own) front begins in
-    let stops : Stops unread (NoLikeness (IsScheduleRefused (Some (bytes own)))) file.now (fault_of refusal file) = refused_as unread (bytes own) all.0 file refusal all.1 (refuses all.0 all.2) in
-    subst (λ (o : Option R). Stops unread (NoLikeness (IsScheduleRefused (option_map bytes o))) file.now fault) (sym is)
-    (subst (λ (f : Fault). Stops unread (NoLikeness (IsScheduleRefused (Some (bytes own)))) file.now f) (sym same) stops)
+    let stops : Stops unread (NoHint (IsScheduleRefused (Some (bytes own)))) file.now (fault_of refusal file) = refused_as unread (bytes own) all.0 file refusal all.1 (refuses all.0 all.2) in
+    subst (λ (o : Option R). Stops unread (NoHint (IsScheduleRefused (option_map bytes o))) file.now fault) (sym is)
+    (subst (λ (f : Fault). Stops unread (NoHint (IsScheduleRefused (Some (bytes own)))) file.now f) (sym same) stops)

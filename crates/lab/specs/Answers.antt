@@ -1,7 +1,8 @@
 -- What a task prints on files of some bytes.
-use Rattle.std.specs.Prelude.{ℕ, ◌≡◌, true, List, [], Option, None, Some, Ok, length, string_bytes, unwrap_or}
+use Rattle.std.specs.Prelude.{ℕ, ◌≡◌, ◌++◌, Bool, true, List, [], Option, None, Some, Ok, length, string_bytes, unwrap_or}
 use Rattle.insn.specs.declared.insn.Insn.{Insn}
 use Rattle.insn.specs.Program.{slots_of}
+use Rattle.semantics.specs.Relay.{oral}
 use Rattle.semantics.specs.Run.{IsSound}
 use Rattle.codec.specs.Program.{SpellsProgram}
 use Rattle.codec.specs.Spelling.{program_bytes}
@@ -14,28 +15,32 @@ use Rattle.book.specs.Forms.{form_text}
 use Rattle.book.specs.Grammar.{is_within, table_told}
 use Rattle.book.specs.Table.{MessageTable}
 use Rattle.command_line.specs.declared.tasks.Notation.{Notation}
-use Rattle.command_line.specs.declared.tasks.Notation.TheVariants.{Bytecode, Assembly}
 use Rattle.command_line.specs.declared.tasks.Spelling.TheVariants.{Hex, Raw}
 use Rattle.command_line.specs.declared.tasks.Task.{Task}
 use Rattle.command_line.specs.declared.tasks.Task.TheVariants.{Check, Assemble, Disassemble, DisassembleUnits, Book, Explain, Form, Play, Muster, Audit}
 use Rattle.scenario.specs.Told.{Tells}
-use Rattle.trial.specs.Setting.{Setting}
-use Rattle.trial.specs.Told as trial
-use Rattle.lab.specs.Bench.{bench_bytes, bench_shape}
-use Rattle.lab.specs.BoardRun.{IsServed}
+use Rattle.verify.specs.Judgement.{judged}
+use Rattle.trial.specs.Setting.{Setting, bench, context_in}
+use Rattle.trial.specs.Told.{IsTried, Tells as TellsSetting}
+use Rattle.trial.specs.Trial.{Ending, trial}
+use Rattle.lab.specs.Hints.{HasProgram, behind_lines}
 use Rattle.lab.specs.Campaigns.{Audits, Musters, Plays}
 use Rattle.lab.specs.Numbers.{numbers_in}
 use Rattle.lab.specs.Lines.{checked_lines, decision_lines, hex_line}
 use Rattle.lab.specs.declared.checking.Checked.{Checked}
-use Rattle.lab.specs.declared.outcome.Outcome.{Outcome}
-use Rattle.lab.specs.declared.outcome.Outcome.TheVariants as outcome
+use Rattle.lab.specs.declared.first_answer.FirstAnswer.{FirstAnswer}
+use Rattle.lab.specs.declared.first_answer.FirstAnswer.TheVariants as outcome
 
--- the program is sound, and its run in the bench context, with a board that begins with zeros, ended so
+-- the verifier accepts the program, which is sound, and its trial on the bench, with a board that begins with zeros, ended so
 pub record IsRun (program : List Insn) (checked : Checked) : Type 0 where
+  pub accepted : judged program ≡ None
   pub sound : IsSound program
   pub instructions : checked.instructions ≡ length program
   pub units : checked.units ≡ length (slots_of program)
-  pub served : IsServed program bench_bytes bench_shape checked.r0 checked.steps
+  pub ending : Ending
+  pub ended : trial program (context_in bench) (oral bench.shape) ≡ Some ending
+  pub r0 : checked.r0 ≡ ending.r0
+  pub steps : checked.steps ≡ ending.state.steps
 
 -- the bytes spell a program, and this is its run
 abbrev pub Checks : List ℕ → Checked → Type 0
@@ -45,25 +50,21 @@ Checks bytes checked = (program : List Insn) × SpellsProgram bytes program × I
 abbrev pub ChecksText : List ℕ → Checked → Type 0
 ChecksText text checked = (program : List Insn) × (program_of text ≡ Some program) × IsRun program checked
 
--- the file has this program in its notation: the bytes spell it, or the text says it
-abbrev pub HasProgram : Notation → List ℕ → List Insn → Type 0
-HasProgram Bytecode bytes program = SpellsProgram bytes program
-HasProgram Assembly text program = program_of text ≡ Some program
-
--- the file has a program in its notation, and this is its run
-abbrev pub ChecksIn : Notation → List ℕ → Checked → Type 0
-ChecksIn Bytecode bytes checked = Checks bytes checked
-ChecksIn Assembly text checked = ChecksText text checked
+-- the file has a program in its notation, and these are the lines of its run, and behind them its explanation, if it is asked for
+abbrev pub IsChecked : Notation → Bool → List ℕ → List ℕ → Type 0
+IsChecked notation explained bytes text =
+    (program : List Insn) × HasProgram notation bytes program
+    × ((checked : Checked) × IsRun program checked × (text ≡ checked_lines checked ++ behind_lines explained program))
 
 -- the bytes tell a setting, and these are the lines of the program's trial in it
 abbrev pub IsTriedBy : List ℕ → List Insn → List ℕ → Type 0
-IsTriedBy bytes program lines = (s : Setting) × trial.Tells bytes s × trial.IsTried program s lines
+IsTriedBy bytes program lines = (s : Setting) × TellsSetting bytes s × IsTried program s lines
 
--- the first file has a sound program, and these are the lines of its trial in the setting of the second's; where there is no second file its bytes are none
-abbrev pub Tries : Notation → List ℕ → Option (List ℕ) → List ℕ → Type 0
-Tries notation first second lines =
-    (program : List Insn) × HasProgram notation first program × IsSound program
-    × IsTriedBy (unwrap_or second []) program lines
+-- the first file has a program that the verifier accepts, and which is sound, and these are the lines of its trial in the setting of the second's, and behind them its explanation, if it is asked for; where there is no second file its bytes are none
+abbrev pub Tries : Notation → Bool → List ℕ → Option (List ℕ) → List ℕ → Type 0
+Tries notation explained first second text =
+    (program : List Insn) × HasProgram notation first program × (judged program ≡ None) × IsSound program
+    × ((lines : List ℕ) × IsTriedBy (unwrap_or second []) program lines × (text ≡ lines ++ behind_lines explained program))
 
 -- the text says a program, and these are its bytes
 abbrev pub AssemblesRaw : List ℕ → List ℕ → Type 0
@@ -104,9 +105,8 @@ Decides text lines =
 
 -- the task prints this text on files of these bytes
 abbrev pub Prints : Task → List ℕ → Option (List ℕ) → List ℕ → Type 0
-Prints (Check file notation None) first second text =
-    (checked : Checked) × ChecksIn notation first checked × (text ≡ checked_lines checked)
-Prints (Check file notation (Some context)) first second text = Tries notation first second text
+Prints (Check file notation None explained) first second text = IsChecked notation explained first text
+Prints (Check file notation (Some context) explained) first second text = Tries notation explained first second text
 Prints (Assemble file Hex target) first second text = Assembles first text
 Prints (Assemble file Raw target) first second text = AssemblesRaw first text
 Prints (Disassemble file) first second text = Disassembles first text
@@ -119,16 +119,16 @@ Prints (Muster scenario) first second text = Musters first text
 Prints (Audit scenario chronicle) first second text = Audits first second text
 
 -- the task goes on with this behind its first file: a program to try, or a campaign
-abbrev pub GoesOn : Task → List ℕ → Outcome → Type 0
-GoesOn (Check file notation (Some context)) first (outcome.Trial program) =
-    HasProgram notation first program × IsSound program
+abbrev pub GoesOn : Task → List ℕ → FirstAnswer → Type 0
+GoesOn (Check file notation (Some context) explained) first (outcome.Trial program) =
+    HasProgram notation first program × (judged program ≡ None) × IsSound program
 GoesOn (Play scenario schedule) first (outcome.Play s) = Tells first s
 GoesOn (Muster scenario) first (outcome.Muster s) = Tells first s
 GoesOn (Audit scenario chronicle) first (outcome.Audit s) = Tells first s
 GoesOn _ first _ = ⊥
 
 -- what the task comes to on its first file: a text, whatever the second has, or that with which it goes on
-abbrev pub ComesTo : Task → List ℕ → Outcome → Type 0
+abbrev pub ComesTo : Task → List ℕ → FirstAnswer → Type 0
 ComesTo task first (outcome.Text text) = (second : Option (List ℕ)) → Prints task first second (string_bytes text)
 ComesTo task first (outcome.Bytes bytes) = (second : Option (List ℕ)) → Prints task first second bytes.items
 ComesTo task first more = GoesOn task first more

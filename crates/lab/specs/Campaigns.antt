@@ -10,10 +10,10 @@ use Rattle.world.specs.Replay.{replay_of}
 use Rattle.world.specs.Schedules.{lines_by}
 use Rattle.world.specs.World.{opening, run}
 use Rattle.scenario.specs.Told.{Tells}
-use Rattle.trace.specs.Audit.{chronicle_told}
+use Rattle.trace.specs.Names.{chronicle_told}
 use Rattle.trace.specs.Laws.{IsSoundText}
 use Rattle.trace.specs.Schedules.{schedule_told}
-use Rattle.trace.specs.Text.{text_of}
+use Rattle.trace.specs.Text.{chronicle_text}
 use Rattle.lab.specs.Lines.{sound_lines}
 
 -- the chronicle of the scenario's campaign by a schedule
@@ -22,7 +22,7 @@ played s schedule = chronicle_of (run (opening s) (listed s (lines_by schedule))
 
 -- the text is that of this chronicle, whose decisions agree under the bound, and whose verdict means what it says
 pub record IsPlayed (s : Scenario) (schedule : List (List Repeat)) (text : List ℕ) : Type 0 where
-  pub told : text ≡ text_of (played s schedule)
+  pub told : text ≡ chronicle_text (played s schedule)
   pub agree : AgreeUnderBound s (played s schedule).decisions
   pub verdict : IsVerdictOn s (played s schedule).decisions (played s schedule).verdict
   pub well : IsWellUnderBound (played s schedule).verdict
@@ -38,14 +38,17 @@ Plays first second text =
     (s : Scenario) × Tells first s
     × ((schedule : List (List Repeat)) × IsSchedule second schedule × IsPlayed s schedule text)
 
--- the text is that of the chronicle of a complete run, which is the replay of its own accesses, a legal history of the board; and its decisions agree under the bound
+-- the text is that of the chronicle of a complete run, which is the replay of its own accesses, a legal history of the board;
+-- its decisions agree under the bound, and its verdict says of them what is so
 pub record IsMustered (s : Scenario) (text : List ℕ) : Type 0 where
   pub chronicle : Chronicle
-  pub told : text ≡ text_of chronicle
+  pub told : text ≡ chronicle_text chronicle
   pub replay : chronicle ≡ chronicle_of (replay_of s chronicle.accesses)
   pub complete : IsComplete s (replayed s (names_in 1 chronicle.accesses (suc s.bound)))
   pub legal : IsLegal s.board chronicle.accesses
   pub agree : AgreeUnderBound s chronicle.decisions
+  pub verdict : IsVerdictOn s chronicle.decisions chronicle.verdict
+  pub well : IsWellUnderBound chronicle.verdict
 
 -- the file's bytes tell a scenario, and this is the text of its campaign by threads
 abbrev pub Musters : List ℕ → List ℕ → Type 0

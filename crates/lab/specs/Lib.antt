@@ -1,8 +1,7 @@
 pub mod Answers
-pub mod Bench
-pub mod BoardRun
 pub mod Campaigns
 pub mod Faults
+pub mod Hints
 pub mod Lines
 pub mod Names
 pub mod Numbers

@@ -10,14 +10,12 @@ use Rattle.book.specs.Decisions.{decision_of}
 use Rattle.book.specs.Table.{MessageTable}
 use Rattle.world.specs.declared.verdict.Verdict.{Verdict}
 use Rattle.trace.specs.Text.{text, verdict_line}
+use Rattle.trial.specs.Lines.{first_lines}
 use Rattle.lab.specs.declared.checking.Checked.{Checked}
 
 -- what a check prints
 abbrev pub checked_lines : Checked → List ℕ
-checked_lines checked =
-    codes "accepted " ++ decimal checked.instructions ++ codes " instructions "
-    ++ decimal checked.units ++ codes " units\nr0 " ++ decimal checked.r0
-    ++ codes " steps " ++ decimal checked.steps ++ codes "\n"
+checked_lines checked = first_lines checked.instructions checked.units checked.r0 checked.steps
 
 -- a program's bytes in lower-case hex
 abbrev pub hex_line : List Insn → List ℕ

@@ -1,12 +1,13 @@
 -- How much is read of a file.
-use Rattle.std.specs.Prelude.{ℕ, ◌≡◌, ◌≤◌, ◌<◌, ◌⊎◌, ◌++◌, List, Option, IfSome, length, slice_index, take}
+use Rattle.std.specs.Prelude.{ℕ, ◌≡◌, ◌≤◌, ◌<◌, ◌⊎◌, ◌++◌, List, Option, IfSome, length, option_map, slice_index, take}
 use Rattle.lab.specs.declared.refusal.Refusal.{Refusal}
 use Rattle.lab.specs.declared.refusal.Refusal.TheVariants.{Codec}
 use Rattle.lab.specs.declared.within.Within.{Within}
 use Rattle.lab.specs.declared.within.Within.TheVariants.{Whole, Longer}
 use Rattle.lab.specs.Refusals.{RefusesBytes}
 use Rattle.lab.specs.Seeming.{seems_at_first}
-use Rattle.lab.specs.declared.seeming.Likeness.{Likeness}
+use Rattle.lab.specs.declared.hint.Hint.{Hint}
+use Rattle.lab.specs.declared.hint.Hint.TheVariants.{Seems}
 use Rattle.lab.specs.Serving.{AreBytes}
 
 -- all bytes, which are at most so many, or the number of more, with some that begin as they do
@@ -30,8 +31,8 @@ IsStart bytes place =
     × (0 < place → (place < length bytes) × ((slice_index bytes place < 128) ⊎ (192 ≤ slice_index bytes place)))
 
 -- the bytes spell no program, by this first fault, and the first of them seem to be this
-abbrev pub IsTooLong : Option (List ℕ) → Refusal → Option Likeness → Type 0
-IsTooLong known (Codec error) likeness =
+abbrev pub IsTooLong : Option (List ℕ) → Refusal → Option Hint → Type 0
+IsTooLong known (Codec error) hint =
     ((bytes : List ℕ) × AreBytes known bytes × RefusesBytes bytes error)
-    × IfSome known (λ all. likeness ≡ seems_at_first all)
-IsTooLong known _ likeness = ⊥
+    × IfSome known (λ all. hint ≡ option_map Seems (seems_at_first all))
+IsTooLong known _ hint = ⊥

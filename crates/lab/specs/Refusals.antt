@@ -1,8 +1,7 @@
 -- Why a task does not take a file of some bytes.
-use Rattle.std.specs.Prelude.{ℕ, ◌≡◌, ◌≢◌, List, None, Some, Err, IfSome, string_bytes}
+use Rattle.std.specs.Prelude.{ℕ, ◌≡◌, ◌≢◌, List, None, Some, Err, string_bytes}
 use Rattle.std.specs.Str.{IsUtf8}
 use Rattle.insn.specs.declared.insn.Insn.{Insn}
-use Rattle.semantics.specs.Plain.{IsPlain}
 use Rattle.codec.specs.Program.{IsFirstFault, SpellsProgram}
 use Rattle.codec.specs.declared.fault.CodecError.{CodecError}
 use Rattle.codec.specs.declared.fault.CodecError.TheVariants as codec
@@ -27,10 +26,9 @@ use Rattle.trace.specs.Laws.{IsSoundText}
 use Rattle.trace.specs.Schedules.{schedule_told}
 use Rattle.trace.specs.declared.fault.TraceError.{TraceError}
 use Rattle.trace.specs.declared.fault.TraceError.TheVariants as trace
-use Rattle.verify.specs.declared.fault.Fault.{Fault}
-use Rattle.verify.specs.declared.fault.Fault.TheVariants as verifier
-use Rattle.verify.specs.Structure.{structural_fault, IsOwnFault}
-use Rattle.verify.specs.Passes as on_pass
+use Rattle.verify.specs.declared.error.VerifyError.{VerifyError}
+use Rattle.verify.specs.declared.error.VerifyError.TheVariants as verifier
+use Rattle.verify.specs.Judgement.{judged}
 use Rattle.command_line.specs.declared.tasks.Notation.{Notation}
 use Rattle.command_line.specs.declared.tasks.Notation.TheVariants as notation
 use Rattle.command_line.specs.declared.tasks.Task.{Task}
@@ -44,7 +42,7 @@ abbrev pub codec_refusal : CodecError → Refusal
 codec_refusal codec.Memory = Memory
 codec_refusal error = Codec error
 
-abbrev pub verifier_refusal : Fault → Refusal
+abbrev pub verifier_refusal : VerifyError → Refusal
 verifier_refusal verifier.Memory = Memory
 verifier_refusal fault = Verifier fault
 
@@ -77,24 +75,16 @@ abbrev pub RefusesBytes : List ℕ → CodecError → Type 0
 RefusesBytes bytes (codec.At fault unit) = IsFirstFault bytes fault unit
 RefusesBytes bytes codec.Memory = ⊥
 
--- the verifier refuses the program, which is not plain, by its first structural fault, or where it has none by the first fault on the pass, of an instruction
-pub record RefusesProgram (program : List Insn) (fault : Fault) : Type 0 where
-  pub named : fault ≢ verifier.Memory
-  pub not_plain : IsPlain program → ⊥
-  pub structural : IfSome (structural_fault program) (λ first. fault ≡ first)
-  pub unstructural : structural_fault program ≡ None → IsOwnFault program fault
-  pub first : structural_fault program ≡ None → on_pass.IsFirstFault program fault
-
--- the verifier refuses the program
+-- the verifier refuses the program, by this first fault
 abbrev pub RefusesRun : List Insn → Refusal → Type 0
-RefusesRun program (Verifier fault) = RefusesProgram program fault
+RefusesRun program (Verifier fault) = judged program ≡ Some fault
 RefusesRun program Memory = Unit {0}
 RefusesRun program _ = ⊥
 
 -- the bytes spell no program, or the verifier refuses the program that they spell
 abbrev pub RefusesCheck : List ℕ → Refusal → Type 0
 RefusesCheck bytes (Codec error) = RefusesBytes bytes error
-RefusesCheck bytes (Verifier fault) = (program : List Insn) × SpellsProgram bytes program × RefusesProgram program fault
+RefusesCheck bytes (Verifier fault) = (program : List Insn) × SpellsProgram bytes program × (judged program ≡ Some fault)
 RefusesCheck bytes Memory = Unit {0}
 RefusesCheck bytes _ = ⊥
 
@@ -112,7 +102,7 @@ RefusesAssembly text _ = ⊥
 -- the text says no program, or the verifier refuses the program that it says
 abbrev pub RefusesCheckAssembly : List ℕ → Refusal → Type 0
 RefusesCheckAssembly text (Assembly error) = said text ≡ Err error
-RefusesCheckAssembly text (Verifier fault) = (program : List Insn) × (program_of text ≡ Some program) × RefusesProgram program fault
+RefusesCheckAssembly text (Verifier fault) = (program : List Insn) × (program_of text ≡ Some program) × (judged program ≡ Some fault)
 RefusesCheckAssembly text Memory = Unit {0}
 RefusesCheckAssembly text _ = ⊥
 
@@ -168,9 +158,14 @@ abbrev pub RefusesCheckIn : Notation → List ℕ → Refusal → Type 0
 RefusesCheckIn notation.Bytecode bytes refusal = RefusesCheck bytes refusal
 RefusesCheckIn notation.Assembly bytes refusal = RefusesText RefusesCheckAssembly bytes refusal
 
+-- the file has no program in its notation
+abbrev pub RefusesNotation : Notation → List ℕ → Refusal → Type 0
+RefusesNotation notation.Bytecode bytes refusal = RefusesDisassembly bytes refusal
+RefusesNotation notation.Assembly bytes refusal = RefusesText RefusesAssembly bytes refusal
+
 -- the task does not take an only or first file of these bytes
 abbrev pub Refuses : Task → List ℕ → Refusal → Type 0
-Refuses (Check file notation context) bytes refusal = RefusesCheckIn notation bytes refusal
+Refuses (Check file notation context explained) bytes refusal = RefusesCheckIn notation bytes refusal
 Refuses (Assemble file spelling target) bytes refusal = RefusesText RefusesAssembly bytes refusal
 Refuses (Disassemble file) bytes refusal = RefusesDisassembly bytes refusal
 Refuses (DisassembleUnits file) bytes refusal = RefusesDisassembly bytes refusal

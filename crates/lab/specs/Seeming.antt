@@ -1,5 +1,5 @@
 -- What bytes that spell no program seem to be in its place.
-use Rattle.std.specs.Prelude.{ℕ, Bool, ◌||◌, ◌==◌, nat_eq, List, [], ◌∷◌, ◌++◌, length, take, Option, None, Some, codes, if◌then◌else◌}
+use Rattle.std.specs.Prelude.{ℕ, Bool, ◌||◌, ◌==◌, nat_eq, List, ◌∷◌, ◌++◌, length, take, Option, None, Some, codes, if◌then◌else◌}
 use Rattle.std.specs.List.{list_all, starts_with}
 use Rattle.std.specs.Char.{is_ascii_graphic, is_ascii_hexdigit, is_ascii_whitespace}
 use Rattle.lab.specs.declared.seeming.Likeness.{Likeness}
@@ -42,8 +42,3 @@ abbrev pub seems_text : Likeness → List ℕ
 seems_text Hex = codes "it seems to be bytecode in hex, of which `xxd -r -p` makes bytes"
 seems_text Object = codes "it seems to be an ELF object, of which `llvm-objcopy -O binary -j .text` takes the bytes"
 seems_text Text = codes "it seems to be text, and no bytecode: assembly is checked by `check --asm`"
-
--- behind the line of a refusal: nothing, or a further line
-abbrev pub seems_behind : Option Likeness → List ℕ
-seems_behind None = []
-seems_behind (Some likeness) = codes "\n" ++ seems_text likeness

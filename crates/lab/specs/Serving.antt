@@ -1,5 +1,5 @@
 -- How a task on its files ends. What a file has and what a stream holds are given where they are known.
-use Rattle.std.specs.Prelude.{ℕ, ◌≡◌, ◌≢◌, ◌⊎◌, List, [], ◌∷◌, ◌++◌, Option, None, Some, IfSome, IsSomeAnd, codes, option_map, unwrap_or}
+use Rattle.std.specs.Prelude.{ℕ, ◌≡◌, ◌≢◌, ◌⊎◌, Bool, List, [], ◌∷◌, ◌++◌, Option, None, Some, IfSome, IsSomeAnd, codes, option_map, unwrap_or}
 use Rattle.std.specs.Io.KnownBytes.{Appends}
 use Rattle.command_line.specs.Told.{file_of, second_of}
 use Rattle.command_line.specs.declared.tasks.Task.{Task}
@@ -8,13 +8,13 @@ use Rattle.round.specs.Scenario.{Scenario}
 use Rattle.world.specs.declared.schedule.Repeat.{Repeat}
 use Rattle.lab.specs.declared.refusal.Refusal.{Refusal}
 use Rattle.lab.specs.declared.refusal.Refusal.TheVariants.{NotText, Memory}
-use Rattle.lab.specs.declared.outcome.Outcome.{Outcome}
-use Rattle.lab.specs.declared.outcome.Outcome.TheVariants as outcome
+use Rattle.lab.specs.declared.first_answer.FirstAnswer.{FirstAnswer}
+use Rattle.lab.specs.declared.first_answer.FirstAnswer.TheVariants as outcome
 use Rattle.lab.specs.Answers.{GoesOn, IsTriedBy, Prints}
 use Rattle.lab.specs.Campaigns.{IsAudited, IsPlayed, IsSchedule}
 use Rattle.lab.specs.Names.{shown}
-use Rattle.lab.specs.Seeming.{likeness_of, seems_behind}
-use Rattle.lab.specs.declared.seeming.Likeness.{Likeness}
+use Rattle.lab.specs.Hints.{behind_lines, hint_behind, IsHint}
+use Rattle.lab.specs.declared.hint.Hint.{Hint}
 use Rattle.lab.specs.Telling.{refusal_text}
 use Rattle.lab.specs.Refusals.{Refuses, RefusesChronicle, RefusesMuster, RefusesSchedule, RefusesSetting, RefusesText}
 
@@ -65,9 +65,10 @@ IsPlayedBy known s text = (schedule : List (List Repeat)) × IsScheduleOf known 
 abbrev pub IsAuditOf : Option (Option (List ℕ)) → Scenario → List ℕ → Type 0
 IsAuditOf known s text = (bytes : List ℕ) × AreSecondBytes known bytes × IsAudited s bytes text
 
--- the lines are those of the program's trial in the second file's setting
-abbrev pub IsTrialOf : Option (Option (List ℕ)) → List Insn → List ℕ → Type 0
-IsTrialOf known program text = (bytes : List ℕ) × AreSecondBytes known bytes × IsTriedBy bytes program text
+-- the lines are those of the program's trial in the second file's setting, and behind them its explanation, if it is asked for
+abbrev pub IsTrialOf : Option (Option (List ℕ)) → Bool → List Insn → List ℕ → Type 0
+IsTrialOf known explained program text =
+    (bytes : List ℕ) × AreSecondBytes known bytes × ((lines : List ℕ) × IsTriedBy bytes program lines × (text ≡ lines ++ behind_lines explained program))
 
 -- the task has an answer on the files
 abbrev pub HasAnswer : Task → Files → Type 0
@@ -77,18 +78,18 @@ HasAnswer task files = (text : List ℕ) × IsAnswer task files text
 abbrev pub IsPrinted : Task → Files → Option (List ℕ) → Option (List ℕ) → Type 0
 IsPrinted task files old new = (text : List ℕ) × IsAnswer task files text × Appends old new text
 
--- the task refuses its only or first file so, and not for want of memory; and the file's bytes seem to be this
-abbrev pub IsRefused : Task → Option (List ℕ) → Refusal → Option Likeness → Type 0
-IsRefused task known refusal likeness =
+-- the task refuses its only or first file so, and not for want of memory; and this is said behind it
+abbrev pub IsRefused : Task → Option (List ℕ) → Refusal → Option Hint → Type 0
+IsRefused task known refusal hint =
     (refusal ≢ Memory) × ((bytes : List ℕ) × AreBytes known bytes × Refuses task bytes refusal)
-    × IfSome known (λ all. likeness ≡ likeness_of refusal all)
+    × IfSome known (λ all. IsHint refusal task all hint)
 
--- it is refused so, and seems to be nothing else
-abbrev pub NoLikeness : (Refusal → Type 0) → Refusal → Option Likeness → Type 0
-NoLikeness refused refusal likeness = refused refusal × (likeness ≡ None)
+-- it is refused so, and no more is said
+abbrev pub NoHint : (Refusal → Type 0) → Refusal → Option Hint → Type 0
+NoHint refused refusal hint = refused refusal × (hint ≡ None)
 
 -- the task takes its first file, and goes on with this
-abbrev pub IsTaken : Task → Option (List ℕ) → Outcome → Type 0
+abbrev pub IsTaken : Task → Option (List ℕ) → FirstAnswer → Type 0
 IsTaken task known more = (bytes : List ℕ) × AreBytes known bytes × GoesOn task bytes more
 
 -- the second file is refused so as a setting, and not for want of memory
@@ -111,7 +112,7 @@ abbrev pub IsUnmustered : Refusal → Type 0
 IsUnmustered refusal = (refusal ≢ Memory) × RefusesMuster refusal
 
 -- behind a first file with which a task goes on so, it refuses so
-abbrev pub IsRefusedLater : Outcome → Option (Option (List ℕ)) → Refusal → Type 0
+abbrev pub IsRefusedLater : FirstAnswer → Option (Option (List ℕ)) → Refusal → Type 0
 IsRefusedLater (outcome.Trial program) known refusal = IsSettingRefused known refusal
 IsRefusedLater (outcome.Play s) known refusal = IsScheduleRefused known refusal
 IsRefusedLater (outcome.Muster s) known refusal = IsUnmustered refusal
@@ -126,16 +127,16 @@ Tells fails old new line = fails ⊎ Appends old new (line ++ 10 ∷ [])
 abbrev pub TellsName : (List ℕ → Type 0) → List ℕ → List ℕ → Type 0
 TellsName tells words name = IfSome (shown name) (λ told. tells (words ++ told))
 
--- the line that tells of a refusal of the file with this name: its code and its place, and behind it what it seems to be
-abbrev pub TellsRefusal : List ℕ → (List ℕ → Type 0) → Refusal → Option Likeness → Type 0
-TellsRefusal name tells NotText likeness = TellsName tells (codes "fault text ") name
-TellsRefusal name tells refusal likeness = tells (codes "refused " ++ refusal_text refusal ++ seems_behind likeness)
+-- the lines that tell of a refusal of the file with this name: its code and its place, and behind them what the file seems to be, or why it is refused
+abbrev pub TellsRefusal : List ℕ → (List ℕ → Type 0) → Refusal → Option Hint → Type 0
+TellsRefusal name tells NotText hint = TellsName tells (codes "fault text ") name
+TellsRefusal name tells refusal hint = tells (codes "refused " ++ refusal_text refusal ++ hint_behind hint)
 
 -- the file with this name was not read, since its reader failed, or a refusal has come; and a line says so
-abbrev pub IsTurnedDown : Type 0 → (Refusal → Option Likeness → Type 0) → List ℕ → (List ℕ → Type 0) → Type 0
+abbrev pub IsTurnedDown : Type 0 → (Refusal → Option Hint → Type 0) → List ℕ → (List ℕ → Type 0) → Type 0
 IsTurnedDown unread refused name tells =
     (unread × TellsName tells (codes "fault read ") name)
-    ⊎ ((refusal : Refusal) × ((likeness : Option Likeness) × refused refusal likeness × TellsRefusal name tells refusal likeness))
+    ⊎ ((refusal : Refusal) × ((hint : Option Hint) × refused refusal hint × TellsRefusal name tells refusal hint))
 
 -- the output failed on the task's answer, and a line says so
 abbrev pub IsUnwritten : Type 0 → Task → Files → (List ℕ → Type 0) → Type 0
@@ -145,5 +146,5 @@ IsUnwritten unwritten task files tells = unwritten × HasAnswer task files × te
 abbrev pub IsFault : Type 0 → Type 0 → Type 0 → Task → Files → Type 0 → (List ℕ → Type 0) → Type 0
 IsFault unread second_unread unwritten task files kept tells =
     (kept × (IsTurnedDown unread (IsRefused task files.first) (first_name task) tells
-    ⊎ ((more : Outcome) × IsTaken task files.first more × IsTurnedDown second_unread (NoLikeness (IsRefusedLater more files.second)) (second_name task) tells)))
+    ⊎ ((more : FirstAnswer) × IsTaken task files.first more × IsTurnedDown second_unread (NoHint (IsRefusedLater more files.second)) (second_name task) tells)))
     ⊎ IsUnwritten unwritten task files tells

@@ -1,18 +1,19 @@
-ghost use Rattle.std.specs.Prelude.{◌≡◌, IfOk, IfErr, string_bytes};
+ghost use Rattle.std.specs.Prelude.{◌≡◌, IfOk, IfErr, None, string_bytes};
 ghost use Rattle.semantics.specs.Run.{IsSound};
-ghost use Rattle.lab.specs.Answers.{ChecksIn, ComesTo, HasProgram};
-ghost use Rattle.lab.specs.Lines.{checked_lines};
+ghost use Rattle.verify.specs.Judgement.{judged};
+ghost use Rattle.lab.specs.Answers.{ComesTo, IsChecked};
+ghost use Rattle.lab.specs.Hints.{HasProgram};
 ghost use Rattle.lab.specs.Refusals.{Refuses, RefusesCheckIn};
-ghost use Rattle.lab.specs.declared.checking.Checked.{Checked};
 
 use crate::assembling::{assembled, assembled_raw, disassembled, disassembled_units};
-use crate::checking::{accepted, accepted_text, check, check_text, checked_text};
+use crate::checking::{accepted, accepted_text, checked_text, run};
 use crate::deciding::{decided, explained};
+use crate::explaining::with_explanation;
 use crate::forming::formed;
-use crate::outcome::Outcome;
+use crate::first_answer::FirstAnswer;
 use crate::playing::campaign;
 use crate::refusal::Refusal;
-use crate::texts::text_of;
+use crate::texts::as_text;
 use command_line::{Notation, Spelling, Task};
 use std::alloc::Global;
 use verify::Verified;
@@ -22,7 +23,7 @@ use verify::Verified;
 /// # Errors
 ///
 /// What is refused, or want of memory.
-pub fn answer(alloc: Global, task: &Task, bytes: &[u8]) -> Result<Outcome, Refusal>
+pub fn answer(alloc: Global, task: &Task, bytes: &[u8]) -> Result<FirstAnswer, Refusal>
     ensures answered { IfOk result (ComesTo task.now bytes.now) }
     ensures refused { IfErr result (Refuses task.now bytes.now) }
 {
@@ -30,58 +31,63 @@ pub fn answer(alloc: Global, task: &Task, bytes: &[u8]) -> Result<Outcome, Refus
         Task::Check {
             notation,
             context: None,
+            explained,
             ..
-        } => checked_in(alloc, *notation, bytes)?,
+        } => checked_in(alloc, *notation, *explained, bytes)?,
         Task::Check {
             notation,
             context: Some(_),
             ..
-        } => return Ok(Outcome::Trial(accepted_in(alloc, *notation, bytes)?)),
+        } => return Ok(FirstAnswer::Trial(accepted_in(alloc, *notation, bytes)?)),
         Task::Assemble {
             spelling: Spelling::Hex,
             ..
-        } => assembled(alloc, text_of(bytes)?)?,
+        } => assembled(alloc, as_text(bytes)?)?,
         Task::Assemble {
             spelling: Spelling::Raw,
             ..
-        } => return Ok(Outcome::Bytes(assembled_raw(alloc, text_of(bytes)?)?)),
+        } => return Ok(FirstAnswer::Bytes(assembled_raw(alloc, as_text(bytes)?)?)),
         Task::Disassemble(_) => disassembled(alloc, bytes)?,
         Task::DisassembleUnits(_) => disassembled_units(alloc, bytes)?,
-        Task::Book(_) => decided(alloc, text_of(bytes)?)?,
+        Task::Book(_) => decided(alloc, as_text(bytes)?)?,
         Task::Explain { traitors, .. } => {
-            explained(alloc, text_of(bytes)?, traitors.as_slice())?
+            explained(alloc, as_text(bytes)?, traitors.as_slice())?
         }
         Task::Form {
             generals,
             bound,
             commander,
         } => formed(alloc, generals.as_str(), bound.as_str(), commander.as_str())?,
-        Task::Play { .. } => return Ok(Outcome::Play(campaign(alloc, bytes)?)),
-        Task::Muster(_) => return Ok(Outcome::Muster(campaign(alloc, bytes)?)),
-        Task::Audit { .. } => return Ok(Outcome::Audit(campaign(alloc, bytes)?)),
+        Task::Play { .. } => return Ok(FirstAnswer::Play(campaign(alloc, bytes)?)),
+        Task::Muster(_) => return Ok(FirstAnswer::Muster(campaign(alloc, bytes)?)),
+        Task::Audit { .. } => return Ok(FirstAnswer::Audit(campaign(alloc, bytes)?)),
     };
-    Ok(Outcome::Text(text))
+    Ok(FirstAnswer::Text(text))
 }
 
-/// What a check prints of a file with a program in this notation.
-fn checked_in(alloc: Global, notation: Notation, bytes: &[u8]) -> Result<String, Refusal>
-    ensures checked { IfOk result (λ text. (checked : Checked) × ChecksIn notation bytes.now checked × (string_bytes text ≡ checked_lines checked)) }
+/// What a check prints of a file with a program in this notation, with its explanation or without it.
+fn checked_in(
+    alloc: Global,
+    notation: Notation,
+    explained: bool,
+    bytes: &[u8],
+) -> Result<String, Refusal>
+    ensures checked { IfOk result (λ text. IsChecked notation explained bytes.now (string_bytes text)) }
     ensures refused { IfErr result (RefusesCheckIn notation bytes.now) }
 {
-    let checked = match notation {
-        Notation::Bytecode => check(alloc, bytes)?,
-        Notation::Assembly => check_text(alloc, text_of(bytes)?)?,
-    };
-    Ok(checked_text(alloc, &checked)?)
+    let verified = accepted_in(alloc, notation, bytes)?;
+    let checked = run(alloc, &verified)?;
+    let lines = checked_text(alloc, &checked)?;
+    Ok(with_explanation(alloc, lines, explained, verified.program())?)
 }
 
 /// The program in this notation that a file has, verified.
 fn accepted_in(alloc: Global, notation: Notation, bytes: &[u8]) -> Result<Verified, Refusal>
-    ensures accepted { IfOk result (λ program. HasProgram notation bytes.now program × IsSound program) }
+    ensures accepted { IfOk result (λ program. HasProgram notation bytes.now program × (judged program ≡ None) × IsSound program) }
     ensures refused { IfErr result (RefusesCheckIn notation bytes.now) }
 {
     match notation {
         Notation::Bytecode => accepted(alloc, bytes),
-        Notation::Assembly => accepted_text(alloc, text_of(bytes)?),
+        Notation::Assembly => accepted_text(alloc, as_text(bytes)?),
     }
 }

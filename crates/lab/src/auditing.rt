@@ -4,7 +4,7 @@ ghost use Rattle.lab.specs.Lines.{sound_lines};
 ghost use Rattle.lab.specs.Refusals.{RefusesChronicle, RefusesText};
 
 use crate::refusal::Refusal;
-use crate::texts::text_of;
+use crate::texts::as_text;
 use round::Scenario;
 use std::alloc::{AllocError, Global};
 use trace::{Latch, check, write_verdict};
@@ -19,7 +19,7 @@ pub fn audited(alloc: Global, scenario: &Scenario, bytes: &[u8]) -> Result<Vec<u
     ensures audited { IfOk result (λ text. IsAudited scenario.now bytes.now text.items) }
     ensures refused { IfErr result (RefusesText (RefusesChronicle scenario.now) bytes.now) }
 {
-    let verdict = check(alloc, scenario, text_of(bytes)?)?;
+    let verdict = check(alloc, scenario, as_text(bytes)?)?;
     Ok(sound_text(alloc, verdict)?)
 }
 

@@ -1,26 +1,21 @@
-ghost use Rattle.std.specs.Prelude.{◌≡◌, IfOk, IfErr, Some, string_bytes};
+ghost use Rattle.std.specs.Prelude.{◌≡◌, IfOk, IfErr, None, Some, string_bytes};
 ghost use Rattle.asm.specs.Program.{program_of};
 ghost use Rattle.codec.specs.Program.{SpellsProgram};
 ghost use Rattle.semantics.specs.Run.{IsSound};
+ghost use Rattle.verify.specs.Judgement.{judged};
 ghost use Rattle.lab.specs.Answers.{Checks, ChecksText, IsRun};
-ghost use Rattle.lab.specs.Bench.{bench_shape};
 ghost use Rattle.lab.specs.Lines.{checked_lines};
 ghost use Rattle.lab.specs.Refusals.{RefusesCheck, RefusesCheckAssembly, RefusesRun};
-ghost use Rattle.lab.specs.BoardRun.{IsServed};
 
-use crate::bench::{bench_context, bench_shape};
 use crate::refusal::Refusal;
 use asm::assemble;
-use board::Board;
 use codec::decode;
 use insn::Program;
-use machine::{Activation, Stop};
-use mem::Context;
-use outbox::Outbox;
 use std::alloc::{AllocError, Global};
+use trial::{Setting, first_lines, run_in};
 use verify::{Verified, verify};
 
-/// An accepted program and its run in the bench context.
+/// An accepted program and its run on the bench.
 #[derive(Clone, Copy, Debug, PartialEq, Eq)]
 pub struct Checked {
     pub instructions: usize,
@@ -64,7 +59,7 @@ pub fn check_text(alloc: Global, text: &str) -> Result<Checked, Refusal>
 ///
 /// What the codec or the verifier refuses, or want of memory.
 pub fn accepted(alloc: Global, bytes: &[u8]) -> Result<Verified, Refusal>
-    ensures spelt { IfOk result (λ program. SpellsProgram bytes.now program × IsSound program) }
+    ensures spelt { IfOk result (λ program. SpellsProgram bytes.now program × (judged program ≡ None) × IsSound program) }
     ensures refused { IfErr result (RefusesCheck bytes.now) }
 {
     let program = decode(alloc, bytes)?;
@@ -77,7 +72,7 @@ pub fn accepted(alloc: Global, bytes: &[u8]) -> Result<Verified, Refusal>
 ///
 /// What the assembler or the verifier refuses, or want of memory.
 pub fn accepted_text(alloc: Global, text: &str) -> Result<Verified, Refusal>
-    ensures said { IfOk result (λ program. (program_of text.now ≡ Some program) × IsSound program) }
+    ensures said { IfOk result (λ program. (program_of text.now ≡ Some program) × (judged program ≡ None) × IsSound program) }
     ensures refused { IfErr result (RefusesCheckAssembly text.now) }
 {
     let program = assemble(alloc, text)?;
@@ -86,7 +81,7 @@ pub fn accepted_text(alloc: Global, text: &str) -> Result<Verified, Refusal>
 
 /// Verifies a program.
 fn accepted_program(alloc: Global, program: Program) -> Result<Verified, Refusal>
-    ensures accepted { IfOk result (λ verified. (verified ≡ program) × IsSound verified) }
+    ensures accepted { IfOk result (λ verified. (verified ≡ program) × (judged verified ≡ None) × IsSound verified) }
     ensures refused { IfErr result (RefusesRun program) }
 {
     match verify(alloc, program) {
@@ -95,54 +90,19 @@ fn accepted_program(alloc: Global, program: Program) -> Result<Verified, Refusal
     }
 }
 
-/// Runs a program in the bench context.
-fn run(alloc: Global, verified: &Verified) -> Result<Checked, AllocError>
+/// Runs a program on the bench.
+pub(crate) fn run(alloc: Global, verified: &Verified) -> Result<Checked, AllocError>
+    requires accepted { judged verified.now ≡ None }
     ensures { IfOk result (IsRun verified.now) }
 {
-    let numbers = bench_context(alloc)?;
-    let Some(context) = Context::new(numbers.as_slice()) else {
-        unreachable!();
-    };
+    let exited = run_in(alloc, verified, &Setting::bench(alloc))?;
     let program = verified.program();
-    let instructions = program.len();
-    let units = program.units();
-    let Exit { r0, steps } = serve_board(alloc, verified, &context)?;
     Ok(Checked {
-        instructions,
-        units,
-        r0,
-        steps,
+        instructions: program.len(),
+        units: program.units(),
+        r0: exited.r0,
+        steps: exited.activation.steps(),
     })
-}
-
-/// How a program has exited.
-struct Exit {
-    r0: u64,
-    steps: u32,
-}
-
-/// Runs a program to its exit, with a board that begins with zeros.
-fn serve_board(alloc: Global, verified: &Verified, context: &Context) -> Result<Exit, AllocError>
-    ensures { IfOk result (λ e. IsServed verified.now context.now bench_shape e.r0 e.steps) }
-{
-    let shape = bench_shape();
-    let limit = verified.program().len() as u32;
-    let mut board = Board::new(alloc, [0; 64]);
-    let mut activation = Activation::start(verified, context, Outbox::new(alloc, shape)?);
-    loop {
-        match activation.run(verified, context, limit) {
-            Stop::Asked(request) => {
-                let reply = board.apply(shape.general, shape.round, request)?;
-                activation.resume(&request, &reply);
-            }
-            Stop::Exited(r0) => {
-                let _accesses = board.ledger();
-                let steps = activation.steps();
-                return Ok(Exit { r0, steps });
-            }
-            Stop::Limit => unreachable!(),
-        }
-    }
 }
 
 /// What a check prints.
@@ -155,5 +115,5 @@ pub fn checked_text(alloc: Global, checked: &Checked) -> Result<String, AllocErr
         r0,
         steps,
     } = *checked;
-    format!(in alloc; "accepted {instructions} instructions {units} units\nr0 {r0} steps {steps}\n")
+    first_lines(alloc, instructions, units, r0, steps)
 }

@@ -1,9 +1,9 @@
 ghost use Rattle.std.specs.Prelude.{◌≡◌};
 ghost use Rattle.lab.specs.Faults.{fault_of, fault_of_bytes, status_of};
 
+use crate::hint::Hint;
 use crate::name::FileName;
 use crate::refusal::Refusal;
-use crate::seeming::{Likeness, seems};
 use std::fmt;
 
 /// Why a task was not done.
@@ -13,8 +13,8 @@ pub(crate) enum Fault<'a> {
     Read(&'a str),
     /// The file of this name is no text in UTF-8.
     Text(&'a str),
-    /// What a file has is refused, and seems to be this.
-    Refused(Refusal, Option<Likeness>),
+    /// What a file has is refused, and more is said of it.
+    Refused(Refusal, Option<Hint>),
     /// The output failed.
     Write,
     /// Want of memory.
@@ -31,7 +31,7 @@ impl fmt::Display for Fault<'_> {
             Fault::Read(file) => write!(f, "fault read {}", FileName(file)),
             Fault::Text(file) => write!(f, "fault text {}", FileName(file)),
             Fault::Refused(refusal, None) => write!(f, "refused {refusal}"),
-            Fault::Refused(refusal, Some(likeness)) => write!(f, "refused {refusal}\n{likeness}"),
+            Fault::Refused(refusal, Some(hint)) => write!(f, "refused {refusal}{hint}"),
             Fault::Write => f.write_str("fault write"),
             Fault::Memory => f.write_str("out of memory"),
         }
@@ -55,7 +55,7 @@ impl<'a> Fault<'a> {
         ensures { result ≡ fault_of_bytes refusal file.entry bytes.now }
     {
         match refusal {
-            Refusal::Codec(error) => Fault::Refused(Refusal::Codec(error), seems(bytes)),
+            Refusal::Codec(error) => Fault::Refused(Refusal::Codec(error), Hint::of_bytes(bytes)),
             refusal => Fault::of(refusal, file),
         }
     }

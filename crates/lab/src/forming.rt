@@ -3,7 +3,7 @@ ghost use Rattle.lab.specs.Answers.{IsFormOf};
 ghost use Rattle.lab.specs.Refusals.{RefusesForm};
 
 use crate::refusal::Refusal;
-use book::{TableError, form};
+use book::{Fault, TableError, form};
 use std::alloc::Global;
 use text::decimal;
 
@@ -23,13 +23,13 @@ pub fn formed(
     ensures refused { IfErr result (RefusesForm generals.now bound.now commander.now) }
 {
     let Some(generals) = decimal(generals.as_bytes()) else {
-        return Err(Refusal::Table(TableError::Line(1)));
+        return Err(Refusal::Table(TableError::At(Fault::Line, 1)));
     };
     let Some(bound) = decimal(bound.as_bytes()) else {
-        return Err(Refusal::Table(TableError::Line(1)));
+        return Err(Refusal::Table(TableError::At(Fault::Line, 1)));
     };
     let Some(commander) = decimal(commander.as_bytes()) else {
-        return Err(Refusal::Table(TableError::Line(1)));
+        return Err(Refusal::Table(TableError::At(Fault::Line, 1)));
     };
     Ok(form(
         alloc,

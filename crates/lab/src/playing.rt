@@ -1,20 +1,17 @@
 ghost use Rattle.std.specs.Prelude.{◌≡◌, ℕ, List, IfOk, IfErr, Ok, Some};
 ghost use Rattle.scenario.specs.Told.{Tells};
 ghost use Rattle.trace.specs.Schedules.{schedule_told};
-ghost use Rattle.trace.specs.Text.{text_of};
+ghost use Rattle.trace.specs.Text.{chronicle_text};
 ghost use Rattle.lab.specs.Campaigns.{IsPlayed};
 ghost use Rattle.lab.specs.Reading.{IsFront};
 ghost use Rattle.lab.specs.Refusals.{RefusesScenario, RefusesSchedule, RefusesText};
 
 use crate::refusal::Refusal;
-use crate::texts::{may_begin_text, text_of};
+use crate::texts::{as_text, may_begin_text};
 use round::Scenario;
 use std::alloc::{AllocError, Global};
-use trace::{Latch, TraceError, read_schedule, write_chronicle};
+use trace::{Fault, Latch, MOST_SCHEDULE_BYTES, TraceError, read_schedule, write_chronicle};
 use world::{Chronicle, Schedule, play};
-
-/// The most bytes of a schedule.
-pub(crate) const MOST_BYTES: usize = 1_048_576;
 
 /// The campaign that the bytes tell.
 ///
@@ -25,7 +22,7 @@ pub fn campaign(alloc: Global, bytes: &[u8]) -> Result<Scenario, Refusal>
     ensures told { IfOk result (Tells bytes.now) }
     ensures refused { IfErr result (RefusesText RefusesScenario bytes.now) }
 {
-    Ok(scenario::read(alloc, text_of(bytes)?)?)
+    Ok(scenario::read(alloc, as_text(bytes)?)?)
 }
 
 /// The schedule that the bytes tell.
@@ -37,7 +34,7 @@ pub fn schedule(alloc: Global, bytes: &[u8]) -> Result<Schedule, Refusal>
     ensures told { IfOk result (λ schedule. schedule_told bytes.now ≡ Ok schedule) }
     ensures refused { IfErr result (RefusesText RefusesSchedule bytes.now) }
 {
-    Ok(read_schedule(alloc, text_of(bytes)?)?)
+    Ok(read_schedule(alloc, as_text(bytes)?)?)
 }
 
 /// The schedule of a file that has these bytes or, where they are more than a schedule has, begins with these: then there is
@@ -50,13 +47,13 @@ pub(crate) fn schedule_of(alloc: Global, front: &[u8]) -> Result<Schedule, Refus
     ensures told { IfOk result (λ schedule. (all : List ℕ) → IsFront 1048576 (Some all) front.now → schedule_told all ≡ Ok schedule) }
     ensures refused { IfErr result (λ refusal. (all : List ℕ) → IsFront 1048576 (Some all) front.now → RefusesText RefusesSchedule all refusal) }
 {
-    if front.len() <= MOST_BYTES {
+    if front.len() <= MOST_SCHEDULE_BYTES {
         return schedule(alloc, front);
     }
     if !may_begin_text(front) {
         return Err(Refusal::NotText);
     }
-    Err(Refusal::Trace(TraceError::Line(1)))
+    Err(Refusal::Trace(TraceError::At(Fault::Line, 1)))
 }
 
 /// The text of the chronicle of the campaign by a schedule. All of it is in memory, some bytes for each word and access
@@ -74,7 +71,7 @@ pub fn played(alloc: Global, scenario: Scenario, schedule: &Schedule) -> Result<
 
 /// The text of a chronicle.
 pub(crate) fn chronicle_text(alloc: Global, chronicle: &Chronicle) -> Result<Vec<u8>, AllocError>
-    ensures { IfOk result (λ text. text.items ≡ text_of chronicle.now) }
+    ensures { IfOk result (λ text. text.items ≡ chronicle_text chronicle.now) }
 {
     let mut latch = Latch::new(Vec::new(alloc));
     match write_chronicle(chronicle, &mut latch) {

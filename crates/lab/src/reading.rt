@@ -6,7 +6,6 @@ ghost use Rattle.lab.specs.Refusals.{RefusesBytes};
 ghost use Rattle.lab.specs.Serving.{AreBytes, AreSecondBytes, IsRefused, first_name};
 
 use crate::fault::Fault;
-use crate::playing::MOST_BYTES as MOST_OF_A_SCHEDULE;
 use crate::refusal::Refusal;
 use crate::streams::Source;
 use crate::within::Within;
@@ -15,6 +14,7 @@ use command_line::{Notation, Task};
 use insn::Program;
 use std::alloc::Global;
 use std::io::{self, ErrorKind};
+use trace::MOST_SCHEDULE_BYTES;
 
 /// The most bytes of a program.
 const MOST_OF_A_PROGRAM: usize = 8 * Program::MOST_UNITS;
@@ -81,7 +81,7 @@ pub(crate) fn read_schedule<'a, R: Source>(
     ensures front { IfOk result (λ front. IsFront 1048576 (R.bytes source) front.items) }
     ensures fault { IfErr result (Stops (R.fails source) (λ _ _. ⊥) file.entry.now) }
 {
-    match source.read_front(alloc, MOST_OF_A_SCHEDULE) {
+    match source.read_front(alloc, MOST_SCHEDULE_BYTES) {
         Ok(front) => Ok(front),
         Err(error) => Err(unread(&error, file)),
     }

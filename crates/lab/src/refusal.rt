@@ -8,7 +8,7 @@ use std::fmt;
 use threads::MusterError;
 use trace::TraceError;
 use trial::SettingError;
-use verify::Fault;
+use verify::VerifyError;
 
 /// Why a task does not take a file's bytes: what is refused, with its code and place.
 #[derive(Debug, Drop)]
@@ -16,7 +16,7 @@ pub enum Refusal {
     /// The bytes spell no program.
     Codec(CodecError),
     /// The program is not accepted.
-    Verifier(Fault),
+    Verifier(VerifyError),
     /// The text says no program.
     Assembly(AsmError),
     /// The text tells no message table.
@@ -84,15 +84,15 @@ impl From<CodecError> for Refusal {
     }
 }
 
-impl From<Fault> for Refusal {
+impl From<VerifyError> for Refusal {
     ghost use Rattle.std.specs.Prelude.{◌≡◌};
     ghost use Rattle.lab.specs.Refusals.{verifier_refusal};
 
     ghost from_gives = { λ fault refusal. refusal ≡ verifier_refusal fault };
 
-    fn from(fault: Fault) -> Refusal {
+    fn from(fault: VerifyError) -> Refusal {
         match fault {
-            Fault::Memory => Refusal::Memory,
+            VerifyError::Memory => Refusal::Memory,
             fault => Refusal::Verifier(fault),
         }
     }

@@ -1,13 +1,14 @@
 ghost use Rattle.std.specs.Prelude.{◌≡◌, ◌≢◌, ◌⊎◌, IfOk, IfErr, IsSomeAnd, OnOk, codes, option_map};
 ghost use Rattle.lab.specs.Faults.{Explains, Prevents, Stops};
-ghost use Rattle.lab.specs.Serving.{IsAnswer, IsAuditOf, IsChronicleRefused, IsFault, IsPlayedBy, IsPrinted, IsScheduleOf, IsScheduleRefused, IsSettingRefused, IsTrialOf, NoLikeness, Tells, files, second_name};
+ghost use Rattle.lab.specs.Serving.{IsAnswer, IsAuditOf, IsChronicleRefused, IsFault, IsPlayedBy, IsPrinted, IsScheduleOf, IsScheduleRefused, IsSettingRefused, IsTrialOf, NoHint, Tells, files, second_name};
 ghost use Rattle.lab.specs.declared.fault.Fault.TheVariants.{Write as unwritten};
 
 use crate::answering::answer;
 use crate::auditing::audited;
+use crate::explaining::{explained_in, refused, with_explanation};
 use crate::fault::Fault;
 use crate::mustering::mustered;
-use crate::outcome::Outcome;
+use crate::first_answer::FirstAnswer;
 use crate::playing::{played, schedule_of};
 use crate::reading::{read_first, read_schedule, read_second};
 use crate::streams::{Output, Source};
@@ -105,33 +106,39 @@ where
     let bytes = read_first(alloc, task, first)?;
     let file = task.second().unwrap_or("");
     match answer(alloc, task, bytes.as_slice()) {
-        Ok(Outcome::Text(text)) => Ok(text.into_bytes()),
-        Ok(Outcome::Bytes(bytes)) => Ok(bytes),
-        Ok(Outcome::Trial(program)) => trial_of(alloc, &program, file, second),
-        Ok(Outcome::Play(scenario)) => play_by(alloc, scenario, file, second),
-        Ok(Outcome::Muster(scenario)) => match mustered(rt, alloc, scenario) {
+        Ok(FirstAnswer::Text(text)) => Ok(text.into_bytes()),
+        Ok(FirstAnswer::Bytes(bytes)) => Ok(bytes),
+        Ok(FirstAnswer::Trial(program)) => {
+            trial_of(alloc, &program, explained_in(task).is_some(), file, second)
+        }
+        Ok(FirstAnswer::Play(scenario)) => play_by(alloc, scenario, file, second),
+        Ok(FirstAnswer::Muster(scenario)) => match mustered(rt, alloc, scenario) {
             Ok(text) => Ok(text),
             Err(refusal) => Err(Fault::of(refusal, file)),
         },
-        Ok(Outcome::Audit(scenario)) => audit_of(alloc, &scenario, file, second),
-        Err(refusal) => Err(Fault::of_bytes(refusal, task.file().unwrap_or(""), bytes.as_slice())),
+        Ok(FirstAnswer::Audit(scenario)) => audit_of(alloc, &scenario, file, second),
+        Err(refusal) => Err(refused(alloc, task, refusal, bytes.as_slice())),
     }
 }
 
-/// The lines of the program's trial in the setting of the second file.
+/// The lines of the program's trial in the setting of the second file, with its explanation or without it.
 fn trial_of<'a, R: Source>(
     alloc: Global,
     program: &Verified,
+    explained: bool,
     file: &'a str,
     second: Option<R>,
 ) -> Result<Vec<u8>, Fault<'a>>
-    ensures tried { IfOk result (λ text. IsTrialOf (option_map R.bytes second) program.now text.items) }
+    ensures tried { IfOk result (λ text. IsTrialOf (option_map R.bytes second) explained program.now text.items) }
     ensures fault { IfErr result
-        (Stops (IsSomeAnd second R.fails) (NoLikeness (IsSettingRefused (option_map R.bytes second))) file.entry.now) }
+        (Stops (IsSomeAnd second R.fails) (NoHint (IsSettingRefused (option_map R.bytes second))) file.entry.now) }
 {
     let bytes = read_second(alloc, file, second)?;
     match tried_by(alloc, program, bytes.as_slice()) {
-        Ok(text) => Ok(text.into_bytes()),
+        Ok(lines) => match with_explanation(alloc, lines, explained, program.program()) {
+            Ok(text) => Ok(text.into_bytes()),
+            Err(_) => Err(Fault::Memory),
+        },
         Err(refusal) => Err(Fault::of(refusal, file)),
     }
 }
@@ -145,7 +152,7 @@ fn play_by<'a, R: Source>(
 ) -> Result<Vec<u8>, Fault<'a>>
     ensures played { IfOk result (λ text. IsPlayedBy (option_map R.bytes second) scenario text.items) }
     ensures fault { IfErr result
-        (Stops (IsSomeAnd second R.fails) (NoLikeness (IsScheduleRefused (option_map R.bytes second))) file.entry.now) }
+        (Stops (IsSomeAnd second R.fails) (NoHint (IsScheduleRefused (option_map R.bytes second))) file.entry.now) }
 {
     let schedule = scheduled(alloc, file, second)?;
     match played(alloc, scenario, &schedule) {
@@ -162,7 +169,7 @@ fn scheduled<'a, R: Source>(
 ) -> Result<Schedule, Fault<'a>>
     ensures told { IfOk result (λ schedule. IsScheduleOf (option_map R.bytes second) schedule) }
     ensures fault { IfErr result
-        (Stops (IsSomeAnd second R.fails) (NoLikeness (IsScheduleRefused (option_map R.bytes second))) file.entry.now) }
+        (Stops (IsSomeAnd second R.fails) (NoHint (IsScheduleRefused (option_map R.bytes second))) file.entry.now) }
 {
     let Some(second) = second else {
         return Ok(Schedule {
@@ -185,7 +192,7 @@ fn audit_of<'a, R: Source>(
 ) -> Result<Vec<u8>, Fault<'a>>
     ensures audited { IfOk result (λ text. IsAuditOf (option_map R.bytes second) scenario.now text.items) }
     ensures fault { IfErr result
-        (Stops (IsSomeAnd second R.fails) (NoLikeness (IsChronicleRefused scenario.now (option_map R.bytes second))) file.entry.now) }
+        (Stops (IsSomeAnd second R.fails) (NoHint (IsChronicleRefused scenario.now (option_map R.bytes second))) file.entry.now) }
 {
     let bytes = read_second(alloc, file, second)?;
     match audited(alloc, scenario, bytes.as_slice()) {

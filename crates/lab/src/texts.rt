@@ -6,7 +6,7 @@ ghost use Rattle.lab.specs.declared.refusal.Refusal.TheVariants.{NotText};
 use crate::refusal::Refusal;
 
 /// The bytes as a text in UTF-8.
-pub(crate) fn text_of(bytes: &[u8]) -> Result<&str, Refusal>
+pub(crate) fn as_text(bytes: &[u8]) -> Result<&str, Refusal>
     ensures text { IfOk result (λ text. text.now ≡ bytes.now) }
     ensures none { IfErr result (λ refusal. (refusal ≡ NotText) × (IsUtf8 bytes.now → ⊥)) }
 {

@@ -3,7 +3,7 @@ ghost use Rattle.lab.specs.Answers.{IsTriedBy};
 ghost use Rattle.lab.specs.Refusals.{RefusesSetting, RefusesText};
 
 use crate::refusal::Refusal;
-use crate::texts::text_of;
+use crate::texts::as_text;
 use std::alloc::Global;
 use trial::{read, tried};
 use verify::Verified;
@@ -18,6 +18,6 @@ pub fn tried_by(alloc: Global, program: &Verified, bytes: &[u8]) -> Result<Strin
     ensures tried { IfOk result (λ text. IsTriedBy bytes.now program.now (string_bytes text)) }
     ensures refused { IfErr result (RefusesText RefusesSetting bytes.now) }
 {
-    let setting = read(alloc, text_of(bytes)?)?;
+    let setting = read(alloc, as_text(bytes)?)?;
     Ok(tried(alloc, program, &setting)?)
 }

@@ -1,9 +1,9 @@
 -- Membership, and counts of the generals outside of a label.
-use Rattle.std.proofs.Common.{ℕ, zero, suc, ◌+◌, ◌<◌, ◌≤◌, ◌≡◌, ◌≢◌, Bool, true, false, not, cond, ◌||◌, List, [], ◌∷◌, ◌++◌, map, length, refl, ap, arith, inl, inr}
+use Rattle.std.proofs.Common.{ℕ, zero, suc, ◌+◌, ◌<◌, ◌≤◌, ◌≡◌, ◌≢◌, Bool, true, false, not, cond, ◌||◌, List, [], ◌∷◌, ◌++◌, map, length, refl, sym, ap, ◌∙◌, arith, inl, inr}
 use Rattle.std.specs.Prelude.{filter, count_by, sum_by, ◌==◌}
 use Rattle.std.specs.List.{range_with_len}
 use Rattle.std.proofs.lemmas.Bool.Decides.{nat_tests, eqb_tells}
-use Rattle.std.proofs.lemmas.Bool.{eqb-true, or_parts, or_from, or_cases, or_left, or_right, and_parts, and_from, not-true, not_from_false, ne_eqb, eq-eqb}
+use Rattle.std.proofs.lemmas.Bool.{eqb-true, cases_Bool, false≢true, or_parts, or_from, or_cases, or_left, or_right, and_parts, and_from, not-true, not_from_false, ne_eqb, eq-eqb}
 use Rattle.std.proofs.lemmas.List.Sums.{sum_by-cons}
 use Rattle.label.specs.Labels.{on, is_distinct, generals, others}
 
@@ -96,6 +96,28 @@ on-filter_more t x xs j ih false e k = (or_right (x == j) (on xs j) (ih k).0, (i
 pub on-filter : (t : ℕ → Bool) (xs : List ℕ) (j : ℕ) → on (filter t xs) j ≡ true → (on xs j ≡ true) × (t j ≡ true)
 on-filter t [] j h = cc
 on-filter t (x ∷ xs) j h = on-filter_more t x xs j (on-filter t xs j) (t x) refl h
+
+-- a filter keeps the generals of a list different
+pub filter-distinct : (t : ℕ → Bool) (xs : List ℕ) → is_distinct xs ≡ true → is_distinct (filter t xs) ≡ true
+filter-distinct t [] d = refl
+filter-distinct t (x ∷ xs) d =
+    let both = and_parts (not (on xs x)) (is_distinct xs) d in
+    let rest : is_distinct (filter t xs) ≡ true = filter-distinct t xs both.1 in
+    let out : not (on (filter t xs) x) ≡ true = not_from_false (on (filter t xs) x) (filter-absent t xs x (not-true (on xs x) both.0)) in
+    elim (t x) as (λ b. is_distinct (cond b (x ∷ filter t xs) (filter t xs)) ≡ true) [
+      | true ↦ and_from (not (on (filter t xs) x)) (is_distinct (filter t xs)) out rest
+      | false ↦ rest
+    ]
+  where
+    filter-absent : (t : ℕ → Bool) (xs : List ℕ) (x : ℕ) → on xs x ≡ false → on (filter t xs) x ≡ false
+    filter-absent t xs x a =
+        elim (cases_Bool (on (filter t xs) x)) [
+          | inl there ↦ absurd (false≢true (sym a ∙ (on-filter t xs x there).0))
+          | inr out ↦ out
+        ]
+
+pub others-distinct : (n : ℕ) (w : List ℕ) → is_distinct (others n w) ≡ true
+others-distinct n w = filter-distinct (λ j. not (on w j)) (generals n) (range-distinct 0 n)
 
 -- the others are generals outside of the label
 pub others-on : (n : ℕ) (w : List ℕ) (j : ℕ) → on (others n w) j ≡ true → (j < n) × (on w j ≡ false)

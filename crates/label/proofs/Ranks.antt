@@ -31,10 +31,10 @@ tests_two true false true e = refl
 tests_two true false false true = refl
 tests_two true false false false = refl
 
-eqb_sym : (a b : ℕ) → (a == b) ≡ (b == a)
+pub eqb_sym : (a b : ℕ) → (a == b) ≡ (b == a)
 eqb_sym a b = grind (arith, nat_tests)
 
-is_distinct-push : (w : List ℕ) (j : ℕ) → is_distinct (w ++ j ∷ []) ≡ (is_distinct w && not (on w j))
+pub is_distinct-push : (w : List ℕ) (j : ℕ) → is_distinct (w ++ j ∷ []) ≡ (is_distinct w && not (on w j))
 is_distinct-push [] j = refl
 is_distinct-push (x ∷ xs) j =
     rw (on-push xs j x, is_distinct-push xs j, eqb_sym j x) (tests_one (on xs x) (x == j) (is_distinct xs) (on xs j))
@@ -118,7 +118,7 @@ pieces-length f s (y ∷ ys) same =
     omega (arith, length-append (f y) (flat_map f ys))
 
 -- the generals outside of a list, one by one
-range_push : (a n : ℕ) → range_with_len a (suc n) ≡ range_with_len a n ++ (a + n) ∷ []
+pub range_push : (a n : ℕ) → range_with_len a (suc n) ≡ range_with_len a n ++ (a + n) ∷ []
 range_push a zero = rw add-zero refl
 range_push a (suc n) =
     let s : (a + 1) + n ≡ a + suc n = omega arith in
@@ -181,7 +181,7 @@ or_swap true false = refl
 or_swap false true = refl
 or_swap false false = refl
 
-all_kept : (xs : List ℕ) → filter (λ j. not (on [] j)) xs ≡ xs
+pub all_kept : (xs : List ℕ) → filter (λ j. not (on [] j)) xs ≡ xs
 all_kept [] = refl
 all_kept (x ∷ xs) = ap (λ ys. x ∷ ys) (all_kept xs)
 

@@ -42,7 +42,9 @@ om f n M (suc k) w p = f (map (λ j. cond (j == p) (taken M w p) (om f n M k (w 
 
 -- a general tells each receiver what it took
 abbrev pub IsFaithful : ℕ → ℕ → ℕ → ℕ → Messages → ℕ → Type 0
-IsFaithful n c m order M g = (u : List ℕ) (p : ℕ) → IsLabel n c (u ++ g ∷ []) → length u ≤ m → p < n → on (u ++ g ∷ []) p ≡ false → M (u ++ g ∷ []) p ≡ Some (heard M order u g)
+IsFaithful n c m order M g =
+    (u : List ℕ) (p : ℕ) → IsLabel n c (u ++ g ∷ []) → length u ≤ m → p < n → on (u ++ g ∷ []) p ≡ false
+    → M (u ++ g ∷ []) p ≡ Some (heard M order u g)
 
 pub record IsLoyalLieutenant (n c : ℕ) (traitor : ℕ → Bool) (p : ℕ) : Type 0 where
   pub general : p < n
@@ -54,7 +56,7 @@ pub record Agree (n c order : ℕ) (traitor : ℕ → Bool) (decision : ℕ → 
   pub alike : (p q : ℕ) → IsLoyalLieutenant n c traitor p → IsLoyalLieutenant n c traitor q → decision p ≡ decision q
   pub obeyed : traitor c ≡ false → (p : ℕ) → IsLoyalLieutenant n c traitor p → decision p ≡ order
 
--- more than three times as many generals as traitors
+-- more than three times as many generals as traitors are provided for, and no more traitors than these
 pub record IsBound (n m : ℕ) (traitor : ℕ → Bool) : Type 0 where
   pub enough : 3 * m < n
   pub few : count_by traitor (generals n) ≤ m

@@ -1,7 +1,7 @@
 /// Whose relay it is: the general's, in this round, among so many generals under this commander.
 #[derive(Clone, Copy, Debug, PartialEq, Eq)]
 pub struct Shape {
-    /// How many generals there are, 2 to 13.
+    /// How many generals there are, at most 13.
     pub generals: u32,
     /// The commander's number.
     pub commander: u32,

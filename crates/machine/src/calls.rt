@@ -2,13 +2,14 @@
 ghost use Rattle.std.specs.Prelude.{◌≡◌, ◌<◌, ◌+◌, ◌-◌, ◌^◌, IsOk, Ok};
 ghost use Rattle.semantics.specs.State.{Next, given};
 ghost use Rattle.semantics.specs.Call.{helper_of, called, slot_in, word_in, argument, order_in, pointer_in, copy_of, orders_at, sign_in, pass_in, returned, sent, attempted};
+ghost use Rattle.semantics.specs.Limits.{board_words, most_generals, most_labels};
 ghost use Rattle.semantics.specs.Outbox.{at_place, along_row, at_receiver, as_taken};
 ghost use Rattle.machine.specs.Turn.{Turns, Asks, IsFree};
 
 use crate::activation::Activation;
 use crate::arguments::{argument, order, pointer, word};
 use crate::flow::Flow;
-use helper::helper_of;
+use helper::{BOARD_WORDS, MOST_GENERALS, MOST_LABELS, helper_of};
 use mem::{Context, load_row};
 use semantics::{Helper, Request, Slot, Span};
 
@@ -116,12 +117,14 @@ impl Activation {
 
     /// What board_copy asks.
     fn copy(&self) -> Request
-        requires { IsOk (given (slot_in self.now.state) (λ slot. given (pointer_in self.now.state 2) (λ to. given (argument self.now.state 3 65) (λ count. copy_of slot to count)))) }
-        ensures { given (slot_in self.now.state) (λ slot. given (pointer_in self.now.state 2) (λ to. given (argument self.now.state 3 65) (λ count. copy_of slot to count))) ≡ Ok result }
+        requires { IsOk (given (slot_in self.now.state) (λ slot. given (pointer_in self.now.state 2) (λ to.
+            given (argument self.now.state 3 (board_words + 1)) (λ count. copy_of slot to count)))) }
+        ensures { given (slot_in self.now.state) (λ slot. given (pointer_in self.now.state 2) (λ to.
+            given (argument self.now.state 3 (board_words + 1)) (λ count. copy_of slot to count))) ≡ Ok result }
     {
-        let slot = argument(self.registers.at(1), 64);
+        let slot = argument(self.registers.at(1), BOARD_WORDS);
         let _to = pointer(self.registers.at(2));
-        let count = argument(self.registers.at(3), 65);
+        let count = argument(self.registers.at(3), BOARD_WORDS + 1);
         let Some(span) = Span::new(slot, count) else {
             unreachable!()
         };
@@ -133,7 +136,7 @@ impl Activation {
         requires { IsOk (slot_in self.now.state) }
         ensures { slot_in self.now.state ≡ Ok result }
     {
-        let Some(slot) = Slot::new(argument(self.registers.at(1), 64)) else {
+        let Some(slot) = Slot::new(argument(self.registers.at(1), BOARD_WORDS)) else {
             unreachable!()
         };
         slot
@@ -141,17 +144,17 @@ impl Activation {
 
     /// An order for one receiver of a label.
     fn send(&mut self) -> Flow
-        requires free { IsOk (given (argument self.old.state 1 1016) (λ label. given (argument self.old.state 2 13) (λ receiver.
+        requires free { IsOk (given (argument self.old.state 1 most_labels) (λ label. given (argument self.old.state 2 most_generals) (λ receiver.
             given (order_in self.old.state 3) (λ order. Ok (at_place label receiver order))))) }
         requires inside { self.old.state.unit < 4096 }
         requires room { self.old.state.steps + 1 < 2 ^ 32 }
         ensures flow { result ≡ Flow.Onward }
-        ensures next { sent self.old.relay self.old.state (λ set. 1 - set) (given (argument self.old.state 1 1016) (λ label. given (argument self.old.state 2 13) (λ receiver.
+        ensures next { sent self.old.relay self.old.state (λ set. 1 - set) (given (argument self.old.state 1 most_labels) (λ label. given (argument self.old.state 2 most_generals) (λ receiver.
             given (order_in self.old.state 3) (λ order. Ok (at_place label receiver order))))) ≡ Next self.new.state }
         ensures relay { self.new.relay ≡ self.old.relay }
     {
-        let label = argument(self.registers.at(1), 1016) as u32;
-        let receiver = argument(self.registers.at(2), 13) as u32;
+        let label = argument(self.registers.at(1), MOST_LABELS) as u32;
+        let receiver = argument(self.registers.at(2), MOST_GENERALS) as u32;
         let order = order(self.registers.at(3));
         semantics::few_places_are_set();
         let there = self.outbox.put(label, receiver, order);
@@ -160,35 +163,37 @@ impl Activation {
 
     /// Orders for the receivers of a label.
     fn send_row(&mut self, context: &Context) -> Flow
-        requires free { IsOk (given (argument self.old.state 1 1016) (λ label. given (pointer_in self.old.state 2) (λ from. given (argument self.old.state 3 14) (λ count.
+        requires free { IsOk (given (argument self.old.state 1 most_labels) (λ label. given (pointer_in self.old.state 2) (λ from. given (argument self.old.state 3 (most_generals + 1)) (λ count.
             given (orders_at context.now self.old.state from count) (λ orders. Ok (along_row label orders)))))) }
         requires inside { self.old.state.unit < 4096 }
         requires room { self.old.state.steps + 1 < 2 ^ 32 }
         ensures flow { result ≡ Flow.Onward }
-        ensures next { sent self.old.relay self.old.state (λ set. set) (given (argument self.old.state 1 1016) (λ label. given (pointer_in self.old.state 2) (λ from. given (argument self.old.state 3 14) (λ count.
+        ensures next { sent self.old.relay self.old.state (λ set. set)
+            (given (argument self.old.state 1 most_labels) (λ label. given (pointer_in self.old.state 2) (λ from. given (argument self.old.state 3 (most_generals + 1)) (λ count.
             given (orders_at context.now self.old.state from count) (λ orders. Ok (along_row label orders)))))) ≡ Next self.new.state }
         ensures relay { self.new.relay ≡ self.old.relay }
     {
-        let label = argument(self.registers.at(1), 1016) as u32;
+        let label = argument(self.registers.at(1), MOST_LABELS) as u32;
         let from = pointer(self.registers.at(2));
-        let count = argument(self.registers.at(3), 14) as usize;
+        let count = argument(self.registers.at(3), MOST_GENERALS + 1) as usize;
         let Ok(orders) = load_row(&self.stack, context, from, count) else {
             unreachable!()
         };
-        let set = self.outbox.row(label, &orders[..count]);
+        let set = self.outbox.put_row(label, &orders[..count]);
         self.go_on(u64::from(set))
     }
 
     /// One order for a receiver, at every label.
     fn sway(&mut self) -> Flow
-        requires free { IsOk (given (argument self.old.state 1 13) (λ receiver. given (order_in self.old.state 2) (λ order. Ok (at_receiver receiver order)))) }
+        requires free { IsOk (given (argument self.old.state 1 most_generals) (λ receiver. given (order_in self.old.state 2) (λ order. Ok (at_receiver receiver order)))) }
         requires inside { self.old.state.unit < 4096 }
         requires room { self.old.state.steps + 1 < 2 ^ 32 }
         ensures flow { result ≡ Flow.Onward }
-        ensures next { sent self.old.relay self.old.state (λ set. set) (given (argument self.old.state 1 13) (λ receiver. given (order_in self.old.state 2) (λ order. Ok (at_receiver receiver order)))) ≡ Next self.new.state }
+        ensures next { sent self.old.relay self.old.state (λ set. set)
+            (given (argument self.old.state 1 most_generals) (λ receiver. given (order_in self.old.state 2) (λ order. Ok (at_receiver receiver order)))) ≡ Next self.new.state }
         ensures relay { self.new.relay ≡ self.old.relay }
     {
-        let receiver = argument(self.registers.at(1), 13) as u32;
+        let receiver = argument(self.registers.at(1), MOST_GENERALS) as u32;
         let order = order(self.registers.at(2));
         let set = self.outbox.sway(receiver, order);
         self.go_on(u64::from(set))
@@ -196,14 +201,14 @@ impl Activation {
 
     /// For a receiver the values that the general took.
     fn honest(&mut self, context: &Context) -> Flow
-        requires free { IsOk (given (argument self.old.state 1 13) (λ receiver. Ok (as_taken context.now receiver))) }
+        requires free { IsOk (given (argument self.old.state 1 most_generals) (λ receiver. Ok (as_taken context.now receiver))) }
         requires inside { self.old.state.unit < 4096 }
         requires room { self.old.state.steps + 1 < 2 ^ 32 }
         ensures flow { result ≡ Flow.Onward }
-        ensures next { sent self.old.relay self.old.state (λ set. set) (given (argument self.old.state 1 13) (λ receiver. Ok (as_taken context.now receiver))) ≡ Next self.new.state }
+        ensures next { sent self.old.relay self.old.state (λ set. set) (given (argument self.old.state 1 most_generals) (λ receiver. Ok (as_taken context.now receiver))) ≡ Next self.new.state }
         ensures relay { self.new.relay ≡ self.old.relay }
     {
-        let receiver = argument(self.registers.at(1), 13) as u32;
+        let receiver = argument(self.registers.at(1), MOST_GENERALS) as u32;
         let set = self.outbox.honest(context.bytes(), receiver);
         self.go_on(u64::from(set))
     }

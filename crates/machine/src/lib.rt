@@ -7,12 +7,10 @@ mod arithmetic;
 mod calls;
 mod execution;
 mod flow;
-mod pause;
 mod registers;
 mod replies;
+mod stop;
 mod tag;
-mod waiting;
 
 pub use activation::Activation;
-pub use pause::{Ended, Pause, Stop};
-pub use waiting::Waiting;
+pub use stop::Stop;

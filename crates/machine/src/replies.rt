@@ -15,8 +15,7 @@ use mem::store_words;
 use semantics::{Reply, Request, Span};
 
 impl Activation {
-    /// Goes on with the board's reply to what it asked, where it stands: [`crate::Waiting::answer`] of an
-    /// activation that is lent.
+    /// Goes on with the board's reply to what it asked.
     pub fn resume(&mut self, request: &Request, reply: &Reply)
         requires fits { fits request.now (words_in reply.now) ≡ true }
         ensures relay { self.new.relay ≡ self.old.relay }
@@ -24,18 +23,18 @@ impl Activation {
         ensures reached { (program : List Insn) (context : List ℕ) (answers : List (List ℕ)) → Reached program context self.old.relay answers (before self.old.state) →
             step program context self.old.relay (before self.old.state) ≡ Ask request.now self.old.state → Reached program context self.new.relay (answers ++ words_in reply.now ∷ []) self.new.state }
         ensures of_run { (program : List Insn) (context : List ℕ) →
-            IsAskOfRun program context (record { relay = self.old.relay; request = request.now; last = before self.old.state; state = self.old.state }) → IsOfRun program context self.new }
+            IsAskOfRun program context request.now self.old → IsOfRun program context self.new }
     {
         self.replied(*request, reply);
     }
 
-    /// Takes back what it asked, where it stands: [`crate::Waiting::cancel`] of an activation that is lent.
+    /// Takes back what it asked: the state is as before the request, and so is the count of steps.
     pub fn withdraw(&mut self)
         requires { HasAsked self.old.state }
         ensures relay { self.new.relay ≡ self.old.relay }
         ensures state { self.new.state ≡ before self.old.state }
         ensures of_run { (program : List Insn) (context : List ℕ) (request : Asked) →
-            IsAskOfRun program context (record { relay = self.old.relay; request = request; last = before self.old.state; state = self.old.state }) → IsOfRun program context self.new }
+            IsAskOfRun program context request self.old → IsOfRun program context self.new }
     {
         self.unit -= 1;
         self.steps -= 1;

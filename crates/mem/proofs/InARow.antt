@@ -19,7 +19,8 @@ use Rattle.mem.specs.Reading.{number_in}
 use Rattle.mem.specs.Rows.{row_at}
 use Rattle.mem.proofs.Parts.{take-split}
 use Rattle.mem.proofs.Loading.{cells_are, twice}
-use Rattle.mem.proofs.Writing.{overwritten-more, length-little}
+use Rattle.mem.proofs.Writing.{overwritten-more}
+use Rattle.semantics.proofs.WholeLaws.{length-words}
 
 -- the row that cells spell, where each is a byte
 abbrev pub numbers_of : Result (List ℕ) Cause → Result (List ℕ) Cause
@@ -182,15 +183,6 @@ length-region context stack Context s c = length-map context Byte ∙ c
 
 abbrev pub words_cells : List ℕ → List Cell
 words_cells words = map Byte (flat_map (little_bytes 8) words)
-
-length-words : (words : List ℕ) → length (flat_map (little_bytes 8) words) ≡ 8 * length words
-length-words [] = refl
-length-words (w ∷ words) =
-    let one : length (little_bytes 8 w) ≡ 8 = length-little 0 8 w in
-    let both : length (little_bytes 8 w ++ flat_map (little_bytes 8) words) ≡ length (little_bytes 8 w) + length (flat_map (little_bytes 8) words) =
-    length-append (little_bytes 8 w) (flat_map (little_bytes 8) words) in
-    let ih = length-words words in
-    omega (arith, one, both, ih)
 
 pub none_written : (cells : List Cell) (place : ℕ) → overwritten cells place [] ≡ cells
 none_written cells place =

@@ -7,6 +7,7 @@ use Rattle.word.specs.Bytes.{little_bytes}
 use Rattle.semantics.specs.declared.value.Cell.{Cell}
 use Rattle.semantics.specs.declared.value.Cell.TheVariants.{Byte}
 use Rattle.semantics.specs.Memory.{overwritten}
+use Rattle.semantics.proofs.WholeLaws.{length-bytes}
 
 -- one cell
 pub overwritten-one : (cells : List Cell) (place : ℕ) (cell : Cell) → place < length cells → set cells place cell ≡ overwritten cells place (cell ∷ [])
@@ -70,17 +71,13 @@ little_bytes-split a b n =
     let e : 0 + a ≡ a + 0 = omega arith in
     bytes_split 0 a b n ∙ ap (λ (l : List ℕ). little_bytes a n ++ l) (ap (λ (k : ℕ). bytes_low_first k b n) e ∙ high_bytes a 0 b n)
 
-pub length-little : (from size n : ℕ) → length (bytes_low_first from size n) ≡ size
-length-little from zero n = refl
-length-little from (suc size) n = ap suc (length-little (suc from) size n)
-
 -- a number is written by its low bytes, and then those above them
 pub written_both : (cells : List Cell) (place a b n : ℕ) → place + a ≤ length cells →
     overwritten (overwritten cells place (map Byte (little_bytes a n))) (place + a) (map Byte (little_bytes b (n / 256 ^ a))) ≡ overwritten cells place (map Byte (little_bytes (a + b) n))
 written_both cells place a b n fits =
     let xs = map Byte (little_bytes a n) in
     let ys = map Byte (little_bytes b (n / 256 ^ a)) in
-    let long : length xs ≡ a = length-map (little_bytes a n) Byte ∙ length-little 0 a n in
+    let long : length xs ≡ a = length-map (little_bytes a n) Byte ∙ length-bytes 0 a n in
     let room : place + length xs ≤ length cells = omega arith in
     ap (λ (k : ℕ). overwritten (overwritten cells place xs) (place + k) ys) (sym long)
     ∙ (overwritten-more cells place xs ys room

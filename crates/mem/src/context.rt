@@ -29,13 +29,22 @@ impl<'a> Context<'a> {
     /// How many bytes it has.
     pub const BYTES: usize = 4096;
 
+    /// The context of these bytes, which are 4,096.
+    pub fn new(bytes: &'a [u8]) -> Context<'a>
+        requires { length bytes.now ≡ 4096 }
+        ensures same { result ≡ bytes.now }
+        ensures context { IsContext bytes.now }
+    {
+        Context { bytes }
+    }
+
     /// The context of these bytes, where they are 4,096.
-    pub fn new(bytes: &'a [u8]) -> Option<Context<'a>>
+    pub fn try_new(bytes: &'a [u8]) -> Option<Context<'a>>
         ensures some { IfSome result (λ c. (c ≡ bytes.now) × IsContext bytes.now) }
         ensures none { IfNone result (length bytes.now ≢ 4096) }
     {
         if bytes.len() == Self::BYTES {
-            Some(Context { bytes })
+            Some(Self::new(bytes))
         } else {
             None
         }

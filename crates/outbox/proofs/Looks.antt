@@ -1,7 +1,7 @@
 -- The order at a place, and the outbox in which nothing is put.
 use Rattle.std.proofs.Common.{Some, Bool, true, ◌||◌, inl, inr, set, get_or-set_same, length-set, ℕ, zero, suc, ◌+◌, ◌<◌, ◌≤◌, ◌≡◌, List, [], ◌∷◌, map, length, get_or, refl, sym, ap, ◌∙◌, arith, None, Option, subst}
 use Rattle.std.specs.Prelude.{◌==◌, if◌then◌else◌}
-use Rattle.std.proofs.lemmas.List.{length-map}
+use Rattle.std.proofs.lemmas.List.{length-map, get_or_past}
 use Rattle.std.proofs.lemmas.Bool.{false≢true}
 use Rattle.std.proofs.lemmas.Bool.Decides.{eqb_tells}
 use Rattle.label.specs.Labels.{on}
@@ -11,15 +11,10 @@ use Rattle.semantics.specs.Relay.{Relay, relayed}
 use Rattle.semantics.specs.declared.entry.Entry.{Entry}
 use Rattle.semantics.specs.Outbox.{Place, places}
 use Rattle.semantics.proofs.PlacesLaws.{row_from, rows_from}
-use Rattle.outbox.specs.Rows.{RowOrders, receivers_in, orders_in, empty_row, row_for, order_in, put_row}
+use Rattle.outbox.specs.Rows.{RowOrders, receivers_in, orders_in, empty_row, row_for, order_in, put_in_row}
 use Rattle.outbox.specs.Contents.{Contents, contents_of, IsOutbox, order_among, order_at}
 use Rattle.outbox.proofs.Whole.{Stand, stand_parts, put_names}
 use Rattle.outbox.proofs.Single.{same_default, single_stands}
-
-get_past : {A : Type 0} (xs : List A) (i : ℕ) (d : A) → length xs ≤ i → get_or xs i d ≡ d
-get_past [] i d l = refl
-get_past (x ∷ xs) zero d l = absurd (omega arith)
-get_past (x ∷ xs) (suc i) d l = get_past xs i d (omega arith)
 
 none_among : (r : ℕ) (ps : List Place) → order_among r ps [] ≡ None
 none_among r [] = refl
@@ -48,7 +43,7 @@ pub order_past : (now : Contents) (relay : Relay) (entries : List Entry) (rows :
 order_past now relay entries rows label r seen l =
     let size : length (map orders_in rows) ≡ length rows = length-map rows orders_in in
     subst (λ (k : Contents). None ≡ order_at k.relay k.rows label r) seen
-    (sym (ap (order_among r (get_or (places relay) label [])) (get_past (map orders_in rows) label [] (omega arith)) ∙ none_among r (get_or (places relay) label [])))
+    (sym (ap (order_among r (get_or (places relay) label [])) (get_or_past (map orders_in rows) label [] (omega arith)) ∙ none_among r (get_or (places relay) label [])))
 
 pub order_found : (now : Contents) (relay : Relay) (entries : List Entry) (rows : List RowOrders) (label r : ℕ) (row : RowOrders) (o : Option ℕ) → contents_of relay entries rows ≡ now → IsOutbox relay rows → label < length rows → row ≡ get_or rows label row → o ≡ order_in r row → o ≡ order_at now.relay now.rows label r
 order_found now relay entries rows label r row o seen a l at is =
@@ -59,7 +54,7 @@ order_found now relay entries rows label r row o seen a l at is =
     ∙ ap (order_among r (get_or (places relay) label [])) (sym (get_orders rows label))))))
 
 -- what was put is found
-put_found : (r v : ℕ) (row : RowOrders) → on (receivers_in row) r ≡ true → Some v ≡ order_in r (put_row r v row)
+put_found : (r v : ℕ) (row : RowOrders) → on (receivers_in row) r ≡ true → Some v ≡ order_in r (put_in_row r v row)
 put_found r v [] h = absurd (false≢true h)
 put_found r v (p ∷ row) h =
     elim (eqb_tells p.0 r) [
@@ -67,7 +62,7 @@ put_found r v (p ∷ row) h =
       | inr apart ↦ rw apart.0 (put_found r v row (sym (ap (λ t. t || on (receivers_in row) r) apart.0) ∙ h))
     ]
 
-pub found_after : (relay : Relay) (rows : List RowOrders) (label r v : ℕ) (row new : RowOrders) (there : Bool) → IsOutbox relay rows → label < length rows → row ≡ get_or rows label row → new ≡ put_row r v row → there ≡ on (receivers_in row) r → there ≡ true
+pub found_after : (relay : Relay) (rows : List RowOrders) (label r v : ℕ) (row new : RowOrders) (there : Bool) → IsOutbox relay rows → label < length rows → row ≡ get_or rows label row → new ≡ put_in_row r v row → there ≡ on (receivers_in row) r → there ≡ true
     → order_at relay (map orders_in (set rows label new)) label r ≡ Some v
 found_after relay rows label r v row new there a l at is t yes_there =
     let stands : IsOutbox relay (set rows label new) = single_stands relay rows label row new a l at (ap receivers_in is ∙ put_names r v row) in

@@ -9,7 +9,7 @@ use Rattle.semantics.specs.Relay.{Relay, relayed}
 use Rattle.semantics.specs.declared.entry.Entry.{Entry}
 use Rattle.semantics.specs.Outbox.{Choice, written, places_set}
 use Rattle.semantics.proofs.PlacesLaws.{relays_few}
-use Rattle.outbox.specs.Rows.{RowOrders, receivers_in, orders_in, put_row}
+use Rattle.outbox.specs.Rows.{RowOrders, receivers_in, orders_in, put_in_row}
 use Rattle.outbox.specs.Contents.{Signing, relay_of, Contents, contents_of, IsOutbox}
 use Rattle.outbox.proofs.Whole.{put_first, found_first, first_names, first_next, first_more, found_more, all_written, all_set}
 
@@ -21,10 +21,10 @@ rows_few relay rows a =
     omega arith
 
 -- one row more
-pub sweep_step : (r : ℕ) (f : ℕ → ℕ) (m : ℕ) (rows cur : List RowOrders) (row new : RowOrders) → cur ≡ put_first r f 0 m rows → m < length rows → row ≡ get_or cur m row → new ≡ put_row r (f m) row → set cur m new ≡ put_first r f 0 (m + 1) rows
+pub sweep_step : (r : ℕ) (f : ℕ → ℕ) (m : ℕ) (rows cur : List RowOrders) (row new : RowOrders) → cur ≡ put_first r f 0 m rows → m < length rows → row ≡ get_or cur m row → new ≡ put_in_row r (f m) row → set cur m new ≡ put_first r f 0 (m + 1) rows
 sweep_step r f m rows cur row new e l at is =
     let was : row ≡ get_or rows m row = at ∙ (ap (λ xs. get_or xs m row) e ∙ first_next r f 0 m rows row l) in
-    let next : new ≡ put_row r (f (0 + m)) (get_or rows m row) = is ∙ (ap (λ k. put_row r (f k) row) (sym (zero-add m)) ∙ ap (put_row r (f (0 + m))) was) in
+    let next : new ≡ put_in_row r (f (0 + m)) (get_or rows m row) = is ∙ (ap (λ k. put_in_row r (f k) row) (sym (zero-add m)) ∙ ap (put_in_row r (f (0 + m))) was) in
     ap (λ xs. set xs m new) e ∙ (ap (set (put_first r f 0 m rows) m) next ∙ (first_more r f 0 m rows row l ∙ ap (λ k. put_first r f 0 k rows) (sym (add-one m))))
 
 pub count_step : (r : ℕ) (f : ℕ → ℕ) (m count : ℕ) (rows cur : List RowOrders) (row : RowOrders) (there : Bool) → cur ≡ put_first r f 0 m rows → m < length rows → row ≡ get_or cur m row → there ≡ on (receivers_in row) r → count ≡ found_first r m rows → count + cond {A = ℕ} there 1 0 ≡ found_first r (m + 1) rows

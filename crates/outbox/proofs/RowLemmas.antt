@@ -8,7 +8,7 @@ use Rattle.label.specs.Oral.{AllBelow}
 use Rattle.label.proofs.Bounds.{others_length_more, on-get_or}
 use Rattle.label.proofs.Counting.{others-on, on-push}
 use Rattle.label.proofs.Ranks.{others-more_no, others-more_yes}
-use Rattle.outbox.specs.Rows.{RowOrders, receivers_in, row_of, empty_row, put_row, filled, order_in}
+use Rattle.outbox.specs.Rows.{RowOrders, receivers_in, row_of, empty_row, put_in_row, filled, order_in}
 
 -- the receivers of a row
 pub names_in : (os : List (Option ℕ)) (ns : List ℕ) → receivers_in (row_of os ns) ≡ ns
@@ -31,19 +31,19 @@ put_at os n r v l =
       | inr apart ↦ rw apart.0 (get_or-set_other os r n (Some v) None apart.1)
     ]
 
-pub row_put : (os : List (Option ℕ)) (ns : List ℕ) (r v : ℕ) → r < length os → row_of (set os r (Some v)) ns ≡ put_row r v (row_of os ns)
+pub row_put : (os : List (Option ℕ)) (ns : List ℕ) (r v : ℕ) → r < length os → row_of (set os r (Some v)) ns ≡ put_in_row r v (row_of os ns)
 row_put os [] r v l = refl
 row_put os (n ∷ ns) r v l =
     let here : get_or (set os r (Some v)) n None ≡ (if n == r then Some v else get_or os n None) = put_at os n r v l in
-    let rest : row_of (set os r (Some v)) ns ≡ put_row r v (row_of os ns) = row_put os ns r v l in
+    let rest : row_of (set os r (Some v)) ns ≡ put_in_row r v (row_of os ns) = row_put os ns r v l in
     rw (here, rest) refl
 
-pub row_kept : (row : RowOrders) (r v : ℕ) → on (receivers_in row) r ≡ false → row ≡ put_row r v row
+pub row_kept : (row : RowOrders) (r v : ℕ) → on (receivers_in row) r ≡ false → row ≡ put_in_row r v row
 row_kept [] r v a = refl
 row_kept (p ∷ row) r v a =
     let parts = or_parts (p.0 == r) (on (receivers_in row) r) a in
     let here : (if p.0 == r then Some v else p.1) ≡ p.1 = rw parts.0 refl in
-    let rest : row ≡ put_row r v row = row_kept row r v parts.1 in
+    let rest : row ≡ put_in_row r v row = row_kept row r v parts.1 in
     rw (here, ← rest) refl
 
 -- the order of one receiver

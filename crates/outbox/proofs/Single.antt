@@ -8,12 +8,13 @@ use Rattle.label.specs.Labels.{on, is_distinct}
 use Rattle.semantics.specs.Relay.{Relay, relayed}
 use Rattle.semantics.specs.declared.entry.Entry.{Entry}
 use Rattle.semantics.specs.Outbox.{Choice, written, places_set, at_place, along_row}
-use Rattle.semantics.proofs.PlacesLaws.{row_from, sets, others-distinct}
-use Rattle.outbox.specs.Rows.{RowOrders, receivers_in, orders_in, put_row, filled}
+use Rattle.semantics.proofs.PlacesLaws.{row_from, sets}
+use Rattle.outbox.specs.Rows.{RowOrders, receivers_in, orders_in, put_in_row, filled}
 use Rattle.outbox.specs.Contents.{Contents, contents_of, IsOutbox}
 use Rattle.outbox.proofs.Writing.{row_written, row_one_written, row_along_written, sets_one, sets_along}
 use Rattle.outbox.proofs.Whole.{Stand, stand_parts}
 use Rattle.outbox.proofs.One.{OnlyAt, kept_written, kept_unset, one_written, one_set, set_stands}
+use Rattle.label.proofs.Counting.{others-distinct}
 
 -- an element that is there
 pub same_default : {A : Type 0} (xs : List A) (i : ℕ) (d e : A) → i < length xs → get_or xs i d ≡ get_or xs i e
@@ -62,7 +63,7 @@ only_place label r v k b n ne = ap (λ t. if t && (n == r) then Some v else None
 at_label : (label r v b n : ℕ) → at_place label r v (record { rank = label; number = b; receiver = n }) ≡ (if n == r then Some v else None)
 at_label label r v b n = ap (λ t. if t && (n == r) then Some v else None) (eq-eqb label label refl)
 
-pub place_written : (now : Contents) (relay : Relay) (entries : List Entry) (rows : List RowOrders) (label r v : ℕ) (row new : RowOrders) → contents_of relay entries rows ≡ now → IsOutbox relay rows → label < length rows → row ≡ get_or rows label row → new ≡ put_row r v row → map orders_in (set rows label new) ≡ written now.relay (at_place label r v) now.rows
+pub place_written : (now : Contents) (relay : Relay) (entries : List Entry) (rows : List RowOrders) (label r v : ℕ) (row new : RowOrders) → contents_of relay entries rows ≡ now → IsOutbox relay rows → label < length rows → row ≡ get_or rows label row → new ≡ put_in_row r v row → map orders_in (set rows label new) ≡ written now.relay (at_place label r v) now.rows
 place_written now relay entries rows label r v row new seen a l at is =
     single_written (at_place label r v) now relay entries rows label row new (only_place label r v) seen a l at (row_one_written (at_place label r v) r v label (at_label label r v) 0 row ∙ ap orders_in (sym is))
 

@@ -2,7 +2,7 @@
 use Rattle.std.proofs.Common.{ℕ, zero, suc, ◌+◌, ◌<◌, ◌≡◌, Bool, true, List, [], ◌∷◌, map, length, get_or, set, replicate, refl, sym, ap, subst, ◌∙◌, arith, Some, None, Option, add-one, add-zero, zero-add, inl, inr}
 use Rattle.std.specs.Prelude.{◌==◌, if◌then◌else◌}
 use Rattle.std.proofs.lemmas.Bool.{eq-eqb, or_left, or_right, cases_lt}
-use Rattle.std.proofs.lemmas.List.{get_or_past}
+use Rattle.std.proofs.lemmas.List.{get_or_past, get_or-replicate}
 use Rattle.label.specs.declared.shape.Shape.{Shape}
 use Rattle.label.specs.Labels.{on}
 use Rattle.label.specs.Relay.{receivers}
@@ -18,11 +18,6 @@ use Rattle.outbox.proofs.RowLemmas.{on-below}
 use Rattle.outbox.proofs.Whole.{Stand, stand_parts}
 
 -- thirteen places alike
-alike_at : (m order n : ℕ) → n < m → get_or (replicate m order) n 0 ≡ order
-alike_at zero order n lt = absurd (omega arith)
-alike_at (suc m) order zero lt = refl
-alike_at (suc m) order (suc n) lt = alike_at m order n (omega arith)
-
 long_alike : (m order : ℕ) → length (replicate m order) ≡ m
 long_alike zero order = refl
 long_alike (suc m) order = ap suc (long_alike m order)
@@ -32,7 +27,7 @@ kept_alike mask order n lt =
     let e : 0 + n ≡ n = omega arith in
     let long : length (replicate 13 order) ≡ 13 = long_alike 13 order in
     kept_at mask 0 n (replicate 13 order) (omega arith) ∙ (ap (λ k. if has_bit mask k then Some (get_or (replicate 13 order) n 0) else None) e
-    ∙ ap (λ v. if has_bit mask n then Some v else None) (alike_at 13 order n lt))
+    ∙ ap (λ v. if has_bit mask n then Some v else None) (get_or-replicate 13 n order 0 lt))
 
 -- a row of them
 pub row_all : (os new : List (Option ℕ)) (ns : List ℕ) (order : ℕ) → ((n : ℕ) → on ns n ≡ true → get_or new n None ≡ Some order) → row_of new ns ≡ all_put order (row_of os ns)

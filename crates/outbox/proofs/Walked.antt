@@ -12,7 +12,7 @@ use Rattle.label.specs.declared.shape.Shape.{Shape}
 use Rattle.label.specs.Labels.{on, others, generals, labels}
 use Rattle.label.specs.Relay.{receivers}
 use Rattle.label.proofs.Counting.{on-push}
-use Rattle.label.proofs.Ranks.{children, labels-next}
+use Rattle.label.proofs.Ranks.{children, labels-next, eqb_sym}
 use Rattle.label.proofs.Places.{first_label}
 use Rattle.outbox.specs.Rows.{RowOrders, row_for}
 use Rattle.outbox.specs.Receivers.{struck, rows_under}
@@ -28,9 +28,6 @@ others_twice n p = filter_agree (λ x. not (on (p ∷ p ∷ []) x)) (λ x. not (
     twice : (b : Bool) → (b || (b || false)) ≡ (b || false)
     twice true = refl
     twice false = refl
-
-eqb_sym : (a b : ℕ) → (a == b) ≡ (b == a)
-eqb_sym a b = grind (arith, nat_tests)
 
 -- one general more on the label
 both : (a b c : Bool) → not ((a || b) || c) ≡ (not (a || c) && not b)

@@ -6,9 +6,10 @@ use Rattle.label.specs.Labels.{on}
 use Rattle.label.specs.Relay.{receivers}
 use Rattle.semantics.specs.State.{Outbox}
 use Rattle.semantics.specs.Outbox.{Choice}
-use Rattle.semantics.proofs.PlacesLaws.{row_from, sets, rows_from, sets_in, sets_in-cons, others-distinct}
-use Rattle.outbox.specs.Rows.{RowOrders, receivers_in, orders_in, put_row}
+use Rattle.semantics.proofs.PlacesLaws.{row_from, sets, rows_from, sets_in, sets_in-cons}
+use Rattle.outbox.specs.Rows.{RowOrders, receivers_in, orders_in, put_in_row}
 use Rattle.outbox.proofs.Writing.{row_written, row_one_written, sets_one}
+use Rattle.label.proofs.Counting.{others-distinct}
 
 -- rows of which each is its label's
 abbrev pub Stand : Shape → List RowOrders → List (List ℕ) → Type 0
@@ -22,7 +23,7 @@ rows_written choice s a ws outbox = map (λ row. row_written choice row.0 row.1)
 abbrev pub put_first : ℕ → (ℕ → ℕ) → ℕ → ℕ → List RowOrders → List RowOrders
 put_first r f a zero rows = rows
 put_first r f a (suc m) [] = []
-put_first r f a (suc m) (row ∷ rows) = put_row r (f a) row ∷ put_first r f (a + 1) m rows
+put_first r f a (suc m) (row ∷ rows) = put_in_row r (f a) row ∷ put_first r f (a + 1) m rows
 
 -- how many of them have him
 abbrev pub found_first : ℕ → ℕ → List RowOrders → ℕ
@@ -30,7 +31,7 @@ found_first r zero rows = 0
 found_first r (suc m) [] = 0
 found_first r (suc m) (row ∷ rows) = cond {A = ℕ} (on (receivers_in row) r) 1 0 + found_first r m rows
 
-pub put_names : (r v : ℕ) (row : RowOrders) → receivers_in (put_row r v row) ≡ receivers_in row
+pub put_names : (r v : ℕ) (row : RowOrders) → receivers_in (put_in_row r v row) ≡ receivers_in row
 put_names r v [] = refl
 put_names r v (p ∷ row) = ap (λ xs. p.0 ∷ xs) (put_names r v row)
 
@@ -50,12 +51,12 @@ first_next r f a m [] d l = absurd (omega arith)
 first_next r f a zero (row ∷ rows) d l = refl
 first_next r f a (suc m) (row ∷ rows) d l = first_next r f (a + 1) m rows d (omega arith)
 
-pub first_more : (r : ℕ) (f : ℕ → ℕ) (a m : ℕ) (rows : List RowOrders) (d : RowOrders) → m < length rows → set (put_first r f a m rows) m (put_row r (f (a + m)) (get_or rows m d)) ≡ put_first r f a (suc m) rows
+pub first_more : (r : ℕ) (f : ℕ → ℕ) (a m : ℕ) (rows : List RowOrders) (d : RowOrders) → m < length rows → set (put_first r f a m rows) m (put_in_row r (f (a + m)) (get_or rows m d)) ≡ put_first r f a (suc m) rows
 first_more r f a m [] d l = absurd (omega arith)
 first_more r f a zero (row ∷ rows) d l = rw (add-zero a) refl
 first_more r f a (suc m) (row ∷ rows) d l =
     let e : a + suc m ≡ a + 1 + m = omega arith in
-    rw e (ap (λ xs. put_row r (f a) row ∷ xs) (first_more r f (a + 1) m rows d (omega arith)))
+    rw e (ap (λ xs. put_in_row r (f a) row ∷ xs) (first_more r f (a + 1) m rows d (omega arith)))
 
 pub found_more : (r m : ℕ) (rows : List RowOrders) (d : RowOrders) → m < length rows → found_first r (suc m) rows ≡ found_first r m rows + cond {A = ℕ} (on (receivers_in (get_or rows m d)) r) 1 0
 found_more r m [] d l = absurd (omega arith)
@@ -87,7 +88,7 @@ all_written choice s r f goes a [] (w ∷ ws) e = cc
 all_written choice s r f goes a (row ∷ rows) [] e = cc
 all_written choice s r f goes a (row ∷ rows) (w ∷ ws) e =
     let parts = stand_parts s row rows w ws e in
-    let here : row_written choice (row_from a 0 (receivers s w)) (orders_in row) ≡ orders_in (put_row r (f a) row) = rw (← parts.0) (row_one_written choice r (f a) a (goes a) 0 row) in
+    let here : row_written choice (row_from a 0 (receivers s w)) (orders_in row) ≡ orders_in (put_in_row r (f a) row) = rw (← parts.0) (row_one_written choice r (f a) a (goes a) 0 row) in
     let rest : rows_written choice s (a + 1) ws (map orders_in rows) ≡ map orders_in (put_first r f (a + 1) (length rows) rows) = all_written choice s r f goes (a + 1) rows ws parts.1 in
     rw (here, rest) refl
 

@@ -6,7 +6,7 @@ use Rattle.std.proofs.lemmas.Bool.Decides.{eqb_tells}
 use Rattle.label.specs.Labels.{on, is_distinct}
 use Rattle.semantics.specs.Outbox.{Place, Choice, newer}
 use Rattle.semantics.proofs.PlacesLaws.{row_from, sets, sets-cons}
-use Rattle.outbox.specs.Rows.{RowOrders, receivers_in, orders_in, put_row, filled}
+use Rattle.outbox.specs.Rows.{RowOrders, receivers_in, orders_in, put_in_row, filled}
 
 -- a row after a choice
 abbrev pub row_written : Choice → List Place → List (Option ℕ) → List (Option ℕ)
@@ -17,7 +17,7 @@ newer_if true v o = refl
 newer_if false v o = refl
 
 -- by the receiver
-pub row_one_written : (choice : Choice) (r v k : ℕ) → ((b n : ℕ) → choice (record { rank = k; number = b; receiver = n }) ≡ (if n == r then Some v else None)) → (b : ℕ) (row : RowOrders) → row_written choice (row_from k b (receivers_in row)) (orders_in row) ≡ orders_in (put_row r v row)
+pub row_one_written : (choice : Choice) (r v k : ℕ) → ((b n : ℕ) → choice (record { rank = k; number = b; receiver = n }) ≡ (if n == r then Some v else None)) → (b : ℕ) (row : RowOrders) → row_written choice (row_from k b (receivers_in row)) (orders_in row) ≡ orders_in (put_in_row r v row)
 row_one_written choice r v k goes b [] = refl
 row_one_written choice r v k goes b (p ∷ row) =
     rw (goes b p.0, newer_if (p.0 == r) v p.1, row_one_written choice r v k goes (b + 1) row) refl

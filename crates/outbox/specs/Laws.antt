@@ -10,9 +10,9 @@ abbrev pub place_among : ℕ → List Place → Option Place
 place_among receiver [] = None
 place_among receiver (p ∷ ps) = if p.receiver == receiver then Some p else place_among receiver ps
 
--- the place of a label and receiver, where there is one
+-- the place of a receiver of the label of that rank, where there is one
 abbrev pub place_of : Relay → ℕ → ℕ → Option Place
-place_of relay label receiver = place_among receiver (slice_index_or (places relay) label [])
+place_of relay rank receiver = place_among receiver (slice_index_or (places relay) rank [])
 
 -- what a place gives after a choice: the order put there, else what it gave before
 abbrev pub order_after : Choice → Option Place → Option ℕ → Option ℕ
@@ -21,6 +21,6 @@ order_after choice (Some place) before = newer (choice place) before
 
 -- whatever places a helper chooses (one, a row's, a receiver's, those of taken values), each gives the last order put there, and the others give what they gave
 pub record LastOrdersAreGiven : Type 0 where
-  pub gives : (relay : Relay) (choice : Choice) (outbox : Outbox) (label receiver : ℕ) → HasPlaces relay outbox →
-      order_at relay (written relay choice outbox) label receiver ≡ order_after choice (place_of relay label receiver) (order_at relay outbox label receiver)
+  pub gives : (relay : Relay) (choice : Choice) (outbox : Outbox) (rank receiver : ℕ) → HasPlaces relay outbox →
+      order_at relay (written relay choice outbox) rank receiver ≡ order_after choice (place_of relay rank receiver) (order_at relay outbox rank receiver)
   pub stays : (relay : Relay) (choice : Choice) (outbox : Outbox) → HasPlaces relay outbox → HasPlaces relay (written relay choice outbox)

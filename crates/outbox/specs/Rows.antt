@@ -39,8 +39,8 @@ row_for s label = empty_row (receivers s label)
 abbrev pub put_one : ℕ → ℕ → ℕ × Option ℕ → ℕ × Option ℕ
 put_one receiver order p = (p.0, (if p.0 == receiver then Some order else p.1))
 
-abbrev pub put_row : ℕ → ℕ → RowOrders → RowOrders
-put_row receiver order row = map (put_one receiver order) row
+abbrev pub put_in_row : ℕ → ℕ → RowOrders → RowOrders
+put_in_row receiver order row = map (put_one receiver order) row
 
 -- one order for all
 abbrev pub all_put : ℕ → RowOrders → RowOrders

@@ -2,10 +2,10 @@
 #![tactic(auto)]
 
 mod context;
-mod kept;
 mod laws;
 mod mask;
 mod orders;
+mod orders_by_number;
 mod receivers;
 mod relays;
 mod row;

@@ -119,28 +119,28 @@ impl Outbox {
     }
 
     /// Puts an order for a receiver of a label, by its rank, in place of an earlier one: whether there is such a place.
-    pub fn put(&mut self, label: u32, receiver: u32, value: u32) -> bool
+    pub fn put(&mut self, rank: u32, receiver: u32, value: u32) -> bool
         ensures relay { self.new.relay ≡ self.old.relay }
         ensures entries { self.new.entries ≡ self.old.entries }
-        ensures rows { self.new.rows ≡ written self.old.relay (at_place label receiver value) self.old.rows }
-        ensures there { IsTrue result ↔ (0 < places_set self.old.relay (at_place label receiver value)) }
-        ensures found { IsTrue result → order_at self.new.relay self.new.rows label receiver ≡ Some value }
+        ensures rows { self.new.rows ≡ written self.old.relay (at_place rank receiver value) self.old.rows }
+        ensures there { IsTrue result ↔ (0 < places_set self.old.relay (at_place rank receiver value)) }
+        ensures found { IsTrue result → order_at self.new.relay self.new.rows rank receiver ≡ Some value }
     {
-        let rank = label as usize;
+        let rank = rank as usize;
         if rank >= self.rows.len() {
             return false;
         }
         self.rows[rank].put(receiver, value)
     }
 
-    /// Puts orders for the receivers of a label, ascending, as many as there are: how many were put.
-    pub fn row(&mut self, label: u32, orders: &[u32]) -> u32
+    /// Puts orders for the receivers of a label, by its rank, ascending, as many as there are: how many were put.
+    pub fn put_row(&mut self, rank: u32, orders: &[u32]) -> u32
         ensures relay { self.new.relay ≡ self.old.relay }
         ensures entries { self.new.entries ≡ self.old.entries }
-        ensures rows { self.new.rows ≡ written self.old.relay (along_row label orders.now) self.old.rows }
-        ensures count { result ≡ places_set self.old.relay (along_row label orders.now) }
+        ensures rows { self.new.rows ≡ written self.old.relay (along_row rank orders.now) self.old.rows }
+        ensures count { result ≡ places_set self.old.relay (along_row rank orders.now) }
     {
-        let rank = label as usize;
+        let rank = rank as usize;
         if rank >= self.rows.len() {
             return 0;
         }
@@ -194,23 +194,23 @@ impl Outbox {
         }
     }
 
-    /// The order at a place, where there is such a place and an order was put.
-    pub fn get(&self, label: u32, receiver: u32) -> Option<u32>
-        ensures { result ≡ order_at self.now.relay self.now.rows label receiver }
+    /// The order for a receiver of the label of that rank, where there is such a place and an order was put.
+    pub fn get(&self, rank: u32, receiver: u32) -> Option<u32>
+        ensures { result ≡ order_at self.now.relay self.now.rows rank receiver }
     {
-        let rank = label as usize;
+        let rank = rank as usize;
         if rank >= self.rows.len() {
             return None;
         }
         self.rows[rank].order(receiver)
     }
 
-    /// The orders for a label, where there is such a label.
-    pub fn orders(&self, label: u32) -> Option<&Row>
-        ensures none { IsNone result ↔ (length self.now.rows ≤ label) }
-        ensures orders { (receiver : ℕ) → order_of_row result receiver ≡ order_at self.now.relay self.now.rows label receiver }
+    /// The orders for the label of that rank, where there is such a label.
+    pub fn orders(&self, rank: u32) -> Option<&Row>
+        ensures none { IsNone result ↔ (length self.now.rows ≤ rank) }
+        ensures orders { (receiver : ℕ) → order_of_row result receiver ≡ order_at self.now.relay self.now.rows rank receiver }
     {
-        let rank = label as usize;
+        let rank = rank as usize;
         if rank >= self.rows.len() {
             return None;
         }
@@ -228,19 +228,19 @@ impl Outbox {
     }
 
     /// Who hears of the label of that rank, ascending.
-    pub fn receivers(&self, label: u32) -> &[u8]
-        requires { label < length self.now.rows }
-        ensures row { slice_get (map (receivers self.now.relay.shape) (relayed self.now.relay)) label ≡ Some result.now }
-        ensures long { length result.now ≡ length (slice_index_or self.now.rows label []) }
+    pub fn receivers(&self, rank: u32) -> &[u8]
+        requires { rank < length self.now.rows }
+        ensures row { slice_get (map (receivers self.now.relay.shape) (relayed self.now.relay)) rank ≡ Some result.now }
+        ensures long { length result.now ≡ length (slice_index_or self.now.rows rank []) }
     {
-        self.rows[label as usize].receivers()
+        self.rows[rank as usize].receivers()
     }
 
-    /// The order for the receiver of that number among those of a label, from 0, where there is such a place and an order was put.
-    pub fn at(&self, label: u32, number: usize) -> Option<u32>
-        ensures { result ≡ slice_index_or (slice_index_or self.now.rows label []) number None }
+    /// The order for the receiver of that number among those of the label of that rank, from 0, where there is such a place and an order was put.
+    pub fn at(&self, rank: u32, number: usize) -> Option<u32>
+        ensures { result ≡ slice_index_or (slice_index_or self.now.rows rank []) number None }
     {
-        let rank = label as usize;
+        let rank = rank as usize;
         if rank >= self.rows.len() {
             return None;
         }

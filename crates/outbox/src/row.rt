@@ -1,9 +1,9 @@
 ghost use Rattle.std.specs.Prelude.{◌≡◌, ◌≤◌, ◌↔◌, [], map, length, true, None, IsTrue, slice_index_or, min};
 ghost use Rattle.label.specs.Labels.{on, is_distinct};
 ghost use Rattle.label.specs.Oral.{AllBelow};
-ghost use Rattle.outbox.specs.Rows.{empty_row, receivers_in, orders_in, put_row, all_put, filled, order_in, row_of, IsRow};
+ghost use Rattle.outbox.specs.Rows.{empty_row, receivers_in, orders_in, put_in_row, all_put, filled, order_in, row_of, IsRow};
 
-use crate::kept::Kept;
+use crate::orders_by_number::OrdersByNumber;
 use crate::receivers::Receivers;
 use std::marker::Model;
 
@@ -12,7 +12,7 @@ use std::marker::Model;
 pub struct Row {
     receivers: Receivers,
     /// By the receiver's number; nothing at the other numbers.
-    orders: Kept,
+    orders: OrdersByNumber,
 }
 
 impl Model for Row {
@@ -33,7 +33,7 @@ impl Row {
         let _some = receivers.generals();
         Row {
             receivers,
-            orders: Kept::nothing(),
+            orders: OrdersByNumber::nothing(),
         }
     }
 
@@ -46,7 +46,7 @@ impl Row {
 
     /// Puts the receiver's order: whether he is among the receivers.
     pub(crate) fn put(&mut self, receiver: u32, order: u32) -> bool
-        ensures row { self.new ≡ put_row receiver order self.old }
+        ensures row { self.new ≡ put_in_row receiver order self.old }
         ensures there { result ≡ on (receivers_in self.old) receiver }
     {
         let there = self.receivers.has(receiver);
@@ -60,7 +60,7 @@ impl Row {
     pub(crate) fn put_all(&mut self, order: u32)
         ensures { self.new ≡ all_put order self.old }
     {
-        self.orders = Kept::alike(order, self.receivers.mask());
+        self.orders = OrdersByNumber::alike(order, self.receivers.mask());
     }
 
     /// Puts orders for the receivers, ascending, as many as there are: how many.
@@ -120,7 +120,7 @@ impl Row {
 }
 
 /// The order for the receiver of that number, where there is one.
-fn numbered(receivers: &[u8], kept: &Kept, number: usize) -> Option<u32>
+fn numbered(receivers: &[u8], kept: &OrdersByNumber, number: usize) -> Option<u32>
     ensures { result ≡ slice_index_or (orders_in (row_of kept.now receivers.now)) number None }
 {
     if number >= receivers.len() {
@@ -130,7 +130,7 @@ fn numbered(receivers: &[u8], kept: &Kept, number: usize) -> Option<u32>
 }
 
 /// Puts orders, by number, for the first of the receivers: how many.
-fn fill(receivers: &[u8], kept: &mut Kept, orders: &[u32]) -> u32
+fn fill(receivers: &[u8], kept: &mut OrdersByNumber, orders: &[u32]) -> u32
     requires row { IsRow kept.old receivers.now }
     requires few { length receivers.now ≤ 13 }
     ensures row { row_of kept.new receivers.now ≡ filled orders.now (row_of kept.old receivers.now) }

@@ -1,7 +1,7 @@
 //! The post. Of each general, letters are taken in the order in which he has posted them, each once.
 ghost use Rattle.std.specs.Prelude.{◌≡◌, ℕ, ◌<◌, ◌++◌, ◌∷◌, [], List, All, map, true, length, IfOk, IfErr, slice_index_or, MatchOption, MatchResult};
 ghost use Rattle.crossbeam_queue.specs.Passes.{view, IsPassOf};
-ghost use Rattle.round.specs.Letters.{Letter as Written};
+ghost use Rattle.round.specs.Letters.{Letter as LetterSeen};
 ghost use Rattle.post.specs.Delivery.{AreDelivered, posted};
 ghost use Rattle.post.specs.Seen.{PosterSeen, poster_seen, collector_seen};
 
@@ -107,7 +107,7 @@ impl Post {
         requires posters { All (λ p. p.post ≡ self.post) posters.items }
         requires collector { collector.post ≡ self.post }
         ensures left { IfOk result (λ left. AreDelivered (collector.taken ++ left.items) (map (λ p. posted p.general p.posted) posters.items)) }
-        ensures lost { IfErr result (λ _. (queued : List Written) × AreDelivered (collector.taken ++ queued) (map (λ p. posted p.general p.posted) posters.items)) }
+        ensures lost { IfErr result (λ _. (queued : List LetterSeen) × AreDelivered (collector.taken ++ queued) (map (λ p. posted p.general p.posted) posters.items)) }
     {
         let Post { queue, alloc } = self;
         let Collector { pass } = collector;

@@ -22,9 +22,9 @@ part xs a b (suc n) l =
     rw (more, part xs a (b + 1) n (omega arith), next) refl
 
 -- with one relay left
-pub step-one : (f : List ℕ → ℕ) (t : LieutenantTree) (k size rank place width own : ℕ) (children : List (Option ℕ)) → k ≡ 1 → own ≡ order_at_rank t size rank → width ≡ t.generals - 1 - size → rank * width + width ≤ length (level_of t (size + 1)) → children ≡ slice_range (level_of t (size + 1)) (rank * width) (rank * width + width) → f (with_own children place own) ≡ decided f t k size rank place
+pub step-one : (f : List ℕ → ℕ) (t : LieutenantTree) (k size rank lower_off width own : ℕ) (children : List (Option ℕ)) → k ≡ 1 → own ≡ order_at_rank t size rank → width ≡ t.generals - 1 - size → rank * width + width ≤ length (level_of t (size + 1)) → children ≡ slice_range (level_of t (size + 1)) (rank * width) (rank * width + width) → f (with_own children lower_off own) ≡ decided f t k size rank lower_off
 unfolding decided
-step-one f t k size rank place width own children one eo ew l ec =
+step-one f t k size rank lower_off width own children one eo ew l ec =
     let next : size + 1 ≡ suc size = omega arith in
     let add : rank * width + 0 ≡ rank * width = omega arith in
     let wide : (rank * width + width) - rank * width ≡ width = omega arith in

@@ -12,8 +12,8 @@ use Rattle.label.proofs.Ranks.{others-at}
 use Rattle.label.proofs.Listing.{proved_labels_are_exact}
 use Rattle.label.proofs.Places.{first_label, children_stand, count_is_product}
 use Rattle.tree.specs.LieutenantTree.{LieutenantTree, IsCampaign}
-use Rattle.resolve.specs.Decided.{child_place}
-use Rattle.resolve.specs.Upward.{label_at, place_at}
+use Rattle.resolve.specs.Decided.{child_lower_off}
+use Rattle.resolve.specs.Upward.{label_at, lower_off_at}
 use Rattle.resolve.proofs.Below.{child-below}
 
 -- the label at a rank stands there
@@ -29,9 +29,9 @@ off-child : (n p : ℕ) (w : List ℕ) (i j : ℕ) → slice_get (others n (p �
 off-child n p w i j h = (others-on n (p ∷ w) j (on-get (others n (p ∷ w)) i j h)).1
 
 -- the commander alone
-pub place-one : (t : LieutenantTree) (size rank place : ℕ) → IsCampaign t → size ≡ 1 → rank < length (labels t.generals t.commander t.general size) → place ≡ length (others t.general (t.commander ∷ [])) → place ≡ place_at t size rank
-unfolding place_at
-place-one t size rank place is one l e =
+pub place-one : (t : LieutenantTree) (size rank lower_off : ℕ) → IsCampaign t → size ≡ 1 → rank < length (labels t.generals t.commander t.general size) → lower_off ≡ length (others t.general (t.commander ∷ [])) → lower_off ≡ lower_off_at t size rank
+unfolding lower_off_at
+place-one t size rank lower_off is one l e =
     let first : labels t.generals t.commander t.general 1 ≡ (t.commander ∷ []) ∷ [] = first_label t.generals t.commander t.general is.lieutenant in
     let l1 : rank < length (labels t.generals t.commander t.general 1) = rw one at l in
     let l2 : rank < 1 = rw first at l1 in
@@ -42,10 +42,10 @@ place-one t size rank place is one l e =
 pub record Grown (t : LieutenantTree) (size rank width : ℕ) : Type 0 where
   pub some : 0 < width
   pub parent : rank / width < length (labels t.generals t.commander t.general (size - 1))
-  pub place : (place : ℕ) → place ≡ place_at t (size - 1) (rank / width) → child_place place (rank % width) ≡ place_at t size rank
+  pub lower_off : (lower_off : ℕ) → lower_off ≡ lower_off_at t (size - 1) (rank / width) → child_lower_off lower_off (rank % width) ≡ lower_off_at t size rank
 
 pub grown : (t : LieutenantTree) (size rank width : ℕ) → IsCampaign t → 1 < size → width ≡ t.generals - size → rank < length (labels t.generals t.commander t.general size) → Grown t size rank width
-unfolding place_at
+unfolding lower_off_at
 grown t zero rank width is some ew l = absurd (omega arith)
 grown t (suc zero) rank width is some ew l = absurd (omega arith)
 grown t (suc (suc k)) rank width is some ew l =
@@ -68,8 +68,8 @@ grown t (suc (suc k)) rank width is some ew l =
     record {
       some = positive;
       parent = rw less within;
-      place = rw less (λ place e.
-          child-below t.generals t.general (label_at t (suc k) (rank / width)) (rank % width) (get_or (others t.generals (t.general ∷ label_at t (suc k) (rank / width))) (rank % width) 0) place is.general (lacking t (suc k) (rank / width) (label_at t (suc k) (rank / width)) is at) here (off-child t.generals t.general (label_at t (suc k) (rank / width)) (rank % width) _ here) e
+      lower_off = rw less (λ lower_off e.
+          child-below t.generals t.general (label_at t (suc k) (rank / width)) (rank % width) (get_or (others t.generals (t.general ∷ label_at t (suc k) (rank / width))) (rank % width) 0) lower_off is.general (lacking t (suc k) (rank / width) (label_at t (suc k) (rank / width)) is at) here (off-child t.generals t.general (label_at t (suc k) (rank / width)) (rank % width) _ here) e
           ∙ ap (λ (v : List ℕ). length (others t.general v)) (sym read));
     }
   where
@@ -78,8 +78,8 @@ grown t (suc (suc k)) rank width is some ew l =
     positive_of a (suc b) r h = omega arith
 
 -- the own order has a place among them
-pub place-few : (t : LieutenantTree) (size rank : ℕ) → IsCampaign t → 0 < size → rank < length (labels t.generals t.commander t.general size) → place_at t size rank ≤ t.generals - 1 - size
-unfolding place_at
+pub place-few : (t : LieutenantTree) (size rank : ℕ) → IsCampaign t → 0 < size → rank < length (labels t.generals t.commander t.general size) → lower_off_at t size rank ≤ t.generals - 1 - size
+unfolding lower_off_at
 place-few t zero rank is some l = absurd (omega arith)
 place-few t (suc k) rank is some l =
     let at : slice_get (labels t.generals t.commander t.general (suc k)) rank ≡ Some (label_at t (suc k) rank) = stands t (suc k) rank l in

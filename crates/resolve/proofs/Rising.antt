@@ -13,14 +13,14 @@ use Rattle.label.proofs.Own.{om-level}
 use Rattle.label.proofs.Places.{first_label, children_stand}
 use Rattle.tree.specs.LieutenantTree.{LieutenantTree, IsCampaign, IsFilled, level_told}
 use Rattle.resolve.specs.Decided.{order_at_rank}
-use Rattle.resolve.specs.Upward.{label_at, place_at, children_of, upward, decisions_at}
+use Rattle.resolve.specs.Upward.{label_at, lower_off_at, children_of, upward, decisions_at}
 use Rattle.resolve.proofs.Decisions.{order-told}
 use Rattle.resolve.proofs.Places.{lacking}
 
 -- one rank
-pub upward-is : (f : List ℕ → ℕ) (t : LieutenantTree) (below : List ℕ) (size rank width place own : ℕ) (children orders : List ℕ) → width ≡ t.generals - 1 - size → children ≡ slice_range below (rank * width) (rank * width + width) → place ≡ place_at t size rank → own ≡ order_at_rank t size rank → orders ≡ insert children place own → f orders ≡ upward f t below size rank
+pub upward-is : (f : List ℕ → ℕ) (t : LieutenantTree) (below : List ℕ) (size rank width lower_off own : ℕ) (children orders : List ℕ) → width ≡ t.generals - 1 - size → children ≡ slice_range below (rank * width) (rank * width + width) → lower_off ≡ lower_off_at t size rank → own ≡ order_at_rank t size rank → orders ≡ insert children lower_off own → f orders ≡ upward f t below size rank
 unfolding upward
-upward-is f t below size rank width place own children orders ew ec ep eo e = rw (e, ec, ep, eo, ew) refl
+upward-is f t below size rank width lower_off own children orders ew ec ep eo e = rw (e, ec, ep, eo, ew) refl
 
 -- a part of a list, by what stands there
 part_is : {A : Type 0} (xs : List ℕ) (G : A → ℕ) (js : List A) (a : ℕ) → ((i : ℕ) (j : A) → slice_get js i ≡ Some j → slice_get xs (a + i) ≡ Some (G j)) → take (length js) (drop a xs) ≡ map G js
@@ -35,7 +35,7 @@ part_is xs G (j ∷ js) a same =
 
 -- the part of a rank is what its children decide
 pub upward-om : (f : List ℕ → ℕ) (t : LieutenantTree) (M : Messages) (k size rank : ℕ) (below : List ℕ) (w : List ℕ) → IsCampaign t → IsFilled t M → 0 < size → size + suc k ≤ t.bound + 1 → slice_get (labels t.generals t.commander t.general size) rank ≡ Some w → below ≡ decisions_at f t M k (size + 1) → upward f t below size rank ≡ om f t.generals M (suc k) w t.general
-unfolding upward place_at decisions_at
+unfolding upward lower_off_at decisions_at
 upward-om f t M k zero rank below w is full some short at e = absurd (omega arith)
 upward-om f t M k (suc s) rank below w is full some short at e =
     let width : t.generals - 2 - s ≡ t.generals - 1 - suc s = omega arith in

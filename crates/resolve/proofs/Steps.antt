@@ -11,53 +11,53 @@ use Rattle.label.proofs.Bounds.{most, most-fits, labels-few}
 use Rattle.tree.specs.LieutenantTree.{LieutenantTree, IsCampaign}
 use Rattle.resolve.specs.Decided.{decided, child, order_at_rank}
 
-pub step-last : (f : List ℕ → ℕ) (t : LieutenantTree) (k size rank place own : ℕ) → k ≡ 0 → own ≡ order_at_rank t size rank → own ≡ decided f t k size rank place
+pub step-last : (f : List ℕ → ℕ) (t : LieutenantTree) (k size rank lower_off own : ℕ) → k ≡ 0 → own ≡ order_at_rank t size rank → own ≡ decided f t k size rank lower_off
 unfolding decided
-step-last f t k size rank place own z e = rw z e
+step-last f t k size rank lower_off own z e = rw z e
 
-pub step-more : (f : List ℕ → ℕ) (t : LieutenantTree) (k size rank place own : ℕ) (orders : List ℕ) → 0 < k → own ≡ order_at_rank t size rank → orders ≡ insert (map (child f t (k - 1) size rank place) (range_with_len 0 (t.generals - 1 - size))) place own → f orders ≡ decided f t k size rank place
+pub step-more : (f : List ℕ → ℕ) (t : LieutenantTree) (k size rank lower_off own : ℕ) (orders : List ℕ) → 0 < k → own ≡ order_at_rank t size rank → orders ≡ insert (map (child f t (k - 1) size rank lower_off) (range_with_len 0 (t.generals - 1 - size))) lower_off own → f orders ≡ decided f t k size rank lower_off
 unfolding decided child
-step-more f t zero size rank place own orders some e eo = absurd (omega arith)
-step-more f t (suc k) size rank place own orders some e eo =
+step-more f t zero size rank lower_off own orders some e eo = absurd (omega arith)
+step-more f t (suc k) size rank lower_off own orders some e eo =
     let less : suc k - 1 ≡ k = omega arith in
-    ap f (rw less at eo ∙ ap (insert (map (child f t k size rank place) (range_with_len 0 (t.generals - 1 - size))) place) e)
+    ap f (rw less at eo ∙ ap (insert (map (child f t k size rank lower_off) (range_with_len 0 (t.generals - 1 - size))) lower_off) e)
 
-child_before : (f : List ℕ → ℕ) (t : LieutenantTree) (k size rank place i : ℕ) → i < place → decided f t k (suc size) (rank * (t.generals - 1 - size) + i) (place - 1) ≡ child f t k size rank place i
+child_before : (f : List ℕ → ℕ) (t : LieutenantTree) (k size rank lower_off i : ℕ) → i < lower_off → decided f t k (suc size) (rank * (t.generals - 1 - size) + i) (lower_off - 1) ≡ child f t k size rank lower_off i
 unfolding child
-child_before f t k size rank place i l = ap (decided f t k (suc size) (rank * (t.generals - 1 - size) + i)) (sym (cond-true (nat_lt i place) (place - 1) place (lt-ltb i place l)))
+child_before f t k size rank lower_off i l = ap (decided f t k (suc size) (rank * (t.generals - 1 - size) + i)) (sym (cond-true (nat_lt i lower_off) (lower_off - 1) lower_off (lt-ltb i lower_off l)))
 
-child_behind : (f : List ℕ → ℕ) (t : LieutenantTree) (k size rank place i : ℕ) → place ≤ i → decided f t k (suc size) (rank * (t.generals - 1 - size) + i) place ≡ child f t k size rank place i
+child_behind : (f : List ℕ → ℕ) (t : LieutenantTree) (k size rank lower_off i : ℕ) → lower_off ≤ i → decided f t k (suc size) (rank * (t.generals - 1 - size) + i) lower_off ≡ child f t k size rank lower_off i
 unfolding child
-child_behind f t k size rank place i l = ap (decided f t k (suc size) (rank * (t.generals - 1 - size) + i)) (sym (cond-false (nat_lt i place) (place - 1) place (le-ltb i place l)))
+child_behind f t k size rank lower_off i l = ap (decided f t k (suc size) (rank * (t.generals - 1 - size) + i)) (sym (cond-false (nat_lt i lower_off) (lower_off - 1) lower_off (le-ltb i lower_off l)))
 
 -- one child more, before the own order
-pub more-before : (f : List ℕ → ℕ) (t : LieutenantTree) (k size rank place width i one : ℕ) (orders longer : List ℕ) → width ≡ t.generals - 1 - size → i < place → orders ≡ map (child f t k size rank place) (range_with_len 0 i) → one ≡ decided f t k (size + 1) (rank * width + i) (place - 1) → longer ≡ orders ++ one ∷ []
-    → longer ≡ map (child f t k size rank place) (range_with_len 0 (i + 1))
-more-before f t k size rank place width i one orders longer ew l eo e1 el =
+pub more-before : (f : List ℕ → ℕ) (t : LieutenantTree) (k size rank lower_off width i one : ℕ) (orders longer : List ℕ) → width ≡ t.generals - 1 - size → i < lower_off → orders ≡ map (child f t k size rank lower_off) (range_with_len 0 i) → one ≡ decided f t k (size + 1) (rank * width + i) (lower_off - 1) → longer ≡ orders ++ one ∷ []
+    → longer ≡ map (child f t k size rank lower_off) (range_with_len 0 (i + 1))
+more-before f t k size rank lower_off width i one orders longer ew l eo e1 el =
     let next : size + 1 ≡ suc size = omega arith in
-    rw (el, eo, e1, ew, next, child_before f t k size rank place i l) (sym (map-range_with_len_more (child f t k size rank place) 0 i i (omega arith)))
+    rw (el, eo, e1, ew, next, child_before f t k size rank lower_off i l) (sym (map-range_with_len_more (child f t k size rank lower_off) 0 i i (omega arith)))
 
 -- the own order behind them
-pub own-put : (F : ℕ → ℕ) (place i own : ℕ) (orders longer : List ℕ) → i ≡ place → orders ≡ map F (range_with_len 0 i) → longer ≡ orders ++ own ∷ [] → longer ≡ insert (map F (range_with_len 0 place)) place own
-own-put F place i own orders longer ei eo el =
-    rw (el, eo, ei) (sym (ap (λ (n : ℕ). insert (map F (range_with_len 0 place)) n own) (sym (length-map-range_with_len F 0 place)) ∙ insert_end (map F (range_with_len 0 place)) own))
+pub own-put : (F : ℕ → ℕ) (lower_off i own : ℕ) (orders longer : List ℕ) → i ≡ lower_off → orders ≡ map F (range_with_len 0 i) → longer ≡ orders ++ own ∷ [] → longer ≡ insert (map F (range_with_len 0 lower_off)) lower_off own
+own-put F lower_off i own orders longer ei eo el =
+    rw (el, eo, ei) (sym (ap (λ (n : ℕ). insert (map F (range_with_len 0 lower_off)) n own) (sym (length-map-range_with_len F 0 lower_off)) ∙ insert_end (map F (range_with_len 0 lower_off)) own))
 
 -- one child more, behind it
-pub more-behind : (f : List ℕ → ℕ) (t : LieutenantTree) (k size rank place width i one own : ℕ) (orders longer : List ℕ) → width ≡ t.generals - 1 - size → place ≤ i → orders ≡ insert (map (child f t k size rank place) (range_with_len 0 i)) place own → one ≡ decided f t k (size + 1) (rank * width + i) place → longer ≡ orders ++ one ∷ []
-    → longer ≡ insert (map (child f t k size rank place) (range_with_len 0 (i + 1))) place own
-more-behind f t k size rank place width i one own orders longer ew l eo e1 el =
+pub more-behind : (f : List ℕ → ℕ) (t : LieutenantTree) (k size rank lower_off width i one own : ℕ) (orders longer : List ℕ) → width ≡ t.generals - 1 - size → lower_off ≤ i → orders ≡ insert (map (child f t k size rank lower_off) (range_with_len 0 i)) lower_off own → one ≡ decided f t k (size + 1) (rank * width + i) lower_off → longer ≡ orders ++ one ∷ []
+    → longer ≡ insert (map (child f t k size rank lower_off) (range_with_len 0 (i + 1))) lower_off own
+more-behind f t k size rank lower_off width i one own orders longer ew l eo e1 el =
     let next : size + 1 ≡ suc size = omega arith in
-    let F = child f t k size rank place in
-    rw (el, eo, e1, ew, next, child_behind f t k size rank place i l)
-    (sym (ap (λ xs. insert xs place own) (map-range_with_len_more (child f t k size rank place) 0 i i (omega arith)) ∙ insert-append_left (map (child f t k size rank place) (range_with_len 0 i)) (child f t k size rank place i ∷ []) place own (let h : length (map (child f t k size rank place) (range_with_len 0 i)) ≡ i = length-map-range_with_len (child f t k size rank place) 0 i in omega arith)))
+    let F = child f t k size rank lower_off in
+    rw (el, eo, e1, ew, next, child_behind f t k size rank lower_off i l)
+    (sym (ap (λ xs. insert xs lower_off own) (map-range_with_len_more (child f t k size rank lower_off) 0 i i (omega arith)) ∙ insert-append_left (map (child f t k size rank lower_off) (range_with_len 0 i)) (child f t k size rank lower_off i ∷ []) lower_off own (let h : length (map (child f t k size rank lower_off) (range_with_len 0 i)) ≡ i = length-map-range_with_len (child f t k size rank lower_off) 0 i in omega arith)))
 
 pub few-before : (F : ℕ → ℕ) (i : ℕ) (orders : List ℕ) → orders ≡ map F (range_with_len 0 i) → length orders ≡ i
 few-before F i orders e = ap length e ∙ length-map-range_with_len F 0 i
 
-pub few-behind : (F : ℕ → ℕ) (i place own : ℕ) (orders : List ℕ) → place ≤ i → orders ≡ insert (map F (range_with_len 0 i)) place own → length orders ≡ i + 1
-few-behind F i place own orders l e =
+pub few-behind : (F : ℕ → ℕ) (i lower_off own : ℕ) (orders : List ℕ) → lower_off ≤ i → orders ≡ insert (map F (range_with_len 0 i)) lower_off own → length orders ≡ i + 1
+few-behind F i lower_off own orders l e =
     let h : length (map F (range_with_len 0 i)) ≡ i = length-map-range_with_len F 0 i in
-    ap length e ∙ (length-insert (map F (range_with_len 0 i)) place own (omega arith) ∙ ap (λ (n : ℕ). n + 1) h)
+    ap length e ∙ (length-insert (map F (range_with_len 0 i)) lower_off own (omega arith) ∙ ap (λ (n : ℕ). n + 1) h)
 
 -- ranks have 32 bits
 pub rank-small : (t : LieutenantTree) (size rank : ℕ) → IsCampaign t → 0 < size → size < 14 → rank < length (labels t.generals t.commander t.general size) → rank < 2 ^ 32

@@ -5,7 +5,7 @@ ghost use Rattle.label.specs.Labels.{labels};
 ghost use Rattle.label.specs.Oral.{Messages};
 ghost use Rattle.tree.specs.LieutenantTree.{IsFilled};
 ghost use Rattle.resolve.specs.Decided.{Decides};
-ghost use Rattle.resolve.specs.Upward.{place_at, upward, decisions_at};
+ghost use Rattle.resolve.specs.Upward.{lower_off_at, upward, decisions_at};
 
 use crate::recursion::order_at;
 use arrayvec::ArrayVec;
@@ -16,11 +16,11 @@ use std::thread::Threads;
 use tree::Tree;
 
 /// Of the generals below the lieutenant, how many are off the label at a rank.
-fn place(tree: &Tree, size: u8, rank: usize) -> u8
+fn lower_off(tree: &Tree, size: u8, rank: usize) -> u8
     requires some { 0 < size }
     requires short { size ≤ tree.now.bound + 1 }
     requires within { rank < length (labels tree.now.generals tree.now.commander tree.now.general size) }
-    ensures { result ≡ place_at tree.now size rank }
+    ensures { result ≡ lower_off_at tree.now size rank }
 {
     let space = tree.space();
     if size == 1 {
@@ -31,7 +31,7 @@ fn place(tree: &Tree, size: u8, rank: usize) -> u8
         };
     }
     let width = usize::from(space.generals.saturating_sub(size));
-    let parent = place(tree, size - 1, rank / width);
+    let parent = lower_off(tree, size - 1, rank / width);
     if rank % width < usize::from(parent) {
         parent - 1
     } else {
@@ -56,14 +56,14 @@ fn upward<C: Combine>(tree: &Tree, rule: &C, size: u8, below: &[u32], rank: usiz
     ensures { result ≡ upward (C.combined rule.now) tree.now below.now size rank }
 {
     let own = order_at(tree.level(size), rank);
-    let place = usize::from(place(tree, size, rank));
+    let lower_off = usize::from(lower_off(tree, size, rank));
     let width = usize::from((tree.space().generals - 1).saturating_sub(size));
     let children = children(below, width, rank);
     let mut orders: ArrayVec<u32, 13> = ArrayVec::new();
     for x in children {
         orders.push(*x);
     }
-    orders.insert(place, own);
+    orders.insert(lower_off, own);
     rule.combine(orders.as_slice())
 }
 
@@ -87,7 +87,9 @@ fn level_at_once<C: Combine + Sync, R: Threads + Sync>(
         .into_par_iter()
         .map(
             |rank: usize| -> u32
-                requires { (0 < size) × (size ≤ tree.now.bound) × (length below.now ≡ length (labels tree.now.generals tree.now.commander tree.now.general (size + 1))) × (rank < length (labels tree.now.generals tree.now.commander tree.now.general size)) }
+                requires { (0 < size) × (size ≤ tree.now.bound)
+                    × (length below.now ≡ length (labels tree.now.generals tree.now.commander tree.now.general (size + 1)))
+                    × (rank < length (labels tree.now.generals tree.now.commander tree.now.general size)) }
                 ensures { result ≡ upward (C.combined rule.entry.now) tree.entry.now below.entry.now size rank }
             { upward(tree, rule, size, below, rank) },
         )

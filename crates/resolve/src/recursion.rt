@@ -13,24 +13,31 @@ pub fn resolve<C: Combine>(tree: &Tree, rule: &C) -> u32
     ensures { Decides (C.combined rule.now) tree.now result }
 {
     let space = tree.space();
-    let place = if space.commander < space.general {
+    let lower_off = if space.commander < space.general {
         space.general - 1
     } else {
         space.general
     };
-    decide(tree, rule, tree.bound(), 1, 0, place)
+    decide(tree, rule, tree.bound(), 1, 0, lower_off)
 }
 
 /// What is decided about the label of this length and rank, with so many relays left.
 ///
-/// `place` says how many of the generals below the lieutenant are off the label: so many of its
+/// `lower_off` says how many of the generals below the lieutenant are off the label: so many of its
 /// children come before his own value in the list that is combined.
-fn decide<C: Combine>(tree: &Tree, rule: &C, relays: u8, size: u8, rank: usize, place: u8) -> u32
+fn decide<C: Combine>(
+    tree: &Tree,
+    rule: &C,
+    relays: u8,
+    size: u8,
+    rank: usize,
+    lower_off: u8,
+) -> u32
     requires some { 0 < size }
     requires short { size + relays ≤ tree.now.bound + 1 }
     requires within { rank < length (labels tree.now.generals tree.now.commander tree.now.general size) }
-    requires place { place ≤ tree.now.generals - 1 - size }
-    ensures { result ≡ decided (C.combined rule.now) tree.now relays size rank place }
+    requires lower_off { lower_off ≤ tree.now.generals - 1 - size }
+    ensures { result ≡ decided (C.combined rule.now) tree.now relays size rank lower_off }
 {
     let own = order_at(tree.level(size), rank);
     if relays == 0 {
@@ -39,23 +46,30 @@ fn decide<C: Combine>(tree: &Tree, rule: &C, relays: u8, size: u8, rank: usize, 
     let width = (tree.space().generals - 1).saturating_sub(size);
     if relays == 1 {
         let children = children(tree.level(size + 1), width as usize, rank);
-        return rule.combine_told(children, place as usize, own);
+        return rule.combine_told(children, lower_off as usize, own);
     }
     let first = rank * width as usize;
     let mut orders: ArrayVec<u32, 13> = ArrayVec::new();
-    for i in 0..place {
+    for i in 0..lower_off {
         orders.push(decide(
             tree,
             rule,
             relays - 1,
             size + 1,
             first + i as usize,
-            place - 1,
+            lower_off - 1,
         ));
     }
     orders.push(own);
-    for j in place..width {
-        orders.push(decide(tree, rule, relays - 1, size + 1, first + j as usize, place));
+    for j in lower_off..width {
+        orders.push(decide(
+            tree,
+            rule,
+            relays - 1,
+            size + 1,
+            first + j as usize,
+            lower_off,
+        ));
     }
     rule.combine(orders.as_slice())
 }

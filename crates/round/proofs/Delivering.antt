@@ -12,7 +12,9 @@ use Rattle.tree.specs.LieutenantTree.{LieutenantTree, IsCampaign, IsFilled, Same
 use Rattle.tree.proofs.Also.{also-here, also-other}
 use Rattle.round.specs.Letters.{Letter}
 use Rattle.round.specs.Told.{told_now, heard_also, round_of}
-use Rattle.round.specs.Delivery.{IsPartly, IsFilledBetween}
+use Rattle.round.specs.Delivery.{IsPartly, FillsFromTo}
+use Rattle.round.proofs.Lists.{some_same}
+use Rattle.std.proofs.lemmas.List.{nil_from_length}
 
 pub same_map : {B : Type 0} (F G : List ℕ → B) (ws : List (List ℕ)) → ((i : ℕ) (w : List ℕ) → slice_get ws i ≡ Some w → F w ≡ G w) → map F ws ≡ map G ws
 same_map F G [] h = refl
@@ -42,11 +44,11 @@ none_heard t row M c none filled =
     sym (heard_other M row w t.general (λ e. absurd (omega arith))))
 
 -- nothing is told yet
-pub told_none : (t : LieutenantTree) (row : List Letter) (k i : ℕ) → IsFilledBetween t row k i i t
+pub told_none : (t : LieutenantTree) (row : List Letter) (k i : ℕ) → FillsFromTo t row k i i t
 told_none t row k i = record { same = record { generals = refl; bound = refl; commander = refl; general = refl }; partly = λ M p. p }
 
 -- one after another
-pub told_on : (t : LieutenantTree) (row : List Letter) (k i j l : ℕ) (u v : LieutenantTree) → IsFilledBetween t row k i j u → IsFilledBetween u row k j l v → IsFilledBetween t row k i l v
+pub told_on : (t : LieutenantTree) (row : List Letter) (k i j l : ℕ) (u v : LieutenantTree) → FillsFromTo t row k i j u → FillsFromTo u row k j l v → FillsFromTo t row k i l v
 told_on t row k i j l u v h g = record {
   same = record { generals = g.same.generals ∙ h.same.generals; bound = g.same.bound ∙ h.same.bound; commander = g.same.commander ∙ h.same.commander; general = g.same.general ∙ h.same.general };
   partly = λ M p.
@@ -59,9 +61,6 @@ told_on t row k i j l u v h g = record {
 pub record IsToldUpTo (M : Messages) (row : List Letter) (n c p k i : ℕ) (N : Messages) : Type 0 where
   pub others : (w : List ℕ) → (length w ≡ k → ⊥) → N w p ≡ M w p
   pub done : (j : ℕ) (w : List ℕ) → j < i → slice_get (labels n c p k) j ≡ Some w → N w p ≡ told_now row w p
-
-some_same : {A : Type 0} {a b : A} → Some a ≡ Some b → a ≡ b
-some_same e = cc
 
 told_next : (M N : Messages) (row : List Letter) (n c p k i : ℕ) (w : List ℕ) (value : Option ℕ) → c < n → p < n → p ≢ c → IsToldUpTo M row n c p k i N →
     slice_get (labels n c p k) i ≡ Some w → value ≡ told_now row w p → IsToldUpTo M row n c p k (suc i) (told_also N w value)
@@ -82,7 +81,7 @@ told_next M N row n c p k i w value inside within ne t at is =
 -- one label
 pub told_one : (t : LieutenantTree) (row : List Letter) (k i : ℕ) (v : LieutenantTree) (w : List ℕ) (value : Option ℕ) → IsCampaign t → SameCampaign t v →
     slice_get (labels t.generals t.commander t.general k) i ≡ Some w → value ≡ told_now row w t.general →
-    ((M : Messages) (x : List ℕ) → IsFilled t M → slice_get (labels t.generals t.commander t.general k) i ≡ Some x → IsFilled v (told_also M x value)) → IsFilledBetween t row k i (suc i) v
+    ((M : Messages) (x : List ℕ) → IsFilled t M → slice_get (labels t.generals t.commander t.general k) i ≡ Some x → IsFilled v (told_also M x value)) → FillsFromTo t row k i (suc i) v
 told_one t row k i v w value c same at is fill = record {
   same = same;
   partly = λ M p.
@@ -109,7 +108,7 @@ told_run_up_to M N row n c p k i (v ∷ vs) inside within ne t each fits =
 
 pub told_each : (t : LieutenantTree) (row : List Letter) (k i : ℕ) (u : LieutenantTree) (vs : List (Option ℕ)) → IsCampaign t → SameCampaign t u →
     ((j : ℕ) (v : Option ℕ) (w : List ℕ) → slice_get vs j ≡ Some v → slice_get (labels t.generals t.commander t.general k) (i + j) ≡ Some w → v ≡ told_now row w t.general) → i + length vs ≤ length (labels t.generals t.commander t.general k) →
-    ((M : Messages) → IsFilled t M → IsFilled u (told_run M (drop i (labels t.generals t.commander t.general k)) vs)) → IsFilledBetween t row k i (i + length vs) u
+    ((M : Messages) → IsFilled t M → IsFilled u (told_run M (drop i (labels t.generals t.commander t.general k)) vs)) → FillsFromTo t row k i (i + length vs) u
 told_each t row k i u vs c same each fits fill = record {
   same = same;
   partly = λ M p.
@@ -131,11 +130,7 @@ each_same t row k i u M c ek all p j m w le at =
     (eqb_tells j k)
 
 -- all labels of the length
-pub told_all : (t : LieutenantTree) (row : List Letter) (k i : ℕ) (u : LieutenantTree) → IsCampaign t → k ≡ round_of row → IsFilledBetween t row k 0 i u → length (labels t.generals t.commander t.general k) ≤ i → (M : Messages) → IsFilled t M → IsFilled u (heard_also M row)
+pub told_all : (t : LieutenantTree) (row : List Letter) (k i : ℕ) (u : LieutenantTree) → IsCampaign t → k ≡ round_of row → FillsFromTo t row k 0 i u → length (labels t.generals t.commander t.general k) ≤ i → (M : Messages) → IsFilled t M → IsFilled u (heard_also M row)
 told_all t row k i u c ek h all M filled =
     let p = h.partly M (record { N = M; filled = filled; others = λ w ne. refl; done = λ j w lt at. absurd (omega arith) }) in
     p.filled ∙ (rw (h.same.generals, h.same.commander, h.same.general) (levels-same t.generals t.commander t.general p.N (heard_also M row) 1 (u.bound + 1) (each_same t row k i u M c ek all p)))
-
-pub no_letters : (row : List Letter) → length row ≡ 0 → row ≡ []
-no_letters [] e = refl
-no_letters (l ∷ row) e = cc

@@ -12,7 +12,7 @@ use Rattle.tree.specs.LieutenantTree.{LieutenantTree, IsCampaign, IsFilled, Same
 use Rattle.round.specs.Letters.{Letter}
 use Rattle.round.specs.Told.{heard_also, round_of}
 use Rattle.round.specs.Fronts.{IsFront, under}
-use Rattle.round.specs.Delivery.{IsFilledBetween, IsWalk, first_under, past_under}
+use Rattle.round.specs.Delivery.{FillsFromTo, IsWalk, first_under, past_under}
 use Rattle.round.specs.declared.front.Front.{Front}
 use Rattle.round.proofs.Delivering.{told_all}
 use Rattle.round.proofs.Walking.{child_at, child_long, told_ends, level_long}
@@ -47,7 +47,7 @@ child_past t u row places k f walk same c x place within away ep g child =
     (ap (λ (r : ℕ). r * under t.generals g.size (k - g.size)) next
     ∙ ap (λ (s : ℕ). (slice_index f.ranks t.general * (t.generals - (f.size + 1)) + (place + 1)) * under t.generals s (k - s)) (child_size_is t.generals t.commander x walk.w f g walk.front child))
 
-pub all_walked : (t : LieutenantTree) (row : List Letter) (k : ℕ) (f : Front) (u : LieutenantTree) → IsCampaign t → k ≡ round_of row → 1 < k → IsFront t.generals t.commander (t.commander ∷ []) f → IsFilledBetween t row k (first_under t f k) (past_under t f k) u → (M : Messages) → IsFilled t M → IsFilled u (heard_also M row)
+pub all_walked : (t : LieutenantTree) (row : List Letter) (k : ℕ) (f : Front) (u : LieutenantTree) → IsCampaign t → k ≡ round_of row → 1 < k → IsFront t.generals t.commander (t.commander ∷ []) f → FillsFromTo t row k (first_under t f k) (past_under t f k) u → (M : Messages) → IsFilled t M → IsFilled u (heard_also M row)
 all_walked t row k f u c ek more front told =
     let off : on (t.commander ∷ []) t.general ≡ false = rw (ne_eqb t.commander t.general (λ e. c.lieutenant (sym e))) refl in
     let one : length (labels t.generals t.commander t.general 1) ≡ 1 = ap length (first_label t.generals t.commander t.general c.lieutenant) in

@@ -6,6 +6,7 @@ use Rattle.std.proofs.lemmas.Option.{slice_get_read, slice_get_within}
 use Rattle.label.specs.Oral.{Messages}
 use Rattle.tree.specs.LieutenantTree.{LieutenantTree, IsFilled, SameCampaign}
 use Rattle.round.specs.Delivery.{AreEach}
+use Rattle.round.proofs.Lists.{some_same, get_set, get_unset}
 
 -- so many trees are as they are to be, the others as they were
 pub record AreDone (Are : LieutenantTree → LieutenantTree → Type 0) (old : List LieutenantTree) (i : ℕ) (trees : List LieutenantTree) : Type 0 where
@@ -17,21 +18,6 @@ set_length : (xs : List LieutenantTree) (i : ℕ) (x : LieutenantTree) → lengt
 set_length [] i x = refl
 set_length (y ∷ xs) zero x = refl
 set_length (y ∷ xs) (suc i) x = ap suc (set_length xs i x)
-
-get_set : (xs : List LieutenantTree) (i : ℕ) (x : LieutenantTree) → i < length xs → slice_get (set xs i x) i ≡ Some x
-get_set [] i x lt = absurd (omega arith)
-get_set (y ∷ xs) zero x lt = refl
-get_set (y ∷ xs) (suc i) x lt = get_set xs i x (omega arith)
-
-get_unset : (xs : List LieutenantTree) (i j : ℕ) (x : LieutenantTree) → (j ≡ i → ⊥) → slice_get (set xs i x) j ≡ slice_get xs j
-get_unset [] i j x ne = refl
-get_unset (y ∷ xs) zero zero x ne = absurd (ne refl)
-get_unset (y ∷ xs) zero (suc j) x ne = refl
-get_unset (y ∷ xs) (suc i) zero x ne = refl
-get_unset (y ∷ xs) (suc i) (suc j) x ne = get_unset xs i j x (λ e. ne (ap suc e))
-
-some_same : {A : Type 0} {a b : A} → Some a ≡ Some b → a ≡ b
-some_same e = cc
 
 -- one tree more, which is changed or is not
 pub done_next : (Are : LieutenantTree → LieutenantTree → Type 0) (old : List LieutenantTree) (i : ℕ) (trees : List LieutenantTree) (t u : LieutenantTree) → AreDone Are old i trees → i < length trees → t ≡ get_or trees i t → Are t u → AreDone Are old (i + 1) (set trees i u)

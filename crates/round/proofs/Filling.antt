@@ -9,9 +9,10 @@ use Rattle.label.proofs.Listing.{proved_labels_are_exact}
 use Rattle.tree.specs.LieutenantTree.{LieutenantTree, IsFilled, SameCampaign, silence}
 use Rattle.round.specs.Scenario.{Scenario, IsScenario}
 use Rattle.round.specs.Letters.{Letter, messages, told_by, letter_of}
-use Rattle.round.specs.Told.{IsTreeOf, AreDue, AreLettersOf, Heard, WasTold, told_now, heard_also, round_of, lieutenant_at}
+use Rattle.round.specs.Told.{IsTreeOf, AreDue, AreLettersOf, ToldSeen, WasTold, told_now, heard_also, round_of, lieutenant_at}
 use Rattle.round.proofs.Delivering.{levels-same, heard_here, heard_other}
 use Rattle.round.specs.Delivery.{AreApart, AreEach, AreOfCampaign, AreDueIn, IsTold}
+use Rattle.std.proofs.lemmas.List.{get_or_past}
 
 get-end : {A : Type 0} (xs : List A) (x d : A) → get_or (xs ++ x ∷ []) (length xs) d ≡ x
 get-end [] x d = refl
@@ -34,15 +35,10 @@ unfolding messages
 messages-past before row w p some ne =
     ap (λ ls. told_by (letter_of ls (slice_index w (length w - 1))) (take (length w - 1) w) p) (get-other before row [] (length w - 1) (λ e. ne (omega arith)))
 
-get_past : {A : Type 0} (xs : List A) (i : ℕ) (d : A) → length xs ≤ i → get_or xs i d ≡ d
-get_past [] i d l = refl
-get_past (x ∷ xs) zero d l = absurd (omega arith)
-get_past (x ∷ xs) (suc i) d l = get_past xs i d (omega arith)
-
 -- of a round that is not closed there is no message
 pub messages-none : (before : List (List Letter)) (w : List ℕ) (p : ℕ) → length before ≤ length w - 1 → messages before w p ≡ None
 unfolding messages
-messages-none before w p le = ap (λ ls. told_by (letter_of ls (slice_index w (length w - 1))) (take (length w - 1) w) p) (get_past before (length w - 1) [] le)
+messages-none before w p le = ap (λ ls. told_by (letter_of ls (slice_index w (length w - 1))) (take (length w - 1) w) p) (get_or_past before (length w - 1) [] le)
 
 -- one round more
 heard_more : (before : List (List Letter)) (row : List Letter) (w : List ℕ) (p : ℕ) → 0 < length w → ((i : ℕ) (l : Letter) → slice_get row i ≡ Some l → l.round ≡ suc (length before)) → heard_also (messages before) row w p ≡ messages (before ++ row ∷ []) w p
@@ -99,7 +95,7 @@ tree_due s before row g rounds t h due left = record {
 pub letters_due : (s : Scenario) (rounds : ℕ) (row : List Letter) → AreLettersOf s (suc rounds) row → AreOfCampaign s.generals s.commander row
 letters_due s rounds row due = λ i l at. (due i l at).1 ∙ (λ j. record { generals = s.generals; commander = s.commander; general = l.general; round = sym (round_is s rounds row due i l at) j })
 
-pub told_more : (s : Scenario) (before : List (List Letter)) (row : List Letter) (h : Heard) (trees : List LieutenantTree) → IsScenario s → WasTold s before h → AreLettersOf s (suc h.rounds) row → AreEach (IsTold row) h.trees trees →
+pub told_more : (s : Scenario) (before : List (List Letter)) (row : List Letter) (h : ToldSeen) (trees : List LieutenantTree) → IsScenario s → WasTold s before h → AreLettersOf s (suc h.rounds) row → AreEach (IsTold row) h.trees trees →
     WasTold s (before ++ row ∷ []) (record { rounds = h.rounds + 1; trees = trees })
 told_more s before row h trees is told due filled =
     let due' : AreLettersOf s (suc (length before)) row = subst (λ (k : ℕ). AreLettersOf s (suc k) row) told.rounds due in
@@ -181,12 +177,12 @@ lieutenants_differ c i j same = by (nat_lt i c) refl (nat_lt j c) refl same
     by false ea false eb e = omega arith
 
 -- no two trees are of one lieutenant
-pub trees_apart : (s : Scenario) (before : List (List Letter)) (h : Heard) → WasTold s before h → AreApart h.trees
+pub trees_apart : (s : Scenario) (before : List (List Letter)) (h : ToldSeen) → WasTold s before h → AreApart h.trees
 trees_apart s before h told i j t u first last e =
     lieutenants_differ s.commander i j (sym (told.trees i t first).general ∙ (e ∙ (told.trees j u last).general))
 
 -- the tree of a lieutenant
-pub own_tree : (s : Scenario) (before : List (List Letter)) (h : Heard) (i g : ℕ) (t : LieutenantTree) → WasTold s before h → i < length h.trees → t ≡ get_or h.trees i t → lieutenant_at s.commander i ≡ g → IsTreeOf s before g t
+pub own_tree : (s : Scenario) (before : List (List Letter)) (h : ToldSeen) (i g : ℕ) (t : LieutenantTree) → WasTold s before h → i < length h.trees → t ≡ get_or h.trees i t → lieutenant_at s.commander i ≡ g → IsTreeOf s before g t
 own_tree s before h i g t told lt at is =
     subst (λ (k : ℕ). IsTreeOf s before k t) is (told.trees i t (slice_get_read h.trees (length h.trees) i t refl lt at))
 
@@ -199,7 +195,7 @@ place_within c i g n m within inside is count = by (nat_lt i c) refl is
     by false e h = omega arith
 
 -- the letters are due to the trees
-pub trees_due : (s : Scenario) (before : List (List Letter)) (row : List Letter) (h : Heard) → IsScenario s → WasTold s before h → AreLettersOf s (suc h.rounds) row → h.rounds ≤ s.bound → AreDueIn s.generals s.commander row h.trees
+pub trees_due : (s : Scenario) (before : List (List Letter)) (row : List Letter) (h : ToldSeen) → IsScenario s → WasTold s before h → AreLettersOf s (suc h.rounds) row → h.rounds ≤ s.bound → AreDueIn s.generals s.commander row h.trees
 trees_due s before row h is told due left j t at =
     let o = told.trees j t at in
     record {
@@ -216,14 +212,14 @@ trees_due s before row h is told due left j t at =
     }
 
 -- as it is looked up
-pub looked_up : (s : Scenario) (before : List (List Letter)) (h now : Heard) (commander place from g : ℕ) (t : LieutenantTree) → IsScenario s → WasTold s before now → h ≡ now → commander ≡ s.commander → lieutenant_at commander place ≡ g → g < s.generals → from ≡ place → t ≡ get_or h.trees from t →
+pub looked_up : (s : Scenario) (before : List (List Letter)) (h now : ToldSeen) (commander place from g : ℕ) (t : LieutenantTree) → IsScenario s → WasTold s before now → h ≡ now → commander ≡ s.commander → lieutenant_at commander place ≡ g → g < s.generals → from ≡ place → t ≡ get_or h.trees from t →
     (lieutenant_at s.commander place ≡ g) × (place < length h.trees) × (t ≡ get_or h.trees place t)
 looked_up s before h now commander place from g t is told view ec there within ef at =
     let here : lieutenant_at s.commander place ≡ g = ap (λ (k : ℕ). lieutenant_at k place) (sym ec) ∙ there in
-    let count : length h.trees + 1 ≡ s.generals = ap (λ (x : Heard). length x.trees + 1) view ∙ told.count in
+    let count : length h.trees + 1 ≡ s.generals = ap (λ (x : ToldSeen). length x.trees + 1) view ∙ told.count in
     (here, place_within s.commander place g s.generals (length h.trees) within is.commander here count, at ∙ ap (λ (i : ℕ). get_or h.trees i t) ef)
 
-pub looked_tree : (s : Scenario) (before : List (List Letter)) (h now : Heard) (commander place from g : ℕ) (t : LieutenantTree) → IsScenario s → WasTold s before now → h ≡ now → commander ≡ s.commander → lieutenant_at commander place ≡ g → g < s.generals → from ≡ place → t ≡ get_or h.trees from t → IsTreeOf s before g t
+pub looked_tree : (s : Scenario) (before : List (List Letter)) (h now : ToldSeen) (commander place from g : ℕ) (t : LieutenantTree) → IsScenario s → WasTold s before now → h ≡ now → commander ≡ s.commander → lieutenant_at commander place ≡ g → g < s.generals → from ≡ place → t ≡ get_or h.trees from t → IsTreeOf s before g t
 looked_tree s before h now commander place from g t is told view ec there within ef at =
     let o = looked_up s before h now commander place from g t is told view ec there within ef at in
-    own_tree s before h place g t (subst (λ (x : Heard). WasTold s before x) (sym view) told) o.1 o.2 o.0
+    own_tree s before h place g t (subst (λ (x : ToldSeen). WasTold s before x) (sym view) told) o.1 o.2 o.0

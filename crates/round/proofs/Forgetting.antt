@@ -9,7 +9,7 @@ use Rattle.tree.specs.LieutenantTree.{LieutenantTree, IsFilled, SameCampaign, bl
 use Rattle.tree.proofs.Blanks.{blank-here, blank-other}
 use Rattle.round.specs.Scenario.{Scenario, IsScenario}
 use Rattle.round.specs.Letters.{Letter, messages}
-use Rattle.round.specs.Told.{IsTreeOf, Heard, WasTold, lieutenant_at}
+use Rattle.round.specs.Told.{IsTreeOf, ToldSeen, WasTold, lieutenant_at}
 use Rattle.round.proofs.Delivering.{levels-same}
 use Rattle.round.proofs.EachTree.{AreChangedTo}
 use Rattle.round.proofs.Filling.{messages-past, messages-none}
@@ -18,7 +18,7 @@ length-more : (before : List (List Letter)) (row : List Letter) → length (befo
 length-more before row = let l = length-append before (row ∷ []) in omega arith
 
 -- there was a round
-pub some_told : (s : Scenario) (before : List (List Letter)) (row : List Letter) (h : Heard) → WasTold s (before ++ row ∷ []) h → h.rounds ≡ suc (length before)
+pub some_told : (s : Scenario) (before : List (List Letter)) (row : List Letter) (h : ToldSeen) → WasTold s (before ++ row ∷ []) h → h.rounds ≡ suc (length before)
 some_told s before row h told = told.rounds ∙ length-more before row
 
 -- without the letters of the last round
@@ -49,7 +49,7 @@ tree_less s before row g k t u is ek h same fill = record {
 }
 
 -- all trees
-pub told_less : (s : Scenario) (before : List (List Letter)) (row : List Letter) (h : Heard) (trees : List LieutenantTree) (i : ℕ) → IsScenario s → WasTold s (before ++ row ∷ []) h → AreChangedTo h.trees (λ M. blank M h.rounds) i trees → length trees ≤ i →
+pub told_less : (s : Scenario) (before : List (List Letter)) (row : List Letter) (h : ToldSeen) (trees : List LieutenantTree) (i : ℕ) → IsScenario s → WasTold s (before ++ row ∷ []) h → AreChangedTo h.trees (λ M. blank M h.rounds) i trees → length trees ≤ i →
     WasTold s before (record { rounds = h.rounds - 1; trees = trees })
 told_less s before row h trees i is told changed all =
     let rounds : h.rounds ≡ suc (length before) = some_told s before row h told in

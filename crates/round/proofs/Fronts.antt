@@ -1,42 +1,24 @@
 -- What the letters of closed rounds tell of a label, by its front and its last general.
 use Rattle.std.proofs.Common.{◌≡◌, ◌≢◌, ℕ, suc, ◌-◌, ◌<◌, ◌≤◌, List, [], ◌∷◌, ◌++◌, length, take, map, get_or, Bool, true, false, not, refl, sym, ap, ◌∙◌, Some, None, arith, length-append}
 use Rattle.std.specs.Prelude.{◌||◌, slice_get, slice_index, ◌==◌, ◌&&◌, bytes_eq}
-use Rattle.std.proofs.lemmas.Bool.{eq-eqb, ne_eqb, eqb-true, and_parts, true≢false}
+use Rattle.std.proofs.lemmas.Bool.{eq-eqb, ne_eqb, eqb-true, and_parts, true≢false, not-true}
 use Rattle.std.proofs.lemmas.Slice.Eq.{bytes_eq-Decides}
 use Rattle.label.specs.declared.shape.Shape.{Shape}
 use Rattle.label.specs.Labels.{on, is_distinct, others}
 use Rattle.label.specs.Oral.{AllBelow, IsLabel, order_of}
 use Rattle.label.specs.Relay.{relay, receivers}
 use Rattle.label.proofs.Counting.{on-push}
-use Rattle.label.proofs.Ranks.{others-at}
+use Rattle.label.proofs.Ranks.{others-at, is_distinct-push}
 use Rattle.std.proofs.lemmas.Bool.Decides.{nat_tests}
 use Rattle.label.proofs.Same.{label_stands}
 use Rattle.round.specs.Scenario.{Scenario}
-use Rattle.round.specs.Letters.{Letter, beside, tells, telling, told_by, letter_of, messages}
-use Rattle.round.specs.Contexts.{value_of}
+use Rattle.round.specs.Letters.{Letter, value_beside, tells, telling, told_by, letter_of, messages}
+use Rattle.round.specs.Contexts.{took}
 use Rattle.round.proofs.Lists.{beside-map, take-get_or}
-
-tests_one : (b c e f : Bool) → (not (b || c) && (e && not f)) ≡ ((not b && e) && not (c || f))
-tests_one true c e f = refl
-tests_one false true true f = refl
-tests_one false true false f = refl
-tests_one false false e f = refl
-
-eqb_sym : (a b : ℕ) → (a == b) ≡ (b == a)
-eqb_sym a b = grind (arith, nat_tests)
-
-is_distinct-push : (w : List ℕ) (j : ℕ) → is_distinct (w ++ j ∷ []) ≡ (is_distinct w && not (on w j))
-is_distinct-push [] j = refl
-is_distinct-push (x ∷ xs) j =
-    rw (on-push xs j x, is_distinct-push xs j, eqb_sym j x) (tests_one (on xs x) (x == j) (is_distinct xs) (on xs j))
 
 below-front : (n g : ℕ) (u : List ℕ) → AllBelow n (u ++ g ∷ []) → AllBelow n u × (g < n)
 below-front n g [] a = (tt, a.0)
 below-front n g (x ∷ xs) a = let b = below-front n g xs a.1 in ((a.0, b.0), b.1)
-
-not_true : (b : Bool) → not b ≡ true → b ≡ false
-not_true true h = cc
-not_true false h = refl
 
 pub record Front (n c g : ℕ) (u : List ℕ) : Type 0 where
   pub label : IsLabel n c u
@@ -47,7 +29,7 @@ pub front : (n c g x : ℕ) (xs : List ℕ) → IsLabel n c ((x ∷ xs) ++ g ∷
 front n c g x xs a =
     let b = below-front n g (x ∷ xs) a.below in
     let d = and_parts (is_distinct (x ∷ xs)) (not (on (x ∷ xs) g)) (sym (is_distinct-push (x ∷ xs) g) ∙ a.distinct) in
-    record { label = record { first = a.first; below = b.0; distinct = d.0 }; within = b.1; off = not_true (on (x ∷ xs) g) d.1 }
+    record { label = record { first = a.first; below = b.0; distinct = d.0 }; within = b.1; off = not-true (on (x ∷ xs) g) d.1 }
 
 -- g is not the commander where he stands behind him
 pub apart : (n c g x : ℕ) (xs : List ℕ) → IsLabel n c (x ∷ xs) → on (x ∷ xs) g ≡ false → g ≢ c
@@ -67,15 +49,15 @@ pub tells-telling : (s : Shape) (F : List ℕ → ℕ) (u : List ℕ) (p : ℕ) 
     → IsLabel s.generals s.commander (u ++ s.general ∷ []) → on (u ++ s.general ∷ []) p ≡ false → tells (telling s F) u p ≡ Some (F u)
 tells-telling s F u p inside r within a off =
     let at = relay_stands s u inside r a in
-    ap (λ row. beside (λ j. j == p) None (receivers s u) row)
+    ap (λ row. value_beside (λ j. j == p) None (receivers s u) row)
     (beside-map (λ v. bytes_eq v u) [] (λ v. map (λ j. Some (F v)) (receivers s v)) (relay s) u at.0 at.1 ((bytes_eq-Decides u u).1 refl) (λ y h. (bytes_eq-Decides y u).0 h))
     ∙ beside-map (λ j. j == p) None (λ j. Some (F u)) (receivers s u) p (length (others p (u ++ s.general ∷ []))) (others-at s.generals (u ++ s.general ∷ []) p within off) (eq-eqb p p refl) (λ y h. eqb-true y p h)
 
-last-push : (u : List ℕ) (g : ℕ) → slice_index (u ++ g ∷ []) (length u) ≡ g
+pub last-push : (u : List ℕ) (g : ℕ) → slice_index (u ++ g ∷ []) (length u) ≡ g
 last-push [] g = refl
 last-push (x ∷ xs) g = last-push xs g
 
-front-push : (u : List ℕ) (g : ℕ) → take (length u) (u ++ g ∷ []) ≡ u
+pub front-push : (u : List ℕ) (g : ℕ) → take (length u) (u ++ g ∷ []) ≡ u
 front-push [] g = refl
 front-push (x ∷ xs) g = ap (λ ys. x ∷ ys) (front-push xs g)
 
@@ -91,6 +73,6 @@ unfolding messages
 messages-front rounds k x xs p le =
     ap (λ ls. told_by (letter_of ls (slice_index (x ∷ xs) (length (x ∷ xs) - 1))) (take (length (x ∷ xs) - 1) (x ∷ xs)) p) (take-get_or rounds k (length (x ∷ xs) - 1) [] (omega arith))
 
-pub heard-front : (s : Scenario) (rounds : List (List Letter)) (u : List ℕ) (g : ℕ) → value_of s (take (length u) rounds) g u ≡ value_of s rounds g u
+pub heard-front : (s : Scenario) (rounds : List (List Letter)) (u : List ℕ) (g : ℕ) → took s (take (length u) rounds) g u ≡ took s rounds g u
 heard-front s rounds [] g = refl
 heard-front s rounds (x ∷ xs) g = ap order_of (messages-front rounds (length (x ∷ xs)) x xs g (omega arith))

@@ -10,22 +10,8 @@ use Rattle.outbox.specs.Rows.{RowOrders, order_in, order_of_row}
 use Rattle.round.specs.Letters.{Letter, letter_of}
 use Rattle.round.specs.Delivery.{AreTellers, order_in_letter, Tellers}
 use Rattle.round.specs.declared.front.Front.{Front}
-use Rattle.round.proofs.Lists.{either_way}
-
-some_same : {A : Type 0} {a b : A} → Some a ≡ Some b → a ≡ b
-some_same e = cc
-
-get_set : {A : Type 0} (xs : List A) (i : ℕ) (x : A) → i < length xs → slice_get (set xs i x) i ≡ Some x
-get_set [] i x less = absurd (omega arith)
-get_set (y ∷ xs) zero x less = refl
-get_set (y ∷ xs) (suc i) x less = get_set xs i x (omega arith)
-
-get_unset : {A : Type 0} (xs : List A) (i j : ℕ) (x : A) → (j ≡ i → ⊥) → slice_get (set xs i x) j ≡ slice_get xs j
-get_unset [] i j x ne = refl
-get_unset (y ∷ xs) zero zero x ne = absurd (ne refl)
-get_unset (y ∷ xs) zero (suc j) x ne = refl
-get_unset (y ∷ xs) (suc i) zero x ne = refl
-get_unset (y ∷ xs) (suc i) (suc j) x ne = get_unset xs i j x (λ e. ne (ap suc e))
+use Rattle.round.proofs.Lists.{some_same, get_set, get_unset}
+use Rattle.std.proofs.lemmas.Bool.{cases_Bool}
 
 -- the row of a letter, or of nobody where there is none
 pub or_nobody : (o : Option (Bor RowOrders)) (nobody : Bor RowOrders) (p : ℕ) → nobody.now ≡ [] → order_in p (unwrap_or o nobody).now ≡ order_of_row o p
@@ -91,7 +77,7 @@ next_gathered row n f x count t o h within small e tells = ⊎_elim
     (λ (q : slice_index_or f.on x false ≡ false).
     let more : count ≡ t.count + 1 = e ∙ ap (λ (b : Bool). t.count + cond {A = ℕ} (not b) 1 0) q in
     rw more (one_gathered row n f x t o h within small q tells))
-    (either_way (slice_index_or f.on x false))
+    (cases_Bool (slice_index_or f.on x false))
 
 pub one_at_most : (m : ℕ) (b : Bool) → m ≡ cond {A = ℕ} b 1 0 → m ≤ 1
 one_at_most m true e = omega arith

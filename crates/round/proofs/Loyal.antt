@@ -10,7 +10,7 @@ use Rattle.semantics.proofs.PlacesLaws.{row_from}
 use Rattle.outbox.specs.Contents.{Contents}
 use Rattle.round.specs.Scenario.{Scenario, IsScenario, shape_of}
 use Rattle.round.specs.Letters.{Letter, telling}
-use Rattle.round.specs.Contexts.{AreWords, value_of, context_numbers, context_of, IsToldTo, shape_told, tells_oral, outbox_told, letter_told, loyal_letter}
+use Rattle.round.specs.Contexts.{AreWords, took, context_numbers, context_of, IsToldTo, shape_told, tells_oral, outbox_told, letter_told, loyal_letter}
 use Rattle.round.specs.Laws.{ContextsTell, LoyalLettersFollow}
 use Rattle.round.proofs.Telling.{number_at, value_is_told}
 
@@ -18,7 +18,7 @@ use Rattle.round.proofs.Telling.{number_at, value_is_told}
 pub shape_is_told : (s : Scenario) (before : List (List Letter)) (g round : ℕ) → IsScenario s → shape_told g round (context_of s before g) ≡ shape_of s g round
 shape_is_told s before g round is =
     let shape = shape_of s g (suc (length before)) in
-    let numbers : List ℕ = context_numbers shape s.bound (map (value_of s before g) (relay shape)) in
+    let numbers : List ℕ = context_numbers shape s.bound (map (took s before g) (relay shape)) in
     let few = is.few in
     let inside = is.commander in
     let generals = number_at numbers 0 0 s.generals refl (omega arith) refl (omega arith) in
@@ -29,7 +29,7 @@ shape_is_told s before g round is =
 pub own_is_told : (s : Scenario) (before : List (List Letter)) (g : ℕ) → IsScenario s → g < s.generals → length before ≤ s.bound → IsToldTo g (suc (length before)) (context_of s before g)
 own_is_told s before g is inside le =
     let shape = shape_of s g (suc (length before)) in
-    let numbers : List ℕ = context_numbers shape s.bound (map (value_of s before g) (relay shape)) in
+    let numbers : List ℕ = context_numbers shape s.bound (map (took s before g) (relay shape)) in
     let few = is.few in
     let rounds = is.rounds in
     (number_at numbers 2 8 g refl (omega arith) refl (omega arith), number_at numbers 4 16 (suc (length before)) refl (omega arith) refl (omega arith))
@@ -38,7 +38,7 @@ own_is_told s before g is inside le =
 pub oral_is_told : (s : Scenario) (before : List (List Letter)) (g : ℕ) → IsScenario s → tells_oral (context_of s before g)
 oral_is_told s before g is =
     let shape = shape_of s g (suc (length before)) in
-    let numbers : List ℕ = context_numbers shape s.bound (map (value_of s before g) (relay shape)) in
+    let numbers : List ℕ = context_numbers shape s.bound (map (took s before g) (relay shape)) in
     number_at numbers 7 28 0 refl (omega arith) refl (omega arith)
 
 pub proved_contexts_tell : ContextsTell
@@ -63,10 +63,10 @@ number_rows shape F G a (w ∷ ws) h =
 
 -- what his context has is what he took
 told_is : (s : Scenario) (before : List (List Letter)) (g : ℕ) → IsScenario s → g < s.generals → length before ≤ s.bound → AreWords s before g
-    → outbox_told (shape_of s g (suc (length before))) (context_of s before g) ≡ telling (shape_of s g (suc (length before))) (value_of s before g)
+    → outbox_told (shape_of s g (suc (length before))) (context_of s before g) ≡ telling (shape_of s g (suc (length before))) (took s before g)
 told_is s before g is within le small =
     let shape = shape_of s g (suc (length before)) in
-    let rows = number_rows shape (λ rank. taken_value (context_of s before g) rank) (value_of s before g) 0 (relay shape)
+    let rows = number_rows shape (λ rank. taken_value (context_of s before g) rank) (took s before g) 0 (relay shape)
     (λ rank u at. (let z : 0 + rank ≡ rank = omega arith in ap (λ (n : ℕ). taken_value (context_of s before g) n) z ∙ value_is_told s before g rank u is within le at (small rank u at))) in
     (λ i. record { relay = oral shape; rows = rows i; entries = [] })
 

@@ -2,7 +2,7 @@
 use Rattle.std.proofs.Common.{◌≡◌, ◌≢◌, ℕ, zero, suc, ◌+◌, ◌-◌, ◌*◌, ◌<◌, ◌≤◌, List, [], ◌∷◌, length, take, get_or, Option, Some, Bool, true, false, refl, sym, ap, ◌∙◌, ⊎_elim, arith}
 use Rattle.std.specs.Prelude.{slice_get, slice_index, nat_lt, if◌then◌else◌}
 use Rattle.std.specs.Borrow.{Bor}
-use Rattle.std.proofs.lemmas.Bool.{ltb-true, ltb-false, ne_eqb}
+use Rattle.std.proofs.lemmas.Bool.{ltb-true, ltb-false, ne_eqb, cases_Bool}
 use Rattle.label.specs.Labels.{on, others, labels}
 use Rattle.outbox.specs.Receivers.{struck}
 use Rattle.outbox.specs.Rows.{RowOrders, order_in}
@@ -13,13 +13,8 @@ use Rattle.round.specs.Told.{told_now}
 use Rattle.round.specs.Delivery.{AreTellersOf, IsWalk, past}
 use Rattle.round.specs.declared.front.Front.{Front}
 use Rattle.round.proofs.Striking.{different, named, struck_before, struck_others, struck_past}
-use Rattle.round.proofs.Lists.{either_way}
+use Rattle.round.proofs.Lists.{some_at}
 use Rattle.round.proofs.Walking.{all_children, tell_child}
-
-some_at : {A : Type 0} (xs : List A) (i : ℕ) → i < length xs → (x : A) × (slice_get xs i ≡ Some x)
-some_at [] i lt = absurd (omega arith)
-some_at (x ∷ xs) zero lt = (x, refl)
-some_at (x ∷ xs) (suc i) lt = some_at xs i (omega arith)
 
 -- who stands at a number
 pub record IsTeller (t : LieutenantTree) (w : List ℕ) (x place : ℕ) : Type 0 where
@@ -92,4 +87,4 @@ module _ (t : LieutenantTree) (row : List Letter) (places : List ℕ) (k : ℕ) 
       let who = teller_past place behind few in
       tell_child t row places k f walk last c first width place (get_or a.generals (place + 1) 0) ew ef who.within who.away who.stands value
       (let row = some_at rows (place + 1) (let f = a.all.few in let l = a.all.wide in let m = c.few in omega arith) in is row.0 (ap (λ (i : ℕ). slice_get rows i) here ∙ row.1) ∙ a.all.rows (place + 1) t.general row.0 few row.1) w there)
-      (either_way (nat_lt place own))
+      (cases_Bool (nat_lt place own))

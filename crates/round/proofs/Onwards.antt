@@ -39,7 +39,7 @@ turn_taken (Asks q f) None new h = absurd h
 turn_taken Ended access new h = absurd h
 
 -- nothing that is not the general's
-all_none : (general round : ℕ) → AreAccessesOf general round []
+pub all_none : (general round : ℕ) → AreAccessesOf general round []
 all_none general round k d lt = absurd (omega arith)
 
 all_more : (general round : ℕ) (t : List Access) (x : Access) → AreAccessesOf general round t → (x.general ≡ general) × (x.round ≡ round) → AreAccessesOf general round (t ++ x ∷ [])

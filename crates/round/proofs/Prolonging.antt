@@ -1,7 +1,7 @@
 -- The ranks of a label with one general more.
 use Rattle.std.proofs.Common.{◌≡◌, ◌≢◌, ℕ, zero, suc, ◌+◌, ◌-◌, ◌*◌, ◌<◌, ◌≤◌, ◌^◌, List, [], ◌∷◌, ◌++◌, length, get_or, set, Bool, true, false, cond, refl, sym, ap, ◌∙◌, subst, Some, arith, ⊎_elim, length-append, replicate, length-set, get_or-set_same, get_or-set_other}
 use Rattle.std.specs.Prelude.{slice_get, slice_index, slice_index_or, ◌==◌, ◌||◌, nat_lt}
-use Rattle.std.proofs.lemmas.Bool.{eq-eqb, ne_eqb, or_parts, true≢false, ltb-true, ltb-false}
+use Rattle.std.proofs.lemmas.Bool.{eq-eqb, ne_eqb, or_parts, true≢false, ltb-true, ltb-false, cases_Bool}
 use Rattle.std.proofs.lemmas.Bool.Decides.{eqb_tells}
 use Rattle.label.specs.Labels.{on, others, labels}
 use Rattle.label.specs.Oral.{BeginsWith}
@@ -14,7 +14,6 @@ use Rattle.label.proofs.Places.{first_label}
 use Rattle.label.proofs.Pushes.{IsLabel-push}
 use Rattle.round.specs.Fronts.{IsFront}
 use Rattle.round.specs.declared.front.Front.{Front}
-use Rattle.round.proofs.Lists.{either_way}
 
 -- those below a general, with one lacked who is off the label
 pub below-lacked : (j x : ℕ) (w : List ℕ) → on w x ≡ false → length (others j (x ∷ w)) + cond {A = ℕ} (nat_lt x j) 1 0 ≡ length (others j w)
@@ -29,7 +28,7 @@ below-lacked j x w off = ⊎_elim
     let less : length (others j (w ++ x ∷ [])) ≡ length (others j w) = absent j w x le in
     let same : length (others j (x ∷ w)) ≡ length (others j (w ++ x ∷ [])) = ap length (turned j w x) in
     rw h (omega arith))
-    (either_way (nat_lt x j))
+    (cases_Bool (nat_lt x j))
 
 -- who is off the label is a lieutenant
 pub off-lieutenant : (c x : ℕ) (w : List ℕ) → BeginsWith c w → on w x ≡ false → x ≢ c

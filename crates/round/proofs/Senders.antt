@@ -11,10 +11,11 @@ use Rattle.semantics.specs.Relay.{Kind, Oral, Signed, Relay, oral}
 use Rattle.semantics.specs.declared.entry.Entry.{Entry}
 use Rattle.semantics.proofs.PlacesLaws.{row_from, rows_from}
 use Rattle.outbox.specs.Contents.{order_among, order_at}
-use Rattle.round.specs.Letters.{Letter, beside, tells, letter_of}
+use Rattle.round.specs.Letters.{Letter, value_beside, tells, letter_of}
+use Rattle.round.specs.Laws.{OutboxesTell}
 
 -- what stands beside the only element that passes
-beside-at : {A B : Type 0} (is : A → Bool) (d : B) (xs : List A) (ys : List B) (i : ℕ) (x : A) → slice_get xs i ≡ Some x → is x ≡ true → ((j : ℕ) (y : A) → slice_get xs j ≡ Some y → is y ≡ true → j ≡ i) → beside is d xs ys ≡ get_or ys i d
+beside-at : {A B : Type 0} (is : A → Bool) (d : B) (xs : List A) (ys : List B) (i : ℕ) (x : A) → slice_get xs i ≡ Some x → is x ≡ true → ((j : ℕ) (y : A) → slice_get xs j ≡ Some y → is y ≡ true → j ≡ i) → value_beside is d xs ys ≡ get_or ys i d
 beside-at is d [] ys i x at t only = cc
 beside-at is d (z ∷ xs) [] i x at t only = past i
   where
@@ -44,7 +45,7 @@ relay_differ s i j u commander general = ⊎_elim
     (eqb_tells s.general s.commander)
 
 -- by rank and receiver
-order_beside : (p k b : ℕ) (ns : List ℕ) (os : List (Option ℕ)) → order_among p (row_from k b ns) os ≡ beside (λ j. j == p) None ns os
+order_beside : (p k b : ℕ) (ns : List ℕ) (os : List (Option ℕ)) → order_among p (row_from k b ns) os ≡ value_beside (λ j. j == p) None ns os
 order_beside p k b [] os = refl
 order_beside p k b (n ∷ ns) [] = refl
 order_beside p k b (n ∷ ns) (o ∷ os) = ap (λ r. if n == p then o else r) (order_beside p k (b + 1) ns os)
@@ -59,7 +60,7 @@ places_at s a (suc i) (w ∷ ws) u at =
     let k : a + 1 + i ≡ a + suc i = omega arith in
     places_at s (a + 1) i ws u at ∙ ap (λ (m : ℕ). row_from m 0 (receivers s u)) k
 
-beside-nothing : {A B : Type 0} (is : A → Bool) (none : B) (xs : List A) → beside is none xs [] ≡ none
+beside-nothing : {A B : Type 0} (is : A → Bool) (none : B) (xs : List A) → value_beside is none xs [] ≡ none
 beside-nothing is none [] = refl
 beside-nothing is none (x ∷ xs) = refl
 
@@ -68,7 +69,7 @@ spoken_tells : (s : Shape) (outbox : List (List (Option ℕ))) (entries : List E
 spoken_tells s outbox entries u p rank commander general at =
     ap (λ ps. order_among p ps (get_or outbox rank [])) (places_at s 0 rank (relay s) u at)
     ∙ (order_beside p (0 + rank) 0 (receivers s u) (get_or outbox rank [])
-    ∙ sym (ap (λ row. beside (λ j. j == p) None (receivers s u) row)
+    ∙ sym (ap (λ row. value_beside (λ j. j == p) None (receivers s u) row)
     (beside-at (λ v. bytes_eq v u) [] (relay s) outbox rank u at ((bytes_eq-Decides u u).1 refl) (λ j y e h. relay_differ s j rank u commander general (e ∙ ap Some ((bytes_eq-Decides y u).0 h)) at))))
 
 kind_tells : (kind : Kind) (s : Shape) (outbox : List (List (Option ℕ))) (entries : List Entry) (u : List ℕ) (p rank : ℕ) → s.commander < s.generals → s.general < s.generals → slice_get (relay s) rank ≡ Some u →
@@ -80,6 +81,11 @@ kind_tells (Signed held) s outbox entries u p rank commander general at = sym (b
 pub order_tells : (r : Relay) (outbox : List (List (Option ℕ))) (entries : List Entry) (u : List ℕ) (p rank : ℕ) → r.shape.commander < r.shape.generals → r.shape.general < r.shape.generals → slice_get (relay r.shape) rank ≡ Some u →
     order_at r outbox rank p ≡ tells (record { relay = r; rows = outbox; entries = entries }) u p
 order_tells r outbox entries u p rank commander general at = kind_tells r.kind r.shape outbox entries u p rank commander general at
+
+pub proved_outboxes_tell : OutboxesTell
+proved_outboxes_tell = record {
+  orders = λ outbox label rank receiver is at. sym (order_tells outbox.relay outbox.rows outbox.entries label receiver rank is.commander is.general at);
+}
 
 -- where a general's letter stands
 pub letter_stands : (row : List Letter) (g : ℕ) (l : Letter) → letter_of row g ≡ Some l → (i : ℕ) × (slice_get row i ≡ Some l) × (l.general ≡ g)

@@ -6,8 +6,9 @@ use Rattle.std.proofs.lemmas.Bool.Decides.{eqb_tells, nat_tests}
 use Rattle.std.proofs.lemmas.Option.{slice_get_within, slice_get-get_or}
 use Rattle.label.specs.Labels.{on, others, generals}
 use Rattle.label.proofs.Counting.{others-on}
-use Rattle.label.proofs.Ranks.{others-more_no, others-more_yes}
+use Rattle.label.proofs.Ranks.{others-more_no, others-more_yes, eqb_sym}
 use Rattle.outbox.specs.Receivers.{struck}
+use Rattle.std.proofs.Math.Seq.{take-length}
 
 -- one name more
 next_struck : (p i : ℕ) (names : List ℕ) → i < length names → length (struck p (take (suc i) names)) ≡ length (struck p (take i names)) + cond {A = ℕ} (get_or names i 0 == p) 0 1
@@ -60,9 +61,6 @@ struck_past p names own (suc more) lt it apart =
     ap (λ (k : ℕ). length (struck p (take k names))) e ∙ (next ∙ (omega arith))
 
 -- one lacked besides
-eqb_sym : (a b : ℕ) → (a == b) ≡ (b == a)
-eqb_sym a b = grind (arith, nat_tests)
-
 struck_filter : (p : ℕ) (w xs : List ℕ) → struck p (filter (λ x. not (on w x)) xs) ≡ filter (λ x. not (on (p ∷ w) x)) xs
 struck_filter p w [] = refl
 struck_filter p w (x ∷ xs) =
@@ -83,10 +81,6 @@ take_left : (i : ℕ) (xs ys : List ℕ) → i ≤ length xs → take i (xs ++ y
 take_left zero xs ys le = refl
 take_left (suc i) [] ys le = absurd (omega arith)
 take_left (suc i) (x ∷ xs) ys le = ap (λ zs. x ∷ zs) (take_left i xs ys (omega arith))
-
-take_whole : (xs : List ℕ) → take (length xs) xs ≡ xs
-take_whole [] = refl
-take_whole (x ∷ xs) = ap (λ zs. x ∷ zs) (take_whole xs)
 
 get_left : (i x : ℕ) (xs ys : List ℕ) → i < length xs → slice_get (xs ++ ys) i ≡ Some x → slice_get xs i ≡ Some x
 get_left i x [] ys lt e = absurd (omega arith)
@@ -109,7 +103,7 @@ take_others (suc n) i x w at = elim (cases_Bool (on w n)) [
       ap (take i) (others-more_yes w n it) ∙ ⊎_elim
       (λ (q : (i == length (others n w) ≡ true) × (i ≡ length (others n w))).
       let last : x ≡ n = get_last x n (others n w) (sym (ap (λ (k : ℕ). slice_get (others n w ++ n ∷ []) k) q.1) ∙ at') in
-      ap (λ (k : ℕ). take k (others n w ++ n ∷ [])) q.1 ∙ (take_left (length (others n w)) (others n w) (n ∷ []) (omega arith) ∙ (take_whole (others n w) ∙ ap (λ (k : ℕ). others k w) (sym last))))
+      ap (λ (k : ℕ). take k (others n w ++ n ∷ [])) q.1 ∙ (take_left (length (others n w)) (others n w) (n ∷ []) (omega arith) ∙ (take-length (others n w) ∙ ap (λ (k : ℕ). others k w) (sym last))))
       (λ (q : (i == length (others n w) ≡ false) × (i ≢ length (others n w))).
       let less : i < length (others n w) = let ne = q.1 in omega arith in
       take_left i (others n w) (n ∷ []) (omega arith) ∙ take_others n i x w (get_left i x (others n w) (n ∷ []) less at'))

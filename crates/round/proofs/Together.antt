@@ -1,7 +1,7 @@
 -- The trees of all lieutenants, along one walk of the labels.
 use Rattle.std.proofs.Common.{◌≡◌, ◌≢◌, ℕ, ◌+◌, ◌-◌, ◌*◌, ◌<◌, List, [], ◌∷◌, ◌++◌, length, get_or, Bool, true, false, ◌||◌, cond, refl, sym, ap, subst, ◌∙◌, Some, Option, arith, ⊎_elim}
 use Rattle.std.specs.Prelude.{slice_get, slice_index, slice_index_or, ◌==◌}
-use Rattle.std.proofs.lemmas.Bool.{eq-eqb, ne_eqb, true≢false}
+use Rattle.std.proofs.lemmas.Bool.{eq-eqb, ne_eqb, true≢false, cases_Bool}
 use Rattle.std.proofs.lemmas.Bool.Decides.{eqb_tells}
 use Rattle.std.proofs.lemmas.Option.{slice_get_within, slice_get-get_or, slice_get_read}
 use Rattle.label.specs.declared.shape.Shape.{Shape}
@@ -15,18 +15,18 @@ use Rattle.tree.specs.LieutenantTree.{LieutenantTree, IsFilled, SameCampaign, to
 use Rattle.round.specs.Letters.{Letter, letter_of}
 use Rattle.round.specs.Fronts.{IsFront, under}
 use Rattle.round.specs.Told.{round_of, told_now}
-use Rattle.round.specs.Delivery.{AreEach, AreOfCampaign, AreTellers, IsDueIn, IsFilledBetween, IsRoute, IsTold, IsToldUnder, IsWalk, first_under, order_in_letter, Tellers}
+use Rattle.round.specs.Delivery.{AreEach, AreOfCampaign, AreTellers, IsDueIn, FillsFromTo, IsRoute, IsTold, IsToldUnder, IsWalk, first_under, order_in_letter, Tellers}
 use Rattle.round.specs.declared.front.Front.{Front}
-use Rattle.round.proofs.Lists.{either_way}
 use Rattle.round.proofs.Delivering.{none_heard, told_all, told_none, told_on, told_one}
 use Rattle.round.proofs.Walking.{all_children, child_long, first_told, same_campaign, same_due, told_ends, under_first, under_past}
 use Rattle.round.proofs.Descending.{all_walked, child_first, child_past}
+use Rattle.std.proofs.Math.Bool.{or-true}
 
 -- what was told of the labels that begin with this one, up to those where a general below x is next
 pub record IsToldUpTo (row : List Letter) (k : ℕ) (f : Front) (x : ℕ) (t u : LieutenantTree) : Type 0 where
   pub on : slice_index_or f.on t.general false ≡ true → u ≡ t
   pub off : slice_index_or f.on t.general false ≡ false → (w : List ℕ) → IsFront t.generals t.commander w f →
-      IsFilledBetween t row k (first_under t f k) ((slice_index f.ranks t.general * (t.generals - (f.size + 1)) + length (others x (t.general ∷ w))) * under t.generals (f.size + 1) (k - (f.size + 1))) u
+      FillsFromTo t row k (first_under t f k) ((slice_index f.ranks t.general * (t.generals - (f.size + 1)) + length (others x (t.general ∷ w))) * under t.generals (f.size + 1) (k - (f.size + 1))) u
 
 same_tree : {a b : LieutenantTree} → Some a ≡ Some b → a ≡ b
 same_tree e = cc
@@ -66,7 +66,7 @@ pub same_up : (n c : ℕ) (row : List Letter) (k : ℕ) (f : Front) (x : ℕ) (w
 same_up n c row k f x w t u d front h = ⊎_elim
     (λ (q : slice_index_or f.on t.general false ≡ true). let e : u ≡ t = h.on q in rw e (record { generals = refl; bound = refl; commander = refl; general = refl }))
     (λ (q : slice_index_or f.on t.general false ≡ false). (h.off q w (own_front n c row f w t d front)).same)
-    (either_way (slice_index_or f.on t.general false))
+    (cases_Bool (slice_index_or f.on t.general false))
 
 due_after : (n c : ℕ) (row : List Letter) (t u : LieutenantTree) → IsDueIn n c row t → SameCampaign t u → IsDueIn n c row u
 due_after n c row t u d same = record {
@@ -111,10 +111,6 @@ off_more p x w it =
     let one : cond {A = ℕ} (on (p ∷ w) x) 0 1 ≡ 1 = ap (λ (q : Bool). cond {A = ℕ} q 0 1) it in
     omega arith
 
-or_true : (b : Bool) → (b || true) ≡ true
-or_true true = refl
-or_true false = refl
-
 -- past someone who stands on the label
 pub up_on : (n : ℕ) (row : List Letter) (places : List ℕ) (k : ℕ) (f : Front) (old cur : List LieutenantTree) → IsRoute n row places k f old → (x : ℕ) → x < n → slice_index_or f.on x false ≡ true → AreEach (IsToldUpTo row k f x) old cur → AreEach (IsToldUpTo row k f (x + 1)) old cur
 up_on n row places k f old cur route x within mark told = record {
@@ -126,7 +122,7 @@ up_on n row places k f old cur route x within mark told = record {
         on = h.on;
         off = λ q w front.
             let within' : x < t.generals = let e = d.generals in omega arith in
-            let there : on (t.general ∷ w) x ≡ true = rw (sym (front.marks x within') ∙ mark) (or_true (t.general == x)) in
+            let there : on (t.general ∷ w) x ≡ true = rw (sym (front.marks x within') ∙ mark) (or-true (t.general == x)) in
             told_ends t row k _ _ _ _ u refl (ap (λ (m : ℕ). (slice_index f.ranks t.general * (t.generals - (f.size + 1)) + m) * under t.generals (f.size + 1) (k - (f.size + 1))) (on_same t.general x w there)) (h.off q w front);
       };
 }
@@ -144,7 +140,7 @@ one_off n row places k f g old route x within mark child t u v d h below =
       on = λ q. below.on (longer ∙ rw (sym short ∙ q) refl) ∙ h.on q;
       off = λ q w front. ⊎_elim
           (λ (r : (x == u.general ≡ true) × (x ≡ u.general)).
-          let still : v ≡ u = below.on (longer ∙ rw r.0 (or_true (on route.w u.general))) in
+          let still : v ≡ u = below.on (longer ∙ rw r.0 (or-true (on route.w u.general))) in
           let here : (t.general == x) ≡ true = eq-eqb t.general x (sym same.general ∙ sym r.1) in
           let there : on (t.general ∷ w) x ≡ true = rw here refl in
           rw still (told_ends t row k _ _ _ _ u refl (ap (λ (m : ℕ). (slice_index f.ranks t.general * (t.generals - (f.size + 1)) + m) * under t.generals (f.size + 1) (k - (f.size + 1))) (on_same t.general x w there)) (h.off q w front)))

@@ -1,51 +1,33 @@
 -- The trees of those off a label, each found by its lieutenant.
 use Rattle.std.proofs.Common.{◌≡◌, ◌≢◌, ℕ, zero, suc, ◌+◌, ◌<◌, ◌≤◌, List, [], ◌∷◌, ◌++◌, length, take, get_or, set, Bool, true, false, ◌||◌, refl, sym, ap, ◌∙◌, Some, arith, ⊎_elim, get_or-set_same, get_or-set_other, length-set, replicate}
 use Rattle.std.specs.Prelude.{slice_get, slice_index, slice_index_or, ◌==◌}
-use Rattle.std.proofs.lemmas.Bool.{eq-eqb, ne_eqb, true≢false}
+use Rattle.std.proofs.lemmas.Bool.{eq-eqb, ne_eqb, true≢false, cases_Bool}
 use Rattle.std.proofs.lemmas.Bool.Decides.{eqb_tells}
-use Rattle.std.proofs.lemmas.List.{take_more}
+use Rattle.std.proofs.lemmas.List.{take_more, get_or-replicate}
 use Rattle.std.proofs.lemmas.Option.{slice_get-get_or, slice_get_read, slice_get_within}
 use Rattle.label.specs.Labels.{on, others}
 use Rattle.label.proofs.Bounds.{others_here}
 use Rattle.label.proofs.Counting.{on-push, others-on}
 use Rattle.tree.specs.LieutenantTree.{LieutenantTree}
 use Rattle.round.specs.Letters.{Letter}
-use Rattle.round.specs.Delivery.{AreApart, AreEach, AreTellers, AreTellersOf, IsDueIn, IsFilledBetween, IsRoute, IsToldUnder, IsTreeTable, IsWalk, Tellers, first_under, past_under}
+use Rattle.round.specs.Delivery.{AreApart, AreEach, AreTellers, AreTellersOf, IsDueIn, FillsFromTo, IsRoute, IsToldUnder, AreTreeIndices, IsWalk, Tellers, first_under, past_under}
 use Rattle.round.specs.declared.front.Front.{Front}
-use Rattle.round.proofs.Lists.{either_way}
+use Rattle.round.proofs.Lists.{some_same, get_set, get_unset}
 use Rattle.round.proofs.Striking.{named, on_get, take_get, take_others, take_twice}
 use Rattle.round.proofs.Together.{IsToldUpTo, own_front, own_tellers, own_walk, same_up}
-
-some_same : {A : Type 0} {a b : A} → Some a ≡ Some b → a ≡ b
-some_same e = cc
+use Rattle.std.proofs.Math.Bool.{or-true}
 
 or_false : (b : Bool) → (b || false) ≡ b
 or_false true = refl
 or_false false = refl
 
-or_true : (b : Bool) → (b || true) ≡ true
-or_true true = refl
-or_true false = refl
-
-get_set : (xs : List LieutenantTree) (i : ℕ) (x : LieutenantTree) → i < length xs → slice_get (set xs i x) i ≡ Some x
-get_set [] i x lt = absurd (omega arith)
-get_set (y ∷ xs) zero x lt = refl
-get_set (y ∷ xs) (suc i) x lt = get_set xs i x (omega arith)
-
-get_unset : (xs : List LieutenantTree) (i j : ℕ) (x : LieutenantTree) → (j ≡ i → ⊥) → slice_get (set xs i x) j ≡ slice_get xs j
-get_unset [] i j x ne = refl
-get_unset (y ∷ xs) zero zero x ne = absurd (ne refl)
-get_unset (y ∷ xs) zero (suc j) x ne = refl
-get_unset (y ∷ xs) (suc i) zero x ne = refl
-get_unset (y ∷ xs) (suc i) (suc j) x ne = get_unset xs i j x (λ e. ne (ap suc e))
-
 -- the table, tree by tree
-pub record IsTableUpTo (trees : List LieutenantTree) (i : ℕ) (table : List ℕ) : Type 0 where
+pub record AreTreeIndicesUpTo (trees : List LieutenantTree) (i : ℕ) (table : List ℕ) : Type 0 where
   pub long : length table ≡ 13
   pub found : (j : ℕ) (t : LieutenantTree) → j < i → slice_get trees j ≡ Some t → slice_index table t.general ≡ j
   pub only : (g : ℕ) (t : LieutenantTree) → g < 13 → slice_get trees (slice_index table g) ≡ Some t → t.general ≡ g
 
-pub table_next : (trees : List LieutenantTree) (i : ℕ) (table : List ℕ) (t : LieutenantTree) (g : ℕ) → AreApart trees → IsTableUpTo trees i table → i < length trees → t ≡ get_or trees i t → g ≡ t.general → g < 13 → IsTableUpTo trees (i + 1) (set table g i)
+pub table_next : (trees : List LieutenantTree) (i : ℕ) (table : List ℕ) (t : LieutenantTree) (g : ℕ) → AreApart trees → AreTreeIndicesUpTo trees i table → i < length trees → t ≡ get_or trees i t → g ≡ t.general → g < 13 → AreTreeIndicesUpTo trees (i + 1) (set table g i)
 table_next trees i table t g apart h lt at eg small =
     let here : slice_get trees i ≡ Some t = slice_get_read trees (length trees) i t refl lt at in
     let room : g < length table = let l = h.long in omega arith in
@@ -68,22 +50,17 @@ table_next trees i table t g apart h lt at eg small =
           (eqb_tells x g);
     }
 
-get_all : (n x i : ℕ) → i < n → get_or (replicate n x) i 0 ≡ x
-get_all zero x i lt = absurd (omega arith)
-get_all (suc n) x zero lt = refl
-get_all (suc n) x (suc i) lt = get_all n x i (omega arith)
-
-pub table_from : (trees : List LieutenantTree) (none : ℕ) → none ≡ length trees → IsTableUpTo trees 0 (replicate 13 none)
+pub table_from : (trees : List LieutenantTree) (none : ℕ) → none ≡ length trees → AreTreeIndicesUpTo trees 0 (replicate 13 none)
 table_from trees none e = record {
   long = refl;
   found = λ j t lt there. absurd (omega arith);
   only = λ g t within there.
-      let past : slice_index (replicate 13 none) g ≡ none = get_all 13 none g within in
+      let past : slice_index (replicate 13 none) g ≡ none = get_or-replicate 13 g none 0 within in
       let inside = slice_get_within trees (slice_index (replicate 13 none) g) t there in
       absurd (omega arith);
 }
 
-pub table_all : (trees : List LieutenantTree) (i : ℕ) (table : List ℕ) → IsTableUpTo trees i table → length trees ≤ i → IsTreeTable trees table
+pub table_all : (trees : List LieutenantTree) (i : ℕ) (table : List ℕ) → AreTreeIndicesUpTo trees i table → length trees ≤ i → AreTreeIndices trees table
 table_all trees i table h all = record {
   long = h.long;
   found = λ j t there. h.found j t (let l = slice_get_within trees j t there in omega arith) there;
@@ -91,7 +68,7 @@ table_all trees i table h all = record {
 }
 
 -- the lieutenants stay
-pub table_stays : (old new : List LieutenantTree) (table : List ℕ) → IsTreeTable old table → length new ≡ length old → ((j : ℕ) (t u : LieutenantTree) → slice_get old j ≡ Some t → slice_get new j ≡ Some u → u.general ≡ t.general) → IsTreeTable new table
+pub table_stays : (old new : List LieutenantTree) (table : List ℕ) → AreTreeIndices old table → length new ≡ length old → ((j : ℕ) (t u : LieutenantTree) → slice_get old j ≡ Some t → slice_get new j ≡ Some u → u.general ≡ t.general) → AreTreeIndices new table
 table_stays old new table h long same = record {
   long = h.long;
   found = λ j u there.
@@ -133,9 +110,9 @@ name_is_new n x i count w names all lt room at =
     ⊎_elim
     (λ (q : on (take i names) x ≡ true). let l = (others-on x w x (sym (ap (λ xs. on xs x) below) ∙ q)).0 in absurd (omega arith))
     (λ (q : on (take i names) x ≡ false). q)
-    (either_way (on (take i names) x))
+    (cases_Bool (on (take i names) x))
 
-module _ (n : ℕ) (row : List Letter) (places : List ℕ) (k : ℕ) (f : Front) (old : List LieutenantTree) (route : IsRoute n row places k f old) (table : List ℕ) (s : IsTreeTable old table) (tellers : Tellers) (all : AreTellers row n f n tellers) (i x place : ℕ) (lt : i < tellers.count) (at : x ≡ get_or tellers.generals i 0) (found : place ≡ slice_index table x) where
+module _ (n : ℕ) (row : List Letter) (places : List ℕ) (k : ℕ) (f : Front) (old : List LieutenantTree) (route : IsRoute n row places k f old) (table : List ℕ) (s : AreTreeIndices old table) (tellers : Tellers) (all : AreTellers row n f n tellers) (i x place : ℕ) (lt : i < tellers.count) (at : x ≡ get_or tellers.generals i 0) (found : place ≡ slice_index table x) where
   room : i < length tellers.generals
   room = let a = all.few in let l = all.long in let m = route.few in omega arith
 
@@ -205,7 +182,7 @@ module _ (n : ℕ) (row : List Letter) (places : List ℕ) (k : ℕ) (f : Front)
       }
 
   pub named_next : (new : List LieutenantTree) (t u : LieutenantTree) → AreNamedTold row k f (take i tellers.generals) old new → place < length new → t ≡ get_or new place t →
-      ((letters : List Letter) (posts : List ℕ) → IsWalk t letters posts k f → AreTellersOf letters t f i tellers.rows → IsFilledBetween t letters k (first_under t f k) (past_under t f k) u) → AreNamedTold row k f (take (i + 1) tellers.generals) old (set new place u)
+      ((letters : List Letter) (posts : List ℕ) → IsWalk t letters posts k f → AreTellersOf letters t f i tellers.rows → FillsFromTo t letters k (first_under t f k) (past_under t f k) u) → AreNamedTold row k f (take (i + 1) tellers.generals) old (set new place u)
   named_next new t u h inside read told =
       let next = is_next new t h inside read in
       let filled = told row places next.walk next.tellers_of in
@@ -224,7 +201,7 @@ module _ (n : ℕ) (row : List Letter) (places : List ℕ) (k : ℕ) (f : Front)
         left = λ j a b was now no_name. ⊎_elim
             (λ (q : (j == place ≡ true) × (j ≡ place)).
             let same : x ≡ a.general = sym next.own ∙ ap (λ (v : LieutenantTree). v.general) (first next.was j a q.1 was) in
-            let named_now : on (take i tellers.generals ++ x ∷ []) a.general ≡ true = on-push (take i tellers.generals) x a.general ∙ rw (eq-eqb x a.general same) (or_true (on (take i tellers.generals) a.general)) in
+            let named_now : on (take i tellers.generals ++ x ∷ []) a.general ≡ true = on-push (take i tellers.generals) x a.general ∙ rw (eq-eqb x a.general same) (or-true (on (take i tellers.generals) a.general)) in
             absurd (true≢false (sym named_now ∙ no_name)))
             (λ (q : (j == place ≡ false) × (j ≢ place)). h.left j a b was (sym (get_unset new place j u q.1) ∙ now) (sym (unnamed (take i tellers.generals) x a.general (elsewhere j a was q.1)) ∙ no_name))
             (eqb_tells j place);
@@ -247,7 +224,7 @@ not_in_others : (n p : ℕ) (w : List ℕ) → on w p ≡ true → on (others n 
 not_in_others n p w there = ⊎_elim
     (λ (q : on (others n w) p ≡ true). absurd (true≢false (sym there ∙ (others-on n w p q).1)))
     (λ (q : on (others n w) p ≡ false). q)
-    (either_way (on (others n w) p))
+    (cases_Bool (on (others n w) p))
 
 pub named_all : (n : ℕ) (row : List Letter) (places : List ℕ) (k : ℕ) (f : Front) (old new : List LieutenantTree) (route : IsRoute n row places k f old) (tellers : Tellers) → AreTellers row n f n tellers → AreNamedTold row k f (take tellers.count tellers.generals) old new → AreEach (IsToldUnder row k f) old new
 named_all n row places k f old new route tellers all h = record {
@@ -264,7 +241,7 @@ named_all n row places k f old new route tellers all h = record {
 }
 
 -- along the walk
-pub table_up : (n : ℕ) (row : List Letter) (places : List ℕ) (k : ℕ) (f : Front) (old cur : List LieutenantTree) (route : IsRoute n row places k f old) (x : ℕ) → AreEach (IsToldUpTo row k f x) old cur → (table : List ℕ) → IsTreeTable old table → IsTreeTable cur table
+pub table_up : (n : ℕ) (row : List Letter) (places : List ℕ) (k : ℕ) (f : Front) (old cur : List LieutenantTree) (route : IsRoute n row places k f old) (x : ℕ) → AreEach (IsToldUpTo row k f x) old cur → (table : List ℕ) → AreTreeIndices old table → AreTreeIndices cur table
 table_up n row places k f old cur route x told table h =
     table_stays old cur table h told.count (λ j t u was now. (same_up n route.c row k f x route.w t u (route.due j t was) route.front (told.each j t u was now)).general)
 

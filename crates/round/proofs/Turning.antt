@@ -1,19 +1,18 @@
 -- One step of the machine is one turn.
 use Rattle.std.proofs.Common.{◌≡◌, ℕ, zero, suc, ◌+◌, ◌<◌, ◌≤◌, List, [], Bool, true, false, cond, Some, None, Option, refl, sym, ap, subst, ◌∙◌, arith, ◌||◌}
-use Rattle.std.proofs.lemmas.Bool.{leb-false}
+use Rattle.std.proofs.lemmas.Bool.{leb-false, or_parts}
 use Rattle.insn.specs.declared.insn.Insn.{Insn}
 use Rattle.semantics.specs.Relay.{Relay}
 use Rattle.semantics.specs.declared.request.Request.{Request}
 use Rattle.semantics.specs.State.{State, Outcome, Next, Ask, Exit, Trap}
 use Rattle.semantics.specs.Execution.{step}
-use Rattle.semantics.specs.Run.{Exited as Left}
 use Rattle.semantics.specs.Whole.{CountsOnce}
 use Rattle.semantics.proofs.StepLaws.{step_counts}
 use Rattle.machine.specs.Standing.{Standing, before}
-use Rattle.machine.specs.declared.pause.Stop.{Stop}
-use Rattle.machine.specs.declared.pause.Stop.TheVariants.{Asked, Exited, Limit}
+use Rattle.machine.specs.declared.stop.Stop.{Stop}
+use Rattle.machine.specs.declared.stop.Stop.TheVariants.{Asked, Exited, Limit}
 use Rattle.semantics.specs.Reached.{Reached}
-use Rattle.machine.specs.Advance.{IsOfRun, Leads, Requests, Advances, StandsAt, paused}
+use Rattle.machine.specs.Advance.{IsOfRun, Leads, Requests, Advances}
 use Rattle.round.specs.Activation.{Activation, Turn, Goes, Asks, Ended, turned, turn, has_ended, is_reached}
 use Rattle.round.specs.Runs.{Onward, Runs, IsWithin}
 use Rattle.round.proofs.Patience.{runs_under}
@@ -40,35 +39,33 @@ one_taken program context relay (suc (suc n)) s t leads past exactly =
 
 -- what was asked is the step's request, and taken back it is the state before
 asked_one : (program : List Insn) (context : List ℕ) (relay : Relay) (answers : List (List ℕ)) (s : State) (new : Standing) (r : Request) →
-    Requests program context relay answers (s.steps + 1) s r (record { relay = new.relay; request = r; last = before new.state; state = new.state }) → s ≡ before new.state
-asked_one program context relay answers s new r h = none_taken program context relay h.taken s (before new.state) h.leads h.before
+    Requests program context relay answers (s.steps + 1) s r new → s ≡ before new.state
+asked_one program context relay answers s new r h = none_taken program context relay h.taken s (before new.state) h.leads (let most = h.early in let counted = h.counted in omega arith)
 
 pub stopped : (program : List Insn) (context : List ℕ) (relay : Relay) (answers : List (List ℕ)) (s : State) (new : Standing) (result : Stop) →
-    Advances program context relay answers (s.steps + 1) s (paused new result) → StandsAt program context relay answers result new.state →
+    Advances program context relay answers (s.steps + 1) s result new →
     Stopped (step program context relay s) result new.state × IsBack result s new.state
-stopped program context relay answers s new (Asked r) h at =
+stopped program context relay answers s new (Asked r) h =
     let same = asked_one program context relay answers s new r h in
     let is : step program context relay s ≡ Ask r new.state = ap (λ (u : State). step program context relay u) same ∙ h.asks in
     (subst (λ (o : Outcome). Stopped o (Asked r) new.state) (sym is) (refl, refl), sym same)
-stopped program context relay answers s new (Exited n) h at =
-    let same : s ≡ h.last = none_taken program context relay h.taken s h.last h.leads h.before in
-    let is : step program context relay s ≡ Exit h.r0 h.out = ap (λ (u : State). step program context relay u) same ∙ h.exit in
-    let ends : Left n new.state ≡ Left h.r0 h.out = sym at ∙ h.run in
-    (subst (λ (o : Outcome). Stopped o (Exited n) new.state) (sym is) (cc, cc), tt)
-stopped program context relay answers s new Limit h at =
+stopped program context relay answers s new (Exited n) h =
+    let same : s ≡ h.last = none_taken program context relay h.taken s h.last h.leads h.early in
+    let is : step program context relay s ≡ Exit n new.state = ap (λ (u : State). step program context relay u) same ∙ h.exit in
+    (subst (λ (o : Outcome). Stopped o (Exited n) new.state) (sym is) (refl, refl), tt)
+stopped program context relay answers s new Limit h =
     (subst (λ (o : Outcome). Stopped o Limit new.state) (sym (one_taken program context relay h.taken s new.state h.leads h.past h.exactly)) refl, tt)
 
 -- as the machine is called
 pub stopped_with : (program : List Insn) (bytes context : List ℕ) (old new : Standing) (limit : ℕ) (result : Stop) → context ≡ bytes → limit ≡ old.state.steps + 1 → IsOfRun program bytes old →
-    ((answers : List (List ℕ)) → Reached program context old.relay answers old.state → Advances program context old.relay answers limit old.state (paused new result)) →
-    ((answers : List (List ℕ)) → Reached program context old.relay answers old.state → StandsAt program context old.relay answers result new.state) →
+    ((answers : List (List ℕ)) → Reached program context old.relay answers old.state → Advances program context old.relay answers limit old.state result new) →
     Stopped (step program bytes old.relay old.state) result new.state × IsBack result old.state new.state
-stopped_with program bytes context old new limit result same counted run advances stands =
+stopped_with program bytes context old new limit result same counted run advances =
     let reached : Reached program context old.relay run.answers old.state = subst (λ (l : List ℕ). Reached program l old.relay run.answers old.state) (sym same) run.reached in
-    let a : Advances program context old.relay run.answers (old.state.steps + 1) old.state (paused new result) =
-    subst (λ (n : ℕ). Advances program context old.relay run.answers n old.state (paused new result)) counted (advances run.answers reached) in
+    let a : Advances program context old.relay run.answers (old.state.steps + 1) old.state result new =
+    subst (λ (n : ℕ). Advances program context old.relay run.answers n old.state result new) counted (advances run.answers reached) in
     subst (λ (l : List ℕ). Stopped (step program l old.relay old.state) result new.state × IsBack result old.state new.state) same
-    (stopped program context old.relay run.answers old.state new result a (stands run.answers reached))
+    (stopped program context old.relay run.answers old.state new result a)
 
 -- a run of the machine without an access is one of turns
 module _ (program : List Insn) (context : List ℕ) (relay : Relay) where
@@ -108,37 +105,34 @@ Stood (Exited n) s = s
 Stood Limit s = s
 
 pub ahead_by : (program : List Insn) (context : List ℕ) (relay : Relay) (answers : List (List ℕ)) (limit : ℕ) (s : State) (new : Standing) (result : Stop) →
-    Advances program context relay answers limit s (paused new result) → StandsAt program context relay answers result new.state →
+    Advances program context relay answers limit s result new →
     Silently (activation_of None program context (record { relay = relay; state = s }) false) (activation_of None program context (record { relay = relay; state = Stood result new.state }) (IsOver result))
     × Pauses limit (activation_of None program context (record { relay = relay; state = Stood result new.state }) (IsOver result)) (turn (activation_of None program context (record { relay = relay; state = Stood result new.state }) (IsOver result)))
-ahead_by program context relay answers limit s new (Asked r) h at =
+ahead_by program context relay answers limit s new (Asked r) h =
     ((h.taken, leads_runs program context relay h.taken s (before new.state) h.leads), asks_pause program context relay limit (before new.state) new.state r h.asks)
-ahead_by program context relay answers limit s new (Exited n) h at =
-    let ends : Left n new.state ≡ Left h.r0 h.out = sym at ∙ h.run in
-    let same : h.out ≡ new.state = cc in
-    ((suc h.taken, leads_exits program context relay h.taken s h.last new.state h.r0 h.leads (h.exit ∙ ap (λ (u : State). Exit h.r0 u) same)), tt)
-ahead_by program context relay answers limit s new Limit h at =
+ahead_by program context relay answers limit s new (Exited n) h =
+    ((suc h.taken, leads_exits program context relay h.taken s h.last new.state n h.leads h.exit), tt)
+ahead_by program context relay answers limit s new Limit h =
     ((h.taken, leads_runs program context relay h.taken s new.state h.leads), late_pause program context relay limit (activation_of None program context (record { relay = relay; state = new.state }) false) (turn (activation_of None program context (record { relay = relay; state = new.state }) false)) h.past)
 
 -- as the machine is called
 pub ahead_with : (program : List Insn) (bytes context : List ℕ) (old new : Standing) (limit : ℕ) (result : Stop) → context ≡ bytes → IsOfRun program bytes old →
-    ((answers : List (List ℕ)) → Reached program context old.relay answers old.state → Advances program context old.relay answers limit old.state (paused new result)) →
-    ((answers : List (List ℕ)) → Reached program context old.relay answers old.state → StandsAt program context old.relay answers result new.state) →
+    ((answers : List (List ℕ)) → Reached program context old.relay answers old.state → Advances program context old.relay answers limit old.state result new) →
     (stood : Standing) → stood.relay ≡ old.relay → stood.state ≡ Stood result new.state →
     Silently (activation_of None program bytes old false) (activation_of None program bytes stood (IsOver result)) × Pauses limit (activation_of None program bytes stood (IsOver result)) (turn (activation_of None program bytes stood (IsOver result)))
-ahead_with program bytes context old new limit result same run advances stands stood shape_is state_is =
+ahead_with program bytes context old new limit result same run advances stood shape_is state_is =
     let reached : Reached program context old.relay run.answers old.state = subst (λ (l : List ℕ). Reached program l old.relay run.answers old.state) (sym same) run.reached in
-    let done = ahead_by program context old.relay run.answers limit old.state new result (advances run.answers reached) (stands run.answers reached) in
+    let done = ahead_by program context old.relay run.answers limit old.state new result (advances run.answers reached) in
     let A : List ℕ → Standing → Type 0 = λ l st. Silently (activation_of None program l old false) (activation_of None program l st (IsOver result)) × Pauses limit (activation_of None program l st (IsOver result)) (turn (activation_of None program l st (IsOver result))) in
     let there : record { relay = old.relay; state = Stood result new.state } ≡ stood = (λ i. record { relay = sym shape_is i; state = sym state_is i }) in
     subst (λ (l : List ℕ). A l stood) same (subst (λ (st : Standing). A context st) there done)
 
 -- how many steps it has then
 pub taken_within : (program : List Insn) (context : List ℕ) (relay : Relay) (answers : List (List ℕ)) (limit m : ℕ) (s : State) (new : Standing) (result : Stop) →
-    Advances program context relay answers limit s (paused new result) → StandsAt program context relay answers result new.state → s.steps ≤ m → limit ≤ m → (Stood result new.state).steps ≤ m
-taken_within program context relay answers limit m s new (Asked r) h at few le = (let b = h.before in omega arith)
-taken_within program context relay answers limit m s new (Exited n) h at few le = (let b = h.before in let c = h.counted in omega arith)
-taken_within program context relay answers limit m s new Limit h at few le = by h.taken refl
+    Advances program context relay answers limit s result new → s.steps ≤ m → limit ≤ m → (Stood result new.state).steps ≤ m
+taken_within program context relay answers limit m s new (Asked r) h few le = (let b = h.early in omega arith)
+taken_within program context relay answers limit m s new (Exited n) h few le = (let b = h.early in let c = h.counted in omega arith)
+taken_within program context relay answers limit m s new Limit h few le = by h.taken refl
   where
     by : (n : ℕ) → h.taken ≡ n → new.state.steps ≤ m
     by zero e = (let z = leads_counts program context relay h.taken s new.state h.leads in omega arith)
@@ -177,12 +171,11 @@ module _ (p : Option ℕ) (program : List Insn) (context : List ℕ) where
 
 -- as the machine is called
 pub within_with : (program : List Insn) (bytes context : List ℕ) (old new : Standing) (limit : ℕ) (result : Stop) → context ≡ bytes → IsOfRun program bytes old →
-    ((answers : List (List ℕ)) → Reached program context old.relay answers old.state → Advances program context old.relay answers limit old.state (paused new result)) →
-    ((answers : List (List ℕ)) → Reached program context old.relay answers old.state → StandsAt program context old.relay answers result new.state) →
+    ((answers : List (List ℕ)) → Reached program context old.relay answers old.state → Advances program context old.relay answers limit old.state result new) →
     (state : State) → state ≡ Stood result new.state → (m : ℕ) → old.state.steps ≤ m → limit ≤ m → state.steps ≤ m
-within_with program bytes context old new limit result same run advances stands state state_is m few le =
+within_with program bytes context old new limit result same run advances state state_is m few le =
     let reached : Reached program context old.relay run.answers old.state = subst (λ (l : List ℕ). Reached program l old.relay run.answers old.state) (sym same) run.reached in
-    subst (λ (s : State). s.steps ≤ m) (sym state_is) (taken_within program context old.relay run.answers limit m old.state new result (advances run.answers reached) (stands run.answers reached) few le)
+    subst (λ (s : State). s.steps ≤ m) (sym state_is) (taken_within program context old.relay run.answers limit m old.state new result (advances run.answers reached) few le)
 
 -- one step is counted
 pub stopped_counts : (o : Outcome) (result : Stop) (s new : State) → CountsOnce s o → Stopped o result new → new.steps ≡ s.steps + 1
@@ -201,10 +194,6 @@ lesser_within : (p : Option ℕ) (limit most old new : ℕ) → most ≡ lesser 
 lesser_within None limit most old new is few within = tt
 lesser_within (Some p) limit most old new is few within = within p few (omega arith)
 
-or_first : (b c : Bool) → (b || c) ≡ false → b ≡ false
-or_first true c h = cc
-or_first false c h = refl
-
 -- as it is called under a patience
 pub went_under : (p : Option ℕ) (program code : List Insn) (context bytes : List ℕ) (limit most : ℕ) (old new : Standing) (was over : Bool) (a : Activation) → code ≡ program → bytes ≡ context → most ≡ lesser p limit →
     activation_of p program context old was ≡ a → has_ended a ≡ false → IsWithin p old.state.steps → ((m : ℕ) → old.state.steps ≤ m → most ≤ m → new.state.steps ≤ m) →
@@ -212,7 +201,7 @@ pub went_under : (p : Option ℕ) (program code : List Insn) (context bytes : Li
     Pauses most (activation_of None code bytes new over) (turn (activation_of None code bytes new over)) →
     Silently a (activation_of p program context new over) × Pauses limit (activation_of p program context new over) (turn (activation_of p program context new over))
 went_under p program code context bytes limit most old new was over a same_code same_bytes is view going few within went pauses =
-    let closed : was ≡ false = or_first was (is_reached p old.state.steps) (subst (λ (x : Activation). has_ended x ≡ false) (sym view) going) in
+    let closed : was ≡ false = (or_parts was (is_reached p old.state.steps) (subst (λ (x : Activation). has_ended x ≡ false) (sym view) going)).0 in
     let went' : Silently (activation_of None program context old false) (activation_of None program context new over) =
     subst (λ (c : List Insn). Silently (activation_of None c context old false) (activation_of None c context new over)) same_code
     (subst (λ (l : List ℕ). Silently (activation_of None code l old false) (activation_of None code l new over)) same_bytes went) in

@@ -12,13 +12,13 @@ use Rattle.label.proofs.Listing.{proved_labels_are_exact}
 use Rattle.tree.specs.LieutenantTree.{LieutenantTree, IsFilled, level_told}
 use Rattle.round.specs.Scenario.{Scenario, IsScenario, shape_of}
 use Rattle.round.specs.Letters.{Letter, messages}
-use Rattle.round.specs.Contexts.{value_of, context_bytes, context_numbers, context_of, AreWords}
+use Rattle.round.specs.Contexts.{took, context_bytes, context_numbers, context_of, AreWords}
 use Rattle.std.specs.declared.alloc.Global.{Global}
-use Rattle.round.specs.Told.{IsTreeOf, Heard, WasTold, lieutenant_at}
-use Rattle.round.proofs.Telling.{few_labels}
+use Rattle.round.specs.Told.{IsTreeOf, ToldSeen, WasTold, lieutenant_at}
 use Rattle.round.proofs.Delivering.{same_map}
 use Rattle.round.proofs.Filling.{own_tree}
 use Rattle.round.proofs.Fronts.{messages-front}
+use Rattle.semantics.proofs.PlacesLaws.{round_few}
 
 map_twice : {B C : Type 0} (F : B → C) (G : List ℕ → B) (ws : List (List ℕ)) → map (λ w. F (G w)) ws ≡ map F (map G ws)
 map_twice F G [] = refl
@@ -36,10 +36,10 @@ relay_lieutenant s g k ne = ⊎_elim
 
 -- what a lieutenant took is the level of the labels of the round before, nothing as RETREAT
 pub values_level : (s : Scenario) (before : List (List Letter)) (g k : ℕ) → s.commander < s.generals → g < s.generals → g ≢ s.commander → 0 < k →
-    map (value_of s before g) (relay (shape_of s g (suc k))) ≡ map order_of (level_told s.generals s.commander g (messages before) k)
+    map (took s before g) (relay (shape_of s g (suc k))) ≡ map order_of (level_told s.generals s.commander g (messages before) k)
 values_level s before g k commander general ne some =
-    ap (map (value_of s before g)) (relay_lieutenant s g k ne)
-    ∙ (same_map (value_of s before g) (λ w. order_of (messages before w g)) (labels s.generals s.commander g k)
+    ap (map (took s before g)) (relay_lieutenant s g k ne)
+    ∙ (same_map (took s before g) (λ w. order_of (messages before w g)) (labels s.generals s.commander g k)
     (λ i w at. heard_taken (messages before) s.order g w (let e = (proved_labels_are_exact.only s.generals s.commander g k i w commander general ne at).2 in omega arith))
     ∙ map_twice order_of (λ w. messages before w g) (labels s.generals s.commander g k))
 
@@ -70,15 +70,15 @@ later_is s before g k bound t shape level is h le some es eb told =
     let round : k + 1 ≡ suc (length front) = omega arith in
     let size : suc k ≡ suc (length front) = omega arith in
     let own : level ≡ level_told s.generals s.commander g (messages front) k = own_level s before g k t level is h some told in
-    let values : map order_of level ≡ map (value_of s front g) (relay (shape_of s g (suc (length front)))) =
-    ap (map order_of) own ∙ (sym (values_level s front g k is.commander h.within h.lieutenant some) ∙ ap (λ (j : ℕ). map (value_of s front g) (relay (shape_of s g j))) size) in
+    let values : map order_of level ≡ map (took s front g) (relay (shape_of s g (suc (length front)))) =
+    ap (map order_of) own ∙ (sym (values_level s front g k is.commander h.within h.lieutenant some) ∙ ap (λ (j : ℕ). map (took s front g) (relay (shape_of s g j))) size) in
     let there : shape ≡ shape_of s g (suc (length front)) = es ∙ ap (λ (j : ℕ). shape_of s g j) round in
     (λ i. context_bytes (context_numbers (there i) (eb i) (values i)))
 
 pub few_values : (s : Scenario) (before : List (List Letter)) (g k : ℕ) (t : LieutenantTree) (level : List (Option ℕ)) → IsScenario s → IsTreeOf s before g t → k ≤ s.bound → length level ≡ length (labels t.generals t.commander t.general k) → length level ≤ 1000
 few_values s before g k t level is h le long =
     let same : length (labels t.generals t.commander t.general k) ≡ length (labels s.generals s.commander g k) = (λ i. length (labels (h.generals i) (h.commander i) (h.general i) k)) in
-    let few : length (labels s.generals s.commander g k) ≤ 1000 = (let l = few_labels s.generals s.commander g k is.few is.commander h.within h.lieutenant (let r = is.rounds in omega arith) in omega arith) in
+    let few : length (labels s.generals s.commander g k) ≤ 1000 = (let l = round_few s.generals s.commander g k is.few is.commander h.within h.lieutenant (let r = is.rounds in omega arith) in omega arith) in
     omega arith
 
 none_relayed : (s : Scenario) (g k : ℕ) → (g ≢ s.commander → k ≡ 0) → (((g ≡ s.commander) × (k + 1 ≢ 1)) ⊎ (g ≢ s.commander)) → relay (shape_of s g (suc k)) ≡ []
@@ -102,18 +102,18 @@ first_is s before g k bound shape ek es eb first other =
     let there : shape ≡ shape_of s g (suc (length before)) = es ∙ ap (λ (j : ℕ). shape_of s g j) round in
     let size : suc k ≡ suc (length before) = omega arith in
     let none : relay (shape_of s g (suc k)) ≡ [] = none_relayed s g k first (rw es at other) in
-    let values : [] ≡ map (value_of s before g) (relay (shape_of s g (suc (length before)))) =
-    sym (ap (map (value_of s before g)) (ap (λ (j : ℕ). relay (shape_of s g j)) (sym size) ∙ none)) in
+    let values : [] ≡ map (took s before g) (relay (shape_of s g (suc (length before)))) =
+    sym (ap (map (took s before g)) (ap (λ (j : ℕ). relay (shape_of s g j)) (sym size) ∙ none)) in
     (λ i. context_bytes (context_numbers (there i) (eb i) (values i)))
 
 -- in the first round
-pub first_told : {E : Type 0} (r : Result (Vec ℕ Global) E) (s : Scenario) (h : Heard) (g k : ℕ) → k ≡ 0 → IfOk r (λ v. v.items ≡ context_of s [] g) →
+pub first_told : {E : Type 0} (r : Result (Vec ℕ Global) E) (s : Scenario) (h : ToldSeen) (g k : ℕ) → k ≡ 0 → IfOk r (λ v. v.items ≡ context_of s [] g) →
     IfOk r (λ v. (before : List (List Letter)) → WasTold s before h → v.items ≡ context_of s (take k before) g)
 first_told (Ok v) s h g k none is = λ before told. is ∙ ap (λ (j : ℕ). context_of s (take j before) g) (sym none)
 first_told (Err e) s h g k none is = tt
 
 -- the commander later on
-pub commander_told : {E : Type 0} (r : Result (Vec ℕ Global) E) (s : Scenario) (h : Heard) (g bound k : ℕ) (shape : Shape) → k ≤ h.rounds → (k ≡ 0 → ⊥) → g ≡ s.commander → shape ≡ shape_of s g (k + 1) → bound ≡ s.bound →
+pub commander_told : {E : Type 0} (r : Result (Vec ℕ Global) E) (s : Scenario) (h : ToldSeen) (g bound k : ℕ) (shape : Shape) → k ≤ h.rounds → (k ≡ 0 → ⊥) → g ≡ s.commander → shape ≡ shape_of s g (k + 1) → bound ≡ s.bound →
     IfOk r (λ v. v.items ≡ context_bytes (context_numbers shape bound [])) → IfOk r (λ v. (before : List (List Letter)) → WasTold s before h → v.items ≡ context_of s (take k before) g)
 commander_told (Ok v) s h g bound k shape le some eg es eb is =
     λ before told.
@@ -122,7 +122,7 @@ commander_told (Ok v) s h g bound k shape le some eg es eb is =
 commander_told (Err e) s h g bound k shape le some eg es eb is = tt
 
 -- a lieutenant later on
-pub later_told : {E : Type 0} (r : Result (Vec ℕ Global) E) (s : Scenario) (h : Heard) (g bound k i : ℕ) (t : LieutenantTree) (shape : Shape) (level : List (Option ℕ)) → IsScenario s → k ≤ h.rounds → (k ≡ 0 → ⊥) → lieutenant_at s.commander i ≡ g → i < length h.trees → t ≡ get_or h.trees i t →
+pub later_told : {E : Type 0} (r : Result (Vec ℕ Global) E) (s : Scenario) (h : ToldSeen) (g bound k i : ℕ) (t : LieutenantTree) (shape : Shape) (level : List (Option ℕ)) → IsScenario s → k ≤ h.rounds → (k ≡ 0 → ⊥) → lieutenant_at s.commander i ≡ g → i < length h.trees → t ≡ get_or h.trees i t →
     shape ≡ shape_of s g (k + 1) → bound ≡ s.bound → ((M : Messages) → IsFilled t M → level ≡ level_told t.generals t.commander t.general M k) →
     IfOk r (λ v. v.items ≡ context_bytes (context_numbers shape bound (map order_of level))) → IfOk r (λ v. (before : List (List Letter)) → WasTold s before h → v.items ≡ context_of s (take k before) g)
 later_told (Ok v) s h g bound k i t shape level is le some there lt at es eb told_level bytes =
@@ -142,7 +142,7 @@ get_map F (x ∷ ws) zero w d e = (let same : x ≡ w = cc in ap F same)
 get_map F (x ∷ ws) (suc i) w d e = get_map F ws i w d e
 
 -- what the level of a lieutenant's tree has are words
-pub words_told : (s : Scenario) (before : List (List Letter)) (h : Heard) (g k i : ℕ) (t : LieutenantTree) (level : List (Option ℕ)) → IsScenario s → WasTold s before h → k ≤ h.rounds → (k ≡ 0 → ⊥) → lieutenant_at s.commander i ≡ g → i < length h.trees → t ≡ get_or h.trees i t →
+pub words_told : (s : Scenario) (before : List (List Letter)) (h : ToldSeen) (g k i : ℕ) (t : LieutenantTree) (level : List (Option ℕ)) → IsScenario s → WasTold s before h → k ≤ h.rounds → (k ≡ 0 → ⊥) → lieutenant_at s.commander i ≡ g → i < length h.trees → t ≡ get_or h.trees i t →
     ((M : Messages) → IsFilled t M → level ≡ level_told t.generals t.commander t.general M k) → All (λ v. order_of v < 2 ^ 32) level → AreWords s (take k before) g
 words_told s before h g k i t level is told le some there lt at told_level small rank u place =
     let front : List (List Letter) = take k before in
@@ -157,7 +157,7 @@ words_told s before h g k i t level is told le some there lt at told_level small
     let long : length level ≡ length (labels s.generals s.commander g k) = ap length own ∙ length-map (labels s.generals s.commander g k) (λ w. messages front w g) in
     let few = small rank None (omega arith) in
     let size = (proved_labels_are_exact.only s.generals s.commander g k rank u is.commander tree.within tree.lieutenant here).2 in
-    let heard_is : value_of s front g u ≡ order_of (messages front u g) = heard_taken (messages front) s.order g u (omega arith) in
+    let heard_is : took s front g u ≡ order_of (messages front u g) = heard_taken (messages front) s.order g u (omega arith) in
     (let P : ℕ → Type 0 = λ n. n < 2 ^ 32 in subst P (sym (heard_is ∙ ap order_of (sym value))) few)
 
 no_labels : (n c p : ℕ) → labels n c p 0 ≡ []
@@ -182,7 +182,7 @@ words_first s before g is first rank u place = ⊎_elim
     (λ (r : (suc (length before) == 1 ≡ true) × (suc (length before) ≡ 1)).
     let only : relay (shape_of s g (suc (length before))) ≡ [] ∷ [] = rw (q.0, r.0) refl in
     let empty : u ≡ [] = only_empty rank u (ap (λ (ws : List (List ℕ)). slice_get ws rank) (sym only) ∙ place) in
-    (let P : List ℕ → Type 0 = λ w. value_of s before g w < 2 ^ 32 in subst P (sym empty) is.order))
+    (let P : List ℕ → Type 0 = λ w. took s before g w < 2 ^ 32 in subst P (sym empty) is.order))
     (λ (r : (suc (length before) == 1 ≡ false) × (suc (length before) ≢ 1)).
     absurd (none_there (relay (shape_of s g (suc (length before)))) rank u (rw (q.0, r.0) refl) place))
     (eqb_tells (suc (length before)) 1))
@@ -201,15 +201,15 @@ always_ok (Ok a) Q h = h
 always_ok (Err e) Q h = tt
 
 -- as many rounds as were told are all
-all_of : (s : Scenario) (before : List (List Letter)) (h : Heard) (k : ℕ) → k ≡ h.rounds → WasTold s before h → take k before ≡ before
+all_of : (s : Scenario) (before : List (List Letter)) (h : ToldSeen) (k : ℕ) → k ≡ h.rounds → WasTold s before h → take k before ≡ before
 all_of s before h k e told = take_all k before (let r = told.rounds in omega arith)
 
-pub all_told : {E : Type 0} (r : Result (Vec ℕ Global) E) (s : Scenario) (h : Heard) (g k : ℕ) → k ≡ h.rounds → IfOk r (λ v. (before : List (List Letter)) → WasTold s before h → v.items ≡ context_of s (take k before) g) →
+pub all_told : {E : Type 0} (r : Result (Vec ℕ Global) E) (s : Scenario) (h : ToldSeen) (g k : ℕ) → k ≡ h.rounds → IfOk r (λ v. (before : List (List Letter)) → WasTold s before h → v.items ≡ context_of s (take k before) g) →
     IfOk r (λ v. (before : List (List Letter)) → WasTold s before h → v.items ≡ context_of s before g)
 all_told (Ok v) s h g k e is = λ before told. is before told ∙ ap (λ (b : List (List Letter)). context_of s b g) (all_of s before h k e told)
 all_told (Err x) s h g k e is = tt
 
-pub all_words : {E : Type 0} (r : Result (Vec ℕ Global) E) (s : Scenario) (h : Heard) (g k : ℕ) → k ≡ h.rounds → OnOk r ((before : List (List Letter)) → WasTold s before h → AreWords s (take k before) g) →
+pub all_words : {E : Type 0} (r : Result (Vec ℕ Global) E) (s : Scenario) (h : ToldSeen) (g k : ℕ) → k ≡ h.rounds → OnOk r ((before : List (List Letter)) → WasTold s before h → AreWords s (take k before) g) →
     OnOk r ((before : List (List Letter)) → WasTold s before h → AreWords s before g)
 all_words (Ok v) s h g k e are = λ before told. (let P : List (List Letter) → Type 0 = λ b. AreWords s b g in subst P (all_of s before h k e told) (are before told))
 all_words (Err x) s h g k e are = tt

@@ -12,32 +12,23 @@ use Rattle.label.specs.declared.space.Space.{Space}
 use Rattle.label.proofs.Bounds.{others_length_more}
 use Rattle.label.proofs.Counts.{count-more, row-fits}
 use Rattle.label.proofs.Parts.{wide}
-use Rattle.label.specs.Oral.{Messages}
-use Rattle.tree.specs.LieutenantTree.{LieutenantTree, IsCampaign, IsFilled, SameCampaign, told_also}
+use Rattle.tree.specs.LieutenantTree.{LieutenantTree, IsCampaign, SameCampaign}
 use Rattle.round.specs.Letters.{Letter, told_by, letter_of}
 use Rattle.round.specs.Told.{AreDue, told_now, round_of}
 use Rattle.round.specs.Fronts.{IsFront, under}
-use Rattle.round.specs.Delivery.{order_in_letter, IsFilledBetween, IsWalk}
+use Rattle.round.specs.Delivery.{order_in_letter, FillsFromTo, IsWalk}
 use Rattle.round.specs.declared.front.Front.{Front}
 use Rattle.round.proofs.Senders.{order_tells, letter_stands}
-use Rattle.round.proofs.Prolonging.{child_rank, child_fits, off-lieutenant, begun-long}
-use Rattle.round.proofs.Delivering.{told_on, told_one}
-
--- the label without its last general, and he
-last_is : (w : List ℕ) (x : ℕ) → slice_index (w ++ x ∷ []) (length w) ≡ x
-last_is [] x = refl
-last_is (y ∷ w) x = last_is w x
-
-front_is : (w : List ℕ) (x : ℕ) → take (length w) (w ++ x ∷ []) ≡ w
-front_is [] x = refl
-front_is (y ∷ w) x = ap (λ v. y ∷ v) (front_is w x)
+use Rattle.round.proofs.Prolonging.{child_rank, off-lieutenant, begun-long}
+use Rattle.round.proofs.Fronts.{last-push, front-push}
+use Rattle.round.proofs.Lists.{some_same}
 
 pub told_last : (row : List Letter) (w : List ℕ) (x p : ℕ) → told_now row (w ++ x ∷ []) p ≡ told_by (letter_of row x) w p
 told_last row w x p =
     let l = length-append w (x ∷ []) in
     let e : length (w ++ x ∷ []) - 1 ≡ length w = omega arith in
     ap (λ (k : ℕ). told_by (letter_of row (slice_index (w ++ x ∷ []) k)) (take k (w ++ x ∷ [])) p) e
-    ∙ (ap (λ (g : ℕ). told_by (letter_of row g) (take (length w) (w ++ x ∷ [])) p) (last_is w x) ∙ ap (λ u. told_by (letter_of row x) u p) (front_is w x))
+    ∙ (ap (λ (g : ℕ). told_by (letter_of row g) (take (length w) (w ++ x ∷ [])) p) (last-push w x) ∙ ap (λ u. told_by (letter_of row x) u p) (front-push w x))
 
 -- what the letter of a general who is due tells, by the label's rank among those that he relays
 order_by : (o : Option Letter) (s : Shape) (u : List ℕ) (p rank : ℕ) → ((l : Letter) → o ≡ Some l → l.outbox.relay.shape ≡ s) → s.commander < s.generals → s.general < s.generals → slice_get (relay s) rank ≡ Some u → order_in_letter o rank p ≡ told_by o u p
@@ -176,8 +167,8 @@ same_due t u row same due = record {
   letters = λ i l at. rw (same.generals, same.commander) (due.letters i l at);
 }
 
-pub told_ends : (t : LieutenantTree) (row : List Letter) (k i j a b : ℕ) (u : LieutenantTree) → i ≡ a → j ≡ b → IsFilledBetween t row k i j u → IsFilledBetween t row k a b u
-told_ends t row k i j a b u ei ej h = subst (λ (x : ℕ). IsFilledBetween t row k x b u) ei (subst (λ (y : ℕ). IsFilledBetween t row k i y u) ej h)
+pub told_ends : (t : LieutenantTree) (row : List Letter) (k i j a b : ℕ) (u : LieutenantTree) → i ≡ a → j ≡ b → FillsFromTo t row k i j u → FillsFromTo t row k a b u
+told_ends t row k i j a b u ei ej h = subst (λ (x : ℕ). FillsFromTo t row k x b u) ei (subst (λ (y : ℕ). FillsFromTo t row k i y u) ej h)
 
 -- what is told of a child
 pub tell_child : (t : LieutenantTree) (row : List Letter) (places : List ℕ) (k : ℕ) (f : Front) (walk : IsWalk t row places k f) → f.size + 1 ≡ k → IsCampaign t → (first width place x : ℕ) → width ≡ t.generals - k → first ≡ slice_index f.ranks t.general * width →
@@ -196,9 +187,6 @@ tell_child t row places k f walk last c first width place x ew ef within away ep
     let it : walk.w ++ x ∷ [] ≡ w = some_same (sym at ∙ there) in
     child_told t row walk.w x (slice_index f.ranks x) value walk.due c.commander within (off-lieutenant t.commander x walk.w h.label.first parts.1) round (h.stands x within parts.1) is
     ∙ ap (λ u. told_now row u t.general) it
-  where
-    some_same : {A : Type 0} {a b : A} → Some a ≡ Some b → a ≡ b
-    some_same e = cc
 
 -- the children fill one run
 pub children_fit : (t : LieutenantTree) (row : List Letter) (places : List ℕ) (k : ℕ) (f : Front) (walk : IsWalk t row places k f) → f.size + 1 ≡ k → IsCampaign t → (first width : ℕ) → width ≡ t.generals - k → first ≡ slice_index f.ranks t.general * width →

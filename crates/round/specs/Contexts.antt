@@ -10,9 +10,9 @@ use Rattle.outbox.specs.Contents.{Contents}
 use Rattle.round.specs.Scenario.{Scenario, shape_of}
 use Rattle.round.specs.Letters.{Letter, messages, telling}
 
--- what a general took for a label after these rounds
-abbrev pub value_of : Scenario → List (List Letter) → ℕ → List ℕ → ℕ
-value_of s before g u = heard (messages before) s.order u g
+-- what a general took of a label in these rounds: the order that its last general told him of the rest; the commander his own order
+abbrev pub took : Scenario → List (List Letter) → ℕ → List ℕ → ℕ
+took s before g u = heard (messages before) s.order u g
 
 -- a context: 4,096 bytes, in them 32-bit numbers from the front, then zeros
 unfoldable pub context_bytes : List ℕ → List ℕ
@@ -27,60 +27,62 @@ context_numbers shape bound values =
 abbrev pub context_of : Scenario → List (List Letter) → ℕ → List ℕ
 context_of s before g =
     let shape = shape_of s g (suc (length before)) in
-    context_bytes (context_numbers shape s.bound (map (value_of s before g) (relay shape)))
+    context_bytes (context_numbers shape s.bound (map (took s before g) (relay shape)))
 
 -- what the general took has 32 bits
 abbrev pub AreWords : Scenario → List (List Letter) → ℕ → Type 0
-AreWords s before g = (rank : ℕ) (u : List ℕ) → slice_get (relay (shape_of s g (suc (length before)))) rank ≡ Some u → value_of s before g u < 2 ^ 32
+AreWords s before g = (rank : ℕ) (u : List ℕ) → slice_get (relay (shape_of s g (suc (length before)))) rank ≡ Some u → took s before g u < 2 ^ 32
 
--- the number at this place of a context
+-- a word of a context, of 4 bytes
 abbrev pub number_told : List ℕ → ℕ → ℕ
-number_told context place = little_number (slice_range context (4 * place) (4 * place + 4))
+number_told context word = little_number (slice_range context (4 * word) (4 * word + 4))
+
+-- which words of a context tell what (`context_numbers`)
+abbrev pub at_generals : ℕ
+at_generals = 0
+
+abbrev pub at_general : ℕ
+at_general = 2
+
+abbrev pub at_commander : ℕ
+at_commander = 3
+
+abbrev pub at_round : ℕ
+at_round = 4
+
+abbrev pub at_kind : ℕ
+at_kind = 7
 
 -- a context tells this general and this round
 abbrev pub IsToldTo : ℕ → ℕ → List ℕ → Type 0
-IsToldTo g round context = (number_told context 2 ≡ g) × (number_told context 4 ≡ round)
+IsToldTo g round context = (number_told context at_general ≡ g) × (number_told context at_round ≡ round)
 
 -- the relay of a general in a round, in the campaign that his context tells
 abbrev pub shape_told : ℕ → ℕ → List ℕ → Shape
-shape_told g round context = record { generals = number_told context 0; commander = number_told context 3; general = g; round = round }
+shape_told g round context = record { generals = number_told context at_generals; commander = number_told context at_commander; general = g; round = round }
 
 -- that relay, where orders are oral, which a context tells by a zero
 abbrev pub relay_told : ℕ → ℕ → List ℕ → Relay
 relay_told g round context = oral (shape_told g round context)
 
 abbrev pub tells_oral : List ℕ → Type 0
-tells_oral context = number_told context 7 ≡ 0
+tells_oral context = number_told context at_kind ≡ 0
 
 -- the outbox that tells each receiver of each label the value that the context has
 abbrev pub outbox_told : Shape → List ℕ → Contents
 outbox_told shape context = record { relay = oral shape; rows = map (λ row. map (λ place. Some (taken_value context place.rank)) row) (places (oral shape)); entries = [] }
 
+-- a loyal general's letter, with this outbox: he runs nothing
+abbrev pub loyal_letter_with : ℕ → ℕ → List ℕ → Contents → Letter
+loyal_letter_with g round context outbox =
+    record { general = g; round = round; context = context; program = None; transcript = []; steps = 0; outbox = outbox; exited = true }
+
 -- a loyal general's letter, from his context alone
 abbrev pub letter_told : ℕ → ℕ → List ℕ → Letter
-letter_told g round context =
-    record {
-      general = g;
-      round = round;
-      context = context;
-      program = None;
-      transcript = [];
-      steps = 0;
-      outbox = outbox_told (shape_told g round context) context;
-      exited = true;
-    }
+letter_told g round context = loyal_letter_with g round context (outbox_told (shape_told g round context) context)
 
 -- a loyal general's letter of the round behind these: he tells each receiver what he took
 abbrev pub loyal_letter : Scenario → List (List Letter) → ℕ → Letter
 loyal_letter s before g =
     let round = suc (length before) in
-    record {
-      general = g;
-      round = round;
-      context = context_of s before g;
-      program = None;
-      transcript = [];
-      steps = 0;
-      outbox = telling (shape_of s g round) (value_of s before g);
-      exited = true;
-    }
+    loyal_letter_with g round (context_of s before g) (telling (shape_of s g round) (took s before g))

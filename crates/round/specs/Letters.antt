@@ -19,14 +19,18 @@ pub record Letter : Type 0 where
   pub outbox : Contents
   pub exited : Bool
 
--- what stands in the second list beside the first element of the first that passes
-abbrev pub beside : {A B : Type 0} → (A → Bool) → B → List A → List B → B
-beside is none (x ∷ xs) (y ∷ ys) = cond (is x) y (beside is none xs ys)
-beside is none _ _ = none
+-- what stands in the second list beside the first element of the first that passes, or this default
+abbrev pub value_beside : {A B : Type 0} → (A → Bool) → B → List A → List B → B
+value_beside passes default (x ∷ xs) (y ∷ ys) = cond (passes x) y (value_beside passes default xs ys)
+value_beside passes default _ _ = default
 
--- what an outbox tells a receiver of a label
+-- the orders that an outbox has on a label, by receiver
+abbrev pub orders_on : Contents → List ℕ → List (Option ℕ)
+orders_on outbox u = value_beside (λ v. bytes_eq v u) [] (relayed outbox.relay) outbox.rows
+
+-- what it tells a receiver of the label
 abbrev pub tells : Contents → List ℕ → ℕ → Option ℕ
-tells outbox u p = beside (λ j. j == p) None (receivers outbox.relay.shape u) (beside (λ v. bytes_eq v u) [] (relayed outbox.relay) outbox.rows)
+tells outbox u p = value_beside (λ j. j == p) None (receivers outbox.relay.shape u) (orders_on outbox u)
 
 -- the outbox that tells each receiver of each label that label's value
 abbrev pub telling : Shape → (List ℕ → ℕ) → Contents
@@ -42,5 +46,5 @@ told_by (Some l) u p = tells l.outbox u p
 -- who told whom what in these rounds: the last general of a label told it by his letter of the round of its length
 unfoldable pub messages : List (List Letter) → Messages
 messages closed w p =
-    let front = length w - 1 in
-    told_by (letter_of (slice_index_or closed front []) (slice_index w front)) (take front w) p
+    let last = length w - 1 in
+    told_by (letter_of (slice_index_or closed last []) (slice_index w last)) (take last w) p

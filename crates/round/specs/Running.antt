@@ -1,4 +1,4 @@
--- How an activation is held, and what a turn leaves of it and of the board (own).
+-- How code holds an activation, and what a turn leaves of it and of the board (own). No claim rests on this: what a tick does, World.antt of `world` says.
 use Rattle.std.specs.Prelude.{ℕ, ◌≡◌, ◌≤◌, Bool, true, false, ◌||◌, Option, Some, None, min, All, List, [], ◌∷◌, ◌++◌}
 use Rattle.semantics.specs.declared.request.Request.{Request}
 use Rattle.semantics.specs.State.{State, Outcome, Next, Ask, Exit}
@@ -7,8 +7,8 @@ use Rattle.board.specs.Board.{Access, reply, next}
 use Rattle.board.specs.Ledger.{RecordedBoard}
 use Rattle.machine.specs.Standing.{Standing, before}
 use Rattle.machine.specs.Advance.{IsOfRun}
-use Rattle.machine.specs.declared.pause.Stop.{Stop}
-use Rattle.machine.specs.declared.pause.Stop.TheVariants.{Asked, Exited, Limit}
+use Rattle.machine.specs.declared.stop.Stop.{Stop}
+use Rattle.machine.specs.declared.stop.Stop.TheVariants.{Asked, Exited, Limit}
 use Rattle.insn.specs.declared.insn.Insn.{Insn}
 use Rattle.round.specs.Letters.{Letter}
 use Rattle.round.specs.Contexts.{relay_told}

@@ -34,7 +34,8 @@ IsWithin (Some patience) steps = steps ≤ patience
 abbrev pub IsRunOf : Letter → Option (List Insn) → Type 0
 IsRunOf l None = (l.transcript ≡ []) × (l.steps ≡ 0) × (l.outbox ≡ outbox_told l.outbox.relay.shape l.context) × (l.exited ≡ true)
 IsRunOf l (Some program) =
-    AreFitting l.transcript × (end : Activation) × Runs l.steps (started None program l.context l.outbox.relay) l.transcript end × (l.outbox.rows ≡ end.state.outbox) × (l.exited ≡ end.over) × (l.outbox.entries ≡ end.state.entries)
+    AreFitting l.transcript × (end : Activation) × Runs l.steps (started None program l.context l.outbox.relay) l.transcript end
+    × (l.outbox.rows ≡ end.state.outbox) × (l.exited ≡ end.over) × (l.outbox.entries ≡ end.state.entries)
 
 -- what every letter keeps: its context tells its general and its round; an unfinished one too, and with no regard to a patience
 pub record IsLetter (l : Letter) : Type 0 where

@@ -17,41 +17,41 @@ pub record IsTreeOf (s : Scenario) (before : List (List Letter)) (g : ℕ) (t : 
 
 -- what the letters of one round tell p of a label: what its last general told him of the rest
 abbrev pub told_now : List Letter → List ℕ → ℕ → Option ℕ
-told_now row w p = let front = length w - 1 in told_by (letter_of row (slice_index w front)) (take front w) p
+told_now letters w p = let last = length w - 1 in told_by (letter_of letters (slice_index w last)) (take last w) p
 
 -- the round of these letters
 abbrev pub round_of : List Letter → ℕ
 round_of [] = 0
-round_of (l ∷ row) = l.round
+round_of (l ∷ letters) = l.round
 
 -- M, but for the labels whose last general tells them in the round of these letters
 unfoldable pub heard_also : Messages → List Letter → Messages
-heard_also M row w p = cond (length w == round_of row) (told_now row w p) (M w p)
+heard_also M letters w p = cond (length w == round_of letters) (told_now letters w p) (M w p)
 
 -- the letters are of one round of the tree's campaign
-pub record AreDue (t : LieutenantTree) (row : List Letter) : Type 0 where
-  pub round : round_of row < t.bound + 2
-  pub letters : (i : ℕ) (l : Letter) → slice_get row i ≡ Some l → l.outbox.relay.shape ≡ record { generals = t.generals; commander = t.commander; general = l.general; round = round_of row }
+pub record AreDue (t : LieutenantTree) (posted : List Letter) : Type 0 where
+  pub round : round_of posted < t.bound + 2
+  pub letters : (i : ℕ) (l : Letter) → slice_get posted i ≡ Some l → l.outbox.relay.shape ≡ record { generals = t.generals; commander = t.commander; general = l.general; round = round_of posted }
 
 -- the letters are of this round of the campaign
 abbrev pub AreLettersOf : Scenario → ℕ → List Letter → Type 0
-AreLettersOf s round row = (i : ℕ) (l : Letter) → slice_get row i ≡ Some l → (l.round ≡ round) × (l.outbox.relay.shape ≡ shape_of s l.general round)
+AreLettersOf s round letters = (i : ℕ) (l : Letter) → slice_get letters i ≡ Some l → (l.round ≡ round) × (l.outbox.relay.shape ≡ shape_of s l.general round)
 
 -- the letters of each of these rounds are of that round
 abbrev pub AreRoundsOf : Scenario → List (List Letter) → Type 0
-AreRoundsOf s before = (i : ℕ) (row : List Letter) → slice_get before i ≡ Some row → AreLettersOf s (suc i) row
+AreRoundsOf s before = (i : ℕ) (letters : List Letter) → slice_get before i ≡ Some letters → AreLettersOf s (suc i) letters
 
 -- how many rounds were told, and each lieutenant's tree, ascending
-pub record Heard : Type 0 where
+pub record ToldSeen : Type 0 where
   pub rounds : ℕ
   pub trees : List LieutenantTree
 
--- the lieutenant at a place among those under a commander
+-- the lieutenant at an index among those under a commander
 abbrev pub lieutenant_at : ℕ → ℕ → ℕ
 lieutenant_at commander i = if nat_lt i commander then i else i + 1
 
 -- it was told the letters of these rounds of the campaign
-pub record WasTold (s : Scenario) (before : List (List Letter)) (h : Heard) : Type 0 where
+pub record WasTold (s : Scenario) (before : List (List Letter)) (h : ToldSeen) : Type 0 where
   pub rounds : h.rounds ≡ length before
   pub count : length h.trees + 1 ≡ s.generals
   pub trees : (i : ℕ) (t : LieutenantTree) → slice_get h.trees i ≡ Some t → IsTreeOf s before (lieutenant_at s.commander i) t

@@ -8,7 +8,8 @@ use byteorder::{ByteOrder, LittleEndian};
 use label::Shape;
 
 /// Writes the context of a relay in a campaign with this bound, in place of what the vector held, which has room for it:
-/// the values taken for its labels, in the order of their ranks, nothing as RETREAT. It takes no memory.
+/// the values taken for its labels, in the order of their ranks, nothing as RETREAT. It takes no memory. Labels are 990 at
+/// most (13 generals in round 5: 11 * 10 * 9), and behind the eight numbers there is room for 1,016 values.
 pub(crate) fn write_context(bytes: &mut Vec<u8>, shape: Shape, bound: u8, values: &[Option<u32>])
     requires room { 4096 ≤ vec_capacity bytes.old }
     requires rounds { shape.round ≤ shape.generals }
@@ -56,11 +57,12 @@ fn fill(bytes: &mut Vec<u8>, values: &[Option<u32>])
     ensures capacity { vec_capacity bytes.old ≤ vec_capacity bytes.new }
 {
     for value in values {
-        put(bytes, order(value));
+        put(bytes, order_or_retreat(value));
     }
 }
 
-fn order(value: &Option<u32>) -> u32
+/// The order, RETREAT where there is none.
+fn order_or_retreat(value: &Option<u32>) -> u32
     ensures { result ≡ order_of value.now }
 {
     match *value {

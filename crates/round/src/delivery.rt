@@ -4,11 +4,11 @@ ghost use Rattle.label.specs.Oral.{Messages};
 ghost use Rattle.tree.specs.LieutenantTree.{IsFilled, SameCampaign};
 ghost use Rattle.round.specs.Letters.{letter_of};
 ghost use Rattle.round.specs.Told.{AreDue, heard_also, round_of};
-ghost use Rattle.round.specs.Delivery.{AreApart, AreDueIn, AreEach, AreOfCampaign, ArePlaces, IsTreeTable, IsRoute, IsTold, IsToldUnder};
+ghost use Rattle.round.specs.Delivery.{AreApart, AreDueIn, AreEach, AreOfCampaign, AreLetterIndices, AreTreeIndices, IsRoute, IsTold, IsToldUnder};
 
 use crate::front::Front;
 use crate::letter::Letter;
-use crate::tellers::{gather, order_of, row_in, tell};
+use crate::tellers::{fill_children, list_tellers, order_in_row, row_in};
 use outbox::Row;
 use std::slice;
 use tree::Tree;
@@ -42,33 +42,34 @@ pub(crate) fn deliver_to_all(letters: &[Letter], generals: u8, commander: u8, tr
         return;
     }
     let first = &letters[0];
+    // A round's labels are as long as its number.
     let size = first.outbox.shape().round as u8;
-    let places = places_of(letters);
+    let indices = letter_indices(letters);
     if size == 1 {
-        tell_first(letters, &places, commander, trees);
+        fill_first(letters, &indices, commander, trees);
         return;
     }
-    let tree_of = table_of(trees);
+    let tree_indices = find_trees(trees);
     let front = Front::of(commander);
     let nobody = Row::of_nobody();
     descend(
-        letters, &nobody, &places, &tree_of, size, generals, trees, &front,
+        letters, &nobody, &indices, &tree_indices, size, generals, trees, &front,
     );
 }
 
 /// Fills in what the commander's letter tells of the first label.
-fn tell_first(letters: &[Letter], places: &[usize; 13], commander: u8, trees: &mut [Tree])
+fn fill_first(letters: &[Letter], indices: &[usize; 13], commander: u8, trees: &mut [Tree])
     requires round { round_of letters.now ≡ 1 }
-    requires places { ArePlaces letters.now places.now }
+    requires indices { AreLetterIndices letters.now indices.now }
     requires trees { (generals : ℕ) × AreDueIn generals commander letters.now trees.old }
     requires commander { commander < 13 }
     ensures { AreEach (IsTold letters.now) trees.old trees.new }
 {
-    let row = row_in(letters, places, commander, 0);
-    for place in 0..trees.len() {
-        let tree = &mut trees[place];
+    let row = row_in(letters, indices, commander, 0);
+    for index in 0..trees.len() {
+        let tree = &mut trees[index];
         let receiver = tree.space().general;
-        tree.set(1, 0, order_of(row, receiver));
+        tree.set(1, 0, order_in_row(row, receiver));
     }
 }
 
@@ -77,21 +78,21 @@ fn tell_first(letters: &[Letter], places: &[usize; 13], commander: u8, trees: &m
 fn descend<'a>(
     letters: &'a [Letter],
     nobody: &'a Row,
-    places: &[usize; 13],
-    tree_of: &[usize; 13],
+    indices: &[usize; 13],
+    tree_indices: &[usize; 13],
     size: u8,
     generals: u8,
     trees: &mut [Tree],
     front: &Front,
 )
     requires nobody { nobody.now ≡ [] }
-    requires route { IsRoute generals letters.now places.now size front.now trees.old }
-    requires table { IsTreeTable trees.old tree_of.now }
+    requires route { IsRoute generals letters.now indices.now size front.now trees.old }
+    requires table { AreTreeIndices trees.old tree_indices.now }
     ensures { AreEach (IsToldUnder letters.now size front.now) trees.old trees.new }
 {
     if front.size + 1 == size {
-        tell_children(
-            letters, nobody, places, tree_of, size, generals, trees, front,
+        fill_all_children(
+            letters, nobody, indices, tree_indices, size, generals, trees, front,
         );
         return;
     }
@@ -100,7 +101,7 @@ fn descend<'a>(
         if !front.on[usize::from(general)] {
             let longer = front.with(generals, general, below);
             descend(
-                letters, nobody, places, tree_of, size, generals, trees, &longer,
+                letters, nobody, indices, tree_indices, size, generals, trees, &longer,
             );
             below += 1;
         }
@@ -108,27 +109,27 @@ fn descend<'a>(
 }
 
 /// Fills in what the letters tell of the labels that have one general more than this one.
-fn tell_children<'a>(
+fn fill_all_children<'a>(
     letters: &'a [Letter],
     nobody: &'a Row,
-    places: &[usize; 13],
-    tree_of: &[usize; 13],
+    indices: &[usize; 13],
+    tree_indices: &[usize; 13],
     size: u8,
     generals: u8,
     trees: &mut [Tree],
     front: &Front,
 )
     requires nobody { nobody.now ≡ [] }
-    requires route { IsRoute generals letters.now places.now size front.now trees.old }
-    requires table { IsTreeTable trees.old tree_of.now }
+    requires route { IsRoute generals letters.now indices.now size front.now trees.old }
+    requires table { AreTreeIndices trees.old tree_indices.now }
     requires last { front.now.size + 1 ≡ size }
     ensures { AreEach (IsToldUnder letters.now size front.now) trees.old trees.new }
 {
     let mut names = [0; 13];
     let mut rows = [nobody; 13];
-    let count = gather(
+    let count = list_tellers(
         letters,
-        places,
+        indices,
         generals,
         front,
         &mut names[..],
@@ -136,45 +137,45 @@ fn tell_children<'a>(
         nobody,
     );
     for number in 0..count {
-        let place = tree_of[usize::from(names[number])];
-        if place < trees.len() {
-            tell(number, &rows[..], size, &mut trees[place], front);
+        let index = tree_indices[usize::from(names[number])];
+        if index < trees.len() {
+            fill_children(number, &rows[..], size, &mut trees[index], front);
         }
     }
 }
 
-/// For the lieutenant of each tree its place, for each other general the place past the last.
-fn table_of(trees: &[Tree]) -> [usize; 13]
+/// For the lieutenant of each tree its index, for each other general the index past the last.
+fn find_trees(trees: &[Tree]) -> [usize; 13]
     requires { AreApart trees.now }
-    ensures { IsTreeTable trees.now result }
+    ensures { AreTreeIndices trees.now result }
 {
-    let mut tree_of = [trees.len(); 13];
-    for place in 0..trees.len() {
-        let lieutenant = trees[place].space().general;
-        tree_of[usize::from(lieutenant)] = place;
+    let mut tree_indices = [trees.len(); 13];
+    for index in 0..trees.len() {
+        let lieutenant = trees[index].space().general;
+        tree_indices[usize::from(lieutenant)] = index;
     }
-    tree_of
+    tree_indices
 }
 
-/// For each general the place of his letter, or past the last where there is none.
-fn places_of(letters: &[Letter]) -> [usize; 13]
-    ensures { ArePlaces letters.now result }
+/// For each general the index of his letter, or past the last where there is none.
+fn letter_indices(letters: &[Letter]) -> [usize; 13]
+    ensures { AreLetterIndices letters.now result }
 {
-    let mut places = [0; 13];
+    let mut indices = [0; 13];
     for general in 0..13 {
-        places[general] = place_of(letters, general as u32);
+        indices[general] = letter_index(letters, general as u32);
     }
-    places
+    indices
 }
 
-/// The place of the first letter of this general, or past the last.
-fn place_of(letters: &[Letter], general: u32) -> usize
+/// The index of the first letter of this general, or past the last.
+fn letter_index(letters: &[Letter], general: u32) -> usize
     ensures { slice_get letters.now result ≡ letter_of letters.now general }
 {
-    for place in 0..letters.len() {
-        let letter = &letters[place];
+    for index in 0..letters.len() {
+        let letter = &letters[index];
         if letter.general == general {
-            return place;
+            return index;
         }
     }
     letters.len()

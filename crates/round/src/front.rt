@@ -35,7 +35,9 @@ impl Front {
         requires size { self.now.size < 13 }
         requires on { length self.now.on ≡ 13 }
         requires ranks { length self.now.ranks ≡ 13 }
-        ensures { (c : ℕ) (w : List ℕ) → general < generals → generals ≤ 13 → c < generals → IsFront generals c w self.now → on w general ≡ false → below ≡ length (others general w) → IsFront generals c (w ++ general ∷ []) result }
+        ensures { (c : ℕ) (w : List ℕ) → general < generals → generals ≤ 13 → c < generals
+            → IsFront generals c w self.now → on w general ≡ false → below ≡ length (others general w)
+            → IsFront generals c (w ++ general ∷ []) result }
     {
         let mut on = self.on;
         on[usize::from(general)] = true;

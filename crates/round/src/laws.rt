@@ -1,5 +1,5 @@
 //! Laws of contexts, letters and activations: each function does nothing, and its contract is the law.
-ghost use Rattle.round.specs.Laws.{ContextsTell, LoyalLettersFollow, PatienceIsKept, RunsAreSafe, RunsFollowAnswers, RunsHaveOneEnd};
+ghost use Rattle.round.specs.Laws.{ContextsTell, LoyalLettersFollow, OutboxesTell, PatienceIsKept, RunsAreSafe, RunsFollowAnswers, RunsHaveOneEnd};
 
 /// A context tells its general what he took for each label that he relays.
 pub fn contexts_tell()
@@ -9,6 +9,11 @@ pub fn contexts_tell()
 /// A loyal general's letter follows from his context.
 pub fn loyal_letters_follow()
     ensures { LoyalLettersFollow }
+{}
+
+/// An outbox tells a receiver of a label the order that was put at the label's rank.
+pub fn outboxes_tell()
+    ensures { OutboxesTell }
 {}
 
 /// Runs of one beginning, in as many steps and with the same accesses, have one end.

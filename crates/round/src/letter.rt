@@ -1,5 +1,4 @@
 ghost use Rattle.std.specs.Prelude.{◌≡◌, ◌↔◌, IfOk, IsTrue};
-ghost use Rattle.round.specs.Runs.{IsLetter};
 
 use crate::accesses::{copied, same_accesses};
 use crate::seat::Seat;
@@ -32,10 +31,10 @@ pub struct Letter {
 }
 
 impl Model for Letter {
-    ghost use Rattle.round.specs.Letters.{Letter as Written};
+    ghost use Rattle.round.specs.Letters.{Letter as LetterSeen};
     ghost use Rattle.round.specs.Runs.{IsLetter};
 
-    ghost Value = { Written };
+    ghost Value = { LetterSeen };
 
     ghost view = { λ l. record {
       general = l.general;
@@ -61,13 +60,6 @@ impl Model for Letter {
 }
 
 impl Letter {
-    /// What its type keeps.
-    pub fn tell(&self)
-        ensures { IsLetter self.now }
-    {
-        let _general = self.general;
-    }
-
     /// The same letter.
     ///
     /// # Errors

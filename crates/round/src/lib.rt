@@ -10,6 +10,7 @@ mod laws;
 mod letter;
 mod living;
 mod loyalty;
+mod recalling;
 mod round;
 mod running;
 mod scenario;
@@ -19,12 +20,11 @@ mod server;
 mod tellers;
 mod told;
 mod turns;
-mod words;
 
 pub use delivery::deliver;
 pub use laws::{
-    contexts_tell, loyal_letters_follow, patience_is_kept, runs_are_safe, runs_follow_answers,
-    runs_have_one_end,
+    contexts_tell, loyal_letters_follow, outboxes_tell, patience_is_kept, runs_are_safe,
+    runs_follow_answers, runs_have_one_end,
 };
 pub use letter::Letter;
 pub use living::live;

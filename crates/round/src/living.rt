@@ -13,12 +13,11 @@ ghost use Rattle.board.specs.Board.{Access as Entry};
 ghost use Rattle.round.specs.Running.{TakesTurn, IsSameRun, IsWayServed, IsGivenUp, IsLived};
 
 use crate::letter::Letter;
-use crate::loyalty::number_told;
+use crate::loyalty::shape_told;
 use crate::running::Running;
 use crate::server::Server;
 use crate::turns::one;
 use board::Access;
-use label::Shape;
 use machine::{Activation, Stop};
 use outbox::Outbox;
 use semantics::Request;
@@ -50,12 +49,7 @@ pub fn live<S: Server>(
     ensures served { IfOk result (λ letter. S.served server.new ≡ S.served server.old ++ letter.transcript) }
     ensures given_up { OnErr result (IsGivenUp general round (arc_value program) context.items patience (S.served server.old) (S.served server.new)) }
 {
-    let shape = Shape {
-        generals: number_told(context.as_slice(), 0),
-        commander: number_told(context.as_slice(), 3),
-        general,
-        round,
-    };
+    let shape = shape_told(general, round, context.as_slice());
     let mut running = Running::start(program, context, patience, Outbox::new(alloc, shape)?);
     let mut transcript = Vec::new(alloc);
     while !running.has_ended() {
@@ -141,7 +135,7 @@ fn answered<S: Server>(
     ensures undone { OnErr result (activation.new.state ≡ before activation.old.state) }
     ensures unserved { OnErr result (S.served server.new ≡ S.served server.old) }
     ensures of_run { (code : List Insn) (context : List ℕ) →
-        IsAskOfRun code context (record { relay = activation.old.relay; request = request; last = before activation.old.state; state = activation.old.state }) → IsOfRun code context activation.new }
+        IsAskOfRun code context request activation.old → IsOfRun code context activation.new }
 {
     match server.serve(general, round, request) {
         Ok(reply) => {

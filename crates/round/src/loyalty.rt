@@ -11,8 +11,15 @@ use label::Shape;
 use outbox::Outbox;
 use std::alloc::{AllocError, Global};
 
+/// The word of a context that tells how many generals there are.
+const AT_GENERALS: usize = 0;
+
+/// The word of a context that tells the commander.
+const AT_COMMANDER: usize = 3;
+
 /// A loyal general's letter of a round: he tells each receiver of each label what his context says that he took. The
-/// context is that of this general in this round.
+/// context is that of this general in this round. The definition of this name tells it of what he took in the rounds
+/// before; that they agree is the law `loyal_letters_follow`.
 ///
 /// # Errors
 ///
@@ -28,12 +35,7 @@ pub fn loyal_letter(
     requires shape { IsShape (shape_told general round context.items) }
     ensures { IfOk result (λ letter. letter ≡ letter_told general round context.items) }
 {
-    let shape = Shape {
-        generals: number_told(context.as_slice(), 0),
-        commander: number_told(context.as_slice(), 3),
-        general,
-        round,
-    };
+    let shape = shape_told(general, round, context.as_slice());
     let outbox = faithful(alloc, shape, context.as_slice())?;
     Ok(Letter {
         general,
@@ -58,18 +60,31 @@ fn faithful(alloc: Global, shape: Shape, context: &[u8]) -> Result<Outbox, Alloc
     Ok(outbox)
 }
 
-/// The number at this place of a context.
-pub(crate) fn number_told(context: &[u8], place: usize) -> u32
-    requires { 4 * place + 4 ≤ length context.now }
-    ensures { result ≡ number_told context.now place }
+/// The relay of a general in a round, in the campaign that his context tells.
+pub(crate) fn shape_told(general: u32, round: u32, context: &[u8]) -> Shape
+    requires { length context.now ≡ 4096 }
+    ensures { result ≡ shape_told general round context.now }
 {
-    word_at(context, 4 * place)
+    Shape {
+        generals: number_told(context, AT_GENERALS),
+        commander: number_told(context, AT_COMMANDER),
+        general,
+        round,
+    }
 }
 
-/// The number that 4 bytes spell, the lowest first.
-fn word_at(bytes: &[u8], place: usize) -> u32
-    requires { place + 4 ≤ length bytes.now }
-    ensures { result ≡ little_number (take 4 (drop place bytes.now)) }
+/// A word of a context, of 4 bytes.
+fn number_told(context: &[u8], word: usize) -> u32
+    requires { 4 * word + 4 ≤ length context.now }
+    ensures { result ≡ number_told context.now word }
 {
-    LittleEndian::read_u32(&bytes[place..])
+    word_at(context, 4 * word)
+}
+
+/// The number that the 4 bytes from an offset on spell, the lowest first.
+fn word_at(bytes: &[u8], offset: usize) -> u32
+    requires { offset + 4 ≤ length bytes.now }
+    ensures { result ≡ little_number (take 4 (drop offset bytes.now)) }
+{
+    LittleEndian::read_u32(&bytes[offset..])
 }

@@ -12,9 +12,9 @@ pub struct Round {
 
 impl Model for Round {
     ghost use Rattle.std.specs.Prelude.{List};
-    ghost use Rattle.round.specs.Letters.{Letter as Written};
+    ghost use Rattle.round.specs.Letters.{Letter as LetterSeen};
 
-    ghost Value = { List Written };
+    ghost Value = { List LetterSeen };
 
     ghost view = { λ r. r.letters.items };
 }

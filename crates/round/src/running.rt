@@ -40,9 +40,23 @@ impl Model for Running {
 
     ghost use Rattle.round.specs.Running.{IsLive};
 
-    ghost view = { λ r. record { program = arc_value r.program; context = r.context.items; relay = r.activation.relay; patience = r.patience; state = r.activation.state; over = r.over } };
+    ghost view = { λ r. record {
+      program = arc_value r.program;
+      context = r.context.items;
+      relay = r.activation.relay;
+      patience = r.patience;
+      state = r.activation.state;
+      over = r.over;
+    } };
 
-    ghost invariant = { λ r. IsLive (record { program = arc_value r.program; context = r.context.items; relay = r.activation.relay; patience = r.patience; state = r.activation.state; over = r.over }) };
+    ghost invariant = { λ r. IsLive (record {
+      program = arc_value r.program;
+      context = r.context.items;
+      relay = r.activation.relay;
+      patience = r.patience;
+      state = r.activation.state;
+      over = r.over;
+    }) };
 }
 
 impl Running {
@@ -58,10 +72,8 @@ impl Running {
         requires unentered { outbox.entries ≡ [] }
         ensures { result ≡ started patience (arc_value program) context.items outbox.relay }
     {
-        let Some(bytes) = Context::new(context.as_slice()) else {
-            unreachable!()
-        };
-        let activation = Activation::start(&program, &bytes, outbox);
+        let told = Context::new(context.as_slice());
+        let activation = Activation::start(&program, &told, outbox);
         Running {
             program,
             context,
@@ -78,7 +90,8 @@ impl Running {
         requires told { (before : List (List Written)) × WasTold scenario.now before told.now }
         requires left { told.now.rounds ≤ scenario.now.bound }
         requires general { general < scenario.now.generals }
-        ensures { (before : List (List Written)) → WasTold scenario.now before told.now → self.new ≡ started self.old.patience self.old.program (context_of scenario.now before general) self.old.relay }
+        ensures { (before : List (List Written)) → WasTold scenario.now before told.now
+            → self.new ≡ started self.old.patience self.old.program (context_of scenario.now before general) self.old.relay }
     {
         told.write_context(scenario, general, told.rounds(), &mut self.context);
     }
@@ -96,15 +109,15 @@ impl Running {
             over,
             ..
         } = self;
-        let ended = activation.end();
+        let steps = activation.steps();
         Letter {
             general,
             round,
             context,
             program: Seat::new(Some(program)),
             transcript,
-            steps: ended.steps,
-            outbox: ended.outbox,
+            steps,
+            outbox: activation.into_outbox(),
             exited: over,
         }
     }

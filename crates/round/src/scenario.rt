@@ -1,9 +1,10 @@
 ghost use Rattle.std.specs.Prelude.{◌≡◌, ◌<◌, ◌≤◌, ◌+◌, length, IfOk};
-ghost use Rattle.round.specs.Scenario.{IsScenario, IsPatience, program_of, shape_of};
+ghost use Rattle.round.specs.Scenario.{IsScenario, IsPatience, program_of, is_traitor, shape_of};
 
+use crate::recalling::recall_sound;
 use crate::seat::Seat;
-use crate::seats::{copied, tell_sound};
-use crate::words::tell_words;
+use crate::seats::copied;
+use board::recall_board;
 use combine::Rule;
 use label::Shape;
 use std::alloc::{AllocError, Global};
@@ -24,9 +25,9 @@ pub struct Scenario {
 }
 
 impl Model for Scenario {
-    ghost use Rattle.round.specs.Scenario.{Scenario as Campaign, IsScenario};
+    ghost use Rattle.round.specs.Scenario.{Scenario as ScenarioSeen, IsScenario};
 
-    ghost Value = { Campaign };
+    ghost Value = { ScenarioSeen };
 
     ghost view = { λ s. record {
       generals = s.generals;
@@ -81,8 +82,8 @@ impl Scenario {
           rule = rule;
         } }
     {
-        tell_words(&board);
-        tell_sound(programs.as_slice());
+        recall_board(&board);
+        recall_sound(programs.as_slice());
         Scenario {
             generals,
             bound,
@@ -139,6 +140,14 @@ impl Scenario {
         ensures { result.now ≡ program_of self.now general }
     {
         &self.programs[usize::from(general)]
+    }
+
+    /// Whether the general has a program: he is a traitor.
+    pub fn is_traitor(&self, general: u8) -> bool
+        requires { general < self.now.generals }
+        ensures { result ≡ is_traitor self.now general }
+    {
+        self.seat(general).program().is_some()
     }
 
     /// How many steps an activation may take, where that is bounded.

@@ -1,5 +1,5 @@
 ghost use Rattle.std.specs.Prelude.{◌≡◌, ◌≢◌, ◌<◌, ◌≤◌, ◌++◌, ◌∷◌, [], suc, List, IfOk, OnOk, length, take, vec_capacity};
-ghost use Rattle.round.specs.Letters.{Letter as Written};
+ghost use Rattle.round.specs.Letters.{Letter as LetterSeen};
 ghost use Rattle.round.specs.Contexts.{context_of, AreWords};
 ghost use Rattle.round.specs.Told.{WasTold, AreLettersOf, AreRoundsOf, lieutenant_at};
 
@@ -21,9 +21,9 @@ pub struct Told {
 }
 
 impl Model for Told {
-    ghost use Rattle.round.specs.Told.{Heard};
+    ghost use Rattle.round.specs.Told.{ToldSeen};
 
-    ghost Value = { Heard };
+    ghost Value = { ToldSeen };
 
     ghost view = { λ t. record { rounds = t.rounds; trees = t.trees.items } };
 }
@@ -41,8 +41,8 @@ impl Told {
         let bound = scenario.bound();
         let commander = scenario.commander();
         let mut trees = Vec::with_capacity(alloc, 12)?;
-        for place in 0..generals - 1 {
-            let general = lieutenant_at(commander, place);
+        for index in 0..generals - 1 {
+            let general = lieutenant_at(commander, index);
             trees.push(Tree::new(alloc, generals, bound, commander, general)?)?;
         }
         Ok(Told { rounds: 0, trees })
@@ -63,15 +63,15 @@ impl Told {
     }
 
     /// Takes in the letters of one round more.
-    pub fn deliver(&mut self, scenario: &Scenario, row: &[Letter])
-        requires told { (before : List (List Written)) × WasTold scenario.now before self.old }
+    pub fn deliver(&mut self, scenario: &Scenario, letters: &[Letter])
+        requires told { (before : List (List LetterSeen)) × WasTold scenario.now before self.old }
         requires left { self.old.rounds ≤ scenario.now.bound }
-        requires letters { AreLettersOf scenario.now (suc self.old.rounds) row.now }
-        ensures { (before : List (List Written)) → WasTold scenario.now before self.old → WasTold scenario.now (before ++ row.now ∷ []) self.new }
+        requires letters { AreLettersOf scenario.now (suc self.old.rounds) letters.now }
+        ensures { (before : List (List LetterSeen)) → WasTold scenario.now before self.old → WasTold scenario.now (before ++ letters.now ∷ []) self.new }
     {
-        let _bound = scenario.bound();
+        scenario.recall();
         deliver_to_all(
-            row,
+            letters,
             scenario.generals(),
             scenario.commander(),
             self.trees.as_mut_slice(),
@@ -81,12 +81,12 @@ impl Told {
 
     /// Takes back the letters of the round that was told last. It takes no memory.
     pub fn forget(&mut self, scenario: &Scenario)
-        requires told { (before : List (List Written)) × (row : List Written) × WasTold scenario.now (before ++ row ∷ []) self.old }
-        ensures { (before : List (List Written)) → (row : List Written) → WasTold scenario.now (before ++ row ∷ []) self.old → WasTold scenario.now before self.new }
+        requires told { (before : List (List LetterSeen)) × (letters : List LetterSeen) × WasTold scenario.now (before ++ letters ∷ []) self.old }
+        ensures { (before : List (List LetterSeen)) → (letters : List LetterSeen) → WasTold scenario.now (before ++ letters ∷ []) self.old → WasTold scenario.now before self.new }
     {
-        let _bound = scenario.bound();
-        for place in 0..self.trees.len() {
-            self.trees[place].clear(self.rounds);
+        scenario.recall();
+        for index in 0..self.trees.len() {
+            self.trees[index].clear(self.rounds);
         }
         self.rounds -= 1;
     }
@@ -102,11 +102,11 @@ impl Told {
         scenario: &Scenario,
         general: u8,
     ) -> Result<Vec<u8>, AllocError>
-        requires told { (before : List (List Written)) × WasTold scenario.now before self.now }
+        requires told { (before : List (List LetterSeen)) × WasTold scenario.now before self.now }
         requires left { self.now.rounds ≤ scenario.now.bound }
         requires general { general < scenario.now.generals }
-        ensures context { IfOk result (λ bytes. (before : List (List Written)) → WasTold scenario.now before self.now → bytes.items ≡ context_of scenario.now before general) }
-        ensures words { OnOk result ((before : List (List Written)) → WasTold scenario.now before self.now → AreWords scenario.now before general) }
+        ensures context { IfOk result (λ bytes. (before : List (List LetterSeen)) → WasTold scenario.now before self.now → bytes.items ≡ context_of scenario.now before general) }
+        ensures words { OnOk result ((before : List (List LetterSeen)) → WasTold scenario.now before self.now → AreWords scenario.now before general) }
     {
         self.context_after(alloc, scenario, general, self.rounds)
     }
@@ -124,12 +124,12 @@ impl Told {
         general: u8,
         rounds: u8,
     ) -> Result<Vec<u8>, AllocError>
-        requires told { (before : List (List Written)) × WasTold scenario.now before self.now }
+        requires told { (before : List (List LetterSeen)) × WasTold scenario.now before self.now }
         requires passed { rounds ≤ self.now.rounds }
         requires left { rounds ≤ scenario.now.bound }
         requires general { general < scenario.now.generals }
-        ensures context { IfOk result (λ bytes. (before : List (List Written)) → WasTold scenario.now before self.now → bytes.items ≡ context_of scenario.now (take rounds before) general) }
-        ensures words { OnOk result ((before : List (List Written)) → WasTold scenario.now before self.now → AreWords scenario.now (take rounds before) general) }
+        ensures context { IfOk result (λ bytes. (before : List (List LetterSeen)) → WasTold scenario.now before self.now → bytes.items ≡ context_of scenario.now (take rounds before) general) }
+        ensures words { OnOk result ((before : List (List LetterSeen)) → WasTold scenario.now before self.now → AreWords scenario.now (take rounds before) general) }
     {
         let mut bytes = Vec::with_capacity(alloc, 4096)?;
         self.write_context(scenario, general, rounds, &mut bytes);
@@ -145,12 +145,12 @@ impl Told {
         bytes: &mut Vec<u8>,
     )
         requires room { 4096 ≤ vec_capacity bytes.old }
-        requires told { (before : List (List Written)) × WasTold scenario.now before self.now }
+        requires told { (before : List (List LetterSeen)) × WasTold scenario.now before self.now }
         requires passed { rounds ≤ self.now.rounds }
         requires left { rounds ≤ scenario.now.bound }
         requires general { general < scenario.now.generals }
-        ensures context { (before : List (List Written)) → WasTold scenario.now before self.now → bytes.new.items ≡ context_of scenario.now (take rounds before) general }
-        ensures words { (before : List (List Written)) → WasTold scenario.now before self.now → AreWords scenario.now (take rounds before) general }
+        ensures context { (before : List (List LetterSeen)) → WasTold scenario.now before self.now → bytes.new.items ≡ context_of scenario.now (take rounds before) general }
+        ensures words { (before : List (List LetterSeen)) → WasTold scenario.now before self.now → AreWords scenario.now (take rounds before) general }
     {
         let bound = scenario.bound();
         if rounds == 0 {
@@ -161,7 +161,7 @@ impl Told {
         if general == commander {
             return write_context(bytes, shape, bound, &[]);
         }
-        let tree = &self.trees[usize::from(place_of(commander, general))];
+        let tree = &self.trees[usize::from(lieutenant_index(commander, general))];
         write_context(bytes, shape, bound, tree.level(rounds));
     }
 }
@@ -184,8 +184,8 @@ pub fn context_for(
     ensures words { OnOk result (AreWords scenario.now before.now general) }
 {
     let mut told = Told::new(alloc, scenario)?;
-    for row in before {
-        told.deliver(scenario, row.letters());
+    for round in before {
+        told.deliver(scenario, round.letters());
     }
     told.context(alloc, scenario, general)
 }
@@ -205,16 +205,16 @@ fn write_first_context(scenario: &Scenario, general: u8, bytes: &mut Vec<u8>)
     write_context(bytes, shape, bound, &[]);
 }
 
-/// The lieutenant at a place, from 0, among those under the commander.
-fn lieutenant_at(commander: u8, place: u8) -> u8
-    requires { place < 255 }
-    ensures { result ≡ lieutenant_at commander place }
+/// The lieutenant at an index, from 0, among those under the commander.
+fn lieutenant_at(commander: u8, index: u8) -> u8
+    requires { index < 255 }
+    ensures { result ≡ lieutenant_at commander index }
 {
-    if place < commander { place } else { place + 1 }
+    if index < commander { index } else { index + 1 }
 }
 
-/// The place of a lieutenant.
-fn place_of(commander: u8, general: u8) -> u8
+/// The index of a lieutenant among those under the commander.
+fn lieutenant_index(commander: u8, general: u8) -> u8
     requires { general ≢ commander }
     ensures there { lieutenant_at commander result ≡ general }
     ensures low { result ≤ general }

@@ -6,7 +6,7 @@ ghost use Rattle.semantics.specs.Execution.{step};
 ghost use Rattle.semantics.specs.Relay.{IsContext};
 ghost use Rattle.board.specs.Board.{reply};
 ghost use Rattle.machine.specs.Standing.{HasAsked, before};
-ghost use Rattle.machine.specs.Advance.{IsOfRun, IsAskOfRun, IsPauseOfRun, IsCounted, paused};
+ghost use Rattle.machine.specs.Advance.{IsOfRun, IsAskOfRun, IsStopOfRun, IsCounted};
 ghost use Rattle.round.specs.Activation.{turn};
 ghost use Rattle.round.specs.Running.{Stopped, IsBack, entered, moved, activation_of, Silently, Pauses, IsSameRun, lesser};
 
@@ -67,9 +67,7 @@ fn many(activation: &mut Activation, verified: &Verified, bytes: &[u8], limit: u
     ensures of_run { result ≡ false → IsOfRun verified.now bytes.now activation.new }
     ensures within { (m : ℕ) → activation.old.state.steps ≤ m → limit ≤ m → activation.new.state.steps ≤ m }
 {
-    let Some(context) = Context::new(bytes) else {
-        unreachable!()
-    };
+    let context = Context::new(bytes);
     match activation.run(verified, &context, limit) {
         Stop::Exited(_) => true,
         Stop::Limit => false,
@@ -90,11 +88,9 @@ pub(crate) fn one(activation: &mut Activation, verified: &Verified, bytes: &[u8]
     ensures counted { IsCounted result activation.new.state }
     ensures one { activation.new.state.steps ≡ activation.old.state.steps + 1 }
     ensures few { activation.new.state.steps ≤ 4096 }
-    ensures of_run { IsPauseOfRun verified.now bytes.now (paused activation.new result) }
+    ensures of_run { IsStopOfRun verified.now bytes.now result activation.new }
 {
-    let Some(context) = Context::new(bytes) else {
-        unreachable!()
-    };
+    let context = Context::new(bytes);
     let _most = verified.program().len();
     let limit = activation.steps() + 1;
     activation.run(verified, &context, limit)
@@ -114,7 +110,7 @@ fn serve(
     ensures steps { OnOk result (activation.new.state.steps ≡ activation.old.state.steps) }
     ensures undone { OnErr result ((activation.new.state ≡ before activation.old.state) × (board.new ≡ board.old)) }
     ensures of_run { (program : List Insn) (context : List ℕ) →
-        IsAskOfRun program context (record { relay = activation.old.relay; request = request; last = before activation.old.state; state = activation.old.state }) → IsOfRun program context activation.new }
+        IsAskOfRun program context request activation.old → IsOfRun program context activation.new }
 {
     match board.apply(general, round, request) {
         Ok(reply) => {

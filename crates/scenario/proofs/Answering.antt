@@ -12,25 +12,25 @@ use Rattle.scenario.specs.declared.fault.ScenarioError.TheVariants as errors
 use Rattle.scenario.specs.Flaws.{Flaw, Fails}
 use Rattle.scenario.specs.Checks.{Head, head, tables}
 use Rattle.scenario.specs.Tables.{Table, Seats, table}
-use Rattle.scenario.specs.Told.{Judged, Answers, Begun, Headed, Reads, scenario_of, unseated}
+use Rattle.scenario.specs.Told.{TableGives, Answers, Begun, Headed, Reads, scenario_of, unseated}
 use Rattle.scenario.proofs.Items.{drop_all}
 
-judged_memory : (read : Result Table Flaw) (e : ScenarioError) → e ≡ errors.Memory → Judged read (Err e)
-judged_memory (Ok t) e h = rw h tt
-judged_memory (Err f) e h = rw h tt
+gives_memory : (read : Result Table Flaw) (e : ScenarioError) → e ≡ errors.Memory → TableGives read (Err e)
+gives_memory (Ok t) e h = rw h tt
+gives_memory (Err f) e h = rw h tt
 
 module _ (made : Seats → Scenario) (n : ℕ) where
   -- the table seats its general
   pub answers_further : (i j : ℕ) (seats next : Seats) (vs : List Value) (v : Value) (seated : ℕ × List Insn) (r : Result Scenario ScenarioError) → j ≡ i + 1 → i < length vs → v ≡ get_or vs i v
-      → Judged (table n seats i (view v)) (Ok seated) → next ≡ slice_set seats seated.0 (Some seated.1) → Answers made n j next (items_view (drop j vs)) r → Answers made n i seats (items_view (drop i vs)) r
-  answers_further i j seats next vs v seated r q l e judged set rest =
+      → TableGives (table n seats i (view v)) (Ok seated) → next ≡ slice_set seats seated.0 (Some seated.1) → Answers made n j next (items_view (drop j vs)) r → Answers made n i seats (items_view (drop i vs)) r
+  answers_further i j seats next vs v seated r q l e gives set rest =
       let rest' : Answers made n (i + 1) (slice_set seats seated.0 (Some seated.1)) (items_view (drop (i + 1) vs)) r = rw (sym q, sym set) rest in
-      rw (items_view-drop vs i v l, ← e) (inr (seated, judged, rest'))
+      rw (items_view-drop vs i v l, ← e) (inr (seated, gives, rest'))
 
   -- the table stops
   pub answers_stopped : (i : ℕ) (seats : Seats) (vs : List Value) (v : Value) (e : ScenarioError) → i < length vs → v ≡ get_or vs i v
-      → Judged (table n seats i (view v)) (Err e) → Answers made n i seats (items_view (drop i vs)) (Err e)
-  answers_stopped i seats vs v e l is judged = rw (items_view-drop vs i v l, ← is) (inl judged)
+      → TableGives (table n seats i (view v)) (Err e) → Answers made n i seats (items_view (drop i vs)) (Err e)
+  answers_stopped i seats vs v e l is gives = rw (items_view-drop vs i v l, ← is) (inl gives)
 
   -- no table is left
   pub answers_ended : (i : ℕ) (seats : Seats) (vs : List Value) (x : Scenario) → length vs ≤ i → x ≡ made seats → Answers made n i seats (items_view (drop i vs)) (Ok x)
@@ -38,36 +38,32 @@ module _ (made : Seats → Scenario) (n : ℕ) where
 
   pub answers_memory : (i : ℕ) (seats : Seats) (ds : Items) (e : ScenarioError) → e ≡ errors.Memory → Answers made n i seats ds (Err e)
   answers_memory i seats no_items e h = h
-  answers_memory i seats (item d ds) e h = inl (judged_memory (table n seats i d) e h)
+  answers_memory i seats (item d ds) e h = inl (gives_memory (table n seats i d) e h)
 
 -- what fails in the list of tables, and in what stands before it
 pub begun_fails : (h : Head) (read : Result Items Flaw) (e : ScenarioError) → Fails e read → Begun h read (Err e)
 begun_fails h (Err f) errors.Memory w = tt
 begun_fails h (Err f) errors.Toml w = absurd w
 begun_fails h (Err f) (errors.Program g c) w = absurd w
-begun_fails h (Err f) (errors.Verifier g c) w = absurd w
 begun_fails h (Err f) (errors.Unknown i k) w = cc
-begun_fails h (Err f) (errors.Fault g) w = cc
+begun_fails h (Err f) (errors.At fault place) w = cc
 begun_fails h (Ok ds) errors.Memory w = answers_memory (scenario_of h) h.generals 0 (unseated h) ds errors.Memory refl
 begun_fails h (Ok ds) errors.Toml w = absurd w
 begun_fails h (Ok ds) (errors.Program g c) w = absurd w
-begun_fails h (Ok ds) (errors.Verifier g c) w = absurd w
 begun_fails h (Ok ds) (errors.Unknown i k) w = absurd (let q = w in cc)
-begun_fails h (Ok ds) (errors.Fault g) w = absurd (let q = w in cc)
+begun_fails h (Ok ds) (errors.At fault place) w = absurd (let q = w in cc)
 
 pub headed_fails : (read : Result Head Flaw) (ms : Members) (e : ScenarioError) → Fails e read → Headed read ms (Err e)
 headed_fails (Err f) ms errors.Memory w = tt
 headed_fails (Err f) ms errors.Toml w = absurd w
 headed_fails (Err f) ms (errors.Program g c) w = absurd w
-headed_fails (Err f) ms (errors.Verifier g c) w = absurd w
 headed_fails (Err f) ms (errors.Unknown i k) w = cc
-headed_fails (Err f) ms (errors.Fault g) w = cc
+headed_fails (Err f) ms (errors.At fault place) w = cc
 headed_fails (Ok h) ms errors.Memory w = begun_fails h (tables (get_member (codes "traitor") ms)) errors.Memory tt
 headed_fails (Ok h) ms errors.Toml w = absurd w
 headed_fails (Ok h) ms (errors.Program g c) w = absurd w
-headed_fails (Ok h) ms (errors.Verifier g c) w = absurd w
 headed_fails (Ok h) ms (errors.Unknown i k) w = absurd (let q = w in cc)
-headed_fails (Ok h) ms (errors.Fault g) w = absurd (let q = w in cc)
+headed_fails (Ok h) ms (errors.At fault place) w = absurd (let q = w in cc)
 
 pub reads_memory : (parsed : Option Members) → Reads parsed (Err errors.Memory)
 reads_memory None = tt

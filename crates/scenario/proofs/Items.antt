@@ -18,26 +18,29 @@ pub fails_on : {A B : Type 0} (e : ScenarioError) (r : Result A Flaw) (f : A →
 fails_on errors.Memory r f h = tt
 fails_on errors.Toml r f h = absurd h
 fails_on (errors.Program g v) r f h = absurd h
-fails_on (errors.Verifier g v) r f h = absurd h
 fails_on (errors.Unknown i k) r f h = rw h refl
-fails_on (errors.Fault g) r f h = rw h refl
+fails_on (errors.At g s) r f h = rw h refl
 
 -- what fails before a whole that is equal fails it
 pub fails_same : {A : Type 0} (e : ScenarioError) (r s : Result A Flaw) → r ≡ s → Fails e r → Fails e s
 fails_same e r s p h = rw p at h
 
-over_item : {A : Type 0} (step : ℕ → A → Data → Result A Flaw) (i : ℕ) (x : A) (vs : List Value) (v : Value) → i < length vs → v ≡ get_or vs i v → over step i x (items_view (drop i vs)) ≡ (step i x (view v) >>= λ y. over step (i + 1) y (items_view (drop (i + 1) vs)))
+over_item : {A : Type 0} (step : ℕ → A → Data → Result A Flaw) (i : ℕ) (x : A) (vs : List Value) (v : Value) → i < length vs → v ≡ get_or vs i v
+    → over step i x (items_view (drop i vs)) ≡ (step i x (view v) >>= λ y. over step (i + 1) y (items_view (drop (i + 1) vs)))
 unfolding over
 over_item step i x vs v l e = rw (items_view-drop vs i v l, ← e) refl
 
 -- one more item was read
-pub over_next : {A : Type 0} (step : ℕ → A → Data → Result A Flaw) (i : ℕ) (x y : A) (vs : List Value) (v : Value) (total : Result A Flaw) → i < length vs → v ≡ get_or vs i v → step i x (view v) ≡ Ok y → over step i x (items_view (drop i vs)) ≡ total → over step (i + 1) y (items_view (drop (i + 1) vs)) ≡ total
+pub over_next : {A : Type 0} (step : ℕ → A → Data → Result A Flaw) (i : ℕ) (x y : A) (vs : List Value) (v : Value) (total : Result A Flaw) → i < length vs → v ≡ get_or vs i v
+    → step i x (view v) ≡ Ok y → over step i x (items_view (drop i vs)) ≡ total → over step (i + 1) y (items_view (drop (i + 1) vs)) ≡ total
 over_next step i x y vs v total l e s so_far = sym (over_item step i x vs v l e ∙ rw s refl) ∙ so_far
 
 -- an item fails
-pub over_fails : {A : Type 0} (step : ℕ → A → Data → Result A Flaw) (i : ℕ) (x : A) (vs : List Value) (v : Value) (total : Result A Flaw) (err : ScenarioError) → i < length vs → v ≡ get_or vs i v → Fails err (step i x (view v)) → over step i x (items_view (drop i vs)) ≡ total → Fails err total
-over_fails step i x vs v total err l e s so_far =
-    fails_same err (step i x (view v) >>= λ y. over step (i + 1) y (items_view (drop (i + 1) vs))) total (sym (over_item step i x vs v l e) ∙ so_far) (fails_on err (step i x (view v)) (λ y. over step (i + 1) y (items_view (drop (i + 1) vs))) s)
+pub over_fails : {A : Type 0} (step : ℕ → A → Data → Result A Flaw) (i : ℕ) (x : A) (vs : List Value) (v : Value) (total : Result A Flaw) (err : ScenarioError) → i < length vs → v ≡ get_or vs i v
+    → Fails err (step i x (view v)) → over step i x (items_view (drop i vs)) ≡ total → Fails err total
+over_fails {A = A} step i x vs v total err l e s so_far =
+    let rest : A → Result A Flaw = λ y. over step (i + 1) y (items_view (drop (i + 1) vs)) in
+    fails_same err (step i x (view v) >>= rest) total (sym (over_item step i x vs v l e) ∙ so_far) (fails_on err (step i x (view v)) rest s)
 
 pub drop_all : (i : ℕ) (vs : List Value) → length vs ≤ i → items_view (drop i vs) ≡ no_items
 drop_all zero [] l = refl
@@ -46,7 +49,8 @@ drop_all (suc i) [] l = refl
 drop_all (suc i) (v ∷ vs) l = drop_all i vs (omega arith)
 
 -- no item is left
-pub over_done : {A : Type 0} (step : ℕ → A → Data → Result A Flaw) (i : ℕ) (x : A) (vs : List Value) (total : Result A Flaw) → length vs ≤ i → over step i x (items_view (drop i vs)) ≡ total → total ≡ Ok x
+pub over_done : {A : Type 0} (step : ℕ → A → Data → Result A Flaw) (i : ℕ) (x : A) (vs : List Value) (total : Result A Flaw) → length vs ≤ i
+    → over step i x (items_view (drop i vs)) ≡ total → total ≡ Ok x
 unfolding over
 over_done step i x vs total l so_far = sym so_far ∙ rw (drop_all i vs l) refl
 

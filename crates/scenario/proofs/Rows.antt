@@ -6,6 +6,7 @@ use Rattle.toml.specs.Parse.{parse_document}
 use Rattle.toml.proofs.OnLiterals.{toml_on_literals}
 use Rattle.combine.specs.declared.chosen.Rule.TheVariants.{Majority, Median}
 use Rattle.scenario.specs.declared.place.Name.TheVariants as names
+use Rattle.scenario.specs.declared.place.Place.{Place}
 use Rattle.scenario.specs.declared.place.Place.TheVariants as places
 use Rattle.scenario.specs.declared.fault.Fault.{Fault}
 use Rattle.scenario.specs.declared.fault.Fault.TheVariants as faults
@@ -18,36 +19,36 @@ checked : List (List ℕ) → Option (Result Head Flaw)
 checked lines = option_map head (parse_document (flat_map (λ l. l ++ 10 ∷ []) lines))
 
 -- a fault at a place
-stops : Fault → Option (Result Head Flaw)
-stops fault = Some (Err (faulty fault))
+stops : Fault → Place → Option (Result Head Flaw)
+stops fault place = Some (Err (faulty fault place))
 
 -- numbers out of their ranges, and what is missing
-too_many : checked (codes "generals = 14" ∷ []) ≡ stops (faults.Range (places.Key names.Generals))
+too_many : checked (codes "generals = 14" ∷ []) ≡ stops faults.Range (places.Key names.Generals)
 unfolding checked stops toml_on_literals head number optional_number general rule board board_words over word
 too_many = refl
 
-bound_of_four : checked (codes "generals = 4" ∷ codes "bound = 3" ∷ []) ≡ stops (faults.Range (places.Key names.Bound))
+bound_of_four : checked (codes "generals = 4" ∷ codes "bound = 3" ∷ []) ≡ stops faults.Range (places.Key names.Bound)
 unfolding checked stops toml_on_literals head number optional_number general rule board board_words over word
 bound_of_four = refl
 
 -- a commander below 0 is out of range, one past the last is no general
-below_the_first : checked (codes "generals = 4" ∷ codes "bound = 1" ∷ codes "commander = -1" ∷ []) ≡ stops (faults.Range (places.Key names.Commander))
+below_the_first : checked (codes "generals = 4" ∷ codes "bound = 1" ∷ codes "commander = -1" ∷ []) ≡ stops faults.Range (places.Key names.Commander)
 unfolding checked stops toml_on_literals head number optional_number general rule board board_words over word
 below_the_first = refl
 
-past_the_last : checked (codes "generals = 4" ∷ codes "bound = 1" ∷ codes "commander = 4" ∷ []) ≡ stops (faults.General (places.Key names.Commander))
+past_the_last : checked (codes "generals = 4" ∷ codes "bound = 1" ∷ codes "commander = 4" ∷ []) ≡ stops faults.General (places.Key names.Commander)
 unfolding checked stops toml_on_literals head number optional_number general rule board board_words over word
 past_the_last = refl
 
-no_order : checked (codes "generals = 4" ∷ codes "bound = 1" ∷ codes "commander = 0" ∷ []) ≡ stops (faults.Key (places.Key names.Order))
+no_order : checked (codes "generals = 4" ∷ codes "bound = 1" ∷ codes "commander = 0" ∷ []) ≡ stops faults.Key (places.Key names.Order)
 unfolding checked stops toml_on_literals head number optional_number general rule board board_words over word
 no_order = refl
 
-order_too_great : checked (codes "generals = 4" ∷ codes "bound = 1" ∷ codes "commander = 0" ∷ codes "order = 4294967296" ∷ []) ≡ stops (faults.Range (places.Key names.Order))
+order_too_great : checked (codes "generals = 4" ∷ codes "bound = 1" ∷ codes "commander = 0" ∷ codes "order = 4294967296" ∷ []) ≡ stops faults.Range (places.Key names.Order)
 unfolding checked stops toml_on_literals head number optional_number general rule board board_words over word
 order_too_great = refl
 
-order_of_text : checked (codes "generals = 4" ∷ codes "bound = 1" ∷ codes "commander = 0" ∷ codes "order = \"1\"" ∷ []) ≡ stops (faults.Kind (places.Key names.Order))
+order_of_text : checked (codes "generals = 4" ∷ codes "bound = 1" ∷ codes "commander = 0" ∷ codes "order = \"1\"" ∷ []) ≡ stops faults.Kind (places.Key names.Order)
 unfolding checked stops toml_on_literals head number optional_number general rule board board_words over word
 order_of_text = refl
 
@@ -57,53 +58,57 @@ unfolding checked stops toml_on_literals head number optional_number general rul
 least_key = refl
 
 -- all kinds of a board come before any range, and its length between them
-kinds_first : checked (codes "generals = 4" ∷ codes "bound = 1" ∷ codes "commander = 0" ∷ codes "order = 1" ∷ codes "board = [1, -1, \"x\"]" ∷ []) ≡ stops (faults.Kind (places.Word 2))
+kinds_first : checked (codes "generals = 4" ∷ codes "bound = 1" ∷ codes "commander = 0" ∷ codes "order = 1" ∷ codes "board = [1, -1, \"x\"]" ∷ []) ≡ stops faults.Kind (places.Word 2)
 unfolding checked stops toml_on_literals head number optional_number general rule board board_words over word
 kinds_first = refl
 
-least_word : checked (codes "generals = 4" ∷ codes "bound = 1" ∷ codes "commander = 0" ∷ codes "order = 1" ∷ codes "board = [1, -1, -2]" ∷ []) ≡ stops (faults.Range (places.Word 1))
+least_word : checked (codes "generals = 4" ∷ codes "bound = 1" ∷ codes "commander = 0" ∷ codes "order = 1" ∷ codes "board = [1, -1, -2]" ∷ []) ≡ stops faults.Range (places.Word 1)
 unfolding checked stops toml_on_literals head number optional_number general rule board board_words over word
 least_word = refl
 
-too_long : checked (codes "generals = 4" ∷ codes "bound = 1" ∷ codes "commander = 0" ∷ codes "order = 1" ∷ codes "board = [-1, -1, -1, -1, -1, -1, -1, -1, -1, -1, -1, -1, -1, -1, -1, -1, -1, -1, -1, -1, -1, -1, -1, -1, -1, -1, -1, -1, -1, -1, -1, -1, -1, -1, -1, -1, -1, -1, -1, -1, -1, -1, -1, -1, -1, -1, -1, -1, -1, -1, -1, -1, -1, -1, -1, -1, -1, -1, -1, -1, -1, -1, -1, -1, -1]" ∷ []) ≡ stops (faults.Range (places.Key names.Board))
+too_long : checked (codes "generals = 4" ∷ codes "bound = 1" ∷ codes "commander = 0" ∷ codes "order = 1" ∷ codes "board = [-1, -1, -1, -1, -1, -1, -1, -1, -1, -1, -1, -1, -1, -1, -1, -1, -1, -1, -1, -1, -1, -1, -1, -1, -1, -1, -1, -1, -1, -1, -1, -1, -1, -1, -1, -1, -1, -1, -1, -1, -1, -1, -1, -1, -1, -1, -1, -1, -1, -1, -1, -1, -1, -1, -1, -1, -1, -1, -1, -1, -1, -1, -1, -1, -1]" ∷ [])
+    ≡ stops faults.Range (places.Key names.Board)
 unfolding checked stops toml_on_literals head number optional_number general rule board board_words over word
 too_long = refl
 
-no_list : checked (codes "generals = 4" ∷ codes "bound = 1" ∷ codes "commander = 0" ∷ codes "order = 1" ∷ codes "board = 7" ∷ []) ≡ stops (faults.Kind (places.Key names.Board))
+no_list : checked (codes "generals = 4" ∷ codes "bound = 1" ∷ codes "commander = 0" ∷ codes "order = 1" ∷ codes "board = 7" ∷ []) ≡ stops faults.Kind (places.Key names.Board)
 unfolding checked stops toml_on_literals head number optional_number general rule board board_words over word
 no_list = refl
 
 -- patience and rule
-no_patience : checked (codes "generals = 4" ∷ codes "bound = 1" ∷ codes "commander = 0" ∷ codes "order = 1" ∷ codes "patience = 0" ∷ []) ≡ stops (faults.Range (places.Key names.Patience))
+no_patience : checked (codes "generals = 4" ∷ codes "bound = 1" ∷ codes "commander = 0" ∷ codes "order = 1" ∷ codes "patience = 0" ∷ []) ≡ stops faults.Range (places.Key names.Patience)
 unfolding checked stops toml_on_literals head number optional_number general rule board board_words over word
 no_patience = refl
 
-too_patient : checked (codes "generals = 4" ∷ codes "bound = 1" ∷ codes "commander = 0" ∷ codes "order = 1" ∷ codes "patience = 4097" ∷ []) ≡ stops (faults.Range (places.Key names.Patience))
+too_patient : checked (codes "generals = 4" ∷ codes "bound = 1" ∷ codes "commander = 0" ∷ codes "order = 1" ∷ codes "patience = 4097" ∷ []) ≡ stops faults.Range (places.Key names.Patience)
 unfolding checked stops toml_on_literals head number optional_number general rule board board_words over word
 too_patient = refl
 
-patience_of_text : checked (codes "generals = 4" ∷ codes "bound = 1" ∷ codes "commander = 0" ∷ codes "order = 1" ∷ codes "patience = \"3\"" ∷ []) ≡ stops (faults.Kind (places.Key names.Patience))
+patience_of_text : checked (codes "generals = 4" ∷ codes "bound = 1" ∷ codes "commander = 0" ∷ codes "order = 1" ∷ codes "patience = \"3\"" ∷ []) ≡ stops faults.Kind (places.Key names.Patience)
 unfolding checked stops toml_on_literals head number optional_number general rule board board_words over word
 patience_of_text = refl
 
-mean : checked (codes "generals = 4" ∷ codes "bound = 1" ∷ codes "commander = 0" ∷ codes "order = 1" ∷ codes "rule = \"mean\"" ∷ []) ≡ stops (faults.Range (places.Key names.Rule))
+mean : checked (codes "generals = 4" ∷ codes "bound = 1" ∷ codes "commander = 0" ∷ codes "order = 1" ∷ codes "rule = \"mean\"" ∷ []) ≡ stops faults.Range (places.Key names.Rule)
 unfolding checked stops toml_on_literals head number optional_number general rule board board_words over word
 mean = refl
 
-rule_of_number : checked (codes "generals = 4" ∷ codes "bound = 1" ∷ codes "commander = 0" ∷ codes "order = 1" ∷ codes "rule = 1" ∷ []) ≡ stops (faults.Kind (places.Key names.Rule))
+rule_of_number : checked (codes "generals = 4" ∷ codes "bound = 1" ∷ codes "commander = 0" ∷ codes "order = 1" ∷ codes "rule = 1" ∷ []) ≡ stops faults.Kind (places.Key names.Rule)
 unfolding checked stops toml_on_literals head number optional_number general rule board board_words over word
 rule_of_number = refl
 
-patience_before_rule : checked (codes "generals = 4" ∷ codes "bound = 1" ∷ codes "commander = 0" ∷ codes "order = 1" ∷ codes "rule = \"mean\"" ∷ codes "patience = 0" ∷ []) ≡ stops (faults.Range (places.Key names.Patience))
+patience_before_rule : checked (codes "generals = 4" ∷ codes "bound = 1" ∷ codes "commander = 0" ∷ codes "order = 1" ∷ codes "rule = \"mean\"" ∷ codes "patience = 0" ∷ [])
+    ≡ stops faults.Range (places.Key names.Patience)
 unfolding checked stops toml_on_literals head number optional_number general rule board board_words over word
 patience_before_rule = refl
 
 -- what a text without faults gives
-whole : checked (codes "generals = 4" ∷ codes "bound = 1" ∷ codes "commander = 0" ∷ codes "order = 1" ∷ codes "board = [7, 8]" ∷ codes "patience = 3" ∷ codes "rule = \"median\"" ∷ []) ≡ Some (Ok (record { generals = 4; bound = 1; commander = 0; order = 1; board = 7 ∷ 8 ∷ replicate 62 0; patience = Some 3; rule = Median }))
+whole : checked (codes "generals = 4" ∷ codes "bound = 1" ∷ codes "commander = 0" ∷ codes "order = 1" ∷ codes "board = [7, 8]" ∷ codes "patience = 3" ∷ codes "rule = \"median\"" ∷ [])
+    ≡ Some (Ok (record { generals = 4; bound = 1; commander = 0; order = 1; board = 7 ∷ 8 ∷ replicate 62 0; patience = Some 3; rule = Median }))
 unfolding checked stops toml_on_literals head number optional_number general rule board board_words over word
 whole = refl
 
-plain : checked (codes "generals = 4" ∷ codes "bound = 1" ∷ codes "commander = 0" ∷ codes "order = 1" ∷ []) ≡ Some (Ok (record { generals = 4; bound = 1; commander = 0; order = 1; board = replicate 64 0; patience = None; rule = Majority }))
+plain : checked (codes "generals = 4" ∷ codes "bound = 1" ∷ codes "commander = 0" ∷ codes "order = 1" ∷ [])
+    ≡ Some (Ok (record { generals = 4; bound = 1; commander = 0; order = 1; board = replicate 64 0; patience = None; rule = Majority }))
 unfolding checked stops toml_on_literals head number optional_number general rule board board_words over word
 plain = refl
 
@@ -111,37 +116,37 @@ plain = refl
 tabled : ℕ → List (List ℕ) → Option (Result Table Flaw)
 tabled i ls = option_map (λ ms. tables (get_member (codes "traitor") ms) >>= λ ds. ok_or (get_item i ds) (unknown None []) >>= λ d. table 4 (None ∷ None ∷ None ∷ Some [] ∷ []) i d) (parse_document (flat_map (λ l. l ++ 10 ∷ []) ls))
 
-halts : Fault → Option (Result Table Flaw)
-halts fault = Some (Err (faulty fault))
+halts : Fault → Place → Option (Result Table Flaw)
+halts fault place = Some (Err (faulty fault place))
 
 -- a traitor has one table
-twice : tabled 1 (codes "[[traitor]]" ∷ codes "general = 2" ∷ codes "asm = \"exit\"" ∷ codes "[[traitor]]" ∷ codes "general = 3" ∷ []) ≡ halts (faults.Twice (places.Entry 1 names.General))
+twice : tabled 1 (codes "[[traitor]]" ∷ codes "general = 2" ∷ codes "asm = \"exit\"" ∷ codes "[[traitor]]" ∷ codes "general = 3" ∷ []) ≡ halts faults.Twice (places.Entry 1 names.General)
 unfolding tabled halts toml_on_literals tables table table_in source general
 twice = refl
 
 -- there is no such general, below 0 and past the last alike
-nobody : tabled 0 (codes "[[traitor]]" ∷ codes "general = -1" ∷ []) ≡ halts (faults.General (places.Entry 0 names.General))
+nobody : tabled 0 (codes "[[traitor]]" ∷ codes "general = -1" ∷ []) ≡ halts faults.General (places.Entry 0 names.General)
 unfolding tabled halts toml_on_literals tables table table_in source general
 nobody = refl
 
-fifth : tabled 0 (codes "[[traitor]]" ∷ codes "general = 4" ∷ []) ≡ halts (faults.General (places.Entry 0 names.General))
+fifth : tabled 0 (codes "[[traitor]]" ∷ codes "general = 4" ∷ []) ≡ halts faults.General (places.Entry 0 names.General)
 unfolding tabled halts toml_on_literals tables table table_in source general
 fifth = refl
 
-nameless : tabled 0 (codes "[[traitor]]" ∷ codes "asm = \"exit\"" ∷ []) ≡ halts (faults.Key (places.Entry 0 names.General))
+nameless : tabled 0 (codes "[[traitor]]" ∷ codes "asm = \"exit\"" ∷ []) ≡ halts faults.Key (places.Entry 0 names.General)
 unfolding tabled halts toml_on_literals tables table table_in source general
 nameless = refl
 
 -- exactly one of asm and code, before their kinds
-both : tabled 0 (codes "[[traitor]]" ∷ codes "general = 1" ∷ codes "asm = 1" ∷ codes "code = 2" ∷ []) ≡ halts (faults.Key (places.Entry 0 names.Asm))
+both : tabled 0 (codes "[[traitor]]" ∷ codes "general = 1" ∷ codes "asm = 1" ∷ codes "code = 2" ∷ []) ≡ halts faults.Key (places.Entry 0 names.Asm)
 unfolding tabled halts toml_on_literals tables table table_in source general
 both = refl
 
-neither : tabled 0 (codes "[[traitor]]" ∷ codes "general = 1" ∷ []) ≡ halts (faults.Key (places.Entry 0 names.Asm))
+neither : tabled 0 (codes "[[traitor]]" ∷ codes "general = 1" ∷ []) ≡ halts faults.Key (places.Entry 0 names.Asm)
 unfolding tabled halts toml_on_literals tables table table_in source general
 neither = refl
 
-code_of_number : tabled 0 (codes "[[traitor]]" ∷ codes "general = 1" ∷ codes "code = 2" ∷ []) ≡ halts (faults.Kind (places.Entry 0 names.Code))
+code_of_number : tabled 0 (codes "[[traitor]]" ∷ codes "general = 1" ∷ codes "code = 2" ∷ []) ≡ halts faults.Kind (places.Entry 0 names.Code)
 unfolding tabled halts toml_on_literals tables table table_in source general
 code_of_number = refl
 
@@ -149,7 +154,7 @@ other_key : tabled 0 (codes "[[traitor]]" ∷ codes "general = 9" ∷ codes "col
 unfolding tabled halts toml_on_literals tables table table_in source general
 other_key = refl
 
-no_table : tabled 0 (codes "traitor = [1]" ∷ []) ≡ halts (faults.Kind (places.Table 0))
+no_table : tabled 0 (codes "traitor = [1]" ∷ []) ≡ halts faults.Kind (places.Table 0)
 unfolding tabled halts toml_on_literals tables table table_in source general
 no_table = refl
 

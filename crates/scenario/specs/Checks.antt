@@ -22,26 +22,26 @@ known at None = Ok tt
 known at (Some k) = Err (unknown at k)
 
 abbrev pub required : Place → Option Data → Result Data Flaw
-required s None = Err (faulty (faults.Key s))
+required s None = Err (faulty faults.Key s)
 required s (Some d) = Ok d
 
 abbrev pub whole : Place → Data → Result ℤ Flaw
-whole s d = ok_or (as_integer d) (faulty (faults.Kind s))
+whole s d = ok_or (as_integer d) (faulty faults.Kind s)
 
-abbrev pub natural : Flaw → ℤ → Result ℕ Flaw
-natural f (pos n) = Ok n
-natural f (negsuc n) = Err f
+abbrev pub natural : Fault → Place → ℤ → Result ℕ Flaw
+natural f s (pos n) = Ok n
+natural f s (negsuc n) = Err (faulty f s)
 
-abbrev pub test : Bool → Fault → Result (Unit {0}) Flaw
-test b f = cond b (Ok tt) (Err (faulty f))
+abbrev pub test : Bool → Fault → Place → Result (Unit {0}) Flaw
+test b f s = cond b (Ok tt) (Err (faulty f s))
 
 -- a number between two others
 unfoldable pub number : Place → ℕ → ℕ → Option Data → Result ℕ Flaw
 number s least most o = do
   d ← required s o
   z ← whole s d
-  n ← natural (faulty (faults.Range s)) z
-  within ← test (nat_le least n && nat_le n most) (faults.Range s)
+  n ← natural faults.Range s z
+  within ← test (nat_le least n && nat_le n most) faults.Range s
   Ok n
 
 unfoldable pub optional_number : Place → ℕ → ℕ → Option Data → Result (Option ℕ) Flaw
@@ -51,12 +51,12 @@ optional_number s least most (Some d) = do
   Ok (Some n)
 
 -- one of n generals; low is the fault of a number below 0
-unfoldable pub general : Place → Flaw → ℕ → Option Data → Result ℕ Flaw
+unfoldable pub general : Place → Fault → ℕ → Option Data → Result ℕ Flaw
 general s low n o = do
   d ← required s o
   z ← whole s d
-  g ← natural low z
-  within ← test (nat_lt g n) (faults.General s)
+  g ← natural low s z
+  within ← test (nat_lt g n) faults.General s
   Ok g
 
 -- one item after the other, from place i on
@@ -68,7 +68,7 @@ over step i x (item d ds) = step i x d >>= λ y. over step (i + 1) y ds
 unfoldable pub word : ℕ → Data → Result ℕ Flaw
 word i d = do
   z ← whole (places.Word i) d
-  natural (faulty (faults.Range (places.Word i))) z
+  natural faults.Range (places.Word i) z
 
 abbrev pub is_integer : ℕ → Unit {0} → Data → Result (Unit {0}) Flaw
 is_integer i u d = whole (places.Word i) d >>= λ z. Ok tt
@@ -82,12 +82,12 @@ items_length (item d ds) = suc (items_length ds)
 
 -- the items of an array
 abbrev pub elements : Place → Data → Result Items Flaw
-elements s d = ok_or (as_array d) (faulty (faults.Kind s))
+elements s d = ok_or (as_array d) (faulty faults.Kind s)
 
 unfoldable pub board_words : Items → Result (List ℕ) Flaw
 board_words ds = do
   all ← over is_integer 0 tt ds
-  few ← test (nat_le (items_length ds) 64) (faults.Range (places.Key names.Board))
+  few ← test (nat_le (items_length ds) 64) faults.Range (places.Key names.Board)
   over set_word 0 (replicate 64 0) ds
 
 unfoldable pub board : Option Data → Result (List ℕ) Flaw
@@ -101,13 +101,13 @@ abbrev pub rule_by_name : List ℕ → Result Rule Flaw
 rule_by_name t =
     if bytes_eq t (codes "majority") then Ok Majority
     else if bytes_eq t (codes "median") then Ok Median
-    else Err (faulty (faults.Range (places.Key names.Rule)))
+    else Err (faulty faults.Range (places.Key names.Rule))
 
 -- the rule, the majority where there is no key
 unfoldable pub rule : Option Data → Result Rule Flaw
 rule None = Ok Majority
 rule (Some d) = do
-  t ← ok_or (as_str d) (faulty (faults.Kind (places.Key names.Rule)))
+  t ← ok_or (as_str d) (faulty faults.Kind (places.Key names.Rule))
   rule_by_name t
 
 -- a campaign's numbers and rule
@@ -126,7 +126,7 @@ head ms = do
   none ← known None (first_unknown is_top_key ms)
   n ← number (places.Key names.Generals) 2 13 (get_member (codes "generals") ms)
   m ← number (places.Key names.Bound) 0 (min 4 (n - 2)) (get_member (codes "bound") ms)
-  c ← general (places.Key names.Commander) (faulty (faults.Range (places.Key names.Commander))) n (get_member (codes "commander") ms)
+  c ← general (places.Key names.Commander) faults.Range n (get_member (codes "commander") ms)
   o ← number (places.Key names.Order) 0 4294967295 (get_member (codes "order") ms)
   b ← board (get_member (codes "board") ms)
   p ← optional_number (places.Key names.Patience) 1 4096 (get_member (codes "patience") ms)

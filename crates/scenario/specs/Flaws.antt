@@ -1,5 +1,6 @@
 -- The first fault of a scenario's keys, and how an answer tells it (own).
 use Rattle.std.specs.Prelude.{◌≡◌, ℕ, List, Option, Result, Ok, Err, string_bytes}
+use Rattle.scenario.specs.declared.place.Place.{Place}
 use Rattle.scenario.specs.declared.fault.Fault.{Fault}
 use Rattle.scenario.specs.declared.fault.ScenarioError.{ScenarioError}
 use Rattle.scenario.specs.declared.fault.ScenarioError.TheVariants as errors
@@ -7,7 +8,7 @@ use Rattle.scenario.specs.declared.fault.ScenarioError.TheVariants as errors
 -- an unknown key, at the top or of a traitor's table, or a fault at a place
 pub data Flaw : Type 0 where
   unknown : Option ℕ → List ℕ → Flaw
-  faulty : Fault → Flaw
+  faulty : Fault → Place → Flaw
 
 -- one check behind another that found no fault
 infixl 10 ◌>>=◌
@@ -19,7 +20,7 @@ abbrev pub ◌>>=◌ : {A B : Type 0} → Result A Flaw → (A → Result B Flaw
 abbrev pub Fails : {Y : Type 0} → ScenarioError → Result Y Flaw → Type 0
 Fails errors.Memory read = Unit {0}
 Fails (errors.Unknown at key) read = read ≡ Err (unknown at (string_bytes key))
-Fails (errors.Fault fault) read = read ≡ Err (faulty fault)
+Fails (errors.At fault place) read = read ≡ Err (faulty fault place)
 Fails _ read = ⊥
 
 -- the answer, seen by view, is what the checks give

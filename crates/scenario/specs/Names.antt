@@ -19,7 +19,15 @@ text_of Code = codes "code"
 
 -- the keys at the top, and those of a traitor's table
 abbrev pub is_top_key : List ℕ → Bool
-is_top_key k = bytes_eq k (codes "generals") || (bytes_eq k (codes "bound") || (bytes_eq k (codes "commander") || (bytes_eq k (codes "order") || (bytes_eq k (codes "board") || (bytes_eq k (codes "patience") || (bytes_eq k (codes "rule") || bytes_eq k (codes "traitor")))))))
+is_top_key k =
+    bytes_eq k (codes "generals") || (
+    bytes_eq k (codes "bound") || (
+    bytes_eq k (codes "commander") || (
+    bytes_eq k (codes "order") || (
+    bytes_eq k (codes "board") || (
+    bytes_eq k (codes "patience") || (
+    bytes_eq k (codes "rule") ||
+    bytes_eq k (codes "traitor")))))))
 
 abbrev pub is_entry_key : List ℕ → Bool
 is_entry_key k = bytes_eq k (codes "general") || (bytes_eq k (codes "asm") || bytes_eq k (codes "code"))

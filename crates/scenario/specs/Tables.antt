@@ -21,10 +21,10 @@ pub record Table : Type 0 where
 
 -- exactly one of the two keys, and a text there
 unfoldable pub source : ℕ → Option Data → Option Data → Result Source Flaw
-source i None None = Err (faulty (faults.Key (places.Entry i names.Asm)))
-source i (Some a) (Some b) = Err (faulty (faults.Key (places.Entry i names.Asm)))
-source i (Some a) None = ok_or (as_str a) (faulty (faults.Kind (places.Entry i names.Asm))) >>= λ t. Ok (Assembly t)
-source i None (Some b) = ok_or (as_str b) (faulty (faults.Kind (places.Entry i names.Code))) >>= λ t. Ok (Hex t)
+source i None None = Err (faulty faults.Key (places.Entry i names.Asm))
+source i (Some a) (Some b) = Err (faulty faults.Key (places.Entry i names.Asm))
+source i (Some a) None = ok_or (as_str a) (faulty faults.Kind (places.Entry i names.Asm)) >>= λ t. Ok (Assembly t)
+source i None (Some b) = ok_or (as_str b) (faulty faults.Kind (places.Entry i names.Code)) >>= λ t. Ok (Hex t)
 
 -- the program of each general's seat, where a table before gave one
 abbrev pub Seats : Type 0
@@ -37,12 +37,12 @@ is_seated seats g = is_some (slice_index_or seats g None)
 unfoldable pub table_in : ℕ → Seats → ℕ → Members → Result Table Flaw
 table_in n seats i ms = do
   none ← known (Some i) (first_unknown is_entry_key ms)
-  g ← general (places.Entry i names.General) (faulty (faults.General (places.Entry i names.General))) n (get_member (codes "general") ms)
-  once ← test (not (is_seated seats g)) (faults.Twice (places.Entry i names.General))
+  g ← general (places.Entry i names.General) faults.General n (get_member (codes "general") ms)
+  once ← test (not (is_seated seats g)) faults.Twice (places.Entry i names.General)
   s ← source i (get_member (codes "asm") ms) (get_member (codes "code") ms)
   Ok (record { general = g; source = s })
 
 unfoldable pub table : ℕ → Seats → ℕ → Data → Result Table Flaw
 table n seats i d = do
-  ms ← ok_or (as_table d) (faulty (faults.Kind (places.Table i)))
+  ms ← ok_or (as_table d) (faulty faults.Kind (places.Table i))
   table_in n seats i ms

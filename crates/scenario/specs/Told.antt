@@ -1,5 +1,5 @@
 -- The scenario that a text tells (own).
-use Rattle.std.specs.Prelude.{◌≡◌, ℕ, ◌+◌, ◌⊎◌, List, replicate, slice_set, Option, Some, None, Result, Ok, Err, IsErr, IfSome, codes}
+use Rattle.std.specs.Prelude.{◌≡◌, ℕ, ◌+◌, ◌⊎◌, List, replicate, slice_set, Option, Some, None, Result, Ok, Err, IsErr, codes}
 use Rattle.toml.specs.Data.{Items, Members, no_items, item, get_member}
 use Rattle.toml.specs.Parse.{parse_document}
 use Rattle.hex.specs.Hex.{decode_of}
@@ -7,13 +7,11 @@ use Rattle.insn.specs.declared.insn.Insn.{Insn}
 use Rattle.asm.specs.Program.{said, program_of}
 use Rattle.asm.specs.declared.fault.AsmError.TheVariants as assembler
 use Rattle.codec.specs.Program.{SpellsProgram, IsFirstFault}
-use Rattle.semantics.specs.Plain.{IsPlain}
-use Rattle.verify.specs.declared.fault.Fault.{Fault}
-use Rattle.verify.specs.Structure.{structural_fault}
-use Rattle.verify.specs.Passes.{IsFirstFault as IsFirstOnPass}
+use Rattle.verify.specs.Judgement.{judged}
+use Rattle.verify.specs.declared.error.VerifyError.TheVariants as verifier
 use Rattle.round.specs.Scenario.{Scenario}
-use Rattle.scenario.specs.declared.fault.Cause.{Cause}
-use Rattle.scenario.specs.declared.fault.Cause.TheVariants as causes
+use Rattle.scenario.specs.declared.fault.ProgramFault.{ProgramFault}
+use Rattle.scenario.specs.declared.fault.ProgramFault.TheVariants as faults
 use Rattle.scenario.specs.declared.fault.ScenarioError.{ScenarioError}
 use Rattle.scenario.specs.declared.fault.ScenarioError.TheVariants as errors
 use Rattle.scenario.specs.Flaws.{Flaw, Fails}
@@ -25,40 +23,34 @@ abbrev pub IsProgramOf : Source → List Insn → Type 0
 IsProgramOf (Assembly text) program = program_of text ≡ Some program
 IsProgramOf (Hex text) program = (bytes : List ℕ) × (decode_of text ≡ Ok bytes) × SpellsProgram bytes program
 
--- why it says or spells none: the assembly's or the bytes' first fault
-abbrev pub IsCauseOf : Source → Cause → Type 0
-IsCauseOf (Assembly text) (causes.Asm fault line) = said text ≡ Err (assembler.At fault line)
-IsCauseOf (Hex text) causes.Hex = IsErr (decode_of text)
-IsCauseOf (Hex text) (causes.Code fault unit) = (bytes : List ℕ) × (decode_of text ≡ Ok bytes) × IsFirstFault bytes fault unit
-IsCauseOf _ _ = ⊥
+-- why it says or spells none, the assembly's or the bytes' first fault, or why the verifier refuses it
+abbrev pub IsFaultOf : ProgramFault → Source → Type 0
+IsFaultOf (faults.Asm fault line) (Assembly text) = said text ≡ Err (assembler.At fault line)
+IsFaultOf faults.Hex (Hex text) = IsErr (decode_of text)
+IsFaultOf (faults.Code fault unit) (Hex text) = (bytes : List ℕ) × (decode_of text ≡ Ok bytes) × IsFirstFault bytes fault unit
+IsFaultOf (faults.Verifier reason unit) source = (program : List Insn) × IsProgramOf source program × (judged program ≡ Some (verifier.At reason unit))
+IsFaultOf _ _ = ⊥
 
--- why a program is not accepted: it is not plain, and the fault is its structural one, or else the first on the verifier's pass
-pub record IsRefused (program : List Insn) (fault : Fault) : Type 0 where
-  pub plain : ¬ IsPlain program
-  pub structural : IfSome (structural_fault program) (λ f. fault ≡ f)
-  pub behind : structural_fault program ≡ None → IsFirstOnPass program fault
-
--- the answer to one table: the general and his program, or its first fault
-abbrev pub Judged : Result Table Flaw → Result (ℕ × List Insn) ScenarioError → Type 0
-Judged (Ok t) (Ok seated) = (seated.0 ≡ t.general) × IsProgramOf t.source seated.1
-Judged (Ok t) (Err (errors.Program g cause)) = (g ≡ t.general) × IsCauseOf t.source cause
-Judged (Ok t) (Err (errors.Verifier g fault)) = (g ≡ t.general) × ((program : List Insn) × IsProgramOf t.source program × IsRefused program fault)
-Judged (Ok t) (Err errors.Memory) = Unit {0}
-Judged (Ok t) (Err _) = ⊥
-Judged (Err flaw) (Ok seated) = ⊥
-Judged (Err flaw) (Err e) = Fails {Y = Table} e (Err flaw)
+-- the answer to one table: the general and his program, which the verifier accepts, or its first fault
+abbrev pub TableGives : Result Table Flaw → Result (ℕ × List Insn) ScenarioError → Type 0
+TableGives (Ok t) (Ok seated) = (seated.0 ≡ t.general) × IsProgramOf t.source seated.1 × (judged seated.1 ≡ None)
+TableGives (Ok t) (Err (errors.Program g fault)) = (g ≡ t.general) × IsFaultOf fault t.source
+TableGives (Ok t) (Err errors.Memory) = Unit {0}
+TableGives (Ok t) (Err _) = ⊥
+TableGives (Err flaw) (Ok seated) = ⊥
+TableGives (Err flaw) (Err e) = Fails {Y = Table} e (Err flaw)
 
 -- an error tells what was found, unless memory ran out
 abbrev pub Stopped : {X : Type 0} → Result Table Flaw → Result X ScenarioError → Type 0
 Stopped read (Ok x) = ⊥
-Stopped read (Err e) = Judged read (Err e)
+Stopped read (Err e) = TableGives read (Err e)
 
 -- the tables from this one on: one of them stops, or each seats its general, and then the answer is what is made of the seats
 abbrev pub Answers : {X : Type 0} → (Seats → X) → ℕ → ℕ → Seats → Items → Result X ScenarioError → Type 0
 Answers made n i seats no_items (Ok x) = x ≡ made seats
 Answers made n i seats no_items (Err e) = e ≡ errors.Memory
 Answers made n i seats (item d ds) r =
-    Stopped (table n seats i d) r ⊎ ((seated : ℕ × List Insn) × Judged (table n seats i d) (Ok seated) × Answers made n (i + 1) (slice_set seats seated.0 (Some seated.1)) ds r)
+    Stopped (table n seats i d) r ⊎ ((seated : ℕ × List Insn) × TableGives (table n seats i d) (Ok seated) × Answers made n (i + 1) (slice_set seats seated.0 (Some seated.1)) ds r)
 
 -- the scenario of a campaign's numbers and seats
 abbrev pub scenario_of : Head → Seats → Scenario

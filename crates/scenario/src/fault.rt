@@ -1,65 +1,82 @@
 //! Why a text tells no scenario.
 ghost use Rattle.std.specs.Prelude.{◌≡◌};
+ghost use Rattle.scenario.specs.Telling.{scenario_code};
 ghost use Rattle.scenario.specs.declared.fault.ScenarioError.TheVariants.{Memory};
 
 use crate::place::Place;
 use std::alloc::{AllocError, AllocFailed};
 use std::fmt;
+use verify::Reason;
 
-/// What is wrong with a traitor's program.
+/// What is wrong at a place.
 #[derive(Clone, Copy, Debug, PartialEq, Eq)]
-pub enum Cause {
+pub enum Fault {
+    /// The key is missing; with `asm`, both or neither of `asm` and `code` are there.
+    Key,
+    /// The value is of another kind.
+    Kind,
+    /// The value is out of its range.
+    Range,
+    /// There is no such general.
+    General,
+    /// The general has a table already.
+    Twice,
+}
+
+impl fmt::Display for Fault {
+    ghost use Rattle.std.specs.Prelude.{Some};
+    ghost use Rattle.scenario.specs.Telling.{code_of};
+
+    ghost output = { λ fault. Some (code_of fault) };
+
+    fn fmt<W: fmt::Write>(&self, f: &mut fmt::Formatter<W>) -> fmt::Result {
+        f.write_str(match self {
+            Fault::Key => "S2",
+            Fault::Kind => "S3",
+            Fault::Range => "S4",
+            Fault::General => "S5",
+            Fault::Twice => "S6",
+        })
+    }
+}
+
+/// What is wrong with a traitor's program, and where in it.
+#[derive(Clone, Copy, Debug, PartialEq, Eq)]
+pub enum ProgramFault {
     /// The assembler's fault and its line.
     Asm(asm::Fault, u64),
     /// The text is no list of bytes in hex.
     Hex,
     /// The decoder's fault and its unit.
     Code(codec::Fault, usize),
+    /// The verifier's reason and its unit.
+    Verifier(Reason, usize),
 }
 
-impl fmt::Display for Cause {
-    ghost use Rattle.std.specs.Prelude.{Some};
-    ghost use Rattle.scenario.specs.Telling.{cause_text};
-
-    ghost output = { λ cause. Some (cause_text cause) };
-
-    fn fmt<W: fmt::Write>(&self, f: &mut fmt::Formatter<W>) -> fmt::Result {
-        match *self {
-            Cause::Asm(fault, line) => write!(f, "{fault} line {line}"),
-            Cause::Hex => write!(f, "hex"),
-            Cause::Code(fault, unit) => write!(f, "{fault} unit {unit}"),
+impl ProgramFault {
+    /// The scenario's code: S7 where there is no program, S8 where it is not accepted.
+    fn scenario_code(self) -> &'static str
+        ensures { result.now ≡ scenario_code self }
+    {
+        match self {
+            ProgramFault::Asm(..) | ProgramFault::Hex | ProgramFault::Code(..) => "S7",
+            ProgramFault::Verifier(..) => "S8",
         }
     }
 }
 
-/// What is wrong at a place.
-#[derive(Clone, Copy, Debug, PartialEq, Eq)]
-pub enum Fault {
-    /// S2: the key is missing; with `asm`, both or neither of `asm` and `code` are there.
-    Key(Place),
-    /// S3: the value is of another kind.
-    Kind(Place),
-    /// S4: the value is out of its range.
-    Range(Place),
-    /// S5: there is no such general.
-    General(Place),
-    /// S6: the general has a table already.
-    Twice(Place),
-}
-
-impl fmt::Display for Fault {
+impl fmt::Display for ProgramFault {
     ghost use Rattle.std.specs.Prelude.{Some};
-    ghost use Rattle.scenario.specs.Telling.{fault_text};
+    ghost use Rattle.scenario.specs.Telling.{program_text};
 
-    ghost output = { λ fault. Some (fault_text fault) };
+    ghost output = { λ fault. Some (program_text fault) };
 
     fn fmt<W: fmt::Write>(&self, f: &mut fmt::Formatter<W>) -> fmt::Result {
         match *self {
-            Fault::Key(place) => write!(f, "S2 {place}"),
-            Fault::Kind(place) => write!(f, "S3 {place}"),
-            Fault::Range(place) => write!(f, "S4 {place}"),
-            Fault::General(place) => write!(f, "S5 {place}"),
-            Fault::Twice(place) => write!(f, "S6 {place}"),
+            ProgramFault::Asm(fault, line) => write!(f, "{fault} line {line}"),
+            ProgramFault::Hex => write!(f, "hex"),
+            ProgramFault::Code(fault, unit) => write!(f, "{fault} unit {unit}"),
+            ProgramFault::Verifier(reason, unit) => write!(f, "{reason} unit {unit}"),
         }
     }
 }
@@ -71,12 +88,10 @@ pub enum ScenarioError {
     Toml,
     /// S2: a key at the top, or of the traitor's table of this number, is none.
     Unknown(Option<usize>, String),
-    /// S2 to S6, at a place.
-    Fault(Fault),
-    /// S7: this general's program is none.
-    Program(u8, Cause),
-    /// S8: this general's program is not accepted.
-    Verifier(u8, verify::Fault),
+    /// S2 to S6: a fault at a place.
+    At(Fault, Place),
+    /// S7 and S8: a fault of this general's program.
+    Program(u8, ProgramFault),
     /// Memory was refused.
     Memory,
 }
@@ -92,9 +107,10 @@ impl fmt::Display for ScenarioError {
             ScenarioError::Toml => write!(f, "S1"),
             ScenarioError::Unknown(None, key) => write!(f, "S2 {key}"),
             ScenarioError::Unknown(Some(index), key) => write!(f, "S2 traitor[{index}].{key}"),
-            ScenarioError::Fault(fault) => write!(f, "{fault}"),
-            ScenarioError::Program(general, cause) => write!(f, "S7 traitor {general} {cause}"),
-            ScenarioError::Verifier(general, fault) => write!(f, "S8 traitor {general} {fault}"),
+            ScenarioError::At(fault, place) => write!(f, "{fault} {place}"),
+            ScenarioError::Program(general, fault) => {
+                write!(f, "{} traitor {general} {fault}", fault.scenario_code())
+            }
             ScenarioError::Memory => write!(f, "out of memory"),
         }
     }

@@ -5,7 +5,7 @@ ghost use Rattle.toml.specs.Data.{get_member};
 ghost use Rattle.toml.specs.View.{view, table_view, array_view, items_view};
 ghost use Rattle.scenario.specs.Names.{is_top_key, is_entry_key, text_of};
 ghost use Rattle.scenario.specs.Checks.{first_unknown, known, required, whole, elements, natural, number, optional_number, general};
-ghost use Rattle.scenario.specs.Flaws.{Gives, faulty};
+ghost use Rattle.scenario.specs.Flaws.{Gives};
 
 use crate::fault::{Fault, ScenarioError};
 use crate::place::{Name, Place};
@@ -95,7 +95,7 @@ fn required(place: Place, value: Option<&Value>) -> Result<&Value, ScenarioError
 {
     match value {
         Some(value) => Ok(value),
-        None => Err(ScenarioError::Fault(Fault::Key(place))),
+        None => Err(ScenarioError::At(Fault::Key, place)),
     }
 }
 
@@ -105,7 +105,7 @@ pub fn whole(place: Place, value: &Value) -> Result<i64, ScenarioError>
 {
     match value.as_integer() {
         Some(integer) => Ok(integer),
-        None => Err(ScenarioError::Fault(Fault::Kind(place))),
+        None => Err(ScenarioError::At(Fault::Kind, place)),
     }
 }
 
@@ -115,17 +115,17 @@ pub fn elements(place: Place, value: &Value) -> Result<&[Value], ScenarioError>
 {
     match value.as_array() {
         Some(array) => Ok(array.as_slice()),
-        None => Err(ScenarioError::Fault(Fault::Kind(place))),
+        None => Err(ScenarioError::At(Fault::Kind, place)),
     }
 }
 
 /// An integer that is not below 0.
-pub fn natural(fault: Fault, integer: i64) -> Result<u64, ScenarioError>
-    ensures { Gives (λ n. n) result (natural (faulty fault) integer) }
+pub fn natural(fault: Fault, place: Place, integer: i64) -> Result<u64, ScenarioError>
+    ensures { Gives (λ n. n) result (natural fault place integer) }
 {
     match u64::try_from(integer) {
         Ok(number) => Ok(number),
-        Err(_) => Err(ScenarioError::Fault(fault)),
+        Err(_) => Err(ScenarioError::At(fault, place)),
     }
 }
 
@@ -142,11 +142,11 @@ pub fn number(
 {
     let value = required(place, value)?;
     let integer = whole(place, value)?;
-    let number = natural(Fault::Range(place), integer)?;
+    let number = natural(Fault::Range, place, integer)?;
     if u64::from(least) <= number && number <= u64::from(most) {
         return Ok(number as u32);
     }
-    Err(ScenarioError::Fault(Fault::Range(place)))
+    Err(ScenarioError::At(Fault::Range, place))
 }
 
 /// A number between two others, if there is one.
@@ -174,14 +174,14 @@ pub fn general(
     generals: u8,
     value: Option<&Value>,
 ) -> Result<u8, ScenarioError>
-    ensures value { Gives (λ n. n) result (general place (faulty low) generals (option_map (λ v. view v.now) value.entry)) }
+    ensures value { Gives (λ n. n) result (general place low generals (option_map (λ v. view v.now) value.entry)) }
     ensures small { IfOk result (λ g. g < generals) }
 {
     let value = required(place, value)?;
     let integer = whole(place, value)?;
-    let number = natural(low, integer)?;
+    let number = natural(low, place, integer)?;
     if number < u64::from(generals) {
         return Ok(number as u8);
     }
-    Err(ScenarioError::Fault(Fault::General(place)))
+    Err(ScenarioError::At(Fault::General, place))
 }

@@ -2,14 +2,14 @@
 #![tactic(auto)]
 
 mod fault;
+mod head;
 mod keys;
 mod place;
 mod programs;
 mod reader;
 mod tables;
-mod told;
 mod words;
 
-pub use fault::{Cause, Fault, ScenarioError};
+pub use fault::{Fault, ProgramFault, ScenarioError};
 pub use place::{Name, Place};
 pub use reader::read;

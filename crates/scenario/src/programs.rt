@@ -1,16 +1,15 @@
 //! The traitors' programs, assembled or decoded, and verified.
 ghost use Rattle.std.specs.Prelude.{◌≡◌};
 ghost use Rattle.scenario.specs.Tables.{Assembly, Hex};
-ghost use Rattle.scenario.specs.Told.{IsRefused};
 ghost use Rattle.scenario.specs.Seen.{source_of, Makes, Accepts};
 
-use crate::fault::{Cause, ScenarioError};
+use crate::fault::{ProgramFault, ScenarioError};
 use asm::{AsmError, assemble};
 use codec::{CodecError, decode};
 use hex::FromHexError;
 use insn::Program;
 use std::alloc::Global;
-use verify::{Refusal, Verified, verify};
+use verify::{Refused, Verified, verify};
 
 /// A program as a table has it.
 #[derive(Clone, Copy, Debug)]
@@ -29,7 +28,7 @@ fn said(alloc: Global, general: u8, text: &str) -> Result<Program, ScenarioError
         Ok(program) => Ok(program),
         Err(AsmError::Memory) => Err(ScenarioError::Memory),
         Err(AsmError::At(fault, line)) => {
-            Err(ScenarioError::Program(general, Cause::Asm(fault, line)))
+            Err(ScenarioError::Program(general, ProgramFault::Asm(fault, line)))
         }
     }
 }
@@ -41,13 +40,13 @@ fn spelled(alloc: Global, general: u8, text: &str) -> Result<Program, ScenarioEr
     let bytes = match hex::decode(alloc, text) {
         Ok(bytes) => bytes,
         Err(FromHexError::OutOfMemory) => return Err(ScenarioError::Memory),
-        Err(_) => return Err(ScenarioError::Program(general, Cause::Hex)),
+        Err(_) => return Err(ScenarioError::Program(general, ProgramFault::Hex)),
     };
     match decode(alloc, bytes.as_slice()) {
         Ok(program) => Ok(program),
         Err(CodecError::Memory) => Err(ScenarioError::Memory),
         Err(CodecError::At(fault, unit)) => {
-            Err(ScenarioError::Program(general, Cause::Code(fault, unit)))
+            Err(ScenarioError::Program(general, ProgramFault::Code(fault, unit)))
         }
     }
 }
@@ -68,11 +67,11 @@ pub fn accepted(alloc: Global, general: u8, program: Program) -> Result<Verified
 {
     match verify(alloc, program) {
         Ok(verified) => Ok(verified),
-        Err(Refusal { program: _, fault }) => {
-            if fault == verify::Fault::Memory {
-                return Err(ScenarioError::Memory);
+        Err(Refused { program: _, fault }) => match fault {
+            verify::VerifyError::Memory => Err(ScenarioError::Memory),
+            verify::VerifyError::At(reason, unit) => {
+                Err(ScenarioError::Program(general, ProgramFault::Verifier(reason, unit)))
             }
-            Err(ScenarioError::Verifier(general, fault))
-        }
+        },
     }
 }

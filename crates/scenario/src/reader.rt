@@ -8,10 +8,10 @@ ghost use Rattle.scenario.specs.Told.{Answers, scenario_of, unseated, Reads};
 ghost use Rattle.scenario.specs.declared.fault.ScenarioError.TheVariants.{Memory};
 
 use crate::fault::{Fault, ScenarioError};
+use crate::head::Head;
 use crate::keys::{at, elements, general, number, optional_number, top_is_known};
 use crate::place::{Name, Place};
 use crate::tables::traitor;
-use crate::told::Head;
 use crate::words::board;
 use combine::Rule;
 use round::{Scenario, Seat};
@@ -30,7 +30,7 @@ fn rule_by_name(text: &str) -> Result<Rule, ScenarioError>
     if text == "median" {
         return Ok(Rule::Median);
     }
-    Err(ScenarioError::Fault(Fault::Range(Place::Key(Name::Rule))))
+    Err(ScenarioError::At(Fault::Range, Place::Key(Name::Rule)))
 }
 
 /// The rule, the majority where there is no key.
@@ -43,7 +43,7 @@ fn rule(value: Option<&Value>) -> Result<Rule, ScenarioError>
     };
     match value.as_str() {
         Some(text) => rule_by_name(text),
-        None => Err(ScenarioError::Fault(Fault::Kind(Place::Key(Name::Rule)))),
+        None => Err(ScenarioError::At(Fault::Kind, Place::Key(Name::Rule))),
     }
 }
 
@@ -64,12 +64,7 @@ fn head(alloc: Global, table: &Table) -> Result<Head, ScenarioError>
     let most = u32::from(most_traitors(generals));
     let bound = number(Place::Key(Name::Bound), 0, most, at(table, Name::Bound))? as u8;
     let place = Place::Key(Name::Commander);
-    let commander = general(
-        place,
-        Fault::Range(place),
-        generals,
-        at(table, Name::Commander),
-    )?;
+    let commander = general(place, Fault::Range, generals, at(table, Name::Commander))?;
     let order = number(Place::Key(Name::Order), 0, u32::MAX, at(table, Name::Order))?;
     let board = board(at(table, Name::Board))?;
     let patience = optional_number(
@@ -113,7 +108,7 @@ fn unseated(alloc: Global, generals: u8) -> Result<Vec<Seat>, AllocError>
 }
 
 /// The seat of a traitor with this program.
-fn taken(alloc: Global, program: Verified) -> Result<Seat, ScenarioError>
+fn seat_of(alloc: Global, program: Verified) -> Result<Seat, ScenarioError>
     ensures { MatchResult result (λ seat. seat ≡ Some program) (λ e. e ≡ Memory) }
 {
     Ok(Seat::new(Some(Arc::new(alloc, program)?)))
@@ -135,7 +130,7 @@ fn seated(alloc: Global, head: Head, values: &[Value]) -> Result<Scenario, Scena
     let mut seats = unseated(alloc, generals)?;
     for index in 0..values.len() {
         let (general, program) = traitor(alloc, generals, seats.as_slice(), index, &values[index])?;
-        seats[usize::from(general)] = taken(alloc, program)?;
+        seats[usize::from(general)] = seat_of(alloc, program)?;
     }
     Ok(Scenario::new(
         generals, bound, commander, order, board, seats, patience, rule,

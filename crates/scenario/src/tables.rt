@@ -3,7 +3,7 @@ ghost use Rattle.std.specs.Prelude.{◌≡◌, ◌≢◌, ◌<◌, ◌≤◌, �
 ghost use Rattle.toml.specs.View.{view, items_view, table_view};
 ghost use Rattle.scenario.specs.Flaws.{Gives};
 ghost use Rattle.scenario.specs.Tables.{is_seated, source, table_in, table};
-ghost use Rattle.scenario.specs.Told.{Judged};
+ghost use Rattle.scenario.specs.Told.{TableGives};
 ghost use Rattle.scenario.specs.Seen.{source_of};
 
 use crate::fault::{Fault, ScenarioError};
@@ -27,14 +27,14 @@ fn written<'a>(
     match (asm, code) {
         (Some(asm), None) => match asm.as_str() {
             Some(text) => Ok(Written::Asm(text)),
-            None => Err(ScenarioError::Fault(Fault::Kind(Place::Entry(index, Name::Asm)))),
+            None => Err(ScenarioError::At(Fault::Kind, Place::Entry(index, Name::Asm))),
         },
         (None, Some(code)) => match code.as_str() {
             Some(text) => Ok(Written::Code(text)),
-            None => Err(ScenarioError::Fault(Fault::Kind(Place::Entry(index, Name::Code)))),
+            None => Err(ScenarioError::At(Fault::Kind, Place::Entry(index, Name::Code))),
         },
         (Some(_), Some(_)) | (None, None) => {
-            Err(ScenarioError::Fault(Fault::Key(Place::Entry(index, Name::Asm))))
+            Err(ScenarioError::At(Fault::Key, Place::Entry(index, Name::Asm)))
         }
     }
 }
@@ -62,14 +62,9 @@ fn in_table<'a>(
 {
     entry_is_known(alloc, index, table)?;
     let place = Place::Entry(index, Name::General);
-    let general = general(
-        place,
-        Fault::General(place),
-        generals,
-        at(table, Name::General),
-    )?;
+    let general = general(place, Fault::General, generals, at(table, Name::General))?;
     if is_seated(seats, general) {
-        return Err(ScenarioError::Fault(Fault::Twice(place)));
+        return Err(ScenarioError::At(Fault::Twice, place));
     }
     let written = written(index, at(table, Name::Asm), at(table, Name::Code))?;
     Ok((general, written))
@@ -90,7 +85,7 @@ fn table<'a>(
 {
     match value.as_table() {
         Some(table) => in_table(alloc, generals, seats, index, table),
-        None => Err(ScenarioError::Fault(Fault::Kind(Place::Table(index)))),
+        None => Err(ScenarioError::At(Fault::Kind, Place::Table(index))),
     }
 }
 
@@ -103,7 +98,7 @@ pub fn traitor(
     value: &Value,
 ) -> Result<(u8, Verified), ScenarioError>
     requires { length seats.now ≡ generals }
-    ensures judged { Judged (table generals seats.now index (view value.now)) result }
+    ensures gives { TableGives (table generals seats.now index (view value.now)) result }
     ensures small { IfOk result (λ t. t.0 < generals) }
 {
     let (general, written) = table(alloc, generals, seats, index, value)?;

@@ -24,7 +24,7 @@ fn word(index: usize, value: &Value) -> Result<u64, ScenarioError>
     ensures { Gives (λ n. n) result (word index (view value.now)) }
 {
     let integer = whole(Place::Word(index), value)?;
-    natural(Fault::Range(Place::Word(index)), integer)
+    natural(Fault::Range, Place::Word(index), integer)
 }
 
 fn words(values: &[Value]) -> Result<[u64; 64], ScenarioError>
@@ -44,7 +44,7 @@ fn board_words(values: &[Value]) -> Result<[u64; 64], ScenarioError>
 {
     are_integers(values)?;
     if 64 < values.len() {
-        return Err(ScenarioError::Fault(Fault::Range(Place::Key(Name::Board))));
+        return Err(ScenarioError::At(Fault::Range, Place::Key(Name::Board)));
     }
     words(values)
 }

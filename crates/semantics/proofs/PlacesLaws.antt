@@ -9,32 +9,10 @@ use Rattle.label.specs.declared.shape.Shape.{Shape}
 use Rattle.semantics.specs.Relay.{Kind, Oral, Signed, Relay, labels_told, relayed}
 use Rattle.label.specs.Labels.{on, is_distinct, generals, others, labels}
 use Rattle.label.specs.Relay.{IsShape, relay, receivers}
-use Rattle.label.proofs.Counting.{on-filter, range-distinct}
+use Rattle.label.proofs.Counting.{on-filter, range-distinct, others-distinct}
 use Rattle.label.proofs.Bounds.{labels-few, most}
 use Rattle.semantics.specs.Outbox.{Place, Choice, places_set, at_place, along_row, at_receiver, as_taken, taken_value}
 use Rattle.semantics.specs.Places.{RelaysAreFew, FewPlacesAreSet, RangesAreKept}
-
--- the others are different
-filter-absent : (t : ℕ → Bool) (xs : List ℕ) (x : ℕ) → on xs x ≡ false → on (filter t xs) x ≡ false
-filter-absent t xs x a =
-    elim (cases_Bool (on (filter t xs) x)) [
-      | inl there ↦ absurd (false≢true (sym a ∙ (on-filter t xs x there).0))
-      | inr out ↦ out
-    ]
-
-filter-distinct : (t : ℕ → Bool) (xs : List ℕ) → is_distinct xs ≡ true → is_distinct (filter t xs) ≡ true
-filter-distinct t [] d = refl
-filter-distinct t (x ∷ xs) d =
-    let both = and_parts (not (on xs x)) (is_distinct xs) d in
-    let rest : is_distinct (filter t xs) ≡ true = filter-distinct t xs both.1 in
-    let out : not (on (filter t xs) x) ≡ true = not_from_false (on (filter t xs) x) (filter-absent t xs x (not-true (on xs x) both.0)) in
-    elim (t x) as (λ b. is_distinct (cond b (x ∷ filter t xs) (filter t xs)) ≡ true) [
-      | true ↦ and_from (not (on (filter t xs) x)) (is_distinct (filter t xs)) out rest
-      | false ↦ rest
-    ]
-
-pub others-distinct : (n : ℕ) (w : List ℕ) → is_distinct (others n w) ≡ true
-others-distinct n w = filter-distinct (λ j. not (on w j)) (generals n) (range-distinct 0 n)
 
 -- the places of a row, from a number on
 abbrev pub row_from : ℕ → ℕ → List ℕ → List Place
@@ -181,7 +159,7 @@ most_few (suc (suc zero)) l = omega arith
 most_few (suc (suc (suc zero))) l = omega arith
 most_few (suc (suc (suc (suc k)))) l = absurd (omega arith)
 
-round_few : (n c p k : ℕ) → n ≤ 13 → c < n → p < n → p ≢ c → k ≤ 4 → length (labels n c p k) ≤ 990
+pub round_few : (n c p k : ℕ) → n ≤ 13 → c < n → p < n → p ≢ c → k ≤ 4 → length (labels n c p k) ≤ 990
 unfolding labels
 round_few n c p zero short inside within ne l = omega arith
 round_few n c p (suc k) short inside within ne l = omega (arith, labels-few n c p k short inside within ne, most_few k (omega arith))

@@ -1,3 +1,4 @@
+pub mod Limits
 pub mod Relay
 pub mod State
 pub mod Memory

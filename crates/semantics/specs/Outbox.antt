@@ -51,7 +51,7 @@ along_row label orders place = if place.rank == label then slice_get orders plac
 abbrev pub at_receiver : ℕ → ℕ → Choice
 at_receiver receiver order place = if place.receiver == receiver then Some order else None
 
--- the value that the general took for the label of a rank, as the context has it
+-- the value that the general took for the label of a rank, as the context has it: behind eight numbers of 4 bytes, 4 bytes for each rank
 abbrev pub taken_value : List ℕ → ℕ → ℕ
 taken_value context rank = little_number (slice_range context (32 + 4 * rank) (36 + 4 * rank))
 

@@ -1,5 +1,6 @@
 -- How many places of an outbox a helper sets at most. Each statement is the contract of a function of this crate.
 use Rattle.std.specs.Prelude.{ℕ, ◌≤◌, List, length}
+use Rattle.semantics.specs.Limits.{most_generals, most_labels}
 use Rattle.semantics.specs.Relay.{IsRelay, Relay, relayed}
 use Rattle.semantics.specs.Outbox.{places_set, at_place, along_row, at_receiver, as_taken}
 
@@ -16,6 +17,6 @@ pub record FewPlacesAreSet : Type 0 where
 
 -- the ranges of what the helpers return
 pub record RangesAreKept : Type 0 where
-  pub along : (relay : Relay) (label : ℕ) (orders : List ℕ) → length orders ≤ 13 → places_set relay (along_row label orders) ≤ 13
-  pub swayed : (relay : Relay) (receiver order : ℕ) → IsRelay relay → places_set relay (at_receiver receiver order) ≤ 1016
-  pub taken : (relay : Relay) (context : List ℕ) (receiver : ℕ) → IsRelay relay → places_set relay (as_taken context receiver) ≤ 1016
+  pub along : (relay : Relay) (label : ℕ) (orders : List ℕ) → length orders ≤ most_generals → places_set relay (along_row label orders) ≤ most_generals
+  pub swayed : (relay : Relay) (receiver order : ℕ) → IsRelay relay → places_set relay (at_receiver receiver order) ≤ most_labels
+  pub taken : (relay : Relay) (context : List ℕ) (receiver : ℕ) → IsRelay relay → places_set relay (as_taken context receiver) ≤ most_labels

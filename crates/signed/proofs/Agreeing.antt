@@ -5,6 +5,7 @@ use Rattle.std.proofs.lemmas.Bool.{cases_Bool, cases_eq, cases_lt, or_cases, or_
 use Rattle.label.specs.Labels.{on, generals}
 use Rattle.label.specs.Oral.{AllBelow, BeginsWith, IsLoyalLieutenant}
 use Rattle.label.proofs.Counting.{on-push}
+use Rattle.outbox.proofs.RowLemmas.{on-below}
 use Rattle.signed.specs.Chains.{Chain, Among, signed_also, signed_alone}
 use Rattle.signed.specs.Accepted.{Deliveries, counted, accepted, added, loyal_chains}
 use Rattle.signed.specs.Agreement.{IsLoyal, SignsForHimself, SignedAgreementHolds}
@@ -51,10 +52,6 @@ own x r q ch ne entry = elim (chains_out x.n x.c x.m x.order x.S r q ch entry) [
 chains_in : (x : Signing) (k p : ℕ) (ch : Chain) → p ≢ x.c → suc k ≤ x.m → Among ch (added x.n x.S k p) → Among (signed_also ch p) (loyal_chains x.n x.c x.m x.order x.S (suc (suc k)) p)
 unfolding loyal_chains
 chains_in x k p ch ne time h = rw (ne_eqb p x.c ne, le-leb (suc k) x.m time) (also_in p (added x.n x.S k p) ch h)
-
-pub below_on : (n : ℕ) (w : List ℕ) (j : ℕ) → AllBelow n w → on w j ≡ true → j < n
-below_on n [] j b o = cc
-below_on n (x ∷ w) j b o = elim (or_cases (x == j) (on w j) o) [ inl e ↦ (let q : x ≡ j = eqb-true x j e in rw q at b.0) | inr k ↦ below_on n w j b.1 k ]
 
 front_off : (u : List ℕ) (h : ℕ) (w : List ℕ) (q : ℕ) → on (u ++ h ∷ w) q ≡ false → on (u ++ h ∷ []) q ≡ false
 front_off u h w q o =
@@ -121,7 +118,7 @@ last_round x p q v k pn qn i off late =
     let label = labelled x.n x.c x.S x.inside (all_signed x) (suc (suc k)) (suc k) (omega arith) i.sender p i.chain i.general pn i.there in
     let size : length i.chain.signers ≡ suc k = i.counts.size in
     let s = loyal_signer x.n x.c x.m x.traitor i.chain.signers label x.few (omega arith) in
-    loyal_front x p q v k pn qn i off s.0 s.1.0 (below_on x.n i.chain.signers s.0 label.below s.1.0) s.1.1
+    loyal_front x p q v k pn qn i off s.0 s.1.0 (on-below x.n i.chain.signers s.0 label.below s.1.0) s.1.1
 
 pub same : (x : Signing) (p q v : ℕ) → IsLoyalLieutenant x.n x.c x.traitor p → IsLoyalLieutenant x.n x.c x.traitor q → on (accepted x.n x.S (suc x.m) p) v ≡ true → on (accepted x.n x.S (suc x.m) q) v ≡ true
 same x p q v lp lq h =

@@ -7,7 +7,7 @@ use Rattle.board.specs.Ledger.{RecordedBoard}
 use Rattle.round.specs.Activation.{Activation}
 use Rattle.world.specs.Lists.{first_line, later_lines}
 use Rattle.signed.specs.Campaign.{Campaign, is_traitor}
-use Rattle.signed.specs.World.{Part, Acting, Silent, Posted, Event, Tick, Post, Close, IsPunctual, has_posted, round_open, round_letters, closing, happen, run}
+use Rattle.signed.specs.World.{Part, Acting, Silent, Posted, Event, Tick, Post, Close, IsPunctual, owes_no_letter, round_open, round_letters, closing, happen, run}
 use Rattle.signed.specs.Programs.{SignedScenario, IsSignedScenario, RunWorld, conduct_of, after, opened}
 use Rattle.signed.specs.Lists.{HasEnded, EndsInTime, IsComplete, event_of, line_events, wound_up, listed_rounds, listed, ticks_named, names_events, replayed_rounds, replayed}
 use Rattle.signed.specs.Plays.{SignedListsAreComplete}
@@ -21,7 +21,7 @@ use Rattle.signed.proofs.Ripening.{IsDone, run-append, moves-append, ticks_are_m
 abbrev pub AreDone : RunWorld → Type 0
 AreDone w = (g : ℕ) (part : Part Activation) → slice_get w.parts g ≡ Some part → IsDone (Some part)
 
-all_posted : (parts : List (Part Activation)) → ((g : ℕ) (part : Part Activation) → slice_get parts g ≡ Some part → IsDone (Some part)) → list_all has_posted parts ≡ true
+all_posted : (parts : List (Part Activation)) → ((g : ℕ) (part : Part Activation) → slice_get parts g ≡ Some part → IsDone (Some part)) → list_all owes_no_letter parts ≡ true
 all_posted [] h = refl
 all_posted (Acting a ∷ parts) h = all_posted parts (λ g part e. h (suc g) part e)
 all_posted (Silent ∷ parts) h = absurd (h 0 Silent refl)
@@ -105,7 +105,7 @@ module _ (s : SignedScenario) (is : IsSignedScenario s) (closed : List Row) (boa
 
 -- the beginning of the next round
 pub next_in : (s : SignedScenario) (closed : List Row) (board : RecordedBoard) (full : Bool) (w : RunWorld) → InRound s closed board full w → round_open w.campaign w.closed ≡ true →
-    InRound s (w.closed ++ round_letters (conduct_of s) w ∷ []) w.board (w.full && list_all has_posted w.parts) (closing (conduct_of s) w)
+    InRound s (w.closed ++ round_letters (conduct_of s) w ∷ []) w.board (w.full && list_all owes_no_letter w.parts) (closing (conduct_of s) w)
 next_in s closed board full w h more =
     close_in s w h.same.campaign (let A : RunWorld → Type 0 = λ v. Keeps Activation RecordedBoard v in subst A (close_open s w more) (happen_kept Activation RecordedBoard (conduct_of s) w Close h.kept)) h.midst.whole
 
@@ -132,7 +132,7 @@ listed_ends s is (suc k) lines closed board full w h e =
     let A : List Event → Type 0 = λ l. Ends s w l in
     subst A (append_assoc es (wound_up s) (listed_rounds s k (later_lines lines)))
     (wound_then s is closed board full w es (listed_rounds s k (later_lines lines)) i r
-    (listed_ends s is k (later_lines lines) (w3.closed ++ row ∷ []) w3.board (w3.full && list_all has_posted w3.parts) (closing (conduct_of s) w3) (next_in s closed board full w3 r.in_round r.is_open) (omega arith)))
+    (listed_ends s is k (later_lines lines) (w3.closed ++ row ∷ []) w3.board (w3.full && list_all owes_no_letter w3.parts) (closing (conduct_of s) w3) (next_in s closed board full w3 r.in_round r.is_open) (omega arith)))
 
 pub named_moves : (g : ℕ) (o : Option (Part Activation)) → AreMoves (ticks_named g o)
 named_moves g None = tt
@@ -158,7 +158,7 @@ replayed_ends s is (suc k) names closed board full w h e =
     let A : RunWorld → Type 0 = λ v. Ends s w ((es ++ wound_up s) ++ replayed_rounds s v k (later_lines names)) in
     subst A (sym (wound s is closed board full w es r))
     (wound_then s is closed board full w es (replayed_rounds s (closing (conduct_of s) w3) k (later_lines names)) i r
-    (replayed_ends s is k (later_lines names) (w3.closed ++ row ∷ []) w3.board (w3.full && list_all has_posted w3.parts) (closing (conduct_of s) w3) (next_in s closed board full w3 r.in_round r.is_open) (omega arith)))
+    (replayed_ends s is k (later_lines names) (w3.closed ++ row ∷ []) w3.board (w3.full && list_all owes_no_letter w3.parts) (closing (conduct_of s) w3) (next_in s closed board full w3 r.in_round r.is_open) (omega arith)))
 
 complete_by : (s : SignedScenario) (es : List Event) → Ends s (opened s) es → IsComplete s es
 complete_by s es h = record { punctual = h.punctual; ended = h.ended; closed = h.closed }

@@ -3,12 +3,10 @@ use Rattle.std.proofs.Common.{◌≡◌, ℕ, zero, suc, Bool, true, false, not,
 use Rattle.std.specs.Prelude.{◌==◌}
 use Rattle.std.proofs.lemmas.Bool.{or_left, or_right, or_cases, or_parts, or_from, and_parts, and_from, eq-eqb, eqb-true, not-true, not_from_false, false_from_ne_true}
 use Rattle.label.specs.Labels.{on, is_distinct}
+use Rattle.book.proofs.ConditionLemmas.{head_on}
 use Rattle.signed.specs.Chains.{Chain, orders}
 use Rattle.signed.specs.Accepted.{firsts, Deliveries, counted, accepted, added, decided}
 use Rattle.signed.proofs.Lists.{on_append, orders_out, firsts_out}
-
-head_on : (x : ℕ) (xs : List ℕ) → on (x ∷ xs) x ≡ true
-head_on x xs = or_left (x == x) (on xs x) (eq-eqb x x refl)
 
 pub distinct_append : (xs ys : List ℕ) → is_distinct xs ≡ true → is_distinct ys ≡ true → ((v : ℕ) → on xs v ≡ true → on ys v ≡ false) → is_distinct (xs ++ ys) ≡ true
 distinct_append [] ys a b apart = b

@@ -6,6 +6,7 @@ use Rattle.std.proofs.lemmas.List.Elements.{All-replicate}
 use Rattle.board.specs.Board.{IsBoard}
 use Rattle.semantics.specs.Examples.{answer}
 use Rattle.semantics.proofs.SoundExample.{some_are}
+use Rattle.world.proofs.Example.{zeros}
 use Rattle.signed.specs.Programs.{SignedScenario, IsSignedScenario}
 use Rattle.signed.specs.Lists.{IsComplete, listed}
 use Rattle.signed.proofs.Completing.{proved_complete}
@@ -14,12 +15,6 @@ use Rattle.signed.proofs.Rows.{passing}
 -- three generals, the lieutenant 2 a traitor who enters nothing
 abbrev pub silent : SignedScenario
 silent = record { campaign = passing; program = λ g. answer; board = replicate 64 0 }
-
-zeros : (n : ℕ) → n ≡ 64 → IsBoard (replicate n 0)
-zeros n e = record {
-  long = (let l : length (replicate n 0) ≡ n = length-replicate {A = ℕ} n 0 in omega arith);
-  each = All-replicate (λ word. word < 2 ^ 64) n 0 (omega arith);
-}
 
 pub silent_is_scenario : IsSignedScenario silent
 silent_is_scenario = record {

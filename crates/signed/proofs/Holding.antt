@@ -8,6 +8,7 @@ use Rattle.std.proofs.lemmas.List.Sums.{sum_by-cons}
 use Rattle.std.proofs.lemmas.List.FromFn.{length-range_with_len}
 use Rattle.label.specs.Labels.{on, generals, others}
 use Rattle.label.proofs.Counting.{on-push, on-filter, others-on, others-split, others-length}
+use Rattle.label.proofs.Ranks.{all_kept}
 use Rattle.signed.specs.Chains.{Chain, Among}
 use Rattle.signed.specs.Accepted.{Deliveries, came, held, loyal_chains}
 use Rattle.signed.specs.Entries.{Dispatch, Entry, receivers_in, chain_of, bits_of, sent_by, dispatched, entered, to_all_others, received}
@@ -104,10 +105,6 @@ received_less p (x ∷ xs) = received_less_more p x xs (received_less p xs) (on 
 sum_few : (h : ℕ → ℕ) (xs : List ℕ) → ((x : ℕ) → h x ≤ 8) → sum_by h xs ≤ 8 * length xs
 sum_few h [] few = omega arith
 sum_few h (x ∷ xs) few = omega (arith, sum_by-cons h x xs, few x, sum_few h xs few)
-
-all_kept : (xs : List ℕ) → filter (λ j. not (on [] j)) xs ≡ xs
-all_kept [] = refl
-all_kept (x ∷ xs) = ap (λ ys. x ∷ ys) (all_kept xs)
 
 -- at most eight from each of the others
 came_few : (s : Campaign) (closed : List Row) → IsMade s closed → (r p : ℕ) → p < s.generals → length (came s.generals (delivered closed) r p) + 8 ≤ 8 * s.generals

@@ -5,7 +5,7 @@ use Rattle.std.specs.List.{list_all}
 use Rattle.std.proofs.lemmas.Bool.{cases_lt, and_parts, and_from}
 use Rattle.label.specs.Labels.{generals}
 use Rattle.signed.specs.Campaign.{Campaign, Conduct, is_traitor}
-use Rattle.signed.specs.World.{World, Part, Acting, Silent, Posted, Event, Tick, Post, Close, Letter, has_posted, begins, begun, opening, sent_in, letter_in, letter_at, round_letters, round_open, context_behind, sent, delivered, ticked, posting, closing, happen, run, IsPunctual}
+use Rattle.signed.specs.World.{World, Part, Acting, Silent, Posted, Event, Tick, Post, Close, Letter, owes_no_letter, begins, begun, opening, sent_in, letter_in, letter_at, round_letters, round_open, context_behind, sent, delivered, ticked, posting, closing, happen, run, IsPunctual}
 use Rattle.signed.proofs.Places.{row_at, row_length, row_past, set_cases, set_length, there_is, all_at}
 use Rattle.signed.proofs.Making.{Row, IsMade, IsMadeOf, IsFull, of_loyal, made_more, full_more}
 
@@ -98,27 +98,27 @@ letter_made A B d s closed g gn (Some Silent) = inl refl
 letter_made A B d s closed g gn (Some Posted) = inr (inr (record { general = gn; sends = refl }))
 letter_made A B d s closed g gn (Some (Acting a)) = inr (inl (record { general = gn; attempts = d.attempts a; sends = refl }))
 
-loyal_posted : (A B : Type 0) (d : Conduct A B) (s : Campaign) (closed : List Row) (g : ℕ) (part : Part A) → IsKind A false part → has_posted part ≡ true → sent_in (letter_at d s closed g (Some part)) ≡ of_loyal s (delivered closed) (suc (length closed)) g
+loyal_posted : (A B : Type 0) (d : Conduct A B) (s : Campaign) (closed : List Row) (g : ℕ) (part : Part A) → IsKind A false part → owes_no_letter part ≡ true → sent_in (letter_at d s closed g (Some part)) ≡ of_loyal s (delivered closed) (suc (length closed)) g
 loyal_posted A B d s closed g (Acting a) kind h = absurd kind
 loyal_posted A B d s closed g Silent kind h = absurd cc
 loyal_posted A B d s closed g Posted kind h = refl
 
-letter_full : (A B : Type 0) (d : Conduct A B) (w : World A B) → Keeps A B w → round_open w.campaign w.closed ≡ true → list_all has_posted w.parts ≡ true → (g : ℕ) → g < w.campaign.generals → is_traitor w.campaign g ≡ false
+letter_full : (A B : Type 0) (d : Conduct A B) (w : World A B) → Keeps A B w → round_open w.campaign w.closed ≡ true → list_all owes_no_letter w.parts ≡ true → (g : ℕ) → g < w.campaign.generals → is_traitor w.campaign g ≡ false
     → sent_in (letter_at d w.campaign w.closed g (slice_get w.parts g)) ≡ of_loyal w.campaign (delivered w.closed) (suc (length w.closed)) g
 letter_full A B d w k o all g gn loyal =
     let there = there_is w.parts g (let e : length w.parts ≡ w.campaign.generals = k.count o in omega arith) in
-    rw there.1 (loyal_posted A B d w.campaign w.closed g there.0 (rw loyal at (k.kinds g there.0 there.1)) (all_at has_posted w.parts g there.0 all there.1))
+    rw there.1 (loyal_posted A B d w.campaign w.closed g there.0 (rw loyal at (k.kinds g there.0 there.1)) (all_at owes_no_letter w.parts g there.0 all there.1))
 
 closing_kept : (A B : Type 0) (d : Conduct A B) (w : World A B) → Keeps A B w → round_open w.campaign w.closed ≡ true → Keeps A B (closing d w)
 closing_kept A B d w k o =
     let row : Row = round_letters d w in
     let letter : ℕ → Option Letter = λ g. letter_at d w.campaign w.closed g (slice_get w.parts g) in
-    begun_kept A B d w.campaign (w.closed ++ row ∷ []) w.board (w.full && list_all has_posted w.parts)
+    begun_kept A B d w.campaign (w.closed ++ row ∷ []) w.board (w.full && list_all owes_no_letter w.parts)
     (made_more w.campaign w.closed row k.made (λ g. elim (cases_lt g w.campaign.generals) [
       | inl gn ↦ rw (row_at letter w.campaign.generals g gn) (letter_made A B d w.campaign w.closed g gn (slice_get w.parts g))
       | inr past ↦ inl (ap (λ (x : Option (Option Letter)). sent_in (letter_in x)) (row_past letter w.campaign.generals g past))
     ]))
-    (λ e. let both = and_parts w.full (list_all has_posted w.parts) e in
+    (λ e. let both = and_parts w.full (list_all owes_no_letter w.parts) e in
     full_more w.campaign w.closed row (k.fully both.0) (λ g gn loyal. ap (λ (x : Option (Option Letter)). sent_in (letter_in x)) (row_at letter w.campaign.generals g gn) ∙ letter_full A B d w k o both.1 g gn loyal))
 
 close_kept : (A B : Type 0) (d : Conduct A B) (w : World A B) → Keeps A B w → (b : Bool) → round_open w.campaign w.closed ≡ b → Keeps A B (cond b (closing d w) w)
@@ -172,8 +172,8 @@ posting_full A B w g (Some Silent) = refl
 posting_full A B w g (Some Posted) = refl
 posting_full A B w g (Some (Acting a)) = refl
 
-close_full : (A B : Type 0) (d : Conduct A B) (w : World A B) → w.full ≡ true → list_all has_posted w.parts ≡ true → (b : Bool) → (cond b (closing d w) w).full ≡ true
-close_full A B d w f all true = and_from w.full (list_all has_posted w.parts) f all
+close_full : (A B : Type 0) (d : Conduct A B) (w : World A B) → w.full ≡ true → list_all owes_no_letter w.parts ≡ true → (b : Bool) → (cond b (closing d w) w).full ≡ true
+close_full A B d w f all true = and_from w.full (list_all owes_no_letter w.parts) f all
 close_full A B d w f all false = f
 
 -- after a punctual list every loyal general had posted in each closed round

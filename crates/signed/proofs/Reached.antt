@@ -9,7 +9,7 @@ use Rattle.board.specs.Ledger.{RecordedBoard}
 use Rattle.round.specs.Activation.{Activation}
 use Rattle.world.proofs.Cutting.{words_after-append, legal-append}
 use Rattle.signed.specs.Campaign.{Campaign, is_traitor}
-use Rattle.signed.specs.World.{Part, Acting, Silent, Posted, Event, Tick, Post, Close, Letter, has_posted, begun, round_open, letter_at, round_letters, closing, happen, run}
+use Rattle.signed.specs.World.{Part, Acting, Silent, Posted, Event, Tick, Post, Close, Letter, owes_no_letter, begun, round_open, letter_at, round_letters, closing, happen, run}
 use Rattle.signed.specs.Programs.{SignedScenario, IsSignedScenario, RunWorld, conduct_of, opened, played}
 use Rattle.signed.specs.Plays.{IsShort, SignedActivationsAreSafe}
 use Rattle.signed.proofs.Making.{Row}
@@ -83,10 +83,10 @@ round_short s closed board full w is h =
 
 -- a close leaves the beginning of a round
 pub close_in : (s : SignedScenario) (w : RunWorld) → w.campaign ≡ s.campaign → Keeps Activation RecordedBoard (closing (conduct_of s) w) → IsBoard w.board.words →
-    InRound s (w.closed ++ round_letters (conduct_of s) w ∷ []) w.board (w.full && list_all has_posted w.parts) (closing (conduct_of s) w)
+    InRound s (w.closed ++ round_letters (conduct_of s) w ∷ []) w.board (w.full && list_all owes_no_letter w.parts) (closing (conduct_of s) w)
 close_in s w same kept whole =
     let closed = w.closed ++ round_letters (conduct_of s) w ∷ [] in
-    let full = w.full && list_all has_posted w.parts in
+    let full = w.full && list_all owes_no_letter w.parts in
     record {
       same = record { campaign = same; closed_is = refl; full_is = refl };
       kept = kept;
@@ -100,7 +100,7 @@ close_midway s w is m kept =
     record {
       closed = w.closed ++ row ∷ [];
       board = w.board;
-      full = w.full && list_all has_posted w.parts;
+      full = w.full && list_all owes_no_letter w.parts;
       in_round = close_in s w m.in_round.same.campaign kept m.in_round.midst.whole;
       words_are = l.words_are;
       legal = l.legal;

@@ -7,9 +7,9 @@ use Rattle.board.specs.Board.{Access}
 use Rattle.board.specs.Ledger.{RecordedBoard}
 use Rattle.round.specs.Activation.{Activation}
 use Rattle.world.specs.Lists.{names_in}
-use Rattle.world.proofs.Cutting.{AreFrom, filter_here, names_skip}
+use Rattle.world.proofs.Cutting.{AreFrom, filter_here, from-append, from_later, names_skip, of_from}
 use Rattle.world.proofs.Following.{AreOf}
-use Rattle.signed.specs.World.{Part, Acting, Silent, Posted, Event, Tick, Post, Close, IsPunctual, has_posted, begun, round_open, round_letters, closing, happen, run}
+use Rattle.signed.specs.World.{Part, Acting, Silent, Posted, Event, Tick, Post, Close, IsPunctual, owes_no_letter, begun, round_open, round_letters, closing, happen, run}
 use Rattle.signed.specs.Chronicle.{chronicle_of}
 use Rattle.signed.specs.Programs.{SignedScenario, IsSignedScenario, RunWorld, conduct_of, opened, played}
 use Rattle.signed.specs.Lists.{HasEnded, EndsInTime, IsComplete, names_events, wound_up, replayed_rounds}
@@ -24,18 +24,6 @@ use Rattle.signed.proofs.Reached.{midway, ledger_is, opened_in, traitors_all}
 use Rattle.signed.proofs.Ripening.{IsDone, run-append}
 use Rattle.signed.proofs.Completing.{AreDone, close_open, next_in}
 use Rattle.signed.proofs.Again.{Begins, round_again}
-
-of_from : (r : ℕ) (piece : List Access) → AreOf r piece → AreFrom r piece
-of_from r [] h = tt
-of_from r (x ∷ piece) h = ((let e = h.0 in omega arith), of_from r piece h.1)
-
-from_later : (r t : ℕ) (ledger : List Access) → r ≤ t → AreFrom t ledger → AreFrom r ledger
-from_later r t [] le h = tt
-from_later r t (x ∷ ledger) le h = ((let l = h.0 in omega arith), from_later r t ledger le h.1)
-
-from-append : (r : ℕ) (xs ys : List Access) → AreFrom r xs → AreFrom r ys → AreFrom r (xs ++ ys)
-from-append r [] ys a b = b
-from-append r (x ∷ xs) ys a b = (a.0, from-append r xs ys a.1 b)
 
 -- what is still to come from the beginning of a round: its accesses, and the world of their replay
 pub record Again (s : SignedScenario) (closed : List Row) (board : RecordedBoard) (first end : RunWorld) : Type 0 where
@@ -58,10 +46,10 @@ none_again s closed first long = record {
 }
 
 -- in a ripe world everybody is done
-pub done_by : (w : RunWorld) → list_all has_posted w.parts ≡ true → ((g : ℕ) (part : Part Activation) → slice_get w.parts g ≡ Some part → HasEnded part) → AreDone w
-done_by w posted ended g part at = by part (all_at has_posted w.parts g part posted at) (ended g part at)
+pub done_by : (w : RunWorld) → list_all owes_no_letter w.parts ≡ true → ((g : ℕ) (part : Part Activation) → slice_get w.parts g ≡ Some part → HasEnded part) → AreDone w
+done_by w posted ended g part at = by part (all_at owes_no_letter w.parts g part posted at) (ended g part at)
   where
-    by : (part : Part Activation) → has_posted part ≡ true → HasEnded part → IsDone (Some part)
+    by : (part : Part Activation) → owes_no_letter part ≡ true → HasEnded part → IsDone (Some part)
     by (Acting a) p e = e
     by Silent p e = absurd cc
     by Posted p e = tt
@@ -113,7 +101,7 @@ module _ (s : SignedScenario) (is : IsSignedScenario s) where
   again_of (Close ∷ es) closed board full first w b opens h less p q e =
       let more : round_open w.campaign w.closed ≡ true = (λ i. round_open (h.same.campaign i) (h.same.closed_is i)) ∙ lt-ltb (length closed) (suc s.campaign.bound) less in
       let next = w.closed ++ round_letters (conduct_of s) w ∷ [] in
-      let full' = w.full && list_all has_posted w.parts in
+      let full' = w.full && list_all owes_no_letter w.parts in
       let v = closing (conduct_of s) w in
       let is_next : happen (conduct_of s) w Close ≡ v = close_open s w more in
       let long : length next ≡ suc (length closed) = (let c = ap length h.same.closed_is in let l = length-append w.closed (round_letters (conduct_of s) w ∷ []) in omega arith) in

@@ -6,7 +6,7 @@ use Rattle.std.proofs.lemmas.List.FromFn.{length-range_with_len}
 use Rattle.label.specs.Labels.{on, generals}
 use Rattle.label.specs.Generals.{IsGenerals}
 use Rattle.label.proofs.Counting.{on-push, distinct-push, range-on}
-use Rattle.signed.proofs.Agreeing.{below_on}
+use Rattle.outbox.proofs.RowLemmas.{on-below}
 use Rattle.signed.proofs.Fewness.{no_more}
 
 pub room_for : (w : List ℕ) (g : ℕ) → IsGenerals w → g < 13 → on w g ≡ false → length w < 13
@@ -17,6 +17,6 @@ room_for w g is l off =
   where
     below : (v : ℕ) → on (w ++ g ∷ []) v ≡ true → v < 0 + 13
     below v h = elim (or_cases (on w v) (g == v) (sym (on-push w g v) ∙ h)) [
-      | inl there ↦ (let k : v < 13 = below_on 13 w v is.below there in omega arith)
+      | inl there ↦ (let k : v < 13 = on-below 13 w v is.below there in omega arith)
       | inr new ↦ (let e : g ≡ v = eqb-true g v new in omega arith)
     ]

@@ -17,6 +17,7 @@ use Rattle.round.proofs.Ends.{steps_taken}
 use Rattle.round.proofs.Fitting.{fitting_among}
 use Rattle.round.proofs.Going.{IsGoing, TurnsTo, turn_safe, going_zero, over_ended}
 use Rattle.round.proofs.Settled.{IsSettled, runs_settled}
+use Rattle.round.proofs.Contexts.{bytes_context}
 use Rattle.world.specs.World.{accesses_of}
 use Rattle.world.proofs.Holding.{set-same}
 use Rattle.signed.specs.Chains.{Chain}
@@ -27,7 +28,7 @@ use Rattle.signed.specs.Programs.{SignedScenario, IsSignedScenario, RunWorld, sh
 use Rattle.signed.specs.Plays.{IsPlaced}
 use Rattle.signed.proofs.Making.{Row}
 use Rattle.signed.proofs.Midst.{InRound, start, has_part, his, tick_is}
-use Rattle.signed.proofs.Bytes.{bytes_context, shape_is}
+use Rattle.signed.proofs.Bytes.{shape_is}
 
 -- of so many steps for which a run's beginning is safe, those that are left at its end
 pub record IsLeft (n k : ℕ) (end : Activation) : Type 0 where

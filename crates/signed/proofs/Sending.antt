@@ -23,6 +23,7 @@ use Rattle.world.specs.World.{accesses_of}
 use Rattle.round.specs.Activation.{Activation, started, Turn, Goes, Asks, Ended, turn, turned, has_ended}
 use Rattle.round.specs.Runs.{Onward, Runs, AreFitting}
 use Rattle.round.proofs.Going.{IsGoing, TurnsTo, turn_safe, going_zero, over_ended}
+use Rattle.round.proofs.Contexts.{bytes_context}
 use Rattle.signed.specs.Chains.{Chain, Among}
 use Rattle.signed.specs.Entries.{chain_of, dispatched}
 use Rattle.signed.specs.Accepted.{held}
@@ -36,7 +37,7 @@ use Rattle.signed.proofs.Forging.{world_unforged}
 use Rattle.signed.proofs.Exits.{exit_same}
 use Rattle.signed.proofs.Entering.{entries_entered}
 use Rattle.signed.proofs.Signing.{sendable_is, all_send}
-use Rattle.signed.proofs.Bytes.{bytes_context, shape_is}
+use Rattle.signed.proofs.Bytes.{shape_is}
 use Rattle.signed.proofs.Midst.{InRound, start}
 use Rattle.signed.proofs.Safe.{IsDue, due, placed}
 use Rattle.signed.proofs.Reached.{midway}

@@ -6,6 +6,7 @@ use Rattle.label.specs.Labels.{on, is_distinct, generals, others}
 use Rattle.label.specs.Oral.{IsLabel, AllBelow}
 use Rattle.label.proofs.Counting.{on-push, others-split}
 use Rattle.label.proofs.Pushes.{IsLabel-push}
+use Rattle.label.proofs.Ranks.{all_kept}
 use Rattle.signed.specs.Chains.{Chain, Among}
 use Rattle.signed.specs.Accepted.{Deliveries}
 use Rattle.signed.specs.Agreement.{SignsForHimself}
@@ -83,10 +84,6 @@ some_loyal t (x ∷ w) = elim (cases_Bool (t x)) [
     | inl all ↦ inl (λ j i. elim (or_cases (x == j) (on w j) i) [ inl q ↦ (let e : x ≡ j = eqb-true x j q in rw e at bad) | inr k ↦ all j k ])
   ]
 ]
-
-all_kept : (xs : List ℕ) → filter (λ j. not (on [] j)) xs ≡ xs
-all_kept [] = refl
-all_kept (x ∷ xs) = ap (λ ys. x ∷ ys) (all_kept xs)
 
 -- a chain of more than m signatures has a loyal one
 pub loyal_signer : (n c m : ℕ) (t : ℕ → Bool) (w : List ℕ) → IsLabel n c w → count_by t (generals n) ≤ m → m < length w → (h : ℕ) × ((on w h ≡ true) × (t h ≡ false))

@@ -8,6 +8,7 @@ use Rattle.label.specs.Labels.{on, generals}
 use Rattle.label.specs.Oral.{IsLoyalLieutenant}
 use Rattle.label.specs.Lieutenants.{lieutenants, IsLoyalAt, AgreeInList}
 use Rattle.label.proofs.Counting.{others-on}
+use Rattle.book.proofs.Listed.{loyal_at, read_map}
 use Rattle.signed.specs.Accepted.{decided}
 use Rattle.signed.specs.Agreement.{IsSignedBound, SignedAgree}
 use Rattle.signed.specs.Campaign.{Campaign, Conduct, is_traitor}
@@ -16,21 +17,6 @@ use Rattle.signed.specs.Chronicle.{decisions, of_loyal, all_same, verdict_of}
 use Rattle.signed.specs.Verdicts.{AreAlike, AreObedient, SignedVerdictsMean}
 use Rattle.signed.proofs.Keeping.{run_campaign}
 use Rattle.signed.proofs.Finishing.{agree_in}
-
-on-get_or : (xs : List ℕ) (i : ℕ) → i < length xs → on xs (get_or xs i 0) ≡ true
-on-get_or [] i l = absurd (omega arith)
-on-get_or (x ∷ xs) zero l = or_left (x == x) (on xs x) (eq-eqb x x refl)
-on-get_or (x ∷ xs) (suc i) l = or_right (x == get_or xs i 0) (on xs (get_or xs i 0)) (on-get_or xs i (omega arith))
-
-read_map : (d : ℕ → ℕ) (xs : List ℕ) (i : ℕ) → i < length xs → get_or (map d xs) i 0 ≡ d (get_or xs i 0)
-read_map d [] i l = absurd (omega arith)
-read_map d (x ∷ xs) zero l = refl
-read_map d (x ∷ xs) (suc i) l = read_map d xs i (omega arith)
-
-loyal_at : (n c : ℕ) (traitor : ℕ → Bool) (i : ℕ) → IsLoyalAt n c traitor i → IsLoyalLieutenant n c traitor (slice_index (lieutenants n c) i)
-loyal_at n c traitor i a =
-    let there = others-on n (c ∷ []) (get_or (lieutenants n c) i 0) (on-get_or (lieutenants n c) i a.within) in
-    record { general = there.0; lieutenant = λ e. eqb-false c (get_or (lieutenants n c) i 0) (or_parts (c == get_or (lieutenants n c) i 0) false there.1).0 (sym e); loyal = a.loyal }
 
 -- orders that agree, place by place
 in_list : (n c order : ℕ) (traitor : ℕ → Bool) (accepts : ℕ → List ℕ) → SignedAgree n c order traitor accepts → AgreeInList n c order traitor (map (λ p. decided (accepts p)) (lieutenants n c))

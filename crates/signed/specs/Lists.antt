@@ -5,7 +5,7 @@ use Rattle.label.specs.Labels.{generals}
 use Rattle.round.specs.Activation.{Activation, has_ended}
 use Rattle.world.specs.Lists.{first_line, later_lines, until_access}
 use Rattle.signed.specs.Campaign.{Campaign, is_traitor}
-use Rattle.signed.specs.World.{Part, Acting, Event, Tick, Post, Close, has_posted, IsPunctual}
+use Rattle.signed.specs.World.{Part, Acting, Event, Tick, Post, Close, owes_no_letter, IsPunctual}
 use Rattle.signed.specs.Programs.{SignedScenario, RunWorld, conduct_of, after, opened, played}
 
 abbrev pub HasEnded : Part Activation → Type 0
@@ -24,7 +24,7 @@ AreMoves (e ∷ events) = IsMove e × AreMoves events
 
 -- every loyal general has posted, and every activation has ended
 pub record IsRipe (w : RunWorld) : Type 0 where
-  pub posted_all : list_all has_posted w.parts ≡ true
+  pub posted_all : list_all owes_no_letter w.parts ≡ true
   pub ended_all : (g : ℕ) (part : Part Activation) → slice_get w.parts g ≡ Some part → HasEnded part
 
 -- before each close every traitor's activation has ended

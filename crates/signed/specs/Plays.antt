@@ -71,7 +71,8 @@ SignedLedgersDecide = (s : SignedScenario) (before events others : List Event) �
 abbrev pub replay_of : SignedScenario → List Access → RunWorld
 replay_of s ledger = played s (replayed s (names_in 1 ledger (suc s.campaign.bound)))
 
--- a complete run is the replay of its own accesses, and so its chronicle and the text of it are those of the replay; its ledger is legal from the board's opening words on, and has accesses of the campaign's traitors alone
+-- a complete run is the replay of its own accesses, and so its chronicle and the text of it are those of the replay;
+-- its ledger is legal from the board's opening words on, and has accesses of the campaign's traitors alone
 pub record SignedRunsAreReplays : Type 0 where
   pub worlds : (s : SignedScenario) (events : List Event) → IsSignedScenario s → IsComplete s events → replay_of s (played s events).board.ledger ≡ played s events
   pub chronicles : (s : SignedScenario) (events : List Event) → IsSignedScenario s → IsComplete s events →

@@ -39,7 +39,8 @@ verdict_line v = codes "verdict" ∷ codes "alike" ∷ yes_no v.alike ∷ codes 
 abbrev pub head_lines : Campaign → List Line
 head_lines s =
     (codes "chronicle" ∷ codes "3" ∷ [])
-    ∷ (codes "signed" ∷ codes "generals" ∷ decimal s.generals ∷ codes "bound" ∷ decimal s.bound ∷ codes "commander" ∷ decimal s.commander ∷ codes "order" ∷ decimal s.order ∷ codes "patience" ∷ place s.patience ∷ [])
+    ∷ (codes "signed" ∷ codes "generals" ∷ decimal s.generals ∷ codes "bound" ∷ decimal s.bound
+      ∷ codes "commander" ∷ decimal s.commander ∷ codes "order" ∷ decimal s.order ∷ codes "patience" ∷ place s.patience ∷ [])
     ∷ []
 
 unfoldable pub signed_lines : (ℕ → List Line) → Chronicle → List Line

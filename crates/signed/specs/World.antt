@@ -22,10 +22,10 @@ pub data Part (A : Type 0) : Type 0 where
   Silent : Part A
   Posted : Part A
 
-abbrev pub has_posted : {A : Type 0} → Part A → Bool
-has_posted (Acting a) = true
-has_posted Silent = false
-has_posted Posted = true
+abbrev pub owes_no_letter : {A : Type 0} → Part A → Bool
+owes_no_letter (Acting a) = true
+owes_no_letter Silent = false
+owes_no_letter Posted = true
 
 -- what happens: one instruction of a traitor's program, a loyal general's letter, the end of the round
 pub data Event : Type 0 where
@@ -129,7 +129,7 @@ posting w g (Some Silent) = record w { parts = slice_set w.parts g Posted }
 posting w g _ = w
 
 abbrev pub closing : {A B : Type 0} → Conduct A B → World A B → World A B
-closing d w = begun d w.campaign (w.closed ++ round_letters d w ∷ []) w.board (w.full && list_all has_posted w.parts)
+closing d w = begun d w.campaign (w.closed ++ round_letters d w ∷ []) w.board (w.full && list_all owes_no_letter w.parts)
 
 -- what an event does; a refused one and a second post change nothing
 abbrev pub happen : {A B : Type 0} → Conduct A B → World A B → Event → World A B
@@ -168,7 +168,7 @@ accepted_in w p = accepted w.campaign.generals (delivered w.closed) (suc w.campa
 -- before each close every loyal general has posted
 abbrev pub IsPunctual : {A B : Type 0} → Conduct A B → World A B → List Event → Type 0
 IsPunctual d w [] = Unit {0}
-IsPunctual d w (Close ∷ events) = (list_all has_posted w.parts ≡ true) × IsPunctual d (happen d w Close) events
+IsPunctual d w (Close ∷ events) = (list_all owes_no_letter w.parts ≡ true) × IsPunctual d (happen d w Close) events
 IsPunctual d w (e ∷ events) = IsPunctual d (happen d w e) events
 
 -- all rounds are closed, and in each of them every loyal general had posted

@@ -29,7 +29,7 @@ const LOADS: &[(Size, Value, i16, Result<Value, MemoryFault>)] = &[
 #[test]
 fn stores_and_loads(rt: HostRuntime) {
     let bytes = [0x81; Context::BYTES];
-    let context = Context::new(&bytes).expect(&rt, "4,096 bytes");
+    let context = Context::new(&bytes);
     let mut stack = Stack::new();
     assert!(rt; is_filled(&mut stack));
     for &(size, base, distance, answer) in LOADS {
@@ -42,4 +42,12 @@ fn stores_and_loads(rt: HostRuntime) {
     assert!(rt; sign == Ok(Value::Number(0xffff_ffff_ffff_fffe)));
     let written = store(&mut stack, Size::Byte, START, 0, NUMBER);
     assert!(rt; written == Err(MemoryFault::ContextWrite));
+}
+
+#[test]
+fn a_context_has_4096_bytes(rt: HostRuntime) {
+    let bytes = [0x81; Context::BYTES];
+    let context = Context::try_new(&bytes).expect(&rt, "4,096 bytes");
+    assert!(rt; context.bytes() == &bytes[..]);
+    assert!(rt; Context::try_new(&bytes[1..]).is_none());
 }

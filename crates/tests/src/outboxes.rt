@@ -18,7 +18,7 @@ fn puts(outbox: &mut Outbox) -> bool {
         && !outbox.put(0, 3, 7)
         && !outbox.put(1, 2, 7)
         && outbox.get(0, 2) == Some(7)
-        && outbox.row(0, &[5, 6, 8]) == 2
+        && outbox.put_row(0, &[5, 6, 8]) == 2
         && outbox.get(0, 2) == Some(6)
 }
 

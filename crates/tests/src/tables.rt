@@ -1,14 +1,14 @@
 //! Message tables, and what the lieutenants decide by them.
 
-use book::{TableError, decision, decisions, read_table};
+use book::{Fault, TableError, decision, decisions, read_table};
 use std::alloc::{AllocError, Global};
 
 fn decides(alloc: Global, text: &str, orders: &[u32]) -> Result<bool, TableError> {
     Ok(decisions(&read_table(alloc, text)?).as_slice() == orders)
 }
 
-fn refuses(alloc: Global, text: &str, fault: TableError) -> bool {
-    read_table(alloc, text).err() == Some(fault)
+fn refuses(alloc: Global, text: &str, fault: Fault, line: u64) -> bool {
+    read_table(alloc, text).err() == Some(TableError::At(fault, line))
 }
 
 #[test]
@@ -53,16 +53,16 @@ fn messages_missing(rt: HostRuntime) -> Result<(), TableError> {
 fn faults(rt: HostRuntime) -> Result<(), AllocError> {
     let alloc = rt.alloc();
     let small = "generals 3 bound 2 commander 0";
-    assert!(rt; refuses(alloc, small, TableError::Range(1)));
+    assert!(rt; refuses(alloc, small, Fault::Range, 1));
     let receiver_on_label = "generals 4 bound 1 commander 0\ntell 0.1 1 5\n";
-    assert!(rt; refuses(alloc, receiver_on_label, TableError::Place(2)));
+    assert!(rt; refuses(alloc, receiver_on_label, Fault::Place, 2));
     let twice = "generals 4 bound 1 commander 0\ntell 0 1 1\ntell 0 1 1\n";
-    assert!(rt; refuses(alloc, twice, TableError::Twice(3)));
+    assert!(rt; refuses(alloc, twice, Fault::Twice, 3));
     let large = "generals 4 bound 1 commander 0\ntell 0 1 4294967296\n";
-    assert!(rt; refuses(alloc, large, TableError::Line(2)));
-    assert!(rt; refuses(alloc, "", TableError::Line(1)));
+    assert!(rt; refuses(alloc, large, Fault::Line, 2));
+    assert!(rt; refuses(alloc, "", Fault::Line, 1));
     assert_eq!(rt;
-        TableError::Place(2).to_string(alloc)?.as_str(),
+        TableError::At(Fault::Place, 2).to_string(alloc)?.as_str(),
         "B3 line 2"
     );
     Ok(())

@@ -7,23 +7,21 @@ use Rattle.text.specs.Stop.{is_stop, feed}
 use Rattle.text.specs.Parts.{until, before, from, pieces, lines_of}
 use Rattle.text.proofs.PartsLemmas.{pieces_is, line_first}
 use Rattle.text.proofs.BytesLemmas.{and_first, and_second}
+use Rattle.std.proofs.lemmas.Bool.{not-true}
+use Rattle.std.proofs.Math.Seq.{take-length, drop-length}
 
 -- no stop stands in the text
 abbrev pub Lacks : Stop → List ℕ → Type 0
 Lacks stop bytes = list_all (λ c. not (is_stop stop c)) bytes ≡ true
 
-not_stop : (b : Bool) → not b ≡ true → b ≡ false
-not_stop true h = absurd cc
-not_stop false h = refl
-
 -- the first stop stands behind a part that has none
 pub until-append : (stop : Stop) (xs : List ℕ) (c : ℕ) (ys : List ℕ) → Lacks stop xs → is_stop stop c ≡ true → until stop (xs ++ c ∷ ys) ≡ length xs
 until-append stop [] c ys h k = rw k refl
-until-append stop (x ∷ xs) c ys h k = rw (not_stop (is_stop stop x) (and_first (not (is_stop stop x)) _ h)) (ap suc (until-append stop xs c ys (and_second (not (is_stop stop x)) _ h) k))
+until-append stop (x ∷ xs) c ys h k = rw (not-true (is_stop stop x) (and_first (not (is_stop stop x)) _ h)) (ap suc (until-append stop xs c ys (and_second (not (is_stop stop x)) _ h) k))
 
 pub until-all : (stop : Stop) (xs : List ℕ) → Lacks stop xs → until stop xs ≡ length xs
 until-all stop [] h = refl
-until-all stop (x ∷ xs) h = rw (not_stop (is_stop stop x) (and_first (not (is_stop stop x)) _ h)) (ap suc (until-all stop xs (and_second (not (is_stop stop x)) _ h)))
+until-all stop (x ∷ xs) h = rw (not-true (is_stop stop x) (and_first (not (is_stop stop x)) _ h)) (ap suc (until-all stop xs (and_second (not (is_stop stop x)) _ h)))
 
 pub take_front : (xs ys : List ℕ) → take (length xs) (xs ++ ys) ≡ xs
 take_front [] ys = refl
@@ -33,14 +31,6 @@ pub drop_front : (xs ys : List ℕ) → drop (length xs) (xs ++ ys) ≡ ys
 drop_front [] ys = refl
 drop_front (x ∷ xs) ys = drop_front xs ys
 
-take_whole : (xs : List ℕ) → take (length xs) xs ≡ xs
-take_whole [] = refl
-take_whole (x ∷ xs) = ap (λ l. x ∷ l) (take_whole xs)
-
-drop_whole : (xs : List ℕ) → drop (length xs) xs ≡ []
-drop_whole [] = refl
-drop_whole (x ∷ xs) = drop_whole xs
-
 -- a text without stops is cut at its end, and one with a stop behind a part without stops at that stop
 pub before-append : (stop : Stop) (xs : List ℕ) (c : ℕ) (ys : List ℕ) → Lacks stop xs → is_stop stop c ≡ true → before stop (xs ++ c ∷ ys) ≡ xs
 before-append stop xs c ys h k = rw (until-append stop xs c ys h k) (take_front xs (c ∷ ys))
@@ -49,10 +39,10 @@ pub from-append : (stop : Stop) (xs : List ℕ) (c : ℕ) (ys : List ℕ) → La
 from-append stop xs c ys h k = rw (until-append stop xs c ys h k) (drop_front xs (c ∷ ys))
 
 pub before-all : (stop : Stop) (xs : List ℕ) → Lacks stop xs → before stop xs ≡ xs
-before-all stop xs h = rw (until-all stop xs h) (take_whole xs)
+before-all stop xs h = rw (until-all stop xs h) (take-length xs)
 
 pub from-all : (stop : Stop) (xs : List ℕ) → Lacks stop xs → from stop xs ≡ []
-from-all stop xs h = rw (until-all stop xs h) (drop_whole xs)
+from-all stop xs h = rw (until-all stop xs h) (drop-length xs)
 
 -- the pieces of what was joined
 pub pieces-append : (stop : Stop) (xs : List ℕ) (c : ℕ) (ys : List ℕ) → Lacks stop xs → is_stop stop c ≡ true → pieces stop (xs ++ c ∷ ys) ≡ xs ∷ pieces stop ys

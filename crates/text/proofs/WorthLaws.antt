@@ -8,6 +8,7 @@ use Rattle.text.specs.Options.{◌>>=◌}
 use Rattle.text.specs.Stop.{is_within}
 use Rattle.text.specs.Number.{capped, digit_in, digits_on}
 use Rattle.text.specs.Laws.{AreDigits, worth, DigitsAreWorth}
+use Rattle.std.proofs.lemmas.Option.{cond_some}
 
 -- ---- characters
 
@@ -116,13 +117,9 @@ high_read c (suc (suc (suc (suc (suc (suc (suc (suc (suc (suc (suc (suc (suc (su
 high_read c (suc (suc (suc (suc (suc (suc (suc (suc (suc (suc (suc (suc (suc (suc (suc zero))))))))))))))) e = read_as 16 15 70 c e refl
 high_read c (suc (suc (suc (suc (suc (suc (suc (suc (suc (suc (suc (suc (suc (suc (suc (suc k)))))))))))))))) e = absurd cc
 
-digit_by : (t : Bool) (x d : ℕ) → cond t (Some x) None ≡ Some d → (t ≡ true) × (x ≡ d)
-digit_by true x d e = (refl, cc)
-digit_by false x d e = absurd cc
-
 ten_stands : (c d : ℕ) → digit_in 10 c ≡ Some d → slice_get (codes "0123456789") d ≡ Some c
 ten_stands c d e =
-    let h = digit_by (is_within 48 57 c) (c - 48) d e in
+    let h = cond_some (is_within 48 57 c) (c - 48) d e in
     let range : (48 ≤ c) × (c ≤ 57) = within 48 57 c h.0 in
     let low : 48 ≤ c = range.0 in
     let high : c ≤ 57 = range.1 in

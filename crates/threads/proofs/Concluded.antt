@@ -1,9 +1,7 @@
 -- The chronicle of accounted letters is that of their replay, which is a complete run; hence what holds of it.
-use Rattle.std.proofs.Common.{◌≡◌, ℕ, suc, List, [], All, refl, sym, ap, subst, ◌∙◌}
-use Rattle.label.specs.Lieutenants.{AgreeInList}
-use Rattle.label.specs.Oral.{IsBound}
+use Rattle.std.proofs.Common.{◌≡◌, ℕ, suc, List, [], All, sym, ap, subst, ◌∙◌}
 use Rattle.board.specs.Board.{Access, IsLegal}
-use Rattle.round.specs.Scenario.{Scenario, IsScenario, is_traitor}
+use Rattle.round.specs.Scenario.{Scenario, IsScenario}
 use Rattle.round.specs.Letters.{Letter, messages}
 use Rattle.world.specs.World.{World}
 use Rattle.world.specs.Lists.{replayed, names_in}
@@ -12,9 +10,7 @@ use Rattle.world.specs.Chronicle.{decisions, chronicle_with, chronicle_of}
 use Rattle.world.specs.Replay.{replay_of}
 use Rattle.world.specs.Safety.{IsShort}
 use Rattle.world.proofs.Accounting.{accounted_again}
-use Rattle.world.proofs.Listed.{replayed_finished}
 use Rattle.world.proofs.Untrapped.{held}
-use Rattle.world.proofs.Verdicts.{proved_decisions_agree}
 
 module _ (s : Scenario) (ledger : List Access) (rows : List (List Letter)) (is : IsScenario s) (legal : IsLegal s.board ledger) (accounted : AreAccounted s [] ledger rows) where
   pub concluded : (ds : List ℕ) → ds ≡ decisions s (messages rows) → chronicle_with s rows ledger ds ≡ chronicle_of (replay_of s ledger)
@@ -25,9 +21,3 @@ module _ (s : Scenario) (ledger : List Access) (rows : List (List Letter)) (is :
 
   pub all_short : All (λ row. All IsShort row) rows
   all_short = subst (λ (closed : List (List Letter)). All (λ row. All IsShort row) closed) closed_are (held s (replayed s (names_in 1 ledger (suc s.bound))) is).short
-
-  pub all_agree : IsBound s.generals s.bound (is_traitor s) → AgreeInList s.generals s.commander s.order (is_traitor s) (decisions s (messages rows))
-  all_agree bound =
-      let names = names_in 1 ledger (suc s.bound) in
-      subst (λ (closed : List (List Letter)). AgreeInList s.generals s.commander s.order (is_traitor s) (decisions s (messages closed))) closed_are
-      (proved_decisions_agree s (replayed s names) is (replayed_finished s names (replay_of s ledger) is refl) bound)

@@ -4,17 +4,11 @@ use Rattle.std.specs.Prelude.{min, sum_by}
 use Rattle.std.proofs.lemmas.Bool.Decides.{leb_tells}
 use Rattle.std.proofs.Math.Numerals.{add-one}
 use Rattle.std.proofs.Math.Seq.{drop-cons}
-use Rattle.std.proofs.lemmas.List.{take_min, take_more, drop_all}
+use Rattle.std.proofs.lemmas.List.{take_min, take_more, drop_all, drop_min}
 use Rattle.board.specs.Board.{Access}
 use Rattle.round.specs.Scenario.{Scenario}
 use Rattle.round.specs.Letters.{Letter}
 use Rattle.world.specs.Accounted.{IsAccountedRound, AreAccounted}
-
-drop_min : {X : Type 0} → (n : ℕ) (xs : List X) → drop (min n (length xs)) xs ≡ drop n xs
-drop_min n xs = ⊎_elim
-    (λ (q : (leb n (length xs) ≡ true) × (n ≤ length xs)). ap (λ k. drop k xs) (let l = q.1 in let e : min n (length xs) ≡ n = omega arith in e))
-    (λ (q : (leb n (length xs) ≡ false) × (length xs < n)). drop_all (min n (length xs)) xs (let l = q.1 in omega arith) ∙ sym (drop_all n xs (let l = q.1 in omega arith)))
-    (leb_tells n (length xs))
 
 module _ (s : Scenario) (rows : List (List Letter)) (at : ℕ) (rest : List Access) (row : List Letter) (lt : at < length rows) (is : row ≡ get_or rows at row) where
   abbrev count : ℕ

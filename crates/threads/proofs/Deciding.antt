@@ -14,9 +14,10 @@ use Rattle.tree.specs.LieutenantTree.{LieutenantTree}
 use Rattle.resolve.specs.Decided.{Decides}
 use Rattle.round.specs.Scenario.{Scenario}
 use Rattle.round.specs.Letters.{Letter, messages}
-use Rattle.round.specs.Told.{IsTreeOf, Heard, WasTold, lieutenant_at}
+use Rattle.round.specs.Told.{IsTreeOf, ToldSeen, WasTold, lieutenant_at}
 use Rattle.world.specs.World.{each}
 use Rattle.world.specs.Chronicle.{decision, decisions}
+use Rattle.round.proofs.Lists.{some_at}
 
 one_by_one : (f : ℕ → ℕ) (n : ℕ) (g : ℕ → ℕ) → map f (each n (λ i. g i ∷ [])) ≡ each n (λ i. f (g i) ∷ [])
 one_by_one f zero g = refl
@@ -81,19 +82,14 @@ snoc [] n x e = cc
 snoc (y ∷ xs) zero x e = (let f : y ≡ x = cc in ap (λ z. z ∷ []) f)
 snoc (y ∷ xs) (suc n) x e = ap (λ ys. y ∷ ys) (snoc xs n x e)
 
-inside : (xs : List ℕ) (n : ℕ) → n < length xs → (x : ℕ) × (slice_get xs n ≡ Some x)
-inside [] n lt = absurd (omega arith)
-inside (x ∷ xs) zero lt = (x, refl)
-inside (x ∷ xs) (suc n) lt = inside xs n (omega arith)
-
 each_front : (xs : List ℕ) (f : ℕ → ℕ) → ((i x : ℕ) → slice_get xs i ≡ Some x → x ≡ f i) → (n : ℕ) → n ≤ length xs → each n (λ i. f i ∷ []) ≡ take n xs
 each_front xs f h zero le = refl
 each_front xs f h (suc n) le =
-    let l = inside xs n (omega arith) in
+    let l = some_at xs n (omega arith) in
     (λ i. each_front xs f h n (omega arith) i ++ sym (h n l.0 l.1) i ∷ []) ∙ sym (snoc xs n l.0 l.1)
 
 -- the decisions of the trees are those of the lieutenants, ascending
-pub all_decided : (s : Scenario) (before : List (List Letter)) (h : Heard) (ds : List ℕ) → s.commander < s.generals → WasTold s before h → AllZip (Decides (combined_by s.rule)) h.trees ds
+pub all_decided : (s : Scenario) (before : List (List Letter)) (h : ToldSeen) (ds : List ℕ) → s.commander < s.generals → WasTold s before h → AllZip (Decides (combined_by s.rule)) h.trees ds
     → ds ≡ decisions s (messages before)
 unfolding decisions
 all_decided s before h ds lt told all =

@@ -4,7 +4,7 @@ use Rattle.std.specs.Prelude.{slice_get, sum_by}
 use Rattle.board.specs.Board.{Access}
 use Rattle.round.specs.Scenario.{Scenario}
 use Rattle.round.specs.Letters.{Letter}
-use Rattle.world.specs.Accounted.{row_by, AreAccounted, IsAccounted}
+use Rattle.world.specs.Accounted.{letters_by, AreAccounted, IsAccounted}
 use Rattle.world.proofs.Listing.{each-get}
 use Rattle.threads.specs.Taking.{IsGrid}
 
@@ -16,5 +16,5 @@ accounted_long s (letters ∷ rounds) before ledger h (suc i) row at = accounted
 pub grid_of : (s : Scenario) (ledger : List Access) (letters : List Letter) → IsAccounted s ledger letters → IsGrid s.generals (suc s.bound) letters
 grid_of s ledger letters h = record {
   count = h.0;
-  rows = λ r lt. accounted_long s _ [] ledger h.1 r (row_by s.generals (suc r) letters) (each-get (suc s.bound) (λ r. row_by s.generals (suc r) letters) r lt);
+  rows = λ r lt. accounted_long s _ [] ledger h.1 r (letters_by s.generals (suc r) letters) (each-get (suc s.bound) (λ r. letters_by s.generals (suc r) letters) r lt);
 }

@@ -1,26 +1,16 @@
 -- Letters taken out of a list one at a time.
 use Rattle.std.proofs.Common.{◌≡◌, ◌≢◌, ℕ, zero, suc, ◌+◌, ◌<◌, ◌≤◌, Bool, true, false, cond, List, [], ◌∷◌, ◌++◌, length, take, refl, sym, ap, subst, ◌∙◌, ⊎_elim, Option, None, Some, arith, length-append}
-use Rattle.std.specs.Prelude.{◌==◌, ◌&&◌, slice_get}
+use Rattle.std.specs.Prelude.{◌==◌, ◌&&◌, slice_get, option_to_list}
 use Rattle.std.specs.List.{find, remove}
 use Rattle.std.proofs.Math.Numerals.{add-one}
 use Rattle.std.proofs.lemmas.Bool.{eq-eqb, ne_eqb}
 use Rattle.std.proofs.lemmas.Bool.Decides.{eqb_tells}
 use Rattle.round.specs.Letters.{Letter}
 use Rattle.world.specs.World.{each}
-use Rattle.world.specs.Accounted.{letter_by, alone, row_by}
-use Rattle.threads.specs.Taking.{without, left_by, left_row, left_rounds}
-
-abbrev pub is_by : ℕ → ℕ → Letter → Bool
-is_by g round l = (l.general == g) && (l.round == round)
-
-pub by_true : (g round : ℕ) (l : Letter) → l.general ≡ g → l.round ≡ round → is_by g round l ≡ true
-by_true g round l a b = rw (eq-eqb l.general g a, eq-eqb l.round round b) refl
-
-pub by_false : (g round : ℕ) (l : Letter) → (l.general ≡ g → l.round ≡ round → ⊥) → is_by g round l ≡ false
-by_false g round l not = ⊎_elim
-    (λ (x : (l.general == g ≡ true) × (l.general ≡ g)). rw x.0 (ne_eqb l.round round (λ e. not x.1 e)))
-    (λ (x : (l.general == g ≡ false) × (l.general ≢ g)). rw x.0 refl)
-    (eqb_tells l.general g)
+use Rattle.world.specs.Accounted.{letter_by, letters_by}
+use Rattle.threads.specs.Taking.{without, left_by, left_by_all, left_rounds}
+use Rattle.world.proofs.Holding.{each-same}
+use Rattle.world.proofs.Arranged.{by_false, by_true, is_by}
 
 -- the first that passes stands where the front has none that does
 found_by : (p : Letter → Bool) (y x : Letter) (ys : List Letter) (i : ℕ) (b : Bool) → (find p (take i ys) ≡ None → (find p ys ≡ slice_get ys i) × (without p ys ≡ remove ys i))
@@ -64,68 +54,64 @@ left_other g round h r apart xs = found_left (is_by g round) (is_by h r) (λ x d
     fits : (x : Letter) → is_by g round x ≡ true → (x.general ≡ g → x.round ≡ round → ⊥) → ⊥
     fits x does not = (let e = sym does ∙ by_false g round x not in cc)
 
-row_others : (g round h r : ℕ) → ((k : ℕ) → k < g → h ≡ k → r ≡ round → ⊥) → (xs : List Letter) → letter_by h r (left_row g round xs) ≡ letter_by h r xs
+row_others : (g round h r : ℕ) → ((k : ℕ) → k < g → h ≡ k → r ≡ round → ⊥) → (xs : List Letter) → letter_by h r (left_by_all g round xs) ≡ letter_by h r xs
 row_others zero round h r apart xs = refl
-row_others (suc g) round h r apart xs = left_other g round h r (apart g (omega arith)) (left_row g round xs) ∙ row_others g round h r (λ k lt. apart k (omega arith)) xs
+row_others (suc g) round h r apart xs = left_other g round h r (apart g (omega arith)) (left_by_all g round xs) ∙ row_others g round h r (λ k lt. apart k (omega arith)) xs
 
-pub row_same : (g round : ℕ) (xs : List Letter) → letter_by g round (left_row g round xs) ≡ letter_by g round xs
+pub row_same : (g round : ℕ) (xs : List Letter) → letter_by g round (left_by_all g round xs) ≡ letter_by g round xs
 row_same g round xs = row_others g round g round (λ k lt e f. omega arith) xs
 
 rounds_others : (n r h t : ℕ) → r ≤ t → (xs : List Letter) → letter_by h (suc t) (left_rounds n r xs) ≡ letter_by h (suc t) xs
 rounds_others n zero h t le xs = refl
 rounds_others n (suc r) h t le xs = row_others n (suc r) h (suc t) (λ k lt e f. omega arith) (left_rounds n r xs) ∙ rounds_others n r h t (omega arith) xs
 
-each-same : {A : Type 0} (n : ℕ) (f f' : ℕ → List A) → ((k : ℕ) → f k ≡ f' k) → each n f ≡ each n f'
-each-same zero f f' e = refl
-each-same (suc n) f f' e = λ i. each-same n f f' e i ++ e n i
+pub rounds_same : (n r : ℕ) (xs : List Letter) → letters_by n (suc r) (left_rounds n r xs) ≡ letters_by n (suc r) xs
+rounds_same n r xs = each-same n (λ g. option_to_list (letter_by g (suc r) (left_rounds n r xs))) (λ g. option_to_list (letter_by g (suc r) xs)) (λ g. ap option_to_list (rounds_others n r g r (omega arith) xs))
 
-pub rounds_same : (n r : ℕ) (xs : List Letter) → row_by n (suc r) (left_rounds n r xs) ≡ row_by n (suc r) xs
-rounds_same n r xs = each-same n (λ g. alone (letter_by g (suc r) (left_rounds n r xs))) (λ g. alone (letter_by g (suc r) xs)) (λ g. ap alone (rounds_others n r g r (omega arith) xs))
-
-alone_few : (o : Option Letter) → length (alone o) ≤ 1
+alone_few : (o : Option Letter) → length (option_to_list o) ≤ 1
 alone_few None = omega arith
 alone_few (Some x) = omega arith
 
-row_few : (n round : ℕ) (xs : List Letter) → length (row_by n round xs) ≤ n
+row_few : (n round : ℕ) (xs : List Letter) → length (letters_by n round xs) ≤ n
 row_few zero round xs = omega arith
-row_few (suc n) round xs = (let l = row_few n round xs in let m = alone_few (letter_by n round xs) in omega (arith, length-append (row_by n round xs) (alone (letter_by n round xs))))
+row_few (suc n) round xs = (let l = row_few n round xs in let m = alone_few (letter_by n round xs) in omega (arith, length-append (letters_by n round xs) (option_to_list (letter_by n round xs))))
 
 -- where one is missing the row is too short
-pub row_short : (n g round : ℕ) (xs : List Letter) → g < n → letter_by g round xs ≡ None → length (row_by n round xs) < n
+pub row_short : (n g round : ℕ) (xs : List Letter) → g < n → letter_by g round xs ≡ None → length (letters_by n round xs) < n
 row_short zero g round xs lt none = omega arith
 row_short (suc n) g round xs lt none = ⊎_elim
     (λ (x : (g == n ≡ true) × (g ≡ n)).
-    let e : length (alone (letter_by n round xs)) ≡ 0 = ap (λ o. length (alone o)) ((let A : ℕ → Type 0 = λ k. letter_by k round xs ≡ None in subst A x.1 none)) in
-    let l = row_few n round xs in omega (arith, length-append (row_by n round xs) (alone (letter_by n round xs))))
+    let e : length (option_to_list (letter_by n round xs)) ≡ 0 = ap (λ o. length (option_to_list o)) ((let A : ℕ → Type 0 = λ k. letter_by k round xs ≡ None in subst A x.1 none)) in
+    let l = row_few n round xs in omega (arith, length-append (letters_by n round xs) (option_to_list (letter_by n round xs))))
     (λ (x : (g == n ≡ false) × (g ≢ n)).
     let l = row_short n g round xs (let ne = x.1 in omega arith) none in
-    let m = alone_few (letter_by n round xs) in omega (arith, length-append (row_by n round xs) (alone (letter_by n round xs))))
+    let m = alone_few (letter_by n round xs) in omega (arith, length-append (letters_by n round xs) (option_to_list (letter_by n round xs))))
     (eqb_tells g n)
 
 pub record Row (n round : ℕ) (xs left row : List Letter) : Type 0 where
-  pub left_is : left ≡ left_row n round xs
-  pub row_is : row ≡ row_by n round xs
+  pub left_is : left ≡ left_by_all n round xs
+  pub row_is : row ≡ letters_by n round xs
 
 -- one more of the round
-pub row_more : (g round : ℕ) (xs left row left' row' : List Letter) (l : Letter) → left ≡ left_row g round xs → row ≡ row_by g round xs → Some l ≡ letter_by g round left → left' ≡ left_by g round left → row' ≡ row ++ l ∷ []
+pub row_more : (g round : ℕ) (xs left row left' row' : List Letter) (l : Letter) → left ≡ left_by_all g round xs → row ≡ letters_by g round xs → Some l ≡ letter_by g round left → left' ≡ left_by g round left → row' ≡ row ++ l ∷ []
     → Row (g + 1) round xs left' row'
 row_more g round xs left row left' row' l a b found c d =
     let A : ℕ → Type 0 = λ n. Row n round xs left' row' in
     let one : Some l ≡ letter_by g round xs = found ∙ (ap (letter_by g round) a ∙ row_same g round xs) in
-    subst A (sym (add-one g)) (record { left_is = c ∙ ap (left_by g round) a; row_is = d ∙ (λ i. b i ++ alone (one i)) })
+    subst A (sym (add-one g)) (record { left_is = c ∙ ap (left_by g round) a; row_is = d ∙ (λ i. b i ++ option_to_list (one i)) })
 
 pub record Rows (n r : ℕ) (xs left : List Letter) (rows : List (List Letter)) : Type 0 where
   pub left_is : left ≡ left_rounds n r xs
-  pub rows_are : rows ≡ each r (λ k. row_by n (suc k) xs ∷ [])
+  pub rows_are : rows ≡ each r (λ k. letters_by n (suc k) xs ∷ [])
 
 -- one more round
-pub rows_more : (n r : ℕ) (xs left left' row : List Letter) (rows rows' : List (List Letter)) → left ≡ left_rounds n r xs → rows ≡ each r (λ k. row_by n (suc k) xs ∷ []) → row ≡ row_by n (r + 1) left → left' ≡ left_row n (r + 1) left → rows' ≡ rows ++ row ∷ []
+pub rows_more : (n r : ℕ) (xs left left' row : List Letter) (rows rows' : List (List Letter)) → left ≡ left_rounds n r xs → rows ≡ each r (λ k. letters_by n (suc k) xs ∷ []) → row ≡ letters_by n (r + 1) left → left' ≡ left_by_all n (r + 1) left → rows' ≡ rows ++ row ∷ []
     → Rows n (r + 1) xs left' rows'
 rows_more n r xs left left' row rows rows' a b c d e =
     let A : ℕ → Type 0 = λ m. Rows n m xs left' rows' in
-    let c' : row ≡ row_by n (suc r) xs = c ∙ (ap (λ m. row_by n m left) (add-one r) ∙ (ap (row_by n (suc r)) a ∙ rounds_same n r xs)) in
-    subst A (sym (add-one r)) (record { left_is = d ∙ (ap (λ m. left_row n m left) (add-one r) ∙ ap (left_row n (suc r)) a); rows_are = e ∙ (λ i. b i ++ c' i ∷ []) })
+    let c' : row ≡ letters_by n (suc r) xs = c ∙ (ap (λ m. letters_by n m left) (add-one r) ∙ (ap (letters_by n (suc r)) a ∙ rounds_same n r xs)) in
+    subst A (sym (add-one r)) (record { left_is = d ∙ (ap (λ m. left_by_all n m left) (add-one r) ∙ ap (left_by_all n (suc r)) a); rows_are = e ∙ (λ i. b i ++ c' i ∷ []) })
 
 -- the length of the row that was taken is that of the row of all letters
-pub row_long : (n r : ℕ) (xs left : List Letter) → left ≡ left_rounds n r xs → length (row_by n (r + 1) left) ≡ length (row_by n (suc r) xs)
-row_long n r xs left a = ap length (ap (λ m. row_by n m left) (add-one r) ∙ (ap (row_by n (suc r)) a ∙ rounds_same n r xs))
+pub row_long : (n r : ℕ) (xs left : List Letter) → left ≡ left_rounds n r xs → length (letters_by n (r + 1) left) ≡ length (letters_by n (suc r) xs)
+row_long n r xs left a = ap length (ap (λ m. letters_by n m left) (add-one r) ∙ (ap (letters_by n (suc r)) a ∙ rounds_same n r xs))

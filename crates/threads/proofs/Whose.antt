@@ -16,14 +16,11 @@ use Rattle.round.specs.Told.{AreLettersOf, AreRoundsOf}
 use Rattle.round.proofs.Loyal.{shape_is_told, letter_is}
 use Rattle.world.specs.World.{accesses_of}
 use Rattle.world.specs.Accounted.{IsLetterOf, IsAccountedRound, AreAccounted}
-use Rattle.threads.specs.Holding.{IsOver, Stands}
+use Rattle.threads.specs.Holding.{EndedInTime, Stands}
+use Rattle.round.proofs.Patience.{within_none}
 
-none_reached : (p : Option ℕ) → IsWithin p 0
-none_reached None = tt
-none_reached (Some p) = omega arith
-
-loyal_over : (s : Scenario) (before : List (List Letter)) (g : ℕ) → IsOver s (loyal_letter s before g)
-loyal_over s before g = record { within = none_reached s.patience; over = refl }
+loyal_over : (s : Scenario) (before : List (List Letter)) (g : ℕ) → EndedInTime s (loyal_letter s before g)
+loyal_over s before g = record { within = within_none s.patience; over = refl }
 
 -- a letter of a general stands
 stood : (s : Scenario) (before : List (List Letter)) (piece : List Access) (g : ℕ) (o : Option (List Insn)) (l : Letter) → o ≡ program_of s g → IsLetterOf s before g o l → accesses_of g piece ≡ l.transcript
@@ -33,7 +30,7 @@ stood s before piece g None l is h part = (
     general = ap (λ (x : Letter). x.general) h;
     round_is = ap (λ (x : Letter). x.round) h;
     program = ap (λ (x : Letter). x.program) h ∙ is;
-    over = subst (λ (x : Letter). IsOver s x) (sym h) (loyal_over s before g);
+    over = subst (λ (x : Letter). EndedInTime s x) (sym h) (loyal_over s before g);
     part = part;
   },
   ap (λ (x : Letter). x.context) h,
@@ -74,7 +71,7 @@ module _ (s : Scenario) (before : List (List Letter)) (g : ℕ) (l : Letter) (is
         exited = run.3 i;
       }) ∙ letter_is s before g is lt le small
 
-  traitor : (p : List Insn) → l.program ≡ Some p → IsRunOf l (Some p) → IsOver s l → IsLetterOf s before g (Some p) l
+  traitor : (p : List Insn) → l.program ≡ Some p → IsRunOf l (Some p) → EndedInTime s l → IsLetterOf s before g (Some p) l
   traitor p has run over =
       let A : List ℕ → Relay → Type 0 = λ context relay. Runs l.steps (started None p context relay) l.transcript run.1 in (
         run.1,
@@ -93,11 +90,11 @@ module _ (s : Scenario) (before : List (List Letter)) (g : ℕ) (l : Letter) (is
         over.over,
       )
 
-  by : (o : Option (List Insn)) → AreWords s before g → l.program ≡ o → IsOver s l → IsLetterOf s before g o l
+  by : (o : Option (List Insn)) → AreWords s before g → l.program ≡ o → EndedInTime s l → IsLetterOf s before g o l
   by None small has over = loyal small has (let A : Option (List Insn) → Type 0 = λ o. IsRunOf l o in subst A has kept.run)
   by (Some p) small has over = traitor p has (let A : Option (List Insn) → Type 0 = λ o. IsRunOf l o in subst A has kept.run) over
 
-  pub is_of : AreWords s before g → l.program ≡ program_of s g → IsOver s l → IsLetterOf s before g (program_of s g) l
+  pub is_of : AreWords s before g → l.program ≡ program_of s g → EndedInTime s l → IsLetterOf s before g (program_of s g) l
   is_of small has over = by (program_of s g) small has over
 
 -- both ways

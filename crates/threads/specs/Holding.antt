@@ -8,7 +8,7 @@ use Rattle.round.specs.Runs.{IsWithin}
 use Rattle.world.specs.World.{accesses_of}
 
 -- its general has ended, within the patience
-pub record IsOver (s : Scenario) (l : Letter) : Type 0 where
+pub record EndedInTime (s : Scenario) (l : Letter) : Type 0 where
   pub within : IsWithin s.patience l.steps
   pub over : (l.exited || is_reached s.patience l.steps) ≡ true
 
@@ -17,5 +17,5 @@ pub record Stands (s : Scenario) (piece : List Access) (g round : ℕ) (l : Lett
   pub general : l.general ≡ g
   pub round_is : l.round ≡ round
   pub program : l.program ≡ program_of s g
-  pub over : IsOver s l
+  pub over : EndedInTime s l
   pub part : accesses_of g piece ≡ l.transcript

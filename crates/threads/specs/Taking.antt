@@ -1,7 +1,7 @@
 -- Letters taken out of a list, one for each general and round.
 use Rattle.std.specs.Prelude.{ℕ, zero, suc, ◌≡◌, ◌<◌, ◌*◌, ◌==◌, ◌&&◌, Bool, cond, List, [], ◌∷◌, length}
 use Rattle.round.specs.Letters.{Letter}
-use Rattle.world.specs.Accounted.{row_by}
+use Rattle.world.specs.Accounted.{letters_by}
 
 -- the list without the first letter that passes
 abbrev pub without : (Letter → Bool) → List Letter → List Letter
@@ -12,15 +12,15 @@ abbrev pub left_by : ℕ → ℕ → List Letter → List Letter
 left_by g round letters = without (λ l. (l.general == g) && (l.round == round)) letters
 
 -- what is left behind the first generals of a round, and behind the first rounds
-abbrev pub left_row : ℕ → ℕ → List Letter → List Letter
-left_row zero round letters = letters
-left_row (suc g) round letters = left_by g round (left_row g round letters)
+abbrev pub left_by_all : ℕ → ℕ → List Letter → List Letter
+left_by_all zero round letters = letters
+left_by_all (suc g) round letters = left_by g round (left_by_all g round letters)
 
 abbrev pub left_rounds : ℕ → ℕ → List Letter → List Letter
 left_rounds n zero letters = letters
-left_rounds n (suc r) letters = left_row n (suc r) (left_rounds n r letters)
+left_rounds n (suc r) letters = left_by_all n (suc r) (left_rounds n r letters)
 
 -- as many letters as places, and each place has one
 pub record IsGrid (n rounds : ℕ) (letters : List Letter) : Type 0 where
   pub count : length letters ≡ rounds * n
-  pub rows : (r : ℕ) → r < rounds → length (row_by n (suc r) letters) ≡ n
+  pub rows : (r : ℕ) → r < rounds → length (letters_by n (suc r) letters) ≡ n

@@ -2,22 +2,22 @@
 ghost use Rattle.std.specs.Prelude.{◌≡◌, ℕ, ◌<◌, [], length, slice_index_or, IfOk};
 ghost use Rattle.post.specs.Seen.{PosterSeen, poster_seen};
 
+use crate::inbox::Inbox;
 use crate::resident::Resident;
 use crate::shared::SharedBoard;
-use crate::slot::Slot;
 use crate::tally::Tally;
 use crate::task::Task;
 use post::{Collector, Post, Poster};
 use std::alloc::{AllocError, Global};
 use std::sync::Wait;
 
-/// What the generals share with one another and with the one who conducts the rounds: the gate and the board, the slots in
+/// What the generals share with one another and with the one who conducts the rounds: the gate and the board, the inboxes in
 /// which they are given their tasks, the post for their letters, and the tally of those who have posted.
 #[derive(Drop)]
 pub(crate) struct Camp<'a, G> {
     pub(crate) gate: &'a G,
     pub(crate) board: &'a SharedBoard,
-    pub(crate) slots: Vec<Slot>,
+    pub(crate) inboxes: Vec<Inbox>,
     pub(crate) post: Post,
     pub(crate) tally: Tally,
 }
@@ -35,18 +35,18 @@ impl<'a, G> Camp<'a, G> {
         board: &'a SharedBoard,
     ) -> Result<(Camp<'a, G>, Vec<Poster>, Collector), AllocError>
         requires { 0 < generals }
-        ensures slots { IfOk result (λ r. length r.0.slots.items ≡ generals) }
+        ensures inboxes { IfOk result (λ r. length r.0.inboxes.items ≡ generals) }
         ensures count { IfOk result (λ r. length r.1.items ≡ generals) }
         ensures posters { IfOk result (λ r. (g : ℕ) (d : PosterSeen) → g < generals → slice_index_or r.1.items g d ≡ poster_seen r.0.post.post g []) }
         ensures collector { IfOk result (λ r. r.2.post ≡ r.0.post.post) }
     {
         let (post, posters, collector) = Post::new(alloc, generals, usize::from(generals))?;
-        let slots = empty_slots(alloc, generals)?;
+        let inboxes = empty_inboxes(alloc, generals)?;
         let tally = Tally::new(usize::from(generals));
         let camp = Camp {
             gate,
             board,
-            slots,
+            inboxes,
             post,
             tally,
         };
@@ -55,40 +55,40 @@ impl<'a, G> Camp<'a, G> {
 
     /// The general of this number, ready to begin.
     pub(crate) fn resident<'c>(&'c self, general: u8) -> Resident<'c, G>
-        requires { general < length self.now.slots.items }
+        requires { general < length self.now.inboxes.items }
         ensures { result.general ≡ general }
     {
         Resident {
             general: u32::from(general),
             gate: self.gate,
             board: self.board,
-            slot: &self.slots[usize::from(general)],
+            inbox: &self.inboxes[usize::from(general)],
             tally: &self.tally,
         }
     }
 
-    /// Puts each general's task into his slot.
+    /// Puts each general's task into his inbox.
     pub(crate) fn hand_out<R: Wait>(&self, rt: &R, tasks: Vec<Task>) {
-        for (slot, task) in self.slots.iter().zip(tasks) {
-            slot.open(rt, task);
+        for (inbox, task) in self.inboxes.iter().zip(tasks) {
+            inbox.put(rt, task);
         }
     }
 
-    /// Closes all slots: the generals go home.
+    /// Closes all inboxes: the generals go home.
     pub(crate) fn close<R: Wait>(&self, rt: &R) {
-        for slot in &self.slots {
-            slot.close(rt);
+        for inbox in &self.inboxes {
+            inbox.close(rt);
         }
     }
 }
 
-/// An empty slot for each general.
-fn empty_slots(alloc: Global, generals: u8) -> Result<Vec<Slot>, AllocError>
-    ensures { IfOk result (λ slots. length slots.items ≡ generals) }
+/// An empty inbox for each general.
+fn empty_inboxes(alloc: Global, generals: u8) -> Result<Vec<Inbox>, AllocError>
+    ensures { IfOk result (λ inboxes. length inboxes.items ≡ generals) }
 {
-    let mut slots = Vec::with_capacity(alloc, usize::from(generals))?;
+    let mut inboxes = Vec::with_capacity(alloc, usize::from(generals))?;
     for _ in 0..generals {
-        slots.push(Slot::new())?;
+        inboxes.push(Inbox::new())?;
     }
-    Ok(slots)
+    Ok(inboxes)
 }

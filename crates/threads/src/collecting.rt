@@ -49,7 +49,7 @@ fn through_residents<R: Threads + Wait + Sync, G: Gate + Sync>(
 ) -> Result<(Vec<Round>, Told), MusterError>
     requires few { length posters.items < 256 }
     requires posters { (g : ℕ) (d : PosterSeen) → g < length posters.items → slice_index_or posters.items g d ≡ poster_seen camp.now.post.post g [] }
-    requires slots { length posters.items ≤ length camp.now.slots.items }
+    requires inboxes { length posters.items ≤ length camp.now.inboxes.items }
     requires collector { collector.post ≡ camp.now.post.post }
     ensures rounds { IfOk result (λ r. length r.0.items ≡ suc scenario.now.bound) }
     ensures told { IfOk result (λ r. WasTold scenario.now r.0.items r.1) }
@@ -61,7 +61,7 @@ fn through_residents<R: Threads + Wait + Sync, G: Gate + Sync>(
         |scope| -> Result<(Vec<Round>, Told), MusterError>
             requires few { length posters.items < 256 }
             requires posters { (g : ℕ) (d : PosterSeen) → g < length posters.items → slice_index_or posters.items g d ≡ poster_seen camp.now.post.post g [] }
-            requires slots { length posters.items ≤ length camp.now.slots.items }
+            requires inboxes { length posters.items ≤ length camp.now.inboxes.items }
             requires collector { collector.post ≡ camp.now.post.post }
             ensures rounds { IfOk result (λ r. length r.0.items ≡ suc scenario.entry.now.bound) }
             ensures told { IfOk result (λ r. WasTold scenario.entry.now r.0.items r.1) }
@@ -74,7 +74,7 @@ fn through_residents<R: Threads + Wait + Sync, G: Gate + Sync>(
                     move || -> Result<(), MusterError>
                         requires post { poster.post ≡ camp.now.post.post }
                         requires general { poster.general ≡ resident.general }
-                    { resident.serve(rt, alloc, &camp.post, poster) },
+                    { resident.stay(rt, alloc, &camp.post, poster) },
                 );
                 refused = match started {
                     Err(_) => Some(MusterError::Spawn),

@@ -1,20 +1,18 @@
 //! What a campaign comes to.
 ghost use Rattle.std.specs.Prelude.{◌≡◌, ◌≢◌, ◌≤◌, [], suc, All, List, length, IfOk, OnOk, IfErr};
-ghost use Rattle.label.specs.Lieutenants.{AgreeInList};
-ghost use Rattle.label.specs.Oral.{IsBound};
 ghost use Rattle.board.specs.Board.{IsLegal};
-ghost use Rattle.round.specs.Scenario.{is_traitor};
-ghost use Rattle.round.specs.Letters.{Letter as Written, messages};
+ghost use Rattle.round.specs.Letters.{Letter as LetterSeen, messages};
 ghost use Rattle.round.specs.Told.{WasTold};
 ghost use Rattle.world.specs.Accounted.{AreAccounted};
 ghost use Rattle.world.specs.Chronicle.{decisions, chronicle_of};
 ghost use Rattle.world.specs.Lists.{IsComplete, replayed, names_in};
+ghost use Rattle.world.specs.Promises.{AgreeUnderBound, IsVerdictOn, IsWellUnderBound};
 ghost use Rattle.world.specs.Replay.{replay_of};
 ghost use Rattle.world.specs.Safety.{IsShort};
 ghost use Rattle.threads.specs.declared.error.MusterError.TheVariants.{Spawn};
 
+use crate::account::are_accounted;
 use crate::error::MusterError;
-use crate::holding::are_accounted;
 use arrayvec::ArrayVec;
 use board::{Access, Board};
 use resolve::resolve_all;
@@ -57,8 +55,9 @@ pub(crate) fn judge<R: Threads + Sync>(
             ensures started { IfErr result (λ e. e ≢ Spawn) }
         { account(alloc, scenario, board, rows, told) },
         || -> Result<ArrayVec<u32, 12>, AllocError>
-            requires { (before : List (List Written)) × WasTold scenario.now before told.now }
-            ensures { IfOk result (λ orders. (before : List (List Written)) → WasTold scenario.entry.now before told.entry.now → orders.items ≡ decisions scenario.entry.now (messages before)) }
+            requires { (before : List (List LetterSeen)) × WasTold scenario.now before told.now }
+            ensures { IfOk result (λ orders. (before : List (List LetterSeen)) → WasTold scenario.entry.now before told.entry.now
+                → orders.items ≡ decisions scenario.entry.now (messages before)) }
         { decide(rt, alloc, scenario, told) },
     );
     accounted?;
@@ -104,16 +103,16 @@ fn decide<R: Threads + Sync>(
     scenario: &Scenario,
     told: &Told,
 ) -> Result<ArrayVec<u32, 12>, AllocError>
-    requires { (before : List (List Written)) × WasTold scenario.now before told.now }
-    ensures { IfOk result (λ orders. (before : List (List Written)) → WasTold scenario.now before told.now → orders.items ≡ decisions scenario.now (messages before)) }
+    requires { (before : List (List LetterSeen)) × WasTold scenario.now before told.now }
+    ensures { IfOk result (λ orders. (before : List (List LetterSeen)) → WasTold scenario.now before told.now → orders.items ≡ decisions scenario.now (messages before)) }
 {
-    let _commander = scenario.commander();
+    scenario.recall();
     let orders = resolve_all(rt, alloc, told.trees(), &scenario.rule())?;
-    Ok(listed(orders.as_slice()))
+    Ok(as_array(orders.as_slice()))
 }
 
-/// The same orders.
-fn listed(orders: &[u32]) -> ArrayVec<u32, 12>
+/// The same orders, in an array.
+fn as_array(orders: &[u32]) -> ArrayVec<u32, 12>
     requires { length orders.now ≤ 12 }
     ensures { result.items ≡ orders.now }
 {
@@ -139,11 +138,12 @@ pub(crate) fn conclude(
     ensures replay { result ≡ chronicle_of (replay_of scenario result.accesses) }
     ensures complete { IsComplete scenario (replayed scenario (names_in 1 result.accesses (suc scenario.bound))) }
     ensures legal { IsLegal scenario.board result.accesses }
-    ensures short { All (λ row. All IsShort row) result.letters }
+    ensures short { All (λ letters. All IsShort letters) result.letters }
     ensures decisions { result.decisions ≡ decisions scenario (messages result.letters) }
-    ensures agree { IsBound scenario.generals scenario.bound (is_traitor scenario) →
-        AgreeInList scenario.generals scenario.commander scenario.order (is_traitor scenario) result.decisions }
+    ensures agree { AgreeUnderBound scenario result.decisions }
+    ensures verdict { IsVerdictOn scenario result.decisions result.verdict }
+    ensures well { IsWellUnderBound result.verdict }
 {
-    let _few = scenario.bound();
+    scenario.recall();
     Chronicle::of(scenario, accesses, rows, orders)
 }

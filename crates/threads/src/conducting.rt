@@ -1,6 +1,6 @@
 //! A campaign's rounds, conducted through the generals' camp.
 ghost use Rattle.std.specs.Prelude.{◌≡◌, ◌≤◌, suc, List, length, IfOk};
-ghost use Rattle.round.specs.Letters.{Letter as Written};
+ghost use Rattle.round.specs.Letters.{Letter as LetterSeen};
 ghost use Rattle.round.specs.Told.{WasTold};
 
 use crate::camp::Camp;
@@ -37,7 +37,7 @@ pub(crate) fn conduct<R: Wait, G>(
         if !camp.tally.all_posted(rt) {
             return Err(MusterError::Unaccounted);
         }
-        let (again, letters) = taken(rt, alloc, &camp.post, collector)?;
+        let (again, letters) = take_letters(rt, alloc, &camp.post, collector)?;
         collector = again;
         if !are_of_round(scenario, u32::from(round) + 1, letters.as_slice()) {
             return Err(MusterError::Unaccounted);
@@ -50,7 +50,7 @@ pub(crate) fn conduct<R: Wait, G>(
 
 /// The generals' tasks in the round to come, ascending.
 fn tasks(alloc: Global, scenario: &Scenario, told: &Told) -> Result<Vec<Task>, AllocError>
-    requires told { (before : List (List Written)) × WasTold scenario.now before told.now }
+    requires told { (before : List (List LetterSeen)) × WasTold scenario.now before told.now }
     requires left { told.now.rounds ≤ scenario.now.bound }
 {
     let generals = scenario.generals();
@@ -61,8 +61,9 @@ fn tasks(alloc: Global, scenario: &Scenario, told: &Told) -> Result<Vec<Task>, A
     Ok(tasks)
 }
 
-/// The letters that are in the post, by generals.
-fn taken<R: Wait>(
+/// The letters that are in the post. Nothing is promised of them here: they are tested where they are told, and judged at
+/// the end.
+fn take_letters<R: Wait>(
     rt: &R,
     alloc: Global,
     post: &Post,
@@ -71,15 +72,15 @@ fn taken<R: Wait>(
     requires { collector.post ≡ post.now.post }
     ensures { IfOk result (λ r. r.0.post ≡ post.now.post) }
 {
-    let mut row = Vec::new(alloc);
+    let mut letters = Vec::new(alloc);
     for _ in rt.forever() {
         let (again, taken) = post.take(rt, collector);
         collector = again;
         let Some(letter) = taken else {
             break;
         };
-        row.push(letter)?;
+        letters.push(letter)?;
     }
-    row.sort_unstable_by_key(|letter| letter.general);
-    Ok((collector, row))
+    letters.sort_unstable_by_key(|letter| letter.general);
+    Ok((collector, letters))
 }

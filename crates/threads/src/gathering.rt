@@ -4,8 +4,8 @@ ghost use Rattle.round.specs.Told.{WasTold, AreRoundsOf};
 ghost use Rattle.world.specs.Accounted.{rounds_of, IsAccounted};
 ghost use Rattle.threads.specs.declared.error.MusterError.TheVariants.{Unaccounted, Spawn, Post};
 
+use crate::account::are_accounted;
 use crate::error::MusterError;
-use crate::holding::are_accounted;
 use crate::rounds::are_of_round;
 use crate::taking::arrange;
 use board::Access;
@@ -36,7 +36,7 @@ pub fn gather(
     let Some(rows) = arrange(alloc, letters, generals, rounds)? else {
         return Err(MusterError::Unaccounted);
     };
-    let Some(told) = told_by(alloc, scenario, rows.as_slice())? else {
+    let Some(told) = deliver_all(alloc, scenario, rows.as_slice())? else {
         return Err(MusterError::Unaccounted);
     };
     if !are_accounted(alloc, &told, scenario, rows.as_slice(), 0, ledger)? {
@@ -45,8 +45,12 @@ pub fn gather(
     Ok(rows)
 }
 
-/// What the letters of all rounds tell, where the letters of each are of that round.
-fn told_by(alloc: Global, scenario: &Scenario, rows: &[Round]) -> Result<Option<Told>, AllocError>
+/// Delivers the letters of all rounds: what they have told, where the letters of each are of that round.
+fn deliver_all(
+    alloc: Global,
+    scenario: &Scenario,
+    rows: &[Round],
+) -> Result<Option<Told>, AllocError>
     requires { length rows.now ≡ suc scenario.now.bound }
     ensures { IfOk result (λ o. MatchOption o (¬ AreRoundsOf scenario.now rows.now) (WasTold scenario.now rows.now)) }
 {

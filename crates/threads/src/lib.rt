@@ -1,6 +1,7 @@
 //! Campaigns whose generals act in threads of their own, and the letters that a ledger accounts for.
 #![tactic(auto)]
 
+mod account;
 mod camp;
 mod collecting;
 mod concluding;
@@ -8,12 +9,11 @@ mod conducting;
 mod error;
 mod gate;
 mod gathering;
-mod holding;
+mod inbox;
 mod mustering;
 mod resident;
 mod rounds;
 mod shared;
-mod slot;
 mod taking;
 mod tally;
 mod task;

@@ -1,12 +1,10 @@
 //! Campaigns whose generals act in threads.
 ghost use Rattle.std.specs.Prelude.{◌≡◌, suc, All, IfOk};
-ghost use Rattle.label.specs.Lieutenants.{AgreeInList};
-ghost use Rattle.label.specs.Oral.{IsBound};
 ghost use Rattle.board.specs.Board.{IsLegal};
-ghost use Rattle.round.specs.Scenario.{is_traitor};
 ghost use Rattle.round.specs.Letters.{messages};
 ghost use Rattle.world.specs.Chronicle.{decisions, chronicle_of};
 ghost use Rattle.world.specs.Lists.{IsComplete, replayed, names_in};
+ghost use Rattle.world.specs.Promises.{AgreeUnderBound, IsVerdictOn, IsWellUnderBound};
 ghost use Rattle.world.specs.Replay.{replay_of};
 ghost use Rattle.world.specs.Safety.{IsShort};
 
@@ -30,7 +28,8 @@ const STACK: usize = 1 << 20;
 ///
 /// Whatever programs the verifier accepted, whatever the gate does, and in whatever order the generals took the lock: the
 /// chronicle is that of a complete run, the replay of its own accesses. These are one legal history from the scenario's
-/// words on; no activation has trapped or taken more steps than its program has instructions; each lieutenant decides
+/// words on; no activation has trapped (`world::activations_are_safe`, of every complete run) or taken more steps than its
+/// program has instructions (`short`); each lieutenant decides
 /// what OM(m) gives from the messages recorded; and where the bound holds, all loyal lieutenants decide alike, on the
 /// commander's order if he is loyal (TOPLAS 1982, Theorem 1).
 ///
@@ -48,14 +47,15 @@ pub fn muster<R: Threads + Wait + Sync, G: Gate + Sync>(
     scenario: Scenario,
     gate: &G,
 ) -> Result<Chronicle, MusterError>
-    ensures scenario { IfOk result (λ told. told.scenario ≡ scenario) }
-    ensures replay { IfOk result (λ told. told ≡ chronicle_of (replay_of scenario told.accesses)) }
-    ensures complete { IfOk result (λ told. IsComplete scenario (replayed scenario (names_in 1 told.accesses (suc scenario.bound)))) }
-    ensures legal { IfOk result (λ told. IsLegal scenario.board told.accesses) }
-    ensures short { IfOk result (λ told. All (λ row. All IsShort row) told.letters) }
-    ensures decisions { IfOk result (λ told. told.decisions ≡ decisions scenario (messages told.letters)) }
-    ensures agree { IfOk result (λ told. IsBound scenario.generals scenario.bound (is_traitor scenario) →
-        AgreeInList scenario.generals scenario.commander scenario.order (is_traitor scenario) told.decisions) }
+    ensures scenario { IfOk result (λ chronicle. chronicle.scenario ≡ scenario) }
+    ensures replay { IfOk result (λ chronicle. chronicle ≡ chronicle_of (replay_of scenario chronicle.accesses)) }
+    ensures complete { IfOk result (λ chronicle. IsComplete scenario (replayed scenario (names_in 1 chronicle.accesses (suc scenario.bound)))) }
+    ensures legal { IfOk result (λ chronicle. IsLegal scenario.board chronicle.accesses) }
+    ensures short { IfOk result (λ chronicle. All (λ letters. All IsShort letters) chronicle.letters) }
+    ensures decisions { IfOk result (λ chronicle. chronicle.decisions ≡ decisions scenario (messages chronicle.letters)) }
+    ensures agree { IfOk result (λ chronicle. AgreeUnderBound scenario chronicle.decisions) }
+    ensures verdict { IfOk result (λ chronicle. IsVerdictOn scenario chronicle.decisions chronicle.verdict) }
+    ensures well { IfOk result (λ chronicle. IsWellUnderBound chronicle.verdict) }
 {
     muster_with(rt, alloc, scenario, gate, STACK)
 }
@@ -72,18 +72,19 @@ pub fn muster_with<R: Threads + Wait + Sync, G: Gate + Sync>(
     gate: &G,
     stack: usize,
 ) -> Result<Chronicle, MusterError>
-    ensures scenario { IfOk result (λ told. told.scenario ≡ scenario) }
-    ensures replay { IfOk result (λ told. told ≡ chronicle_of (replay_of scenario told.accesses)) }
-    ensures complete { IfOk result (λ told. IsComplete scenario (replayed scenario (names_in 1 told.accesses (suc scenario.bound)))) }
-    ensures legal { IfOk result (λ told. IsLegal scenario.board told.accesses) }
-    ensures short { IfOk result (λ told. All (λ row. All IsShort row) told.letters) }
-    ensures decisions { IfOk result (λ told. told.decisions ≡ decisions scenario (messages told.letters)) }
-    ensures agree { IfOk result (λ told. IsBound scenario.generals scenario.bound (is_traitor scenario) →
-        AgreeInList scenario.generals scenario.commander scenario.order (is_traitor scenario) told.decisions) }
+    ensures scenario { IfOk result (λ chronicle. chronicle.scenario ≡ scenario) }
+    ensures replay { IfOk result (λ chronicle. chronicle ≡ chronicle_of (replay_of scenario chronicle.accesses)) }
+    ensures complete { IfOk result (λ chronicle. IsComplete scenario (replayed scenario (names_in 1 chronicle.accesses (suc scenario.bound)))) }
+    ensures legal { IfOk result (λ chronicle. IsLegal scenario.board chronicle.accesses) }
+    ensures short { IfOk result (λ chronicle. All (λ letters. All IsShort letters) chronicle.letters) }
+    ensures decisions { IfOk result (λ chronicle. chronicle.decisions ≡ decisions scenario (messages chronicle.letters)) }
+    ensures agree { IfOk result (λ chronicle. AgreeUnderBound scenario chronicle.decisions) }
+    ensures verdict { IfOk result (λ chronicle. IsVerdictOn scenario chronicle.decisions chronicle.verdict) }
+    ensures well { IfOk result (λ chronicle. IsWellUnderBound chronicle.verdict) }
 {
     let board = SharedBoard::new(Board::new(alloc, *scenario.board()));
-    let (rows, told) = collect(rt, alloc, &scenario, gate, &board, stack)?;
+    let (rounds, told) = collect(rt, alloc, &scenario, gate, &board, stack)?;
     let board = board.into_board();
-    let decisions = judge(rt, alloc, &scenario, &board, rows.as_slice(), &told)?;
-    Ok(conclude(scenario, board.into_ledger(), rows, decisions))
+    let decisions = judge(rt, alloc, &scenario, &board, rounds.as_slice(), &told)?;
+    Ok(conclude(scenario, board.into_ledger(), rounds, decisions))
 }

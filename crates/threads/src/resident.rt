@@ -4,8 +4,8 @@ ghost use Rattle.threads.specs.Duties.{IsDone};
 
 use crate::error::MusterError;
 use crate::gate::{Gate, Gated};
+use crate::inbox::Inbox;
 use crate::shared::SharedBoard;
-use crate::slot::Slot;
 use crate::tally::Tally;
 use crate::task::Task;
 use post::{Post, Poster};
@@ -13,23 +13,23 @@ use round::Letter;
 use std::alloc::Global;
 use std::sync::Wait;
 
-/// A general who stays for all rounds: his slot, and what he shares with the others.
+/// A general who stays for all rounds: his inbox, and what he shares with the others.
 #[derive(Drop)]
 pub(crate) struct Resident<'a, G> {
     pub(crate) general: u32,
     pub(crate) gate: &'a G,
     pub(crate) board: &'a SharedBoard,
-    pub(crate) slot: &'a Slot,
+    pub(crate) inbox: &'a Inbox,
     pub(crate) tally: &'a Tally,
 }
 
 impl<'a, G: Gate> Resident<'a, G> {
-    /// Does his tasks until his slot is closed. Where he fails, he says so to the one who waits for the letters.
+    /// Does his tasks until his inbox is closed. Where he fails, he says so to the one who waits for the letters.
     ///
     /// # Errors
     ///
-    /// As `reside`.
-    pub(crate) fn serve<R: Wait>(
+    /// As `do_tasks`.
+    pub(crate) fn stay<R: Wait>(
         self,
         rt: &R,
         alloc: Global,
@@ -39,19 +39,19 @@ impl<'a, G: Gate> Resident<'a, G> {
         requires post { poster.post ≡ post.now.post }
         requires general { poster.general ≡ self.general }
     {
-        let ended = self.reside(rt, alloc, post, poster);
+        let ended = self.do_tasks(rt, alloc, post, poster);
         if ended.is_err() {
             self.tally.failed(rt);
         }
         ended
     }
 
-    /// Does the tasks that his slot gives him, and posts a letter for each, until the slot is closed.
+    /// Does the tasks that his inbox gives him, and posts a letter for each, until the inbox is closed.
     ///
     /// # Errors
     ///
     /// `Memory` where memory is refused, `Post` where the post is full, `Unaccounted` where a task is not his.
-    fn reside<R: Wait>(
+    fn do_tasks<R: Wait>(
         &self,
         rt: &R,
         alloc: Global,
@@ -62,7 +62,7 @@ impl<'a, G: Gate> Resident<'a, G> {
         requires general { poster.general ≡ self.now.general }
     {
         for _ in rt.forever() {
-            let Some(task) = self.slot.next(rt) else {
+            let Some(task) = self.inbox.next(rt) else {
                 return Ok(());
             };
             let letter = self.letter(rt, alloc, task)?;

@@ -6,10 +6,10 @@ ghost use Rattle.round.specs.Told.{AreLettersOf};
 use round::{Letter, Scenario};
 
 /// Whether the letters are of this round of the campaign.
-pub(crate) fn are_of_round(scenario: &Scenario, round: u32, row: &[Letter]) -> bool
-    ensures { IsTrue result ↔ AreLettersOf scenario.now round row.now }
+pub(crate) fn are_of_round(scenario: &Scenario, round: u32, letters: &[Letter]) -> bool
+    ensures { IsTrue result ↔ AreLettersOf scenario.now round letters.now }
 {
-    for letter in row {
+    for letter in letters {
         if !is_of_round(scenario, round, letter) {
             return false;
         }

@@ -2,14 +2,14 @@
 ghost use Rattle.std.specs.Prelude.{◌≡◌, ◌+◌, ◌<◌, ◌≤◌, ◌∷◌, [], suc, length, MatchOption, IfOk, IfSome, slice_get};
 ghost use Rattle.std.specs.List.{remove};
 ghost use Rattle.world.specs.World.{each};
-ghost use Rattle.world.specs.Accounted.{letter_by, row_by};
-ghost use Rattle.threads.specs.Taking.{left_by, left_row, IsGrid};
+ghost use Rattle.world.specs.Accounted.{letter_by, letters_by};
+ghost use Rattle.threads.specs.Taking.{left_by, left_by_all, IsGrid};
 
 use round::{Letter, Round};
 use std::alloc::{AllocError, Global};
 
-/// Where the first letter of a general in a round stands.
-fn place_of(letters: &[Letter], general: u32, round: u32) -> Option<usize>
+/// The index of the first letter of a general in a round.
+fn index_of(letters: &[Letter], general: u32, round: u32) -> Option<usize>
     ensures within { IfSome result (λ i. i < length letters.now) }
     ensures found { MatchOption result (letter_by general round letters.now ≡ None) (λ i. letter_by general round letters.now ≡ slice_get letters.now i) }
     ensures left { IfSome result (λ i. left_by general round letters.now ≡ remove letters.now i) }
@@ -29,21 +29,22 @@ fn take(letters: &mut Vec<Letter>, general: u32, round: u32) -> Option<Letter>
     ensures left { IfSome result (λ _. letters.new.items ≡ left_by general round letters.old.items) }
     ensures fewer { IfSome result (λ _. length letters.new.items + 1 ≡ length letters.old.items) }
 {
-    match place_of(letters.as_slice(), general, round) {
+    match index_of(letters.as_slice(), general, round) {
         Some(i) => Some(letters.remove(i)),
         None => None,
     }
 }
 
 /// Takes out the letters of a round, by general, where each has one.
-fn row(
+fn take_round(
     alloc: Global,
     letters: &mut Vec<Letter>,
     generals: u32,
     round: u32,
 ) -> Result<Option<Vec<Letter>>, AllocError>
-    ensures row { IfOk result (λ o. MatchOption o (length (row_by generals round letters.old.items) < generals) (λ row. (row.items ≡ row_by generals round letters.old.items) × (length row.items ≡ generals))) }
-    ensures left { IfOk result (λ o. IfSome o (λ _. letters.new.items ≡ left_row generals round letters.old.items)) }
+    ensures row { IfOk result (λ o. MatchOption o (length (letters_by generals round letters.old.items) < generals)
+        (λ row. (row.items ≡ letters_by generals round letters.old.items) × (length row.items ≡ generals))) }
+    ensures left { IfOk result (λ o. IfSome o (λ _. letters.new.items ≡ left_by_all generals round letters.old.items)) }
     ensures fewer { IfOk result (λ o. IfSome o (λ _. length letters.new.items + generals ≡ length letters.old.items)) }
 {
     let mut row = Vec::with_capacity(alloc, generals as usize)?;
@@ -64,13 +65,13 @@ pub(crate) fn arrange(
     rounds: u32,
 ) -> Result<Option<Vec<Round>>, AllocError>
     ensures grid { IfOk result (λ o. MatchOption o (¬ IsGrid generals rounds letters.items)
-        (λ rows. IsGrid generals rounds letters.items × (rows.items ≡ each rounds (λ r. row_by generals (suc r) letters.items ∷ [])))) }
+        (λ rows. IsGrid generals rounds letters.items × (rows.items ≡ each rounds (λ r. letters_by generals (suc r) letters.items ∷ [])))) }
     ensures count { IfOk result (λ o. IfSome o (λ rows. length rows.items ≡ rounds)) }
 {
     let mut left = letters;
     let mut rows = Vec::with_capacity(alloc, rounds as usize)?;
     for r in 0..rounds {
-        match row(alloc, &mut left, generals, r + 1)? {
+        match take_round(alloc, &mut left, generals, r + 1)? {
             Some(letters) => rows.push(Round { letters })?,
             None => return Ok(None),
         }

@@ -1,6 +1,6 @@
 //! What a general does in a round.
 ghost use Rattle.std.specs.Prelude.{◌≡◌, ◌<◌, ◌≤◌, ◌++◌, List, IfOk};
-ghost use Rattle.round.specs.Letters.{Letter as Written};
+ghost use Rattle.round.specs.Letters.{Letter as LetterSeen};
 ghost use Rattle.round.specs.Told.{WasTold};
 ghost use Rattle.threads.specs.Duties.{duty_of, IsDone};
 
@@ -49,12 +49,12 @@ impl Task {
         told: &Told,
         general: u8,
     ) -> Result<Task, AllocError>
-        requires told { (before : List (List Written)) × WasTold scenario.now before told.now }
+        requires told { (before : List (List LetterSeen)) × WasTold scenario.now before told.now }
         requires left { told.now.rounds ≤ scenario.now.bound }
         requires general { general < scenario.now.generals }
-        ensures { IfOk result (λ task. (before : List (List Written)) → WasTold scenario.now before told.now → task ≡ duty_of scenario.now before general) }
+        ensures { IfOk result (λ task. (before : List (List LetterSeen)) → WasTold scenario.now before told.now → task ≡ duty_of scenario.now before general) }
     {
-        let _few = scenario.bound();
+        scenario.recall();
         let context = told.context(alloc, scenario, general)?;
         let program = scenario.seat(general).copy()?;
         Ok(Task {

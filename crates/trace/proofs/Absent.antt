@@ -18,7 +18,7 @@ use Rattle.world.specs.World.{opening, run}
 use Rattle.world.specs.declared.event.Event.TheVariants.{Tick, Post, Close}
 use Rattle.world.specs.Chronicle.{decisions, chronicle_of}
 use Rattle.world.specs.World.{World}
-use Rattle.trace.specs.Text.{lines_in, text_in, text_of}
+use Rattle.trace.specs.Text.{lines_in, text_in, chronicle_text}
 use Rattle.trace.proofs.Printed.{lines}
 
 -- he tells general 1 the order 1, and general 2 the order 0
@@ -51,7 +51,7 @@ unfolding four_divided divider_later labels om majority context_bytes messages d
 absent_full = refl
 
 -- what the hurried close leaves to tell: no letters of the loyal in round 2, and no agreement
-hurried : text_of (chronicle_of (run (opening four_divided) (Post 0 ∷ Post 1 ∷ Post 2 ∷ Close ∷ replicate 7 (Tick 3) ++ Close ∷ []))) ≡ lines (
+hurried : chronicle_text (chronicle_of (run (opening four_divided) (Post 0 ∷ Post 1 ∷ Post 2 ∷ Close ∷ replicate 7 (Tick 3) ++ Close ∷ []))) ≡ lines (
     codes "chronicle 1"
     ∷ codes "generals 4 bound 1 commander 0 order 1"
     ∷ codes "round 1"
@@ -72,7 +72,7 @@ unfolding four_divided divider_later labels om majority context_bytes messages d
 hurried = refl
 
 -- the same made punctual
-punctual : text_of (chronicle_of (run (opening four_divided) (Post 0 ∷ Post 1 ∷ Post 2 ∷ Close ∷ replicate 7 (Tick 3) ++ Post 0 ∷ Post 1 ∷ Post 2 ∷ Close ∷ []))) ≡ lines (
+punctual : chronicle_text (chronicle_of (run (opening four_divided) (Post 0 ∷ Post 1 ∷ Post 2 ∷ Close ∷ replicate 7 (Tick 3) ++ Post 0 ∷ Post 1 ∷ Post 2 ∷ Close ∷ []))) ≡ lines (
     codes "chronicle 1"
     ∷ codes "generals 4 bound 1 commander 0 order 1"
     ∷ codes "round 1"

@@ -16,10 +16,10 @@ use Rattle.text.specs.Parts.{pieces}
 use Rattle.trace.specs.declared.version.Version.{Version}
 use Rattle.trace.specs.declared.version.Version.TheVariants.{First, Second}
 use Rattle.trace.specs.Text.{lines_in, text_in}
-use Rattle.trace.specs.Names.{Named, named, names_of}
+use Rattle.trace.specs.Names.{Named, named, names_of, chronicle_told}
 use Rattle.trace.specs.Marks.{all_names}
 use Rattle.trace.specs.Laws.{Admits, IsSoundText}
-use Rattle.trace.specs.Audit.{line_version, lines_version, chronicle_told, version_named, IsFirstDifference}
+use Rattle.trace.specs.Audit.{line_version, lines_version, version_named, IsFirstDifference}
 
 -- the lists behind the first one, as many as there may be
 names_behind : (items : List (Vec ℕ Global)) (n : Named) (k : ℕ) → lists_in items ≡ take (suc k) (all_names n) → lists_in (take (length items - 1) (drop 1 items)) ≡ take k n.1
@@ -67,7 +67,6 @@ named_admitted Median First t h = none_first (pieces feed t) h
 
 -- a sound text in the version that it names
 sound_version : (s : Scenario) (t : List ℕ) (v : Version) → version_named s.rule t ≡ Some v → (h : IsSoundText s t) → t ≡ text_in v (chronicle_told s t)
-unfolding chronicle_told
 sound_version s t v named h =
     let known : version_named s.rule t ≡ Some h.version = ap (version_named s.rule) h.same ∙ version_known s.rule h.version (chronicle_told s t) h.admitted in
     let same : h.version ≡ v = cc in
@@ -75,12 +74,10 @@ sound_version s t v named h =
 
 -- a text that is the same as that of the replay is sound
 pub same_is_sound : (s : Scenario) (t : List ℕ) (v : Version) → version_named s.rule t ≡ Some v → t ≡ text_in v (chronicle_told s t) → IsSoundText s t
-unfolding chronicle_told
 same_is_sound s t v named same = record { version = v; admitted = named_admitted s.rule v t named; same = same }
 
 -- a text in no version of the campaign's is not sound
 pub unnamed_is_unsound : (s : Scenario) (t : List ℕ) → version_named s.rule t ≡ None → IsSoundText s t → ⊥
-unfolding chronicle_told
 unnamed_is_unsound s t none h =
     let known : version_named s.rule t ≡ Some h.version = ap (version_named s.rule) h.same ∙ version_known s.rule h.version (chronicle_told s t) h.admitted in
     absurd cc

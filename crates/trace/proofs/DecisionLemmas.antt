@@ -11,26 +11,9 @@ use Rattle.trace.specs.Text.{Line, text, decision_lines}
 use Rattle.trace.specs.Lines.{decided_lines}
 use Rattle.trace.proofs.WrittenLemmas.{wrote-nothing}
 use Rattle.trace.proofs.RoundLemmas.{then_lines}
-
-range_cons : (n g : ℕ) → g < n → range_with_len g (n - g) ≡ g ∷ range_with_len (g + 1) (n - (g + 1))
-range_cons n g l = (let e : n - g ≡ suc (n - (g + 1)) = omega arith in rw e refl)
-
-range_none : (n g : ℕ) → n ≤ g → range_with_len g (n - g) ≡ []
-range_none n g l = (let e : n - g ≡ 0 = omega arith in rw e refl)
+use Rattle.world.proofs.Counted.{range_cons, range_none, from_commander, from_lieutenant, from}
 
 -- the lieutenants from a general on
-abbrev from : ℕ → ℕ → ℕ → List ℕ
-from n c g = filter (λ j. not (on (c ∷ []) j)) (range_with_len g (n - g))
-
-from_commander : (n c g : ℕ) → g < n → g ≡ c → from n c g ≡ from n c (g + 1)
-from_commander n c g l e =
-    let h : (c == g) ≡ true = eq-eqb c g (sym e) in
-    rw (range_cons n g l) (rw h refl)
-
-from_lieutenant : (n c g : ℕ) → g < n → g ≢ c → from n c g ≡ g ∷ from n c (g + 1)
-from_lieutenant n c g l ne =
-    let h : (c == g) ≡ false = ne_eqb c g (λ e. ne (sym e)) in
-    rw (range_cons n g l) (rw h refl)
 
 -- the lines of the lieutenants before this general were written; the next decides at this place
 pub record HasTold (s : Scenario) (ds : List ℕ) (g place : ℕ) (a : Option (List ℕ)) (f : Bool) (b : Option (List ℕ)) (h : Bool) : Type 0 where

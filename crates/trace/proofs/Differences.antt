@@ -2,10 +2,13 @@
 use Rattle.std.proofs.Common.{◌≡◌, ◌≢◌, ℕ, zero, suc, ◌<◌, ◌≤◌, Bool, true, false, List, [], ◌∷◌, ◌++◌, length, take, Option, Some, None, refl, sym, ap, subst, ◌∙◌, append_assoc, append-nil, arith}
 use Rattle.std.specs.Prelude.{slice_get, is_some, IfNone, IfSome}
 use Rattle.std.specs.Io.KnownBytes.{Appends}
-use Rattle.trace.specs.Marks.{listed}
+use Rattle.std.specs.Prelude.{option_to_list}
 use Rattle.trace.specs.Compared.{taken, compared}
 use Rattle.trace.specs.Sinks.{Wrote}
 use Rattle.trace.specs.Audit.{IsFirstDifference}
+use Rattle.text.proofs.CutLemmas.{take_front}
+use Rattle.std.proofs.Math.Seq.{take-length}
+use Rattle.std.proofs.lemmas.List.{length-take-le}
 
 -- texts of one length before something are those texts
 split_same : (xs ys us vs : List ℕ) → length xs ≡ length ys → xs ++ us ≡ ys ++ vs → (xs ≡ ys) × (us ≡ vs)
@@ -26,22 +29,9 @@ known_again text now front bytes h =
     let tails : now ++ bytes ≡ (text ++ []) ++ front = cc in
     split_same now text bytes front heads (tails ∙ ap (λ l. l ++ front) (append-nil text))
 
-take_length : (n : ℕ) (xs : List ℕ) → n ≤ length xs → length (take n xs) ≡ n
-take_length zero xs le = refl
-take_length (suc n) [] le = absurd (omega arith)
-take_length (suc n) (x ∷ xs) le = ap suc (take_length n xs (omega arith))
-
-take_front : (xs ys : List ℕ) → take (length xs) (xs ++ ys) ≡ xs
-take_front [] ys = refl
-take_front (x ∷ xs) ys = ap (λ l. x ∷ l) (take_front xs ys)
-
 get_behind : (xs ys : List ℕ) → slice_get (xs ++ ys) (length xs) ≡ slice_get ys 0
 get_behind [] ys = refl
 get_behind (x ∷ xs) ys = get_behind xs ys
-
-take_whole : (xs : List ℕ) → take (length xs) xs ≡ xs
-take_whole [] = refl
-take_whole (x ∷ xs) = ap (λ l. x ∷ l) (take_whole xs)
 
 get_within : (xs : List ℕ) (n : ℕ) → n < length xs → slice_get xs n ≢ None
 get_within [] n lt e = absurd (omega arith)
@@ -59,30 +49,30 @@ pub same_texts : (text now written : List ℕ) (same : ℕ) (other : Option ℕ)
 same_texts text now written same other failed w refused e =
     let k = known_again text now w.front (taken now same other) w.grown in
     let fine : failed ≡ false = not_failed failed other refused e.0 in
-    let all : taken now same other ≡ now = (λ i. take (e.1 i) now ++ listed (e.0 i)) ∙ append-nil (take (length now) now) ∙ take_whole now in
+    let all : taken now same other ≡ now = (λ i. take (e.1 i) now ++ option_to_list (e.0 i)) ∙ append-nil (take (length now) now) ∙ take-length now in
     sym (w.parts ∙ ap (λ l. w.front ++ l) (w.whole fine) ∙ append-nil w.front ∙ sym k.1 ∙ all ∙ k.0)
 
-differs_there : (text front rest : List ℕ) (same : ℕ) (other : Option ℕ) → same ≤ length text → take same text ++ listed other ≡ front → (other ≡ None → (rest ≡ []) × (same < length text)) → (slice_get text same ≡ other → other ≡ None)
+differs_there : (text front rest : List ℕ) (same : ℕ) (other : Option ℕ) → same ≤ length text → take same text ++ option_to_list other ≡ front → (other ≡ None → (rest ≡ []) × (same < length text)) → (slice_get text same ≡ other → other ≡ None)
     → slice_get text same ≢ slice_get (front ++ rest) same
 differs_there text front rest same None le h few differs e =
     let f = few refl in
     let seam : slice_get (front ++ rest) same ≡ None =
-    (λ i. slice_get (sym h i ++ f.0 i) (sym (take_length same text le) i))
+    (λ i. slice_get (sym h i ++ f.0 i) (sym (length-take-le same text le) i))
     ∙ ap (λ l. slice_get (l ++ []) (length (take same text))) (append-nil (take same text))
     ∙ get_behind (take same text) [] in
     get_within text same f.1 (e ∙ seam)
 differs_there text front rest same (Some b) le h few differs e =
     let seam : slice_get (front ++ rest) same ≡ Some b =
-    (λ i. slice_get (sym h i ++ rest) (sym (take_length same text le) i))
+    (λ i. slice_get (sym h i ++ rest) (sym (length-take-le same text le) i))
     ∙ ap (λ l. slice_get l (length (take same text))) (append_assoc (take same text) (b ∷ []) rest)
     ∙ get_behind (take same text) (b ∷ rest) in
     absurd (let n = differs (e ∙ seam) in cc)
 
-same_before : (text front rest : List ℕ) (same : ℕ) (other : Option ℕ) → same ≤ length text → take same text ++ listed other ≡ front → take same text ≡ take same (front ++ rest)
+same_before : (text front rest : List ℕ) (same : ℕ) (other : Option ℕ) → same ≤ length text → take same text ++ option_to_list other ≡ front → take same text ≡ take same (front ++ rest)
 same_before text front rest same other le h =
-    sym ((λ i. take (sym (take_length same text le) i) (sym h i ++ rest))
-    ∙ ap (λ l. take (length (take same text)) l) (append_assoc (take same text) (listed other) rest)
-    ∙ take_front (take same text) (listed other ++ rest))
+    sym ((λ i. take (sym (length-take-le same text le) i) (sym h i ++ rest))
+    ∙ ap (λ l. take (length (take same text)) l) (append_assoc (take same text) (option_to_list other) rest)
+    ∙ take_front (take same text) (option_to_list other ++ rest))
 
 -- the first difference
 pub first_difference : (text now written : List ℕ) (same : ℕ) (other : Option ℕ) (failed : Bool) (place : ℕ)

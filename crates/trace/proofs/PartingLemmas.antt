@@ -6,6 +6,7 @@ use Rattle.std.proofs.lemmas.List.{take_all}
 use Rattle.memchr.specs.Find.{Passes, Nowhere, is_byte}
 use Rattle.text.specs.Stop.{feed}
 use Rattle.text.specs.Parts.{pieces, onto_first}
+use Rattle.trace.proofs.WrittenLemmas.{drop-length}
 
 -- no line feed
 pub no_feed : (t : List ℕ) → Nowhere (Passes (is_byte 10) t) 0 (length t) → pieces feed t ≡ t ∷ []
@@ -22,11 +23,6 @@ first_feed (c ∷ cs) (suc k) lt before is =
     let other : (c == 10) ≡ false = false_from_ne_true (c == 10) (before 0 (omega arith) (omega arith)) in
     let place : suc (k + 1) ≡ suc k + 1 = omega arith in
     rw other (ap (onto_first c) (first_feed cs k (omega arith) (λ j low high. before (suc j) (omega arith) (omega arith)) is) ∙ ap (λ (n : ℕ). (c ∷ take k cs) ∷ pieces feed (drop n (c ∷ cs))) place)
-
-drop-length : (n : ℕ) (xs : List ℕ) → n ≤ length xs → length (drop n xs) + n ≡ length xs
-drop-length zero xs le = omega arith
-drop-length (suc n) [] le = absurd (omega arith)
-drop-length (suc n) (x ∷ xs) le = let h = drop-length n xs (omega arith) in omega arith
 
 -- the rest as it is cut off
 pub line_and_rest : (t : List ℕ) (k : ℕ) → k < length t → Nowhere (Passes (is_byte 10) t) 0 k → Passes (is_byte 10) t k → pieces feed t ≡ take k t ∷ pieces feed (take (length t - (k + 1)) (drop (k + 1) t))

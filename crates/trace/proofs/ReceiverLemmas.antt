@@ -9,9 +9,10 @@ use Rattle.label.specs.declared.shape.Shape.{Shape}
 use Rattle.label.specs.Labels.{on, is_distinct, generals}
 use Rattle.label.specs.Relay.{receivers}
 use Rattle.semantics.specs.Relay.{Relay, relayed}
-use Rattle.semantics.proofs.PlacesLaws.{others-distinct, row_from, rows_from}
+use Rattle.semantics.proofs.PlacesLaws.{row_from, rows_from}
 use Rattle.outbox.specs.Contents.{order_among, order_at}
 use Rattle.trace.specs.Text.{place}
+use Rattle.label.proofs.Counting.{others-distinct}
 
 -- the row of a label's places
 row_places : (s : Shape) (a i : ℕ) (ws : List (List ℕ)) (names : List ℕ) → slice_get (map (receivers s) ws) i ≡ Some names → get_or (rows_from s a ws) i [] ≡ row_from (a + i) 0 names

@@ -2,7 +2,8 @@
 use Rattle.std.specs.Prelude.{◌≡◌, ℕ, [], ◌∷◌, ◌++◌, replicate, codes, Ok, Err, refl}
 use Rattle.text.specs.Number.{decimal_of}
 use Rattle.world.specs.declared.schedule.Repeat.{Repeat}
-use Rattle.trace.specs.declared.fault.TraceError.TheVariants.{Line}
+use Rattle.trace.specs.declared.fault.Fault.TheVariants.{Line}
+use Rattle.trace.specs.declared.fault.TraceError.TheVariants.{At}
 use Rattle.trace.specs.Schedules.{number_within, schedule_told}
 
 entry : ℕ → ℕ → Repeat
@@ -27,31 +28,31 @@ five : schedule_told (replicate 5 10) ≡ Ok (replicate 5 [])
 unfolding schedule_told
 five = refl
 
-six : schedule_told (replicate 6 10) ≡ Err (Line 6)
+six : schedule_told (replicate 6 10) ≡ Err (At Line 6)
 unfolding schedule_told
 six = refl
 
-fifth : schedule_told (replicate 4 10 ++ 48 ∷ 48 ∷ 10 ∷ 10 ∷ []) ≡ Err (Line 5)
+fifth : schedule_told (replicate 4 10 ++ 48 ∷ 48 ∷ 10 ∷ 10 ∷ []) ≡ Err (At Line 5)
 unfolding schedule_told number_within decimal_of
 fifth = refl
 
 -- no general past 12, no repetition past 4,096 or of none, and no part that is no entry
-thirteen : schedule_told (codes "13") ≡ Err (Line 1)
+thirteen : schedule_told (codes "13") ≡ Err (At Line 1)
 unfolding schedule_told number_within decimal_of
 thirteen = refl
 
-too_often : schedule_told (codes "3*4097") ≡ Err (Line 1)
+too_often : schedule_told (codes "3*4097") ≡ Err (At Line 1)
 unfolding schedule_told number_within decimal_of
 too_often = refl
 
-never : schedule_told (codes "3*0") ≡ Err (Line 1)
+never : schedule_told (codes "3*0") ≡ Err (At Line 1)
 unfolding schedule_told number_within decimal_of
 never = refl
 
-twice : schedule_told (codes "3*2*2") ≡ Err (Line 1)
+twice : schedule_told (codes "3*2*2") ≡ Err (At Line 1)
 unfolding schedule_told number_within decimal_of
 twice = refl
 
-two_spaces : schedule_told (codes "3  4") ≡ Err (Line 1)
+two_spaces : schedule_told (codes "3  4") ≡ Err (At Line 1)
 unfolding schedule_told number_within decimal_of
 two_spaces = refl

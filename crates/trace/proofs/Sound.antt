@@ -14,7 +14,7 @@ use Rattle.world.proofs.Lasting.{replayed_complete}
 use Rattle.world.proofs.Replaying.{proved_runs_are_replays, proved_runs_are_accounted}
 use Rattle.trace.specs.Text.{text_in}
 use Rattle.trace.specs.declared.version.Version.{Version}
-use Rattle.trace.specs.Names.{names_of}
+use Rattle.trace.specs.Names.{names_of, chronicle_told}
 use Rattle.trace.specs.Laws.{IsSoundText, IsRunText, SoundTextsAreRuns}
 use Rattle.trace.proofs.Naming.{AreKnown, known_all, names_told}
 
@@ -41,6 +41,7 @@ names_replay v s events is complete =
     names_told v (chronicle_of w) (known_accounted s is [] w.ledger w.closed accounts) ∙ ap (names_in 1 w.ledger) complete.closed
 
 run_sound : (s : Scenario) (t : List ℕ) → IsScenario s → IsRunText s t → IsSoundText s t
+unfolding chronicle_told
 run_sound s t is h =
     let w = run (opening s) h.events in
     let names : names_of t ≡ names_in 1 w.ledger (suc s.bound) = ap names_of h.same ∙ names_replay h.version s h.events is h.complete in
@@ -51,6 +52,7 @@ run_sound s t is h =
     }
 
 pub proved_sound_texts_are_runs : SoundTextsAreRuns
+unfolding chronicle_told
 proved_sound_texts_are_runs s t is = (
   (λ h. record { version = h.version; admitted = h.admitted; events = replayed s (names_of t); complete = replayed_complete s is (names_of t); same = h.same }),
   run_sound s t is,

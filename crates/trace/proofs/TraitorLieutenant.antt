@@ -19,7 +19,7 @@ use Rattle.world.specs.World.{opening, run, refusal}
 use Rattle.world.specs.declared.event.Event.TheVariants.{Tick, Post, Close}
 use Rattle.world.specs.Lists.{listed_rounds, listed}
 use Rattle.world.specs.Chronicle.{decisions, chronicle_of}
-use Rattle.trace.specs.Text.{lines_in, text_in, text_of}
+use Rattle.trace.specs.Text.{lines_in, text_in, chronicle_text}
 use Rattle.trace.proofs.Printed.{printed, lines}
 
 -- he tells generals 1 and 2 the order 0
@@ -91,7 +91,7 @@ unfolding four turncoat labels om majority context_bytes messages decisions line
 skipped_entries = refl
 
 -- a traitor is cut off before his first step, and behind his fourth
-cut_off : text_of (chronicle_of (run (opening four) (Post 0 ∷ Post 1 ∷ Post 2 ∷ Close ∷ Post 0 ∷ Post 1 ∷ Post 2 ∷ replicate 4 (Tick 3) ++ Close ∷ []))) ≡ lines (
+cut_off : chronicle_text (chronicle_of (run (opening four) (Post 0 ∷ Post 1 ∷ Post 2 ∷ Close ∷ Post 0 ∷ Post 1 ∷ Post 2 ∷ replicate 4 (Tick 3) ++ Close ∷ []))) ≡ lines (
     codes "chronicle 1"
     ∷ codes "generals 4 bound 1 commander 0 order 1"
     ∷ codes "round 1"

@@ -4,7 +4,7 @@ use Rattle.std.specs.Prelude.{decimal, OnOk, Result, Ok, Err}
 use Rattle.std.proofs.Math.ListN.{set, length-set}
 use Rattle.std.proofs.lemmas.List.{take-append-drop, take_all, drop-set, drop_all, take_more, map-append}
 use Rattle.std.specs.Io.KnownBytes.{Appends, Keeps}
-use Rattle.std.proofs.KnownBytes.{Appends-nil, Appends-trans}
+use Rattle.std.proofs.KnownBytes.{Appends-nil, Appends-trans, Appends-kept}
 use Rattle.trace.specs.Sinks.{Wrote}
 use Rattle.trace.specs.Text.{Word, further}
 
@@ -52,7 +52,7 @@ wrote_none {a} {f} x e = subst (λ t. Wrote a f t a f) (sym e) wrote-nothing
 pub wrote-same : {a b : Option (List ℕ)} {f g : Bool} (x y : List ℕ) → x ≡ y → Wrote a f x b g → Wrote a f y b g
 wrote-same {a} {b} {f} {g} x y e w = subst (λ t. Wrote a f t b g) e w
 
-drop-length : (n : ℕ) (xs : List ℕ) → n ≤ length xs → length (drop n xs) + n ≡ length xs
+pub drop-length : (n : ℕ) (xs : List ℕ) → n ≤ length xs → length (drop n xs) + n ≡ length xs
 drop-length zero xs le = omega arith
 drop-length (suc n) [] le = absurd (omega arith)
 drop-length (suc n) (x ∷ xs) le = let h = drop-length n xs (omega arith) in omega arith
@@ -82,19 +82,13 @@ put_more piece from n old mid new lt le so then =
     let le' : n ≤ length (drop from piece) = (let A : List ℕ → Type 0 = λ t. n ≤ length t in subst A all le) in
     ((omega arith), appends-same old new (take from piece ++ take n (behind from piece)) (take (from + n) piece) (ap (λ t. take from piece ++ take n t) all ∙ take-more from n piece) (Appends-trans old mid new (take from piece) (take n (behind from piece)) so then))
 
-appends-kept : (a b c : Option (List ℕ)) (x : List ℕ) → Appends a b x → Keeps b c → Appends a c x
-appends-kept None b c x p q = tt
-appends-kept (Some a) None c x p q = absurd p
-appends-kept (Some a) (Some b) None x p q = absurd q
-appends-kept (Some a) (Some b) (Some c) x p q = q ∙ p
-
 -- a call took none
 pub put_none : (piece : List ℕ) (from : ℕ) (old mid new : Option (List ℕ)) (f after : Bool) → Appends old mid (take from piece) → Keeps mid new → after ≡ true → f ≡ false → Wrote old f piece new after
 put_none piece from old mid new f after so same failed fine = record {
   front = take from piece;
   rest = drop from piece;
   parts = sym (take-append-drop from piece);
-  grown = appends-kept old mid new (take from piece) so same;
+  grown = Appends-kept old mid new (take from piece) so same;
   whole = λ e. absurd (let r = failed in cc);
   sound = λ e. fine;
   nothing = λ e. absurd (let r = fine in cc);

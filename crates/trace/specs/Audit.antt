@@ -5,20 +5,15 @@ use Rattle.combine.specs.declared.chosen.Rule.TheVariants.{Majority, Median}
 use Rattle.text.specs.Stop.{feed}
 use Rattle.text.specs.Parts.{pieces}
 use Rattle.round.specs.Scenario.{Scenario}
-use Rattle.world.specs.World.{opening, run}
-use Rattle.world.specs.Lists.{replayed}
-use Rattle.world.specs.Chronicle.{Chronicle, chronicle_of}
 use Rattle.trace.specs.declared.version.Version.{Version}
 use Rattle.trace.specs.declared.version.Version.TheVariants.{First, Second}
+use Rattle.trace.specs.declared.fault.Fault.{Fault}
+use Rattle.trace.specs.declared.fault.Fault.TheVariants.{Line, Scenario as NotTheScenarios, Differs}
 use Rattle.trace.specs.declared.fault.TraceError.{TraceError}
-use Rattle.trace.specs.declared.fault.TraceError.TheVariants.{Line, Scenario as NotTheScenarios, Differs}
+use Rattle.trace.specs.declared.fault.TraceError.TheVariants.{At}
 use Rattle.trace.specs.Text.{text_in}
-use Rattle.trace.specs.Names.{names_of}
+use Rattle.trace.specs.Names.{chronicle_told}
 use Rattle.trace.specs.Shapes.{unshaped_from}
-
--- the chronicle of the replay of the accesses that a text tells
-unfoldable pub chronicle_told : Scenario → List ℕ → Chronicle
-chronicle_told s t = chronicle_of (run (opening s) (replayed s (names_of t)))
 
 -- the version that a first line names, where a campaign by the rule may be told in it
 abbrev pub first_version : Rule → Option Version
@@ -46,13 +41,13 @@ abbrev pub line_at : List ℕ → ℕ → ℕ
 line_at t place = suc (count_by (λ c. c == 10) (take place t))
 
 -- a first or second line that differs is not the scenario's
-abbrev pub differing : ℕ → TraceError
-differing line = if nat_le line 2 then NotTheScenarios line else Differs line
+abbrev pub differing : ℕ → Fault
+differing line = if nat_le line 2 then NotTheScenarios else Differs
 
 -- a line of no shape comes before a difference
 abbrev pub first_fault : Option ℕ → ℕ → TraceError
-first_fault (Some line) differs = Line line
-first_fault None differs = differing differs
+first_fault (Some line) differs = At Line line
+first_fault None differs = At (differing differs) differs
 
 -- the fault of a text that differs at this place
 unfoldable pub fault_at : List ℕ → ℕ → TraceError

@@ -5,12 +5,12 @@ use Rattle.combine.specs.declared.chosen.Rule.TheVariants.{Majority, Median}
 use Rattle.world.specs.declared.event.Event.{Event}
 use Rattle.round.specs.Scenario.{Scenario, IsScenario}
 use Rattle.world.specs.World.{opening, run}
-use Rattle.world.specs.Lists.{IsComplete, names_in, replayed}
+use Rattle.world.specs.Lists.{IsComplete, names_in}
 use Rattle.world.specs.Chronicle.{Chronicle, chronicle_of}
 use Rattle.trace.specs.Text.{text_in}
 use Rattle.trace.specs.declared.version.Version.{Version}
 use Rattle.trace.specs.declared.version.Version.TheVariants.{First, Second}
-use Rattle.trace.specs.Names.{names_of}
+use Rattle.trace.specs.Names.{names_of, chronicle_told}
 
 -- the names that the text tells are those of its accesses, round by round
 abbrev pub NamesAreTold : Type 0
@@ -26,7 +26,7 @@ Admits Median First = ⊥
 pub record IsSoundText (s : Scenario) (t : List ℕ) : Type 0 where
   pub version : Version
   pub admitted : Admits s.rule version
-  pub same : t ≡ text_in version (chronicle_of (run (opening s) (replayed s (names_of t))))
+  pub same : t ≡ text_in version (chronicle_told s t)
 
 -- the text of a complete run
 pub record IsRunText (s : Scenario) (t : List ℕ) : Type 0 where

@@ -1,15 +1,11 @@
 -- Words of the reader of names alone.
-use Rattle.std.specs.Prelude.{ℕ, ◌+◌, length, List, [], ◌∷◌, ◌++◌, Option, Some, None}
+use Rattle.std.specs.Prelude.{ℕ, List, [], ◌∷◌, ◌++◌, Option, Some, None}
 use Rattle.std.proofs.Common.{Bor}
 use Rattle.text.specs.Stop.{feed}
 use Rattle.text.specs.Parts.{pieces}
 use Rattle.trace.specs.declared.named.Mark.{Mark}
 use Rattle.trace.specs.declared.named.Mark.TheVariants.{Round, Access, Other}
 use Rattle.trace.specs.Names.{Named}
-
-abbrev pub listed : Option ℕ → List ℕ
-listed None = []
-listed (Some g) = g ∷ []
 
 -- what is named from a line on, by what it says
 abbrev pub marked : Mark → Named → Named
@@ -25,11 +21,6 @@ all_names n = n.0 ∷ n.1
 abbrev pub lines_left : Option (Bor (List ℕ)) → List (List ℕ)
 lines_left None = []
 lines_left (Some rest) = pieces feed rest.now
-
--- how much is left of the text
-abbrev pub lines_left_len : Option (Bor (List ℕ)) → ℕ
-lines_left_len None = 0
-lines_left_len (Some rest) = length rest.now + 1
 
 -- with some names before
 abbrev pub behind : List ℕ → Named → Named

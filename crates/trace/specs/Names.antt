@@ -1,8 +1,12 @@
--- Who makes the accesses of each round, as a text tells it (own).
+-- Who makes the accesses of each round, as a text tells it, and the chronicle of their replay (own).
 use Rattle.std.specs.Prelude.{ℕ, cond, List, [], ◌∷◌, ◌++◌, map, filter, decimal, codes, bytes_eq}
 use Rattle.text.specs.Stop.{space, feed}
 use Rattle.text.specs.Parts.{pieces}
 use Rattle.label.specs.Labels.{generals}
+use Rattle.round.specs.Scenario.{Scenario}
+use Rattle.world.specs.World.{opening, run}
+use Rattle.world.specs.Lists.{replayed}
+use Rattle.world.specs.Chronicle.{Chronicle, chronicle_of}
 use Rattle.trace.specs.Text.{Word, Line}
 
 -- the general of this number, if he is one
@@ -26,3 +30,7 @@ named (l ∷ ls) = with_line l (named ls)
 -- for each round line of a text, the names of the access lines behind it
 unfoldable pub names_of : List ℕ → List (List ℕ)
 names_of t = (named (map (pieces space) (pieces feed t))).1
+
+-- the chronicle of the replay of the accesses that a text tells
+unfoldable pub chronicle_told : Scenario → List ℕ → Chronicle
+chronicle_told s t = chronicle_of (run (opening s) (replayed s (names_of t)))

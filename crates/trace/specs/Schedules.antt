@@ -7,8 +7,9 @@ use Rattle.text.specs.Stop.{space}
 use Rattle.text.specs.Parts.{pieces, lines_of}
 use Rattle.text.specs.Number.{decimal_of}
 use Rattle.world.specs.declared.schedule.Repeat.{Repeat}
+use Rattle.trace.specs.declared.fault.Fault.TheVariants.{Line}
 use Rattle.trace.specs.declared.fault.TraceError.{TraceError}
-use Rattle.trace.specs.declared.fault.TraceError.TheVariants.{Line}
+use Rattle.trace.specs.declared.fault.TraceError.TheVariants.{At}
 
 abbrev pub star : Stop
 star = Byte 42
@@ -35,8 +36,8 @@ line_told (c ∷ cs) = entries_told [] (pieces space (c ∷ cs))
 
 -- the lines from this one on, behind those before, or the first that is none: a sixth one is none
 abbrev pub with_line_told : ℕ → Option (List Repeat) → (List Repeat → Result (List (List Repeat)) TraceError) → Result (List (List Repeat)) TraceError
-with_line_told number None rest = Err (Line number)
-with_line_told number (Some entries) rest = if nat_lt 5 number then Err (Line number) else rest entries
+with_line_told number None rest = Err (At Line number)
+with_line_told number (Some entries) rest = if nat_lt 5 number then Err (At Line number) else rest entries
 
 abbrev pub schedule_lines_told : List (List Repeat) → ℕ → List (List ℕ) → Result (List (List Repeat)) TraceError
 schedule_lines_told before number [] = Ok before
@@ -44,4 +45,4 @@ schedule_lines_told before number (line ∷ lines) = with_line_told number (line
 
 -- the schedule that a text of at most 1,048,576 bytes tells, or the first line that tells none
 unfoldable pub schedule_told : List ℕ → Result (List (List Repeat)) TraceError
-schedule_told text = if nat_le (length text) 1048576 then schedule_lines_told [] 1 (lines_of text) else Err (Line 1)
+schedule_told text = if nat_le (length text) 1048576 then schedule_lines_told [] 1 (lines_of text) else Err (At Line 1)

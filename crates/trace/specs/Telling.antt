@@ -1,13 +1,18 @@
 -- What is said of a fault.
 use Rattle.std.specs.Prelude.{ℕ, List, ◌++◌, codes}
 use Rattle.std.specs.Fmt.{decimal}
+use Rattle.trace.specs.declared.fault.Fault.{Fault}
+use Rattle.trace.specs.declared.fault.Fault.TheVariants.{Line, Scenario, Differs}
 use Rattle.trace.specs.declared.fault.TraceError.{TraceError}
-use Rattle.trace.specs.declared.fault.TraceError.TheVariants.{Line, Scenario, Differs, Write, Memory}
+use Rattle.trace.specs.declared.fault.TraceError.TheVariants.{At, Write, Memory}
+
+abbrev pub code_of : Fault → List ℕ
+code_of Line = codes "X1"
+code_of Scenario = codes "X2"
+code_of Differs = codes "X3"
 
 -- the code, and the line where there is one
 abbrev pub told : TraceError → List ℕ
-told (Line line) = codes "X1 line " ++ decimal line
-told (Scenario line) = codes "X2 line " ++ decimal line
-told (Differs line) = codes "X3 line " ++ decimal line
+told (At fault line) = code_of fault ++ codes " line " ++ decimal line
 told Write = codes "X4"
 told Memory = codes "out of memory"

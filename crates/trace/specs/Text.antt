@@ -129,5 +129,5 @@ unfoldable pub text_in : Version → Chronicle → List ℕ
 text_in v c = text (lines_in v c)
 
 -- the text of a chronicle: that of its campaign's version
-abbrev pub text_of : Chronicle → List ℕ
-text_of c = text_in (version_of c.scenario) c
+abbrev pub chronicle_text : Chronicle → List ℕ
+chronicle_text c = text_in (version_of c.scenario) c

@@ -3,21 +3,21 @@ ghost use Rattle.std.specs.Prelude.{◌≡◌, ◌≢◌, IfOk, IfErr, IfSome, I
 ghost use Rattle.trace.specs.declared.fault.TraceError.TheVariants.{Memory};
 ghost use Rattle.trace.specs.Text.{text_in};
 ghost use Rattle.trace.specs.Laws.{IsSoundText};
-ghost use Rattle.trace.specs.Audit.{IsFaultOf, IsFirstDifference, first_version, line_version, chronicle_told, version_named};
+ghost use Rattle.trace.specs.Audit.{IsFaultOf, IsFirstDifference, first_version, line_version, version_named};
+ghost use Rattle.trace.specs.Names.{chronicle_told};
 
 use crate::chronicling::put_chronicle;
 use crate::comparing::Comparison;
 use crate::fault::TraceError;
 use crate::named::names;
 use crate::refusing::refusal;
+use crate::stops::FEED;
 use crate::version::Version;
 use combine::Rule;
 use round::Scenario;
 use std::alloc::{AllocError, Global};
-use text::{Stop, piece};
+use text::piece;
 use world::{Chronicle, Verdict, replay};
-
-const FEED: Stop = Stop::Byte(b'\n');
 
 /// The first version, where a campaign by this rule may be told in it.
 fn first_version(rule: Rule) -> Option<Version>
@@ -52,7 +52,7 @@ fn version_named(rule: Rule, text: &[u8]) -> Option<Version>
 }
 
 /// The chronicle of the campaign in which the generals make their accesses in the order that the text tells.
-#[tactic(auto, unfolding(crate::specs::Audit::chronicle_told, crate::specs::Names::names_of))]
+#[tactic(auto, unfolding(crate::specs::Names::chronicle_told, crate::specs::Names::names_of))]
 fn replayed(alloc: Global, scenario: &Scenario, text: &[u8]) -> Result<Chronicle, AllocError>
     ensures { IfOk result (λ chronicle. chronicle ≡ chronicle_told scenario.now text.now) }
 {

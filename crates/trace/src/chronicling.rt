@@ -4,7 +4,7 @@ ghost use Rattle.std.specs.Io.KnownBytes.{Appends};
 ghost use Rattle.label.specs.Lieutenants.{lieutenants};
 ghost use Rattle.trace.specs.declared.fault.TraceError.TheVariants.{Write as unwritten};
 ghost use Rattle.trace.specs.Sinks.{Wrote};
-ghost use Rattle.trace.specs.Text.{campaign_words, decision_lines, further, further_words, head_lines, round_lines, spaced, text, text_in, text_of, verdict_line};
+ghost use Rattle.trace.specs.Text.{campaign_words, decision_lines, further, further_words, head_lines, round_lines, spaced, text, text_in, chronicle_text, verdict_line};
 
 use crate::fault::TraceError;
 use crate::heading::{put_campaign, put_further, put_version};
@@ -17,8 +17,10 @@ use round::Scenario;
 use world::{Chronicle, Verdict};
 
 /// The campaign's numbers, which begin the second line.
-fn put_numbers<S: Sink>(sink: &mut S, scenario: &Scenario)
-    ensures { Wrote (S.contents sink.old) (S.has_failed sink.old) (spaced (campaign_words scenario.now.generals scenario.now.bound scenario.now.commander scenario.now.order)) (S.contents sink.new) (S.has_failed sink.new) }
+fn put_campaign_of<S: Sink>(sink: &mut S, scenario: &Scenario)
+    ensures { Wrote (S.contents sink.old) (S.has_failed sink.old)
+        (spaced (campaign_words scenario.now.generals scenario.now.bound scenario.now.commander scenario.now.order))
+        (S.contents sink.new) (S.has_failed sink.new) }
 {
     put_campaign(
         sink,
@@ -30,7 +32,7 @@ fn put_numbers<S: Sink>(sink: &mut S, scenario: &Scenario)
 }
 
 /// What the version tells behind the numbers.
-fn put_conditions<S: Sink>(sink: &mut S, version: Version, scenario: &Scenario)
+fn put_further_of<S: Sink>(sink: &mut S, version: Version, scenario: &Scenario)
     ensures { Wrote (S.contents sink.old) (S.has_failed sink.old) (further (further_words version scenario.now.patience scenario.now.rule)) (S.contents sink.new) (S.has_failed sink.new) }
 {
     put_further(sink, version, scenario.patience(), scenario.rule());
@@ -41,52 +43,24 @@ fn put_head<S: Sink>(sink: &mut S, version: Version, scenario: &Scenario)
     ensures { Wrote (S.contents sink.old) (S.has_failed sink.old) (text (head_lines version scenario.now)) (S.contents sink.new) (S.has_failed sink.new) }
 {
     put_version(sink, version);
-    put_numbers(sink, scenario);
-    put_conditions(sink, version, scenario);
+    put_campaign_of(sink, scenario);
+    put_further_of(sink, version, scenario);
     put_all(sink, b"\n");
-}
-
-/// The lines of the rounds.
-fn put_letters<S: Sink>(sink: &mut S, chronicle: &Chronicle)
-    ensures { Wrote (S.contents sink.old) (S.has_failed sink.old) (text (round_lines 1 chronicle.now.accesses chronicle.now.letters)) (S.contents sink.new) (S.has_failed sink.new) }
-{
-    put_rounds(sink, chronicle.accesses(), chronicle.letters());
-}
-
-/// The lines of the decisions.
-fn put_decided<S: Sink>(sink: &mut S, chronicle: &Chronicle)
-    ensures { Wrote (S.contents sink.old) (S.has_failed sink.old) (text (decision_lines chronicle.now.scenario (lieutenants chronicle.now.scenario.generals chronicle.now.scenario.commander) chronicle.now.decisions)) (S.contents sink.new) (S.has_failed sink.new) }
-{
-    put_decisions(sink, chronicle.scenario(), chronicle.decisions());
-}
-
-/// The lines before the rounds.
-fn put_beginning<S: Sink>(sink: &mut S, version: Version, chronicle: &Chronicle)
-    ensures { Wrote (S.contents sink.old) (S.has_failed sink.old) (text (head_lines version chronicle.now.scenario)) (S.contents sink.new) (S.has_failed sink.new) }
-{
-    put_head(sink, version, chronicle.scenario());
-}
-
-/// The last line.
-fn put_end<S: Sink>(sink: &mut S, chronicle: &Chronicle)
-    ensures { Wrote (S.contents sink.old) (S.has_failed sink.old) (text (verdict_line chronicle.now.verdict ∷ [])) (S.contents sink.new) (S.has_failed sink.new) }
-{
-    put_verdict(sink, chronicle.verdict());
 }
 
 /// The lines of a chronicle, in this version.
 pub(crate) fn put_chronicle<S: Sink>(sink: &mut S, version: Version, chronicle: &Chronicle)
     ensures { Wrote (S.contents sink.old) (S.has_failed sink.old) (text_in version chronicle.now) (S.contents sink.new) (S.has_failed sink.new) }
 {
-    put_beginning(sink, version, chronicle);
-    put_letters(sink, chronicle);
-    put_decided(sink, chronicle);
-    put_end(sink, chronicle);
+    put_head(sink, version, chronicle.scenario());
+    put_rounds(sink, chronicle.accesses(), chronicle.letters());
+    put_decisions(sink, chronicle.scenario(), chronicle.decisions());
+    put_verdict(sink, chronicle.verdict());
 }
 
 /// The lines of a chronicle, in the version of its campaign.
 fn put_whole<S: Sink>(sink: &mut S, chronicle: &Chronicle)
-    ensures { Wrote (S.contents sink.old) (S.has_failed sink.old) (text_of chronicle.now) (S.contents sink.new) (S.has_failed sink.new) }
+    ensures { Wrote (S.contents sink.old) (S.has_failed sink.old) (chronicle_text chronicle.now) (S.contents sink.new) (S.has_failed sink.new) }
 {
     let scenario = chronicle.scenario();
     let version = version_by(scenario.patience(), scenario.rule());
@@ -99,8 +73,8 @@ fn put_whole<S: Sink>(sink: &mut S, chronicle: &Chronicle)
 ///
 /// `Write` exactly where the sink has then failed: a beginning of the text went out, nothing where it had failed before.
 pub fn write_chronicle<S: Sink>(chronicle: &Chronicle, sink: &mut S) -> Result<(), TraceError>
-    ensures written { OnOk result (Appends (S.contents sink.old) (S.contents sink.new) (text_of chronicle.now)) }
-    ensures beginning { Wrote (S.contents sink.old) (S.has_failed sink.old) (text_of chronicle.now) (S.contents sink.new) (S.has_failed sink.new) }
+    ensures written { OnOk result (Appends (S.contents sink.old) (S.contents sink.new) (chronicle_text chronicle.now)) }
+    ensures beginning { Wrote (S.contents sink.old) (S.has_failed sink.old) (chronicle_text chronicle.now) (S.contents sink.new) (S.has_failed sink.new) }
     ensures fault { IfErr result (λ e. e ≡ unwritten) }
     ensures exactly { is_err result ≡ S.has_failed sink.new }
 {

@@ -9,13 +9,13 @@ use std::marker::Model;
 
 /// The bytes of a line so far, at most 160. A label's row has fewer: its rank and each of at most 13 orders take 11 bytes at most.
 #[derive(Drop)]
-pub struct Line {
+pub struct LineBuffer {
     bytes: [u8; 160],
     /// How many they are.
     count: usize,
 }
 
-impl Model for Line {
+impl Model for LineBuffer {
     ghost use Rattle.std.specs.Prelude.{◌≡◌, ◌≤◌, ℕ, List, length, take};
 
     ghost Value = { List ℕ };
@@ -25,12 +25,12 @@ impl Model for Line {
     ghost invariant = { λ l. (length l.bytes ≡ 160) × (l.count ≤ 160) };
 }
 
-impl Line {
+impl LineBuffer {
     /// A line of no bytes.
-    pub fn new() -> Line
+    pub fn new() -> LineBuffer
         ensures { result ≡ [] }
     {
-        Line {
+        LineBuffer {
             bytes: [0; 160],
             count: 0,
         }

@@ -5,15 +5,39 @@ use std::alloc::{AllocError, AllocFailed};
 use std::error::Error;
 use std::fmt;
 
-/// Why a text is no schedule or no chronicle of a scenario, with its line, counted from 1, or why one was not written.
+/// What is wrong with a line of a schedule or a chronicle.
+#[derive(Clone, Copy, Debug, PartialEq, Eq, Drop)]
+pub enum Fault {
+    /// A line of no shape.
+    Line,
+    /// A first or second line that is missing or not the scenario's.
+    Scenario,
+    /// Another difference.
+    Differs,
+}
+
+impl fmt::Display for Fault {
+    ghost use Rattle.std.specs.Prelude.{Some};
+    ghost use Rattle.trace.specs.Telling.{code_of};
+
+    ghost output = { λ fault. Some (code_of fault) };
+
+    fn fmt<W: fmt::Write>(&self, f: &mut fmt::Formatter<W>) -> fmt::Result {
+        f.write_str(match self {
+            Fault::Line => "X1",
+            Fault::Scenario => "X2",
+            Fault::Differs => "X3",
+        })
+    }
+}
+
+impl Error for Fault {}
+
+/// Why a text is no schedule or no chronicle of a scenario: the first fault with its line; or why one was not written.
 #[derive(Clone, Copy, Debug, PartialEq, Eq, Drop)]
 pub enum TraceError {
-    /// A line of no shape.
-    Line(u64),
-    /// A first or second line that is missing or not the scenario's.
-    Scenario(u64),
-    /// Another difference.
-    Differs(u64),
+    /// A fault at a line, counted from 1.
+    At(Fault, u64),
     /// The sink has failed.
     Write,
     Memory,
@@ -27,9 +51,7 @@ impl fmt::Display for TraceError {
 
     fn fmt<W: fmt::Write>(&self, f: &mut fmt::Formatter<W>) -> fmt::Result {
         match self {
-            TraceError::Line(line) => write!(f, "X1 line {line}"),
-            TraceError::Scenario(line) => write!(f, "X2 line {line}"),
-            TraceError::Differs(line) => write!(f, "X3 line {line}"),
+            TraceError::At(fault, line) => write!(f, "{fault} line {line}"),
             TraceError::Write => f.write_str("X4"),
             TraceError::Memory => f.write_str("out of memory"),
         }

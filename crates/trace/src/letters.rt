@@ -7,7 +7,7 @@ ghost use Rattle.trace.specs.Sinks.{Wrote};
 ghost use Rattle.trace.specs.Text.{text, row_lines, letter_lines, round_lines, decision_lines};
 ghost use Rattle.trace.specs.Lines.{decided_lines, one_round};
 
-use crate::composing::Line;
+use crate::composing::LineBuffer;
 use crate::lines::{put_accesses, put_author, put_decision, put_round, put_row};
 use crate::sink::Sink;
 use board::Access;
@@ -18,7 +18,7 @@ use round::{Letter, Round, Scenario};
 fn put_rows<S: Sink>(sink: &mut S, outbox: &Outbox)
     ensures { Wrote (S.contents sink.old) (S.has_failed sink.old) (text (row_lines 0 outbox.now.rows)) (S.contents sink.new) (S.has_failed sink.new) }
 {
-    let mut line = Line::new();
+    let mut line = LineBuffer::new();
     for rank in 0..outbox.labels() {
         put_row(sink, &mut line, outbox, rank);
     }
@@ -110,8 +110,7 @@ fn put_decided<S: Sink>(sink: &mut S, scenario: &Scenario, general: u8, decision
 {
     match decision {
         Some(decision) => {
-            let is_traitor = scenario.seat(general).program().is_some();
-            put_decision(sink, general as u32, is_traitor, decision);
+            put_decision(sink, general as u32, scenario.is_traitor(general), decision);
         }
         None => {}
     }
@@ -119,7 +118,9 @@ fn put_decided<S: Sink>(sink: &mut S, scenario: &Scenario, general: u8, decision
 
 /// The lines of the lieutenants' decisions, ascending by number.
 pub fn put_decisions<S: Sink>(sink: &mut S, scenario: &Scenario, decisions: &[u32])
-    ensures { Wrote (S.contents sink.old) (S.has_failed sink.old) (text (decision_lines scenario.now (lieutenants scenario.now.generals scenario.now.commander) decisions.now)) (S.contents sink.new) (S.has_failed sink.new) }
+    ensures { Wrote (S.contents sink.old) (S.has_failed sink.old)
+        (text (decision_lines scenario.now (lieutenants scenario.now.generals scenario.now.commander) decisions.now))
+        (S.contents sink.new) (S.has_failed sink.new) }
 {
     let mut place = 0;
     for general in 0..scenario.generals() {

@@ -16,13 +16,14 @@ mod refusing;
 mod scheduling;
 mod shapes;
 mod sink;
+mod stops;
 mod version;
 mod writing;
 
 pub use auditing::check;
 pub use chronicling::{write_chronicle, write_verdict};
-pub use fault::TraceError;
+pub use fault::{Fault, TraceError};
 pub use laws::{names_are_told, sound_texts_are_runs};
-pub use scheduling::read_schedule;
+pub use scheduling::{MOST_SCHEDULE_BYTES, read_schedule};
 pub use sink::{Latch, Sink};
 pub use version::{Version, version_by};

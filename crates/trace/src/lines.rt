@@ -5,7 +5,7 @@ ghost use Rattle.trace.specs.Sinks.{Wrote};
 ghost use Rattle.trace.specs.Text.{further, text, access_line, place, yes_no, yes_no_none, verdict_line, decision_line};
 ghost use Rattle.trace.specs.Lines.{question, kind, mark, round_line, row_line, author_line};
 
-use crate::composing::Line;
+use crate::composing::LineBuffer;
 use crate::sink::Sink;
 use crate::writing::{put_all, put_headed, put_next};
 use board::Access;
@@ -109,8 +109,9 @@ pub fn put_order<S: Sink>(sink: &mut S, order: Option<u32>)
     }
 }
 
-/// Adds what the receivers of a label were told, by its rank: orders, or dashes for nothing, each behind a space.
-fn add_orders(line: &mut Line, outbox: &Outbox, rank: u32)
+/// Adds what the receivers of a label were told, by its rank: orders, or dashes for nothing, each behind a space. They are
+/// 13 at most, of 11 bytes each: 143 bytes.
+fn add_orders(line: &mut LineBuffer, outbox: &Outbox, rank: u32)
     requires rank { rank < length outbox.now.rows }
     requires room { length line.old + 143 ≤ 160 }
     ensures orders { line.new ≡ line.old ++ further (map place (slice_index_or outbox.now.rows rank [])) }
@@ -124,7 +125,7 @@ fn add_orders(line: &mut Line, outbox: &Outbox, rank: u32)
 }
 
 /// Puts together the line of a label's row: its rank, and what its receivers were told.
-fn compose_row(line: &mut Line, outbox: &Outbox, rank: u32)
+fn compose_row(line: &mut LineBuffer, outbox: &Outbox, rank: u32)
     requires { rank < length outbox.now.rows }
     ensures { line.new ≡ text (row_line rank (slice_index_or outbox.now.rows rank []) ∷ []) }
 {
@@ -136,7 +137,7 @@ fn compose_row(line: &mut Line, outbox: &Outbox, rank: u32)
 }
 
 /// The line of a label's row, put together in this one.
-pub fn put_row<S: Sink>(sink: &mut S, line: &mut Line, outbox: &Outbox, rank: u32)
+pub fn put_row<S: Sink>(sink: &mut S, line: &mut LineBuffer, outbox: &Outbox, rank: u32)
     requires { rank < length outbox.now.rows }
     ensures { Wrote (S.contents sink.old) (S.has_failed sink.old) (text (row_line rank (slice_index_or outbox.now.rows rank []) ∷ [])) (S.contents sink.new) (S.has_failed sink.new) }
 {

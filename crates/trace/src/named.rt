@@ -1,17 +1,16 @@
 //! Who makes the accesses of each round, as a chronicle's text tells it.
-ghost use Rattle.std.specs.Prelude.{◌≡◌, ◌<◌, ◌∷◌, ◌++◌, map, take, IfOk};
+ghost use Rattle.std.specs.Prelude.{◌≡◌, ◌<◌, ◌∷◌, ◌++◌, map, take, option_to_list, IfOk};
 ghost use Rattle.text.specs.Stop.{space, feed};
 ghost use Rattle.text.specs.Parts.{pieces};
 ghost use Rattle.world.specs.Playing.{lists_in};
 ghost use Rattle.trace.specs.Names.{Named, general_of, with_line, named};
-ghost use Rattle.trace.specs.Marks.{all_names, listed, marked};
+ghost use Rattle.trace.specs.Marks.{all_names, marked};
 
 use crate::parting::parted;
 use crate::scheduling::number_within;
+use crate::stops::SPACE;
 use std::alloc::{AllocError, Global};
-use text::{Stop, piece};
-
-const SPACE: Stop = Stop::Byte(b' ');
+use text::piece;
 
 /// What a line says of rounds and accesses.
 #[derive(Clone, Copy, Debug, PartialEq, Eq)]
@@ -27,7 +26,7 @@ enum Mark {
 /// The general of a number.
 #[tactic(auto, using(crate::proofs::Generals::general_none))]
 fn general(word: &[u8]) -> Option<u8>
-    ensures { listed result ≡ general_of word.now }
+    ensures { option_to_list result ≡ general_of word.now }
 {
     Some(number_within(0, 12, word)? as u8)
 }

@@ -2,7 +2,7 @@
 ghost use Rattle.std.specs.Prelude.{◌≡◌, ◌≤◌, ◌==◌, count_by, length};
 ghost use Rattle.trace.specs.Audit.{differing, fault_at, line_at};
 
-use crate::fault::TraceError;
+use crate::fault::{Fault, TraceError};
 use crate::shapes::unshaped;
 
 /// How many line feeds stand in a text.
@@ -26,13 +26,13 @@ fn line_at(text: &[u8], place: usize) -> u64
 }
 
 /// A first or second line that differs is not the scenario's.
-fn differing(line: u64) -> TraceError
+fn differing(line: u64) -> Fault
     ensures { result ≡ differing line }
 {
     if line <= 2 {
-        TraceError::Scenario(line)
+        Fault::Scenario
     } else {
-        TraceError::Differs(line)
+        Fault::Differs
     }
 }
 
@@ -43,7 +43,10 @@ pub fn refusal(text: &[u8], place: usize) -> TraceError
     ensures { result ≡ fault_at text.now place }
 {
     match unshaped(text) {
-        Some(line) => TraceError::Line(line),
-        None => differing(line_at(text, place)),
+        Some(line) => TraceError::At(Fault::Line, line),
+        None => {
+            let line = line_at(text, place);
+            TraceError::At(differing(line), line)
+        }
     }
 }

@@ -4,17 +4,16 @@ ghost use Rattle.text.specs.Parts.{pieces, lines_of};
 ghost use Rattle.trace.specs.declared.fault.TraceError.TheVariants.{Memory};
 ghost use Rattle.trace.specs.Schedules.{star, number_within, entry_of, entries_told, line_told, schedule_lines_told, schedule_told};
 
-use crate::fault::TraceError;
+use crate::fault::{Fault, TraceError};
+use crate::stops::SPACE;
 use std::alloc::{AllocError, Global};
 use text::{Stop, decimal, line, piece};
 use world::{Entries, Repeat, Schedule};
 
-const SPACE: Stop = Stop::Byte(b' ');
-
 const STAR: Stop = Stop::Byte(b'*');
 
 /// The most bytes of a schedule.
-const MOST_BYTES: usize = 1_048_576;
+pub const MOST_SCHEDULE_BYTES: usize = 1_048_576;
 
 /// The most lines of a schedule: one for each round.
 const MOST_LINES: u64 = 5;
@@ -82,18 +81,18 @@ pub fn read_schedule(alloc: Global, text: &str) -> Result<Schedule, TraceError>
     ensures told { IfOk result (λ s. schedule_told text.now ≡ Ok s) }
     ensures fault { IfErr result (λ e. e ≢ Memory → schedule_told text.now ≡ Err e) }
 {
-    if text.len() > MOST_BYTES {
-        return Err(TraceError::Line(1));
+    if text.len() > MOST_SCHEDULE_BYTES {
+        return Err(TraceError::At(Fault::Line, 1));
     }
     let mut lines = Vec::new(alloc);
     let mut rest = text.as_bytes();
     let mut number = 1;
     while let Some((next, behind)) = line(rest) {
         let Some(entries) = entries(alloc, next)? else {
-            return Err(TraceError::Line(number));
+            return Err(TraceError::At(Fault::Line, number));
         };
         if number > MOST_LINES {
-            return Err(TraceError::Line(number));
+            return Err(TraceError::At(Fault::Line, number));
         }
         lines.push(entries)?;
         rest = behind;

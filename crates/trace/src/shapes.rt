@@ -4,13 +4,11 @@ ghost use Rattle.std.specs.List.{list_all};
 ghost use Rattle.text.specs.Stop.{space, feed};
 ghost use Rattle.text.specs.Parts.{pieces};
 ghost use Rattle.trace.specs.Left.{left};
-ghost use Rattle.trace.specs.Shapes.{are_places, behind, behind_shape, fits, is_access, is_copied, is_count, is_end, is_head, is_number, is_place, is_shaped, is_told, is_yes_no, stands_for, unshaped_from};
+ghost use Rattle.trace.specs.Shapes.{are_places, behind, behind_shape, fits, is_access, is_copied, is_count, is_end};
+ghost use Rattle.trace.specs.Shapes.{is_head, is_number, is_place, is_shaped, is_told, is_yes_no, stands_for, unshaped_from};
 
-use text::{Stop, decimal, piece};
-
-const SPACE: Stop = Stop::Byte(b' ');
-
-const FEED: Stop = Stop::Byte(b'\n');
+use crate::stops::{FEED, SPACE};
+use text::{decimal, piece};
 
 /// Whether a word is a number, or a dash for nothing.
 fn is_place(word: &[u8]) -> bool

@@ -3,7 +3,7 @@ use Rattle.std.proofs.Common.{ℕ, zero, suc, ◌+◌, ◌-◌, ◌<◌, ◌≤�
 use Rattle.std.specs.Prelude.{slice_get, Vec, unwrap_or, option_map}
 use Rattle.std.specs.declared.alloc.Global.{Global}
 use Rattle.std.proofs.lemmas.List.{length-map, map-append}
-use Rattle.std.proofs.lemmas.Option.{slice_get-map, slice_get-get_or, slice_get_within}
+use Rattle.std.proofs.lemmas.Option.{slice_get-map, slice_get-get_or, slice_get_within, get_or_from_slice_get}
 use Rattle.label.specs.Labels.{labels}
 use Rattle.label.specs.Oral.{Messages}
 use Rattle.label.specs.Space.{labels_of, IsSpace}
@@ -64,9 +64,6 @@ row-long s m ls k row w some short e = ap length (row-told s m ls w.M k row w w.
 -- what stands at the rank of a label
 pub told-at : (n c p k r : ℕ) (M : Messages) (w : List ℕ) (vs : List (Option ℕ)) → vs ≡ level_told n c p M k → slice_get (labels n c p k) r ≡ Some w → slice_get vs r ≡ Some (M w p)
 told-at n c p k r M w vs e at = ap (λ xs. slice_get xs r) e ∙ (slice_get-map (λ u. M u p) (labels n c p k) r ∙ ap (option_map (λ u. M u p)) at)
-
-pub read-at : {A : Type 0} (vs : List A) (r : ℕ) (v d : A) → slice_get vs r ≡ Some v → get_or vs r d ≡ v
-read-at vs r v d e = same_some (slice_get-get_or vs r d (slice_get_within vs r v e)) e
 
 pub levels-none : (n c p : ℕ) (M : Messages) (ls : List (Vec (Option ℕ) Global)) → ls ≡ [] → map (λ l. l.items) ls ≡ levels_from n c p M 1 0
 unfolding levels_from

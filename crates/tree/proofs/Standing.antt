@@ -2,7 +2,7 @@
 use Rattle.std.proofs.Common.{ℕ, ◌+◌, ◌-◌, ◌<◌, ◌≤◌, ◌≡◌, List, [], length, map, get_or, sym, ap, ◌∙◌, arith, Some, None, Option}
 use Rattle.std.specs.Prelude.{slice_get, Vec}
 use Rattle.std.specs.declared.alloc.Global.{Global}
-use Rattle.std.proofs.lemmas.Option.{slice_get_within, slice_get-get_or}
+use Rattle.std.proofs.lemmas.Option.{slice_get_within, slice_get-get_or, get_or_from_slice_get}
 use Rattle.std.proofs.lemmas.List.{with_items_is, length-set}
 use Rattle.std.proofs.Math.ListN.{set}
 use Rattle.std.specs.Vec.{with_items}
@@ -14,7 +14,7 @@ use Rattle.label.proofs.Listing.{proved_labels_are_exact, proved_labels_differ}
 use Rattle.tree.specs.LieutenantTree.{IsPlace, IsFilled, level_told, told_also}
 use Rattle.tree.specs.Fields.{kept, IsFilledBySome}
 use Rattle.tree.proofs.Also.{levels-set, levels-away, row-set}
-use Rattle.tree.proofs.Levels.{row-told, row-long, told-at, read-at}
+use Rattle.tree.proofs.Levels.{row-told, row-long, told-at}
 
 pub placed : (s : Space) (m : ℕ) (ls : List (Vec (Option ℕ) Global)) (w : List ℕ) (r : ℕ) → IsSpace s → length w ≤ m + 1 → HasRank s w r → IsPlace (kept s m ls) w
 placed s m ls w r is short e =
@@ -37,7 +37,7 @@ row-within s m ls w k r row i e some short er at =
 -- what is read there was told
 pub row-read : (s : Space) (m : ℕ) (ls : List (Vec (Option ℕ) Global)) (M : Messages) (w : List ℕ) (k r : ℕ) (row : Vec (Option ℕ) Global) → IsFilledBySome s m ls → IsFilled (kept s m ls) M → k ≡ length w → 0 < k → k ≤ m + 1 → row ≡ get_or ls (k - 1) row → HasRank s w r → get_or row.items r None ≡ M w s.general
 row-read s m ls M w k r row i f e some short er at =
-    read-at row.items r (M w s.general) None (told-at s.generals s.commander s.general k r M w row.items (row-told s m ls M k row i f some short er) (rw e at))
+    get_or_from_slice_get row.items r (M w s.general) None (told-at s.generals s.commander s.general k r M w row.items (row-told s m ls M k row i f some short er) (rw e at))
 
 with-row : (row : Vec (Option ℕ) Global) (xs : List (Option ℕ)) (r : ℕ) (v : Option ℕ) → xs ≡ row.items → (with_items row (set xs r v)).items ≡ set xs r v
 with-row row xs r v e = with_items_is row (set xs r v) (let l : length xs ≡ length row.items = ap length e in let o = row.ok in omega (arith, length-set xs r v))

@@ -134,7 +134,9 @@ impl Tree {
         requires some { 0 < size }
         requires short { size ≤ self.old.bound + 1 }
         requires within { rank < length (labels self.old.generals self.old.commander self.old.general size) }
-        ensures filled { (M : Messages) (w : List ℕ) → IsFilled self.old M → slice_get (labels self.old.generals self.old.commander self.old.general size) rank ≡ Some w → IsFilled self.new (told_also M w value) }
+        ensures filled { (M : Messages) (w : List ℕ) → IsFilled self.old M
+            → slice_get (labels self.old.generals self.old.commander self.old.general size) rank ≡ Some w
+            → IsFilled self.new (told_also M w value) }
         ensures same { SameCampaign self.old self.new }
     {
         let row = self.levels[(size - 1) as usize].as_mut_slice();
@@ -154,7 +156,9 @@ impl Tree {
         requires short { size ≤ self.old.bound + 1 }
         requires within { first + count ≤ length (labels self.old.generals self.old.commander self.old.general size) }
         requires callable { (place : ℕ) → place < count → F.pre value place }
-        ensures filled { (values : List (Option ℕ)) × AreAnswers (F.post value) count values × ((M : Messages) → IsFilled self.old M → IsFilled self.new (told_run M (drop first (labels self.old.generals self.old.commander self.old.general size)) values)) }
+        ensures filled { (values : List (Option ℕ)) × AreAnswers (F.post value) count values
+            × ((M : Messages) → IsFilled self.old M
+            → IsFilled self.new (told_run M (drop first (labels self.old.generals self.old.commander self.old.general size)) values)) }
         ensures same { SameCampaign self.old self.new }
     {
         write_run(

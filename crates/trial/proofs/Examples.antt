@@ -14,6 +14,7 @@ use Rattle.semantics.specs.Execution.{step}
 use Rattle.round.specs.Contexts.{context_bytes}
 use Rattle.semantics.specs.Relay.{oral}
 use Rattle.trial.specs.declared.place.Name.TheVariants as names
+use Rattle.trial.specs.declared.place.Place.{Place}
 use Rattle.trial.specs.declared.place.Place.TheVariants as places
 use Rattle.trial.specs.declared.fault.Fault.{Fault}
 use Rattle.trial.specs.declared.fault.Fault.TheVariants as faults
@@ -44,8 +45,8 @@ printed = refl
 read_of : List (List ℕ) → Option (Result Setting Flaw)
 read_of lines = option_map setting (parse_document (flat_map (λ l. l ++ 10 ∷ []) lines))
 
-stops : Fault → Option (Result Setting Flaw)
-stops fault = Some (Err (faulty fault))
+stops : Fault → Place → Option (Result Setting Flaw)
+stops fault place = Some (Err (faulty fault place))
 
 whole : read_of (codes "generals = 5" ∷ codes "bound = 2" ∷ codes "commander = 0" ∷ codes "general = 2" ∷ codes "round = 3" ∷ codes "taken = [1, 0, 1]" ∷ []) ≡ Some (Ok told)
 unfolding told read_of toml_on_literals setting number general over orders taken labels
@@ -63,7 +64,8 @@ commanding : read_of (codes "generals = 4" ∷ codes "bound = 1" ∷ codes "comm
 unfolding read_of toml_on_literals setting number general over orders taken labels
 commanding = refl
 
-relays_nothing : read_of (codes "generals = 4" ∷ codes "bound = 1" ∷ codes "commander = 3" ∷ codes "general = 3" ∷ codes "round = 2" ∷ codes "taken = [9]" ∷ []) ≡ stops (faults.Range (places.Key names.Taken))
+relays_nothing : read_of (codes "generals = 4" ∷ codes "bound = 1" ∷ codes "commander = 3" ∷ codes "general = 3" ∷ codes "round = 2" ∷ codes "taken = [9]" ∷ [])
+    ≡ stops faults.Range (places.Key names.Taken)
 unfolding read_of stops toml_on_literals setting number general over orders taken labels
 relays_nothing = refl
 
@@ -72,41 +74,44 @@ least_key : read_of (codes "zeta = 1" ∷ codes "alpha = 2" ∷ codes "generals 
 unfolding read_of toml_on_literals setting number general over orders taken labels
 least_key = refl
 
-too_many : read_of (codes "generals = 14" ∷ []) ≡ stops (faults.Range (places.Key names.Generals))
+too_many : read_of (codes "generals = 14" ∷ []) ≡ stops faults.Range (places.Key names.Generals)
 unfolding read_of stops toml_on_literals setting number general over orders taken labels
 too_many = refl
 
 -- there is no such general, below 0 and past the last alike
-below_the_first : read_of (codes "generals = 4" ∷ codes "bound = 1" ∷ codes "commander = -1" ∷ []) ≡ stops (faults.General (places.Key names.Commander))
+below_the_first : read_of (codes "generals = 4" ∷ codes "bound = 1" ∷ codes "commander = -1" ∷ []) ≡ stops faults.General (places.Key names.Commander)
 unfolding read_of stops toml_on_literals setting number general over orders taken labels
 below_the_first = refl
 
-past_the_last : read_of (codes "generals = 4" ∷ codes "bound = 1" ∷ codes "commander = 0" ∷ codes "general = 4" ∷ []) ≡ stops (faults.General (places.Key names.General))
+past_the_last : read_of (codes "generals = 4" ∷ codes "bound = 1" ∷ codes "commander = 0" ∷ codes "general = 4" ∷ []) ≡ stops faults.General (places.Key names.General)
 unfolding read_of stops toml_on_literals setting number general over orders taken labels
 past_the_last = refl
 
 -- there is one round more than the bound
-no_round : read_of (codes "generals = 4" ∷ codes "bound = 1" ∷ codes "commander = 0" ∷ codes "general = 1" ∷ codes "round = 3" ∷ []) ≡ stops (faults.Range (places.Key names.Round))
+no_round : read_of (codes "generals = 4" ∷ codes "bound = 1" ∷ codes "commander = 0" ∷ codes "general = 1" ∷ codes "round = 3" ∷ []) ≡ stops faults.Range (places.Key names.Round)
 unfolding read_of stops toml_on_literals setting number general over orders taken labels
 no_round = refl
 
-roundless : read_of (codes "generals = 4" ∷ codes "bound = 1" ∷ codes "commander = 0" ∷ codes "general = 1" ∷ codes "taken = 7" ∷ []) ≡ stops (faults.Key (places.Key names.Round))
+roundless : read_of (codes "generals = 4" ∷ codes "bound = 1" ∷ codes "commander = 0" ∷ codes "general = 1" ∷ codes "taken = 7" ∷ []) ≡ stops faults.Key (places.Key names.Round)
 unfolding read_of stops toml_on_literals setting number general over orders taken labels
 roundless = refl
 
 -- of the orders taken first their number, then each in its turn
-too_long : read_of (codes "generals = 4" ∷ codes "bound = 1" ∷ codes "commander = 0" ∷ codes "general = 1" ∷ codes "round = 2" ∷ codes "taken = [true, 2]" ∷ []) ≡ stops (faults.Range (places.Key names.Taken))
+too_long : read_of (codes "generals = 4" ∷ codes "bound = 1" ∷ codes "commander = 0" ∷ codes "general = 1" ∷ codes "round = 2" ∷ codes "taken = [true, 2]" ∷ [])
+    ≡ stops faults.Range (places.Key names.Taken)
 unfolding read_of stops toml_on_literals setting number general over orders taken labels
 too_long = refl
 
-no_order : read_of (codes "generals = 5" ∷ codes "bound = 2" ∷ codes "commander = 0" ∷ codes "general = 2" ∷ codes "round = 3" ∷ codes "taken = [1, -1, true]" ∷ []) ≡ stops (faults.Range (places.Order 1))
+no_order : read_of (codes "generals = 5" ∷ codes "bound = 2" ∷ codes "commander = 0" ∷ codes "general = 2" ∷ codes "round = 3" ∷ codes "taken = [1, -1, true]" ∷ [])
+    ≡ stops faults.Range (places.Order 1)
 unfolding read_of stops toml_on_literals setting number general over orders taken labels
 no_order = refl
 
-order_of_truth : read_of (codes "generals = 5" ∷ codes "bound = 2" ∷ codes "commander = 0" ∷ codes "general = 2" ∷ codes "round = 3" ∷ codes "taken = [1, 4294967295, true]" ∷ []) ≡ stops (faults.Kind (places.Order 2))
+order_of_truth : read_of (codes "generals = 5" ∷ codes "bound = 2" ∷ codes "commander = 0" ∷ codes "general = 2" ∷ codes "round = 3" ∷ codes "taken = [1, 4294967295, true]" ∷ [])
+    ≡ stops faults.Kind (places.Order 2)
 unfolding read_of stops toml_on_literals setting number general over orders taken labels
 order_of_truth = refl
 
-no_list : read_of (codes "generals = 5" ∷ codes "bound = 2" ∷ codes "commander = 0" ∷ codes "general = 2" ∷ codes "round = 3" ∷ codes "taken = 1" ∷ []) ≡ stops (faults.Kind (places.Key names.Taken))
+no_list : read_of (codes "generals = 5" ∷ codes "bound = 2" ∷ codes "commander = 0" ∷ codes "general = 2" ∷ codes "round = 3" ∷ codes "taken = 1" ∷ []) ≡ stops faults.Kind (places.Key names.Taken)
 unfolding read_of stops toml_on_literals setting number general over orders taken labels
 no_list = refl

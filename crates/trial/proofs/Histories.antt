@@ -18,8 +18,9 @@ use Rattle.board.proofs.Serving.{reply_fits, next_board}
 use Rattle.round.specs.Activation.{Activation, turned}
 use Rattle.round.specs.Runs.{Onward, Runs, AreFitting}
 use Rattle.round.specs.Running.{AreAccessesOf}
+use Rattle.round.proofs.Onwards.{all_none}
 use Rattle.trial.specs.Trial.{Ending, served, ending, trial}
-use Rattle.trial.specs.Laws.{IsRun}
+use Rattle.trial.specs.Laws.{IsGeneralsRun}
 
 -- where it stands, as an activation without a patience
 abbrev here : List Insn → List ℕ → Relay → State → Activation
@@ -37,9 +38,6 @@ record Went (program : List Insn) (context : List ℕ) (relay : Relay) (words : 
   exit : step program context relay last ≡ Exit e.r0 e.state
   legal : IsLegal words ledger
   left : e.words ≡ words_after words ledger
-
-own_none : (general round : ℕ) → AreAccessesOf general round []
-own_none general round k d lt = absurd (omega arith)
 
 own_more : (general round : ℕ) (a : Access) (ledger : List Access) → (a.general ≡ general) × (a.round ≡ round) → AreAccessesOf general round ledger → AreAccessesOf general round (a ∷ ledger)
 own_more general round a ledger h all zero d lt = h
@@ -83,7 +81,7 @@ went_exits program context relay words s t r0 e is same = subst (λ (f : Ending)
   last = s;
   steps = 0;
   run = (refl, refl);
-  own = own_none relay.shape.general relay.shape.round;
+  own = all_none relay.shape.general relay.shape.round;
   fitting = tt;
   exit = is;
   legal = tt;
@@ -106,7 +104,7 @@ went program context relay (suc k) words s e board is = by (λ left t kept rest.
 zeros : IsBoard (replicate 64 0)
 zeros = record { long = refl; each = All-replicate (λ word. word < 2 ^ 64) 64 0 (omega arith) }
 
-pub trial_is_run : (program : List Insn) (context : List ℕ) (relay : Relay) (e : Ending) → trial program context relay ≡ Some e → IsRun program context relay e
+pub trial_is_run : (program : List Insn) (context : List ℕ) (relay : Relay) (e : Ending) → trial program context relay ≡ Some e → IsGeneralsRun program context relay e
 trial_is_run program context relay e is =
     let w = went program context relay (length program) (replicate 64 0) (entry (empty_outbox relay)) e zeros is in
     record {

@@ -8,13 +8,12 @@ use Rattle.semantics.specs.State.{State, Outcome, Next, Ask, Exit, entry}
 use Rattle.semantics.specs.Outbox.{empty_outbox}
 use Rattle.semantics.specs.Call.{resumed}
 use Rattle.semantics.specs.Execution.{step}
-use Rattle.semantics.specs.Run.{IsSound, Exited, after}
+use Rattle.semantics.specs.Run.{IsSound}
 use Rattle.semantics.specs.Whole.{CountsOnce}
 use Rattle.semantics.proofs.StepLaws.{step_counts, resumed_counts}
 use Rattle.board.specs.Board.{reply, next}
 use Rattle.board.specs.Ledger.{RecordedBoard}
-use Rattle.machine.specs.declared.pause.Ended.{Ended}
-use Rattle.machine.specs.Standing.{Standing, Asking}
+use Rattle.machine.specs.Standing.{Standing, before}
 use Rattle.machine.specs.Advance.{IsOfRun, Leads, Requests, Exits}
 use Rattle.machine.proofs.AdvanceLemmas.{fewer}
 use Rattle.trial.specs.Trial.{Ending, served, ending, trial}
@@ -71,62 +70,51 @@ ending_leads program context relay (suc n) words s t (u, is, more) lt =
     ∙ ending_leads program context relay n words u t more lt)
 
 -- it goes on from the board's answer
-pub serves_on : (program : List Insn) (context : List ℕ) (relay : Relay) (limit : ℕ) (a t : Standing) (b d : RecordedBoard) (request : Request) (w : Asking) (words : List ℕ) (s : IsServing program context relay a b) → limit ≤ length program →
-    Requests program context a.relay s.of_run.answers limit a.state request w → t.relay ≡ w.relay → t.state ≡ resumed w.request words w.state → IsOfRun program context t →
+pub serves_on : (program : List Insn) (context : List ℕ) (relay : Relay) (limit : ℕ) (a v t : Standing) (b d : RecordedBoard) (request : Request) (words : List ℕ) (s : IsServing program context relay a b) → limit ≤ length program →
+    Requests program context a.relay s.of_run.answers limit a.state request v → t.relay ≡ v.relay → t.state ≡ resumed request words v.state → IsOfRun program context t →
     words ≡ reply b.words request → d.words ≡ next b.words request → IsServing program context relay t d
-serves_on program context relay limit a t b d request w words s few r same is run answer left =
+serves_on program context relay limit a v t b d request words s few r same is run answer left =
     let most = length program in
-    let leads : Leads program context relay r.taken a.state w.last = subst (λ (own : Relay). Leads program context own r.taken a.state w.last) s.relay_kept r.leads in
-    let asks : step program context relay w.last ≡ Ask request w.state = ap (λ (own : Relay). step program context own w.last) (sym s.relay_kept) ∙ r.asks in
-    let on : t.state ≡ resumed request (reply b.words request) w.state = is ∙ (ap (λ (q : Request). resumed q words w.state) r.same ∙ ap (λ (l : List ℕ). resumed request l w.state) answer) in
-    let last : w.last.steps < most = (let h = r.before in omega arith) in
-    let counted : w.state.steps ≡ w.last.steps + 1 = r.counted in
-    let kept : t.state.steps ≡ w.state.steps = ap (λ (u : State). u.steps) is ∙ resumed_counts w.request words w.state in
-    let fewer_left : most - w.last.steps ≡ suc (most - t.state.steps) = omega arith in
+    let last = before v.state in
+    let leads : Leads program context relay r.taken a.state last = subst (λ (own : Relay). Leads program context own r.taken a.state last) s.relay_kept r.leads in
+    let asks : step program context relay last ≡ Ask request v.state = ap (λ (own : Relay). step program context own last) (sym s.relay_kept) ∙ r.asks in
+    let on : t.state ≡ resumed request (reply b.words request) v.state = is ∙ ap (λ (l : List ℕ). resumed request l v.state) answer in
+    let asked : 0 < v.state.steps = r.counted in
+    let early : v.state.steps - 1 < most = (let h = r.early in omega arith) in
+    let kept : t.state.steps ≡ v.state.steps = ap (λ (u : State). u.steps) is ∙ resumed_counts request words v.state in
+    let fewer_left : most - (v.state.steps - 1) ≡ suc (most - t.state.steps) = omega arith in
     record {
       of_run = run;
       relay_kept = same ∙ (r.relay_kept ∙ s.relay_kept);
       rest = (
           ap (λ (ws : List ℕ). ending program context relay (most - t.state.steps) ws t.state) left
           ∙ (ap (λ (u : State). ending program context relay (most - t.state.steps) (next b.words request) u) on
-          ∙ (sym (ending_asks program context relay (most - t.state.steps) b.words w.last w.state request asks)
-          ∙ (ap (λ (k : ℕ). ending program context relay k b.words w.last) (sym fewer_left)
-          ∙ (sym (ending_leads program context relay r.taken b.words a.state w.last leads last) ∙ s.rest))))
+          ∙ (sym (ending_asks program context relay (most - t.state.steps) b.words last v.state request asks)
+          ∙ (ap (λ (k : ℕ). ending program context relay k b.words last) (sym fewer_left)
+          ∙ (sym (ending_leads program context relay r.taken b.words a.state last leads early) ∙ s.rest))))
           );
     }
 
 -- each answer leaves fewer steps
-pub goes_further : (program : List Insn) (context : List ℕ) (limit : ℕ) (answers : List (List ℕ)) (a t : Standing) (request : Request) (w : Asking) (words : List ℕ) → IsSound program → IsOfRun program context a →
-    Requests program context a.relay answers limit a.state request w → t.state ≡ resumed w.request words w.state → length program - t.state.steps < length program - a.state.steps
-goes_further program context limit answers a t request w words sound run r is =
+pub goes_further : (program : List Insn) (context : List ℕ) (limit : ℕ) (answers : List (List ℕ)) (a v t : Standing) (request : Request) (words : List ℕ) → IsSound program → IsOfRun program context a →
+    Requests program context a.relay answers limit a.state request v → t.state ≡ resumed request words v.state → length program - t.state.steps < length program - a.state.steps
+goes_further program context limit answers a v t request words sound run r is =
     let less : a.state.steps < length program = fewer program context a sound run in
-    let on : a.state.steps ≤ w.last.steps = leads_counts program context a.relay r.taken a.state w.last r.leads in
-    let counted : w.state.steps ≡ w.last.steps + 1 = r.counted in
-    let same : t.state.steps ≡ w.state.steps = ap (λ (u : State). u.steps) is ∙ resumed_counts w.request words w.state in
+    let on : a.state.steps ≤ v.state.steps - 1 = leads_counts program context a.relay r.taken a.state (before v.state) r.leads in
+    let asked : 0 < v.state.steps = r.counted in
+    let same : t.state.steps ≡ v.state.steps = ap (λ (u : State). u.steps) is ∙ resumed_counts request words v.state in
     omega arith
 
 -- the exit
-pub served_to : (program : List Insn) (context : List ℕ) (relay : Relay) (limit r0 : ℕ) (a new : Standing) (b : RecordedBoard) (ended : Ended) (s : IsServing program context relay a b) → limit ≤ length program →
-    Exits program context a.relay s.of_run.answers limit a.state ended → ended.steps ≡ new.state.steps → after program context a.relay s.of_run.answers new.state.steps ≡ Exited r0 new.state
-    → trial program context relay ≡ Some (record { r0 = r0; state = new.state; words = b.words })
-served_to program context relay limit r0 a new b ended s few e count stands =
+pub served_to : (program : List Insn) (context : List ℕ) (relay : Relay) (limit r0 : ℕ) (a new : Standing) (b : RecordedBoard) (s : IsServing program context relay a b) → limit ≤ length program →
+    Exits program context a.relay s.of_run.answers limit a.state r0 new → trial program context relay ≡ Some (record { r0 = r0; state = new.state; words = b.words })
+served_to program context relay limit r0 a new b s few e =
     let most = length program in
     let leads : Leads program context relay e.taken a.state e.last = subst (λ (own : Relay). Leads program context own e.taken a.state e.last) s.relay_kept e.leads in
-    let exit : step program context relay e.last ≡ Exit e.r0 e.out = ap (λ (own : Relay). step program context own e.last) (sym s.relay_kept) ∙ e.exit in
-    let last : e.last.steps < most = (let h = e.before in omega arith) in
+    let exit : step program context relay e.last ≡ Exit r0 new.state = ap (λ (own : Relay). step program context own e.last) (sym s.relay_kept) ∙ e.exit in
+    let early : e.last.steps < most = (let h = e.early in omega arith) in
     let one : most - e.last.steps ≡ suc (most - e.last.steps - 1) = omega arith in
-    let both : Exited e.r0 e.out ≡ Exited r0 new.state = sym e.run ∙ (ap (λ (n : ℕ). after program context a.relay s.of_run.answers n) count ∙ stands) in
     sym s.rest
-    ∙ (ending_leads program context relay e.taken b.words a.state e.last leads last
+    ∙ (ending_leads program context relay e.taken b.words a.state e.last leads early
     ∙ (ap (λ (k : ℕ). ending program context relay k b.words e.last) one
-    ∙ (ending_exits program context relay (most - e.last.steps - 1) b.words e.last e.out e.r0 exit
-    ∙ same_end e.r0 r0 e.out new.state b.words both)))
-  where
-    ended_so : ℕ → State → List ℕ → Option Ending
-    ended_so n s words = Some (record { r0 = n; state = s; words = words })
-
-    same_end : (m n : ℕ) (s t : State) (words : List ℕ) → Exited m s ≡ Exited n t → ended_so m s words ≡ ended_so n t words
-    same_end m n s t words e =
-        let numbers : m ≡ n = (let h = e in cc) in
-        let states : s ≡ t = (let h = e in cc) in
-        ap (λ (k : ℕ). ended_so k s words) numbers ∙ ap (λ (u : State). ended_so n u words) states
+    ∙ ending_exits program context relay (most - e.last.steps - 1) b.words e.last new.state r0 exit))

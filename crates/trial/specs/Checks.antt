@@ -23,26 +23,26 @@ known None = Ok tt
 known (Some k) = Err (unknown k)
 
 abbrev pub required : Place → Option Data → Result Data Flaw
-required s None = Err (faulty (faults.Key s))
+required s None = Err (faulty faults.Key s)
 required s (Some d) = Ok d
 
 abbrev pub whole : Place → Data → Result ℤ Flaw
-whole s d = ok_or (as_integer d) (faulty (faults.Kind s))
+whole s d = ok_or (as_integer d) (faulty faults.Kind s)
 
-abbrev pub natural : Flaw → ℤ → Result ℕ Flaw
-natural f (pos n) = Ok n
-natural f (negsuc n) = Err f
+abbrev pub natural : Fault → Place → ℤ → Result ℕ Flaw
+natural f s (pos n) = Ok n
+natural f s (negsuc n) = Err (faulty f s)
 
-abbrev pub test : Bool → Fault → Result (Unit {0}) Flaw
-test b f = cond b (Ok tt) (Err (faulty f))
+abbrev pub test : Bool → Fault → Place → Result (Unit {0}) Flaw
+test b f s = cond b (Ok tt) (Err (faulty f s))
 
 -- a number between two others
 unfoldable pub number : Place → ℕ → ℕ → Option Data → Result ℕ Flaw
 number s least most o = do
   d ← required s o
   z ← whole s d
-  n ← natural (faulty (faults.Range s)) z
-  within ← test (nat_le least n && nat_le n most) (faults.Range s)
+  n ← natural faults.Range s z
+  within ← test (nat_le least n && nat_le n most) faults.Range s
   Ok n
 
 -- one of n generals
@@ -50,8 +50,8 @@ unfoldable pub general : Place → ℕ → Option Data → Result ℕ Flaw
 general s n o = do
   d ← required s o
   z ← whole s d
-  g ← natural (faulty (faults.General s)) z
-  within ← test (nat_lt g n) (faults.General s)
+  g ← natural faults.General s z
+  within ← test (nat_lt g n) faults.General s
   Ok g
 
 -- one item after the other, from place i on
@@ -69,12 +69,12 @@ items_length (item d ds) = suc (items_length ds)
 
 -- the items of an array
 abbrev pub elements : Place → Data → Result Items Flaw
-elements s d = ok_or (as_array d) (faulty (faults.Kind s))
+elements s d = ok_or (as_array d) (faulty faults.Kind s)
 
 -- at most as many orders as labels; RETREAT for those of further ranks
 unfoldable pub orders : ℕ → Items → Result (List ℕ) Flaw
 orders labels ds = do
-  few ← test (nat_le (items_length ds) labels) (faults.Range (places.Key names.Taken))
+  few ← test (nat_le (items_length ds) labels) faults.Range (places.Key names.Taken)
   over set_order 0 (replicate labels 0) ds
 
 -- the orders taken for so many labels

@@ -1,5 +1,6 @@
 -- The first fault of a setting's keys, and how an answer tells it (own).
 use Rattle.std.specs.Prelude.{◌≡◌, ℕ, List, Result, Ok, Err, string_bytes}
+use Rattle.trial.specs.declared.place.Place.{Place}
 use Rattle.trial.specs.declared.fault.Fault.{Fault}
 use Rattle.trial.specs.declared.fault.SettingError.{SettingError}
 use Rattle.trial.specs.declared.fault.SettingError.TheVariants as errors
@@ -7,7 +8,7 @@ use Rattle.trial.specs.declared.fault.SettingError.TheVariants as errors
 -- an unknown key, or a fault at a place
 pub data Flaw : Type 0 where
   unknown : List ℕ → Flaw
-  faulty : Fault → Flaw
+  faulty : Fault → Place → Flaw
 
 -- one check behind another that found no fault
 infixl 10 ◌>>=◌
@@ -19,7 +20,7 @@ abbrev pub ◌>>=◌ : {A B : Type 0} → Result A Flaw → (A → Result B Flaw
 abbrev pub Fails : {Y : Type 0} → SettingError → Result Y Flaw → Type 0
 Fails errors.Memory read = Unit {0}
 Fails (errors.Unknown key) read = read ≡ Err (unknown (string_bytes key))
-Fails (errors.Fault fault) read = read ≡ Err (faulty fault)
+Fails (errors.At fault place) read = read ≡ Err (faulty fault place)
 Fails errors.Toml read = ⊥
 
 -- the answer, seen by view, is what the checks give

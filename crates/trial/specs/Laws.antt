@@ -11,12 +11,12 @@ use Rattle.round.specs.Activation.{Activation, started}
 use Rattle.round.specs.Running.{IsOnWay}
 use Rattle.round.specs.Scenario.{Scenario, IsScenario, shape_of}
 use Rattle.round.specs.Letters.{Letter}
-use Rattle.round.specs.Contexts.{context_of, value_of}
+use Rattle.round.specs.Contexts.{context_of, took}
 use Rattle.trial.specs.Setting.{Setting, IsTold, context_in}
 use Rattle.trial.specs.Trial.{Ending, trial}
 
 -- a general's run of the program, by just these accesses, which are a legal history of a board of zeros and leave these words, has come to where its step is this exit
-pub record IsRun (program : List Insn) (context : List ℕ) (relay : Relay) (e : Ending) : Type 0 where
+pub record IsGeneralsRun (program : List Insn) (context : List ℕ) (relay : Relay) (e : Ending) : Type 0 where
   pub ledger : List Access
   pub last : Activation
   pub way : IsOnWay relay.shape.general relay.shape.round (started None program context relay) last ledger
@@ -26,7 +26,7 @@ pub record IsRun (program : List Insn) (context : List ℕ) (relay : Relay) (e :
   pub left : e.words ≡ words_after (replicate 64 0) ledger
 
 abbrev pub TrialsAreRuns : Type 0
-TrialsAreRuns = (program : List Insn) (context : List ℕ) (relay : Relay) (e : Ending) → trial program context relay ≡ Some e → IsRun program context relay e
+TrialsAreRuns = (program : List Insn) (context : List ℕ) (relay : Relay) (e : Ending) → trial program context relay ≡ Some e → IsGeneralsRun program context relay e
 
 -- whatever it is told, a sound program's trial ends
 abbrev pub TrialsEnd : Type 0
@@ -36,7 +36,7 @@ TrialsEnd = (program : List Insn) (context : List ℕ) (relay : Relay) → IsSou
 abbrev pub setting_of : Scenario → List (List Letter) → ℕ → Setting
 setting_of s before g =
     let shape = shape_of s g (suc (length before)) in
-    record { shape = shape; bound = s.bound; taken = map (value_of s before g) (relay shape) }
+    record { shape = shape; bound = s.bound; taken = map (took s before g) (relay shape) }
 
 -- what a general is told in a campaign he is told in a setting
 pub record ContextsAreSettings : Type 0 where

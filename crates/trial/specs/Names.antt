@@ -13,4 +13,6 @@ text_of Round = codes "round"
 text_of Taken = codes "taken"
 
 abbrev pub is_key : List ℕ → Bool
-is_key k = bytes_eq k (codes "generals") || (bytes_eq k (codes "bound") || (bytes_eq k (codes "commander") || (bytes_eq k (codes "general") || (bytes_eq k (codes "round") || bytes_eq k (codes "taken")))))
+is_key k =
+    bytes_eq k (codes "generals") || (bytes_eq k (codes "bound") || (bytes_eq k (codes "commander") ||
+    (bytes_eq k (codes "general") || (bytes_eq k (codes "round") || bytes_eq k (codes "taken")))))

@@ -1,5 +1,5 @@
 -- What a program is tried in (own).
-use Rattle.std.specs.Prelude.{ℕ, ◌≡◌, ◌≤◌, ◌+◌, List, length}
+use Rattle.std.specs.Prelude.{ℕ, ◌≡◌, ◌≤◌, ◌+◌, List, [], length}
 use Rattle.label.specs.declared.shape.Shape.{Shape}
 use Rattle.label.specs.Relay.{IsShape, relay}
 use Rattle.round.specs.Contexts.{context_bytes, context_numbers}
@@ -17,6 +17,10 @@ pub record IsTold (s : Setting) : Type 0 where
   pub few : s.bound ≤ 4
   pub enough : s.bound + 2 ≤ s.shape.generals
   pub each : length s.taken ≡ length (relay s.shape)
+
+-- where a program is checked: the last of 4 generals in the first round under the first, who relays nothing, and one traitor at most
+abbrev pub bench : Setting
+bench = record { shape = record { generals = 4; commander = 0; general = 3; round = 1 }; bound = 1; taken = [] }
 
 -- what the general is told there
 abbrev pub context_in : Setting → List ℕ

@@ -9,29 +9,29 @@ use std::fmt;
 /// What is wrong at a place.
 #[derive(Clone, Copy, Debug, PartialEq, Eq)]
 pub enum Fault {
-    /// K2: the key is missing.
-    Key(Place),
-    /// K3: the value is of another kind.
-    Kind(Place),
-    /// K4: the value is out of its range.
-    Range(Place),
-    /// K5: there is no such general.
-    General(Place),
+    /// The key is missing.
+    Key,
+    /// The value is of another kind.
+    Kind,
+    /// The value is out of its range.
+    Range,
+    /// There is no such general.
+    General,
 }
 
 impl fmt::Display for Fault {
     ghost use Rattle.std.specs.Prelude.{Some};
-    ghost use Rattle.trial.specs.Telling.{fault_text};
+    ghost use Rattle.trial.specs.Telling.{code_of};
 
-    ghost output = { λ fault. Some (fault_text fault) };
+    ghost output = { λ fault. Some (code_of fault) };
 
     fn fmt<W: fmt::Write>(&self, f: &mut fmt::Formatter<W>) -> fmt::Result {
-        match *self {
-            Fault::Key(place) => write!(f, "K2 {place}"),
-            Fault::Kind(place) => write!(f, "K3 {place}"),
-            Fault::Range(place) => write!(f, "K4 {place}"),
-            Fault::General(place) => write!(f, "K5 {place}"),
-        }
+        f.write_str(match self {
+            Fault::Key => "K2",
+            Fault::Kind => "K3",
+            Fault::Range => "K4",
+            Fault::General => "K5",
+        })
     }
 }
 
@@ -42,8 +42,8 @@ pub enum SettingError {
     Toml,
     /// K2: a key is none.
     Unknown(String),
-    /// K2 to K5, at a place.
-    Fault(Fault),
+    /// K2 to K5: a fault at a place.
+    At(Fault, Place),
     /// Memory was refused.
     Memory,
 }
@@ -58,7 +58,7 @@ impl fmt::Display for SettingError {
         match self {
             SettingError::Toml => write!(f, "K1"),
             SettingError::Unknown(key) => write!(f, "K2 {key}"),
-            SettingError::Fault(fault) => write!(f, "{fault}"),
+            SettingError::At(fault, place) => write!(f, "{fault} {place}"),
             SettingError::Memory => write!(f, "out of memory"),
         }
     }

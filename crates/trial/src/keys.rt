@@ -4,7 +4,7 @@ ghost use Rattle.toml.specs.Data.{get_member};
 ghost use Rattle.toml.specs.View.{view, table_view, items_view};
 ghost use Rattle.trial.specs.Names.{is_key, text_of};
 ghost use Rattle.trial.specs.Checks.{first_unknown, known, required, whole, elements, natural, number, general};
-ghost use Rattle.trial.specs.Flaws.{Gives, faulty};
+ghost use Rattle.trial.specs.Flaws.{Gives};
 
 use crate::fault::{Fault, SettingError};
 use crate::place::{Name, Place};
@@ -63,7 +63,7 @@ fn required(place: Place, value: Option<&Value>) -> Result<&Value, SettingError>
 {
     match value {
         Some(value) => Ok(value),
-        None => Err(SettingError::Fault(Fault::Key(place))),
+        None => Err(SettingError::At(Fault::Key, place)),
     }
 }
 
@@ -73,7 +73,7 @@ pub fn whole(place: Place, value: &Value) -> Result<i64, SettingError>
 {
     match value.as_integer() {
         Some(integer) => Ok(integer),
-        None => Err(SettingError::Fault(Fault::Kind(place))),
+        None => Err(SettingError::At(Fault::Kind, place)),
     }
 }
 
@@ -83,17 +83,17 @@ pub fn elements(place: Place, value: &Value) -> Result<&[Value], SettingError>
 {
     match value.as_array() {
         Some(array) => Ok(array.as_slice()),
-        None => Err(SettingError::Fault(Fault::Kind(place))),
+        None => Err(SettingError::At(Fault::Kind, place)),
     }
 }
 
 /// An integer that is not below 0.
-fn natural(fault: Fault, integer: i64) -> Result<u64, SettingError>
-    ensures { Gives (λ n. n) result (natural (faulty fault) integer) }
+fn natural(fault: Fault, place: Place, integer: i64) -> Result<u64, SettingError>
+    ensures { Gives (λ n. n) result (natural fault place integer) }
 {
     match u64::try_from(integer) {
         Ok(number) => Ok(number),
-        Err(_) => Err(SettingError::Fault(fault)),
+        Err(_) => Err(SettingError::At(fault, place)),
     }
 }
 
@@ -110,11 +110,11 @@ pub fn number(
 {
     let value = required(place, value)?;
     let integer = whole(place, value)?;
-    let number = natural(Fault::Range(place), integer)?;
+    let number = natural(Fault::Range, place, integer)?;
     if u64::from(least) <= number && number <= u64::from(most) {
         return Ok(number as u32);
     }
-    Err(SettingError::Fault(Fault::Range(place)))
+    Err(SettingError::At(Fault::Range, place))
 }
 
 /// One of the generals.
@@ -125,9 +125,9 @@ pub fn general(place: Place, generals: u32, value: Option<&Value>) -> Result<u32
 {
     let value = required(place, value)?;
     let integer = whole(place, value)?;
-    let number = natural(Fault::General(place), integer)?;
+    let number = natural(Fault::General, place, integer)?;
     if number < u64::from(generals) {
         return Ok(number as u32);
     }
-    Err(SettingError::Fault(Fault::General(place)))
+    Err(SettingError::At(Fault::General, place))
 }

@@ -9,13 +9,14 @@ mod orders;
 mod place;
 mod reader;
 mod relayed;
-mod run;
+mod running;
 mod setting;
 mod spelling;
 
 pub use fault::{Fault, SettingError};
 pub use laws::{contexts_are_settings, trials_are_runs, trials_end};
-pub use lines::tried;
+pub use lines::{first_lines, tried};
 pub use place::{Name, Place};
 pub use reader::read;
+pub use running::{Exited, run_in};
 pub use setting::Setting;

@@ -5,10 +5,9 @@ ghost use Rattle.semantics.specs.Relay.{relayed};
 ghost use Rattle.trial.specs.Lines.{first_lines, put_line, label_lines, put_lines, word_line, word_lines};
 ghost use Rattle.trial.specs.Told.{IsTried};
 
-use crate::run::{Exited, run};
+use crate::running::{Exited, run_in};
 use crate::setting::Setting;
 use insn::Program;
-use mem::Context;
 use outbox::Outbox;
 use std::alloc::{AllocError, Global};
 use verify::Verified;
@@ -23,11 +22,7 @@ use verify::Verified;
 pub fn tried(alloc: Global, verified: &Verified, setting: &Setting) -> Result<String, AllocError>
     ensures { IfOk result (λ text. IsTried verified.now setting.now (string_bytes text)) }
 {
-    let bytes = setting.context(alloc)?;
-    let Some(context) = Context::new(bytes.as_slice()) else {
-        unreachable!();
-    };
-    let exited = run(alloc, verified, &context, setting.shape())?;
+    let exited = run_in(alloc, verified, setting)?;
     lines(alloc, verified.program(), &exited)
 }
 
@@ -51,7 +46,11 @@ fn lines(alloc: Global, program: &Program, exited: &Exited) -> Result<String, Al
 }
 
 /// How large the program is, and how it exited.
-fn first_lines(
+///
+/// # Errors
+///
+/// `AllocError` where the memory for the lines is refused.
+pub fn first_lines(
     alloc: Global,
     instructions: usize,
     units: usize,

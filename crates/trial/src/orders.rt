@@ -29,7 +29,7 @@ fn orders(alloc: Global, labels: u32, values: &[Value]) -> Result<Vec<u32>, Sett
     ensures long { IfOk result (λ orders. length orders.items ≡ labels) }
 {
     if values.len() > labels as usize {
-        return Err(SettingError::Fault(Fault::Range(Place::Key(Name::Taken))));
+        return Err(SettingError::At(Fault::Range, Place::Key(Name::Taken)));
     }
     listed(alloc, labels, values)
 }

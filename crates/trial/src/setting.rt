@@ -1,6 +1,6 @@
 ghost use Rattle.std.specs.Prelude.{◌≡◌, ◌≤◌, ◌+◌, length, vec_len, IfOk};
 ghost use Rattle.label.specs.Relay.{IsShape, relay};
-ghost use Rattle.trial.specs.Setting.{context_in};
+ghost use Rattle.trial.specs.Setting.{bench, context_in};
 
 use crate::spelling::spell;
 use label::Shape;
@@ -41,6 +41,19 @@ impl Setting {
             bound,
             taken,
         }
+    }
+
+    /// Where a program is checked: the last of 4 generals in the first round, where he relays nothing.
+    pub fn bench(alloc: Global) -> Setting
+        ensures { result ≡ bench }
+    {
+        let shape = Shape {
+            generals: 4,
+            commander: 0,
+            general: 3,
+            round: 1,
+        };
+        Setting::new(shape, 1, Vec::new(alloc))
     }
 
     /// Whose relay it is.

@@ -20,7 +20,7 @@ use Rattle.verify.specs.declared.state.AbsState.{AbsState}
 use Rattle.verify.specs.Gamma.{Describes}
 use Rattle.verify.specs.Branches.{decided_by, branch_of, StayNumbers}
 use Rattle.verify.specs.Outcomes.{IsTest}
-use Rattle.verify.specs.Slots.{Slot, IsAt, Arrives, BlanksComeTo}
+use Rattle.verify.specs.Kept.{Kept, IsAt, Arrives, BlanksComeTo}
 
 -- the two numbers lie in what is left
 abbrev pub HoldValues : Option (NumberSet × NumberSet) → Value → Value → Type 0
@@ -55,14 +55,14 @@ pub decided_used : (w : Width) (c : Condition) (x : Value) (m n : ℕ) (t : Bool
 decided_used w c x m n t same e = ap (λ (k : ℕ). condition_of w c x (value.Number k)) same ∙ (condition_used w c x n ∙ e)
 
 -- what comes to a unit with more numbers comes there with fewer
-pub comes_with_more : (unit : ℕ) (known more : List AbsVal) (old new : List Slot) → StayNumbers known more → BlanksComeTo unit more old new → BlanksComeTo unit known old new
+pub comes_with_more : (unit : ℕ) (known more : List AbsVal) (old new : List Kept) → StayNumbers known more → BlanksComeTo unit more old new → BlanksComeTo unit known old new
 comes_with_more unit known more old new stay comes = λ v r lt blank. ⊎_elim (λ before. inl before) (λ here. inr (here.0, stay r lt here.1)) (comes v r lt blank)
 
-abbrev EdgeHolds : AbsState → Comparison → Bool → List Slot → ℕ → Type 0
+abbrev EdgeHolds : AbsState → Comparison → Bool → List Kept → ℕ → Type 0
 EdgeHolds a compared taken pending unit = (s : State) → Describes a s → decided_by compared s.registers ≡ Ok taken → IsAt pending unit s
 
 -- both edges of a conditional jump arrive
-pub branch_arrives : (pending : List Slot) (compared : Comparison) (distance : ℤ) (context : List ℕ) (relay : Relay) (a : AbsState) (s : State) (unit target : ℕ) → s.unit ≡ unit →
+pub branch_arrives : (pending : List Kept) (compared : Comparison) (distance : ℤ) (context : List ℕ) (relay : Relay) (a : AbsState) (s : State) (unit target : ℕ) → s.unit ≡ unit →
     pos target ≡ pos (unit + 1) +ℤ distance → Describes a s → IsTest (decided_by compared s.registers) → EdgeHolds a compared true pending target → EdgeHolds a compared false pending (unit + 1) →
     Arrives pending (branch_of compared distance) unit (executed context relay (branch_of compared distance) s)
 branch_arrives pending compared distance context relay a s unit target e to d test taken passed =

@@ -26,11 +26,13 @@ use Rattle.absmem.specs.Describes.{Describes as StackDescribes}
 use Rattle.helper.specs.Table.{refusal, or_else, refused, arguments_of, AcceptsThese}
 use Rattle.helper.specs.Results.{HoldsResult, Returns}
 use Rattle.helper.proofs.Tests.{copy_in, place_in, row_in, sway_in}
+use Rattle.helper.proofs.Accepts.{asked_trap, sent_trap}
+use Rattle.helper.proofs.Traps.{number_if, pointer_is}
 use Rattle.verify.specs.declared.state.AbsState.{AbsState}
 use Rattle.verify.specs.Gamma.{RegistersDescribe, Describes}
 use Rattle.semantics.specs.Relay.{IsSetting, Relay}
-use Rattle.verify.specs.Outcomes.{StandsAt, GoesOn}
-use Rattle.verify.specs.Calls.{known_at, arguments_reason}
+use Rattle.verify.specs.Outcomes.{DescribesAt, GoesOn}
+use Rattle.verify.specs.Calls.{abstract_at, arguments_reason}
 use Rattle.verify.specs.CallStates.{Puts, CopyStands, RowStands, WindowStands}
 use Rattle.verify.proofs.CallArguments.{arguments_fine}
 use Rattle.verify.proofs.Zips.{AllZip-at}
@@ -44,7 +46,7 @@ CellsStand known cells p (Copy span) words = StackDescribes known (with_words ce
 CellsStand known cells p _ words = StackDescribes known cells × (length cells ≡ 512)
 
 resumed_stands : (a : AbsState) (lo hi unit : ℕ) (request : Request) (words : List ℕ) (w : State) → w.unit ≡ unit → Puts lo hi a.registers w.registers → HoldsResult lo hi (resumed request words w) →
-    CellsStand a.stack w.cells (value_at w.registers 2) request words → StandsAt a unit (resumed request words w)
+    CellsStand a.stack w.cells (value_at w.registers 2) request words → DescribesAt a unit (resumed request words w)
 resumed_stands a lo hi unit (Get slot) words w e puts held cells = (e, record { registers = puts _ (held_in lo hi _ held); stack = cells.0; size = cells.1 })
 resumed_stands a lo hi unit (Swap slot value) words w e puts held cells = (e, record { registers = puts _ (held_in lo hi _ held); stack = cells.0; size = cells.1 })
 resumed_stands a lo hi unit (Add slot value) words w e puts held cells = (e, record { registers = puts _ (held_in lo hi _ held); stack = cells.0; size = cells.1 })
@@ -86,31 +88,14 @@ given_fails : {A B : Type 0} (r : Result A Cause) (f : A → Result B Cause) (re
 given_fails (Ok a) f rest cause e q = (a, refl, e, q)
 given_fails (Err other) f rest cause e q = cc
 
-below_if : (t : Bool) (m n : ℕ) → (if t then Ok m else Err Argument) ≡ Ok n → m ≡ n
-below_if true m n e = cc
-below_if false m n e = cc
-
 -- a number that is taken is the register's
 taken_number : (bound : ℕ) (v : Value) (n : ℕ) → below bound v ≡ Ok n → v ≡ Number n
 taken_number bound Unset n e = cc
-taken_number bound (Number m) n e = ap Number (below_if (nat_lt m bound) m n e)
+taken_number bound (Number m) n e = ap Number (number_if (nat_lt m bound) m n e)
 taken_number bound (Pointer region offset) n e = cc
 
-taken_pointer : (v p : Value) → pointer v ≡ Ok p → v ≡ p
-taken_pointer Unset p e = cc
-taken_pointer (Number m) p e = cc
-taken_pointer (Pointer region offset) p e = cc
-
-asked_trap : (s : State) (r : Result Request Cause) (cause : Cause) → asked s r ≡ Trap cause → r ≡ Err cause
-asked_trap s (Ok request) cause e = cc
-asked_trap s (Err other) cause e = let same : other ≡ cause = cc in ap Err same
-
-sent_trap : (relay : Relay) (s : State) (r0 : ℕ → ℕ) (r : Result Choice Cause) (cause : Cause) → sent relay s r0 r ≡ Trap cause → r ≡ Err cause
-sent_trap relay s r0 (Ok choice) cause e = cc
-sent_trap relay s r0 (Err other) cause e = let same : other ≡ cause = cc in ap Err same
-
-at_register : (known : List AbsVal) (s : State) (r : ℕ) (v : Value) → RegistersDescribe known s.registers → value_at s.registers r ≡ v → Contains (known_at known r) v
-at_register known s r v d e = subst (λ (w : Value). Contains (known_at known r) w) e (AllZip-at Contains known s.registers r Unknown Unset d tt)
+at_register : (known : List AbsVal) (s : State) (r : ℕ) (v : Value) → RegistersDescribe known s.registers → value_at s.registers r ≡ v → Contains (abstract_at known r) v
+at_register known s r v d e = subst (λ (w : Value). Contains (abstract_at known r) w) e (AllZip-at Contains known s.registers r Unknown Unset d tt)
 
 -- ---- board_copy
 
@@ -128,14 +113,14 @@ fitting_length : (slot count : ℕ) (words : List ℕ) → fits (Copy (slot, cou
 fitting_length slot count words e = eqb-true (length words) count (and_parts (length words == count) (list_all (λ word. nat_lt word (2 ^ 64)) words) e).0
 
 pub copy_free : (a : AbsState) (new : Known) (s : State) (cause : Cause) → Describes a s → refused (arguments_of BoardCopy) 1 s.registers ≡ None →
-    CopyStands (known_at a.registers 1) (known_at a.registers 2) (known_at a.registers 3) a.stack new → copy_in s ≡ Err cause → ⊥
+    CopyStands (abstract_at a.registers 1) (abstract_at a.registers 2) (abstract_at a.registers 3) a.stack new → copy_in s ≡ Err cause → ⊥
 copy_free a new s cause d e stands q =
     let first = given_fails (slot_in s) (λ slot. given (pointer_in s 2) (λ to. given (argument s 3 65) (λ count. copy_of slot to count))) (or_else (refusal (pointer_in s 2)) (or_else (refusal (argument s 3 65)) None)) cause e q in
     let second = given_fails (pointer_in s 2) (λ to. given (argument s 3 65) (λ count. copy_of first.0 to count)) (or_else (refusal (argument s 3 65)) None) cause first.2 first.3 in
     let third = given_fails (argument s 3 65) (λ count. copy_of first.0 second.0 count) None cause second.2 second.3 in
     let long : length (replicate third.0 0) ≡ third.0 = length-replicate third.0 0 in
     let slot = taken_number 64 (value_at s.registers 1) first.0 first.1 in
-    let to = taken_pointer (value_at s.registers 2) second.0 second.1 in
+    let to = pointer_is (value_at s.registers 2) second.0 second.1 in
     let count = taken_number 65 (value_at s.registers 3) third.0 third.1 in
     let found = stands s.cells first.0 second.0 (replicate third.0 0) d.stack d.size
     (at_register a.registers s 1 (Number first.0) d.registers slot) (at_register a.registers s 2 second.0 d.registers to)
@@ -144,7 +129,7 @@ copy_free a new s cause d e stands q =
     let few : first.0 + third.0 ≤ 64 = subst (λ (n : ℕ). first.0 + n ≤ 64) long found.0 in
     copy_fails (nat_le (first.0 + third.0) 64) (stack_place second.0 (pos 0) (8 * third.0)) (Copy (first.0, third.0)) cause (le-leb (first.0 + third.0) 64 few) room third.3
 
-pub copy_stands : (a : AbsState) (new : Known) (s : State) → Describes a s → CopyStands (known_at a.registers 1) (known_at a.registers 2) (known_at a.registers 3) a.stack new →
+pub copy_stands : (a : AbsState) (new : Known) (s : State) → Describes a s → CopyStands (abstract_at a.registers 1) (abstract_at a.registers 2) (abstract_at a.registers 3) a.stack new →
     IfOk (copy_in s) (AnswersStand new s.cells (value_at s.registers 2))
 copy_stands a new s d stands =
     let P = λ (request : Request). AnswersStand new s.cells (value_at s.registers 2) request in
@@ -170,7 +155,7 @@ orders_fail (Ok found) f cause h q = by_bytes (bytes_in found) h q
 orders_fail (Err other) f cause h q = cc
 
 pub row_free : (a : AbsState) (context : List ℕ) (relay : Relay) (s : State) (cause : Cause) → IsSetting context relay → Describes a s → refused (arguments_of SendRow) 1 s.registers ≡ None →
-    RowStands (known_at a.registers 2) (known_at a.registers 3) a.stack → row_in context s ≡ Err cause → ⊥
+    RowStands (abstract_at a.registers 2) (abstract_at a.registers 3) a.stack → row_in context s ≡ Err cause → ⊥
 row_free a context relay s cause setting d e stands q =
     let first = given_fails (argument s 1 1016) (λ label. given (pointer_in s 2) (λ from. given (argument s 3 14) (λ count. given (orders_at context s from count) (λ orders. Ok (along_row label orders)))))
     (or_else (refusal (pointer_in s 2)) (or_else (refusal (argument s 3 14)) None)) cause e q in
@@ -178,7 +163,7 @@ row_free a context relay s cause setting d e stands q =
     let third = given_fails (argument s 3 14) (λ count. given (orders_at context s second.0 count) (λ orders. Ok (along_row first.0 orders))) None cause second.2 second.3 in
     orders_fail (cells_at context s.cells second.0 (pos 0) (4 * third.0)) (λ orders. along_row first.0 orders) cause
     (stands context s.cells second.0 third.0 setting.is_context d.stack d.size
-    (at_register a.registers s 2 second.0 d.registers (taken_pointer (value_at s.registers 2) second.0 second.1))
+    (at_register a.registers s 2 second.0 d.registers (pointer_is (value_at s.registers 2) second.0 second.1))
     (at_register a.registers s 3 (Number third.0) d.registers (taken_number 14 (value_at s.registers 3) third.0 third.1)))
     third.3
 

@@ -1,5 +1,5 @@
 -- Registers behind a call, and checks one after another.
-use Rattle.std.proofs.Common.{◌≡◌, ◌∙◌, ℕ, zero, suc, ◌+◌, ◌≤◌, List, Option, Some, None, refl, sym, ap, subst, length, drop, get_or, arith}
+use Rattle.std.proofs.Common.{◌≡◌, ◌∙◌, ℕ, zero, suc, ◌+◌, List, Option, Some, None, refl, sym, ap, subst, length, drop, get_or, arith}
 use Rattle.std.specs.Prelude.{Result, Ok, Err, IsErrAnd}
 use Rattle.std.proofs.lemmas.List.{length-drop, get_or-drop}
 use Rattle.range.specs.Interval.{IsIn}
@@ -8,11 +8,11 @@ use Rattle.semantics.specs.declared.value.Value.TheVariants as value
 use Rattle.absval.specs.declared.number_set.NumberSet.{NumberSet}
 use Rattle.absval.specs.NumberSets.{Has, within}
 use Rattle.absval.specs.declared.value.AbsVal.{AbsVal}
-use Rattle.absval.specs.declared.value.AbsVal.TheVariants.{Unset, Number, Pointer}
+use Rattle.absval.specs.declared.value.AbsVal.TheVariants.{Unset, Number}
 use Rattle.absval.specs.Contains.{Contains}
 use Rattle.verify.specs.declared.reason.Reason.{Reason}
 use Rattle.verify.specs.Gamma.{RegistersDescribe}
-use Rattle.verify.specs.Calls.{answer_of, or_reason, known_at, IsBehind}
+use Rattle.verify.specs.Calls.{answer_of, or_reason, abstract_at, IsBehind}
 use Rattle.verify.specs.CallStates.{values_behind, Puts}
 use Rattle.verify.proofs.Zips.{AllZip-by_index, AllZip-at, AllZip-length}
 
@@ -33,12 +33,12 @@ behind_puts lo hi old new vs before after fits behind d n inside = AllZip-by_ind
     same = let rest = length-drop 6 vs in omega (arith, long, rest, after)
 
     at : (k : ℕ) → Contains (get_or new k Unset) (get_or (values_behind n vs) k value.Unset)
-    at zero = number_is (within (lo, hi)) n (known_at new 0) behind.first (fits n inside)
-    at (suc zero) = unset_is (known_at new 1) value.Unset (behind.unset 1 (omega arith) (omega arith))
-    at (suc (suc zero)) = unset_is (known_at new 2) value.Unset (behind.unset 2 (omega arith) (omega arith))
-    at (suc (suc (suc zero))) = unset_is (known_at new 3) value.Unset (behind.unset 3 (omega arith) (omega arith))
-    at (suc (suc (suc (suc zero)))) = unset_is (known_at new 4) value.Unset (behind.unset 4 (omega arith) (omega arith))
-    at (suc (suc (suc (suc (suc zero))))) = unset_is (known_at new 5) value.Unset (behind.unset 5 (omega arith) (omega arith))
+    at zero = number_is (within (lo, hi)) n (abstract_at new 0) behind.first (fits n inside)
+    at (suc zero) = unset_is (abstract_at new 1) value.Unset (behind.unset 1 (omega arith) (omega arith))
+    at (suc (suc zero)) = unset_is (abstract_at new 2) value.Unset (behind.unset 2 (omega arith) (omega arith))
+    at (suc (suc (suc zero))) = unset_is (abstract_at new 3) value.Unset (behind.unset 3 (omega arith) (omega arith))
+    at (suc (suc (suc (suc zero)))) = unset_is (abstract_at new 4) value.Unset (behind.unset 4 (omega arith) (omega arith))
+    at (suc (suc (suc (suc (suc zero))))) = unset_is (abstract_at new 5) value.Unset (behind.unset 5 (omega arith) (omega arith))
     at (suc (suc (suc (suc (suc (suc k)))))) =
         let there : 6 + k ≡ suc (suc (suc (suc (suc (suc k))))) = omega arith in
         let kept : get_or new (6 + k) Unset ≡ get_or old (6 + k) Unset = behind.others (6 + k) (omega arith) in

@@ -10,7 +10,7 @@ use Rattle.semantics.specs.State.{Outcome, Next, Ask, Trap}
 use Rattle.semantics.specs.State.{Exit as Exited}
 use Rattle.verify.specs.Outcomes.{IsStraight, IsEnd}
 use Rattle.verify.specs.Forward.{IsForward}
-use Rattle.verify.specs.Slots.{Slot, Arrives, EdgesInside}
+use Rattle.verify.specs.Kept.{Kept, Arrives, EdgesInside}
 use Rattle.verify.proofs.Edges.{start_inside}
 
 -- what goes on behind itself has its edge there
@@ -30,7 +30,7 @@ straight_edge (Call helper) unit h = inl refl
 straight_edge Exit unit h = absurd h
 
 -- where the program ends, nothing is left to be described
-pub end_arrives : (pending : List Slot) (i : Insn) (unit : ℕ) (o : Outcome) → IsEnd o → Arrives pending i unit o
+pub end_arrives : (pending : List Kept) (i : Insn) (unit : ℕ) (o : Outcome) → IsEnd o → Arrives pending i unit o
 end_arrives pending i unit (Next t) h = absurd h
 end_arrives pending i unit (Ask request t) h = absurd h
 end_arrives pending i unit (Exited r0 t) h = tt

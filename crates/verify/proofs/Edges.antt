@@ -7,8 +7,9 @@ use Rattle.std.proofs.lemmas.Option.{slice_get_within}
 use Rattle.insn.specs.declared.insn.Insn.{Insn}
 use Rattle.insn.specs.Program.{slots_of, joined, instruction_at}
 use Rattle.semantics.specs.Plain.{IsStart}
-use Rattle.verify.specs.declared.fault.Fault.{Fault}
-use Rattle.verify.specs.declared.fault.Fault.TheVariants.{BackJump, JumpOut, JumpInWide}
+use Rattle.verify.specs.declared.error.VerifyError.{VerifyError}
+use Rattle.verify.specs.declared.error.VerifyError.TheVariants.{At}
+use Rattle.verify.specs.declared.reason.Reason.TheVariants.{BackJump, JumpOut, JumpInWide}
 use Rattle.verify.specs.Structure.{Check, first_fault, target_checks}
 
 -- where the checks are without fault, each part is
@@ -30,11 +31,11 @@ first_fault-none (check ∷ checks) more e f = by_test check.0 (λ h. first_faul
     by_test true ih h = absurd (cc)
     by_test false ih h = ih h
 
-test_false : (b : Bool) (fault : Fault) (rest : Option Fault) → (if b then Some fault else rest) ≡ None → (b ≡ false) × (rest ≡ None)
+test_false : (b : Bool) (fault : VerifyError) (rest : Option VerifyError) → (if b then Some fault else rest) ≡ None → (b ≡ false) × (rest ≡ None)
 test_false true fault rest e = absurd (cc)
 test_false false fault rest e = (refl, e)
 
-test_passes : (b : Bool) (fault : Fault) (rest : Option Fault) → b ≡ false → rest ≡ None → (if b then Some fault else rest) ≡ None
+test_passes : (b : Bool) (fault : VerifyError) (rest : Option VerifyError) → b ≡ false → rest ≡ None → (if b then Some fault else rest) ≡ None
 test_passes true fault rest e f = absurd (cc)
 test_passes false fault rest e f = f
 
@@ -50,9 +51,9 @@ not_none (Some i) h = refl
 pub target_fine : (program : List Insn) (unit : ℕ) (z : ℤ) → first_fault (target_checks program unit z) ≡ None → (pos unit <ℤ z) × IsStart program z
 target_fine program unit (negsuc n) e = absurd (cc)
 target_fine program unit (pos target) e =
-    let back = test_false (nat_le target unit) (BackJump unit) _ e in
-    let out = test_false (nat_le (length (slots_of program)) target) (JumpOut unit) _ back.1 in
-    let wide = test_false (is_none (instruction_at program target)) (JumpInWide unit) None out.1 in
+    let back = test_false (nat_le target unit) (At BackJump unit) _ e in
+    let out = test_false (nat_le (length (slots_of program)) target) (At JumpOut unit) _ back.1 in
+    let wide = test_false (is_none (instruction_at program target)) (At JumpInWide unit) None out.1 in
     let lt : unit < target = leb-false target unit back.0 in
     (omega (arith, ints), (target, refl, some_there (instruction_at program target) wide.0))
 
@@ -71,6 +72,6 @@ target_clear program unit (pos target) forward =
     let same : target ≡ forward.1.0 = let e = forward.1.1 in cc in
     let some : IsSome (instruction_at program target) = subst (λ v. IsSome (instruction_at program v)) (sym same) forward.1.2 in
     let lt : unit < target = let h = forward.0 in omega (arith, ints) in
-    test_passes (nat_le target unit) (BackJump unit) _ (lt-leb target unit lt)
-    (test_passes (nat_le (length (slots_of program)) target) (JumpOut unit) _ (lt-leb (length (slots_of program)) target (start_inside program target some))
-    (test_passes (is_none (instruction_at program target)) (JumpInWide unit) None (not_none (instruction_at program target) some) refl))
+    test_passes (nat_le target unit) (At BackJump unit) _ (lt-leb target unit lt)
+    (test_passes (nat_le (length (slots_of program)) target) (At JumpOut unit) _ (lt-leb (length (slots_of program)) target (start_inside program target some))
+    (test_passes (is_none (instruction_at program target)) (At JumpInWide unit) None (not_none (instruction_at program target) some) refl))

@@ -15,17 +15,17 @@ use Rattle.semantics.specs.Plain.{IsIn, leads_to}
 use Rattle.verify.specs.Forward.{IsForward}
 use Rattle.verify.specs.Safe.{StartsSafe}
 use Rattle.semantics.specs.Relay.{IsRelay, IsSetting, Relay}
-use Rattle.verify.specs.Slots.{Slot, IsAt, IsPassed}
+use Rattle.verify.specs.Kept.{Kept, IsAt, IsPassed}
 use Rattle.verify.proofs.Edges.{start_inside}
 use Rattle.verify.proofs.Starts.{left, left-le, left-falls, left-bound}
 use Rattle.verify.proofs.SafeLaws.{leads_weaker, IsSafe-step}
 
 -- what a state owes at the units from one on
-abbrev pub Rest : List Insn → List ℕ → Relay → List Slot → ℕ → Type 0
+abbrev pub Rest : List Insn → List ℕ → Relay → List Kept → ℕ → Type 0
 Rest program context relay pending unit = (s : State) → unit ≤ s.unit → IsSome (instruction_at program s.unit) → IsAt pending s.unit s → IsSafe program context relay (left program s.unit) s
 
 -- if that is paid, the entry is safe
-abbrev pub EntryRests : List Insn → List Slot → ℕ → Type 0
+abbrev pub EntryRests : List Insn → List Kept → ℕ → Type 0
 EntryRests program pending unit = (context : List ℕ) (relay : Relay) → IsContext context → IsRelay relay → Rest program context relay pending unit →
     IsSafe program context relay (length program) (entry (empty_outbox relay))
 
@@ -36,7 +36,7 @@ step_at program context relay unit i s at e =
     let here : instruction_at program s.unit ≡ Some i = subst (λ (u : ℕ). instruction_at program u ≡ Some i) (sym e) at in
     ap (λ (o : Option Insn). fetched context relay o s) here
 
-module _ (program : List Insn) (context : List ℕ) (relay : Relay) (old new : List Slot) (unit : ℕ) (forward : IsForward program) (passed : IsPassed program unit old new)
+module _ (program : List Insn) (context : List ℕ) (relay : Relay) (old new : List Kept) (unit : ℕ) (forward : IsForward program) (passed : IsPassed program unit old new)
     (setting : IsSetting context relay) (rest : Rest program context relay new (unit + 1)) where
   -- a state at the unit is safe
   safe_here : (i : Insn) (s : State) → instruction_at program unit ≡ Some i → s.unit ≡ unit → IsAt old unit s → IsSafe program context relay (left program unit) s
@@ -60,7 +60,7 @@ some_is None some = absurd (cc)
 some_is (Some i) some = (i, refl)
 
 -- a unit is passed
-pub pass_step : (program : List Insn) (context : List ℕ) (relay : Relay) (old new : List Slot) (unit : ℕ) → IsForward program → IsPassed program unit old new → IsSetting context relay →
+pub pass_step : (program : List Insn) (context : List ℕ) (relay : Relay) (old new : List Kept) (unit : ℕ) → IsForward program → IsPassed program unit old new → IsSetting context relay →
     Rest program context relay new (unit + 1) → Rest program context relay old unit
 pass_step program context relay old new unit forward passed setting rest s le some kept = ⊎_elim
     (λ lt. rest s (omega arith) some (passed.keeps s.unit s lt kept))
@@ -71,7 +71,7 @@ pass_step program context relay old new unit forward passed setting rest s le so
     (safe_here program context relay old new unit forward passed setting rest found.0 s at e (subst (λ (u : ℕ). IsAt old u s) e kept)))
     (cases_lt unit s.unit)
 
-pub rests_step : (program : List Insn) (old new : List Slot) (unit : ℕ) → IsForward program → IsPassed program unit old new → EntryRests program old unit → EntryRests program new (unit + 1)
+pub rests_step : (program : List Insn) (old new : List Kept) (unit : ℕ) → IsForward program → IsPassed program unit old new → EntryRests program old unit → EntryRests program new (unit + 1)
 rests_step program old new unit forward passed rests context relay c h rest = rests context relay c h (pass_step program context relay old new unit forward passed (record { is_context = c; is_relay = h }) rest)
 
 first_start : (program : List Insn) → 0 < length (slots_of program) → IsSome (instruction_at program 0)
@@ -79,19 +79,19 @@ first_start [] lt = absurd (omega arith)
 first_start (i ∷ is) lt = refl
 
 -- with the entry described at the first unit, the pass can begin
-pub rests_start : (program : List Insn) (pending : List Slot) → 0 < length (slots_of program) → ((relay : Relay) → IsAt pending 0 (entry (empty_outbox relay))) → EntryRests program pending 0
+pub rests_start : (program : List Insn) (pending : List Kept) → 0 < length (slots_of program) → ((relay : Relay) → IsAt pending 0 (entry (empty_outbox relay))) → EntryRests program pending 0
 rests_start program pending lt kept context relay c h rest =
     let start = entry (empty_outbox relay) in
     IsSafe-longer program context relay (left program 0) (length program) start (left-bound program 0) (rest start (omega arith) (first_start program lt) (kept relay))
 
 -- behind the last unit nothing is owed
-pub pass_end : (program : List Insn) (context : List ℕ) (relay : Relay) (pending : List Slot) (unit : ℕ) → length (slots_of program) ≤ unit → Rest program context relay pending unit
+pub pass_end : (program : List Insn) (context : List ℕ) (relay : Relay) (pending : List Kept) (unit : ℕ) → length (slots_of program) ≤ unit → Rest program context relay pending unit
 pass_end program context relay pending unit le s m some kept =
     let inside : s.unit < length (slots_of program) = start_inside program s.unit some in
     absurd (omega arith)
 
 -- so at the end the program starts safe
-pub rests_end : (program : List Insn) (pending : List Slot) (unit : ℕ) → length (slots_of program) ≤ unit → EntryRests program pending unit → StartsSafe program
+pub rests_end : (program : List Insn) (pending : List Kept) (unit : ℕ) → length (slots_of program) ≤ unit → EntryRests program pending unit → StartsSafe program
 rests_end program pending unit le rests = record {
   safe = λ context relay c h. rests context relay c h (pass_end program context relay pending unit le);
 }

@@ -17,8 +17,8 @@ use Rattle.absval.specs.Contains.{Contains, Gives, is_number}
 use Rattle.verify.specs.declared.state.AbsState.{AbsState}
 use Rattle.verify.specs.Gamma.{Describes}
 use Rattle.verify.specs.Reads.{AllNumbers}
-use Rattle.verify.specs.Outcomes.{StandsAt, GoesOn, IsStraight}
-use Rattle.verify.specs.Slots.{Slot, IsAt, Arrives}
+use Rattle.verify.specs.Outcomes.{DescribesAt, GoesOn, IsStraight}
+use Rattle.verify.specs.Kept.{Kept, IsAt, Arrives}
 use Rattle.verify.proofs.EdgeEnds.{straight_edge}
 
 pub OnOk-map : {E : Type 0} (r : Result (Unit {0}) E) (P Q : Type 0) → (P → Q) → OnOk r P → OnOk r Q
@@ -74,14 +74,14 @@ pub arithmetic_number : (made : Option AbsVal) (xs ys : List ℕ) (known : List 
 arithmetic_number made xs ys known a b p q numbers all =
     some_and made (numbers (p (λ r lt h. all r lt (in_left r xs ys h))) (q (λ r lt h. all r lt (in_right r xs ys h))))
 
-stands_arrives : (pending : List Slot) (i : Insn) (unit at : ℕ) (a : AbsState) (s t : State) → IsStraight i → s.unit ≡ unit → at ≡ unit + units_of i →
-    ((t : State) → Describes a t → IsAt pending at t) → StandsAt a (s.unit + units_of i) t → IsIn (pos t.unit) (leads_to i unit) × IsAt pending t.unit t
+stands_arrives : (pending : List Kept) (i : Insn) (unit at : ℕ) (a : AbsState) (s t : State) → IsStraight i → s.unit ≡ unit → at ≡ unit + units_of i →
+    ((t : State) → Describes a t → IsAt pending at t) → DescribesAt a (s.unit + units_of i) t → IsIn (pos t.unit) (leads_to i unit) × IsAt pending t.unit t
 stands_arrives pending i unit at a s t straight e f here stands =
     let to : t.unit ≡ unit + units_of i = stands.0 ∙ ap (λ (n : ℕ). n + units_of i) e in
     (subst (λ (n : ℕ). IsIn (pos n) (leads_to i unit)) (sym to) (straight_edge i unit straight), subst (λ (n : ℕ). IsAt pending n t) (f ∙ sym to) (here t stands.1))
 
 -- an instruction that goes on behind itself arrives there
-pub goes_arrives : (pending : List Slot) (i : Insn) (unit at : ℕ) (a : AbsState) (s : State) (o : Outcome) → IsStraight i → s.unit ≡ unit → at ≡ unit + units_of i →
+pub goes_arrives : (pending : List Kept) (i : Insn) (unit at : ℕ) (a : AbsState) (s : State) (o : Outcome) → IsStraight i → s.unit ≡ unit → at ≡ unit + units_of i →
     ((t : State) → Describes a t → IsAt pending at t) → GoesOn a (s.unit + units_of i) o → Arrives pending i unit o
 goes_arrives pending i unit at a s (Next t) straight e f here goes = stands_arrives pending i unit at a s t straight e f here goes
 goes_arrives pending i unit at a s (Ask request t) straight e f here goes = λ answer fit. stands_arrives pending i unit at a s (resumed request answer t) straight e f here (goes answer fit)

@@ -13,6 +13,7 @@ use Rattle.semantics.specs.declared.value.Cell.TheVariants.{Byte}
 use Rattle.semantics.specs.State.{Cause, State, given}
 use Rattle.semantics.specs.Step.{changed}
 use Rattle.semantics.specs.Memory.{window, cells_of, overwritten, pieces_of, stored}
+use Rattle.semantics.proofs.WordLaws.{byte_fits}
 use Rattle.absval.specs.Contains.{IsNumberOf, IsPointerIn}
 use Rattle.absval.specs.declared.number_set.NumberSet.{NumberSet}
 use Rattle.absval.specs.Windows.{LiesIn}
@@ -25,13 +26,9 @@ use Rattle.verify.specs.Outcomes.{GoesOn}
 use Rattle.verify.specs.Stores.{Leads}
 use Rattle.verify.proofs.Loads.{Lies}
 
-byte_at-small : (i n : ℕ) → byte_at i n < 256
-byte_at-small zero n = omega arith
-byte_at-small (suc i) n = omega arith
-
 pub low_bytes : (from size n : ℕ) → AreBytes (map Byte (bytes_low_first from size n))
 low_bytes from zero n k l = absurd (omega arith)
-low_bytes from (suc size) n zero l = byte_at-small from n
+low_bytes from (suc size) n zero l = byte_fits from n
 low_bytes from (suc size) n (suc k) l = low_bytes (suc from) size n k (omega arith)
 
 pub length-low : (from size n : ℕ) → length (map Byte (bytes_low_first from size n)) ≡ size

@@ -8,7 +8,8 @@ use Rattle.insn.specs.Insn.{units_of}
 use Rattle.insn.specs.Program.{instruction_at}
 use Rattle.insn.proofs.SlotLemmas.{units_some}
 use Rattle.semantics.specs.Plain.{IsIn, leads_to}
-use Rattle.verify.specs.declared.fault.Fault.TheVariants.{LastNotExit}
+use Rattle.verify.specs.declared.error.VerifyError.TheVariants.{At}
+use Rattle.verify.specs.declared.reason.Reason.TheVariants.{LastNotExit}
 use Rattle.verify.specs.Structure.{Check, first_fault, target_checks, jump_checks, checks_from, is_exit, last_checks, structural_fault}
 use Rattle.verify.specs.Forward.{LeadsForward, IsForward}
 use Rattle.verify.proofs.Starts.{at_later, at_cases}
@@ -56,7 +57,7 @@ rest_first program unit j is rest = let e : unit ≡ unit + 0 = omega arith in a
 -- the next instruction starts behind one that is not the last
 next_starts : (program : List Insn) (unit : ℕ) (j : Insn) (is : List Insn) → IsRest program unit (j ∷ is) → first_fault (last_checks unit (j ∷ is)) ≡ None → is_exit j ≡ false →
     IsSome (instruction_at program (unit + units_of j))
-next_starts program unit j [] rest last other = absurd (let bad = subst (λ (b : Bool). first_fault ((if b then false else true, LastNotExit unit) ∷ []) ≡ None) other last in cc)
+next_starts program unit j [] rest last other = absurd (let bad = subst (λ (b : Bool). first_fault ((if b then false else true, At LastNotExit unit) ∷ []) ≡ None) other last in cc)
 next_starts program unit j (k ∷ is) rest last other =
     let at : instruction_at program (unit + units_of j) ≡ Some k = rest_first program (unit + units_of j) k is (rest_next program unit j (k ∷ is) rest) in
     subst (λ (o : Option Insn). IsSome o) (sym at) refl

@@ -1,5 +1,5 @@
 -- Calls of helpers, on what is known (own).
-use Rattle.std.specs.Prelude.{ℕ, ℤ, pos, ◌≡◌, ◌+◌, ◌*◌, ◌≤◌, ◌<◌, ◌&&◌, not, nat_lt, Bool, true, false, List, [], ◌∷◌, Option, Some, None, Result, Ok, Err, slice_index_or}
+use Rattle.std.specs.Prelude.{ℕ, ℤ, pos, ◌≡◌, ◌+◌, ◌*◌, ◌≤◌, ◌<◌, ◌&&◌, not, nat_lt, Bool, true, false, List, [], ◌∷◌, Option, Some, None, Result, Ok, Err, drop, slice_index_or}
 use Rattle.std.specs.Ordering.{int_eq}
 use Rattle.semantics.specs.declared.value.Region.{Region}
 use Rattle.semantics.specs.declared.value.Region.TheVariants.{Stack, Context}
@@ -36,8 +36,8 @@ abbrev pub reason_if : Bool → Reason → Option Reason
 reason_if true reason = Some reason
 reason_if false reason = None
 
-abbrev pub known_at : List AbsVal → ℕ → AbsVal
-known_at known r = slice_index_or known r Unset
+abbrev pub abstract_at : List AbsVal → ℕ → AbsVal
+abstract_at known r = slice_index_or known r Unset
 
 -- ---- arguments
 
@@ -57,7 +57,7 @@ taken_reason (Some argument) value = argument_reason (bound_of argument) value
 -- the first reason of the registers from r on
 abbrev pub arguments_reason : List (Option Argument) → ℕ → List AbsVal → Option Reason
 arguments_reason [] r known = None
-arguments_reason (argument ∷ arguments) r known = or_reason (taken_reason argument (known_at known r)) (arguments_reason arguments (r + 1) known)
+arguments_reason (argument ∷ arguments) r known = or_reason (taken_reason argument (abstract_at known r)) (arguments_reason arguments (r + 1) known)
 
 -- it is a number below the bound
 abbrev pub IsBelow : ℕ → AbsVal → Type 0
@@ -100,8 +100,8 @@ row_reason known (Pointer region offsets) (Number counts) = source_reason known 
 row_reason known _ _ = None
 
 abbrev pub window_reason : Helper → AbsState → Option Reason
-window_reason BoardCopy a = copy_reason (known_at a.registers 1) (known_at a.registers 2) (known_at a.registers 3)
-window_reason SendRow a = row_reason a.stack (known_at a.registers 2) (known_at a.registers 3)
+window_reason BoardCopy a = copy_reason (abstract_at a.registers 1) (abstract_at a.registers 2) (abstract_at a.registers 3)
+window_reason SendRow a = row_reason a.stack (abstract_at a.registers 2) (abstract_at a.registers 3)
 window_reason _ a = None
 
 -- ---- calls
@@ -117,10 +117,14 @@ call_reason a number = helper_reason (helper_of number) a
 -- ---- what is left
 
 -- r0 is a number of these, r1 to r5 are unset, and the others are as before
+abbrev pub known_behind : NumberSet → List AbsVal → List AbsVal
+known_behind numbers known = Number numbers ∷ Unset ∷ Unset ∷ Unset ∷ Unset ∷ Unset ∷ drop 6 known
+
 pub record IsBehind (numbers : NumberSet) (old new : List AbsVal) : Type 0 where
-  pub first : known_at new 0 ≡ Number numbers
-  pub unset : (r : ℕ) → 1 ≤ r → r ≤ 5 → known_at new r ≡ Unset
-  pub others : (r : ℕ) → 6 ≤ r → known_at new r ≡ known_at old r
+  pub first : abstract_at new 0 ≡ Number numbers
+  pub unset : (r : ℕ) → 1 ≤ r → r ≤ 5 → abstract_at new r ≡ Unset
+  pub others : (r : ℕ) → 6 ≤ r → abstract_at new r ≡ abstract_at old r
+  pub whole : new ≡ known_behind numbers old
 
 -- bytes at one place are certain; elsewhere no more is known than before
 abbrev pub BytesWritten : Bool → ℕ → ℕ → List Bool → List Bool → Type 0
@@ -146,5 +150,5 @@ IsCopied _ _ old new = Unit {0}
 
 -- what a call leaves of the stack
 abbrev pub StackBehind : Helper → AbsState → Known → Type 0
-StackBehind BoardCopy a new = IsCopied (known_at a.registers 2) (known_at a.registers 3) a.stack new
+StackBehind BoardCopy a new = IsCopied (abstract_at a.registers 2) (abstract_at a.registers 3) a.stack new
 StackBehind _ a new = new ≡ a.stack

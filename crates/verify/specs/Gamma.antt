@@ -1,4 +1,4 @@
--- Which states an abstract state stands for (own).
+-- The concretization: which states an abstract state stands for (own).
 use Rattle.std.specs.Prelude.{ℕ, ◌≡◌, Bool, List, length, slice_index_or}
 use Rattle.std.specs.List.{AllZip}
 use Rattle.semantics.specs.declared.value.Value.{Value}

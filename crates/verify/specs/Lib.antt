@@ -2,12 +2,12 @@ pub mod Structure
 pub mod Forward
 pub mod Safe
 pub mod Gamma
+pub mod Tables
 pub mod Registers
 pub mod Reasons
 pub mod Reads
 pub mod Outcomes
-pub mod Slots
-pub mod Faults
+pub mod Kept
 pub mod Branches
 pub mod Stores
 pub mod Calls
@@ -16,4 +16,9 @@ pub mod MemoryTable
 pub mod Flow
 pub mod Instructions
 pub mod Passes
+pub mod Knowledge
+pub mod Transfer
+pub mod Judgement
+pub mod Laws
 pub mod Telling
+pub mod KnownAtUnits

@@ -17,13 +17,13 @@ IsTest (Ok b) = Unit {0}
 IsTest (Err cause) = ⊥
 
 -- the state is at the unit, and described
-abbrev pub StandsAt : AbsState → ℕ → State → Type 0
-StandsAt a unit t = (t.unit ≡ unit) × Describes a t
+abbrev pub DescribesAt : AbsState → ℕ → State → Type 0
+DescribesAt a unit t = (t.unit ≡ unit) × Describes a t
 
 -- the program goes on there, whatever fitting answer comes
 abbrev pub GoesOn : AbsState → ℕ → Outcome → Type 0
-GoesOn a unit (Next t) = StandsAt a unit t
-GoesOn a unit (Ask request t) = (answer : List ℕ) → fits request answer ≡ true → StandsAt a unit (resumed request answer t)
+GoesOn a unit (Next t) = DescribesAt a unit t
+GoesOn a unit (Ask request t) = (answer : List ℕ) → fits request answer ≡ true → DescribesAt a unit (resumed request answer t)
 GoesOn a unit (Exited r0 t) = ⊥
 GoesOn a unit (Trap cause) = ⊥
 

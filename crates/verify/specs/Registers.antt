@@ -13,6 +13,7 @@ use Rattle.semantics.specs.declared.value.Region.TheVariants.{Stack, Context}
 use Rattle.absval.specs.declared.value.AbsVal.{AbsVal}
 use Rattle.absval.specs.Table.{Ends, Nothing, Numbers, Pointers, ends_of, joined, immediate_known}
 use Rattle.verify.specs.declared.comparison.Comparison.{Comparison}
+use Rattle.verify.specs.Tables.{table}
 
 -- what is known of each register
 abbrev pub seen : List AbsVal → List Ends
@@ -37,6 +38,10 @@ entry_known =
     ∷ Pointers Stack (pos 0, pos 0) ∷ []
 
 -- where two paths meet, each register is joined
+abbrev pub joined_all : List Ends → List Ends → List Ends
+joined_all known other = table 11 (λ r. joined (known_at known r) (known_at other r))
+
+-- so it is of the first n registers
 abbrev pub Joins : List AbsVal → List AbsVal → List AbsVal → ℕ → Type 0
 Joins old other new n = (r : ℕ) → r < n → known_at (seen new) r ≡ joined (known_at (seen old) r) (known_at (seen other) r)
 

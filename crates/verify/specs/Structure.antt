@@ -4,25 +4,27 @@ use Rattle.insn.specs.declared.insn.Insn.{Insn}
 use Rattle.insn.specs.declared.insn.Insn.TheVariants.{Jump, LongJump, Branch, Exit}
 use Rattle.insn.specs.Insn.{units_of}
 use Rattle.insn.specs.Program.{slots_of, instruction_at}
-use Rattle.verify.specs.declared.fault.Fault.{Fault}
-use Rattle.verify.specs.declared.fault.Fault.TheVariants.{BackJump, JumpOut, JumpInWide, LastNotExit, Unset, FrameWrite, PointerUse, Bounds, StackUnset, ContextWrite, Helper, Argument, ExitPointer, Memory}
+use Rattle.verify.specs.declared.error.VerifyError.{VerifyError}
+use Rattle.verify.specs.declared.error.VerifyError.TheVariants.{At, Memory}
+use Rattle.verify.specs.declared.reason.Reason.{Reason}
+use Rattle.verify.specs.declared.reason.Reason.TheVariants.{BackJump, JumpOut, JumpInWide, LastNotExit}
 
 -- a test, and the fault that stands where it holds
 abbrev pub Check : Type 0
-Check = Bool × Fault
+Check = Bool × VerifyError
 
 -- the first fault of a list of checks
-abbrev pub first_fault : List Check → Option Fault
+abbrev pub first_fault : List Check → Option VerifyError
 first_fault [] = None
 first_fault (check ∷ checks) = if check.0 then Some check.1 else first_fault checks
 
 -- the checks of a jump from a unit: its target lies further on, not past the end, and an instruction starts there
 abbrev pub target_checks : List Insn → ℕ → ℤ → List Check
-target_checks program unit (negsuc n) = (true, BackJump unit) ∷ []
+target_checks program unit (negsuc n) = (true, At BackJump unit) ∷ []
 target_checks program unit (pos target) =
-    (nat_le target unit, BackJump unit)
-    ∷ (nat_le (length (slots_of program)) target, JumpOut unit)
-    ∷ (is_none (instruction_at program target), JumpInWide unit)
+    (nat_le target unit, At BackJump unit)
+    ∷ (nat_le (length (slots_of program)) target, At JumpOut unit)
+    ∷ (is_none (instruction_at program target), At JumpInWide unit)
     ∷ []
 
 -- the checks of an instruction: a jump counts units from the following one (RFC 9669, section 4.3)
@@ -44,43 +46,27 @@ is_exit _ = false
 -- the check that the last of the instructions from a unit on is the exit
 abbrev pub last_checks : ℕ → List Insn → List Check
 last_checks unit [] = []
-last_checks unit (i ∷ []) = (if is_exit i then false else true, LastNotExit unit) ∷ []
+last_checks unit (i ∷ []) = (if is_exit i then false else true, At LastNotExit unit) ∷ []
 last_checks unit (i ∷ j ∷ is) = last_checks (unit + units_of i) (j ∷ is)
 
 -- the structural fault of a program: the first of its instructions' faults in their order, and behind them that the last is not the exit
-abbrev pub structural_fault : List Insn → Option Fault
+abbrev pub structural_fault : List Insn → Option VerifyError
 structural_fault program = first_fault (checks_from program 0 program ++ last_checks 0 program)
 
+-- a reason of the pass's own, none of structure
+abbrev pub IsOwn : Reason → Type 0
+IsOwn BackJump = ⊥
+IsOwn JumpOut = ⊥
+IsOwn JumpInWide = ⊥
+IsOwn LastNotExit = ⊥
+IsOwn reason = Unit {0}
+
 -- the fault is the pass's own, of the instruction at that unit
-abbrev pub IsFaultAt : ℕ → Fault → Type 0
-IsFaultAt at (BackJump unit) = ⊥
-IsFaultAt at (JumpOut unit) = ⊥
-IsFaultAt at (JumpInWide unit) = ⊥
-IsFaultAt at (LastNotExit unit) = ⊥
-IsFaultAt at (Unset unit) = unit ≡ at
-IsFaultAt at (FrameWrite unit) = unit ≡ at
-IsFaultAt at (PointerUse unit) = unit ≡ at
-IsFaultAt at (Bounds unit) = unit ≡ at
-IsFaultAt at (StackUnset unit) = unit ≡ at
-IsFaultAt at (ContextWrite unit) = unit ≡ at
-IsFaultAt at (Helper unit) = unit ≡ at
-IsFaultAt at (Argument unit) = unit ≡ at
-IsFaultAt at (ExitPointer unit) = unit ≡ at
+abbrev pub IsFaultAt : ℕ → VerifyError → Type 0
+IsFaultAt at (At reason unit) = IsOwn reason × (unit ≡ at)
 IsFaultAt at Memory = Unit {0}
 
 -- the fault is none of structure, and an instruction stands at its unit, if it has one
-abbrev pub IsOwnFault : List Insn → Fault → Type 0
-IsOwnFault program (BackJump unit) = ⊥
-IsOwnFault program (JumpOut unit) = ⊥
-IsOwnFault program (JumpInWide unit) = ⊥
-IsOwnFault program (LastNotExit unit) = ⊥
-IsOwnFault program (Unset unit) = IsSome (instruction_at program unit)
-IsOwnFault program (FrameWrite unit) = IsSome (instruction_at program unit)
-IsOwnFault program (PointerUse unit) = IsSome (instruction_at program unit)
-IsOwnFault program (Bounds unit) = IsSome (instruction_at program unit)
-IsOwnFault program (StackUnset unit) = IsSome (instruction_at program unit)
-IsOwnFault program (ContextWrite unit) = IsSome (instruction_at program unit)
-IsOwnFault program (Helper unit) = IsSome (instruction_at program unit)
-IsOwnFault program (Argument unit) = IsSome (instruction_at program unit)
-IsOwnFault program (ExitPointer unit) = IsSome (instruction_at program unit)
+abbrev pub IsOwnFault : List Insn → VerifyError → Type 0
+IsOwnFault program (At reason unit) = IsOwn reason × IsSome (instruction_at program unit)
 IsOwnFault program Memory = Unit {0}

@@ -1,22 +1,27 @@
 -- What is said of a fault.
 use Rattle.std.specs.Prelude.{ℕ, List, ◌++◌, codes}
 use Rattle.std.specs.Fmt.{decimal}
-use Rattle.verify.specs.declared.fault.Fault.{Fault}
-use Rattle.verify.specs.declared.fault.Fault.TheVariants as fault
+use Rattle.verify.specs.declared.error.VerifyError.{VerifyError}
+use Rattle.verify.specs.declared.error.VerifyError.TheVariants.{At, Memory}
+use Rattle.verify.specs.declared.reason.Reason.{Reason}
+use Rattle.verify.specs.declared.reason.Reason.TheVariants.{BackJump, JumpOut, JumpInWide, LastNotExit, Unset, FrameWrite, PointerUse, Bounds, StackUnset, ContextWrite, Helper, Argument, ExitPointer}
+
+abbrev pub code_of : Reason → List ℕ
+code_of BackJump = codes "V1"
+code_of JumpOut = codes "V2"
+code_of JumpInWide = codes "V3"
+code_of LastNotExit = codes "V4"
+code_of Unset = codes "V5"
+code_of FrameWrite = codes "V6"
+code_of PointerUse = codes "V7"
+code_of Bounds = codes "V8"
+code_of StackUnset = codes "V9"
+code_of ContextWrite = codes "V10"
+code_of Helper = codes "V11"
+code_of Argument = codes "V12"
+code_of ExitPointer = codes "V13"
 
 -- the code, and the unit
-abbrev pub told : Fault → List ℕ
-told (fault.BackJump unit) = codes "V1 unit " ++ decimal unit
-told (fault.JumpOut unit) = codes "V2 unit " ++ decimal unit
-told (fault.JumpInWide unit) = codes "V3 unit " ++ decimal unit
-told (fault.LastNotExit unit) = codes "V4 unit " ++ decimal unit
-told (fault.Unset unit) = codes "V5 unit " ++ decimal unit
-told (fault.FrameWrite unit) = codes "V6 unit " ++ decimal unit
-told (fault.PointerUse unit) = codes "V7 unit " ++ decimal unit
-told (fault.Bounds unit) = codes "V8 unit " ++ decimal unit
-told (fault.StackUnset unit) = codes "V9 unit " ++ decimal unit
-told (fault.ContextWrite unit) = codes "V10 unit " ++ decimal unit
-told (fault.Helper unit) = codes "V11 unit " ++ decimal unit
-told (fault.Argument unit) = codes "V12 unit " ++ decimal unit
-told (fault.ExitPointer unit) = codes "V13 unit " ++ decimal unit
-told fault.Memory = codes "out of memory"
+abbrev pub told : VerifyError → List ℕ
+told (At reason unit) = code_of reason ++ codes " unit " ++ decimal unit
+told Memory = codes "out of memory"

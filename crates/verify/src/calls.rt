@@ -8,10 +8,10 @@ ghost use Rattle.absval.specs.Contains.{IsPointerIn, is_number};
 ghost use Rattle.absval.specs.Windows.{room_of};
 ghost use Rattle.absmem.specs.Describes.{Describes as StackDescribes, AreBytes};
 ghost use Rattle.helper.specs.Table.{bound_of, arguments_of};
-ghost use Rattle.helper.specs.Results.{result_of};
+ghost use Rattle.helper.specs.Results.{returned_range};
 ghost use Rattle.verify.specs.Gamma.{RegistersDescribe};
 ghost use Rattle.verify.specs.Outcomes.{Follows};
-ghost use Rattle.verify.specs.Calls.{answer_of, argument_reason, taken_reason, arguments_reason, known_at, IsBelow, IsPointer, window_from, target_reason, source_reason, copy_reason, row_reason, window_reason, call_reason, is_certain, IsBehind, IsWrittenTo, IsCopied, StackBehind};
+ghost use Rattle.verify.specs.Calls.{answer_of, argument_reason, taken_reason, arguments_reason, abstract_at, IsBelow, IsPointer, window_from, target_reason, source_reason, copy_reason, row_reason, window_reason, call_reason, is_certain, IsBehind, IsWrittenTo, IsCopied, StackBehind};
 ghost use Rattle.verify.specs.CallStates.{Puts, WordsStand, CopyStands, RowStands, WindowStands};
 
 use crate::reason::Reason;
@@ -60,7 +60,7 @@ fn check_taken(argument: Option<Argument>, value: AbsVal) -> Result<(), Reason>
 /// What is known of a register.
 fn known(registers: &[AbsVal; 11], r: usize) -> AbsVal
     requires { r < 11 }
-    ensures { result ≡ known_at registers.now r }
+    ensures { result ≡ abstract_at registers.now r }
 {
     registers[r]
 }
@@ -217,7 +217,7 @@ fn put_result(registers: &mut [AbsVal; 11], range: Range)
 pub fn call(state: &mut AbsState, number: i32) -> Result<(), Reason>
     ensures holds { OnOk result (Follows state.old (Insn.Call number) state.new) }
     ensures refused { result ≡ answer_of (call_reason state.old number) }
-    ensures registers { OnOk result (IfSome (helper_of number) (λ h. IsBehind (within (result_of h)) state.old.registers state.new.registers)) }
+    ensures registers { OnOk result (IfSome (helper_of number) (λ h. IsBehind (within (returned_range h)) state.old.registers state.new.registers)) }
     ensures stack { OnOk result (IfSome (helper_of number) (λ h. StackBehind h state.old state.new.stack)) }
     ensures kept { OnErr result (state.new ≡ state.old) }
 {

@@ -4,7 +4,9 @@
 mod branches;
 mod calls;
 mod comparison;
-mod fault;
+mod error;
+mod known;
+mod laws;
 mod memory;
 mod pass;
 mod pending;
@@ -16,6 +18,10 @@ mod structure;
 mod verified;
 mod verifier;
 
-pub use fault::{Fault, Refusal};
+pub use error::{VerifyError, Refused};
+pub use known::{Survey, known_at_units};
+pub use laws::{accepted_is_sound, passes_agree, plain_is_accepted};
+pub use reason::Reason;
+pub use state::AbsState;
 pub use verified::Verified;
 pub use verifier::verify;

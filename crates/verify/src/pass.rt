@@ -1,10 +1,9 @@
 //! The forward pass.
 ghost use Rattle.std.specs.Prelude.{◌≡◌, ◌≤◌, ◌<◌, ◌+◌, ◌∷◌, ◌⊎◌, List, ℕ, pos, ◌<ℤ◌, ◌+ℤ◌, length, IfOk, IfErr, OnOk, IsOk, IsErrAnd, Ok, option_map};
 ghost use Rattle.std.specs.Result.{result_err};
-ghost use Rattle.verify.specs.Faults.{fault_at};
 ghost use Rattle.verify.specs.Registers.{seen, known_at, operand_known, edge_known};
 ghost use Rattle.verify.specs.Reasons.{first_reason, compare_checks, exit_checks};
-ghost use Rattle.verify.specs.Flow.{JumpFlows, EdgeFlows, BranchFlows, Answers, slot_at};
+ghost use Rattle.verify.specs.Flow.{JumpFlows, EdgeFlows, BranchFlows, Answers, kept_at};
 ghost use Rattle.verify.specs.Instructions.{straight_reason, reason_of, StraightFlows, StateFlows, AnswersAt, UnitFlows};
 ghost use Rattle.verify.specs.Passes.{ComesThrough, IsFirstFault};
 ghost use Rattle.insn.specs.Program.{slots_of, instruction_at};
@@ -17,10 +16,10 @@ ghost use Rattle.verify.specs.Branches.{decided_by, branch_of};
 ghost use Rattle.verify.specs.Safe.{StartsSafe};
 ghost use Rattle.verify.specs.Reads.{AllNumbers, AllRead};
 ghost use Rattle.verify.specs.Outcomes.{IsStraight};
-ghost use Rattle.verify.specs.Slots.{Slot, IsAt, Keeps, LeadsOn, IsPassed, EdgesInside, EdgesForward, BlanksFrom, BlanksComeTo, BlanksAreUnwritten};
+ghost use Rattle.verify.specs.Kept.{Kept, IsAt, Keeps, LeadsOn, IsPassed, EdgesInside, EdgesForward, BlanksFrom, BlanksComeTo, BlanksAreUnwritten};
 
 use crate::comparison::Comparison;
-use crate::fault::Fault;
+use crate::error::VerifyError;
 use crate::pending::{Pending, boxed, empty, flow, second, take};
 use crate::state::AbsState;
 use crate::structure::forward_target;
@@ -34,7 +33,7 @@ fn pass_straight(
     insn: &Insn,
     mut state: Box<AbsState>,
     pending: &mut Pending,
-) -> Result<(), Fault>
+) -> Result<(), VerifyError>
     requires straight { IsStraight insn.now }
     requires bound { unit < 4096 }
     requires edges { EdgesInside insn.now unit (length pending.old.items) }
@@ -42,13 +41,13 @@ fn pass_straight(
     ensures leads { OnOk result (LeadsOn state.value insn.now unit pending.new.items) }
     ensures keeps { OnOk result (Keeps pending.old.items pending.new.items) }
     ensures own { IfErr result (IsFaultAt unit) }
-    ensures plain { IsOfNumbers insn.now → (IsIn 10 (writes insn.now) → ⊥) → AllRead insn.now state.value.registers → IfErr result (λ fault. fault ≡ Fault.Memory) }
+    ensures plain { IsOfNumbers insn.now → (IsIn 10 (writes insn.now) → ⊥) → AllRead insn.now state.value.registers → IfErr result (λ fault. fault ≡ VerifyError.Memory) }
     ensures blanks { OnOk result (IsOfNumbers insn.now → AllRead insn.now state.value.registers → BlanksFrom insn.now unit state.value.registers pending.old.items pending.new.items) }
-    ensures refused { result_err result ≡ option_map (λ r. fault_at r unit) (straight_reason insn.now state.value) }
+    ensures refused { result_err result ≡ option_map (λ r. VerifyError.At r unit) (straight_reason insn.now state.value) }
     ensures flows { OnOk result (StraightFlows state.value insn.now unit pending.old.items pending.new.items) }
 {
     if let Err(reason) = steps::straight(&mut state, insn) {
-        return Err(reason.at(unit));
+        return Err(VerifyError::At(reason, unit));
     }
     flow(pending, unit + insn.units() as usize, state);
     Ok(())
@@ -96,7 +95,7 @@ fn pass_branch(
     distance: i16,
     state: Box<AbsState>,
     pending: &mut Pending,
-) -> Result<(), Fault>
+) -> Result<(), VerifyError>
     requires bound { unit < 4096 }
     requires forward { pos unit <ℤ (pos (unit + 1) +ℤ distance) }
     requires edges { EdgesInside (branch_of compared.now distance) unit (length pending.old.items) }
@@ -104,16 +103,16 @@ fn pass_branch(
     ensures leads { OnOk result (LeadsOn state.value (branch_of compared.now distance) unit pending.new.items) }
     ensures keeps { OnOk result (Keeps pending.old.items pending.new.items) }
     ensures own { IfErr result (IsFaultAt unit) }
-    ensures plain { AllNumbers (compared.now.dst ∷ operand_reads compared.now.operand) state.value.registers → IfErr result (λ fault. fault ≡ Fault.Memory) }
+    ensures plain { AllNumbers (compared.now.dst ∷ operand_reads compared.now.operand) state.value.registers → IfErr result (λ fault. fault ≡ VerifyError.Memory) }
     ensures blanks { OnOk result (BlanksFrom (branch_of compared.now distance) unit state.value.registers pending.old.items pending.new.items) }
     ensures refused { Answers (first_reason (compare_checks (known_at (seen state.value.registers) compared.now.dst) (operand_known (seen state.value.registers) compared.now.operand))) unit result }
     ensures flows { OnOk result (BranchFlows compared.now distance state.value unit pending.old.items pending.new.items) }
 {
     if let Err(reason) = steps::compare(&state, compared) {
-        return Err(reason.at(unit));
+        return Err(VerifyError::At(reason, unit));
     }
     let Ok(other) = second(alloc, pending, &state) else {
-        return Err(Fault::Memory);
+        return Err(VerifyError::Memory);
     };
     pass_edge(unit + 1, compared, false, other, pending);
     let target = forward_target(unit, i32::from(distance));
@@ -122,14 +121,14 @@ fn pass_branch(
 }
 
 /// The program ends.
-fn pass_exit(unit: usize, state: Box<AbsState>) -> Result<(), Fault>
-    ensures leads { OnOk result ((pending : List Slot) → LeadsOn state.value Insn.Exit unit pending) }
+fn pass_exit(unit: usize, state: Box<AbsState>) -> Result<(), VerifyError>
+    ensures leads { OnOk result ((pending : List Kept) → LeadsOn state.value Insn.Exit unit pending) }
     ensures own { IfErr result (IsFaultAt unit) }
-    ensures plain { AllRead Insn.Exit state.value.registers → IfErr result (λ fault. fault ≡ Fault.Memory) }
-    ensures refused { result_err result ≡ option_map (λ r. fault_at r unit) (first_reason (exit_checks (known_at (seen state.value.registers) 0))) }
+    ensures plain { AllRead Insn.Exit state.value.registers → IfErr result (λ fault. fault ≡ VerifyError.Memory) }
+    ensures refused { result_err result ≡ option_map (λ r. VerifyError.At r unit) (first_reason (exit_checks (known_at (seen state.value.registers) 0))) }
 {
     if let Err(reason) = steps::exit(&state) {
-        return Err(reason.at(unit));
+        return Err(VerifyError::At(reason, unit));
     }
     Ok(())
 }
@@ -141,7 +140,7 @@ fn pass_state(
     insn: &Insn,
     state: Box<AbsState>,
     pending: &mut Pending,
-) -> Result<(), Fault>
+) -> Result<(), VerifyError>
     requires bound { unit < 4096 }
     requires forward { EdgesForward insn.now unit }
     requires inside { EdgesInside insn.now unit (length pending.old.items) }
@@ -149,7 +148,7 @@ fn pass_state(
     ensures leads { OnOk result (LeadsOn state.value insn.now unit pending.new.items) }
     ensures keeps { OnOk result (Keeps pending.old.items pending.new.items) }
     ensures own { IfErr result (IsFaultAt unit) }
-    ensures plain { IsOfNumbers insn.now → (IsIn 10 (writes insn.now) → ⊥) → AllRead insn.now state.value.registers → IfErr result (λ fault. fault ≡ Fault.Memory) }
+    ensures plain { IsOfNumbers insn.now → (IsIn 10 (writes insn.now) → ⊥) → AllRead insn.now state.value.registers → IfErr result (λ fault. fault ≡ VerifyError.Memory) }
     ensures blanks { OnOk result (IsOfNumbers insn.now → AllRead insn.now state.value.registers → BlanksFrom insn.now unit state.value.registers pending.old.items pending.new.items) }
     ensures refused { Answers (reason_of insn.now state.value) unit result }
     ensures flows { OnOk result (StateFlows insn.now state.value unit pending.old.items pending.new.items) }
@@ -184,22 +183,22 @@ fn pass_state(
 }
 
 /// The next unit: what is kept for it flows on.
-fn pass_unit(
+pub fn pass_unit(
     alloc: Global,
     program: &Program,
     unit: usize,
     pending: &mut Pending,
-) -> Result<(), Fault>
+) -> Result<(), VerifyError>
     requires forward { IsForward program.now }
     requires unit { unit < length (slots_of program.now) }
     requires room { length pending.old.items ≡ length (slots_of program.now) }
     ensures length { length pending.new.items ≡ length pending.old.items }
     ensures passed { OnOk result (IsPassed program.now unit pending.old.items pending.new.items) }
     ensures own { IfErr result (IsOwnFault program.now) }
-    ensures plain { IsPlain program.now → BlanksAreUnwritten program.now pending.old.items unit → IfErr result (λ fault. fault ≡ Fault.Memory) }
+    ensures plain { IsPlain program.now → BlanksAreUnwritten program.now pending.old.items unit → IfErr result (λ fault. fault ≡ VerifyError.Memory) }
     ensures blanks { OnOk result (IsPlain program.now → BlanksAreUnwritten program.now pending.old.items unit → BlanksAreUnwritten program.now pending.new.items (unit + 1)) }
-    ensures refused { AnswersAt (instruction_at program.now unit) (slot_at pending.old.items unit) unit result }
-    ensures flows { OnOk result (UnitFlows (instruction_at program.now unit) (slot_at pending.old.items unit) unit pending.old.items pending.new.items) }
+    ensures refused { AnswersAt (instruction_at program.now unit) (kept_at pending.old.items unit) unit result }
+    ensures flows { OnOk result (UnitFlows (instruction_at program.now unit) (kept_at pending.old.items unit) unit pending.old.items pending.new.items) }
 {
     let Some(insn) = program.at(unit) else {
         return Ok(());
@@ -211,13 +210,13 @@ fn pass_unit(
 }
 
 /// The forward pass over a program whose every edge leads forward.
-pub fn pass(alloc: Global, program: &Program) -> Result<(), Fault>
+pub fn pass(alloc: Global, program: &Program) -> Result<(), VerifyError>
     requires { IsForward program.now }
     ensures safe { OnOk result (StartsSafe program.now) }
     ensures own { IfErr result (IsOwnFault program.now) }
-    ensures plain { IsPlain program.now → IfErr result (λ fault. fault ≡ Fault.Memory) }
+    ensures plain { IsPlain program.now → IfErr result (λ fault. fault ≡ VerifyError.Memory) }
     ensures passed { OnOk result (ComesThrough program.now) }
-    ensures first { IfErr result (λ fault. (fault ≡ Fault.Memory) ⊎ IsFirstFault program.now fault) }
+    ensures first { IfErr result (λ fault. (fault ≡ VerifyError.Memory) ⊎ IsFirstFault program.now fault) }
 {
     let mut pending = empty(alloc, program.units())?;
     flow(&mut pending, 0, boxed(alloc, registers::at_entry())?);

@@ -1,9 +1,10 @@
 //! The states that are kept for units to come.
-ghost use Rattle.std.specs.Prelude.{◌≡◌, ℕ, ◌<◌, ◌⊎◌, false, None, Some, length, replicate, slice_index_or, slice_set, IfOk};
+ghost use Rattle.std.specs.Prelude.{◌≡◌, ℕ, ◌<◌, ◌⊎◌, false, None, Some, [], length, replicate, slice_index_or, slice_set, IfOk};
 ghost use Rattle.semantics.specs.State.{State};
 ghost use Rattle.verify.specs.Gamma.{Describes, has_number};
 ghost use Rattle.verify.specs.Flow.{Takes, Flows};
-ghost use Rattle.verify.specs.Slots.{Holds, IsAt, Keeps, IsBlank, BlanksComeTo};
+ghost use Rattle.verify.specs.Kept.{Holds, IsAt, Keeps, IsBlank, BlanksComeTo};
+ghost use Rattle.verify.specs.KnownAtUnits.{known_of};
 
 use crate::state::AbsState;
 use std::alloc::{AllocError, Global};
@@ -12,16 +13,16 @@ use std::marker::Model;
 /// What is known at each unit to come, and a box that none of them needs any more.
 #[derive(Drop)]
 pub struct Pending {
-    slots: Vec<Option<Box<AbsState>>>,
+    states: Vec<Option<Box<AbsState>>>,
     spare: Option<Box<AbsState>>,
 }
 
 impl Model for Pending {
-    ghost use Rattle.verify.specs.Slots.{Slots};
+    ghost use Rattle.verify.specs.Kept.{KeptStates};
 
-    ghost Value = { Slots };
+    ghost Value = { KeptStates };
 
-    ghost view = { λ p. record { items = p.slots.items } };
+    ghost view = { λ p. record { items = p.states.items } };
 }
 
 /// A state of its own.
@@ -32,15 +33,27 @@ pub fn boxed(alloc: Global, state: AbsState) -> Result<Box<AbsState>, AllocError
     Ok(boxed)
 }
 
+/// Room for so many states in one piece, none in it yet.
+fn room_for_states(alloc: Global, states: usize) -> Result<Vec<AbsState>, AllocError>
+    ensures { IfOk result (λ room. room.items ≡ []) }
+{
+    Vec::with_capacity(alloc, states)
+}
+
 /// Room for so many units, with nothing kept.
+///
+/// Later a state may wait for each unit, in a box of its own. Room for them all is asked for in one piece and given back at
+/// once: an allocator that takes memory from the system and returns it by what was given back in one piece (as glibc's)
+/// keeps so much from then on, and the boxes of the next program need no new pages. Where it is refused, nothing else is.
 pub fn empty(alloc: Global, units: usize) -> Result<Pending, AllocError>
     ensures { IfOk result (λ pending. pending.items ≡ replicate units None) }
 {
-    let mut slots = Vec::with_capacity(alloc, units)?;
+    drop(room_for_states(alloc, units));
+    let mut states = Vec::with_capacity(alloc, units)?;
     for _unit in 0..units {
-        slots.push(None)?;
+        states.push(None)?;
     }
-    Ok(Pending { slots, spare: None })
+    Ok(Pending { states, spare: None })
 }
 
 /// Takes out what is kept for a unit.
@@ -49,7 +62,18 @@ pub fn take(pending: &mut Pending, unit: usize) -> Option<Box<AbsState>>
     ensures value { result ≡ slice_index_or pending.old.items unit None }
     ensures rest { pending.new.items ≡ slice_set pending.old.items unit None }
 {
-    pending.slots[unit].take()
+    pending.states[unit].take()
+}
+
+/// What is kept for a unit, once more.
+pub fn kept(pending: &Pending, unit: usize) -> Option<AbsState>
+    requires { unit < length pending.now.items }
+    ensures { result ≡ known_of (slice_index_or pending.now.items unit None) }
+{
+    match &pending.states[unit] {
+        Some(state) => Some(state.copy()),
+        None => None,
+    }
 }
 
 /// A state with what is kept already.
@@ -100,6 +124,6 @@ pub fn flow(pending: &mut Pending, unit: usize, state: Box<AbsState>)
     ensures exact { Flows state.value unit pending.old.items pending.new.items }
 {
     let kept = take(pending, unit);
-    pending.slots[unit] = Some(joined(&kept, state));
+    pending.states[unit] = Some(joined(&kept, state));
     set_aside(pending, kept);
 }

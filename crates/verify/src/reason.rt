@@ -1,39 +1,60 @@
-ghost use Rattle.std.specs.Prelude.{◌≡◌};
-ghost use Rattle.verify.specs.Structure.{IsFaultAt};
-ghost use Rattle.verify.specs.Faults.{fault_at};
+use std::error::Error;
+use std::fmt;
 
-use crate::fault::Fault;
-
-/// Why an instruction may not run.
-#[derive(Clone, Copy, Debug, PartialEq, Eq)]
+/// Why an instruction is at fault.
+#[derive(Clone, Copy, Debug, PartialEq, Eq, Drop)]
 pub enum Reason {
+    /// V1: a jump leads to its own unit or back.
+    BackJump,
+    /// V2: a jump leads past the end.
+    JumpOut,
+    /// V3: a jump leads into the second half of a wide instruction.
+    JumpInWide,
+    /// V4: the last instruction is not the exit.
+    LastNotExit,
+    /// V5: a register is read that may be unset.
     Unset,
+    /// V6: the frame pointer is written.
     FrameWrite,
+    /// V7: a pointer is used as it may not be.
     PointerUse,
+    /// V8: an access may leave its region.
     Bounds,
+    /// V9: a cell of the stack is read that may hold no byte.
     StackUnset,
+    /// V10: the context is written.
     ContextWrite,
+    /// V11: a helper is called that is not there.
     Helper,
+    /// V12: a helper is called with an argument that it may not take.
     Argument,
+    /// V13: the program ends with a pointer in r0.
     ExitPointer,
 }
 
-impl Reason {
-    /// The fault of the instruction at the unit.
-    pub fn at(self, unit: usize) -> Fault
-        ensures exact { result ≡ fault_at self unit }
-        ensures own { IsFaultAt unit result }
-    {
-        match self {
-            Reason::Unset => Fault::Unset(unit),
-            Reason::FrameWrite => Fault::FrameWrite(unit),
-            Reason::PointerUse => Fault::PointerUse(unit),
-            Reason::Bounds => Fault::Bounds(unit),
-            Reason::StackUnset => Fault::StackUnset(unit),
-            Reason::ContextWrite => Fault::ContextWrite(unit),
-            Reason::Helper => Fault::Helper(unit),
-            Reason::Argument => Fault::Argument(unit),
-            Reason::ExitPointer => Fault::ExitPointer(unit),
-        }
+impl fmt::Display for Reason {
+    ghost use Rattle.std.specs.Prelude.{Some};
+    ghost use Rattle.verify.specs.Telling.{code_of};
+
+    ghost output = { λ reason. Some (code_of reason) };
+
+    fn fmt<W: fmt::Write>(&self, f: &mut fmt::Formatter<W>) -> fmt::Result {
+        f.write_str(match self {
+            Reason::BackJump => "V1",
+            Reason::JumpOut => "V2",
+            Reason::JumpInWide => "V3",
+            Reason::LastNotExit => "V4",
+            Reason::Unset => "V5",
+            Reason::FrameWrite => "V6",
+            Reason::PointerUse => "V7",
+            Reason::Bounds => "V8",
+            Reason::StackUnset => "V9",
+            Reason::ContextWrite => "V10",
+            Reason::Helper => "V11",
+            Reason::Argument => "V12",
+            Reason::ExitPointer => "V13",
+        })
     }
 }
+
+impl Error for Reason {}

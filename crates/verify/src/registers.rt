@@ -1,5 +1,5 @@
 //! What is known of the registers.
-ghost use Rattle.std.specs.Prelude.{◌≡◌, ◌≤◌, ◌<◌, true, false, List, [], ◌∷◌, slice_index_or, slice_set, replicate};
+ghost use Rattle.std.specs.Prelude.{◌≡◌, ◌≤◌, ◌<◌, ◌&&◌, true, false, List, [], ◌∷◌, slice_index_or, slice_set, replicate};
 ghost use Rattle.semantics.specs.declared.value.Value.{Value};
 ghost use Rattle.semantics.specs.State.{Outbox, entry, value_at, operand_value};
 ghost use Rattle.semantics.specs.Step.{first_operand};
@@ -7,8 +7,8 @@ ghost use Rattle.semantics.specs.Plain.{operand_reads, first_reads};
 ghost use Rattle.absval.specs.Contains.{Contains, is_number};
 ghost use Rattle.verify.specs.Gamma.{RegistersDescribe, Describes, has_number};
 ghost use Rattle.absmem.specs.declared.spill.Spill.{Spill};
-ghost use Rattle.absval.specs.Table.{ends_of};
-ghost use Rattle.verify.specs.Registers.{seen, known_at, operand_known, first_known, entry_known, Joins};
+ghost use Rattle.absval.specs.Table.{ends_of, joined};
+ghost use Rattle.verify.specs.Registers.{seen, known_at, operand_known, first_known, entry_known, joined_all};
 ghost use Rattle.verify.specs.Branches.{StayNumbers};
 ghost use Rattle.verify.specs.Reads.{AllNumbers, LeavesBut, JoinsNumbers};
 
@@ -95,10 +95,23 @@ pub fn join(registers: &mut [AbsVal; 11], other: &[AbsVal; 11])
     ensures left { (vs : List Value) → RegistersDescribe registers.old vs → RegistersDescribe registers.new vs }
     ensures right { (vs : List Value) → RegistersDescribe other.now vs → RegistersDescribe registers.new vs }
     ensures numbers { JoinsNumbers registers.old other.now registers.new 11 }
-    ensures exact { Joins registers.old other.now registers.new 11 }
+    ensures exact { seen registers.new ≡ joined_all (seen registers.old) (seen other.now) }
 {
     for i in 0..11 {
-        registers[i] = absval::join(registers[i], other[i]);
+        join_one(&mut registers[i], &other[i]);
+    }
+}
+
+/// The same of one register: where nothing is known of it, it stays, and the other is not looked at.
+fn join_one(register: &mut AbsVal, other: &AbsVal)
+    ensures left { (v : Value) → Contains register.old v → Contains register.new v }
+    ensures right { (v : Value) → Contains other.now v → Contains register.new v }
+    ensures number { is_number register.new ≡ (is_number register.old && is_number other.now) }
+    ensures exact { ends_of register.new ≡ joined (ends_of register.old) (ends_of other.now) }
+{
+    match register {
+        AbsVal::Unset => {}
+        _ => *register = absval::join(*register, *other),
     }
 }
 
@@ -107,7 +120,17 @@ pub fn assign(registers: &mut [AbsVal; 11], other: &[AbsVal; 11])
     ensures { registers.new ≡ other.now }
 {
     for i in 0..11 {
-        registers[i] = other[i];
+        assign_one(&mut registers[i], &other[i]);
+    }
+}
+
+/// The same of one register: where nothing is known, only that is written.
+fn assign_one(register: &mut AbsVal, other: &AbsVal)
+    ensures { register.new ≡ other.now }
+{
+    match other {
+        AbsVal::Unset => *register = AbsVal::Unset,
+        _ => *register = *other,
     }
 }
 

@@ -3,7 +3,8 @@ ghost use Rattle.std.specs.Prelude.{◌≡◌, ◌<◌, ◌≤◌, ◌+◌, ◌+
 ghost use Rattle.insn.specs.Program.{slots_of};
 ghost use Rattle.verify.specs.Structure.{first_fault, target_checks, jump_checks, checks_from, last_checks, structural_fault, is_exit};
 
-use crate::fault::Fault;
+use crate::error::VerifyError;
+use crate::reason::Reason;
 use insn::{Insn, Program};
 
 /// Where a jump from a unit leads, counted in units.
@@ -24,7 +25,7 @@ pub(crate) fn forward_target(unit: usize, distance: i32) -> usize
 }
 
 /// The fault of a jump from a unit, by so many units, in a program of `end` units.
-fn target_fault(program: &Program, end: usize, unit: usize, distance: i32) -> Option<Fault>
+fn target_fault(program: &Program, end: usize, unit: usize, distance: i32) -> Option<VerifyError>
     requires end { end ≡ length (slots_of program.now) }
     requires bound { end ≤ 4096 }
     requires inside { unit < end }
@@ -32,20 +33,20 @@ fn target_fault(program: &Program, end: usize, unit: usize, distance: i32) -> Op
 {
     let target = target(unit, distance);
     if target <= unit as i64 {
-        return Some(Fault::BackJump(unit));
+        return Some(VerifyError::At(Reason::BackJump, unit));
     }
     let target = target as usize;
     if target >= end {
-        return Some(Fault::JumpOut(unit));
+        return Some(VerifyError::At(Reason::JumpOut, unit));
     }
     if program.at(target).is_none() {
-        return Some(Fault::JumpInWide(unit));
+        return Some(VerifyError::At(Reason::JumpInWide, unit));
     }
     None
 }
 
 /// The fault of the instruction at a unit, if it is a jump.
-fn jump_fault(program: &Program, end: usize, unit: usize, insn: &Insn) -> Option<Fault>
+fn jump_fault(program: &Program, end: usize, unit: usize, insn: &Insn) -> Option<VerifyError>
     requires end { end ≡ length (slots_of program.now) }
     requires bound { end ≤ 4096 }
     requires inside { unit < end }
@@ -60,7 +61,7 @@ fn jump_fault(program: &Program, end: usize, unit: usize, insn: &Insn) -> Option
 }
 
 /// The first fault of the jumps.
-fn first_jump_fault(program: &Program) -> Option<Fault>
+fn first_jump_fault(program: &Program) -> Option<VerifyError>
     ensures { result ≡ first_fault (checks_from program.now 0 program.now) }
 {
     let end = program.units();
@@ -85,18 +86,18 @@ fn is_the_exit(insn: &Insn) -> bool
 }
 
 /// The fault of a last instruction that is not the exit.
-fn last_fault(program: &Program) -> Option<Fault>
+fn last_fault(program: &Program) -> Option<VerifyError>
     ensures { result ≡ first_fault (last_checks 0 program.now) }
 {
     let last = program.len() - 1;
     if is_the_exit(&program.instructions()[last]) {
         return None;
     }
-    Some(Fault::LastNotExit(program.unit_of(last)))
+    Some(VerifyError::At(Reason::LastNotExit, program.unit_of(last)))
 }
 
 /// The first fault of a program's structure.
-pub(crate) fn find_fault(program: &Program) -> Option<Fault>
+pub(crate) fn find_fault(program: &Program) -> Option<VerifyError>
     ensures { result ≡ structural_fault program.now }
 {
     if let Some(fault) = first_jump_fault(program) {

@@ -2,10 +2,11 @@ ghost use Rattle.std.specs.Prelude.{◌≡◌, ◌⊎◌, None, Some, IfOk, IfEr
 ghost use Rattle.semantics.specs.Run.{IsSound};
 ghost use Rattle.semantics.specs.Plain.{IsPlain};
 ghost use Rattle.verify.specs.Structure.{structural_fault, IsOwnFault};
+ghost use Rattle.verify.specs.Judgement.{judged};
 ghost use Rattle.verify.specs.Passes.{IsFirstFault, ComesThrough};
 ghost use Rattle.verify.specs.Safe.{StartsSafe};
 
-use crate::fault::{Fault, Refusal};
+use crate::error::{VerifyError, Refused};
 use crate::pass::pass;
 use crate::structure::find_fault;
 use crate::verified::Verified;
@@ -13,13 +14,15 @@ use insn::Program;
 use std::alloc::Global;
 
 /// The first fault: those of structure, and behind them those of the pass.
-fn check(alloc: Global, program: &Program) -> Result<(), Fault>
+fn check(alloc: Global, program: &Program) -> Result<(), VerifyError>
     ensures sound { OnOk result (IsSound program.now) }
-    ensures plain { IsPlain program.now → IfErr result (λ fault. fault ≡ Fault.Memory) }
+    ensures plain { IsPlain program.now → IfErr result (λ fault. fault ≡ VerifyError.Memory) }
     ensures structural { IfSome (structural_fault program.now) (λ fault. result ≡ Err fault) }
     ensures unstructural { structural_fault program.now ≡ None → IfErr result (IsOwnFault program.now) }
-    ensures first { structural_fault program.now ≡ None → IfErr result (λ fault. (fault ≡ Fault.Memory) ⊎ IsFirstFault program.now fault) }
+    ensures first { structural_fault program.now ≡ None → IfErr result (λ fault. (fault ≡ VerifyError.Memory) ⊎ IsFirstFault program.now fault) }
     ensures passed { OnOk result (ComesThrough program.now) }
+    ensures accepted { OnOk result (judged program.now ≡ None) }
+    ensures refused { IfErr result (λ fault. (fault ≡ VerifyError.Memory) ⊎ (judged program.now ≡ Some fault)) }
 {
     if let Some(fault) = find_fault(program) {
         return Err(fault);
@@ -28,24 +31,29 @@ fn check(alloc: Global, program: &Program) -> Result<(), Fault>
 }
 
 /// The program, if it is accepted, else the first fault. Only the pass takes memory.
-pub fn verify(alloc: Global, program: Program) -> Result<Verified, Refusal>
+pub fn verify(alloc: Global, program: Program) -> Result<Verified, Refused>
+    // The answer is that of one function from programs to faults, want of memory aside.
+    ensures accepted { IfOk result (λ v. judged v ≡ None) }
+    ensures refused { IfErr result (λ r. (r.fault ≡ VerifyError.Memory) ⊎ (judged program ≡ Some r.fault)) }
     ensures same { IfOk result (λ v. v ≡ program) }
-    ensures sound { IfOk result (λ v. IsSound v) }
     ensures back { IfErr result (λ r. r.program ≡ program) }
 
+    // What is accepted is sound.
+    ensures sound { IfOk result (λ v. IsSound v) }
+
     // A plain program is refused only for want of memory.
-    ensures plain { IsPlain program → IfErr result (λ r. r.fault ≡ Fault.Memory) }
+    ensures plain { IsPlain program → IfErr result (λ r. r.fault ≡ VerifyError.Memory) }
 
     // A structural fault is answered exactly where one stands, and then the first. Any other stands at an instruction.
     ensures structural { IfSome (structural_fault program) (λ fault. IsErrAnd result (λ r. r.fault ≡ fault)) }
     ensures unstructural { structural_fault program ≡ None → IfErr result (λ r. IsOwnFault program r.fault) }
 
     // Then it is that of the first instruction at which the pass may not go on, or want of memory. Through what is accepted the pass comes to the end.
-    ensures first { structural_fault program ≡ None → IfErr result (λ r. (r.fault ≡ Fault.Memory) ⊎ IsFirstFault program r.fault) }
+    ensures first { structural_fault program ≡ None → IfErr result (λ r. (r.fault ≡ VerifyError.Memory) ⊎ IsFirstFault program r.fault) }
     ensures passed { IfOk result (λ v. ComesThrough v) }
 {
     match check(alloc, &program) {
         Ok(()) => Ok(Verified::of(program)),
-        Err(fault) => Err(Refusal { program, fault }),
+        Err(fault) => Err(Refused { program, fault }),
     }
 }

@@ -14,7 +14,7 @@ use Rattle.round.specs.Scenario.{Scenario, IsScenario, program_of, shape_of}
 use Rattle.round.specs.Letters.{Letter}
 use Rattle.round.specs.Contexts.{context_of, loyal_letter}
 use Rattle.round.specs.Activation.{Activation, started, is_reached}
-use Rattle.world.specs.Part.{Part, Acting, Silent, Posted, has_posted}
+use Rattle.world.specs.Part.{Part, Acting, Silent, Posted, owes_no_letter}
 use Rattle.world.specs.World.{World, each, round_open, begins, begun, accesses_of, letters_at, round_letters, happen, run}
 use Rattle.round.specs.Runs.{Runs, IsWithin}
 use Rattle.world.specs.Accounted.{IsLetterOf, IsAccountedRound}
@@ -198,7 +198,7 @@ round_again s is closed words ledger piece letters d less legal round =
     let cut : drop w3.opened w3.ledger ≡ piece = (λ i. drop (same.opened i) (ledger_is i)) ∙ drop-append_seam ledger piece in
     let counted : length w3.parts ≡ s.generals = same.count ∙ (ap (λ b. length (cond b (each s.generals (λ g. begins s closed g (program_of s g) ∷ [])) [])) more ∙ each-length s.generals (λ g. begins s closed g (program_of s g))) in
     let letters_are : round_letters w3 ≡ letters = letters_again s closed piece letters round w3 d3.scenario same.closed cut counted d3.kept ripe ways3 in
-    let full_is : (w3.full && list_all has_posted w3.parts) ≡ true = ap (λ b. b && list_all has_posted w3.parts) same.full ∙ all_posted w3.parts ripe.posted_all in
+    let full_is : (w3.full && list_all owes_no_letter w3.parts) ≡ true = ap (λ b. b && list_all owes_no_letter w3.parts) same.full ∙ all_posted w3.parts ripe.posted_all in
     let all = posts s ++ (ends s ++ Close ∷ []) in
     let there : run w1 all ≡ happen w3 Close = run-append (posts s) (ends s ++ Close ∷ []) w1 ∙ run-append (ends s) (Close ∷ []) w2 in
     let open3 : round_open w3.scenario w3.closed ≡ true = (λ i. round_open (d3.scenario i) (same.closed i)) ∙ more in

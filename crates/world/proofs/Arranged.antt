@@ -1,6 +1,6 @@
 -- Accounted rounds, one behind the other, are accounted letters.
 use Rattle.std.proofs.Common.{◌≡◌, ◌≢◌, ℕ, zero, suc, ◌+◌, ◌*◌, ◌<◌, ◌≤◌, List, [], ◌∷◌, ◌++◌, length, take, drop, true, false, refl, sym, ap, subst, ◌∙◌, ⊎_elim, Option, None, Some, arith, length-append}
-use Rattle.std.specs.Prelude.{◌==◌, ◌&&◌, Bool, slice_get, flat_map, sum_by}
+use Rattle.std.specs.Prelude.{◌==◌, ◌&&◌, Bool, slice_get, flat_map, sum_by, option_to_list}
 use Rattle.std.proofs.Math.Nat.{suc-mul}
 use Rattle.std.proofs.lemmas.Bool.{eq-eqb, ne_eqb}
 use Rattle.std.proofs.lemmas.Bool.Decides.{eqb_tells}
@@ -10,16 +10,17 @@ use Rattle.board.specs.Board.{Access}
 use Rattle.round.specs.Scenario.{Scenario, program_of}
 use Rattle.round.specs.Letters.{Letter}
 use Rattle.world.specs.World.{each}
-use Rattle.world.specs.Accounted.{IsLetterOf, AreAccounted, letter_by, alone, row_by, rounds_of, IsAccounted}
+use Rattle.world.specs.Accounted.{IsLetterOf, AreAccounted, letter_by, letters_by, rounds_of, IsAccounted}
 use Rattle.world.proofs.Accounting.{accounted_count}
+use Rattle.round.proofs.Lists.{some_at}
 
-abbrev is_by : ℕ → ℕ → Letter → Bool
+abbrev pub is_by : ℕ → ℕ → Letter → Bool
 is_by g round l = (l.general == g) && (l.round == round)
 
-by_true : (g round : ℕ) (l : Letter) → l.general ≡ g → l.round ≡ round → is_by g round l ≡ true
+pub by_true : (g round : ℕ) (l : Letter) → l.general ≡ g → l.round ≡ round → is_by g round l ≡ true
 by_true g round l a b = rw (eq-eqb l.general g a, eq-eqb l.round round b) refl
 
-by_false : (g round : ℕ) (l : Letter) → (l.general ≡ g → l.round ≡ round → ⊥) → is_by g round l ≡ false
+pub by_false : (g round : ℕ) (l : Letter) → (l.general ≡ g → l.round ≡ round → ⊥) → is_by g round l ≡ false
 by_false g round l not = ⊎_elim
     (λ (x : (l.general == g ≡ true) × (l.general ≡ g)). rw x.0 (ne_eqb l.round round (λ e. not x.1 e)))
     (λ (x : (l.general == g ≡ false) × (l.general ≢ g)). rw x.0 refl)
@@ -64,15 +65,10 @@ snoc [] n x e = cc
 snoc (y ∷ xs) zero x e = (let f : y ≡ x = cc in ap (λ z. z ∷ []) f)
 snoc (y ∷ xs) (suc n) x e = ap (λ ys. y ∷ ys) (snoc xs n x e)
 
-inside : {A : Type 0} (xs : List A) (n : ℕ) → n < length xs → (x : A) × (slice_get xs n ≡ Some x)
-inside [] n lt = absurd (omega arith)
-inside (x ∷ xs) zero lt = (x, refl)
-inside (x ∷ xs) (suc n) lt = inside xs n (omega arith)
-
 each_front : {A : Type 0} (xs : List A) (f : ℕ → List A) → ((g : ℕ) (x : A) → slice_get xs g ≡ Some x → f g ≡ x ∷ []) → (n : ℕ) → n ≤ length xs → each n f ≡ take n xs
 each_front xs f h zero le = refl
 each_front xs f h (suc n) le =
-    let l = inside xs n (omega arith) in
+    let l = some_at xs n (omega arith) in
     (λ i. each_front xs f h n (omega arith) i ++ h n l.0 l.1 i) ∙ sym (snoc xs n l.0 l.1)
 
 grid_long : (n t i : ℕ) (rounds : List (List Letter)) (row : List Letter) → IsGridFrom n t rounds → slice_get rounds i ≡ Some row → length row ≡ n
@@ -84,12 +80,12 @@ grid_count : (n t : ℕ) (rounds : List (List Letter)) → IsGridFrom n t rounds
 grid_count n t [] h = (let e : 0 ≡ 0 * n = omega arith in e)
 grid_count n t (row ∷ rounds) h = (let e = grid_count n (suc t) rounds h.1 in let l = h.0.0 in omega (arith, length-append row (all rounds), suc-mul (length rounds) n))
 
-row_is : (n r : ℕ) (rounds : List (List Letter)) (row : List Letter) → IsGridFrom n 1 rounds → slice_get rounds r ≡ Some row → row_by n (suc r) (all rounds) ≡ row
+row_is : (n r : ℕ) (rounds : List (List Letter)) (row : List Letter) → IsGridFrom n 1 rounds → slice_get rounds r ≡ Some row → letters_by n (suc r) (all rounds) ≡ row
 row_is n r rounds row h at =
     let long = grid_long n 1 r rounds row h at in
-    let A : ℕ → Type 0 = λ u. (g : ℕ) (l : Letter) → slice_get row g ≡ Some l → alone (letter_by g u (all rounds)) ≡ l ∷ [] in
-    let one : A (suc r) = subst A (let e : 1 + r ≡ suc r = omega arith in e) (λ g l here. ap alone (grid_get n 1 r g rounds row l h at here)) in
-    each_front row (λ g. alone (letter_by g (suc r) (all rounds))) one n (omega arith) ∙ take_all n row (omega arith)
+    let A : ℕ → Type 0 = λ u. (g : ℕ) (l : Letter) → slice_get row g ≡ Some l → option_to_list (letter_by g u (all rounds)) ≡ l ∷ [] in
+    let one : A (suc r) = subst A (let e : 1 + r ≡ suc r = omega arith in e) (λ g l here. ap option_to_list (grid_get n 1 r g rounds row l h at here)) in
+    each_front row (λ g. option_to_list (letter_by g (suc r) (all rounds))) one n (omega arith) ∙ take_all n row (omega arith)
 
 -- from what accounts for them
 row_from : (t k : ℕ) (row : List Letter) → ((i : ℕ) (l : Letter) → slice_get row i ≡ Some l → (l.general ≡ k + i) × (l.round ≡ t)) → IsRowFrom k t row
@@ -117,5 +113,5 @@ all_accounted s ledger rounds h =
     let grid : IsGridFrom s.generals 1 rounds = grid_from s rounds [] ledger h in
     let count : length rounds ≡ suc s.bound = (let c = accounted_count s rounds [] ledger h in omega arith) in
     let same : rounds_of s (all rounds) ≡ rounds =
-    each_front rounds (λ r. row_by s.generals (suc r) (all rounds) ∷ []) (λ r row at. ap (λ x. x ∷ []) (row_is s.generals r rounds row grid at)) (suc s.bound) (omega arith) ∙ take_all (suc s.bound) rounds (omega arith) in
+    each_front rounds (λ r. letters_by s.generals (suc r) (all rounds) ∷ []) (λ r row at. ap (λ x. x ∷ []) (row_is s.generals r rounds row grid at)) (suc s.bound) (omega arith) ∙ take_all (suc s.bound) rounds (omega arith) in
     (grid_count s.generals 1 rounds grid ∙ ap (λ n. n * s.generals) count, (let A : List (List Letter) → Type 0 = λ r. AreAccounted s [] ledger r in subst A (sym same) h))

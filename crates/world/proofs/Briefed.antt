@@ -1,10 +1,9 @@
 -- Parts that were not told anything yet, and are told it one by one.
 use Rattle.std.proofs.Common.{◌≡◌, ◌≢◌, ℕ, zero, suc, ◌+◌, ◌<◌, ◌≤◌, List, [], ◌∷◌, length, cond, refl, sym, ap, subst, ◌∙◌, ⊎_elim, Option, Some, None, true, false, arith}
 use Rattle.std.specs.Prelude.{slice_get, slice_set, nat_lt, ◌==◌}
-use Rattle.std.proofs.lemmas.Bool.{lt-ltb, ltb-true, ltb-false}
+use Rattle.std.proofs.lemmas.Bool.{lt-ltb, ltb-true, ltb-false, cases_Bool}
 use Rattle.std.proofs.lemmas.Bool.Decides.{eqb_tells}
 use Rattle.std.proofs.lemmas.Option.{slice_get_past}
-use Rattle.round.proofs.Lists.{either_way}
 use Rattle.insn.specs.declared.insn.Insn.{Insn}
 use Rattle.semantics.specs.Relay.{oral}
 use Rattle.round.specs.Scenario.{Scenario, program_of, shape_of}
@@ -29,7 +28,7 @@ ext (x ∷ xs) (y ∷ ys) h =
 -- behind the last round nobody has a part
 pub none_left : (s : Scenario) (closed : List (List Letter)) (ps : List Part) → s.bound < length closed → ps ≡ blanks s (length closed) → ps ≡ beginnings s closed
 none_left s closed ps past same =
-    let shut : nat_lt (length closed) (suc s.bound) ≡ false = ⊎_elim (λ (h : nat_lt (length closed) (suc s.bound) ≡ true). absurd (let l = ltb-true (length closed) (suc s.bound) h in omega arith)) (λ (h : nat_lt (length closed) (suc s.bound) ≡ false). h) (either_way (nat_lt (length closed) (suc s.bound))) in
+    let shut : nat_lt (length closed) (suc s.bound) ≡ false = ⊎_elim (λ (h : nat_lt (length closed) (suc s.bound) ≡ true). absurd (let l = ltb-true (length closed) (suc s.bound) h in omega arith)) (λ (h : nat_lt (length closed) (suc s.bound) ≡ false). h) (cases_Bool (nat_lt (length closed) (suc s.bound))) in
     same ∙ (ap (λ b. cond b (each s.generals (λ g. blank s (length closed) g (program_of s g) ∷ [])) []) shut ∙ sym (ap (λ b. cond b (each s.generals (λ g. begins s closed g (program_of s g) ∷ [])) []) shut))
 
 -- the first so many are told, the others not
@@ -79,7 +78,7 @@ module _ (s : Scenario) (closed : List (List Letter)) (le : length closed ≤ s.
       let none' : slice_get (each s.generals (λ g. begins s closed g (program_of s g) ∷ [])) j ≡ None =
       slice_get_past (each s.generals (λ g. begins s closed g (program_of s g) ∷ [])) j (let l = each-length s.generals (λ g. begins s closed g (program_of s g)) in omega arith) in
       h.left j past ∙ (ap (λ (l : List Part). slice_get l j) blanks_are ∙ (none ∙ sym (ap (λ (l : List Part). slice_get l j) begins_are ∙ none'))))
-      (either_way (nat_lt j n)))
+      (cases_Bool (nat_lt j n)))
 
 -- a part that is told what its general is told begins the round
 pub blank_started : (s : Scenario) (n g : ℕ) (o : Option (List Insn)) (a : Activation) → blank s n g o ≡ Acting a → a ≡ started a.patience a.program a.context a.relay

@@ -11,9 +11,9 @@ use Rattle.world.specs.declared.event.Event.{Event}
 use Rattle.world.specs.declared.event.Event.TheVariants.{Tick, Post, Close}
 use Rattle.round.specs.Scenario.{Scenario, program_of}
 use Rattle.round.specs.Activation.{Activation, Turn, Goes, Asks, Ended, turn, has_ended}
-use Rattle.world.specs.Part.{Part, Acting, Silent, Posted, has_posted}
+use Rattle.world.specs.Part.{Part, Acting, Silent, Posted, owes_no_letter}
 use Rattle.world.specs.World.{World, happen, run, each, ticked, served, posting}
-use Rattle.world.specs.Lists.{Throughout, AtClose, HasPosted, HasEnded, post_of, ticks_of, IsMove, AreMoves, IsRipe}
+use Rattle.world.specs.Lists.{Throughout, AtClose, OwesNoLetter, HasEnded, post_of, ticks_of, IsMove, AreMoves, IsRipe}
 use Rattle.world.proofs.Kept.{Fits, IsKept}
 use Rattle.world.proofs.Listing.{set-here}
 use Rattle.world.proofs.Moves.{moves-append, moves_same, moves_board, run-append, AllParts, IsLasting, moves_keep}
@@ -68,7 +68,7 @@ ended_lasts n = record {
   posts = λ g h lt. tt;
 }
 
-posted_lasts : (n : ℕ) → IsLasting (λ g part. g < n → HasPosted part)
+posted_lasts : (n : ℕ) → IsLasting (λ g part. g < n → OwesNoLetter part)
 posted_lasts n = record { goes = λ g a b h e lt. refl; asks = λ g a q f r h e fit lt. refl; posts = λ g h lt. refl }
 
 -- ticks bring an activation to its end
@@ -160,18 +160,18 @@ posts s = each s.generals (λ g. post_of g (program_of s g))
 unfoldable pub ends : Scenario → List Event
 ends s = each s.generals (λ g. ticks_of g (program_of s g))
 
-post_brings : (s : Scenario) (g : ℕ) (w : World) (part : Part) → (o : Option (List Insn)) → Fits o part → slice_get w.parts g ≡ Some part → (part' : Part) → slice_get (run w (post_of g o)).parts g ≡ Some part' → HasPosted part'
+post_brings : (s : Scenario) (g : ℕ) (w : World) (part : Part) → (o : Option (List Insn)) → Fits o part → slice_get w.parts g ≡ Some part → (part' : Part) → slice_get (run w (post_of g o)).parts g ≡ Some part' → OwesNoLetter part'
 post_brings s g w (Acting a) None fits at part' e = absurd fits
 post_brings s g w Silent None fits at part' e =
     let A : Option Part → Type 0 = λ o. slice_get (posting w g o).parts g ≡ Some part' in
     let f : slice_get (slice_set w.parts g Posted) g ≡ Some part' = subst A at e in
     let h : Some Posted ≡ Some part' = sym (set-here w.parts g Posted Silent at) ∙ f in
-    let i : Posted ≡ part' = cc in ap has_posted (sym i)
+    let i : Posted ≡ part' = cc in ap owes_no_letter (sym i)
 post_brings s g w Posted None fits at part' e =
     let A : Option Part → Type 0 = λ o. slice_get (posting w g o).parts g ≡ Some part' in
     let f : slice_get w.parts g ≡ Some part' = subst A at e in
-    let i : Posted ≡ part' = (let h = sym at ∙ f in cc) in ap has_posted (sym i)
-post_brings s g w (Acting a) (Some p) fits at part' e = let i : Acting a ≡ part' = (let h = sym at ∙ e in cc) in ap has_posted (sym i)
+    let i : Posted ≡ part' = (let h = sym at ∙ f in cc) in ap owes_no_letter (sym i)
+post_brings s g w (Acting a) (Some p) fits at part' e = let i : Acting a ≡ part' = (let h = sym at ∙ e in cc) in ap owes_no_letter (sym i)
 post_brings s g w Silent (Some p) fits at part' e = absurd fits
 post_brings s g w Posted (Some p) fits at part' e = absurd fits
 
@@ -211,8 +211,8 @@ ripens s w is k due =
     let same1 = moves_same (posts s) w (posts_moves s) in
     let same2 = moves_same (ends s) w1 (ends_moves s) in
     let below : (g : ℕ) (part : Part) → slice_get (run w1 (ends s)).parts g ≡ Some part → g < s.generals = (λ g part e. (let A : Scenario → Type 0 = λ t. g < t.generals in subst A (same2.scenario ∙ same1.scenario ∙ is) (k2.parts g part e).0)) in
-    let p1 = brought HasPosted s (λ g. post_of g (program_of s g)) posted_lasts (λ g. post_of_moves g (program_of s g)) (λ g v part board d f at part' e. post_brings s g v part (program_of s g) f at part' e) s.generals w k.board due fits in
-    let p2 = moves_keep (λ g part. g < s.generals → HasPosted part) (posted_lasts s.generals) (ends s) w1 (ends_moves s) k1.board p1 in
+    let p1 = brought OwesNoLetter s (λ g. post_of g (program_of s g)) posted_lasts (λ g. post_of_moves g (program_of s g)) (λ g v part board d f at part' e. post_brings s g v part (program_of s g) f at part' e) s.generals w k.board due fits in
+    let p2 = moves_keep (λ g part. g < s.generals → OwesNoLetter part) (posted_lasts s.generals) (ends s) w1 (ends_moves s) k1.board p1 in
     let e2 = brought HasEnded s (λ g. ticks_of g (program_of s g)) ended_lasts (λ g. ticks_of_moves g (program_of s g)) (λ g v part board d f at part' e. tick_brings s g v part (program_of s g) refl board d f at part' e) s.generals w1 k1.board
     (moves_keep (Due s) (due_lasts s) (posts s) w (posts_moves s) k.board due) (moves_keep (FitsIn s) (fits_lasts s) (posts s) w (posts_moves s) k.board fits) in
     record { posted_all = λ g part e. p2 g part e (below g part e); ended_all = λ g part e. e2 g part e (below g part e) }

@@ -15,10 +15,10 @@ pub record HasCounted (s : Scenario) (g traitors : ℕ) : Type 0 where
   pub few : traitors ≤ g
   pub same : traitors + count_by (is_traitor s) (range_with_len g (s.generals - g)) ≡ count_by (is_traitor s) (generals s.generals)
 
-range_cons : (n g : ℕ) → g < n → range_with_len g (n - g) ≡ g ∷ range_with_len (g + 1) (n - (g + 1))
+pub range_cons : (n g : ℕ) → g < n → range_with_len g (n - g) ≡ g ∷ range_with_len (g + 1) (n - (g + 1))
 range_cons n g l = (let e : n - g ≡ suc (n - (g + 1)) = omega arith in rw e refl)
 
-range_none : (n g : ℕ) → n ≤ g → range_with_len g (n - g) ≡ []
+pub range_none : (n g : ℕ) → n ≤ g → range_with_len g (n - g) ≡ []
 range_none n g l = (let e : n - g ≡ 0 = omega arith in rw e refl)
 
 pub counted_none : (s : Scenario) → HasCounted s 0 0
@@ -48,15 +48,15 @@ counted_all s g t h l =
     let f = h.same in omega arith
 
 -- the lieutenants from a general on
-abbrev from : ℕ → ℕ → ℕ → List ℕ
+abbrev pub from : ℕ → ℕ → ℕ → List ℕ
 from n c g = filter (λ j. not (on (c ∷ []) j)) (range_with_len g (n - g))
 
-from_commander : (n c g : ℕ) → g < n → g ≡ c → from n c g ≡ from n c (g + 1)
+pub from_commander : (n c g : ℕ) → g < n → g ≡ c → from n c g ≡ from n c (g + 1)
 from_commander n c g l e =
     let h : (c == g) ≡ true = eq-eqb c g (sym e) in
     rw (range_cons n g l) (rw h refl)
 
-from_lieutenant : (n c g : ℕ) → g < n → g ≢ c → from n c g ≡ g ∷ from n c (g + 1)
+pub from_lieutenant : (n c g : ℕ) → g < n → g ≢ c → from n c g ≡ g ∷ from n c (g + 1)
 from_lieutenant n c g l ne =
     let h : (c == g) ≡ false = ne_eqb c g (λ e. ne (sym e)) in
     rw (range_cons n g l) (rw h refl)

@@ -14,12 +14,12 @@ use Rattle.tree.specs.LieutenantTree.{LieutenantTree}
 use Rattle.resolve.specs.Decided.{Decides}
 use Rattle.round.specs.Scenario.{Scenario, IsScenario}
 use Rattle.round.specs.Letters.{Letter, messages}
-use Rattle.round.specs.Told.{Heard, WasTold, lieutenant_at}
+use Rattle.round.specs.Told.{ToldSeen, WasTold, lieutenant_at}
 use Rattle.world.specs.Part.{Part}
 use Rattle.world.specs.World.{World, each}
 use Rattle.world.specs.Reached.{world_of}
 use Rattle.world.specs.Chronicle.{decision, decisions}
-use Rattle.world.proofs.Listed.{get_at}
+use Rattle.std.proofs.lemmas.Option.{slice_get-get_or}
 
 at_below : (c i : ℕ) → i < c → lieutenant_at c i ≡ i
 at_below c i lt = rw (lt-ltb i c lt) refl
@@ -63,7 +63,7 @@ singles_long f zero = refl
 singles_long f (suc n) = (let e = singles_long f n in omega (arith, length-append (each n (λ i. f i ∷ [])) (f n ∷ [])))
 
 -- there is room for one decision more
-pub few_decided : (s : Scenario) (before : List (List Letter)) (told : Heard) (trees : List LieutenantTree) (f : ℕ → ℕ) (i : ℕ) (xs : List ℕ) → IsScenario s → WasTold s before told → trees ≡ told.trees → i < length trees →
+pub few_decided : (s : Scenario) (before : List (List Letter)) (told : ToldSeen) (trees : List LieutenantTree) (f : ℕ → ℕ) (i : ℕ) (xs : List ℕ) → IsScenario s → WasTold s before told → trees ≡ told.trees → i < length trees →
     xs ≡ each i (λ j. f j ∷ []) → length xs < 12
 few_decided s before told trees f i xs is was same lt long =
     let n : length xs ≡ i = ap length long ∙ singles_long f i in
@@ -72,12 +72,12 @@ few_decided s before told trees f i xs is was same lt long =
     let few = is.few in
     omega arith
 
-module _ (s : Scenario) (closed : List (List Letter)) (k : Board) (opened : ℕ) (ps : List Part) (full : Bool) (w : World) (told : Heard) (trees : List LieutenantTree) (is : world_of s closed k opened ps full ≡ w) (was : WasTold s closed told) (same : trees ≡ told.trees) where
+module _ (s : Scenario) (closed : List (List Letter)) (k : Board) (opened : ℕ) (ps : List Part) (full : Bool) (w : World) (told : ToldSeen) (trees : List LieutenantTree) (is : world_of s closed k opened ps full ≡ w) (was : WasTold s closed told) (same : trees ≡ told.trees) where
   -- what is resolved of a tree is its lieutenant's decision
   pub tree_decides : (rule : Rule) (i order : ℕ) (t : LieutenantTree) → rule ≡ s.rule → i < length trees → t ≡ get_or trees i t → Decides (combined_by rule) t order →
       order ≡ decision w.scenario (messages w.closed) (lieutenant_at w.scenario.commander i)
   tree_decides rule i order t ruled lt here decides =
-      let at : slice_get told.trees i ≡ Some t = ap (λ (l : List LieutenantTree). slice_get l i) (sym same) ∙ (get_at trees i t lt ∙ ap (λ (x : LieutenantTree). Some x) (sym here)) in
+      let at : slice_get told.trees i ≡ Some t = ap (λ (l : List LieutenantTree). slice_get l i) (sym same) ∙ (slice_get-get_or trees i t lt ∙ ap (λ (x : LieutenantTree). Some x) (sym here)) in
       let of = was.trees i t at in
       decides (messages closed) of.filled
       ∙ ((λ j. om (combined_by (ruled j)) (of.generals j) (messages closed) (of.bound j) (of.commander j ∷ []) (of.general j))

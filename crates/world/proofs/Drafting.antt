@@ -10,7 +10,7 @@ use Rattle.round.specs.Running.{letter_left}
 use Rattle.round.specs.Runs.{IsLetter}
 use Rattle.world.specs.Part.{Part, Acting, Silent, Posted}
 use Rattle.world.specs.World.{each, accesses_of}
-use Rattle.world.specs.Held.{written, letters_held, AreLetters}
+use Rattle.world.specs.Held.{letter_held, letters_held, AreLetters}
 use Rattle.world.specs.Closing.{Draft, Begun, draft_of, drafts_held, letter_from, letters_from, AreDraftsOf}
 use Rattle.world.proofs.Listing.{each-get, each-get_only, each-length}
 
@@ -18,7 +18,7 @@ each-below : {A : Type 0} (n : ℕ) (f h : ℕ → List A) → ((g : ℕ) → g 
 each-below zero f h e = refl
 each-below (suc n) f h e = (λ i. each-below n f h (λ g lt. e g (omega arith)) i ++ e n (omega arith) i)
 
-by_part : (s : Scenario) (closed : List (List Letter)) (accesses : List Access) (g : ℕ) (o : Option Part) → letter_from g (suc (length closed)) (Some (draft_of s closed accesses g o)) o ≡ written s closed accesses g o
+by_part : (s : Scenario) (closed : List (List Letter)) (accesses : List Access) (g : ℕ) (o : Option Part) → letter_from g (suc (length closed)) (Some (draft_of s closed accesses g o)) o ≡ letter_held s closed accesses g o
 by_part s closed accesses g None = refl
 by_part s closed accesses g (Some (Acting a)) = refl
 by_part s closed accesses g (Some Silent) = refl
@@ -33,7 +33,7 @@ module _ (s : Scenario) (closed : List (List Letter)) (accesses : List Access) (
 
   pub drafted : ds ≡ drafts_held s closed accesses ps → round ≡ suc (length closed) → letters_from s.generals round ds ps ≡ letters_held s closed accesses ps
   drafted same counted =
-      each-below s.generals (λ g. letter_from g round (slice_get ds g) (slice_get ps g)) (λ g. written s closed accesses g (slice_get ps g))
+      each-below s.generals (λ g. letter_from g round (slice_get ds g) (slice_get ps g)) (λ g. letter_held s closed accesses g (slice_get ps g))
       (λ g lt.
       let at : slice_get ds g ≡ Some (draft_of s closed accesses g (slice_get ps g)) = ap (λ (l : List Draft). slice_get l g) same ∙ each-get s.generals (λ j. draft_of s closed accesses j (slice_get ps j)) g lt in
       (λ i. letter_from g (counted i) (at i) (slice_get ps g)) ∙ by_part s closed accesses g (slice_get ps g))

@@ -1,8 +1,8 @@
 -- What a close tells the lieutenants, and what a loyal general's letter is made from.
 use Rattle.std.proofs.Common.{◌≡◌, ℕ, zero, suc, ◌<◌, ◌≤◌, List, [], ◌∷◌, ◌++◌, length, drop, refl, sym, ap, subst, ◌∙◌, All, Bool, get_or, Option, Some, None, Result, Ok, Err, arith}
 use Rattle.std.specs.Prelude.{slice_get, IfOk}
-use Rattle.std.proofs.lemmas.Option.{slice_get_within}
-use Rattle.std.proofs.lemmas.List.Elements.{All-append}
+use Rattle.std.proofs.lemmas.Option.{slice_get_within, slice_get-get_or}
+use Rattle.std.proofs.lemmas.List.Elements.{All-append, All-nil}
 use Rattle.label.specs.Relay.{IsShape}
 use Rattle.board.specs.Board.{Access}
 use Rattle.board.specs.Ledger.{RecordedBoard}
@@ -11,26 +11,22 @@ use Rattle.round.specs.Scenario.{Scenario, IsScenario, shape_of}
 use Rattle.round.specs.Letters.{Letter}
 use Rattle.round.specs.Contexts.{AreWords, IsToldTo, context_of, shape_told, letter_told, loyal_letter}
 use Rattle.round.specs.Activation.{Activation}
-use Rattle.round.specs.Told.{Heard, WasTold, AreLettersOf}
+use Rattle.round.specs.Told.{ToldSeen, WasTold, AreLettersOf}
 use Rattle.round.proofs.Contexts.{shape_is}
 use Rattle.round.proofs.Loyal.{shape_is_told, own_is_told, letter_is}
 use Rattle.world.specs.Part.{Part, Acting, Silent, Posted}
 use Rattle.world.specs.World.{World, each}
 use Rattle.world.specs.Reached.{IsHeld}
-use Rattle.world.specs.Held.{written, letters_held}
+use Rattle.world.specs.Held.{letter_held, letters_held}
 use Rattle.world.specs.Safety.{IsPlaced}
 use Rattle.world.proofs.Standing.{proved_parts_are_placed}
-use Rattle.world.proofs.Listed.{get_at}
-
-all_none : {A : Type 0} (P : A → Type 0) → All P []
-all_none P k d lt = absurd (omega arith)
 
 all_one : {A : Type 0} (P : A → Type 0) (x : A) → P x → All P (x ∷ [])
 all_one P x h zero d lt = h
 all_one P x h (suc k) d lt = absurd (omega arith)
 
 each_all : {A : Type 0} (P : A → Type 0) (n : ℕ) (f : ℕ → List A) → ((g : ℕ) → All P (f g)) → All P (each n f)
-each_all P zero f h = all_none P
+each_all P zero f h = All-nil P
 each_all P (suc n) f h = All-append P (each n f) (f n) (each_all P n f h) (h n)
 
 -- the letter is of this round of the campaign
@@ -38,27 +34,27 @@ abbrev IsOfRound : Scenario → ℕ → Letter → Type 0
 IsOfRound s round l = (l.round ≡ round) × (l.outbox.relay.shape ≡ shape_of s l.general round)
 
 written_round : (s : Scenario) (closed : List (List Letter)) (accesses : List Access) (g : ℕ) (o : Option Part) → ((a : Activation) → o ≡ Some (Acting a) → IsPlaced s closed g a) →
-    All (IsOfRound s (suc (length closed))) (written s closed accesses g o)
-written_round s closed accesses g None h = all_none (IsOfRound s (suc (length closed)))
+    All (IsOfRound s (suc (length closed))) (letter_held s closed accesses g o)
+written_round s closed accesses g None h = All-nil (IsOfRound s (suc (length closed)))
 written_round s closed accesses g (Some (Acting a)) h = all_one (IsOfRound s (suc (length closed))) _ (refl, ap (λ (r : Relay). r.shape) (h a refl).relay)
-written_round s closed accesses g (Some Silent) h = all_none (IsOfRound s (suc (length closed)))
+written_round s closed accesses g (Some Silent) h = All-nil (IsOfRound s (suc (length closed)))
 written_round s closed accesses g (Some Posted) h = all_one (IsOfRound s (suc (length closed))) (loyal_letter s closed g) (refl, refl)
 
 -- the letters of a held world's round are of that round
-pub row_told : (s : Scenario) (closed : List (List Letter)) (k : RecordedBoard) (opened : ℕ) (ps : List Part) (full : Bool) (told : Heard) (row : List Letter) → IsScenario s → IsHeld s closed k opened ps full → WasTold s closed told →
+pub row_told : (s : Scenario) (closed : List (List Letter)) (k : RecordedBoard) (opened : ℕ) (ps : List Part) (full : Bool) (told : ToldSeen) (row : List Letter) → IsScenario s → IsHeld s closed k opened ps full → WasTold s closed told →
     row ≡ letters_held s closed (drop opened k.ledger) ps → AreLettersOf s (suc told.rounds) row
 row_told s closed k opened ps full told row is h was same i l at =
     let Q : World → Type 0 = λ v. (g : ℕ) (a : Activation) → slice_get v.parts g ≡ Some (Acting a) → IsPlaced s v.closed g a in
     let placed = subst Q h.reached.1 (λ g a e. proved_parts_are_placed s h.reached.0 g a is e) in
-    let all = each_all (IsOfRound s (suc (length closed))) s.generals (λ g. written s closed (drop opened k.ledger) g (slice_get ps g)) (λ g. written_round s closed (drop opened k.ledger) g (slice_get ps g) (λ a e. placed g a e)) in
+    let all = each_all (IsOfRound s (suc (length closed))) s.generals (λ g. letter_held s closed (drop opened k.ledger) g (slice_get ps g)) (λ g. written_round s closed (drop opened k.ledger) g (slice_get ps g) (λ a e. placed g a e)) in
     let here : slice_get (letters_held s closed (drop opened k.ledger) ps) i ≡ Some l = ap (λ (r : List Letter). slice_get r i) (sym same) ∙ at in
     let within = slice_get_within (letters_held s closed (drop opened k.ledger) ps) i l here in
-    let it : get_or (letters_held s closed (drop opened k.ledger) ps) i l ≡ l = (let f : Some (get_or (letters_held s closed (drop opened k.ledger) ps) i l) ≡ Some l = sym (get_at (letters_held s closed (drop opened k.ledger) ps) i l within) ∙ here in cc) in
+    let it : get_or (letters_held s closed (drop opened k.ledger) ps) i l ≡ l = (let f : Some (get_or (letters_held s closed (drop opened k.ledger) ps) i l) ≡ Some l = sym (slice_get-get_or (letters_held s closed (drop opened k.ledger) ps) i l within) ∙ here in cc) in
     let one : IsOfRound s (suc (length closed)) l = subst (IsOfRound s (suc (length closed))) it (all i l within) in
     subst (λ (n : ℕ). IsOfRound s (suc n) l) (sym was.rounds) one
 
 -- what was told with a row more
-pub told_on : (s : Scenario) (closed closed' : List (List Letter)) (row row' : List Letter) (told : Heard) → row ≡ row' → closed' ≡ closed ++ row' ∷ [] → WasTold s (closed ++ row ∷ []) told → WasTold s closed' told
+pub told_on : (s : Scenario) (closed closed' : List (List Letter)) (row row' : List Letter) (told : ToldSeen) → row ≡ row' → closed' ≡ closed ++ row' ∷ [] → WasTold s (closed ++ row ∷ []) told → WasTold s closed' told
 told_on s closed closed' row row' told same pushed was = subst (λ (l : List (List Letter)). WasTold s l told) (ap (λ (r : List Letter). closed ++ r ∷ []) same ∙ sym pushed) was
 
 -- the shape that a context tells

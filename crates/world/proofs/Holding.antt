@@ -2,8 +2,7 @@
 use Rattle.std.proofs.Common.{◌≡◌, ℕ, zero, suc, ◌≤◌, ◌+◌, ◌-◌, List, [], ◌∷◌, ◌++◌, length, drop, Bool, true, false, cond, refl, sym, ap, subst, ◌∙◌, ◌⊎◌, inl, inr, ⊎_elim, Option, Some, None, Result, Ok, Err, arith, append-nil}
 use Rattle.std.specs.Prelude.{slice_get, slice_set, replicate, OnOk, OnErr, nat_lt, ◌&&◌}
 use Rattle.std.specs.List.{list_all}
-use Rattle.std.proofs.lemmas.Bool.{lt-ltb, ltb-true, ltb-false}
-use Rattle.round.proofs.Lists.{either_way}
+use Rattle.std.proofs.lemmas.Bool.{lt-ltb, ltb-true, ltb-false, cases_Bool}
 use Rattle.board.specs.Ledger.{RecordedBoard}
 use Rattle.round.specs.Scenario.{Scenario, IsScenario}
 use Rattle.round.specs.Letters.{Letter}
@@ -13,11 +12,11 @@ use Rattle.round.specs.Running.{moved, Silently, Pauses}
 use Rattle.round.proofs.Stepping.{runs_steps}
 use Rattle.world.specs.declared.event.Event.{Event}
 use Rattle.world.specs.declared.event.Event.TheVariants.{Tick, Post, Close}
-use Rattle.world.specs.Part.{Part, Acting, Silent, Posted, has_posted}
+use Rattle.world.specs.Part.{Part, Acting, Silent, Posted, owes_no_letter}
 use Rattle.world.specs.World.{World, each, opening, served, ticked, posting, closing, happen, run, round_open, letters_at, round_letters, accesses_of}
 use Rattle.world.specs.Reached.{world_of, IsHeld}
 use Rattle.board.specs.Board.{Access}
-use Rattle.world.specs.Held.{ticked_of, posted_of, AheadTo, written, letters_held, beginnings, AreLetters}
+use Rattle.world.specs.Held.{ticked_of, posted_of, AheadTo, letter_held, letters_held, beginnings, AreLetters}
 use Rattle.round.specs.Running.{letter_left}
 use Rattle.world.specs.Safety.{IsPlaced, HasRun}
 use Rattle.round.proofs.Ends.{proved_patience_is_kept}
@@ -37,7 +36,7 @@ set-twice (z ∷ xs) zero x y = refl
 set-twice (z ∷ xs) (suc i) x y = ap (λ l. z ∷ l) (set-twice xs i x y)
 
 either_le : (m n : ℕ) → (m ≤ n) ⊎ (n ≤ m)
-either_le m n = ⊎_elim (λ (h : nat_lt m n ≡ true). inl (let l = ltb-true m n h in omega arith)) (λ (h : nat_lt m n ≡ false). inr (ltb-false m n h)) (either_way (nat_lt m n))
+either_le m n = ⊎_elim (λ (h : nat_lt m n ≡ true). inl (let l = ltb-true m n h in omega arith)) (λ (h : nat_lt m n ≡ false). inr (ltb-false m n h)) (cases_Bool (nat_lt m n))
 
 -- who does not act stays
 pub idle_turn : (ps : List Part) (b : RecordedBoard) (g r place : ℕ) (x : Part) → place ≡ g → slice_get ps place ≡ Some x → x ≡ Silent ⊎ x ≡ Posted → (slice_set ps place x, b) ≡ ticked_of g r ps b (slice_get ps g)
@@ -166,9 +165,9 @@ pub none_written : {A : Type 0} (xs ys : List A) → ys ≡ [] → xs ≡ xs ++ 
 none_written {A = A} xs ys e = sym (append-nil xs) ∙ ap (λ (l : List A). xs ++ l) (sym e)
 
 -- nobody there, or one who keeps silent
-pub silent_row : (s : Scenario) (c : List (List Letter)) (a : List Access) (ps : List Part) (g : ℕ) (o : Option Part) (xs : List Letter) → slice_get ps g ≡ o → written s c a g o ≡ [] →
-    xs ≡ xs ++ written s c a g (slice_get ps g)
-silent_row s c a ps g o xs is none = none_written xs (written s c a g (slice_get ps g)) (ap (λ (p : Option Part). written s c a g p) is ∙ none)
+pub silent_row : (s : Scenario) (c : List (List Letter)) (a : List Access) (ps : List Part) (g : ℕ) (o : Option Part) (xs : List Letter) → slice_get ps g ≡ o → letter_held s c a g o ≡ [] →
+    xs ≡ xs ++ letter_held s c a g (slice_get ps g)
+silent_row s c a ps g o xs is none = none_written xs (letter_held s c a g (slice_get ps g)) (ap (λ (p : Option Part). letter_held s c a g p) is ∙ none)
 
 -- an acting general's letter
 pub letter_at : (n g h r : ℕ) (accesses : List Access) (ps : List Part) (a : Activation) → AreLetters (suc n) accesses ps → slice_get ps g ≡ Some (Acting a) → h ≡ g → r ≡ suc n → IsLetter (letter_left h r (accesses_of h accesses) a)
@@ -176,9 +175,9 @@ letter_at n g h r accesses ps a runs at same counted =
     subst (λ (m : ℕ). IsLetter (letter_left h m (accesses_of h accesses) a)) (sym counted)
     (subst (λ (m : ℕ). IsLetter (letter_left m (suc n) (accesses_of m accesses) a)) (sym same) (runs g a at))
 
-pub row_with : (s : Scenario) (c : List (List Letter)) (accesses : List Access) (ps : List Part) (g : ℕ) (o : Option Part) (xs ys : List Letter) (l : Letter) → slice_get ps g ≡ o → ys ≡ xs ++ l ∷ [] → l ∷ [] ≡ written s c accesses g o →
-    ys ≡ xs ++ written s c accesses g (slice_get ps g)
-row_with s c accesses ps g o xs ys l at pushed is = pushed ∙ (ap (λ (row : List Letter). xs ++ row) is ∙ ap (λ (p : Option Part). xs ++ written s c accesses g p) (sym at))
+pub row_with : (s : Scenario) (c : List (List Letter)) (accesses : List Access) (ps : List Part) (g : ℕ) (o : Option Part) (xs ys : List Letter) (l : Letter) → slice_get ps g ≡ o → ys ≡ xs ++ l ∷ [] → l ∷ [] ≡ letter_held s c accesses g o →
+    ys ≡ xs ++ letter_held s c accesses g (slice_get ps g)
+row_with s c accesses ps g o xs ys l at pushed is = pushed ∙ (ap (λ (row : List Letter). xs ++ row) is ∙ ap (λ (p : Option Part). xs ++ letter_held s c accesses g p) (sym at))
 
 pub acting_is : (n g h r : ℕ) (accesses : List Access) (a : Activation) (l : Letter) → h ≡ g → r ≡ suc n → l ≡ letter_left h r (accesses_of h accesses) a → l ∷ [] ≡ letter_left g (suc n) (accesses_of g accesses) a ∷ []
 acting_is n g h r accesses a l same counted is = (λ i. is i ∷ []) ∙ (λ i. letter_left (same i) (counted i) (accesses_of (same i) accesses) a ∷ [])
@@ -199,7 +198,7 @@ held_letters s closed k opened ps full accesses is h same g a at =
     subst (λ (acc : List Access). IsLetter (letter_left g (suc (length closed)) (accesses_of g acc) a)) (sym same) letter
 
 -- so the row is that of the world
-same_letter : (w : World) (g : ℕ) (o : Option Part) → ((a : Activation) → o ≡ Some (Acting a) → IsPlaced w.scenario w.closed g a) → written w.scenario w.closed (drop w.opened w.ledger) g o ≡ letters_at w g o
+same_letter : (w : World) (g : ℕ) (o : Option Part) → ((a : Activation) → o ≡ Some (Acting a) → IsPlaced w.scenario w.closed g a) → letter_held w.scenario w.closed (drop w.opened w.ledger) g o ≡ letters_at w g o
 same_letter w g None h = refl
 same_letter w g (Some (Acting a)) h =
     let p = h a refl in
@@ -216,7 +215,7 @@ same_letter w g (Some (Acting a)) h =
 same_letter w g (Some Silent) h = refl
 same_letter w g (Some Posted) h = refl
 
-each-same : {A : Type 0} (n : ℕ) (f h : ℕ → List A) → ((g : ℕ) → f g ≡ h g) → each n f ≡ each n h
+pub each-same : {A : Type 0} (n : ℕ) (f h : ℕ → List A) → ((g : ℕ) → f g ≡ h g) → each n f ≡ each n h
 each-same zero f h e = refl
 each-same (suc n) f h e = (λ i. each-same n f h e i ++ e n i)
 
@@ -226,12 +225,12 @@ module _ (s : Scenario) (closed : List (List Letter)) (k : RecordedBoard) (opene
       let w = world_of s closed k opened ps full in
       let Q : World → Type 0 = λ v. (g : ℕ) (a : Activation) → slice_get v.parts g ≡ Some (Acting a) → IsPlaced s v.closed g a in
       let placed = subst Q h.reached.1 (λ g a e. proved_parts_are_placed s h.reached.0 g a is e) in
-      each-same s.generals (λ g. written s closed (drop opened k.ledger) g (slice_get ps g)) (λ g. letters_at w g (slice_get ps g))
+      each-same s.generals (λ g. letter_held s closed (drop opened k.ledger) g (slice_get ps g)) (λ g. letters_at w g (slice_get ps g))
       (λ g. same_letter w g (slice_get ps g) (λ a e. placed g a e))
 
   -- what is made for a close is the event
   pub close_is : (row : List Letter) (closed' : List (List Letter)) (opened' : ℕ) (ps' : List Part) (full' : Bool) → IsScenario s → IsHeld s closed k opened ps full → length closed ≤ s.bound →
-      row ≡ letters_held s closed (drop opened k.ledger) ps → closed' ≡ closed ++ row ∷ [] → ps' ≡ beginnings s closed' → opened' ≡ length k.ledger → full' ≡ (full && list_all has_posted ps) →
+      row ≡ letters_held s closed (drop opened k.ledger) ps → closed' ≡ closed ++ row ∷ [] → ps' ≡ beginnings s closed' → opened' ≡ length k.ledger → full' ≡ (full && list_all owes_no_letter ps) →
       world_of s closed' k opened' ps' full' ≡ happen (world_of s closed k opened ps full) Close
   close_is row closed' opened' ps' full' is h le row_is closed_is parts_are opened_is full_is =
       let w = world_of s closed k opened ps full in

@@ -8,7 +8,7 @@ use Rattle.world.specs.declared.event.Event.TheVariants.{Close}
 use Rattle.round.specs.Scenario.{Scenario, IsScenario, program_of}
 use Rattle.world.specs.Part.{Part, Acting, Silent, Posted}
 use Rattle.world.specs.World.{World, begun, opening, round_open, round_letters, closing, happen, run}
-use Rattle.world.specs.Lists.{first_line, later_lines, Throughout, AtClose, HasPosted, HasEnded, IsComplete, wound_up, event_of, listed_rounds, listed, ticks_named, names_events, replayed_rounds, replayed, IsMove, AreMoves}
+use Rattle.world.specs.Lists.{first_line, later_lines, Throughout, AtClose, OwesNoLetter, HasEnded, IsComplete, wound_up, event_of, listed_rounds, listed, ticks_named, names_events, replayed_rounds, replayed, IsMove, AreMoves}
 use Rattle.world.proofs.Kept.{IsKept}
 use Rattle.world.proofs.Moves.{moves-append, moves_same, run-append, AllParts, moves_keep}
 use Rattle.world.proofs.Rounds.{run_kept, opening_kept, happen_kept}
@@ -38,7 +38,7 @@ few k m e = let lt = ltb-true k (suc m) e in omega arith
 
 -- a round of moves, all posts, all ends and the close
 pub record RoundDone (s : Scenario) (w : World) (es : List Event) : Type 0 where
-  pub punctual : Throughout (AtClose (HasPosted)) w es
+  pub punctual : Throughout (AtClose (OwesNoLetter)) w es
   pub ended : Throughout (AtClose (HasEnded)) w es
   pub due : IsOnTime s (run w es)
   pub one_more : length (run w es).closed ≡ suc (length w.closed)
@@ -70,7 +70,7 @@ round_done s sound es w i d less =
           subst A (sym d3.scenario) (due_parts s (w3.closed ++ round_letters w3 ∷ []) (round_open s (w3.closed ++ round_letters w3 ∷ [])) sound (λ e. few (length (w3.closed ++ round_letters w3 ∷ [])) s.bound e)));
     } in
     record {
-      punctual = thus (HasPosted) ripe.posted_all;
+      punctual = thus (OwesNoLetter) ripe.posted_all;
       ended = thus (HasEnded) ripe.ended_all;
       due = (let A : World → Type 0 = λ v. IsOnTime s v in subst A (sym end) closing_due);
       one_more = ap (λ v. length v.closed) end ∙ (let l = length-append w3.closed (round_letters w3 ∷ []) in let c = ap length closed_is in omega arith);
@@ -78,7 +78,7 @@ round_done s sound es w i d less =
 
 -- what is to come from here ends with all rounds closed
 pub record Ends (s : Scenario) (w : World) (es : List Event) : Type 0 where
-  pub punctual : Throughout (AtClose (HasPosted)) w es
+  pub punctual : Throughout (AtClose (OwesNoLetter)) w es
   pub ended : Throughout (AtClose (HasEnded)) w es
   pub closed : length (run w es).closed ≡ suc s.bound
 
@@ -87,7 +87,7 @@ no_more s w e = record { punctual = tt; ended = tt; closed = e }
 
 pub one_then : (s : Scenario) (w : World) (es fs : List Event) → RoundDone s w es → Ends s (run w es) fs → Ends s w (es ++ fs)
 one_then s w es fs a b = record {
-  punctual = throughout-append (AtClose (HasPosted)) es fs w a.punctual b.punctual;
+  punctual = throughout-append (AtClose (OwesNoLetter)) es fs w a.punctual b.punctual;
   ended = throughout-append (AtClose (HasEnded)) es fs w a.ended b.ended;
   closed = ap (λ v. length v.closed) (run-append es fs w) ∙ b.closed;
 }

@@ -2,7 +2,7 @@
 use Rattle.std.proofs.Common.{◌≡◌, ℕ, zero, suc, ◌+◌, ◌-◌, ◌<◌, ◌≤◌, List, [], ◌∷◌, ◌++◌, length, map, drop, get_or, Bool, true, false, refl, sym, ap, ◌∙◌, ⊎_elim, Option, Some, None, arith}
 use Rattle.std.specs.Prelude.{slice_get, slice_index_or, replicate, nat_lt, filter, OnOk}
 use Rattle.std.proofs.Common.{Result, Ok, Err, subst}
-use Rattle.std.proofs.lemmas.Bool.{lt-ltb, le-ltb}
+use Rattle.std.proofs.lemmas.Bool.{lt-ltb, le-ltb, cases_Bool}
 use Rattle.world.specs.declared.event.Event.{Event}
 use Rattle.world.specs.declared.event.Event.TheVariants.{Post, Close}
 use Rattle.world.specs.declared.schedule.Repeat.{Repeat}
@@ -13,7 +13,6 @@ use Rattle.world.specs.Lists.{first_line, later_lines, event_of, post_of, ticks_
 use Rattle.world.specs.Schedules.{entries_of, lines_by}
 use Rattle.world.specs.Playing.{line_events}
 use Rattle.world.proofs.Listing.{set-here}
-use Rattle.round.proofs.Lists.{either_way}
 use Rattle.label.specs.Oral.{IsBound, Agree}
 use Rattle.round.specs.Letters.{messages}
 use Rattle.round.specs.Scenario.{IsScenario, is_traitor}
@@ -24,6 +23,7 @@ use Rattle.world.proofs.Lasting.{listed_complete, replayed_complete}
 use Rattle.world.proofs.Punctual.{punctual_full}
 use Rattle.world.proofs.Moves.{run-append}
 use Rattle.world.proofs.Punctual.{run_scenario}
+use Rattle.std.proofs.lemmas.Option.{slice_get-get_or}
 
 -- a second post changes nothing
 post_again : (w : World) (g : ℕ) (o : Option Part) → slice_get w.parts g ≡ o → happen (posting w g o) (Post g) ≡ posting w g o
@@ -38,7 +38,7 @@ posts_once (suc n) w g = (let again : happen (happen w (Post g)) (Post g) ≡ ha
 
 filter-append : (p : ℕ → Bool) (xs ys : List ℕ) → filter p (xs ++ ys) ≡ filter p xs ++ filter p ys
 filter-append p [] ys = refl
-filter-append p (x ∷ xs) ys = ⊎_elim (λ (h : p x ≡ true). rw h (ap (λ l. x ∷ l) (filter-append p xs ys))) (λ (h : p x ≡ false). rw h (filter-append p xs ys)) (either_way (p x))
+filter-append p (x ∷ xs) ys = ⊎_elim (λ (h : p x ≡ true). rw h (ap (λ l. x ∷ l) (filter-append p xs ys))) (λ (h : p x ≡ false). rw h (filter-append p xs ys)) (cases_Bool (p x))
 
 map-append : (f : ℕ → Event) (xs ys : List ℕ) → map f (xs ++ ys) ≡ map f xs ++ map f ys
 map-append f [] ys = refl
@@ -162,11 +162,6 @@ names_more w v u names i g h at same is left =
     let m : suc i ≡ i + 1 = omega arith in
     ap (λ (k : ℕ). run v (names_events v (drop k names))) (sym m)
     ∙ (sym (names_step w v g (drop (suc i) names) is') ∙ (ap (λ (l : List ℕ). run w (names_events w l)) (sym (drop_at names i g at)) ∙ left))
-
-pub get_at : {A : Type 0} (xs : List A) (i : ℕ) (d : A) → i < length xs → slice_get xs i ≡ Some (get_or xs i d)
-get_at [] i d lt = absurd (omega arith)
-get_at (x ∷ xs) zero d lt = refl
-get_at (x ∷ xs) (suc i) d lt = get_at xs i d (omega arith)
 
 -- one general more
 pub each_more : (f : Scenario → ℕ → List Event) (n : ℕ) (w v u : World) → v ≡ run w (each n (f w.scenario)) → u ≡ run v (f v.scenario n) → u ≡ run w (each (n + 1) (f w.scenario))

@@ -46,6 +46,9 @@ module _ (s : Scenario) (events : List Event) (c : Chronicle) (is : IsScenario s
   decided : c.decisions ≡ decisions s (messages (run (opening s) events).closed)
   decided = ap (λ (d : Chronicle). d.decisions) same ∙ ap (λ (t : Scenario). decisions t (messages (run (opening s) events).closed)) (run_scenario events (opening s))
 
+  pub finished_decisions : c.decisions ≡ decisions s (messages c.letters)
+  finished_decisions = decided ∙ ap (λ (rounds : List (List Letter)). decisions s (messages rounds)) (sym (ap (λ (d : Chronicle). d.letters) same))
+
   pub finished_agree : AgreeUnderBound s c.decisions
   finished_agree bound = subst (λ (ds : List ℕ). AgreeInList s.generals s.commander s.order (is_traitor s) ds) (sym decided) (proved_decisions_agree s events is done bound)
 

@@ -5,25 +5,25 @@ use Rattle.std.specs.List.{list_all}
 use Rattle.world.specs.declared.event.Event.{Event}
 use Rattle.world.specs.declared.event.Event.TheVariants.{Tick, Post, Close}
 use Rattle.round.specs.Scenario.{Scenario}
-use Rattle.world.specs.Part.{Part, has_posted}
+use Rattle.world.specs.Part.{Part, owes_no_letter}
 use Rattle.world.specs.World.{World, opening, round_open, closing, happen, run}
-use Rattle.world.specs.Lists.{Throughout, AtClose, HasPosted, IsPunctual}
+use Rattle.world.specs.Lists.{Throughout, AtClose, OwesNoLetter, IsPunctual}
 use Rattle.world.proofs.Moves.{move_same}
 
-pub all_posted : (parts : List Part) → ((g : ℕ) (part : Part) → slice_get parts g ≡ Some part → HasPosted part) → list_all has_posted parts ≡ true
+pub all_posted : (parts : List Part) → ((g : ℕ) (part : Part) → slice_get parts g ≡ Some part → OwesNoLetter part) → list_all owes_no_letter parts ≡ true
 all_posted [] h = refl
 all_posted (p ∷ ps) h = rw (h 0 p refl) (all_posted ps (λ g part e. h (suc g) part e))
 
-event_full : (w : World) (e : Event) → w.full ≡ true → AtClose HasPosted w e → (happen w e).full ≡ true
+event_full : (w : World) (e : Event) → w.full ≡ true → AtClose OwesNoLetter w e → (happen w e).full ≡ true
 event_full w (Tick g) full at = (move_same w (Tick g) tt).full ∙ full
 event_full w (Post g) full at = (move_same w (Post g) tt).full ∙ full
 event_full w Close full at = by (round_open w.scenario w.closed)
   where
     by : (b : Bool) → (cond b (closing w) w).full ≡ true
-    by true = ap (λ b. b && list_all has_posted w.parts) full ∙ all_posted w.parts at
+    by true = ap (λ b. b && list_all owes_no_letter w.parts) full ∙ all_posted w.parts at
     by false = full
 
-events_full : (es : List Event) (w : World) → w.full ≡ true → Throughout (AtClose HasPosted) w es → (run w es).full ≡ true
+events_full : (es : List Event) (w : World) → w.full ≡ true → Throughout (AtClose OwesNoLetter) w es → (run w es).full ≡ true
 events_full [] w full q = full
 events_full (e ∷ es) w full q = events_full es (happen w e) (event_full w e full q.0) q.1
 

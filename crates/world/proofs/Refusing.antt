@@ -13,6 +13,7 @@ use Rattle.world.specs.declared.event.EventError.{EventError}
 use Rattle.world.specs.declared.event.EventError.TheVariants.{NotOpen}
 use Rattle.world.specs.Lists.{IsMove}
 use Rattle.world.proofs.Moves.{move_same}
+use Rattle.std.proofs.lemmas.List.{nil_from_length}
 
 -- behind the last round nobody has a part
 abbrev IsClear : World → Type 0
@@ -22,15 +23,11 @@ clear_begins : (s : Scenario) (closed : List (List Letter)) (b : Bool) → b ≡
 clear_begins s closed true e = absurd (let f : true ≡ false = e in cc)
 clear_begins s closed false e = refl
 
-no_parts : (ps : List Part) → length ps ≡ 0 → ps ≡ []
-no_parts [] e = refl
-no_parts (p ∷ ps) e = absurd (omega arith)
-
 move_clear : (w : World) (e : Event) → IsMove e → IsClear w → IsClear (happen w e)
 move_clear w e i h = λ past.
     let same = move_same w e i in
     let before = h ((λ i. round_open (sym same.scenario i) (sym same.closed i)) ∙ past) in
-    no_parts (happen w e).parts (same.count ∙ ap length before)
+    nil_from_length (happen w e).parts (same.count ∙ ap length before)
 
 event_clear : (w : World) (e : Event) → IsClear w → IsClear (happen w e)
 event_clear w (Tick g) h = move_clear w (Tick g) tt h

@@ -2,7 +2,7 @@
 use Rattle.std.proofs.Common.{◌≡◌, ◌≢◌, ℕ, zero, suc, ◌<◌, ◌≤◌, List, [], ◌∷◌, ◌++◌, length, take, get_or, Bool, true, false, cond, refl, sym, ap, subst, ◌∙◌, ⊎_elim, Option, Some, None, arith, length-append}
 use Rattle.std.specs.Prelude.{is_some, find, slice_get, ◌==◌}
 use Rattle.std.specs.List.{list_all}
-use Rattle.std.proofs.lemmas.Bool.{eq-eqb, ne_eqb, and_parts, ltb-true, lt-ltb}
+use Rattle.std.proofs.lemmas.Bool.{eq-eqb, ne_eqb, and_parts, ltb-true, lt-ltb, cases_Bool}
 use Rattle.std.proofs.lemmas.Bool.Decides.{eqb_tells}
 use Rattle.combine.specs.Chosen.{combined_by, chosen_is_rule}
 use Rattle.label.specs.Oral.{IsFaithful, IsBound, Agree}
@@ -15,12 +15,11 @@ use Rattle.round.specs.Scenario.{Scenario, program_of, is_traitor}
 use Rattle.round.specs.Letters.{Letter, letter_of, messages}
 use Rattle.round.specs.Contexts.{loyal_letter}
 use Rattle.round.specs.Activation.{Activation}
-use Rattle.world.specs.Part.{Part, Acting, Silent, Posted, has_posted}
+use Rattle.world.specs.Part.{Part, Acting, Silent, Posted, owes_no_letter}
 use Rattle.world.specs.World.{World, begins, opening, round_open, letters_at, round_letters, closing, happen, run, each}
 use Rattle.world.specs.Chronicle.{decision}
 use Rattle.world.proofs.Kept.{Fits, Tells, IsKept}
 use Rattle.world.proofs.Listing.{each-find, each-get_only, each-length, all-at, take-front, take-whole, get_or-left, get_or-seam}
-use Rattle.round.proofs.Lists.{either_way}
 use Rattle.world.proofs.Faithful.{faithful}
 use Rattle.world.specs.Lists.{IsMove}
 use Rattle.world.proofs.Moves.{move_same, AllParts, IsLasting, move_keeps, move_board}
@@ -72,7 +71,7 @@ not_his w g j (Some (Acting a)) ne = rw (ne_eqb j g ne) refl
 not_his w g j (Some Silent) ne = refl
 not_his w g j (Some Posted) ne = rw (ne_eqb j g ne) refl
 
-his : (w : World) (g : ℕ) (o : Option (List Insn)) (part : Part) → o ≡ None → Fits o part → has_posted part ≡ true
+his : (w : World) (g : ℕ) (o : Option (List Insn)) (part : Part) → o ≡ None → Fits o part → owes_no_letter part ≡ true
     → find (λ l. l.general == g) (letters_at w g (Some part)) ≡ Some (loyal_letter w.scenario w.closed g)
 his w g None (Acting a) n f h = absurd f
 his w g None Silent n f h = cc
@@ -87,14 +86,14 @@ some_part w k more g lt = within w.parts g (let h = k.open_parts more in omega a
     within (p ∷ ps) zero lt = (p, refl)
     within (p ∷ ps) (suc g) lt = within ps g (omega arith)
 
-told_now : (w : World) → IsKept w → length w.closed < suc w.scenario.bound → list_all has_posted w.parts ≡ true → (g : ℕ) → g < w.scenario.generals → program_of w.scenario g ≡ None
+told_now : (w : World) → IsKept w → length w.closed < suc w.scenario.bound → list_all owes_no_letter w.parts ≡ true → (g : ℕ) → g < w.scenario.generals → program_of w.scenario g ≡ None
     → letter_of (round_letters w) g ≡ Some (loyal_letter w.scenario w.closed g)
 told_now w k more all g lt loyal =
     let part = some_part w k more g lt in
     each-find w.scenario.generals (λ l. l.general == g) (λ j. letters_at w j (slice_get w.parts j)) g _ lt
     (λ j ne. not_his w g j (slice_get w.parts j) ne)
     (ap (λ o. find (λ l. l.general == g) (letters_at w g o)) part.1
-    ∙ his w g (program_of w.scenario g) part.0 loyal (k.parts g part.0 part.1).1 (all-at has_posted w.parts g part.0 all part.1))
+    ∙ his w g (program_of w.scenario g) part.0 loyal (k.parts g part.0 part.1).1 (all-at owes_no_letter w.parts g part.0 all part.1))
 
 tells_more : (s : Scenario) (rounds : List (List Letter)) (ls : List Letter) (g : ℕ) → Tells s rounds g
     → letter_of ls g ≡ Some (loyal_letter s rounds g) → Tells s (rounds ++ ls ∷ []) g
@@ -137,7 +136,7 @@ closing_kept w k more =
       closed = omega arith;
       board = k.board;
       told = λ f g lt loyal.
-          let both = and_parts w.full (list_all has_posted w.parts) f in
+          let both = and_parts w.full (list_all owes_no_letter w.parts) f in
           tells_more s w.closed (round_letters w) g (k.told both.0 g lt loyal) (told_now w k more both.1 g lt loyal);
     }
 
@@ -147,7 +146,7 @@ happen_kept w (Post g) k = move_kept w (Post g) tt k
 happen_kept w Close k =
     ⊎_elim (λ (h : round_open w.scenario w.closed ≡ true). rw h (closing_kept w k (ltb-true (length w.closed) (suc w.scenario.bound) h)))
     (λ (h : round_open w.scenario w.closed ≡ false). rw h k)
-    (either_way (round_open w.scenario w.closed))
+    (cases_Bool (round_open w.scenario w.closed))
 
 pub run_kept : (es : List Event) (w : World) → IsKept w → IsKept (run w es)
 run_kept [] w k = k

@@ -3,7 +3,7 @@ use Rattle.std.proofs.Common.{◌≡◌, ℕ, zero, suc, ◌<◌, List, [], ◌�
 use Rattle.std.specs.Prelude.{slice_get, ◌==◌}
 use Rattle.std.proofs.Math.Seq.{drop-append_seam}
 use Rattle.std.proofs.lemmas.Bool.{cases_lt, ltb-true}
-use Rattle.std.proofs.lemmas.List.Elements.{All-append}
+use Rattle.std.proofs.lemmas.List.Elements.{All-append, All-nil}
 use Rattle.std.proofs.lemmas.Option.{slice_get_within}
 use Rattle.insn.specs.declared.insn.Insn.{Insn}
 use Rattle.board.specs.Board.{Access, IsBoard}
@@ -33,6 +33,7 @@ use Rattle.world.proofs.Replies.{move_fitting}
 use Rattle.world.proofs.Listing.{each-get_only, take-front, take-whole}
 use Rattle.world.proofs.Moves.{SameRound, same_round, then_same, move_same}
 use Rattle.world.proofs.Ways.{Midst, midst_first, move_midst}
+use Rattle.world.proofs.Untrapped.{one_letter}
 
 -- the world has come from the beginning of its open round
 pub record Midway (s : Scenario) (w : World) : Type 0 where
@@ -124,23 +125,15 @@ no_program : (o : Option (List Insn)) → Fits o Posted → o ≡ None
 no_program None fits = refl
 no_program (Some program) fits = absurd fits
 
--- the letters of the open round
-alone_all : (P : Letter → Type 0) (l : Letter) → P l → All P (l ∷ [])
-alone_all P l h zero d lt = h
-alone_all P l h (suc k) d lt = absurd (omega arith)
-
-none_all : (P : Letter → Type 0) → All P []
-none_all P k d lt = absurd (omega arith)
-
 each_all : (P : Letter → Type 0) (n : ℕ) (f : ℕ → List Letter) → ((g : ℕ) → g < n → All P (f g)) → All P (each n f)
-each_all P zero f h = none_all P
+each_all P zero f h = All-nil P
 each_all P (suc n) f h = All-append P (each n f) (f n) (each_all P n f (λ g lt. h g (omega arith))) (h n (omega arith))
 
 made_by : (s : Scenario) (before : List (List Letter)) (l : Letter) (program : List Insn) → l.program ≡ Some program → IsRunOf l (Some program) → IsMade s before l l.program
 made_by s before l program e h = (let A : Option (List Insn) → Type 0 = λ o. IsMade s before l o in subst A (sym e) h)
 
 letter_in : (s : Scenario) (w : World) → w.scenario ≡ s → length w.closed ≤ s.bound → IsKept w → Midway s w → (g : ℕ) → g < s.generals → (o : Option Part) → slice_get w.parts g ≡ o → All (λ l. IsLetterIn s w.closed l) (letters_at w g o)
-letter_in s w sc more k m g lt None e = none_all (λ l. IsLetterIn s w.closed l)
+letter_in s w sc more k m g lt None e = All-nil (λ l. IsLetterIn s w.closed l)
 letter_in s w sc more k m g lt (Some (Acting a)) e =
     let r = ran s w g a m e in
     let context = context_of s w.closed g in
@@ -166,13 +159,13 @@ letter_in s w sc more k m g lt (Some (Acting a)) e =
       within = proved_patience_is_kept.within s.patience r.program context (oral shape) a.state.steps t a r.runs;
       made = made_by s w.closed (l s) r.program r.is (r.fitting, under None a, runs_under None a.state.steps (started s.patience r.program context (oral shape)) t a tt r.runs, refl, refl, refl);
     } in
-    alone_all (λ x. IsLetterIn s w.closed x) (l w.scenario) (let A : Scenario → Type 0 = λ v. IsLetterIn s w.closed (l v) in subst A (sym sc) one)
-letter_in s w sc more k m g lt (Some Silent) e = none_all (λ l. IsLetterIn s w.closed l)
+    one_letter (λ x. IsLetterIn s w.closed x) (l w.scenario) (let A : Scenario → Type 0 = λ v. IsLetterIn s w.closed (l v) in subst A (sym sc) one)
+letter_in s w sc more k m g lt (Some Silent) e = All-nil (λ l. IsLetterIn s w.closed l)
 letter_in s w sc more k m g lt (Some Posted) e =
     let fits : Fits (program_of s g) Posted = (let A : Scenario → Type 0 = λ v. Fits (program_of v g) Posted in subst A sc (k.parts g Posted e).1) in
     let none : program_of s g ≡ None = no_program (program_of s g) fits in
     let one : IsLetterIn s w.closed (loyal_letter s w.closed g) = record { general = lt; rounds = more; round = refl; context = refl; relay = refl; program = sym none; made = refl; within = within_none s.patience } in
-    alone_all (λ x. IsLetterIn s w.closed x) (loyal_letter w.scenario w.closed g) (let A : Scenario → Type 0 = λ v. IsLetterIn s w.closed (loyal_letter v w.closed g) in subst A (sym sc) one)
+    one_letter (λ x. IsLetterIn s w.closed x) (loyal_letter w.scenario w.closed g) (let A : Scenario → Type 0 = λ v. IsLetterIn s w.closed (loyal_letter v w.closed g) in subst A (sym sc) one)
 
 -- what stands in the list of closed rounds, and the row behind it
 row_cases : (closed : List (List Letter)) (new row : List Letter) (k : ℕ) → slice_get (closed ++ new ∷ []) k ≡ Some row

@@ -1,7 +1,7 @@
 -- In every run no activation traps, and none takes more steps than its program has instructions.
 use Rattle.std.proofs.Common.{◌≡◌, ◌≢◌, ℕ, zero, suc, ◌<◌, List, [], ◌∷◌, ◌++◌, length, Bool, true, false, cond, refl, sym, ap, subst, ◌∙◌, Option, Some, None, arith, All}
 use Rattle.std.specs.Prelude.{slice_get}
-use Rattle.std.proofs.lemmas.List.Elements.{All-append}
+use Rattle.std.proofs.lemmas.List.Elements.{All-append, All-nil}
 use Rattle.semantics.specs.State.{Cause, Outcome, Trap}
 use Rattle.semantics.specs.Execution.{step}
 use Rattle.semantics.specs.Safety.{LeadsTo}
@@ -20,24 +20,21 @@ use Rattle.world.proofs.Rounds.{closing_kept}
 use Rattle.world.proofs.Due.{IsDue, Due, due_parts}
 use Rattle.world.proofs.Lasting.{IsOnTime, moves_due, opening_due, few}
 
-no_letters : (P : Letter → Type 0) → All P []
-no_letters P k d lt = absurd (omega arith)
-
-one_letter : (P : Letter → Type 0) (l : Letter) → P l → All P (l ∷ [])
+pub one_letter : (P : Letter → Type 0) (l : Letter) → P l → All P (l ∷ [])
 one_letter P l h zero d lt = h
 one_letter P l h (suc k) d lt = absurd (omega arith)
 
 each_all : (P : Letter → Type 0) (n : ℕ) (f : ℕ → List Letter) → ((g : ℕ) → All P (f g)) → All P (each n f)
-each_all P zero f h = no_letters P
+each_all P zero f h = All-nil P
 each_all P (suc n) f h = All-append P (each n f) (f n) (each_all P n f h) (h n)
 
 letter_short : (w : World) (s : Scenario) → IsOnTime s w → (g : ℕ) (o : Option Part) → slice_get w.parts g ≡ o → All IsShort (letters_at w g o)
-letter_short w s t g None e = no_letters IsShort
+letter_short w s t g None e = All-nil IsShort
 letter_short w s t g (Some (Acting a)) e = one_letter IsShort _ (λ p is.
     let d = t.due g (Acting a) e in
     let same : a.program ≡ p = (let f = sym d.program ∙ (ap (λ v. program_of v g) (sym t.scenario) ∙ is) in cc) in
     (let n = ap length same in let l = d.within in omega arith))
-letter_short w s t g (Some Silent) e = no_letters IsShort
+letter_short w s t g (Some Silent) e = All-nil IsShort
 letter_short w s t g (Some Posted) e = one_letter IsShort (loyal_letter w.scenario w.closed g) (λ p is. absurd (let f : None ≡ Some p = is in cc))
 
 round_short : (w : World) (s : Scenario) → IsOnTime s w → All IsShort (round_letters w)

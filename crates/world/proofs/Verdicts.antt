@@ -2,7 +2,7 @@
 use Rattle.std.proofs.Common.{◌≡◌, ◌≢◌, ℕ, zero, suc, ◌*◌, ◌<◌, List, [], ◌∷◌, length, Bool, true, false, refl, sym, ap, subst, ◌∙◌, ⊎_elim, Some, None, arith}
 use Rattle.std.specs.Prelude.{◌↔◌, ◌==◌, nat_lt, nat_le, count_by, slice_index}
 use Rattle.std.specs.List.{list_all}
-use Rattle.std.proofs.lemmas.Bool.{and_parts, and_from, eq-eqb, eqb-true, lt-ltb, ltb-true, le-leb, leb-true}
+use Rattle.std.proofs.lemmas.Bool.{and_parts, and_from, eq-eqb, eqb-true, lt-ltb, ltb-true, le-leb, leb-true, cases_Bool}
 use Rattle.std.proofs.lemmas.List.{length-map}
 use Rattle.combine.specs.Chosen.{combined_by, chosen_is_rule}
 use Rattle.label.specs.Labels.{generals}
@@ -12,7 +12,6 @@ use Rattle.book.proofs.Induction.{holds}
 use Rattle.book.proofs.Listed.{listed}
 use Rattle.round.specs.Scenario.{Scenario, is_traitor}
 use Rattle.round.specs.Letters.{messages}
-use Rattle.round.proofs.Lists.{either_way}
 use Rattle.world.specs.World.{opening, run}
 use Rattle.world.specs.Chronicle.{decisions, of_loyal, all_same, verdict_of}
 use Rattle.world.specs.Agreement.{DecisionsAgree, AreAlike, AreObedient, VerdictsMean}
@@ -35,7 +34,7 @@ module _ (s : Scenario) where
       ⊎_elim
       (λ (x : is_traitor s g ≡ true). loyal_one t gs ds (omega arith) (rw x at h) i (omega arith) loyal)
       (λ (x : is_traitor s g ≡ false). loyal_one t gs ds (omega arith) (and_parts (t d) (list_all t (of_loyal s gs ds)) (rw x at h)).1 i (omega arith) loyal)
-      (either_way (is_traitor s g))
+      (cases_Bool (is_traitor s g))
 
   -- and the other way
   loyal_all : (t : ℕ → Bool) (gs ds : List ℕ) → length ds ≡ length gs → ((i : ℕ) → i < length gs → is_traitor s (slice_index gs i) ≡ false → t (slice_index ds i) ≡ true) → list_all t (of_loyal s gs ds) ≡ true
@@ -46,7 +45,7 @@ module _ (s : Scenario) where
       ⊎_elim
       (λ (x : is_traitor s g ≡ true). rw x rest)
       (λ (x : is_traitor s g ≡ false). rw x (and_from (t d) (list_all t (of_loyal s gs ds)) (h 0 (omega arith) x) rest))
-      (either_way (is_traitor s g))
+      (cases_Bool (is_traitor s g))
 
   same_one : (xs : List ℕ) → all_same xs ≡ true → (d : ℕ) × (list_all (λ e. e == d) xs ≡ true)
   same_one [] h = (0, refl)
@@ -61,7 +60,7 @@ module _ (s : Scenario) where
       ⊎_elim
       (λ (x : is_traitor s g ≡ true). rw x (loyal_same gs ds (omega arith) (λ i j a b c f. h (suc i) (suc j) (omega arith) b (omega arith) f)))
       (λ (x : is_traitor s g ≡ false). rw x (loyal_all (λ e. e == d) gs ds (omega arith) (λ i a b. eq-eqb (slice_index ds i) d (h (suc i) zero (omega arith) b (omega arith) x))))
-      (either_way (is_traitor s g))
+      (cases_Bool (is_traitor s g))
 
   abbrev L : List ℕ
   L = lieutenants s.generals s.commander
@@ -104,7 +103,7 @@ module _ (s : Scenario) where
             ⊎_elim
             (λ (x : is_traitor s s.commander ≡ true). x)
             (λ (x : is_traitor s s.commander ≡ false). absurd (let f : Some all ≡ None = rw x at h in cc))
-            (either_way (is_traitor s s.commander))),
+            (cases_Bool (is_traitor s s.commander))),
         (λ h. traitor_is ds h),
       )
 
@@ -113,7 +112,7 @@ module _ (s : Scenario) where
       ⊎_elim
       (λ (x : is_traitor s s.commander ≡ true). absurd (let f : None ≡ Some false = sym (traitor_is ds x) ∙ e in cc))
       (λ (x : is_traitor s s.commander ≡ false). absurd (let f : Some true ≡ Some false = sym ((obeyed_is ds long x).1 (h x)) ∙ e in cc))
-      (either_way (is_traitor s s.commander))
+      (cases_Bool (is_traitor s s.commander))
 
   kept_is : (ds : List ℕ) → length ds ≡ length L → (IsBound s.generals s.bound (is_traitor s) → AgreeInList s.generals s.commander s.order (is_traitor s) ds) → (verdict_of s ds).bound ≡ true
       → ((verdict_of s ds).alike ≡ true) × ((verdict_of s ds).obeyed ≢ Some false)

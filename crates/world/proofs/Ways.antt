@@ -12,7 +12,7 @@ use Rattle.round.specs.Activation.{Activation, Turn, Goes, Asks, Ended, turn}
 use Rattle.world.specs.Part.{Part, Acting, Silent, Posted}
 use Rattle.world.specs.World.{World, accesses_of, served, ticked, posting, happen, run}
 use Rattle.round.specs.Runs.{Onward, Runs}
-use Rattle.world.specs.Lists.{HasPosted, HasEnded, IsMove, AreMoves}
+use Rattle.world.specs.Lists.{OwesNoLetter, HasEnded, IsMove, AreMoves}
 use Rattle.world.proofs.Kept.{Fits}
 use Rattle.world.proofs.Moves.{set-cases, SameRound}
 use Rattle.round.proofs.Going.{over_ended}
@@ -127,7 +127,7 @@ module _ (first : World) where
       let same : c.1 ≡ d.1 = (let h = sym c.2 ∙ d.2 in cc) in
       Runs-same c.0 d.0 d.1 (accesses_of g piece) a b (let A : Activation → Type 0 = λ s. Runs c.0 s (accesses_of g piece) a in subst A same c.3) d.3 e f
 
-  part_same : (piece : List Access) (g : ℕ) (o : Option (List Insn)) (x y : Part) → Fits o x → Fits o y → HasPosted x → HasPosted y → HasEnded x → HasEnded y
+  part_same : (piece : List Access) (g : ℕ) (o : Option (List Insn)) (x y : Part) → Fits o x → Fits o y → OwesNoLetter x → OwesNoLetter y → HasEnded x → HasEnded y
       → ((a : Activation) → x ≡ Acting a → Came piece g a) → ((a : Activation) → y ≡ Acting a → Came piece g a) → x ≡ y
   part_same piece g None (Acting a) y f f' p p' e e' c c' = absurd f
   part_same piece g None Silent y f f' p p' e e' c c' = cc
@@ -142,7 +142,7 @@ module _ (first : World) where
 
   pub record IsReady (w : World) : Type 0 where
     pub fits : (g : ℕ) (part : Part) → slice_get w.parts g ≡ Some part → Fits (program_of first.scenario g) part
-    pub posted_all : (g : ℕ) (part : Part) → slice_get w.parts g ≡ Some part → HasPosted part
+    pub posted_all : (g : ℕ) (part : Part) → slice_get w.parts g ≡ Some part → OwesNoLetter part
     pub ended_all : (g : ℕ) (part : Part) → slice_get w.parts g ≡ Some part → HasEnded part
 
   -- from one beginning and with one ledger, two ripe worlds are one

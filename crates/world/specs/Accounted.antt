@@ -1,5 +1,5 @@
 -- Letters that a ledger accounts for (own).
-use Rattle.std.specs.Prelude.{ℕ, suc, ◌≡◌, ◌<◌, ◌*◌, ◌==◌, ◌&&◌, ◌||◌, true, List, [], ◌∷◌, ◌++◌, All, length, take, drop, find, sum_by, slice_get, Option, None, Some}
+use Rattle.std.specs.Prelude.{ℕ, suc, ◌≡◌, ◌<◌, ◌*◌, ◌==◌, ◌&&◌, ◌||◌, true, List, [], ◌∷◌, ◌++◌, All, length, take, drop, find, sum_by, slice_get, Option, None, Some, option_to_list}
 use Rattle.insn.specs.declared.insn.Insn.{Insn}
 use Rattle.board.specs.Board.{Access}
 use Rattle.semantics.specs.Relay.{oral}
@@ -8,28 +8,15 @@ use Rattle.round.specs.Letters.{Letter}
 use Rattle.round.specs.Contexts.{context_of, loyal_letter}
 use Rattle.round.specs.Activation.{Activation, started, is_reached}
 use Rattle.round.specs.Runs.{Runs, IsWithin}
-use Rattle.world.specs.World.{accesses_of, each}
+use Rattle.world.specs.World.{accesses_of, each, traitor_letter_with}
 
 -- the letter is what the general's program, or the loyal general, makes of the round behind these:
 -- it has run, as far as the letter tells, within the patience, and has ended by itself or by the patience
 abbrev pub IsLetterOf : Scenario → List (List Letter) → ℕ → Option (List Insn) → Letter → Type 0
 IsLetterOf s before g None l = l ≡ loyal_letter s before g
 IsLetterOf s before g (Some program) l =
-    let round = suc (length before) in
-    let context = context_of s before g in
-    let shape = shape_of s g round in
-    (end : Activation) × Runs l.steps (started None program context (oral shape)) l.transcript end
-    × (l ≡ record {
-      general = g;
-      round = round;
-      context = context;
-      program = Some program;
-      transcript = l.transcript;
-      steps = l.steps;
-      outbox = record { relay = oral shape; rows = end.state.outbox; entries = end.state.entries };
-      exited = end.over;
-    })
-    × IsWithin s.patience l.steps × ((l.exited || is_reached s.patience l.steps) ≡ true)
+    (end : Activation) × Runs l.steps (started None program (context_of s before g) (oral (shape_of s g (suc (length before))))) l.transcript end
+    × (l ≡ traitor_letter_with s before g (Some program) l.transcript l.steps end) × IsWithin s.patience l.steps × ((l.exited || is_reached s.patience l.steps) ≡ true)
 
 -- the letters of a round, by general, and the entries of a ledger that are theirs
 pub record IsAccountedRound (s : Scenario) (before : List (List Letter)) (piece : List Access) (letters : List Letter) : Type 0 where
@@ -48,17 +35,13 @@ AreAccounted s before ledger (letters ∷ rounds) =
 abbrev pub letter_by : ℕ → ℕ → List Letter → Option Letter
 letter_by g round letters = find (λ l. (l.general == g) && (l.round == round)) letters
 
-abbrev pub alone : {A : Type 0} → Option A → List A
-alone None = []
-alone (Some x) = x ∷ []
-
 -- the letters of a round, by general
-abbrev pub row_by : ℕ → ℕ → List Letter → List Letter
-row_by n round letters = each n (λ g. alone (letter_by g round letters))
+abbrev pub letters_by : ℕ → ℕ → List Letter → List Letter
+letters_by n round letters = each n (λ g. option_to_list (letter_by g round letters))
 
 -- the letters by round and general
 abbrev pub rounds_of : Scenario → List Letter → List (List Letter)
-rounds_of s letters = each (suc s.bound) (λ r. row_by s.generals (suc r) letters ∷ [])
+rounds_of s letters = each (suc s.bound) (λ r. letters_by s.generals (suc r) letters ∷ [])
 
 -- the letters, in whatever order, are one for each general and round, and the ledger has their accesses and no others
 abbrev pub IsAccounted : Scenario → List Access → List Letter → Type 0

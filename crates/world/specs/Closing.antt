@@ -1,4 +1,5 @@
--- What a close takes memory for before it changes anything: the letters as far as they take any, and the next parts (own).
+-- How code makes a close: what it takes memory for before it changes anything, the letters as far as they take any, and the next parts (own).
+-- No claim rests on this: what a close does, World.antt says.
 use Rattle.std.specs.Prelude.{ℕ, suc, ◌≡◌, nat_lt, cond, List, [], ◌∷◌, replicate, slice_get, Option, None, Some}
 use Rattle.insn.specs.declared.insn.Insn.{Insn}
 use Rattle.board.specs.Board.{Access}

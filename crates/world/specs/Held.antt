@@ -1,4 +1,4 @@
--- How a world is held, and what one event leaves of its parts and its board (own).
+-- How code holds a world, and what one event leaves of its parts and its board (own). No claim rests on this: what a world is and does, World.antt says.
 use Rattle.std.specs.Prelude.{ℕ, suc, ◌≡◌, ◌≤◌, ◌-◌, cond, List, [], ◌∷◌, length, slice_set, slice_get, Option, None, Some}
 use Rattle.board.specs.Board.{Access}
 use Rattle.board.specs.Ledger.{RecordedBoard}
@@ -48,15 +48,15 @@ steps_of (Some (Acting a)) = a.state.steps
 steps_of _ = 0
 
 -- a general's letter, or none, from his part and the round's accesses
-abbrev pub written : Scenario → List (List Letter) → List Access → ℕ → Option Part → List Letter
-written s closed accesses g (Some (Acting a)) = letter_left g (suc (length closed)) (accesses_of g accesses) a ∷ []
-written s closed accesses g (Some Silent) = []
-written s closed accesses g (Some Posted) = loyal_letter s closed g ∷ []
-written s closed accesses g None = []
+abbrev pub letter_held : Scenario → List (List Letter) → List Access → ℕ → Option Part → List Letter
+letter_held s closed accesses g (Some (Acting a)) = letter_left g (suc (length closed)) (accesses_of g accesses) a ∷ []
+letter_held s closed accesses g (Some Silent) = []
+letter_held s closed accesses g (Some Posted) = loyal_letter s closed g ∷ []
+letter_held s closed accesses g None = []
 
 -- the letters of a round
 abbrev pub letters_held : Scenario → List (List Letter) → List Access → List Part → List Letter
-letters_held s closed accesses parts = each s.generals (λ g. written s closed accesses g (slice_get parts g))
+letters_held s closed accesses parts = each s.generals (λ g. letter_held s closed accesses g (slice_get parts g))
 
 -- how the generals begin the round behind these
 abbrev pub beginnings : Scenario → List (List Letter) → List Part

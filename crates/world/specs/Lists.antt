@@ -6,7 +6,7 @@ use Rattle.world.specs.declared.event.Event.{Event}
 use Rattle.world.specs.declared.event.Event.TheVariants.{Tick, Post, Close}
 use Rattle.round.specs.Scenario.{Scenario, program_of}
 use Rattle.round.specs.Activation.{Activation, Turn, Goes, Asks, Ended, turn, has_ended}
-use Rattle.world.specs.Part.{Part, Acting, has_posted}
+use Rattle.world.specs.Part.{Part, Acting, owes_no_letter}
 use Rattle.world.specs.World.{World, each, opening, happen, run}
 
 -- a property of the world before each event
@@ -19,16 +19,16 @@ abbrev pub AtClose : (Part → Type 0) → World → Event → Type 0
 AtClose Q w Close = (g : ℕ) (part : Part) → slice_get w.parts g ≡ Some part → Q part
 AtClose Q w _ = Unit {0}
 
-abbrev pub HasPosted : Part → Type 0
-HasPosted part = has_posted part ≡ true
+abbrev pub OwesNoLetter : Part → Type 0
+OwesNoLetter part = owes_no_letter part ≡ true
 
 abbrev pub HasEnded : Part → Type 0
 HasEnded (Acting a) = has_ended a ≡ true
 HasEnded _ = Unit {0}
 
--- before each close every loyal general has posted
+-- before each close every loyal general has posted: no letter is owed
 abbrev pub IsPunctual : Scenario → List Event → Type 0
-IsPunctual s events = Throughout (AtClose HasPosted) (opening s) events
+IsPunctual s events = Throughout (AtClose OwesNoLetter) (opening s) events
 
 -- and every traitor's activation has ended, and in the end all rounds are closed
 pub record IsComplete (s : Scenario) (events : List Event) : Type 0 where
@@ -48,7 +48,7 @@ AreMoves (e ∷ events) = IsMove e × AreMoves events
 
 -- every loyal general has posted, and every activation has ended
 pub record IsRipe (w : World) : Type 0 where
-  pub posted_all : (g : ℕ) (part : Part) → slice_get w.parts g ≡ Some part → HasPosted part
+  pub posted_all : (g : ℕ) (part : Part) → slice_get w.parts g ≡ Some part → OwesNoLetter part
   pub ended_all : (g : ℕ) (part : Part) → slice_get w.parts g ≡ Some part → HasEnded part
 
 -- the first of some lists, where there is one, and the others

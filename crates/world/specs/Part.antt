@@ -3,7 +3,8 @@ use Rattle.std.specs.Prelude.{Bool, true, false}
 pub use Rattle.world.specs.declared.part.Part.{Part}
 pub use Rattle.world.specs.declared.part.Part.TheVariants.{Acting, Silent, Posted}
 
-abbrev pub has_posted : Part → Bool
-has_posted (Acting a) = true
-has_posted Silent = false
-has_posted Posted = true
+-- no letter is awaited of him: a traitor's is made of his activation as the round closes
+abbrev pub owes_no_letter : Part → Bool
+owes_no_letter (Acting a) = true
+owes_no_letter Silent = false
+owes_no_letter Posted = true

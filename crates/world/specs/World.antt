@@ -7,12 +7,12 @@ use Rattle.semantics.specs.Relay.{oral}
 use Rattle.round.specs.Scenario.{Scenario, program_of, shape_of}
 use Rattle.round.specs.Letters.{Letter}
 use Rattle.round.specs.Contexts.{context_of, loyal_letter}
-use Rattle.round.specs.Activation.{started, Turn, Goes, Asks, Ended, turn}
+use Rattle.round.specs.Activation.{Activation, started, Turn, Goes, Asks, Ended, turn}
 use Rattle.world.specs.declared.event.Event.{Event}
 use Rattle.world.specs.declared.event.Event.TheVariants.{Tick, Post, Close}
 use Rattle.world.specs.declared.event.EventError.{EventError}
 use Rattle.world.specs.declared.event.EventError.TheVariants.{NotOpen, NoGeneral}
-use Rattle.world.specs.Part.{Part, Acting, Silent, Posted, has_posted}
+use Rattle.world.specs.Part.{Part, Acting, Silent, Posted, owes_no_letter}
 
 -- the letters of the closed rounds, the board's words and ledger, where the open round's entries begin in it,
 -- by general the parts of the open round, and whether in each closed round all loyal generals had posted
@@ -57,19 +57,23 @@ opening s = begun s [] s.board [] true
 abbrev pub accesses_of : ℕ → List Access → List Access
 accesses_of g accesses = filter (λ a. a.general == g) accesses
 
--- his letter as he stands: the outbox of an activation counts as it is
+-- a traitor's letter in the round behind these, by what his program has done: its accesses, its steps, and where it stands, whose outbox counts as it is
+abbrev pub traitor_letter_with : Scenario → List (List Letter) → ℕ → Option (List Insn) → List Access → ℕ → Activation → Letter
+traitor_letter_with s before g program transcript steps a = record {
+  general = g;
+  round = suc (length before);
+  context = context_of s before g;
+  program = program;
+  transcript = transcript;
+  steps = steps;
+  outbox = record { relay = oral (shape_of s g (suc (length before))); rows = a.state.outbox; entries = a.state.entries };
+  exited = a.over;
+}
+
+-- a general's letter as he stands, or none
 abbrev pub letters_at : World → ℕ → Option Part → List Letter
 letters_at w g (Some (Acting a)) =
-    record {
-      general = g;
-      round = suc (length w.closed);
-      context = context_of w.scenario w.closed g;
-      program = program_of w.scenario g;
-      transcript = accesses_of g (drop w.opened w.ledger);
-      steps = a.state.steps;
-      outbox = record { relay = oral (shape_of w.scenario g (suc (length w.closed))); rows = a.state.outbox; entries = a.state.entries };
-      exited = a.over;
-    } ∷ []
+    traitor_letter_with w.scenario w.closed g (program_of w.scenario g) (accesses_of g (drop w.opened w.ledger)) a.state.steps a ∷ []
 letters_at w g (Some Silent) = []
 letters_at w g (Some Posted) = loyal_letter w.scenario w.closed g ∷ []
 letters_at w g None = []
@@ -98,7 +102,7 @@ posting w g (Some Silent) = record w { parts = slice_set w.parts g Posted }
 posting w g _ = w
 
 abbrev pub closing : World → World
-closing w = begun w.scenario (w.closed ++ round_letters w ∷ []) w.words w.ledger (w.full && list_all has_posted w.parts)
+closing w = begun w.scenario (w.closed ++ round_letters w ∷ []) w.words w.ledger (w.full && list_all owes_no_letter w.parts)
 
 -- what an event does; a refused one, a tick of an ended activation and a second post change nothing
 abbrev pub happen : World → Event → World

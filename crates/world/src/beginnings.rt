@@ -10,6 +10,7 @@ ghost use Rattle.world.specs.Held.{beginnings};
 ghost use Rattle.world.specs.World.{begins};
 
 use crate::part::Part;
+use mem::Context;
 use outbox::Outbox;
 use round::{Round, Running, Scenario, Told};
 use std::alloc::{AllocError, Global};
@@ -72,7 +73,7 @@ fn blank(
     requires inside { general < scenario.now.generals }
     ensures { IfOk result (λ running. running ≡ started scenario.now.patience (arc_value program.now) zeros (oral (shape_of scenario.now general (suc before)))) }
 {
-    let _few = scenario.bound();
+    scenario.recall();
     let context = zeros(alloc)?;
     let outbox = Outbox::new(alloc, scenario.shape(general, before + 1))?;
     let program = program.clone()?;
@@ -84,8 +85,8 @@ fn zeros(alloc: Global) -> Result<Vec<u8>, AllocError>
     ensures same { IfOk result (λ bytes. bytes.items ≡ zeros) }
     ensures long { IfOk result (λ bytes. length bytes.items ≡ 4096) }
 {
-    let mut bytes = Vec::with_capacity(alloc, 4096)?;
-    bytes.resize(4096, 0)?;
+    let mut bytes = Vec::with_capacity(alloc, Context::BYTES)?;
+    bytes.resize(Context::BYTES, 0)?;
     Ok(bytes)
 }
 

@@ -20,9 +20,9 @@ pub struct Chronicle {
 }
 
 impl Model for Chronicle {
-    ghost use Rattle.world.specs.Chronicle.{Chronicle as Told};
+    ghost use Rattle.world.specs.Chronicle.{Chronicle as ChronicleSeen};
 
-    ghost Value = { Told };
+    ghost Value = { ChronicleSeen };
 
     ghost view = { λ c. record {
       scenario = c.scenario;

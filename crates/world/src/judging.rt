@@ -44,7 +44,7 @@ fn are_all(decisions: &[u32], order: u32) -> bool
 fn obeyed(scenario: &Scenario, loyal: &[u32]) -> Option<bool>
     ensures { result ≡ cond (is_traitor scenario.now scenario.now.commander) None (Some (list_all (λ d. d == scenario.now.order) loyal.now)) }
 {
-    if is_traitor(scenario, scenario.commander()) {
+    if scenario.is_traitor(scenario.commander()) {
         return None;
     }
     Some(are_all(loyal, scenario.order()))
@@ -64,7 +64,7 @@ fn traitors(scenario: &Scenario) -> u8
 {
     let mut traitors = 0;
     for general in 0..scenario.generals() {
-        if is_traitor(scenario, general) {
+        if scenario.is_traitor(general) {
             traitors += 1;
         }
     }
@@ -99,16 +99,8 @@ fn count(
     ensures { loyal.new.items ≡ loyal.old.items ++ counted scenario.now general (slice_get decisions.now place) }
 {
     if let Some(decision) = decisions.get(place) {
-        if !is_traitor(scenario, general) {
+        if !scenario.is_traitor(general) {
             loyal.push(*decision);
         }
     }
-}
-
-/// Whether the general has a program.
-fn is_traitor(scenario: &Scenario, general: u8) -> bool
-    requires { general < scenario.now.generals }
-    ensures { result ≡ is_traitor scenario.now general }
-{
-    scenario.seat(general).program().is_some()
 }

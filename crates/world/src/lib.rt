@@ -1,33 +1,32 @@
 //! The world of a campaign. What is said of it stands in specs/.
 #![tactic(auto)]
 
-mod applying;
 mod beginnings;
-mod campaign;
 mod chronicle;
 mod draft;
 mod event;
 mod events;
-mod finished;
 mod judging;
 mod laws;
-mod onward;
+mod letters;
 mod outcome;
 mod part;
+mod parts;
+mod player;
 mod playing;
-mod rows;
 mod schedule;
 mod verdict;
+mod world;
 
-pub use campaign::World;
 pub use chronicle::Chronicle;
 pub use event::{Event, EventError};
-pub use finished::{play, replay};
 pub use laws::{
     accounts_are_runs, activations_are_runs, activations_are_safe, decisions_agree,
     idle_events_change_nothing, ledgers_decide, lists_are_complete, parts_are_placed,
     refusals_change_nothing, runs_are_accounted, runs_are_replays, verdicts_mean, worlds_agree,
 };
 pub use part::Part;
+pub use player::{play, replay};
 pub use schedule::{Entries, Repeat, Schedule};
 pub use verdict::Verdict;
+pub use world::World;

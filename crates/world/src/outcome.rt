@@ -5,8 +5,8 @@ ghost use Rattle.world.specs.Agreement.{IsFinished};
 ghost use Rattle.world.specs.Chronicle.{decisions, chronicle_of};
 ghost use Rattle.world.specs.Promises.{AgreeUnderBound};
 
-use crate::campaign::World;
 use crate::chronicle::Chronicle;
+use crate::world::World;
 use arrayvec::ArrayVec;
 use resolve::resolve;
 
@@ -18,7 +18,7 @@ impl World {
         ensures values { result.items ≡ decisions self.now.scenario (messages self.now.closed) }
         ensures agree { IsFinished self.now → AgreeUnderBound self.now.scenario result.items }
     {
-        let _few = self.scenario.bound();
+        self.scenario.recall();
         let rule = self.scenario.rule();
         let mut decisions = ArrayVec::new();
         for tree in self.told.trees() {

@@ -1,5 +1,5 @@
 ghost use Rattle.std.specs.Prelude.{◌≡◌};
-ghost use Rattle.world.specs.Part.{has_posted};
+ghost use Rattle.world.specs.Part.{owes_no_letter};
 
 use round::Running;
 
@@ -16,8 +16,8 @@ pub enum Part {
 
 impl Part {
     /// Whether no letter is awaited of him.
-    pub fn has_posted(&self) -> bool
-        ensures { result ≡ has_posted self.now }
+    pub fn owes_no_letter(&self) -> bool
+        ensures { result ≡ owes_no_letter self.now }
     {
         match self {
             Part::Acting(_) | Part::Posted => true,

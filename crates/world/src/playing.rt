@@ -11,23 +11,23 @@ ghost use Rattle.world.specs.Lists.{event_of, post_of, ticks_of, wound_up, liste
 ghost use Rattle.world.specs.Schedules.{entries_of, lines_by};
 ghost use Rattle.world.specs.Playing.{line_events, lists_in};
 
-use crate::campaign::World;
-use crate::onward;
+use crate::parts;
 use crate::schedule::{Repeat, Schedule};
+use crate::world::World;
 use round::Scenario;
 use std::alloc::{AllocError, Global};
 
 impl World {
     /// So many ticks of a general. They are not gone through one by one: from one access to the next he runs on.
-    fn ticks(&mut self, general: u32, times: u32) -> Result<(), AllocError>
+    fn tick_often(&mut self, general: u32, times: u32) -> Result<(), AllocError>
         ensures { OnOk result (self.new ≡ run self.old (replicate times (Tick general))) }
     {
         let mut left = times;
         while left > 0 {
-            if onward::is_still(self.parts.as_slice(), general) {
+            if parts::is_still(self.parts.as_slice(), general) {
                 return Ok(());
             }
-            let steps = onward::steps(self.parts.as_slice(), general);
+            let steps = parts::steps(self.parts.as_slice(), general);
             let taken = self.ahead(general, steps.saturating_add(left));
             left -= taken;
             if left > 0 {
@@ -39,7 +39,7 @@ impl World {
     }
 
     /// A general's entries: a traitor's ticks or a loyal general's posts; none where there is no such general.
-    fn entry(&mut self, repeat: Repeat) -> Result<(), AllocError>
+    fn play_entry(&mut self, repeat: Repeat) -> Result<(), AllocError>
         ensures { OnOk result (self.new ≡ run self.old (line_events self.old.scenario (replicate repeat.times repeat.general))) }
     {
         if repeat.general >= self.scenario.generals() {
@@ -57,13 +57,11 @@ impl World {
         requires some { 0 < times }
         ensures { OnOk result (self.new ≡ run self.old (replicate times (event_of general (program_of self.old.scenario general)))) }
     {
-        match self.scenario.seat(general).program() {
-            Some(_) => self.ticks(u32::from(general), times),
-            None => {
-                self.post_often(u32::from(general), times);
-                Ok(())
-            }
+        if self.scenario.is_traitor(general) {
+            return self.tick_often(u32::from(general), times);
         }
+        self.post_often(u32::from(general), times);
+        Ok(())
     }
 
     /// So many posts of a loyal general are one.
@@ -75,22 +73,22 @@ impl World {
         self.post(general);
     }
 
-    /// A line of a schedule.
-    fn line(&mut self, repeats: &[Repeat]) -> Result<(), AllocError>
+    /// The entries of a schedule's line.
+    fn play_line(&mut self, repeats: &[Repeat]) -> Result<(), AllocError>
         ensures { OnOk result (self.new ≡ run self.old (line_events self.old.scenario (entries_of repeats.now))) }
     {
         for repeat in repeats {
-            self.entry(*repeat)?;
+            self.play_entry(*repeat)?;
         }
         Ok(())
     }
 
     /// A named traitor's ticks until he has made one more access or has ended; nothing for another name.
-    fn name(&mut self, general: u32) -> Result<(), AllocError>
+    fn tick_to_access(&mut self, general: u32) -> Result<(), AllocError>
         ensures { OnOk result (self.new ≡ run self.old (ticks_named general (slice_get self.old.parts general))) }
     {
-        let _few = self.scenario.bound();
-        match onward::instructions(self.parts.as_slice(), general) {
+        self.scenario.recall();
+        match parts::instructions(self.parts.as_slice(), general) {
             None => Ok(()),
             Some(most) => {
                 self.ahead(general, most);
@@ -99,35 +97,35 @@ impl World {
         }
     }
 
-    /// The names of a round, in their order.
-    fn names(&mut self, names: &[u8]) -> Result<(), AllocError>
+    /// The accesses of the generals that are named for a round, in their order.
+    fn play_names(&mut self, names: &[u8]) -> Result<(), AllocError>
         ensures { OnOk result (self.new ≡ run self.old (names_events self.old names.now)) }
     {
         for general in names {
-            self.name(u32::from(*general))?;
+            self.tick_to_access(u32::from(*general))?;
         }
         Ok(())
     }
 
-    /// A loyal general's letter, where he is loyal.
-    fn posts(&mut self, general: u8)
+    /// The general's letter, where he is loyal.
+    fn post_if_loyal(&mut self, general: u8)
         requires { general < self.old.scenario.generals }
         ensures { self.new ≡ run self.old (post_of general (program_of self.old.scenario general)) }
     {
-        if self.scenario.seat(general).program().is_none() {
+        if !self.scenario.is_traitor(general) {
             self.post(u32::from(general));
         }
     }
 
     /// A traitor's ticks to his end.
-    fn ends(&mut self, general: u8) -> Result<(), AllocError>
+    fn tick_to_end(&mut self, general: u8) -> Result<(), AllocError>
         requires { general < self.old.scenario.generals }
         ensures { OnOk result (self.new ≡ run self.old (ticks_of general (program_of self.old.scenario general))) }
     {
         match self.scenario.seat(general).program() {
             Some(program) => {
                 let most = program.program().len();
-                self.ticks(u32::from(general), most as u32)
+                self.tick_often(u32::from(general), most as u32)
             }
             None => Ok(()),
         }
@@ -138,7 +136,7 @@ impl World {
         ensures { self.new ≡ run self.old (each self.old.scenario.generals (λ g. post_of g (program_of self.old.scenario g))) }
     {
         for general in 0..self.scenario.generals() {
-            self.posts(general);
+            self.post_if_loyal(general);
         }
     }
 
@@ -147,7 +145,7 @@ impl World {
         ensures { OnOk result (self.new ≡ run self.old (each self.old.scenario.generals (λ g. ticks_of g (program_of self.old.scenario g)))) }
     {
         for general in 0..self.scenario.generals() {
-            self.ends(general)?;
+            self.tick_to_end(general)?;
         }
         Ok(())
     }
@@ -175,7 +173,7 @@ impl World {
     fn listed_round(&mut self, alloc: Global, line: &[Repeat]) -> Result<(), AllocError>
         ensures { OnOk result (self.new ≡ run (run self.old (line_events self.old.scenario (entries_of line.now))) (wound_up self.old.scenario)) }
     {
-        self.line(line)?;
+        self.play_line(line)?;
         self.wind_up(alloc)
     }
 
@@ -183,7 +181,7 @@ impl World {
     fn named_round(&mut self, alloc: Global, names: &[u8]) -> Result<(), AllocError>
         ensures { OnOk result (self.new ≡ run (run self.old (names_events self.old names.now)) (wound_up self.old.scenario)) }
     {
-        self.names(names)?;
+        self.play_names(names)?;
         self.wind_up(alloc)
     }
 
@@ -202,7 +200,7 @@ impl World {
         ensures agree { IfOk result (λ world. IsBound scenario.generals scenario.bound (is_traitor scenario) →
             Agree scenario.generals scenario.commander scenario.order (is_traitor scenario) (decision scenario (messages world.closed))) }
     {
-        let _few = scenario.bound();
+        scenario.recall();
         let mut world = World::open(alloc, scenario)?;
         let rounds = usize::from(world.scenario.bound()) + 1;
         for round in 0..rounds {
@@ -224,7 +222,7 @@ impl World {
         ensures replayed { IfOk result (λ world. world ≡ run (opening scenario) (replayed scenario (lists_in names.now))) }
         ensures finished { IfOk result IsFinished }
     {
-        let _few = scenario.bound();
+        scenario.recall();
         let mut world = World::open(alloc, scenario)?;
         let rounds = usize::from(world.scenario.bound()) + 1;
         for round in 0..rounds {

@@ -8,4 +8,4 @@ pub run-requires : goal.run-requires
 run-requires c = c.loop.invariant
 
 pub loop-preserved : goal.loop-preserved
-loop-preserved c = c.in_ok-answer-in-Asked.ensures.of_run c.args.verified.now c.args.context.now c.in-Asked.ensures.of_run.1
+loop-preserved c = c.in_ok-answer-in-Asked.ensures.of_run c.args.verified.now c.args.context.now c.in-Asked.ensures.of_run

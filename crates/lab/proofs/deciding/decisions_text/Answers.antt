@@ -4,8 +4,9 @@ use Rattle.std.specs.List.{flat_map}
 use Rattle.label.specs.Labels.{on}
 use Rattle.book.proofs.Steps.{others-more_no}
 use Rattle.book.specs.Decisions.{decision_of}
+use Rattle.book.proofs.Gathering.{lines_yes}
 use Rattle.lab.specs.Lines.{decision_line}
-use Rattle.lab.proofs.LineLemmas.{lines_all, lines_more, order_is, order_there, place_more, place_small}
+use Rattle.lab.proofs.LineLemmas.{lines_all, order_is, order_there, place_more, place_small}
 use Rattle.lab.proofs.deciding.decisions_text.Goals as goal
 use Rattle.lab.proofs.deciding.decisions_text.Goals.{then-general-commander+in_ok-push_decision, else-general-commander}
 
@@ -49,7 +50,7 @@ loop-general-preserved c =
           fresh
           in
           record {
-            lines = rw (w.lines-is, w.in_ok-push_decision.ensures, c.loop-general.invariant.lines, order) (sym (lines_more line (table.commander ∷ []) general fresh));
+            lines = rw (w.lines-is, w.in_ok-push_decision.ensures, c.loop-general.invariant.lines, order) (sym (lines_yes line (table.commander ∷ []) general fresh));
             place = w.place-is ∙ place_more c.args.table.now.commander c.loop-general.general c.loop-general.place c.loop-general.invariant.place fresh;
           }
       | else-general-commander w ↦

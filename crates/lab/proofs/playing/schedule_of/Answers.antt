@@ -7,4 +7,4 @@ returns-then-not-may_begin_text-clause-refused c all begins =
     none_begun all c.args.front.now begins (c.if-not-may_begin_text.ensures refl)
 
 pub returns-clause-refused : goal.returns-clause-refused
-returns-clause-refused c all begins = too_many all c.args.front.now c.if-front-le-MOST_BYTES.false begins
+returns-clause-refused c all begins = too_many all c.args.front.now c.if-front-le-MOST_SCHEDULE_BYTES.false begins

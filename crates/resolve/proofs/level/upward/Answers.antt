@@ -3,7 +3,7 @@ use Rattle.std.specs.Prelude.{slice_index_or, insert}
 use Rattle.std.proofs.lemmas.List.{take_all}
 use Rattle.label.specs.Oral.{order_of}
 use Rattle.label.specs.Labels.{labels}
-use Rattle.resolve.specs.Upward.{place_at}
+use Rattle.resolve.specs.Upward.{lower_off_at}
 use Rattle.label.proofs.Parts.{part-within, part-long}
 use Rattle.resolve.proofs.Places.{place-few}
 use Rattle.resolve.proofs.Rising.{upward-is, ap-short}
@@ -41,10 +41,10 @@ insert-requires g c =
     let long : length c.children-children.result.now ≡ c.from-width.result = part-long c.args.below.now c.children-children.result.now (c.args.rank * c.from-width.result) c.from-width.result (let w : c.args.rank * c.from-width.result + c.from-width.result ≤ length (labels c.args.tree.now.generals c.args.tree.now.commander c.args.tree.now.general (c.args.size + 1)) = part-within c.args.tree.now.generals c.args.tree.now.commander c.args.tree.now.general c.args.size c.args.rank c.from-width.result c.space.ensures.kind.commander c.space.ensures.kind.general c.space.ensures.kind.lieutenant c.requires.some (omega arith) c.requires.within in let b = c.requires.long in omega arith) c.children-children.ensures in
     let whole : c.loop-x.orders.items ≡ c.children-children.result.now = c.loop-x.invariant ∙ take_all c.loop-x.x-index c.children-children.result.now (let h = c.loop-x-test.false in omega arith) in
     let size : length c.loop-x.orders.items ≡ length c.children-children.result.now = ap length whole in
-    let place : place_at c.args.tree.now c.args.size c.args.rank ≤ c.args.tree.now.generals - 1 - c.args.size = place-few c.args.tree.now c.args.size c.args.rank c.space.ensures.kind c.requires.some c.requires.within in
-    let p = c.from-place.ensures in
-    let q = c.place.ensures in
-    let low : c.from-place.result ≤ length c.loop-x.orders.items = omega arith in
+    let lower_off : lower_off_at c.args.tree.now c.args.size c.args.rank ≤ c.args.tree.now.generals - 1 - c.args.size = place-few c.args.tree.now c.args.size c.args.rank c.space.ensures.kind c.requires.some c.requires.within in
+    let p = c.from-lower_off.ensures in
+    let q = c.lower_off.ensures in
+    let low : c.from-lower_off.result ≤ length c.loop-x.orders.items = omega arith in
     let room : length c.loop-x.orders.items < 13 = omega arith in
     (lit< tt, (low, room))
 
@@ -54,6 +54,6 @@ returns g c =
     let s = c.saturating_sub.ensures in
     let e = c.from-width.ensures in
     let whole : c.loop-x.orders.items ≡ c.children-children.result.now = c.loop-x.invariant ∙ take_all c.loop-x.x-index c.children-children.result.now (let h = c.loop-x-test.false in omega arith) in
-    c.combine.ensures ∙ upward-is (g.C.Combine.combined c.args.rule.now) c.args.tree.now c.args.below.now c.args.size c.args.rank c.from-width.result c.from-place.result c.order_at-own.result c.children-children.result.now c.as_slice.result.now (omega arith) c.children-children.ensures (c.from-place.ensures ∙ c.place.ensures)
+    c.combine.ensures ∙ upward-is (g.C.Combine.combined c.args.rule.now) c.args.tree.now c.args.below.now c.args.size c.args.rank c.from-width.result c.from-lower_off.result c.order_at-own.result c.children-children.result.now c.as_slice.result.now (omega arith) c.children-children.ensures (c.from-lower_off.ensures ∙ c.lower_off.ensures)
     (c.order_at-own.ensures ∙ ap (λ xs. order_of (slice_index_or xs c.args.rank None)) c.level.ensures.value)
-    (c.as_slice.ensures.value ∙ (c.insert.ensures.items ∙ ap (λ xs. insert xs c.from-place.result c.order_at-own.result) whole))
+    (c.as_slice.ensures.value ∙ (c.insert.ensures.items ∙ ap (λ xs. insert xs c.from-lower_off.result c.order_at-own.result) whole))

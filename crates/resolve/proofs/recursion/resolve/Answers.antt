@@ -12,10 +12,10 @@ pub returns : goal.returns
 returns g c =
     let commander = c.space-space.ensures.commander in
     let general = c.space-space.ensures.general in
-    let place : c.if-space.place ≡ length (others c.args.tree.now.general (c.args.tree.now.commander ∷ [])) =
+    let lower_off : c.if-space.lower_off ≡ length (others c.args.tree.now.general (c.args.tree.now.commander ∷ [])) =
     elim c.if-space.branch [
-      | then-space w ↦ first-place c.args.tree.now.commander c.args.tree.now.general c.if-space.place (λ l. let e = w.place-is in omega arith) (λ l. absurd (let h = w.if-space.true in omega arith))
-      | else-space w ↦ first-place c.args.tree.now.commander c.args.tree.now.general c.if-space.place (λ l. absurd (let h = w.if-space.false in omega arith)) (λ l. let e = w.place-is in omega arith)
+      | then-space w ↦ first-place c.args.tree.now.commander c.args.tree.now.general c.if-space.lower_off (λ l. let e = w.lower_off-is in omega arith) (λ l. absurd (let h = w.if-space.true in omega arith))
+      | else-space w ↦ first-place c.args.tree.now.commander c.args.tree.now.general c.if-space.lower_off (λ l. absurd (let h = w.if-space.false in omega arith)) (λ l. let e = w.lower_off-is in omega arith)
     ]
     in
-    λ M full. c.decide.ensures ∙ (ap (λ (k : ℕ). decided (g.C.Combine.combined c.args.rule.now) c.args.tree.now k 1 0 c.if-space.place) c.bound.ensures ∙ resolved (g.C.Combine.combined c.args.rule.now) c.args.tree.now M c.if-space.place c.space-space.ensures.kind place full)
+    λ M full. c.decide.ensures ∙ (ap (λ (k : ℕ). decided (g.C.Combine.combined c.args.rule.now) c.args.tree.now k 1 0 c.if-space.lower_off) c.bound.ensures ∙ resolved (g.C.Combine.combined c.args.rule.now) c.args.tree.now M c.if-space.lower_off c.space-space.ensures.kind lower_off full)

@@ -11,7 +11,7 @@ use Rattle.round.proofs.delivery.+descend.Goals.{then-not-front-from, else-not-f
 
 pub loop-general-init : goal.loop-general-init
 loop-general-init t c = record {
-  told = up_from c.args.generals c.args.letters.now c.args.places.now c.args.size c.args.front.now c.args.trees.now c.requires.route;
+  told = up_from c.args.generals c.args.letters.now c.args.indices.now c.args.size c.args.front.now c.args.trees.now c.requires.route;
   below = λ d w h. refl;
 }
 
@@ -27,8 +27,8 @@ descend-requires t c =
       (
         c.requires.nobody,
         (
-          child_route c.args.generals c.args.letters.now c.args.places.now c.args.size f c.with-longer.result c.args.trees.now c.loop-general.trees c.requires.route x c.if-front-size.false child c.loop-general.invariant.told,
-          table_up c.args.generals c.args.letters.now c.args.places.now c.args.size f c.args.trees.now c.loop-general.trees c.requires.route x c.loop-general.invariant.told c.args.tree_of.now c.requires.table,
+          child_route c.args.generals c.args.letters.now c.args.indices.now c.args.size f c.with-longer.result c.args.trees.now c.loop-general.trees c.requires.route x c.if-front-size.false child c.loop-general.invariant.told,
+          table_up c.args.generals c.args.letters.now c.args.indices.now c.args.size f c.args.trees.now c.loop-general.trees c.requires.route x c.loop-general.invariant.told c.args.tree_indices.now c.requires.table,
         ),
       ),
     )
@@ -48,7 +48,7 @@ loop-general-preserved t c =
       | then-not-front-from w ↦
           let mark : slice_index_or f.on x false ≡ false = sym (ap (λ (g : ℕ). slice_index_or f.on g false) c.from.ensures) ∙ w.if-not-front-from.true in
           record {
-            told = rw w.trees-is (up_off n c.args.letters.now c.args.places.now c.args.size f w.with-longer.result c.args.trees.now c.loop-general.trees w.descend.new.trees c.requires.route x within mark
+            told = rw w.trees-is (up_off n c.args.letters.now c.args.indices.now c.args.size f w.with-longer.result c.args.trees.now c.loop-general.trees w.descend.new.trees c.requires.route x within mark
                 (λ v h. w.with-longer.ensures c.requires.route.c v within c.requires.route.few c.requires.route.inside h (sym (h.marks x within) ∙ mark) (c.loop-general.invariant.below c.requires.route.c v h))
                 c.loop-general.invariant.told w.descend.ensures);
             below = λ d v h. rw w.below-is (below_more x v c.loop-general.below (sym (h.marks x within) ∙ mark) (c.loop-general.invariant.below d v h));
@@ -56,7 +56,7 @@ loop-general-preserved t c =
       | else-not-front-from w ↦
           let mark : slice_index_or f.on x false ≡ true = sym (ap (λ (g : ℕ). slice_index_or f.on g false) c.from.ensures) ∙ w.if-not-front-from.false in
           record {
-            told = rw w.trees-is (up_on n c.args.letters.now c.args.places.now c.args.size f c.args.trees.now c.loop-general.trees c.requires.route x within mark c.loop-general.invariant.told);
+            told = rw w.trees-is (up_on n c.args.letters.now c.args.indices.now c.args.size f c.args.trees.now c.loop-general.trees c.requires.route x within mark c.loop-general.invariant.told);
             below = λ d v h. rw w.below-is (below_same x v c.loop-general.below (sym (h.marks x within) ∙ mark) (c.loop-general.invariant.below d v h));
           }
     ]
@@ -64,5 +64,5 @@ loop-general-preserved t c =
 pub returns : goal.returns
 returns t c =
     let end : c.loop-general.general ≡ c.args.generals = let l = c.loop-general-test.false in let g = c.loop-general.auto.general-end in omega arith in
-    up_all c.args.generals c.args.letters.now c.args.places.now c.args.size c.args.front.now c.args.trees.now c.loop-general.trees c.requires.route
+    up_all c.args.generals c.args.letters.now c.args.indices.now c.args.size c.args.front.now c.args.trees.now c.loop-general.trees c.requires.route
     (ends_at c.args.letters.now c.args.size c.args.front.now c.loop-general.general c.args.generals c.args.trees.now c.loop-general.trees end c.loop-general.invariant.told)

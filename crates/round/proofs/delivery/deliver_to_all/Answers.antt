@@ -1,14 +1,14 @@
 -- All labels of the round.
 use Rattle.std.proofs.Common.{◌≡◌, ◌<◌, ◌∷◌, [], length, arith, rules}
 use Rattle.round.specs.Told.{round_of}
-use Rattle.round.proofs.Delivering.{no_letters}
 use Rattle.round.proofs.Together.{all_told, none_told, round_told}
 use Rattle.round.proofs.delivery.deliver_to_all.Goals as goal
+use Rattle.std.proofs.lemmas.List.{nil_from_length}
 
 pub returns-then-is_empty : goal.returns-then-is_empty
 returns-then-is_empty c =
     let none : length c.args.letters.now ≡ 0 = search rules in
-    none_told c.args.generals c.args.commander c.args.letters.now c.args.trees.now c.requires.trees (no_letters c.args.letters.now none)
+    none_told c.args.generals c.args.commander c.args.letters.now c.args.trees.now c.requires.trees (nil_from_length c.args.letters.now none)
 
 pub descend-requires-clause-route : goal.descend-requires-clause-route
 descend-requires-clause-route c =
@@ -20,7 +20,7 @@ descend-requires-clause-route c =
       few = c.requires.few;
       size = round;
       small = c.shape-size.ensures.within.last;
-      posted = c.places_of-places.ensures;
+      posted = c.letter_indices-indices.ensures;
       short = (let s = front.size in let f = c.shape-size.ensures.within.first in let ne = c.if-size-eq1.false in omega arith);
       c = c.args.commander;
       w = c.args.commander ∷ [];

@@ -4,7 +4,7 @@ use Rattle.std.specs.Arc.{arc_value}
 use Rattle.semantics.specs.Relay.{Relay}
 use Rattle.round.specs.Activation.{Activation, started}
 use Rattle.round.specs.Letters.{Letter}
-use Rattle.round.specs.Contexts.{IsToldTo, relay_told, number_told}
+use Rattle.round.specs.Contexts.{IsToldTo, relay_told, shape_told}
 use Rattle.semantics.specs.Relay.{oral}
 use Rattle.round.specs.Running.{IsWayServed}
 use Rattle.round.proofs.Onwards.{letter_of_run, own_run, lived}
@@ -16,12 +16,7 @@ loop-running-init g c =
     let context = c.args.context.items in
     let relay : c.in_ok-new.field-0.relay ≡ relay_told c.args.general c.args.round context =
     c.in_ok-new.ensures.relay
-    ∙ (λ i. oral (record {
-      generals = (c.number_told.ensures ∙ ap (λ (l : List ℕ). number_told l 0) c.as_slice.ensures.value) i;
-      commander = (c.number_told-2.ensures ∙ ap (λ (l : List ℕ). number_told l 3) c.as_slice-2.ensures.value) i;
-      general = c.args.general;
-      round = c.args.round;
-    })) in
+    ∙ ap oral (c.shape_told-shape.ensures ∙ ap (λ (l : List ℕ). shape_told c.args.general c.args.round l) c.as_slice.ensures.value) in
     let begun = c.start-running.ensures ∙ ap (λ (s : Relay). started c.args.patience (arc_value c.args.program) context s) relay in
     let start = started c.args.patience (arc_value c.args.program) context (relay_told c.args.general c.args.round context) in
     let served = g.S.Server.served c.args.server.now in

@@ -17,8 +17,8 @@ overflow_add-limit c =
 
 both : (c : goal.After-run) → Stopped (step c.args.verified.now c.args.bytes.now c.args.activation.now.relay c.args.activation.now.state) c.run.result c.run.new.self.state
     × IsBack c.run.result c.args.activation.now.state c.run.new.self.state
-both c = stopped_with c.args.verified.now c.args.bytes.now c.in-Some.context c.args.activation.now c.run.new.self (c.steps-limit.result + 1) c.run.result c.in-Some.ensures.some.0
-    (ap (λ n. n + 1) c.steps-limit.ensures) c.requires.of_run c.run.ensures.advances c.run.ensures.stands
+both c = stopped_with c.args.verified.now c.args.bytes.now c.new-context.result c.args.activation.now c.run.new.self (c.steps-limit.result + 1) c.run.result c.new-context.ensures.same
+    (ap (λ n. n + 1) c.steps-limit.ensures) c.requires.of_run c.run.ensures.advances
 
 pub returns-clause-stops : goal.returns-clause-stops
 returns-clause-stops c = let h = both c in h.0

@@ -2,7 +2,7 @@ use Rattle.std.proofs.Common.{rules, ◌≡◌, ◌+◌, ℕ, suc, List, [], ◌
 use Rattle.round.specs.Letters.{Letter}
 use Rattle.round.specs.Told.{AreRoundsOf}
 use Rattle.world.specs.World.{each}
-use Rattle.world.specs.Accounted.{row_by, rounds_of, AreAccounted}
+use Rattle.world.specs.Accounted.{letters_by, rounds_of, AreAccounted}
 use Rattle.threads.specs.Taking.{IsGrid}
 use Rattle.threads.proofs.Grids.{grid_of}
 use Rattle.threads.proofs.Whose.{rounds_are}
@@ -23,8 +23,8 @@ returns-in_default-2-clause-unaccounted c e h =
     let letters = c.args.letters.items in
     let generals : c.from-generals.result ≡ s.generals = (let a = c.from-generals.ensures in let b = c.generals.ensures.same in omega arith) in
     let rounds : c.from-rounds.result + 1 ≡ suc s.bound = (let a = c.from-rounds.ensures in let b = c.bound.ensures.same in omega arith) in
-    let taken : c.in-Some.rows.items ≡ each (c.from-rounds.result + 1) (λ r. row_by c.from-generals.result (suc r) letters ∷ []) = search rules in
-    let all : c.as_slice.result.now ≡ rounds_of s letters = c.as_slice.ensures.value ∙ (taken ∙ (λ i. each (rounds i) (λ r. row_by (generals i) (suc r) letters ∷ []))) in
+    let taken : c.in-Some.rows.items ≡ each (c.from-rounds.result + 1) (λ r. letters_by c.from-generals.result (suc r) letters ∷ []) = search rules in
+    let all : c.as_slice.result.now ≡ rounds_of s letters = c.as_slice.ensures.value ∙ (taken ∙ (λ i. each (rounds i) (λ r. letters_by (generals i) (suc r) letters ∷ []))) in
     let none : AreRoundsOf s c.as_slice.result.now → ⊥ = search rules in
     none (subst (λ (rows : List (List Letter)). AreRoundsOf s rows) (sym all) (rounds_are s c.args.ledger.now (rounds_of s letters) h.1))
 
@@ -34,7 +34,7 @@ returns-then-not-branch-clause-unaccounted c e h =
     let letters = c.args.letters.items in
     let generals : c.from-generals.result ≡ s.generals = (let a = c.from-generals.ensures in let b = c.generals.ensures.same in omega arith) in
     let rounds : c.from-rounds.result + 1 ≡ suc s.bound = (let a = c.from-rounds.ensures in let b = c.bound.ensures.same in omega arith) in
-    let taken : c.in-Some.rows.items ≡ each (c.from-rounds.result + 1) (λ r. row_by c.from-generals.result (suc r) letters ∷ []) = search rules in
-    let all : c.as_slice-2.result.now ≡ rounds_of s letters = c.as_slice-2.ensures.value ∙ (taken ∙ (λ i. each (rounds i) (λ r. row_by (generals i) (suc r) letters ∷ []))) in
+    let taken : c.in-Some.rows.items ≡ each (c.from-rounds.result + 1) (λ r. letters_by c.from-generals.result (suc r) letters ∷ []) = search rules in
+    let all : c.as_slice-2.result.now ≡ rounds_of s letters = c.as_slice-2.ensures.value ∙ (taken ∙ (λ i. each (rounds i) (λ r. letters_by (generals i) (suc r) letters ∷ []))) in
     let found : false ≡ true = sym c.if-not-branch.true ∙ c.in_ok-are_accounted.ensures.1 (subst (λ (rows : List (List Letter)). AreAccounted s [] c.args.ledger.now rows) (sym all) h.1) in
     cc

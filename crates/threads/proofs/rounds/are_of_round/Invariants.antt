@@ -5,4 +5,4 @@ use Rattle.round.specs.Letters.{Letter}
 use Rattle.threads.proofs.rounds.are_of_round.Given as goal
 
 abbrev pub invariant-loop-letter : goal.invariant-loop-letter
-invariant-loop-letter l = (k : ℕ) (x : Letter) → k < l.letter-index → slice_get l.row k ≡ Some x → (x.round ≡ l.round) × (x.outbox.relay.shape ≡ shape_of l.scenario x.general l.round)
+invariant-loop-letter l = (k : ℕ) (x : Letter) → k < l.letter-index → slice_get l.letters k ≡ Some x → (x.round ≡ l.round) × (x.outbox.relay.shape ≡ shape_of l.scenario x.general l.round)

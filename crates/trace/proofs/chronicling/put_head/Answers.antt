@@ -9,4 +9,4 @@ pub returns : goal.returns
 returns g c =
     let s = c.args.scenario.now in
     wrote-same _ _ (head_parts (spaced (version_line c.args.version)) (codes "generals") (decimal s.generals ∷ codes "bound" ∷ decimal s.bound ∷ codes "commander" ∷ decimal s.commander ∷ codes "order" ∷ decimal s.order ∷ []) (further_words c.args.version s.patience s.rule))
-    (then_wrote (then_wrote (then_wrote c.put_version.ensures c.put_numbers.ensures) c.put_conditions.ensures) c.put_all.ensures)
+    (then_wrote (then_wrote (then_wrote c.put_version.ensures c.put_campaign_of.ensures) c.put_further_of.ensures) c.put_all.ensures)

@@ -3,7 +3,8 @@ use Rattle.text.specs.Stop.{space, feed}
 use Rattle.text.specs.Parts.{pieces}
 use Rattle.world.specs.Playing.{lists_in}
 use Rattle.trace.specs.Names.{named}
-use Rattle.trace.specs.Marks.{all_names, behind, lines_left, lines_left_len}
+use Rattle.trace.specs.Left.{left_len}
+use Rattle.trace.specs.Marks.{all_names, behind, lines_left}
 use Rattle.trace.proofs.named.names.Given as goal
 
 abbrev pub invariant-loop-rest : goal.invariant-loop-rest
@@ -13,4 +14,4 @@ invariant-loop-rest l = record {
 }
 
 abbrev pub decreases-loop-rest : goal.decreases-loop-rest
-decreases-loop-rest l = lines_left_len l.rest
+decreases-loop-rest l = left_len l.rest

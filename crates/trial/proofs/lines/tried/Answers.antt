@@ -1,4 +1,3 @@
-use Rattle.std.proofs.Common.{◌∙◌}
 use Rattle.std.proofs.lemmas.Result.{IfOk-weaker}
 use Rattle.trial.proofs.Trying.{tried_is}
 use Rattle.trial.proofs.lines.tried.Goals as goal
@@ -7,5 +6,5 @@ pub returns : goal.returns
 returns c =
     let e = c.in_ok-exited.exited in
     IfOk-weaker c.lines.result _ _ (λ text lines.
-    tried_is c.args.verified.now c.program.result.now c.args.setting.now c.in-Some.context _ e.board.words c.shape.result e.activation.relay e.r0 e.activation.state
-    (c.in-Some.ensures.some.0 ∙ (c.as_slice.ensures.value ∙ c.in_ok-bytes.ensures.bytes)) c.shape.ensures.same c.in_ok-exited.ensures.relay c.program.ensures.same c.in_ok-exited.ensures.ending lines) c.lines.ensures
+    tried_is c.args.verified.now c.program.result.now c.args.setting.now _ e.board.words e.activation.relay e.r0 e.activation.state
+    c.in_ok-exited.ensures.relay c.program.ensures.same c.in_ok-exited.ensures.ending lines) c.lines.ensures

@@ -3,7 +3,7 @@ use Rattle.std.proofs.lemmas.Int.{to_z-of_z}
 use Rattle.semantics.specs.declared.request.Helper.{Helper}
 use Rattle.semantics.specs.Call.{helper_of, called}
 use Rattle.helper.specs.Table.{arguments_of}
-use Rattle.helper.specs.Results.{result_of}
+use Rattle.helper.specs.Results.{returned_range}
 use Rattle.verify.specs.declared.state.AbsState.{AbsState}
 use Rattle.verify.specs.Gamma.{RegistersDescribe}
 use Rattle.verify.specs.Outcomes.{GoesOn}
@@ -41,5 +41,5 @@ returns-clause-holds c = λ context relay s setting d.
     let kept = subst (λ (known : _). RegistersDescribe known s.registers) (sym c.pass_window.ensures.registers) d.registers in
     let puts = subst (λ (ends : ℕ × ℕ). Puts ends.0 ends.1 c.put_result.new.registers s.registers) c.result.ensures.exact (c.put_result.ensures.puts s.registers kept) in
     subst (λ (o : Option Helper). GoesOn new (s.unit + 1) (called context relay s o)) (sym found)
-    (called_goes c.in-Some.helper c.args.state.now new (result_of c.in-Some.helper).0 (result_of c.in-Some.helper).1 context relay s setting d none c.arguments.ensures.accepts c.result.ensures.holds
+    (called_goes c.in-Some.helper c.args.state.now new (returned_range c.in-Some.helper).0 (returned_range c.in-Some.helper).1 context relay s setting d none c.arguments.ensures.accepts c.result.ensures.holds
     c.in_ok-pass_window.ensures.holds puts)

@@ -5,6 +5,7 @@ use Rattle.absval.specs.declared.number_set.NumberSet.{NumberSet}
 use Rattle.absval.specs.NumberSets.{Has, within}
 use Rattle.verify.proofs.Zips.{at_set}
 use Rattle.verify.proofs.CallRegisters.{behind_puts}
+use Rattle.verify.proofs.TableLemmas.{behind_whole}
 use Rattle.verify.proofs.calls.put_result.Goals as goal
 
 pub loop-r-init : goal.loop-r-init
@@ -36,6 +37,8 @@ returns-clause-behind c = record {
   first = c.loop-r.invariant.first;
   unset = λ r ge le. c.loop-r.invariant.unset r ge (omega arith);
   others = λ r ge. c.loop-r.invariant.others r (omega arith) (omega arith);
+  whole = behind_whole (within c.args.range) c.args.registers.now c.loop-r.registers c.told-registers c.loop-r.invariant.size c.loop-r.invariant.first
+      (λ r ge le. c.loop-r.invariant.unset r ge (omega arith)) (λ r ge. c.loop-r.invariant.others r (omega arith) (omega arith));
 }
 
 pub returns-clause-puts : goal.returns-clause-puts

@@ -1,7 +1,7 @@
 use Rattle.std.proofs.Common.{◌≡◌, length}
 use Rattle.insn.specs.Program.{slots_of}
 use Rattle.semantics.specs.Plain.{IsPlain}
-use Rattle.verify.specs.Slots.{BlanksAreUnwritten}
+use Rattle.verify.specs.Kept.{BlanksAreUnwritten}
 use Rattle.verify.specs.Passes.{ComesTo}
 use Rattle.verify.proofs.Rests.{EntryRests}
 use Rattle.verify.proofs.pass.pass.Given as goal

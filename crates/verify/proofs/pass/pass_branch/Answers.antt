@@ -2,14 +2,14 @@ use Rattle.std.proofs.Common.{◌≡◌, ◌+◌, ◌<◌, inl, inr, refl, sym, 
 use Rattle.std.proofs.lemmas.Int.{to_z-of_z}
 use Rattle.verify.specs.declared.state.AbsState.{AbsState}
 use Rattle.verify.specs.Gamma.{Describes}
-use Rattle.verify.specs.Slots.{Slot}
+use Rattle.verify.specs.Kept.{Kept}
 use Rattle.verify.proofs.BranchLemmas.{branch_arrives}
 use Rattle.verify.proofs.pass.pass_branch.Goals as goal
 
 pub pass_edge-requires : goal.pass_edge-requires
 pass_edge-requires c =
     let inside : c.args.unit + 1 < length c.args.pending.now.items = c.requires.edges (c.args.unit + 1) (inl refl) in
-    let room : length c.second.new.pending.items ≡ length c.args.pending.now.items = ap (λ (slots : List Slot). length slots) c.in-Ok.ensures.rest in
+    let room : length c.second.new.pending.items ≡ length c.args.pending.now.items = ap (λ (pending : List Kept). length pending) c.in-Ok.ensures.rest in
     rw room inside
 
 pub pass_edge-requires-2 : goal.pass_edge-requires-2
@@ -18,7 +18,7 @@ pass_edge-requires-2 c =
     let same = c.from.ensures ∙ to_z-of_z w16 c.args.distance c.ranges.distance in
     let to = subst (λ (distance : ℤ). pos c.forward_target-target.result ≡ pos (c.args.unit + 1) +ℤ distance) (wide ∙ same) c.forward_target-target.ensures in
     let inside : c.forward_target-target.result < length c.args.pending.now.items = c.requires.edges c.forward_target-target.result (inr (inl to)) in
-    let room : length c.second.new.pending.items ≡ length c.args.pending.now.items = ap (λ (slots : List Slot). length slots) c.in-Ok.ensures.rest in
+    let room : length c.second.new.pending.items ≡ length c.args.pending.now.items = ap (λ (pending : List Kept). length pending) c.in-Ok.ensures.rest in
     rw (c.pass_edge.ensures.length, room) inside
 
 pub returns-clause-leads : goal.returns-clause-leads

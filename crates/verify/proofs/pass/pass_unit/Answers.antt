@@ -2,7 +2,7 @@ use Rattle.std.proofs.Common.{◌≡◌, ◌∙◌, ap, sym, length, length-set,
 use Rattle.insn.specs.Program.{slots_of, instruction_at}
 use Rattle.verify.proofs.EdgeEnds.{inside_of_forward}
 use Rattle.verify.proofs.Blanks.{all_read, kept_blank, unit_blanks}
-use Rattle.verify.specs.Flow.{slot_at}
+use Rattle.verify.specs.Flow.{kept_at}
 use Rattle.verify.proofs.StepLemmas.{OnOk-map}
 use Rattle.verify.proofs.InstructionLemmas.{unit_answers, unit_flows}
 use Rattle.verify.proofs.pass.pass_unit.Goals as goal
@@ -29,11 +29,11 @@ returns-clause-blanks c =
 
 pub returns-clause-refused : goal.returns-clause-refused
 returns-clause-refused c =
-    unit_answers (instruction_at c.args.program.now c.args.unit) (slot_at c.args.pending.now.items c.args.unit) c.in-Some.insn c.in-Some-take.state c.args.unit c.pass_state.result
+    unit_answers (instruction_at c.args.program.now c.args.unit) (kept_at c.args.pending.now.items c.args.unit) c.in-Some.insn c.in-Some-take.state c.args.unit c.pass_state.result
     (sym c.in-Some.ensures.found) (sym c.in-Some-take.ensures.value) c.pass_state.ensures.refused
 
 pub returns-clause-flows : goal.returns-clause-flows
 returns-clause-flows c = OnOk-map c.pass_state.result _ _
-    (unit_flows (instruction_at c.args.program.now c.args.unit) (slot_at c.args.pending.now.items c.args.unit) c.in-Some.insn c.in-Some-take.state c.args.unit
+    (unit_flows (instruction_at c.args.program.now c.args.unit) (kept_at c.args.pending.now.items c.args.unit) c.in-Some.insn c.in-Some-take.state c.args.unit
     c.args.pending.now.items c.take.new.pending.items c.pass_state.new.pending.items (sym c.in-Some.ensures.found) (sym c.in-Some-take.ensures.value) c.in-Some-take.ensures.rest)
     c.pass_state.ensures.flows

@@ -19,7 +19,7 @@ unreachable-requires-in_default-get_str c =
     read_is found (codes "file") c.get_str.result c.get_str.ensures ∙ ap (option_map (λ (s : Bor Text). s.now)) c.in_default-get_str.is in
     not_some (task_met (subcommand_rows_of m))
     (task_met-parts (subcommand_rows_of m) name rows name_is rows_are
-    ∙ ap (option_map (told_of name (first_of (codes "second") rows) (first_of (codes "third") rows) (first_of (codes "switch") rows) (first_of (codes "value") rows))) none) c.requires
+    ∙ ap (option_map (told_of name (first_of (codes "second") rows) (first_of (codes "third") rows) (first_of (codes "switch") rows) (first_of (codes "also") rows) (first_of (codes "value") rows))) none) c.requires
 
 pub returns : goal.returns
 returns c =
@@ -36,15 +36,18 @@ returns c =
     let second = read_is found (codes "second") c.get_str-2.result c.get_str-2.ensures in
     let third = read_is found (codes "third") c.get_str-3.result c.get_str-3.ensures in
     let switch = read_is found (codes "switch") c.get_str-4.result c.get_str-4.ensures in
-    let value = read_is found (codes "value") c.get_str-5.result c.get_str-5.ensures in
+    let also = read_is found (codes "also") c.get_str-5.result c.get_str-5.ensures in
+    let value = read_is found (codes "value") c.get_str-6.result c.get_str-6.ensures in
     let switched = switch_read c.get_str-4.result ∙ sym c.is_true.ensures in
+    let twice = switch_read c.get_str-5.result ∙ sym c.is_true-2.ensures in
     sym (task_met-parts (subcommand_rows_of m) name rows name_is rows_are
-    ∙ (λ i. option_map (told_of name (second i) (third i) (switch i) (value i)) (file i))
+    ∙ (λ i. option_map (told_of name (second i) (third i) (switch i) (also i) (value i)) (file i))
     ∙ (λ i. Some (record {
       name = name;
       file = c.in-Some-get_str.file.now;
       second = option_map (λ (s : Bor Text). s.now) c.get_str-2.result;
       third = option_map (λ (s : Bor Text). s.now) c.get_str-3.result;
       switched = switched i;
-      value = option_map (λ (s : Bor Text). s.now) c.get_str-5.result;
+      also = twice i;
+      value = option_map (λ (s : Bor Text). s.now) c.get_str-6.result;
     })))

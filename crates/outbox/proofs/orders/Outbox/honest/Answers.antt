@@ -1,7 +1,7 @@
 -- One row more, and all rows.
 use Rattle.std.proofs.Common.{◌≡◌, ◌<◌, ◌≤◌, ◌+◌, ℕ, sym, ap, ◌∙◌, length, arith, refl, cond}
 use Rattle.semantics.specs.Outbox.{as_taken, taken_value}
-use Rattle.outbox.specs.Rows.{put_row}
+use Rattle.outbox.specs.Rows.{put_in_row}
 use Rattle.outbox.specs.Contents.{entries_of, relay_of}
 use Rattle.outbox.proofs.Whole.{found_first, found_few}
 use Rattle.outbox.proofs.Outcomes.{same_relay, rows_few, sweep_step, count_step, sweep_stands, sweep_written, sweep_counted}
@@ -23,7 +23,7 @@ loop-rank-preserved c =
     record {
       shape = c.loop-rank.invariant.shape;
       signing = c.loop-rank.invariant.signing;
-      rows = sweep_step c.args.receiver (taken_value c.args.context.now) c.loop-rank.rank c.self.inside.rows.items c.loop-rank.self-inside.rows.items c.index_mut.result.now c.put.new.self c.loop-rank.invariant.rows inside c.index_mut.ensures.value (c.put.ensures.row ∙ ap (λ v. put_row c.args.receiver v c.index_mut.result.now) c.taken_value.ensures);
+      rows = sweep_step c.args.receiver (taken_value c.args.context.now) c.loop-rank.rank c.self.inside.rows.items c.loop-rank.self-inside.rows.items c.index_mut.result.now c.put.new.self c.loop-rank.invariant.rows inside c.index_mut.ensures.value (c.put.ensures.row ∙ ap (λ v. put_in_row c.args.receiver v c.index_mut.result.now) c.taken_value.ensures);
       set =
           (elim c.if-put.branch [
             | then-put w ↦ w.set-is ∙ ap (λ b. c.loop-rank.set + cond {A = ℕ} b 1 0) (sym w.if-put.true)

@@ -1,7 +1,7 @@
 -- One order in place of an earlier one.
 use Rattle.std.proofs.Common.{◌≡◌, ◌<◌, List, Option, ℕ, sym, ap, ◌∙◌, length, arith}
 use Rattle.label.specs.Labels.{on}
-use Rattle.outbox.specs.Rows.{receivers_in, put_row, row_of}
+use Rattle.outbox.specs.Rows.{receivers_in, put_in_row, row_of}
 use Rattle.outbox.proofs.RowLemmas.{names_in, row_put, row_kept}
 use Rattle.outbox.proofs.row.Row.put.Goals as goal
 
@@ -10,7 +10,7 @@ returns-then-there-clause-row c =
     let inside : c.args.receiver < 13 = c.has-there.ensures.below c.if-there.true in
     let long : length c.self.inside.orders ≡ 13 = c.self.invariant.long in
     ap (λ (orders : List (Option ℕ)). row_of orders c.self.inside.receivers) c.put.ensures
-    ∙ (row_put c.self.inside.orders c.self.inside.receivers c.args.receiver c.args.order (omega arith) ∙ ap (put_row c.args.receiver c.args.order) c.self.view_is)
+    ∙ (row_put c.self.inside.orders c.self.inside.receivers c.args.receiver c.args.order (omega arith) ∙ ap (put_in_row c.args.receiver c.args.order) c.self.view_is)
 
 pub returns-then-there-clause-there : goal.returns-then-there-clause-there
 returns-then-there-clause-there c = c.has-there.ensures.among ∙ ap (λ xs. on xs c.args.receiver) (sym (names_in c.self.inside.orders c.self.inside.receivers) ∙ ap receivers_in c.self.view_is)

@@ -9,7 +9,7 @@ use Rattle.round.proofs.running.Running.into_letter.Goals as goal
 pub invariant_of-result : goal.invariant_of-result
 invariant_of-result c =
     let g = c.args.general in let r = c.args.round in let t = c.args.transcript.items in
-    let e = c.end-ended.ensures in
+    let e = c.into_outbox.ensures in
     subst (λ (l : Letter). IsLetter l) (ap (λ (a : Activation). letter_left g r t a) (sym c.self.view_is)
-    ∙ (λ i. record { general = g; round = r; context = c.self.inside.context.items; program = sym c.new.ensures i; transcript = t; steps = sym e.steps i; outbox = record { relay = sym e.relay i; rows = sym e.outbox i; entries = sym e.entries i }; exited = c.self.inside.over }))
+    ∙ (λ i. record { general = g; round = r; context = c.self.inside.context.items; program = sym c.new.ensures i; transcript = t; steps = sym c.steps-steps.ensures i; outbox = record { relay = sym e.relay i; rows = sym e.rows i; entries = sym e.entries i }; exited = c.self.inside.over }))
     c.requires

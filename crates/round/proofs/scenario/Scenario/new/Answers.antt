@@ -12,8 +12,8 @@ invariant_of-result c = record {
   enough = c.requires.enough;
   commander = c.requires.commander;
   order = c.ranges.order.fits;
-  board = c.tell_words.ensures;
+  board = c.recall_board.ensures;
   programs = c.requires.programs;
-  sound = λ g program at. c.tell_sound.ensures g program (ap (λ (seats : List (Option (List Insn))). slice_get seats g) c.as_slice.ensures.value ∙ program_at c.args.programs.items g program at);
+  sound = λ g program at. c.recall_sound.ensures g program (ap (λ (seats : List (Option (List Insn))). slice_get seats g) c.as_slice.ensures.value ∙ program_at c.args.programs.items g program at);
   patience = c.requires.patience;
 }

@@ -1,5 +1,5 @@
 use Rattle.round.proofs.Filling.{AreSilent}
 use Rattle.round.proofs.told.Told.new.Given as goal
 
-abbrev pub invariant-loop-place : goal.invariant-loop-place
-invariant-loop-place l = AreSilent l.scenario l.place l.trees.items
+abbrev pub invariant-loop-index : goal.invariant-loop-index
+invariant-loop-index l = AreSilent l.scenario l.index l.trees.items

@@ -1,7 +1,7 @@
 -- What is alike is taken.
 use Rattle.std.proofs.Common.{rules, ◌≡◌, ◌+◌, ◌-◌, ℕ, zero, suc, List, [], ◌∷◌, ◌++◌, length, take, drop, None, Option, refl, sym, ap, ◌∙◌, append_assoc, length-drop, arith}
 use Rattle.std.proofs.lemmas.List.{append-nil, take_all}
-use Rattle.trace.specs.Marks.{listed}
+use Rattle.std.specs.Prelude.{option_to_list}
 use Rattle.trace.specs.Compared.{taken}
 use Rattle.trace.proofs.comparing.ComparisonSink.put.Goals as goal
 
@@ -18,8 +18,8 @@ take_both (suc k) n (suc m) (x ∷ xs) e = ap (λ (l : List ℕ). x ∷ l) (take
 taken_more : (text piece : List ℕ) (same n : ℕ) (other : Option ℕ) → other ≡ None → take n (drop same text) ≡ take n piece → taken text (same + n) other ≡ taken text same other ++ take n piece
 taken_more text piece same n other none alike =
     let more : take (same + n) text ≡ take same text ++ take n piece = take_both same n (same + n) text refl ∙ ap (λ (l : List ℕ). take same text ++ l) alike in
-    let whole : take (same + n) text ++ listed other ≡ take (same + n) text = ap (λ (o : Option ℕ). take (same + n) text ++ listed o) none ∙ append-nil (take (same + n) text) in
-    let front : take same text ++ listed other ≡ take same text = ap (λ (o : Option ℕ). take same text ++ listed o) none ∙ append-nil (take same text) in
+    let whole : take (same + n) text ++ option_to_list other ≡ take (same + n) text = ap (λ (o : Option ℕ). take (same + n) text ++ option_to_list o) none ∙ append-nil (take (same + n) text) in
+    let front : take same text ++ option_to_list other ≡ take same text = ap (λ (o : Option ℕ). take same text ++ option_to_list o) none ∙ append-nil (take same text) in
     whole ∙ (more ∙ ap (λ (l : List ℕ). l ++ take n piece) (sym front))
 
 pub returns-clause-taken : goal.returns-clause-taken

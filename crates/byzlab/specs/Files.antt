@@ -1,0 +1,20 @@
+-- Which file stands for a name; what an open file has is not known (own).
+use Rattle.std.specs.Prelude.{ℕ, ◌≡◌, ◌≢◌, List, Option, None, Some, codes}
+use Rattle.byzlab.specs.declared.input.Input.{Input}
+use Rattle.byzlab.specs.declared.input.Input.TheVariants as input
+use Rattle.byzlab.specs.declared.target.Target.{Target}
+use Rattle.byzlab.specs.declared.target.Target.TheVariants as target
+
+-- a hyphen names standard input, any other name a file, if it opens
+abbrev pub IsInputOf : List ℕ → Option Input → Type 0
+IsInputOf name (Some (input.Standard stdin)) = name ≡ codes "-"
+IsInputOf name (Some (input.File file)) = name ≢ codes "-"
+IsInputOf name (Some input.Nothing) = ⊥
+IsInputOf name None = name ≢ codes "-"
+
+-- no name and a hyphen stand for standard output, any other name for a file of just this name, which is not made yet
+abbrev pub IsTargetOf : Option (List ℕ) → Target → Type 0
+IsTargetOf None (target.Standard stdout) = Unit {0}
+IsTargetOf (Some name) (target.Standard stdout) = name ≡ codes "-"
+IsTargetOf (Some name) (target.Unmade rt own) = (name ≢ codes "-") × (own.now ≡ name)
+IsTargetOf _ _ = ⊥

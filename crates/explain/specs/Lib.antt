@@ -1,0 +1,5 @@
+pub mod Values
+pub mod Reads
+pub mod Sentences
+pub mod Shortfalls
+pub mod Explained

@@ -1,0 +1,83 @@
+-- The sentence of a refusal (own).
+use Rattle.std.specs.Prelude.{ℕ, ℤ, pos, List, ◌++◌, codes, decimal, int_le, if◌then◌else◌}
+use Rattle.std.specs.Fmt.{signed_decimal}
+use Rattle.semantics.specs.declared.value.Region.{Region}
+use Rattle.semantics.specs.declared.value.Region.TheVariants.{Stack, Context}
+use Rattle.absval.specs.declared.value.AbsVal.{AbsVal}
+use Rattle.explain.specs.declared.values.Span.{Span}
+use Rattle.explain.specs.declared.sentence.Sentence.{Sentence}
+use Rattle.explain.specs.declared.sentence.Sentence.TheVariants as sentence
+use Rattle.explain.specs.declared.sentence.Structure.{Structure}
+use Rattle.explain.specs.declared.sentence.Structure.TheVariants as structure
+use Rattle.explain.specs.declared.sentence.Misuse.{Misuse}
+use Rattle.explain.specs.declared.sentence.Misuse.TheVariants as misuse
+use Rattle.explain.specs.declared.sentence.Access.{Access}
+use Rattle.explain.specs.declared.sentence.Access.TheVariants as access
+use Rattle.explain.specs.declared.sentence.Misfit.{Misfit}
+use Rattle.explain.specs.declared.sentence.Misfit.TheVariants as misfit
+use Rattle.explain.specs.Values.{span_text, region_text, value_text}
+
+-- where a jump leads
+unfoldable pub leads_text : ℤ → List ℕ
+leads_text to = codes "the jump leads to unit " ++ signed_decimal to
+
+abbrev pub structure_text : Structure → List ℕ
+structure_text (structure.Back to) = leads_text to ++ codes ": a jump leads only forward"
+structure_text (structure.Out to units) = leads_text to ++ codes ", past all " ++ decimal units
+structure_text (structure.Inside to) = leads_text to ++ codes ", inside a wide instruction"
+structure_text structure.NoExit = codes "the last instruction is not the exit"
+
+-- a part of a region, and a register through which it may be reached
+unfoldable pub place_text : Region → Span → List ℕ
+place_text region span = codes "the " ++ region_text region ++ codes " at " ++ span_text (span.low, span.high)
+
+unfoldable pub reached_text : ℕ → Region → Span → List ℕ
+reached_text r region span = codes "r" ++ decimal r ++ codes " may reach " ++ place_text region span
+
+-- a register that would point somewhere
+unfoldable pub would_text : ℕ → List ℕ
+would_text r = codes "r" ++ decimal r ++ codes " would point"
+
+-- a register, and what is known of it
+abbrev pub named_text : ℕ → AbsVal → List ℕ
+named_text r value = codes "r" ++ decimal r ++ codes " " ++ value_text value
+
+-- the limit that is passed, by the greatest offset
+abbrev pub limit_text : ℤ → List ℕ
+limit_text high = if int_le high (pos 65536) then codes "-65536" else codes "65536"
+
+-- how a register is used
+abbrev pub misuse_text : Misuse → List ℕ
+misuse_text (misuse.Unset r) = codes "r" ++ decimal r ++ codes " is read, and may be unset"
+misuse_text misuse.Frame = codes "r10 is written, which marks the end of the stack"
+misuse_text (misuse.Far r region span) = would_text r ++ codes " into " ++ place_text region span ++ codes ", past " ++ limit_text span.high
+misuse_text (misuse.EitherSign r value) = named_text r value ++ codes ": a number that moves a pointer is read as signed, and this one may be above or below 0"
+misuse_text (misuse.Computed r value) = named_text r value ++ codes ": of a pointer only a copy is made, or the 64-bit sum or difference with a number"
+misuse_text (misuse.Stored r value base at) =
+    named_text r value ++ codes ", stored at " ++ named_text base at ++ codes ": a pointer is stored as 8 bytes, with one offset, at one address"
+misuse_text (misuse.NoBase r value) = named_text r value ++ codes ": memory is reached by a pointer only"
+misuse_text (misuse.Exit value) = codes "r0 " ++ value_text value ++ codes ": a program ends with a number"
+
+-- the bytes that a region has
+abbrev pub extent_text : Region → List ℕ
+extent_text Stack = codes "-512 to -1"
+extent_text Context = codes "0 to 4095"
+
+-- what an access may touch
+abbrev pub access_text : Access → List ℕ
+access_text (access.Outside r region span) = reached_text r region span ++ codes ": it has " ++ extent_text region
+access_text (access.Empty r span at) = reached_text r Stack span ++ codes ": unset at " ++ signed_decimal at
+access_text (access.Context r value) = named_text r value ++ codes ": the context is only read"
+
+-- what a call asks
+abbrev pub misfit_text : Misfit → List ℕ
+misfit_text (misfit.Helper number) = codes "no helper has the number " ++ signed_decimal number ++ codes ": they are 1 to 11"
+misfit_text (misfit.Above r value most) = named_text r value ++ codes ": the helper takes a number up to " ++ decimal most ++ codes " there"
+misfit_text (misfit.NoPointer r value) = named_text r value ++ codes ": the helper takes a pointer there"
+misfit_text (misfit.Board sum) = codes "r1 and r3 together may be " ++ decimal sum ++ codes ", and the board has 64 words"
+
+abbrev pub sentence_text : Sentence → List ℕ
+sentence_text (sentence.Structure s) = structure_text s
+sentence_text (sentence.Register m) = misuse_text m
+sentence_text (sentence.Memory a) = access_text a
+sentence_text (sentence.Call m) = misfit_text m

@@ -1,0 +1,225 @@
+-- What an instruction misses where it is refused, from what is known there (own).
+use Rattle.std.specs.Prelude.{ℕ, ℤ, pos, negsuc, zero, suc, ◌+◌, ◌*◌, ◌^◌, ◌-◌, ◌+ℤ◌, ◌-ℤ◌, ◌||◌, ◌&&◌, nat_lt, nat_le, int_le, Bool, true, false, if◌then◌else◌, List, [], ◌∷◌, Option, Some, None, option_map, option_and_then}
+use Rattle.std.specs.Option.{option_or}
+use Rattle.std.specs.Int.{w64, cast_signed, cast_unsigned}
+use Rattle.word.specs.declared.Width.{Width}
+use Rattle.word.specs.declared.Width.TheVariants.{W64}
+use Rattle.word.specs.declared.Operation.{Operation}
+use Rattle.word.specs.declared.Operation.TheVariants.{Add, Sub}
+use Rattle.insn.specs.declared.insn.Insn.{Insn}
+use Rattle.insn.specs.declared.insn.Insn.TheVariants.{Arithmetic, Load, LoadSigned, Store, Call}
+use Rattle.insn.specs.declared.insn.Operand.{Operand}
+use Rattle.insn.specs.declared.insn.Operand.TheVariants.{Register, Immediate}
+use Rattle.insn.specs.Insn.{bytes_of, part_bytes}
+use Rattle.semantics.specs.declared.value.Region.{Region}
+use Rattle.semantics.specs.declared.value.Region.TheVariants.{Stack, Context}
+use Rattle.semantics.specs.declared.request.Helper.{Helper}
+use Rattle.semantics.specs.declared.request.Helper.TheVariants.{BoardCopy, SendRow}
+use Rattle.semantics.specs.Call.{helper_of}
+use Rattle.absval.specs.NumberSets.{single, greatest}
+use Rattle.absval.specs.declared.number_set.NumberSet.{NumberSet}
+use Rattle.absval.specs.declared.value.Offsets.{Offsets}
+use Rattle.absval.specs.declared.value.AbsVal.{AbsVal}
+use Rattle.absval.specs.declared.value.AbsVal.TheVariants.{Unset, Number, Pointer}
+use Rattle.absval.specs.declared.windows.Window.{Window}
+use Rattle.absval.specs.Windows.{window_known}
+use Rattle.absmem.specs.Known.{Known, byte_at}
+use Rattle.helper.specs.declared.argument.Argument.{Argument}
+use Rattle.helper.specs.Table.{bound_of, arguments_of}
+use Rattle.verify.specs.Calls.{abstract_at}
+use Rattle.verify.specs.declared.state.AbsState.{AbsState}
+use Rattle.verify.specs.declared.reason.Reason.{Reason}
+use Rattle.verify.specs.declared.reason.Reason.TheVariants as reason
+use Rattle.explain.specs.declared.values.Span.{Span}
+use Rattle.explain.specs.declared.reach.Reach.{Reach}
+use Rattle.explain.specs.declared.sentence.Sentence.{Sentence}
+use Rattle.explain.specs.declared.sentence.Sentence.TheVariants as sentence
+use Rattle.explain.specs.declared.sentence.Misuse.TheVariants as misuse
+use Rattle.explain.specs.declared.sentence.Access.TheVariants as access
+use Rattle.explain.specs.declared.sentence.Misfit.TheVariants as misfit
+use Rattle.explain.specs.Reads.{of_operand, read_by}
+
+-- ---- registers: the first of those that are read that may be unset, or that is a pointer
+
+abbrev pub unset_if : ℕ → AbsVal → Option Sentence
+unset_if r Unset = Some (sentence.Register (misuse.Unset r))
+unset_if r (Number n) = None
+unset_if r (Pointer region offsets) = None
+
+abbrev pub unset_at : List AbsVal → Option ℕ → Option Sentence
+unset_at registers None = None
+unset_at registers (Some r) = unset_if r (abstract_at registers r)
+
+abbrev pub first_unset : List AbsVal → List (Option ℕ) → Option Sentence
+first_unset registers (first ∷ second ∷ third ∷ []) = option_or (unset_at registers first) (option_or (unset_at registers second) (unset_at registers third))
+first_unset registers _ = None
+
+abbrev pub pointer_if : ℕ → AbsVal → Option Sentence
+pointer_if r Unset = None
+pointer_if r (Number n) = None
+pointer_if r (Pointer region offsets) = Some (sentence.Register (misuse.Computed r (Pointer region offsets)))
+
+abbrev pub pointer_at : List AbsVal → Option ℕ → Option Sentence
+pointer_at registers None = None
+pointer_at registers (Some r) = pointer_if r (abstract_at registers r)
+
+abbrev pub first_pointer : List AbsVal → List (Option ℕ) → Option Sentence
+first_pointer registers (first ∷ second ∷ third ∷ []) = option_or (pointer_at registers first) (option_or (pointer_at registers second) (pointer_at registers third))
+first_pointer registers _ = None
+
+-- ---- pointers that are moved
+
+-- numbers read as signed, where they are in a row
+abbrev pub signed_row : ℕ × ℕ → Option Span
+signed_row p =
+    if nat_lt p.1 (2 ^ 63) || nat_le (2 ^ 63) p.0 then Some (record { low = cast_signed w64 p.0; high = cast_signed w64 p.1 }) else None
+
+-- whether an operation lowers a pointer, where it moves one
+abbrev pub lowers : Width → Operation → Option Bool
+lowers W64 Add = Some false
+lowers W64 Sub = Some true
+lowers _ _ = None
+
+-- the nearest number of 64 bits
+abbrev pub clamped : ℤ → ℤ
+clamped z =
+    if int_le z (pos (2 ^ 63 - 1)) then (if int_le (negsuc (2 ^ 63 - 1)) z then z else negsuc (2 ^ 63 - 1)) else pos (2 ^ 63 - 1)
+
+abbrev pub moved : Bool → Offsets → Span → Span
+moved false o by = record { low = clamped (o.low +ℤ by.low); high = clamped (o.high +ℤ by.high) }
+moved true o by = record { low = clamped (o.low -ℤ by.high); high = clamped (o.high -ℤ by.low) }
+
+abbrev pub either_sign : Option ℕ → NumberSet → Option Sentence
+either_sign None n = None
+either_sign (Some r) n = Some (sentence.Register (misuse.EitherSign r (Number n)))
+
+abbrev pub far : Bool → ℕ → Region → Offsets → Operand → NumberSet → Option Span → Option Sentence
+far down dst region o operand n None = either_sign (of_operand operand) n
+far down dst region o operand n (Some by) = Some (sentence.Register (misuse.Far dst region (moved down o by)))
+
+abbrev pub operand_at : List AbsVal → Operand → AbsVal
+operand_at registers (Register r) = abstract_at registers r
+operand_at registers (Immediate n) = Number (single (cast_unsigned w64 n))
+
+-- a pointer and a number, of which a sum or difference is made
+abbrev pub sum_misuse : Option Bool → ℕ → Operand → AbsVal → AbsVal → Option Sentence
+sum_misuse (Some down) dst operand (Pointer region o) (Number n) = far down dst region o operand n (signed_row n.range)
+sum_misuse _ dst operand a b = None
+
+-- ---- pointers that are used as they may not be
+
+abbrev pub no_base : List AbsVal → ℕ → Option Sentence
+no_base registers base = Some (sentence.Register (misuse.NoBase base (abstract_at registers base)))
+
+abbrev pub stored_at : List AbsVal → ℕ → Option ℕ → Option Sentence
+stored_at registers base None = None
+stored_at registers base (Some r) = Some (sentence.Register (misuse.Stored r (abstract_at registers r) base (abstract_at registers base)))
+
+abbrev pub store_misuse : List AbsVal → ℕ → Option ℕ → AbsVal → Option Sentence
+store_misuse registers base source (Pointer region o) = stored_at registers base source
+store_misuse registers base source _ = no_base registers base
+
+abbrev pub pointer_misuse : Insn → List AbsVal → Option Sentence
+pointer_misuse (Arithmetic w operation dst operand) registers =
+    option_or (sum_misuse (lowers w operation) dst operand (abstract_at registers dst) (operand_at registers operand))
+    (first_pointer registers (read_by (Arithmetic w operation dst operand)))
+pointer_misuse (Load size dst base offset) registers = no_base registers base
+pointer_misuse (LoadSigned part dst base offset) registers = no_base registers base
+pointer_misuse (Store size base offset source) registers = store_misuse registers base (of_operand source) (abstract_at registers base)
+pointer_misuse i registers = first_pointer registers (read_by i)
+
+-- ---- accesses
+
+-- a call's window, from r2 on: so many bytes for each word or order
+abbrev pub counted : ℕ → AbsVal → Option Reach
+counted size (Number n) = if nat_le (greatest n) 64 then Some (record { base = 2; distance = pos 0; size = size * greatest n }) else None
+counted size _ = None
+
+abbrev pub call_reach : Option Helper → AbsVal → Option Reach
+call_reach (Some BoardCopy) count = counted 8 count
+call_reach (Some SendRow) count = counted 4 count
+call_reach _ count = None
+
+-- through which register, from where on and how many bytes are accessed
+abbrev pub reach_of : Insn → List AbsVal → Option Reach
+reach_of (Load size dst base offset) registers = Some (record { base = base; distance = offset; size = bytes_of size })
+reach_of (LoadSigned part dst base offset) registers = Some (record { base = base; distance = offset; size = part_bytes part })
+reach_of (Store size base offset source) registers = Some (record { base = base; distance = offset; size = bytes_of size })
+reach_of (Call number) registers = call_reach (helper_of number) (abstract_at registers 3)
+reach_of i registers = None
+
+-- the offsets that may be touched
+abbrev pub touched : Offsets → Reach → Span
+touched o reach = record { low = o.low +ℤ reach.distance; high = ((o.high +ℤ reach.distance) +ℤ pos reach.size) -ℤ pos 1 }
+
+abbrev pub outside : Reach → AbsVal → Option Sentence
+outside reach (Pointer region o) = Some (sentence.Memory (access.Outside reach.base region (touched o reach)))
+outside reach _ = None
+
+-- the first of so many cells that may hold no byte
+abbrev pub first_empty : List Bool → ℕ → ℕ → Option ℕ
+first_empty bytes place zero = None
+first_empty bytes place (suc n) = if byte_at bytes place then first_empty bytes (suc place) n else Some place
+
+abbrev pub empty_in : Known → Option Window → Option ℕ
+empty_in known None = None
+empty_in known (Some w) = first_empty known.bytes w.place w.size
+
+abbrev pub empty_cell : Known → Reach → AbsVal → Option Sentence
+empty_cell known reach (Pointer Stack o) =
+    option_map (λ k. sentence.Memory (access.Empty reach.base (touched o reach) (pos k -ℤ pos 512)))
+    (empty_in known (window_known Stack o.low o.high reach.distance reach.size))
+empty_cell known reach _ = None
+
+abbrev pub context_written : Reach → AbsVal → Option Sentence
+context_written reach value = Some (sentence.Memory (access.Context reach.base value))
+
+-- ---- calls
+
+-- an argument that is to be a number below the bound, or a pointer where there is none
+abbrev pub misfit_of : ℕ → Option ℕ → AbsVal → Option Sentence
+misfit_of r (Some bound) (Number n) = if nat_lt (greatest n) bound then None else Some (sentence.Call (misfit.Above r (Number n) (bound - 1)))
+misfit_of r (Some bound) value = Some (sentence.Call (misfit.Above r value (bound - 1)))
+misfit_of r None (Number n) = Some (sentence.Call (misfit.NoPointer r (Number n)))
+misfit_of r None value = None
+
+abbrev pub misfit_at : List AbsVal → ℕ → Option Argument → Option Sentence
+misfit_at registers r None = None
+misfit_at registers r (Some argument) = misfit_of r (bound_of argument) (abstract_at registers r)
+
+-- slot and count together
+abbrev pub past_board : AbsVal → AbsVal → Option Sentence
+past_board (Number slots) (Number counts) =
+    if nat_le (greatest slots) 64 && nat_le (greatest counts) 64 then Some (sentence.Call (misfit.Board (greatest slots + greatest counts))) else None
+past_board _ _ = None
+
+abbrev pub arguments_misfit : List AbsVal → List (Option Argument) → Option Sentence
+arguments_misfit registers (first ∷ second ∷ third ∷ []) =
+    option_or (misfit_at registers 1 first) (option_or (misfit_at registers 2 second) (option_or (misfit_at registers 3 third)
+    (past_board (abstract_at registers 1) (abstract_at registers 3))))
+arguments_misfit registers _ = None
+
+abbrev pub call_misfit : Insn → List AbsVal → Option Sentence
+call_misfit (Call number) registers = option_and_then (λ helper. arguments_misfit registers (arguments_of helper)) (helper_of number)
+call_misfit i registers = None
+
+abbrev pub no_helper : Insn → Option Sentence
+no_helper (Call number) = Some (sentence.Call (misfit.Helper number))
+no_helper i = None
+
+-- ---- what an instruction misses, by the reason
+
+abbrev pub reached : (Reach → AbsVal → Option Sentence) → Insn → List AbsVal → Option Sentence
+reached tells i registers = option_and_then (λ reach. tells reach (abstract_at registers reach.base)) (reach_of i registers)
+
+abbrev pub shortfall : Reason → Insn → AbsState → Option Sentence
+shortfall reason.Unset i a = first_unset a.registers (read_by i)
+shortfall reason.FrameWrite i a = Some (sentence.Register misuse.Frame)
+shortfall reason.PointerUse i a = pointer_misuse i a.registers
+shortfall reason.Bounds i a = reached outside i a.registers
+shortfall reason.StackUnset i a = reached (empty_cell a.stack) i a.registers
+shortfall reason.ContextWrite i a = reached context_written i a.registers
+shortfall reason.Helper i a = no_helper i
+shortfall reason.Argument i a = call_misfit i a.registers
+shortfall reason.ExitPointer i a = Some (sentence.Register (misuse.Exit (abstract_at a.registers 0)))
+shortfall _ i a = None

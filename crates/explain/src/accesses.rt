@@ -1,0 +1,67 @@
+//! Accesses that are refused.
+ghost use Rattle.std.specs.Prelude.{◌≡◌, ◌≤◌, ◌+◌, ◌-◌, ◌-ℤ◌, pos, IfSome};
+ghost use Rattle.explain.specs.Shortfalls.{outside, first_empty, empty_in, empty_cell, context_written, reached};
+
+use crate::reach::{Reach, touched};
+use crate::sentence::{Access, Sentence};
+use absmem::AbsStack;
+use absval::{AbsVal, Window, window_of};
+use semantics::Region;
+
+/// An access may leave its region.
+pub(crate) fn outside(reach: Reach, value: AbsVal) -> Option<Sentence>
+    requires { reach.size ≤ 512 }
+    ensures { result ≡ outside reach value }
+{
+    let AbsVal::Pointer(region, offsets) = value else {
+        return None;
+    };
+    let span = touched(offsets, &reach);
+    Some(Sentence::Memory(Access::Outside(reach.base, region, span)))
+}
+
+/// The first of so many cells that may hold no byte.
+fn first_empty(stack: &AbsStack, place: usize, size: usize) -> Option<usize>
+    requires { place + size ≤ 512 }
+    ensures empty { result ≡ first_empty stack.now.bytes place size }
+    ensures few { IfSome result (λ k. k ≤ 512) }
+{
+    if size == 0 {
+        return None;
+    }
+    if !stack.has_bytes(place, 1) {
+        return Some(place);
+    }
+    first_empty(stack, place + 1, size - 1)
+}
+
+/// The same of the cells of a window, where there is one.
+fn empty_in(stack: &AbsStack, window: Option<Window>) -> Option<usize>
+    requires { IfSome window (λ w. w.place + w.size ≤ 512) }
+    ensures empty { result ≡ empty_in stack.now window }
+    ensures few { IfSome result (λ k. k ≤ 512) }
+{
+    let Window { place, size } = window?;
+    first_empty(stack, place, size)
+}
+
+/// A cell of the stack is read that may hold no byte.
+pub(crate) fn empty_cell(stack: &AbsStack, reach: Reach, value: AbsVal) -> Option<Sentence>
+    requires { reach.size ≤ 512 }
+    ensures { result ≡ empty_cell stack.now reach value }
+{
+    let AbsVal::Pointer(Region::Stack, offsets) = value else {
+        return None;
+    };
+    let window = window_of(Region::Stack, offsets, reach.distance, reach.size);
+    let cell = empty_in(stack, window)?;
+    let span = touched(offsets, &reach);
+    Some(Sentence::Memory(Access::Empty(reach.base, span, cell as i64 - 512)))
+}
+
+/// The context is written.
+pub(crate) fn context_written(reach: Reach, value: AbsVal) -> Option<Sentence>
+    ensures { result ≡ context_written reach value }
+{
+    Some(Sentence::Memory(Access::Context(reach.base, value)))
+}

@@ -1,0 +1,17 @@
+//! Why a program is accepted or refused: what is known at each unit, and what a refusal misses.
+#![tactic(auto)]
+
+mod accesses;
+mod lines;
+mod misfits;
+mod misuse;
+mod moving;
+mod reach;
+mod reads;
+mod sentence;
+mod shortfall;
+mod values;
+
+pub use lines::explanation;
+pub use sentence::{Access, Misfit, Misuse, Sentence, Structure};
+pub use values::{Known, Span};

@@ -1,0 +1,193 @@
+//! The explanation of a program.
+ghost use Rattle.std.specs.Prelude.{◌≡◌, ◌≤◌, ◌<◌, ◌++◌, length, option_map, slice_get, string_bytes, IfOk, OnOk};
+ghost use Rattle.insn.specs.Program.{slots_of};
+ghost use Rattle.explain.specs.Explained.{read_text, reads_text, known_text, place_text, unit_line, line_if, unit_lines, target_of, sentence_of, sentence_line, known_by, refused_line, explained};
+
+use crate::reach::abstract_at;
+use crate::reads::{Registers, read_by};
+use crate::sentence::{Sentence, Structure};
+use crate::shortfall::shortfall;
+use crate::values::Known;
+use absval::AbsVal;
+use asm::put_instruction;
+use insn::{Insn, Program, Reg};
+use std::alloc::{AllocError, Global};
+use verify::{AbsState, Reason, VerifyError, known_at_units};
+
+/// Adds a register that is read, and what is known of it.
+fn put_read(
+    out: &mut String,
+    registers: &[AbsVal; 11],
+    register: Option<Reg>,
+) -> Result<(), AllocError>
+    ensures { OnOk result (string_bytes out.new ≡ string_bytes out.old ++ read_text registers.now register) }
+{
+    let Some(r) = register else {
+        return Ok(());
+    };
+    let known = Known(abstract_at(registers, r));
+    let r = r.number();
+    write!(out, " ; r{r} {known}")
+}
+
+/// Adds the registers that are read.
+fn put_reads(out: &mut String, registers: &[AbsVal; 11], read: Registers) -> Result<(), AllocError>
+    ensures { OnOk result (string_bytes out.new ≡ string_bytes out.old ++ reads_text registers.now read) }
+{
+    let [first, second, third] = read;
+    put_read(out, registers, first)?;
+    put_read(out, registers, second)?;
+    put_read(out, registers, third)
+}
+
+/// Adds what is known where an instruction stands.
+fn put_known(out: &mut String, insn: &Insn, state: Option<&AbsState>) -> Result<(), AllocError>
+    ensures { OnOk result (string_bytes out.new ≡ string_bytes out.old ++ known_text insn.now (option_map (λ a. a.now) state.entry)) }
+{
+    match state {
+        None => out.push_str(" ; no way leads here"),
+        Some(state) => put_reads(out, &state.registers, read_by(insn)),
+    }
+}
+
+/// Adds a unit and its instruction, behind the end of a line.
+fn put_place(out: &mut String, unit: usize, insn: &Insn) -> Result<(), AllocError>
+    ensures { OnOk result (string_bytes out.new ≡ string_bytes out.old ++ place_text unit insn.now) }
+{
+    write!(out, "\n{unit} ")?;
+    put_instruction(out, insn)
+}
+
+/// Adds the line of a unit.
+fn put_unit(
+    out: &mut String,
+    unit: usize,
+    insn: &Insn,
+    state: Option<&AbsState>,
+) -> Result<(), AllocError>
+    ensures { OnOk result (string_bytes out.new ≡ string_bytes out.old ++ unit_line unit insn.now (option_map (λ a. a.now) state.entry)) }
+{
+    put_place(out, unit, insn)?;
+    put_known(out, insn, state)
+}
+
+/// Adds the line of a unit, if the pass comes there.
+fn put_reached(
+    out: &mut String,
+    unit: usize,
+    insn: &Insn,
+    states: &[Option<AbsState>],
+) -> Result<(), AllocError>
+    ensures { OnOk result (string_bytes out.new ≡ string_bytes out.old ++ line_if unit insn.now (slice_get states.now unit)) }
+{
+    match states.get(unit) {
+        Some(state) => put_unit(out, unit, insn, state.as_ref()),
+        None => Ok(()),
+    }
+}
+
+/// Adds the lines of the units to which the pass comes.
+fn put_units(
+    out: &mut String,
+    insns: &[Insn],
+    states: &[Option<AbsState>],
+) -> Result<(), AllocError>
+    requires { length (slots_of insns.now) ≤ 4096 }
+    ensures { OnOk result (string_bytes out.new ≡ string_bytes out.old ++ unit_lines (slice_get states.now) 0 insns.now) }
+{
+    let mut unit = 0;
+    for insn in insns {
+        put_reached(out, unit, insn, states)?;
+        unit += insn.units() as usize;
+    }
+    Ok(())
+}
+
+/// What is known at a unit, if anything is.
+fn known_by(states: &[Option<AbsState>], unit: usize) -> Option<&AbsState>
+    ensures { option_map (λ a. a.now) result ≡ known_by (slice_get states.now unit) }
+{
+    states.get(unit)?.as_ref()
+}
+
+/// Where a jump leads.
+fn target_of(unit: usize, insn: &Insn) -> Option<i64>
+    requires { unit < 4096 }
+    ensures { result ≡ target_of unit insn.now }
+{
+    let distance = match insn {
+        Insn::Jump { distance } => i64::from(*distance),
+        Insn::LongJump { distance } => i64::from(*distance),
+        Insn::Branch { distance, .. } => i64::from(*distance),
+        _ => return None,
+    };
+    Some(unit as i64 + 1 + distance)
+}
+
+/// Why an instruction is refused, in a program of so many units.
+fn sentence_of(
+    units: usize,
+    reason: Reason,
+    unit: usize,
+    insn: &Insn,
+    state: Option<&AbsState>,
+) -> Option<Sentence>
+    requires { unit < 4096 }
+    ensures { result ≡ sentence_of units reason unit insn.now (option_map (λ a. a.now) state.entry) }
+{
+    let structure = match reason {
+        Reason::BackJump => Structure::Back(target_of(unit, insn)?),
+        Reason::JumpOut => Structure::Out(target_of(unit, insn)?, units),
+        Reason::JumpInWide => Structure::Inside(target_of(unit, insn)?),
+        Reason::LastNotExit => Structure::NoExit,
+        _ => return shortfall(reason, insn, state?),
+    };
+    Some(Sentence::Structure(structure))
+}
+
+/// Adds the sentence of an instruction, if there is one.
+fn put_sentence(
+    out: &mut String,
+    unit: usize,
+    insn: &Insn,
+    sentence: Option<Sentence>,
+) -> Result<(), AllocError>
+    ensures { OnOk result (string_bytes out.new ≡ string_bytes out.old ++ sentence_line unit insn.now sentence) }
+{
+    let Some(sentence) = sentence else {
+        return Ok(());
+    };
+    put_place(out, unit, insn)?;
+    write!(out, ": {sentence}")
+}
+
+/// Adds why a program is refused, if it is.
+fn put_refused(
+    out: &mut String,
+    program: &Program,
+    states: &[Option<AbsState>],
+    fault: Option<VerifyError>,
+) -> Result<(), AllocError>
+    ensures { OnOk result (string_bytes out.new ≡ string_bytes out.old ++ refused_line (slice_get states.now) program.now fault) }
+{
+    let Some(VerifyError::At(reason, unit)) = fault else {
+        return Ok(());
+    };
+    let Some(insn) = program.at(unit) else {
+        return Ok(());
+    };
+    let sentence = sentence_of(program.units(), reason, unit, &insn, known_by(states, unit));
+    put_sentence(out, unit, &insn, sentence)
+}
+
+/// What is known at each unit of a program to which the verifier comes, and why the program is refused, if so. Each line stands behind the end of one.
+pub fn explanation(alloc: Global, program: &Program) -> Result<String, AllocError>
+    ensures { IfOk result (λ text. string_bytes text ≡ explained program.now) }
+{
+    let survey = known_at_units(alloc, program)?;
+    let mut out = String::with_capacity(alloc, 32 * program.units())?;
+    let states = survey.states.as_slice();
+    put_units(&mut out, program.instructions(), states)?;
+    put_refused(&mut out, program, states, survey.fault)?;
+    Ok(out)
+}

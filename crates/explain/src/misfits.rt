@@ -1,0 +1,100 @@
+//! Calls that are refused.
+ghost use Rattle.std.specs.Prelude.{◌≡◌, ◌≤◌, option_map, ◌+◌, Some};
+ghost use Rattle.insn.specs.declared.insn.Insn.{Insn};
+ghost use Rattle.verify.specs.Calls.{abstract_at};
+ghost use Rattle.helper.specs.Table.{bound_of, arguments_of};
+ghost use Rattle.explain.specs.Shortfalls.{misfit_of, misfit_at, past_board, arguments_misfit, call_misfit, no_helper};
+
+use crate::reach::abstract_at;
+use crate::reads::numbered;
+use crate::sentence::{Misfit, Sentence};
+use absval::{AbsVal, NumberSet};
+use helper::Argument;
+use insn::{Insn, Reg};
+
+/// A number that is to be at most so great.
+fn above(r: Reg, numbers: NumberSet, most: u64) -> Option<Sentence>
+    ensures { result ≡ misfit_of r (Some (most + 1)) (AbsVal.Number numbers) }
+{
+    if numbers.greatest() <= most {
+        return None;
+    }
+    let value = AbsVal::Number(numbers);
+    Some(Sentence::Call(Misfit::Above(r, value, most)))
+}
+
+/// An argument that is to be a number up to this one, or a pointer where there is none.
+fn misfit_of(r: Reg, argument: Argument, value: AbsVal) -> Option<Sentence>
+    ensures { result ≡ misfit_of r (bound_of argument) value }
+{
+    match (argument.greatest(), value) {
+        (Some(most), AbsVal::Number(numbers)) => above(r, numbers, most),
+        (Some(most), _) => Some(Sentence::Call(Misfit::Above(r, value, most))),
+        (None, AbsVal::Number(_)) => Some(Sentence::Call(Misfit::NoPointer(r, value))),
+        (None, _) => None,
+    }
+}
+
+/// The same of an argument, where the helper takes one there.
+fn misfit_at(registers: &[AbsVal; 11], r: Reg, argument: Option<Argument>) -> Option<Sentence>
+    ensures { result ≡ misfit_at registers.now r argument }
+{
+    let argument = argument?;
+    misfit_of(r, argument, abstract_at(registers, r))
+}
+
+/// Kept and count together.
+fn past_board(slots: AbsVal, counts: AbsVal) -> Option<Sentence>
+    ensures { result ≡ past_board slots counts }
+{
+    let AbsVal::Number(slots) = slots else {
+        return None;
+    };
+    let AbsVal::Number(counts) = counts else {
+        return None;
+    };
+    if slots.greatest() > 64 || counts.greatest() > 64 {
+        return None;
+    }
+    let sum = slots.greatest() + counts.greatest();
+    Some(Sentence::Call(Misfit::Board(sum)))
+}
+
+/// The arguments in their order, then slot and count together.
+fn arguments_misfit(registers: &[AbsVal; 11], arguments: [Option<Argument>; 3]) -> Option<Sentence>
+    ensures { result ≡ arguments_misfit registers.now arguments }
+{
+    let [first, second, third] = arguments;
+    if let Some(sentence) = misfit_at(registers, numbered(1), first) {
+        return Some(sentence);
+    }
+    if let Some(sentence) = misfit_at(registers, numbered(2), second) {
+        return Some(sentence);
+    }
+    if let Some(sentence) = misfit_at(registers, numbered(3), third) {
+        return Some(sentence);
+    }
+    let slots = abstract_at(registers, numbered(1));
+    past_board(slots, abstract_at(registers, numbered(3)))
+}
+
+/// What a call asks that may not be.
+pub(crate) fn call_misfit(insn: &Insn, registers: &[AbsVal; 11]) -> Option<Sentence>
+    ensures { result ≡ call_misfit insn.now registers.now }
+{
+    let Insn::Call { helper: number } = insn else {
+        return None;
+    };
+    let helper = helper::helper_of(*number)?;
+    arguments_misfit(registers, helper::arguments(helper))
+}
+
+/// The number of a call that no helper has.
+pub(crate) fn no_helper(insn: &Insn) -> Option<Sentence>
+    ensures { result ≡ no_helper insn.now }
+{
+    let Insn::Call { helper: number } = insn else {
+        return None;
+    };
+    Some(Sentence::Call(Misfit::Helper(*number)))
+}

@@ -1,0 +1,141 @@
+//! Pointers that numbers move too far.
+ghost use Rattle.std.specs.Prelude.{◌≡◌, ◌+ℤ◌, ◌-ℤ◌};
+ghost use Rattle.explain.specs.Shortfalls.{signed_row, lowers, clamped, moved, either_sign, far, operand_at, sum_misuse};
+
+use crate::reach::abstract_at;
+use crate::reads::of_operand;
+use crate::sentence::{Misuse, Sentence};
+use crate::values::{Span, between, signed};
+use absval::{AbsVal, NumberSet, Offsets};
+use insn::{Operand, Reg};
+use range::Range;
+use semantics::Region;
+use word::{Operation, Width};
+
+/// Numbers read as signed, where they are in a row.
+fn signed_row(range: Range) -> Option<Span>
+    ensures { result ≡ signed_row range }
+{
+    if range.hi < 0x8000_0000_0000_0000 || range.lo >= 0x8000_0000_0000_0000 {
+        Some(signed(range))
+    } else {
+        None
+    }
+}
+
+/// Whether an operation lowers a pointer, where it moves one.
+fn lowers(width: Width, operation: Operation) -> Option<bool>
+    ensures { result ≡ lowers width operation }
+{
+    match (width, operation) {
+        (Width::W64, Operation::Add) => Some(false),
+        (Width::W64, Operation::Sub) => Some(true),
+        _ => None,
+    }
+}
+
+/// The nearest number of 64 bits.
+fn clamped(z: i128) -> i64
+    ensures { result ≡ clamped z }
+{
+    if z > i128::from(i64::MAX) {
+        i64::MAX
+    } else if z < i128::from(i64::MIN) {
+        i64::MIN
+    } else {
+        z as i64
+    }
+}
+
+/// An offset, a number on.
+fn raised(offset: i32, by: i64) -> i64
+    ensures { result ≡ clamped (offset +ℤ by) }
+{
+    clamped(i128::from(offset) + i128::from(by))
+}
+
+/// An offset, a number back.
+fn lowered(offset: i32, by: i64) -> i64
+    ensures { result ≡ clamped (offset -ℤ by) }
+{
+    clamped(i128::from(offset) - i128::from(by))
+}
+
+/// Where offsets lead, moved by numbers.
+fn moved(down: bool, offsets: Offsets, by: Span) -> Span
+    ensures { result ≡ moved down offsets by }
+{
+    if down {
+        let low = lowered(offsets.low, by.high);
+        between(low, lowered(offsets.high, by.low))
+    } else {
+        let low = raised(offsets.low, by.low);
+        between(low, raised(offsets.high, by.high))
+    }
+}
+
+/// A number of either sign moves a pointer: the register that it is in.
+fn either_sign(register: Option<Reg>, numbers: NumberSet) -> Option<Sentence>
+    ensures { result ≡ either_sign register numbers }
+{
+    let r = register?;
+    Some(Sentence::Register(Misuse::EitherSign(r, AbsVal::Number(numbers))))
+}
+
+/// What is known of an operand.
+pub(crate) fn operand_at(registers: &[AbsVal; 11], operand: Operand) -> AbsVal
+    ensures { result ≡ operand_at registers.now operand }
+{
+    match operand {
+        Operand::Register(r) => abstract_at(registers, r),
+        Operand::Immediate(number) => {
+            AbsVal::Number(NumberSet::exactly(i64::from(number).cast_unsigned()))
+        }
+    }
+}
+
+/// A pointer in a register that numbers move.
+#[derive(Clone, Copy)]
+struct Start {
+    down: bool,
+    dst: Reg,
+    region: Region,
+    offsets: Offsets,
+}
+
+/// The pointer is moved by the operand, whose numbers are these.
+fn far(pointer: Start, operand: Operand, numbers: NumberSet) -> Option<Sentence>
+    ensures { result ≡ far pointer.down pointer.dst pointer.region pointer.offsets operand numbers (signed_row numbers.range) }
+{
+    let Some(by) = signed_row(numbers.range()) else {
+        return either_sign(of_operand(operand), numbers);
+    };
+    let span = moved(pointer.down, pointer.offsets, by);
+    Some(Sentence::Register(Misuse::Far(pointer.dst, pointer.region, span)))
+}
+
+/// A pointer and a number, of which a sum or difference is made.
+pub(crate) fn sum_misuse(
+    how: (Width, Operation),
+    dst: Reg,
+    operand: Operand,
+    first: AbsVal,
+    second: AbsVal,
+) -> Option<Sentence>
+    ensures { result ≡ sum_misuse (lowers how.0 how.1) dst operand first second }
+{
+    let down = lowers(how.0, how.1)?;
+    let AbsVal::Pointer(region, offsets) = first else {
+        return None;
+    };
+    let AbsVal::Number(numbers) = second else {
+        return None;
+    };
+    let pointer = Start {
+        down,
+        dst,
+        region,
+        offsets,
+    };
+    far(pointer, operand, numbers)
+}

@@ -1,0 +1,146 @@
+//! What an instruction may touch of memory.
+ghost use Rattle.std.specs.Prelude.{◌≡◌, ◌≤◌, ◌≤ℤ◌, ◌+ℤ◌, ◌-ℤ◌, ◌^◌, pos, negsuc, IfSome};
+ghost use Rattle.insn.specs.Insn.{bytes_of, part_bytes};
+ghost use Rattle.semantics.specs.Call.{helper_of};
+ghost use Rattle.verify.specs.Calls.{abstract_at};
+ghost use Rattle.explain.specs.Shortfalls.{counted, call_reach, reach_of, touched};
+
+use crate::reads::numbered;
+use crate::values::{Span, between};
+use absval::{AbsVal, Offsets};
+use helper::Helper;
+use insn::{Insn, Reg, Size};
+use word::Narrow;
+
+/// Through which register, how far from it and how many bytes are accessed.
+#[derive(Clone, Copy, Debug, PartialEq, Eq)]
+pub(crate) struct Reach {
+    pub base: Reg,
+    pub distance: i16,
+    pub size: usize,
+}
+
+/// What is known of a register.
+pub(crate) fn abstract_at(registers: &[AbsVal; 11], r: Reg) -> AbsVal
+    ensures { result ≡ abstract_at registers.now r }
+{
+    registers[r.number() as usize]
+}
+
+fn bytes(size: Size) -> usize
+    ensures bytes { result ≡ bytes_of size }
+    ensures few { result ≤ 8 }
+{
+    match size {
+        Size::Byte => 1,
+        Size::Half => 2,
+        Size::Word => 4,
+        Size::Double => 8,
+    }
+}
+
+fn bytes_of_part(part: Narrow) -> usize
+    ensures bytes { result ≡ part_bytes part }
+    ensures few { result ≤ 8 }
+{
+    match part {
+        Narrow::Byte => 1,
+        Narrow::Half => 2,
+        Narrow::Word => 4,
+    }
+}
+
+/// So many bytes for each of a count, from r2 on.
+fn counted(size: usize, count: AbsVal) -> Option<Reach>
+    requires { size ≤ 8 }
+    ensures reach { result ≡ counted size count }
+    ensures few { IfSome result (λ reach. reach.size ≤ 512) }
+{
+    let AbsVal::Number(numbers) = count else {
+        return None;
+    };
+    if numbers.greatest() > 64 {
+        return None;
+    }
+    Some(Reach {
+        base: numbered(2),
+        distance: 0,
+        size: size * numbers.greatest() as usize,
+    })
+}
+
+/// What the helper of a number reaches, with what is known of the count.
+fn call_reach(number: i32, count: AbsVal) -> Option<Reach>
+    ensures reach { result ≡ call_reach (helper_of number) count }
+    ensures few { IfSome result (λ reach. reach.size ≤ 512) }
+{
+    match helper::helper_of(number) {
+        Some(Helper::BoardCopy) => counted(8, count),
+        Some(Helper::SendRow) => counted(4, count),
+        _ => None,
+    }
+}
+
+/// What an instruction reaches of memory.
+pub(crate) fn reach_of(insn: &Insn, registers: &[AbsVal; 11]) -> Option<Reach>
+    ensures reach { result ≡ reach_of insn.now registers.now }
+    ensures few { IfSome result (λ reach. reach.size ≤ 512) }
+{
+    match insn {
+        Insn::Load {
+            size,
+            base,
+            offset,
+            ..
+        }
+        | Insn::Store {
+            size,
+            base,
+            offset,
+            ..
+        } => Some(Reach {
+            base: *base,
+            distance: *offset,
+            size: bytes(*size),
+        }),
+        Insn::LoadSigned {
+            part,
+            base,
+            offset,
+            ..
+        } => Some(Reach {
+            base: *base,
+            distance: *offset,
+            size: bytes_of_part(*part),
+        }),
+        Insn::Call { helper } => call_reach(*helper, abstract_at(registers, numbered(3))),
+        _ => None,
+    }
+}
+
+/// The first offset that may be touched.
+fn first_touched(offset: i32, distance: i16) -> i64
+    ensures { result ≡ offset +ℤ distance }
+{
+    i64::from(offset) + i64::from(distance)
+}
+
+/// The last of so many bytes.
+fn last_touched(first: i64, size: usize) -> i64
+    requires size { size ≤ 512 }
+    requires low { negsuc (2 ^ 40) ≤ℤ first }
+    requires high { first ≤ℤ pos (2 ^ 40) }
+    ensures { result ≡ (first +ℤ pos size) -ℤ pos 1 }
+{
+    first + size as i64 - 1
+}
+
+/// The offsets that may be touched from these on.
+pub(crate) fn touched(offsets: Offsets, reach: &Reach) -> Span
+    requires { reach.now.size ≤ 512 }
+    ensures { result ≡ touched offsets reach.now }
+{
+    let low = first_touched(offsets.low, reach.distance);
+    let high = first_touched(offsets.high, reach.distance);
+    between(low, last_touched(high, reach.size))
+}

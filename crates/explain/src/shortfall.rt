@@ -1,0 +1,57 @@
+//! What an instruction misses where it is refused.
+ghost use Rattle.std.specs.Prelude.{◌≡◌, IfSome};
+ghost use Rattle.explain.specs.Shortfalls.{shortfall, reached, outside, empty_cell, context_written};
+
+use crate::accesses::{context_written, empty_cell, outside};
+use crate::misfits::{call_misfit, no_helper};
+use crate::misuse::{first_unset, pointer_misuse};
+use crate::reach::{abstract_at, reach_of};
+use crate::reads::{numbered, read_by};
+use crate::sentence::{Misuse, Sentence};
+use insn::Insn;
+use verify::{AbsState, Reason};
+
+/// An access that may leave its region.
+fn outside_of(insn: &Insn, state: &AbsState) -> Option<Sentence>
+    ensures { result ≡ reached outside insn.now state.now.registers }
+{
+    let reach = reach_of(insn, &state.registers)?;
+    outside(reach, abstract_at(&state.registers, reach.base))
+}
+
+/// A load of a cell that may hold no byte.
+fn empty_of(insn: &Insn, state: &AbsState) -> Option<Sentence>
+    ensures { result ≡ reached (empty_cell state.now.stack) insn.now state.now.registers }
+{
+    let reach = reach_of(insn, &state.registers)?;
+    empty_cell(&state.stack, reach, abstract_at(&state.registers, reach.base))
+}
+
+/// A store to the context.
+fn written_of(insn: &Insn, state: &AbsState) -> Option<Sentence>
+    ensures { result ≡ reached context_written insn.now state.now.registers }
+{
+    let reach = reach_of(insn, &state.registers)?;
+    context_written(reach, abstract_at(&state.registers, reach.base))
+}
+
+/// What an instruction misses, by the reason of its fault and what is known there.
+pub(crate) fn shortfall(reason: Reason, insn: &Insn, state: &AbsState) -> Option<Sentence>
+    ensures { result ≡ shortfall reason insn.now state.now }
+{
+    match reason {
+        Reason::Unset => first_unset(&state.registers, read_by(insn)),
+        Reason::FrameWrite => Some(Sentence::Register(Misuse::Frame)),
+        Reason::PointerUse => pointer_misuse(insn, &state.registers),
+        Reason::Bounds => outside_of(insn, state),
+        Reason::StackUnset => empty_of(insn, state),
+        Reason::ContextWrite => written_of(insn, state),
+        Reason::Helper => no_helper(insn),
+        Reason::Argument => call_misfit(insn, &state.registers),
+        Reason::ExitPointer => {
+            let value = abstract_at(&state.registers, numbered(0));
+            Some(Sentence::Register(Misuse::Exit(value)))
+        }
+        _ => None,
+    }
+}

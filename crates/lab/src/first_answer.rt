@@ -1,0 +1,19 @@
+use round::Scenario;
+use verify::Verified;
+
+/// What a task comes to on its only or first file.
+#[derive(Drop)]
+pub enum FirstAnswer {
+    /// All that it prints.
+    Text(String),
+    /// The same, where it is no text.
+    Bytes(Vec<u8>),
+    /// A program to try, in the setting of the second file.
+    Trial(Verified),
+    /// A campaign to play, by the schedule of the second file.
+    Play(Scenario),
+    /// A campaign to run with a thread for each general.
+    Muster(Scenario),
+    /// A campaign whose chronicle the second file may be.
+    Audit(Scenario),
+}

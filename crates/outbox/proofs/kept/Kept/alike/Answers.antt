@@ -1,5 +1,0 @@
-use Rattle.outbox.proofs.Throughout.{kept_alike}
-use Rattle.outbox.proofs.kept.Kept.alike.Goals as goal
-
-pub returns-clause-each : goal.returns-clause-each
-returns-clause-each c n lt = kept_alike c.args.places c.args.order n lt

@@ -1,0 +1,173 @@
+//! Whether letters are accounted for.
+ghost use Rattle.std.specs.Prelude.{◌≡◌, ◌↔◌, ◌<◌, ◌≤◌, ℕ, suc, take, drop, min, sum_by, length, All, List, IsTrue, IfOk, OnOk};
+ghost use Rattle.round.specs.Scenario.{program_of};
+ghost use Rattle.round.specs.Letters.{Letter as LetterSeen};
+ghost use Rattle.round.specs.Contexts.{context_of, AreWords};
+ghost use Rattle.round.specs.Told.{WasTold};
+ghost use Rattle.world.specs.World.{accesses_of};
+ghost use Rattle.world.specs.Accounted.{IsLetterOf, IsAccountedRound, AreAccounted};
+ghost use Rattle.threads.specs.Holding.{EndedInTime, Stands};
+
+use board::Access;
+use round::{Letter, Round, Scenario, Told};
+use std::alloc::{AllocError, Global};
+
+/// Whether these are just one general's accesses, in their order.
+fn is_part(piece: &[Access], general: u32, transcript: &[Access]) -> bool
+    ensures { IsTrue result ↔ (accesses_of general piece.now ≡ transcript.now) }
+{
+    let mut next = 0;
+    for access in piece {
+        if access.general == general {
+            if next >= transcript.len() || !access.same(&transcript[next]) {
+                return false;
+            }
+            next += 1;
+        }
+    }
+    next == transcript.len()
+}
+
+/// Whether each access is of this round, and of one of so many generals.
+fn are_known(piece: &[Access], generals: u32, round: u32) -> bool
+    ensures { IsTrue result ↔ All (λ a. (a.general < generals) × (a.round ≡ round)) piece.now }
+{
+    piece.iter().all(|access| access.general < generals && access.round == round)
+}
+
+/// Whether the letter's general has ended, within the patience.
+fn is_over(scenario: &Scenario, letter: &Letter) -> bool
+    ensures { IsTrue result ↔ EndedInTime scenario.now letter.now }
+{
+    match scenario.patience() {
+        None => letter.exited,
+        Some(patience) => letter.steps <= patience && (letter.exited || patience <= letter.steps),
+    }
+}
+
+/// Whether a letter is that of its place, its context aside.
+fn stands(scenario: &Scenario, piece: &[Access], general: u8, round: u32, letter: &Letter) -> bool
+    requires { general < scenario.now.generals }
+    ensures { IsTrue result ↔ Stands scenario.now piece.now general round letter.now }
+{
+    letter.general == u32::from(general)
+        && letter.round == round
+        && letter.program.same(scenario.seat(general))
+        && is_over(scenario, letter)
+        && is_part(piece, u32::from(general), letter.transcript.as_slice())
+}
+
+/// Whether a letter's context is what its general was told after so many rounds.
+fn has_context(
+    alloc: Global,
+    told: &Told,
+    scenario: &Scenario,
+    rounds: u8,
+    general: u8,
+    letter: &Letter,
+) -> Result<bool, AllocError>
+    requires told { (rows : List (List LetterSeen)) × WasTold scenario.now rows told.now }
+    requires passed { rounds ≤ told.now.rounds }
+    requires left { rounds ≤ scenario.now.bound }
+    requires general { general < scenario.now.generals }
+    ensures context { IfOk result (λ b. (rows : List (List LetterSeen)) → WasTold scenario.now rows told.now
+        → IsTrue b ↔ (letter.now.context ≡ context_of scenario.now (take rounds rows) general)) }
+    ensures words { OnOk result ((rows : List (List LetterSeen)) → WasTold scenario.now rows told.now → AreWords scenario.now (take rounds rows) general) }
+{
+    let context = told.context_after(alloc, scenario, general, rounds)?;
+    Ok(letter.context.as_slice() == context.as_slice())
+}
+
+/// Whether a letter is that of its general in the round behind so many, and the accesses are its transcript.
+fn holds_letter(
+    alloc: Global,
+    told: &Told,
+    scenario: &Scenario,
+    rounds: u8,
+    piece: &[Access],
+    general: u8,
+    letter: &Letter,
+) -> Result<bool, AllocError>
+    requires told { (rows : List (List LetterSeen)) × WasTold scenario.now rows told.now }
+    requires passed { rounds ≤ told.now.rounds }
+    requires left { rounds ≤ scenario.now.bound }
+    requires general { general < scenario.now.generals }
+    ensures { IfOk result (λ b. (rows : List (List LetterSeen)) → WasTold scenario.now rows told.now →
+        IsTrue b ↔ (IsLetterOf scenario.now (take rounds rows) general (program_of scenario.now general) letter.now × (accesses_of general piece.now ≡ letter.now.transcript))) }
+{
+    letter.recall();
+    scenario.recall();
+    let round = u32::from(rounds) + 1;
+    if !stands(scenario, piece, general, round, letter) {
+        return Ok(false);
+    }
+    let has = has_context(alloc, told, scenario, rounds, general, letter)?;
+    Ok(has)
+}
+
+/// Whether the letters are those of the round behind so many, and the accesses are theirs.
+fn holds_round(
+    alloc: Global,
+    told: &Told,
+    scenario: &Scenario,
+    rounds: u8,
+    piece: &[Access],
+    letters: &[Letter],
+) -> Result<bool, AllocError>
+    requires told { (rows : List (List LetterSeen)) × WasTold scenario.now rows told.now }
+    requires passed { rounds ≤ told.now.rounds }
+    requires left { rounds ≤ scenario.now.bound }
+    ensures { IfOk result (λ b. (rows : List (List LetterSeen)) → WasTold scenario.now rows told.now → IsTrue b ↔ IsAccountedRound scenario.now (take rounds rows) piece.now letters.now) }
+{
+    let generals = scenario.generals();
+    let round = u32::from(rounds) + 1;
+    if letters.len() != usize::from(generals) || !are_known(piece, u32::from(generals), round) {
+        return Ok(false);
+    }
+    for general in 0..generals {
+        let letter = &letters[usize::from(general)];
+        if !holds_letter(alloc, told, scenario, rounds, piece, general, letter)? {
+            return Ok(false);
+        }
+    }
+    Ok(true)
+}
+
+/// How many accesses the letters have together, at most so many.
+fn count_accesses(letters: &[Letter], most: usize) -> usize
+    ensures { result ≡ min (sum_by (λ l. length l.transcript) letters.now) most }
+{
+    let mut count = 0;
+    for i in 0..letters.len() {
+        let letter = &letters[i];
+        count += letter.transcript.len().min(most - count);
+    }
+    count
+}
+
+/// Whether the rounds from one on are accounted for by the rest of the ledger, where all of them were told.
+pub(crate) fn are_accounted(
+    alloc: Global,
+    told: &Told,
+    scenario: &Scenario,
+    rows: &[Round],
+    at: u8,
+    rest: &[Access],
+) -> Result<bool, AllocError>
+    requires rounds { length rows.now ≡ suc scenario.now.bound }
+    requires at { at ≤ length rows.now }
+    requires told { WasTold scenario.now rows.now told.now }
+    ensures { IfOk result (λ b. IsTrue b ↔ AreAccounted scenario.now (take at rows.now) rest.now (drop at rows.now)) }
+{
+    if usize::from(at) == rows.len() {
+        return Ok(rest.is_empty());
+    }
+    let letters = rows[usize::from(at)].letters();
+    let (piece, later) = rest.split_at(count_accesses(letters, rest.len()));
+    if !holds_round(alloc, told, scenario, at, piece, letters)? {
+        return Ok(false);
+    }
+    scenario.recall();
+    let more = are_accounted(alloc, told, scenario, rows, at + 1, later)?;
+    Ok(more)
+}

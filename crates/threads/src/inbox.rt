@@ -1,0 +1,59 @@
+//! Where a general waits for his next task.
+
+use crate::task::Task;
+use std::mem;
+use std::sync::{Condvar, Mutex, Wait};
+
+/// What stands in an inbox.
+#[derive(Drop)]
+enum Phase {
+    /// No task yet.
+    Waiting,
+    /// A task that is to be done.
+    Given(Task),
+    /// No task any more.
+    Closed,
+}
+
+/// An inbox of one general, in which he is given his tasks, one at a time. Nothing is promised of it.
+#[derive(Drop)]
+pub(crate) struct Inbox {
+    phase: Mutex<Phase>,
+    changed: Condvar,
+}
+
+impl Inbox {
+    /// An empty inbox.
+    pub(crate) fn new() -> Inbox {
+        Inbox {
+            phase: Mutex::new(Phase::Waiting),
+            changed: Condvar::new(),
+        }
+    }
+
+    /// Puts a task into the inbox.
+    pub(crate) fn put<R: Wait>(&self, rt: &R, task: Task) {
+        *self.phase.lock(rt) = Phase::Given(task);
+        self.changed.notify_one();
+    }
+
+    /// Closes the inbox for good: who waits at it goes home.
+    pub(crate) fn close<R: Wait>(&self, rt: &R) {
+        *self.phase.lock(rt) = Phase::Closed;
+        self.changed.notify_one();
+    }
+
+    /// Waits for the next task, and takes it; none where the inbox is closed.
+    pub(crate) fn next<R: Wait>(&self, rt: &R) -> Option<Task> {
+        let mut phase = self.changed.wait_while(rt, self.phase.lock(rt), |phase| {
+            matches!(phase, Phase::Waiting)
+        });
+        match mem::replace(&mut *phase, Phase::Waiting) {
+            Phase::Given(task) => Some(task),
+            Phase::Waiting | Phase::Closed => {
+                *phase = Phase::Closed;
+                None
+            }
+        }
+    }
+}

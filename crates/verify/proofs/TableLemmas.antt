@@ -1,0 +1,57 @@
+-- Lists by their entries.
+use Rattle.std.proofs.Common.{◌≡◌, ◌∙◌, ℕ, zero, suc, ◌+◌, ◌<◌, ◌≤◌, List, length, get_or, drop, arith, sym, subst, length-drop}
+use Rattle.std.proofs.lemmas.List.{ext_get_or, get_or-drop, length-map}
+use Rattle.std.proofs.lemmas.List.FromFn.{length-map-range_with_len, get_or-map-range_with_len}
+use Rattle.absval.specs.declared.value.AbsVal.{AbsVal}
+use Rattle.absval.specs.declared.value.AbsVal.TheVariants.{Unset, Number}
+use Rattle.absval.specs.declared.number_set.NumberSet.{NumberSet}
+use Rattle.absval.specs.Table.{Nothing, ends_of}
+use Rattle.verify.specs.Tables.{table}
+use Rattle.verify.specs.Registers.{seen, known_at, joined_all, Joins}
+use Rattle.absval.specs.Table.{joined}
+use Rattle.verify.specs.Calls.{known_behind}
+
+pub length-table : {A : Type 0} (n : ℕ) (entry : ℕ → A) → length (table n entry) ≡ n
+unfolding table
+length-table n entry = length-map-range_with_len entry 0 n
+
+pub table_at : {A : Type 0} (n : ℕ) (entry : ℕ → A) (k : ℕ) (d : A) → k < n → get_or (table n entry) k d ≡ entry k
+unfolding table
+table_at n entry k d lt = get_or-map-range_with_len entry 0 n k k d lt (omega arith)
+
+-- a list that has these entries
+pub table_is : {A : Type 0} (n : ℕ) (entry : ℕ → A) (xs : List A) (d : A) → length xs ≡ n → ((k : ℕ) → k < n → get_or xs k d ≡ entry k) → xs ≡ table n entry
+table_is n entry xs d long at =
+    let size = length-table n entry in
+    ext_get_or d xs (table n entry) (long ∙ sym size) (λ k lt. at k (omega (arith, long)) ∙ sym (table_at n entry k d (omega (arith, long))))
+
+-- two of the same entries are one
+pub table_same : {A : Type 0} (n : ℕ) (f g : ℕ → A) (d : A) → ((k : ℕ) → k < n → f k ≡ g k) → table n f ≡ table n g
+table_same n f g d same = table_is n g (table n f) d (length-table n f) (λ k lt. table_at n f k d lt ∙ same k lt)
+
+length-seen : (xs : List AbsVal) → length (seen xs) ≡ length xs
+length-seen xs = length-map xs ends_of
+
+-- registers that are joined one by one
+pub joins_all : (old other new : List AbsVal) → length new ≡ 11 → Joins old other new 11 → seen new ≡ joined_all (seen old) (seen other)
+joins_all old other new long joins =
+    table_is 11 (λ r. joined (known_at (seen old) r) (known_at (seen other) r)) (seen new) Nothing (length-seen new ∙ long) joins
+
+-- the registers behind a call
+pub behind_whole : (numbers : NumberSet) (old new : List AbsVal) → length old ≡ 11 → length new ≡ 11 → get_or new 0 Unset ≡ Number numbers →
+    ((r : ℕ) → 1 ≤ r → r ≤ 5 → get_or new r Unset ≡ Unset) → ((r : ℕ) → 6 ≤ r → get_or new r Unset ≡ get_or old r Unset) → new ≡ known_behind numbers old
+behind_whole numbers old new before after first unset others = ext_get_or Unset new (known_behind numbers old) same (λ k lt. at k)
+  where
+    same : length new ≡ length (known_behind numbers old)
+    same = let rest = length-drop 6 old in omega (arith, before, rest, after)
+
+    at : (k : ℕ) → get_or new k Unset ≡ get_or (known_behind numbers old) k Unset
+    at zero = first
+    at (suc zero) = unset 1 (omega arith) (omega arith)
+    at (suc (suc zero)) = unset 2 (omega arith) (omega arith)
+    at (suc (suc (suc zero))) = unset 3 (omega arith) (omega arith)
+    at (suc (suc (suc (suc zero)))) = unset 4 (omega arith) (omega arith)
+    at (suc (suc (suc (suc (suc zero))))) = unset 5 (omega arith) (omega arith)
+    at (suc (suc (suc (suc (suc (suc k)))))) =
+        let there : 6 + k ≡ suc (suc (suc (suc (suc (suc k))))) = omega arith in
+        subst (λ (j : ℕ). get_or new j Unset ≡ get_or (drop 6 old) k Unset) there (others (6 + k) (omega arith) ∙ sym (get_or-drop 6 old k Unset))

@@ -1,0 +1,27 @@
+-- Laws of the verifier as one function.
+use Rattle.std.specs.Prelude.{◌≡◌, ◌<◌, List, None, Some, length}
+use Rattle.insn.specs.declared.insn.Insn.{Insn}
+use Rattle.verify.specs.declared.error.VerifyError.{VerifyError}
+use Rattle.verify.specs.Structure.{structural_fault}
+use Rattle.verify.specs.Passes.{ComesThrough, IsFirstFault}
+use Rattle.std.specs.List.{AllByRecursion}
+use Rattle.insn.specs.Insn.{IsInsn}
+use Rattle.insn.specs.Program.{slots_of}
+use Rattle.semantics.specs.Plain.{IsPlain}
+use Rattle.semantics.specs.Run.{IsSound}
+use Rattle.verify.specs.Judgement.{judged}
+
+-- all runs of the pass over a program without a structural fault agree with the function: no program has both a run to the end and a first fault, and none has two
+pub record PassesAgree : Type 0 where
+  pub through : (program : List Insn) → structural_fault program ≡ None → ComesThrough program → judged program ≡ None
+  pub stopped : (program : List Insn) (fault : VerifyError) → structural_fault program ≡ None → IsFirstFault program fault → judged program ≡ Some fault
+  pub not_both : (program : List Insn) (fault : VerifyError) → structural_fault program ≡ None → ComesThrough program → IsFirstFault program fault → ⊥
+  pub not_two : (program : List Insn) (fault other : VerifyError) → structural_fault program ≡ None → IsFirstFault program fault → IsFirstFault program other → fault ≡ other
+
+-- the function finds no fault in a plain program of well-formed instructions
+abbrev pub PlainIsAccepted : Type 0
+PlainIsAccepted = (program : List Insn) → AllByRecursion IsInsn program → IsPlain program → judged program ≡ None
+
+-- a program of well-formed instructions that takes a unit or more, and in which the function finds no fault, is sound
+abbrev pub AcceptedIsSound : Type 0
+AcceptedIsSound = (program : List Insn) → AllByRecursion IsInsn program → 0 < length (slots_of program) → judged program ≡ None → IsSound program

@@ -1,0 +1,107 @@
+-- The transfer functions: what an instruction leaves of what is known, and what is known along each edge that leads on (own).
+use Rattle.std.specs.Prelude.{ℕ, ℤ, pos, ◌+◌, ◌*◌, ◌+ℤ◌, ◌==◌, Bool, true, false, if◌then◌else◌, List, [], ◌∷◌, ◌++◌, Option, Some, None, option_map, map, slice_set}
+use Rattle.std.specs.Result.{result_ok}
+use Rattle.insn.specs.declared.insn.Insn.{Insn}
+use Rattle.insn.specs.declared.insn.Insn.TheVariants.{Arithmetic, Negate, SignExtend, Swap, LoadNumber, Load, LoadSigned, Store, Call, Jump, LongJump, Branch, Exit}
+use Rattle.insn.specs.declared.insn.Size.{Size}
+use Rattle.insn.specs.Insn.{bytes_of, units_of}
+use Rattle.semantics.specs.declared.value.Region.{Region}
+use Rattle.semantics.specs.declared.request.Helper.{Helper}
+use Rattle.semantics.specs.declared.request.Helper.TheVariants.{BoardCopy}
+use Rattle.semantics.specs.Call.{helper_of}
+use Rattle.helper.specs.Results.{returned_range}
+use Rattle.absval.specs.NumberSets.{single, within, greatest}
+use Rattle.absval.specs.declared.value.AbsVal.{AbsVal}
+use Rattle.absval.specs.declared.value.AbsVal.TheVariants.{Number, Pointer}
+use Rattle.absval.specs.declared.windows.Window.{Window}
+use Rattle.absval.specs.Table.{Ends, Numbers, Pointers, computed, negated_known, extended_known, swapped_known}
+use Rattle.absval.specs.Windows.{window_known}
+use Rattle.absmem.specs.Known.{Known}
+use Rattle.verify.specs.declared.comparison.Comparison.{Comparison}
+use Rattle.verify.specs.declared.state.AbsState.{AbsState}
+use Rattle.verify.specs.Registers.{seen, known_at, operand_known, first_known, edge_known}
+use Rattle.verify.specs.MemoryTable.{load_given, signed_load_given}
+use Rattle.verify.specs.Calls.{is_certain, window_from, known_behind}
+use Rattle.verify.specs.Calls.{abstract_at as argument}
+use Rattle.verify.specs.Knowledge.{value_of, put_bytes, spread_bytes, put_pointer}
+
+-- a register takes a value, where there is one
+abbrev pub assigned : AbsState → ℕ → Option Ends → AbsState
+assigned a dst None = a
+assigned a dst (Some value) = record { registers = slice_set a.registers dst (value_of value); stack = a.stack }
+
+-- ---- stores
+
+-- a number is stored at one address, where the window is no wider than it is, or at one of several
+abbrev pub number_stored : ℕ → Option Window → Known → Known
+number_stored size None known = known
+number_stored size (Some w) known = if w.size == size then put_bytes w known else spread_bytes w known
+
+abbrev pub pointer_stored : Region → ℤ → Option Window → Known → Known
+pointer_stored region offset None known = known
+pointer_stored region offset (Some w) known = put_pointer w.place region offset known
+
+abbrev pub stored : Size → Ends → ℤ → Ends → Known → Known
+stored size (Pointers region at) distance (Numbers n) known = number_stored (bytes_of size) (window_known region at.0 at.1 distance (bytes_of size)) known
+stored size (Pointers region at) distance (Pointers other kept) known = pointer_stored other kept.0 (window_known region at.0 at.1 distance 8) known
+stored size base distance value known = known
+
+-- ---- calls
+
+-- words are written: to one place, or somewhere
+abbrev pub written : Bool → Option Window → Known → Known
+written certain None known = known
+written true (Some w) known = put_bytes w known
+written false (Some w) known = spread_bytes w known
+
+abbrev pub copied : AbsVal → AbsVal → Known → Known
+copied (Pointer region offsets) (Number counts) known = written (is_certain offsets counts) (window_from region offsets (8 * greatest counts)) known
+copied target counts known = known
+
+-- of the helpers, the one that copies words of the board writes to the stack
+abbrev pub stack_behind : Helper → AbsState → Known
+stack_behind BoardCopy a = copied (argument a.registers 2) (argument a.registers 3) a.stack
+stack_behind helper a = a.stack
+
+abbrev pub called : Option Helper → AbsState → AbsState
+called None a = a
+called (Some helper) a = record { registers = known_behind (within (returned_range helper)) a.registers; stack = stack_behind helper a }
+
+-- ---- instructions
+
+-- what an instruction leaves that goes on behind itself
+abbrev pub follows : Insn → AbsState → AbsState
+follows (Arithmetic w operation dst operand) a =
+    assigned a dst (computed w operation (first_known (seen a.registers) operation dst) (operand_known (seen a.registers) operand))
+follows (Negate w dst) a = assigned a dst (negated_known w (known_at (seen a.registers) dst))
+follows (SignExtend w part dst src) a = assigned a dst (extended_known w part (known_at (seen a.registers) src))
+follows (Swap order size dst) a = assigned a dst (swapped_known order size (known_at (seen a.registers) dst))
+follows (LoadNumber dst number) a = assigned a dst (Some (Numbers (single number)))
+follows (Load size dst base offset) a = assigned a dst (result_ok (load_given a.stack size (known_at (seen a.registers) base) offset))
+follows (LoadSigned part dst base offset) a = assigned a dst (result_ok (signed_load_given a.stack part (known_at (seen a.registers) base) offset))
+follows (Store size base offset source) a =
+    record { registers = a.registers; stack = stored size (known_at (seen a.registers) base) offset (operand_known (seen a.registers) source) a.stack }
+follows (Call number) a = called (helper_of number) a
+follows i a = a
+
+-- what a conditional jump tells where it is taken, or is not: nothing where that cannot be
+abbrev pub narrowed : Comparison → Bool → AbsState → Option AbsState
+narrowed c taken a = option_map (λ known. record { registers = map value_of known; stack = a.stack }) (edge_known c taken (seen a.registers))
+
+-- a unit, and what is known along an edge that leads there
+abbrev pub Edge : Type 0
+Edge = ℤ × AbsState
+
+abbrev pub edge_to : ℤ → Option AbsState → List Edge
+edge_to unit None = []
+edge_to unit (Some a) = (unit, a) ∷ []
+
+-- the edges that lead on from an instruction at a unit: a jump counts units from the following one (RFC 9669, section 4.3)
+abbrev pub edges : Insn → ℕ → AbsState → List Edge
+edges (Jump distance) unit a = (pos (unit + 1) +ℤ distance, a) ∷ []
+edges (LongJump distance) unit a = (pos (unit + 1) +ℤ distance, a) ∷ []
+edges (Branch w condition dst operand distance) unit a =
+    edge_to (pos (unit + 1)) (narrowed (record { width = w; condition = condition; dst = dst; operand = operand }) false a)
+    ++ edge_to (pos (unit + 1) +ℤ distance) (narrowed (record { width = w; condition = condition; dst = dst; operand = operand }) true a)
+edges Exit unit a = []
+edges i unit a = (pos (unit + units_of i), follows i a) ∷ []

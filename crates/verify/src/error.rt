@@ -1,0 +1,50 @@
+use crate::reason::Reason;
+use insn::Program;
+use std::alloc::AllocError;
+use std::error::Error;
+use std::fmt;
+
+/// Why a program is refused.
+#[derive(Clone, Copy, Debug, PartialEq, Eq, Drop)]
+pub enum VerifyError {
+    /// The reason, and the unit of the instruction that is at fault.
+    At(Reason, usize),
+    /// Memory was refused.
+    Memory,
+}
+
+impl fmt::Display for VerifyError {
+    ghost use Rattle.std.specs.Prelude.{Some};
+    ghost use Rattle.verify.specs.Telling.{told};
+
+    ghost output = { λ fault. Some (told fault) };
+
+    fn fmt<W: fmt::Write>(&self, f: &mut fmt::Formatter<W>) -> fmt::Result {
+        match self {
+            VerifyError::At(reason, unit) => write!(f, "{reason} unit {unit}"),
+            VerifyError::Memory => f.write_str("out of memory"),
+        }
+    }
+}
+
+impl Error for VerifyError {}
+
+impl From<AllocError> for VerifyError {
+    ghost use Rattle.std.specs.Prelude.{◌≡◌};
+    ghost use Rattle.verify.specs.declared.error.VerifyError.TheVariants.{Memory};
+
+    ghost from_gives = { λ _ e. e ≡ Memory };
+
+    fn from(_e: AllocError) -> VerifyError {
+        VerifyError::Memory
+    }
+}
+
+/// A refusal, which hands the program back.
+#[derive(Debug, Drop)]
+pub struct Refused {
+    /// The program that was refused.
+    pub program: Program,
+    /// Why.
+    pub fault: VerifyError,
+}

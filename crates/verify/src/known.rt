@@ -1,0 +1,82 @@
+//! What is known at each unit as the pass comes there.
+ghost use Rattle.std.specs.Prelude.{◌≡◌, ◌≢◌, IfOk, OnOk, length};
+ghost use Rattle.insn.specs.Program.{slots_of};
+ghost use Rattle.verify.specs.Forward.{IsForward};
+ghost use Rattle.verify.specs.Passes.{ComesTo};
+ghost use Rattle.verify.specs.KnownAtUnits.{AreKnown, EndsSo, IsSurvey};
+
+use crate::error::VerifyError;
+use crate::pass::pass_unit;
+use crate::pending::{Pending, boxed, empty, flow, kept};
+use crate::registers;
+use crate::state::AbsState;
+use crate::structure::find_fault;
+use insn::Program;
+use std::alloc::{AllocError, Global};
+
+/// What the pass knows of a program as it comes to each unit, up to the first fault.
+#[derive(Debug, Drop)]
+pub struct Survey {
+    /// What is known at each unit to which the pass comes, that of the fault the last; None where no path leads there.
+    pub states: Vec<Option<AbsState>>,
+    /// Why the program is refused, if so.
+    pub fault: Option<VerifyError>,
+}
+
+/// What is known at each unit of a program, up to its first fault. The pass does not come to a program with a fault of structure.
+pub fn known_at_units(alloc: Global, program: &Program) -> Result<Survey, AllocError>
+    ensures { IfOk result (λ s. IsSurvey program.now s.states.items s.fault) }
+{
+    if let Some(fault) = find_fault(program) {
+        return Ok(Survey {
+            states: Vec::new(alloc),
+            fault: Some(fault),
+        });
+    }
+    known_forward(alloc, program)
+}
+
+/// The same of a program whose every edge leads forward.
+fn known_forward(alloc: Global, program: &Program) -> Result<Survey, AllocError>
+    requires { IsForward program.now }
+    ensures known { IfOk result (λ s. AreKnown program.now s.states.items) }
+    ensures ends { IfOk result (λ s. EndsSo program.now s.states.items s.fault) }
+{
+    let mut pending = opened(alloc, program)?;
+    let mut states = Vec::with_capacity(alloc, program.units())?;
+    for unit in 0..program.units() {
+        states.push(kept(&pending, unit))?;
+        match pass_unit(alloc, program, unit, &mut pending) {
+            Ok(()) => {}
+            Err(fault) => {
+                let fault = Some(named(fault)?);
+                return Ok(Survey { states, fault });
+            }
+        }
+    }
+    Ok(Survey {
+        states,
+        fault: None,
+    })
+}
+
+/// A fault of the program, and no want of memory.
+fn named(fault: VerifyError) -> Result<VerifyError, AllocError>
+    ensures same { IfOk result (λ f. f ≡ fault) }
+    ensures named { OnOk result (fault ≢ VerifyError.Memory) }
+{
+    match fault {
+        VerifyError::Memory => Err(AllocError),
+        _ => Ok(fault),
+    }
+}
+
+/// What is kept as the pass opens.
+fn opened(alloc: Global, program: &Program) -> Result<Pending, AllocError>
+    ensures room { IfOk result (λ pending. length pending.items ≡ length (slots_of program.now)) }
+    ensures comes { IfOk result (λ pending. ComesTo program.now 0 pending.items) }
+{
+    let mut pending = empty(alloc, program.units())?;
+    flow(&mut pending, 0, boxed(alloc, registers::at_entry())?);
+    Ok(pending)
+}

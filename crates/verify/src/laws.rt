@@ -1,0 +1,18 @@
+//! Laws of the verifier: each function does nothing, and its contract is the law.
+ghost use Rattle.verify.specs.Laws.{PassesAgree, PlainIsAccepted, AcceptedIsSound};
+
+/// The runs of the pass over a program agree: all come to its end, or all are stopped by the same fault.
+pub fn passes_agree()
+    ensures { PassesAgree }
+{}
+
+/// A plain program has no fault.
+pub fn plain_is_accepted()
+    ensures { PlainIsAccepted }
+{}
+
+/// A program that has no fault is sound: in any context, whichever orders are relayed and whatever the board
+/// answers, it never traps, and is over within as many steps as it has instructions.
+pub fn accepted_is_sound()
+    ensures { AcceptedIsSound }
+{}

@@ -1,9 +1,0 @@
--- One name more.
-use Rattle.std.proofs.Common.{get_or}
-use Rattle.world.proofs.Listed.{names_more, get_at}
-use Rattle.world.proofs.campaign.World.names.Goals as goal
-
-pub loop-general-preserved : goal.loop-general-preserved
-loop-general-preserved c =
-    names_more c.loop-general.self c.name.new.self _ c.args.names.now c.loop-general.general-index (get_or c.args.names.now c.loop-general.general-index 0) c.from.result
-    (get_at c.args.names.now c.loop-general.general-index 0 c.loop-general-test.true) c.from.ensures c.in_ok-name.ensures c.loop-general.invariant

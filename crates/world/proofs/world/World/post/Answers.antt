@@ -1,0 +1,10 @@
+-- A post is the event.
+use Rattle.world.proofs.Holding.{post_held}
+use Rattle.world.proofs.world.World.post.Goals as goal
+
+pub invariant_of-self : goal.invariant_of-self
+invariant_of-self c = (
+  post_held c.self.inside.scenario c.self.inside.closed.items c.self.inside.board c.self.inside.opened c.self.inside.parts.items c.self.inside.full c.args.general
+      c.post.new.parts.items c.self.invariant.0 c.post.ensures,
+  c.self.invariant.1,
+)

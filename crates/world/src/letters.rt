@@ -1,0 +1,189 @@
+//! The letters of a round.
+ghost use Rattle.std.specs.Prelude.{◌≡◌, ◌≢◌, ◌<◌, ◌≤◌, ◌+◌, ℕ, [], suc, List, Some, length, ◌++◌, ◌&&◌, drop, IfOk, slice_get, vec_len, vec_capacity};
+ghost use Rattle.std.specs.List.{list_all};
+ghost use Rattle.board.specs.Board.{Access as Entry};
+ghost use Rattle.round.specs.Activation.{Activation};
+ghost use Rattle.round.specs.Contexts.{loyal_letter};
+ghost use Rattle.round.specs.Running.{letter_left};
+ghost use Rattle.round.specs.Runs.{IsLetter};
+ghost use Rattle.round.specs.Told.{WasTold};
+ghost use Rattle.world.specs.Closing.{AreDraftsOf, Begun, draft_of, drafts_held, letter_from, letters_from};
+ghost use Rattle.world.specs.Part.{Acting, owes_no_letter};
+ghost use Rattle.world.specs.World.{accesses_of};
+
+use crate::draft::{Draft, Transcript};
+use crate::part::Part;
+use board::Access;
+use round::{Letter, Round, Scenario, Told, loyal_letter};
+use std::alloc::{AllocError, Global};
+use std::mem::replace;
+
+/// The drafts of all generals' letters, as they stand: all that the round's list takes memory for.
+pub(crate) fn drafts(
+    alloc: Global,
+    told: &Told,
+    scenario: &Scenario,
+    closed: &[Round],
+    accesses: &[Access],
+    parts: &[Part],
+) -> Result<Vec<Draft>, AllocError>
+    requires told { WasTold scenario.now closed.now told.now }
+    requires left { length closed.now ≤ scenario.now.bound }
+    ensures { IfOk result (λ drafts. drafts.items ≡ drafts_held scenario.now closed.now accesses.now parts.now) }
+{
+    let mut drafts = Vec::with_capacity(alloc, usize::from(scenario.generals()))?;
+    for general in 0..scenario.generals() {
+        drafts.push(draft(alloc, told, scenario, closed, accesses, parts, general)?)?;
+    }
+    Ok(drafts)
+}
+
+/// The draft of one general's letter.
+fn draft(
+    alloc: Global,
+    told: &Told,
+    scenario: &Scenario,
+    closed: &[Round],
+    accesses: &[Access],
+    parts: &[Part],
+    general: u8,
+) -> Result<Draft, AllocError>
+    requires told { WasTold scenario.now closed.now told.now }
+    requires left { length closed.now ≤ scenario.now.bound }
+    requires inside { general < scenario.now.generals }
+    ensures { IfOk result (λ draft. draft ≡ draft_of scenario.now closed.now accesses.now general (slice_get parts.now general)) }
+{
+    match parts.get(usize::from(general)) {
+        Some(Part::Acting(_)) => Ok(Draft::Begun(transcript(alloc, accesses, u32::from(general))?)),
+        Some(Part::Posted) => Ok(Draft::Whole(loyal(alloc, told, scenario, closed, general)?)),
+        Some(Part::Silent) => Ok(Draft::Missing),
+        None => Ok(Draft::Missing),
+    }
+}
+
+/// A loyal general's letter.
+fn loyal(
+    alloc: Global,
+    told: &Told,
+    scenario: &Scenario,
+    closed: &[Round],
+    general: u8,
+) -> Result<Letter, AllocError>
+    requires told { WasTold scenario.now closed.now told.now }
+    requires left { length closed.now ≤ scenario.now.bound }
+    requires inside { general < scenario.now.generals }
+    ensures { IfOk result (λ letter. letter ≡ loyal_letter scenario.now closed.now general) }
+{
+    scenario.recall();
+    let round = closed.len() as u32 + 1;
+    let context = told.context(alloc, scenario, general)?;
+    loyal_letter(alloc, u32::from(general), round, context)
+}
+
+/// One general's accesses.
+fn transcript(alloc: Global, accesses: &[Access], general: u32) -> Result<Transcript, AllocError>
+    ensures { IfOk result (λ own. own ≡ accesses_of general accesses.now) }
+{
+    let mut own = Vec::new(alloc);
+    for access in accesses {
+        if access.general == general {
+            own.push(access.copy(alloc)?)?;
+        }
+    }
+    Ok(Transcript { accesses: own })
+}
+
+/// The letters of so many generals, in a list that has room for them: their drafts, and what the traitors' activations
+/// have. The activations are gone from the parts. It takes no memory.
+pub(crate) fn letters(
+    mut list: Vec<Letter>,
+    mut drafts: Vec<Draft>,
+    parts: &mut Vec<Part>,
+    generals: u8,
+    round: u32,
+) -> Vec<Letter>
+    requires empty { list.items ≡ [] }
+    requires room { generals ≤ vec_capacity list }
+    requires count { length drafts.items ≡ generals }
+    requires runs { AreDraftsOf round drafts.items parts.old.items }
+    ensures { result.items ≡ letters_from generals round drafts.items parts.old.items }
+{
+    for general in 0..generals {
+        write(&mut list, &mut drafts, parts, general, round);
+    }
+    list
+}
+
+/// One general's letter, where there is one.
+fn write(
+    list: &mut Vec<Letter>,
+    drafts: &mut Vec<Draft>,
+    parts: &mut Vec<Part>,
+    general: u8,
+    round: u32,
+)
+    requires room { vec_len list.old < vec_capacity list.old }
+    requires there { general < length drafts.old.items }
+    requires run { (transcript : List Entry) (a : Activation) → slice_get drafts.old.items general ≡ Some (Begun transcript)
+        → slice_get parts.old.items general ≡ Some (Acting a) → IsLetter (letter_left general round transcript a) }
+    ensures list { list.new.items ≡ list.old.items ++ letter_from general round (slice_get drafts.old.items general) (slice_get parts.old.items general) }
+    ensures few { vec_len list.new ≤ vec_len list.old + 1 }
+    ensures room { vec_capacity list.new ≡ vec_capacity list.old }
+    ensures count { length drafts.new.items ≡ length drafts.old.items }
+    ensures drafts { (j : ℕ) → j ≢ general → slice_get drafts.new.items j ≡ slice_get drafts.old.items j }
+    ensures parts { (j : ℕ) → j ≢ general → slice_get parts.new.items j ≡ slice_get parts.old.items j }
+{
+    let place = usize::from(general);
+    match replace(&mut drafts[place], Draft::Missing) {
+        Draft::Begun(transcript) => {
+            if place < parts.len() {
+                leave(
+                    list,
+                    &mut parts[place],
+                    transcript,
+                    u32::from(general),
+                    round,
+                );
+            }
+        }
+        Draft::Whole(letter) => list.push_reserved(letter),
+        Draft::Missing => {}
+    }
+}
+
+/// A traitor's letter is what his activation leaves.
+fn leave(list: &mut Vec<Letter>, part: &mut Part, transcript: Transcript, general: u32, round: u32)
+    requires room { vec_len list.old < vec_capacity list.old }
+    requires run { (a : Activation) → part.old ≡ Acting a → IsLetter (letter_left general round transcript a) }
+    ensures list { list.new.items ≡ list.old.items ++ letter_from general round (Some (Begun transcript)) (Some part.old) }
+    ensures few { vec_len list.new ≤ vec_len list.old + 1 }
+    ensures room { vec_capacity list.new ≡ vec_capacity list.old }
+{
+    if let Part::Acting(running) = replace(part, Part::Silent) {
+        list.push_reserved(running.into_letter(general, round, transcript.accesses));
+    }
+}
+
+/// The accesses from one on.
+pub(crate) fn since(ledger: &[Access], opened: usize) -> &[Access]
+    ensures { result.now ≡ drop opened ledger.now }
+{
+    if opened > ledger.len() {
+        return &ledger[ledger.len()..];
+    }
+    &ledger[opened..]
+}
+
+/// Whether it was full before and every loyal general has posted.
+pub(crate) fn is_full(full: bool, parts: &[Part]) -> bool
+    ensures { result ≡ (full && list_all owes_no_letter parts.now) }
+{
+    full && all_posted(parts)
+}
+
+/// Whether every loyal general has posted.
+fn all_posted(parts: &[Part]) -> bool
+    ensures { result ≡ list_all owes_no_letter parts.now }
+{
+    parts.iter().all(|part| part.owes_no_letter())
+}
