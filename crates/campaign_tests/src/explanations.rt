@@ -13,10 +13,7 @@ const EXPLAINED: &[(&str, &str)] = &[
         "\n0 ldd r2, [r1+32] ; r1 context 0\n1 and r2, 7 ; r2 any number\n2 mov r3, r10 ; r10 stack 0\n3 add r3, -8 ; r3 stack 0\n4 add r3, r2 ; r3 stack -8 ; r2 0 to 7\n5 stb [r3+0], 1 ; r3 stack -8 to -1\n6 mov r0, 0\n7 exit ; r0 0",
     ),
     // a negative number
-    (
-        "mov r0, -4\nexit\n",
-        "\n0 mov r0, -4\n1 exit ; r0 -4",
-    ),
+    ("mov r0, -4\nexit\n", "\n0 mov r0, -4\n1 exit ; r0 -4"),
     // single bits
     (
         "ldd r0, [r1+32]\nand r0, 8\nxor r0, 8\nexit\n",

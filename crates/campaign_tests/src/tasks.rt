@@ -93,12 +93,20 @@ fn subcommand(task: &Task) -> &'static str {
             notation: Notation::Bytecode,
             explained,
             ..
-        } => if *explained { "check --explain" } else { "check" },
+        } => if *explained {
+            "check --explain"
+        } else {
+            "check"
+        },
         Task::Check {
             notation: Notation::Assembly,
             explained,
             ..
-        } => if *explained { "check --asm --explain" } else { "check --asm" },
+        } => if *explained {
+            "check --asm --explain"
+        } else {
+            "check --asm"
+        },
         Task::Assemble {
             spelling: Spelling::Hex,
             ..

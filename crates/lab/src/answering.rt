@@ -9,8 +9,8 @@ use crate::assembling::{assembled, assembled_raw, disassembled, disassembled_uni
 use crate::checking::{accepted, accepted_text, checked_text, run};
 use crate::deciding::{decided, explained};
 use crate::explaining::with_explanation;
-use crate::forming::formed;
 use crate::first_answer::FirstAnswer;
+use crate::forming::formed;
 use crate::playing::campaign;
 use crate::refusal::Refusal;
 use crate::texts::as_text;

@@ -53,7 +53,14 @@ pub(crate) fn deliver_to_all(letters: &[Letter], generals: u8, commander: u8, tr
     let front = Front::of(commander);
     let nobody = Row::of_nobody();
     descend(
-        letters, &nobody, &indices, &tree_indices, size, generals, trees, &front,
+        letters,
+        &nobody,
+        &indices,
+        &tree_indices,
+        size,
+        generals,
+        trees,
+        &front,
     );
 }
 
@@ -92,7 +99,14 @@ fn descend<'a>(
 {
     if front.size + 1 == size {
         fill_all_children(
-            letters, nobody, indices, tree_indices, size, generals, trees, front,
+            letters,
+            nobody,
+            indices,
+            tree_indices,
+            size,
+            generals,
+            trees,
+            front,
         );
         return;
     }
@@ -101,7 +115,14 @@ fn descend<'a>(
         if !front.on[usize::from(general)] {
             let longer = front.with(generals, general, below);
             descend(
-                letters, nobody, indices, tree_indices, size, generals, trees, &longer,
+                letters,
+                nobody,
+                indices,
+                tree_indices,
+                size,
+                generals,
+                trees,
+                &longer,
             );
             below += 1;
         }

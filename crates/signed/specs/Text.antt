@@ -40,7 +40,7 @@ abbrev pub head_lines : Campaign → List Line
 head_lines s =
     (codes "chronicle" ∷ codes "3" ∷ [])
     ∷ (codes "signed" ∷ codes "generals" ∷ decimal s.generals ∷ codes "bound" ∷ decimal s.bound
-      ∷ codes "commander" ∷ decimal s.commander ∷ codes "order" ∷ decimal s.order ∷ codes "patience" ∷ place s.patience ∷ [])
+    ∷ codes "commander" ∷ decimal s.commander ∷ codes "order" ∷ decimal s.order ∷ codes "patience" ∷ place s.patience ∷ [])
     ∷ []
 
 unfoldable pub signed_lines : (ℕ → List Line) → Chronicle → List Line

@@ -18,7 +18,7 @@ mod structure;
 mod verified;
 mod verifier;
 
-pub use error::{VerifyError, Refused};
+pub use error::{Refused, VerifyError};
 pub use known::{Survey, known_at_units};
 pub use laws::{accepted_is_sound, passes_agree, plain_is_accepted};
 pub use reason::Reason;

@@ -53,7 +53,10 @@ pub fn empty(alloc: Global, units: usize) -> Result<Pending, AllocError>
     for _unit in 0..units {
         states.push(None)?;
     }
-    Ok(Pending { states, spare: None })
+    Ok(Pending {
+        states,
+        spare: None,
+    })
 }
 
 /// Takes out what is kept for a unit.

@@ -6,7 +6,7 @@ ghost use Rattle.verify.specs.Judgement.{judged};
 ghost use Rattle.verify.specs.Passes.{IsFirstFault, ComesThrough};
 ghost use Rattle.verify.specs.Safe.{StartsSafe};
 
-use crate::error::{VerifyError, Refused};
+use crate::error::{Refused, VerifyError};
 use crate::pass::pass;
 use crate::structure::find_fault;
 use crate::verified::Verified;
