@@ -763,7 +763,7 @@ fn decisions_are_explained(rt: HostRuntime) -> Result<(), Fail> {
     for &(named, lines) in EXPLAINED_TABLES {
         let mut traitors = Vec::new(alloc);
         traitors.extend_from_slice(named)?;
-        let task = Task::Explain {
+        let task = Task::ExplainDecisions {
             table: String::from_str(alloc, "t.table")?,
             traitors,
         };

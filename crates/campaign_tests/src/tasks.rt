@@ -118,7 +118,7 @@ fn subcommand(task: &Task) -> &'static str {
         Task::Disassemble(_) => "dis",
         Task::DisassembleUnits(_) => "dis --units",
         Task::Book(_) => "book",
-        Task::Explain { .. } => "book --explain",
+        Task::ExplainDecisions { .. } => "book --explain",
         Task::Form { .. } => "table",
         Task::Play { .. } => "play",
         Task::Muster(_) => "muster",
@@ -169,7 +169,7 @@ const NAMED: &[(&[&str], &[u8])] = &[
 fn traitors_are_named(rt: HostRuntime) -> Result<(), Fail> {
     for &(words, expected) in NAMED {
         let task = task(rt.alloc(), words)?;
-        let Task::Explain { traitors, .. } = &task else {
+        let Task::ExplainDecisions { traitors, .. } = &task else {
             return Err("no explanation")?;
         };
         assert_eq!(rt; traitors.as_slice(), expected);

@@ -10,7 +10,7 @@ use Rattle.command_line.specs.Lab.{lab_app, task_met}
 use Rattle.command_line.specs.Told.{IfRefused, IfTraitors, IsRefusedWord, Says, Told, named}
 use Rattle.command_line.specs.Generals.{generals_in}
 use Rattle.command_line.specs.declared.tasks.Task.{Task}
-use Rattle.command_line.specs.declared.tasks.Task.TheVariants.{Check, Assemble, Disassemble, DisassembleUnits, Book, Explain, Form, Play, Muster, Audit}
+use Rattle.command_line.specs.declared.tasks.Task.TheVariants.{Check, Assemble, Disassemble, DisassembleUnits, Book, ExplainDecisions, Form, Play, Muster, Audit}
 use Rattle.command_line.specs.declared.tasks.TaskError.{TaskError}
 use Rattle.command_line.specs.declared.tasks.TaskError.TheVariants.{Words, Traitors, Memory}
 use Rattle.command_line.proofs.AgreeLemmas.{Agrees}
@@ -79,7 +79,7 @@ names_well told (Assemble file spelling target) says = rw says refl
 names_well told (Disassemble file) says = rw says refl
 names_well told (DisassembleUnits file) says = rw says refl
 names_well told (Book file) says = rw says refl
-names_well told (Explain file traitors) says = by_value told.value told.switched says.1 (ap (λ (t : Told). t.name) says.0)
+names_well told (ExplainDecisions file traitors) says = by_value told.value told.switched says.1 (ap (λ (t : Told). t.name) says.0)
   where
     by_value : (value : Option Text) (switched : Bool) → named switched value ≡ Some traitors.items → told.name ≡ codes "book"
         → not (is_named (codes "book") told.name) || option_map_or (λ word. is_some (generals_in word)) value true ≡ true

@@ -8,7 +8,7 @@ use Rattle.command_line.specs.declared.tasks.Notation.TheVariants.{Bytecode, Ass
 use Rattle.command_line.specs.declared.tasks.Spelling.{Spelling}
 use Rattle.command_line.specs.declared.tasks.Spelling.TheVariants.{Hex, Raw}
 use Rattle.command_line.specs.declared.tasks.Task.{Task}
-use Rattle.command_line.specs.declared.tasks.Task.TheVariants.{Check, Assemble, Disassemble, DisassembleUnits, Book, Explain, Form, Play, Muster, Audit}
+use Rattle.command_line.specs.declared.tasks.Task.TheVariants.{Check, Assemble, Disassemble, DisassembleUnits, Book, ExplainDecisions, Form, Play, Muster, Audit}
 use Rattle.command_line.specs.declared.tasks.TaskError.{TaskError}
 use Rattle.command_line.specs.declared.tasks.TaskError.TheVariants.{Words, Traitors, Memory}
 
@@ -82,7 +82,7 @@ Says told (Assemble file spelling target) =
 Says told (Disassemble file) = told ≡ one_file (codes "dis") (string_bytes file)
 Says told (DisassembleUnits file) = told ≡ one_file_with (codes "dis") true None (string_bytes file)
 Says told (Book file) = told ≡ one_file (codes "book") (string_bytes file)
-Says told (Explain file traitors) = IsExplained told (string_bytes file) traitors.items
+Says told (ExplainDecisions file traitors) = IsExplained told (string_bytes file) traitors.items
 Says told (Form n m c) = told ≡ formed (string_bytes n) (string_bytes m) (string_bytes c)
 Says told (Play scenario schedule) =
     told ≡ played (option_map string_bytes schedule) (string_bytes scenario)
@@ -96,7 +96,7 @@ file_of (Assemble file spelling target) = Some (string_bytes file)
 file_of (Disassemble file) = Some (string_bytes file)
 file_of (DisassembleUnits file) = Some (string_bytes file)
 file_of (Book file) = Some (string_bytes file)
-file_of (Explain file traitors) = Some (string_bytes file)
+file_of (ExplainDecisions file traitors) = Some (string_bytes file)
 file_of (Form n m c) = None
 file_of (Play scenario schedule) = Some (string_bytes scenario)
 file_of (Muster scenario) = Some (string_bytes scenario)

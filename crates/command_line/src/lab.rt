@@ -62,7 +62,7 @@ fn check_command<'a>(alloc: Global) -> Result<Command<'a>, AllocError>
     let asm = switch_argument(alloc, "asm", "FILE is assembly text");
     let explain = second_switch_argument(alloc, "explain", EXPLAIN);
     Command::new(alloc, "check")
-        .about("Verifies raw bytecode and runs it")
+        .about("Verifies a program and runs it")
         .arg(file)?
         .arg(asm)?
         .arg(explain)?

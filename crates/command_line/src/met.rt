@@ -105,13 +105,13 @@ impl<'a> Met<'a> {
             if !self.switched {
                 return Ok(Task::Book(table));
             }
-            return Ok(Task::Explain {
+            return Ok(Task::ExplainDecisions {
                 table,
                 traitors: Vec::new(alloc),
             });
         };
         match generals(alloc, word) {
-            Ok(traitors) => Ok(Task::Explain { table, traitors }),
+            Ok(traitors) => Ok(Task::ExplainDecisions { table, traitors }),
             Err(GeneralsError::NoGeneral) => {
                 Err(TaskError::Traitors(String::from_str(alloc, word)?))
             }

@@ -24,7 +24,7 @@ pub enum Task {
     /// Compute the decisions of a message table.
     Book(String),
     /// Tell how they come about, where these generals are named as traitors.
-    Explain {
+    ExplainDecisions {
         table: String,
         traitors: Vec<u8>,
     },
@@ -80,7 +80,7 @@ impl Task {
             | Task::Disassemble(file)
             | Task::DisassembleUnits(file)
             | Task::Book(file)
-            | Task::Explain { table: file, .. }
+            | Task::ExplainDecisions { table: file, .. }
             | Task::Play { scenario: file, .. }
             | Task::Muster(file)
             | Task::Audit { scenario: file, .. } => Some(file.as_str()),

@@ -36,7 +36,7 @@ use Rattle.explain.specs.declared.reach.Reach.{Reach}
 use Rattle.explain.specs.declared.sentence.Sentence.TheVariants as sentence
 use Rattle.explain.specs.declared.sentence.Access.TheVariants as access
 use Rattle.explain.specs.Shortfalls.{first_empty, empty_in, empty_cell, reach_of, shortfall, touched}
-use Rattle.explain.specs.Explained.{Survey, known_before, known_by, line_if, lines_by, refused_at, refused_line, sentence_line, sentence_of, unit_lines, explained}
+use Rattle.explain.specs.Explained.{KnownByUnit, known_before, known_by, line_if, lines_by, refused_at, refused_line, sentence_line, sentence_of, known_lines, explained}
 
 -- ---- a stack that is told cell by cell has the same first empty cell
 
@@ -139,10 +139,10 @@ known_by_told None = refl
 known_by_told (Some known) = refl
 
 -- two surveys say the same of each unit below the end
-abbrev Agree : Survey → Survey → ℕ → Type 0
+abbrev Agree : KnownByUnit → KnownByUnit → ℕ → Type 0
 Agree survey other end = (unit : ℕ) → unit < end → told_there (survey unit) ≡ other unit
 
-units_same : (survey other : Survey) (end unit : ℕ) (is : List Insn) → unit + length (slots_of is) ≤ end → Agree survey other end → unit_lines survey unit is ≡ unit_lines other unit is
+units_same : (survey other : KnownByUnit) (end unit : ℕ) (is : List Insn) → unit + length (slots_of is) ≤ end → Agree survey other end → known_lines survey unit is ≡ known_lines other unit is
 units_same survey other end unit [] fits agree = refl
 units_same survey other end unit (i ∷ is) fits agree =
     let more = length-slots_of-cons i is in
@@ -225,7 +225,7 @@ module _ (program : List Insn) (states : List (Option AbsState)) (none : structu
   fault_is (Some fault) last =
       sym (stopped_judged program fault none (last.unit, last.reason, record { pending = last.pending; comes = last.comes; stops = last.stops }, last.told))
 
-refused_agrees : (program : List Insn) (survey other : Survey) (fault : Option VerifyError) → Agree survey other (length (slots_of program)) → refused_line survey program fault ≡ refused_line other program fault
+refused_agrees : (program : List Insn) (survey other : KnownByUnit) (fault : Option VerifyError) → Agree survey other (length (slots_of program)) → refused_line survey program fault ≡ refused_line other program fault
 refused_agrees program survey other None agree = refl
 refused_agrees program survey other (Some Memory) agree = refl
 refused_agrees program survey other (Some (At r unit)) agree = by_insn (instruction_at program unit) refl
@@ -261,10 +261,10 @@ survey_explained program states fault survey = by_structure (structural_fault pr
 
 -- a text that grows by the lines of the survey, from nothing
 pub told_whole : (program insns : List Insn) (states shown : List (Option AbsState)) (fault : Option VerifyError) (start middle last : List ℕ) → IsSurvey program states fault
-    → insns ≡ program → shown ≡ states → start ≡ [] → middle ≡ start ++ unit_lines (slice_get shown) 0 insns → last ≡ middle ++ refused_line (slice_get shown) program fault
+    → insns ≡ program → shown ≡ states → start ≡ [] → middle ≡ start ++ known_lines (slice_get shown) 0 insns → last ≡ middle ++ refused_line (slice_get shown) program fault
     → last ≡ explained program
 told_whole program insns states shown fault start middle last survey own same empty first second =
     second
     ∙ (ap (λ (text : List ℕ). text ++ refused_line (slice_get shown) program fault)
-    (first ∙ ap₂ (λ (before : List ℕ) (is : List Insn). before ++ unit_lines (slice_get shown) 0 is) empty own)
+    (first ∙ ap₂ (λ (before : List ℕ) (is : List Insn). before ++ known_lines (slice_get shown) 0 is) empty own)
     ∙ (ap (λ (s : List (Option AbsState)). lines_by (slice_get s) program fault) same ∙ survey_explained program states fault survey))

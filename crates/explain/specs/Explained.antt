@@ -51,13 +51,13 @@ line_if unit i None = []
 line_if unit i (Some known) = unit_line unit i known
 
 -- what is known at a unit, where the verifier comes there: nothing, where no path leads to it
-abbrev pub Survey : Type 0
-Survey = ℕ → Option (Option AbsState)
+abbrev pub KnownByUnit : Type 0
+KnownByUnit = ℕ → Option (Option AbsState)
 
 -- the lines of the instructions from a unit on
-abbrev pub unit_lines : Survey → ℕ → List Insn → List ℕ
-unit_lines survey unit [] = []
-unit_lines survey unit (i ∷ is) = line_if unit i (survey unit) ++ unit_lines survey (unit + units_of i) is
+abbrev pub known_lines : KnownByUnit → ℕ → List Insn → List ℕ
+known_lines survey unit [] = []
+known_lines survey unit (i ∷ is) = line_if unit i (survey unit) ++ known_lines survey (unit + units_of i) is
 
 -- ---- why it is refused
 
@@ -89,18 +89,18 @@ abbrev pub known_by : Option (Option AbsState) → Option AbsState
 known_by None = None
 known_by (Some known) = known
 
-abbrev pub refused_line : Survey → List Insn → Option VerifyError → List ℕ
+abbrev pub refused_line : KnownByUnit → List Insn → Option VerifyError → List ℕ
 refused_line survey program (Some (At r unit)) = refused_at (length (slots_of program)) (known_by (survey unit)) r unit (instruction_at program unit)
 refused_line survey program _ = []
 
 -- the lines of the units, and that of the refusal
-abbrev pub lines_by : Survey → List Insn → Option VerifyError → List ℕ
-lines_by survey program fault = unit_lines survey 0 program ++ refused_line survey program fault
+abbrev pub lines_by : KnownByUnit → List Insn → Option VerifyError → List ℕ
+lines_by survey program fault = known_lines survey 0 program ++ refused_line survey program fault
 
 -- ---- of a program
 
 -- what the verifier knows as it comes to a unit: it comes to none where there is a fault of structure, and to none behind an instruction that it refuses
-abbrev pub known_before : List Insn → Survey
+abbrev pub known_before : List Insn → KnownByUnit
 known_before program unit = if is_none (structural_fault program) then option_map (λ reached. reached_at reached unit) (result_ok (passed_to program unit)) else None
 
 abbrev pub explained : List Insn → List ℕ

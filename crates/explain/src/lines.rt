@@ -1,7 +1,7 @@
 //! The explanation of a program.
 ghost use Rattle.std.specs.Prelude.{◌≡◌, ◌≤◌, ◌<◌, ◌++◌, length, option_map, slice_get, string_bytes, IfOk, OnOk};
 ghost use Rattle.insn.specs.Program.{slots_of};
-ghost use Rattle.explain.specs.Explained.{read_text, reads_text, known_text, place_text, unit_line, line_if, unit_lines, target_of, sentence_of, sentence_line, known_by, refused_line, explained};
+ghost use Rattle.explain.specs.Explained.{read_text, reads_text, known_text, place_text, unit_line, line_if, known_lines, target_of, sentence_of, sentence_line, known_by, refused_line, explained};
 
 use crate::reach::abstract_at;
 use crate::reads::{Registers, read_by};
@@ -93,7 +93,7 @@ fn put_units(
     states: &[Option<AbsState>],
 ) -> Result<(), AllocError>
     requires { length (slots_of insns.now) ≤ 4096 }
-    ensures { OnOk result (string_bytes out.new ≡ string_bytes out.old ++ unit_lines (slice_get states.now) 0 insns.now) }
+    ensures { OnOk result (string_bytes out.new ≡ string_bytes out.old ++ known_lines (slice_get states.now) 0 insns.now) }
 {
     let mut unit = 0;
     for insn in insns {

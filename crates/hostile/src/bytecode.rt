@@ -2,6 +2,7 @@
 use crate::changes::stepped;
 use anyhow::{Result, bail};
 use codec::{CodecError, decode, encode};
+use command_line::Notation;
 use lab::{Refusal, check};
 use std::alloc::{AllocError, Global};
 
@@ -44,8 +45,8 @@ pub fn is_answered(alloc: Global, bytes: &[u8]) -> Result<bool> {
         Err(CodecError::Memory) => bail!("out of memory"),
         Err(_) => return Ok(true),
     }
-    match check(alloc, bytes) {
-        Ok(checked) => Ok(checked.steps as usize <= checked.instructions),
+    match check(alloc, Notation::Bytecode, bytes) {
+        Ok((_, checked)) => Ok(checked.steps as usize <= checked.instructions),
         Err(Refusal::Verifier(_)) => Ok(true),
         Err(_) => Ok(false),
     }

@@ -5,7 +5,7 @@ use Rattle.std.specs.Prelude.{true, false, is_some, Option, None, Some, Ok, opti
 use Rattle.insn.specs.declared.insn.Insn.{Insn}
 use Rattle.command_line.specs.Told.{file_of, second_of}
 use Rattle.command_line.specs.declared.tasks.Task.{Task}
-use Rattle.command_line.specs.declared.tasks.Task.TheVariants.{Check, Assemble, Disassemble, DisassembleUnits, Book, Explain, Form, Play, Muster, Audit}
+use Rattle.command_line.specs.declared.tasks.Task.TheVariants.{Check, Assemble, Disassemble, DisassembleUnits, Book, ExplainDecisions, Form, Play, Muster, Audit}
 use Rattle.round.specs.Scenario.{Scenario}
 use Rattle.world.specs.declared.schedule.Repeat.{Repeat}
 use Rattle.trace.specs.Schedules.{schedule_told}
@@ -50,7 +50,7 @@ answered_played (Assemble file spelling target) files first text s are comes by 
 answered_played (Disassemble file) files first text s are comes by = absurd comes
 answered_played (DisassembleUnits file) files first text s are comes by = absurd comes
 answered_played (Book file) files first text s are comes by = absurd comes
-answered_played (Explain file traitors) files first text s are comes by = absurd comes
+answered_played (ExplainDecisions file traitors) files first text s are comes by = absurd comes
 answered_played (Form n m c) files first text s are comes by = absurd comes
 answered_played (Play scenario listing) files first text s are comes (schedule, told, played) =
     (first, are, (told.0, told.1, (s, comes, (schedule, told.2, played))))
@@ -66,7 +66,7 @@ answered_mustered (Assemble file spelling target) files first text s are comes m
 answered_mustered (Disassemble file) files first text s are comes mustered = absurd comes
 answered_mustered (DisassembleUnits file) files first text s are comes mustered = absurd comes
 answered_mustered (Book file) files first text s are comes mustered = absurd comes
-answered_mustered (Explain file traitors) files first text s are comes mustered = absurd comes
+answered_mustered (ExplainDecisions file traitors) files first text s are comes mustered = absurd comes
 answered_mustered (Form n m c) files first text s are comes mustered = absurd comes
 answered_mustered (Play scenario listing) files first text s are comes mustered = absurd comes
 answered_mustered (Muster scenario) files first text s are comes mustered =
@@ -82,7 +82,7 @@ answered_audited (Assemble file spelling target) files first text s are comes au
 answered_audited (Disassemble file) files first text s are comes audit = absurd comes
 answered_audited (DisassembleUnits file) files first text s are comes audit = absurd comes
 answered_audited (Book file) files first text s are comes audit = absurd comes
-answered_audited (Explain file traitors) files first text s are comes audit = absurd comes
+answered_audited (ExplainDecisions file traitors) files first text s are comes audit = absurd comes
 answered_audited (Form n m c) files first text s are comes audit = absurd comes
 answered_audited (Play scenario listing) files first text s are comes audit = absurd comes
 answered_audited (Muster scenario) files first text s are comes audit = absurd comes
@@ -104,7 +104,7 @@ answered_tried (Assemble file spelling target) files first text program are come
 answered_tried (Disassemble file) files first text program are comes tried = absurd comes
 answered_tried (DisassembleUnits file) files first text program are comes tried = absurd comes
 answered_tried (Book file) files first text program are comes tried = absurd comes
-answered_tried (Explain file traitors) files first text program are comes tried = absurd comes
+answered_tried (ExplainDecisions file traitors) files first text program are comes tried = absurd comes
 answered_tried (Form n m c) files first text program are comes tried = absurd comes
 answered_tried (Play scenario listing) files first text program are comes tried = absurd comes
 answered_tried (Muster scenario) files first text program are comes tried = absurd comes

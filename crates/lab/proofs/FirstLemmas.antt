@@ -111,7 +111,7 @@ checks_in (task.Assemble file spelling target) notation bytes refusal is refuses
 checks_in (task.Disassemble file) notation bytes refusal is refuses = absurd cc
 checks_in (task.DisassembleUnits file) notation bytes refusal is refuses = absurd cc
 checks_in (task.Book file) notation bytes refusal is refuses = absurd cc
-checks_in (task.Explain file traitors) notation bytes refusal is refuses = absurd cc
+checks_in (task.ExplainDecisions file traitors) notation bytes refusal is refuses = absurd cc
 checks_in (task.Form n m c) notation bytes refusal is refuses = absurd cc
 checks_in (task.Play scenario schedule) notation bytes refusal is refuses = absurd cc
 checks_in (task.Muster scenario) notation bytes refusal is refuses = absurd cc

@@ -17,7 +17,7 @@ use Rattle.book.specs.Table.{MessageTable}
 use Rattle.command_line.specs.declared.tasks.Notation.{Notation}
 use Rattle.command_line.specs.declared.tasks.Spelling.TheVariants.{Hex, Raw}
 use Rattle.command_line.specs.declared.tasks.Task.{Task}
-use Rattle.command_line.specs.declared.tasks.Task.TheVariants.{Check, Assemble, Disassemble, DisassembleUnits, Book, Explain, Form, Play, Muster, Audit}
+use Rattle.command_line.specs.declared.tasks.Task.TheVariants.{Check, Assemble, Disassemble, DisassembleUnits, Book, ExplainDecisions, Form, Play, Muster, Audit}
 use Rattle.scenario.specs.Told.{Tells}
 use Rattle.verify.specs.Judgement.{judged}
 use Rattle.trial.specs.Setting.{Setting, bench, context_in}
@@ -41,14 +41,6 @@ pub record IsRun (program : List Insn) (checked : Checked) : Type 0 where
   pub ended : trial program (context_in bench) (oral bench.shape) ≡ Some ending
   pub r0 : checked.r0 ≡ ending.r0
   pub steps : checked.steps ≡ ending.state.steps
-
--- the bytes spell a program, and this is its run
-abbrev pub Checks : List ℕ → Checked → Type 0
-Checks bytes checked = (program : List Insn) × SpellsProgram bytes program × IsRun program checked
-
--- the text says a program, and this is its run
-abbrev pub ChecksText : List ℕ → Checked → Type 0
-ChecksText text checked = (program : List Insn) × (program_of text ≡ Some program) × IsRun program checked
 
 -- the file has a program in its notation, and these are the lines of its run, and behind them its explanation, if it is asked for
 abbrev pub IsChecked : Notation → Bool → List ℕ → List ℕ → Type 0
@@ -112,7 +104,7 @@ Prints (Assemble file Raw target) first second text = AssemblesRaw first text
 Prints (Disassemble file) first second text = Disassembles first text
 Prints (DisassembleUnits file) first second text = DisassemblesUnits first text
 Prints (Book file) first second text = Decides first text
-Prints (Explain file traitors) first second text = ExplainsTable first traitors.items text
+Prints (ExplainDecisions file traitors) first second text = ExplainsTable first traitors.items text
 Prints (Form n m c) first second text = IsFormOf (string_bytes n) (string_bytes m) (string_bytes c) text
 Prints (Play scenario schedule) first second text = Plays first second text
 Prints (Muster scenario) first second text = Musters first text

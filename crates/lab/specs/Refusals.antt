@@ -32,7 +32,7 @@ use Rattle.verify.specs.Judgement.{judged}
 use Rattle.command_line.specs.declared.tasks.Notation.{Notation}
 use Rattle.command_line.specs.declared.tasks.Notation.TheVariants as notation
 use Rattle.command_line.specs.declared.tasks.Task.{Task}
-use Rattle.command_line.specs.declared.tasks.Task.TheVariants.{Check, Assemble, Disassemble, DisassembleUnits, Book, Explain, Form, Play, Muster, Audit}
+use Rattle.command_line.specs.declared.tasks.Task.TheVariants.{Check, Assemble, Disassemble, DisassembleUnits, Book, ExplainDecisions, Form, Play, Muster, Audit}
 use Rattle.lab.specs.Numbers.{numbers_in}
 use Rattle.lab.specs.declared.refusal.Refusal.{Refusal}
 use Rattle.lab.specs.declared.refusal.Refusal.TheVariants.{Codec, Verifier, Assembly, Table, Scenario, Setting, Trace, Threads, NotText, Memory}
@@ -170,7 +170,7 @@ Refuses (Assemble file spelling target) bytes refusal = RefusesText RefusesAssem
 Refuses (Disassemble file) bytes refusal = RefusesDisassembly bytes refusal
 Refuses (DisassembleUnits file) bytes refusal = RefusesDisassembly bytes refusal
 Refuses (Book file) bytes refusal = RefusesText RefusesTable bytes refusal
-Refuses (Explain file traitors) bytes refusal = RefusesText RefusesTable bytes refusal
+Refuses (ExplainDecisions file traitors) bytes refusal = RefusesText RefusesTable bytes refusal
 Refuses (Form n m c) bytes refusal = RefusesForm (string_bytes n) (string_bytes m) (string_bytes c) refusal
 Refuses (Play scenario schedule) bytes refusal = RefusesText RefusesScenario bytes refusal
 Refuses (Muster scenario) bytes refusal = RefusesText RefusesScenario bytes refusal

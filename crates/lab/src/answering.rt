@@ -1,12 +1,9 @@
 ghost use Rattle.std.specs.Prelude.{◌≡◌, IfOk, IfErr, None, string_bytes};
-ghost use Rattle.semantics.specs.Run.{IsSound};
-ghost use Rattle.verify.specs.Judgement.{judged};
 ghost use Rattle.lab.specs.Answers.{ComesTo, IsChecked};
-ghost use Rattle.lab.specs.Hints.{HasProgram};
 ghost use Rattle.lab.specs.Refusals.{Refuses, RefusesCheckIn};
 
 use crate::assembling::{assembled, assembled_raw, disassembled, disassembled_units};
-use crate::checking::{accepted, accepted_text, checked_text, run};
+use crate::checking::{accepted_in, check, checked_text};
 use crate::deciding::{decided, explained};
 use crate::explaining::with_explanation;
 use crate::first_answer::FirstAnswer;
@@ -16,7 +13,6 @@ use crate::refusal::Refusal;
 use crate::texts::as_text;
 use command_line::{Notation, Spelling, Task};
 use std::alloc::Global;
-use verify::Verified;
 
 /// What the task comes to on an only or first file of these bytes.
 ///
@@ -50,7 +46,7 @@ pub fn answer(alloc: Global, task: &Task, bytes: &[u8]) -> Result<FirstAnswer, R
         Task::Disassemble(_) => disassembled(alloc, bytes)?,
         Task::DisassembleUnits(_) => disassembled_units(alloc, bytes)?,
         Task::Book(_) => decided(alloc, as_text(bytes)?)?,
-        Task::Explain { traitors, .. } => {
+        Task::ExplainDecisions { traitors, .. } => {
             explained(alloc, as_text(bytes)?, traitors.as_slice())?
         }
         Task::Form {
@@ -75,19 +71,7 @@ fn checked_in(
     ensures checked { IfOk result (λ text. IsChecked notation explained bytes.now (string_bytes text)) }
     ensures refused { IfErr result (RefusesCheckIn notation bytes.now) }
 {
-    let verified = accepted_in(alloc, notation, bytes)?;
-    let checked = run(alloc, &verified)?;
+    let (verified, checked) = check(alloc, notation, bytes)?;
     let lines = checked_text(alloc, &checked)?;
     Ok(with_explanation(alloc, lines, explained, verified.program())?)
-}
-
-/// The program in this notation that a file has, verified.
-fn accepted_in(alloc: Global, notation: Notation, bytes: &[u8]) -> Result<Verified, Refusal>
-    ensures accepted { IfOk result (λ program. HasProgram notation bytes.now program × (judged program ≡ None) × IsSound program) }
-    ensures refused { IfErr result (RefusesCheckIn notation bytes.now) }
-{
-    match notation {
-        Notation::Bytecode => accepted(alloc, bytes),
-        Notation::Assembly => accepted_text(alloc, as_text(bytes)?),
-    }
 }

@@ -3,13 +3,16 @@ ghost use Rattle.asm.specs.Program.{program_of};
 ghost use Rattle.codec.specs.Program.{SpellsProgram};
 ghost use Rattle.semantics.specs.Run.{IsSound};
 ghost use Rattle.verify.specs.Judgement.{judged};
-ghost use Rattle.lab.specs.Answers.{Checks, ChecksText, IsRun};
+ghost use Rattle.lab.specs.Answers.{IsRun};
+ghost use Rattle.lab.specs.Hints.{HasProgram};
 ghost use Rattle.lab.specs.Lines.{checked_lines};
-ghost use Rattle.lab.specs.Refusals.{RefusesCheck, RefusesCheckAssembly, RefusesRun};
+ghost use Rattle.lab.specs.Refusals.{RefusesCheck, RefusesCheckAssembly, RefusesCheckIn, RefusesRun};
 
 use crate::refusal::Refusal;
+use crate::texts::as_text;
 use asm::assemble;
 use codec::decode;
+use command_line::Notation;
 use insn::Program;
 use std::alloc::{AllocError, Global};
 use trial::{Setting, first_lines, run_in};
@@ -27,30 +30,37 @@ pub struct Checked {
     pub steps: u32,
 }
 
-/// Decodes, verifies and runs a program. The board that it asks is its own, and begins with zeros.
+/// Reads a program in this notation, verifies it and runs it on the bench. The board that it asks is its own, and begins with zeros.
 ///
 /// # Errors
 ///
-/// What the codec or the verifier refuses, or want of memory.
-pub fn check(alloc: Global, bytes: &[u8]) -> Result<Checked, Refusal>
-    ensures checked { IfOk result (Checks bytes.now) }
-    ensures refused { IfErr result (RefusesCheck bytes.now) }
+/// What the codec, the assembler or the verifier refuses, or want of memory.
+pub fn check(
+    alloc: Global,
+    notation: Notation,
+    bytes: &[u8],
+) -> Result<(Verified, Checked), Refusal>
+    ensures checked { IfOk result (λ c. HasProgram notation bytes.now c.0 × IsRun c.0 c.1) }
+    ensures refused { IfErr result (RefusesCheckIn notation bytes.now) }
 {
-    let verified = accepted(alloc, bytes)?;
-    Ok(run(alloc, &verified)?)
+    let verified = accepted_in(alloc, notation, bytes)?;
+    let checked = run(alloc, &verified)?;
+    Ok((verified, checked))
 }
 
-/// Verifies and runs the program that the assembly says, in the same way.
-///
-/// # Errors
-///
-/// What the assembler or the verifier refuses, or want of memory.
-pub fn check_text(alloc: Global, text: &str) -> Result<Checked, Refusal>
-    ensures checked { IfOk result (ChecksText text.now) }
-    ensures refused { IfErr result (RefusesCheckAssembly text.now) }
+/// The program in this notation that a file has, verified.
+pub(crate) fn accepted_in(
+    alloc: Global,
+    notation: Notation,
+    bytes: &[u8],
+) -> Result<Verified, Refusal>
+    ensures accepted { IfOk result (λ program. HasProgram notation bytes.now program × (judged program ≡ None) × IsSound program) }
+    ensures refused { IfErr result (RefusesCheckIn notation bytes.now) }
 {
-    let verified = accepted_text(alloc, text)?;
-    Ok(run(alloc, &verified)?)
+    match notation {
+        Notation::Bytecode => accepted(alloc, bytes),
+        Notation::Assembly => accepted_text(alloc, as_text(bytes)?),
+    }
 }
 
 /// Decodes and verifies a program.
@@ -91,7 +101,7 @@ fn accepted_program(alloc: Global, program: Program) -> Result<Verified, Refusal
 }
 
 /// Runs a program on the bench.
-pub(crate) fn run(alloc: Global, verified: &Verified) -> Result<Checked, AllocError>
+fn run(alloc: Global, verified: &Verified) -> Result<Checked, AllocError>
     requires accepted { judged verified.now ≡ None }
     ensures { IfOk result (IsRun verified.now) }
 {

@@ -27,7 +27,7 @@ mod within;
 pub use answering::answer;
 pub use assembling::{assembled, assembled_raw, disassembled, disassembled_units};
 pub use auditing::audited;
-pub use checking::{Checked, accepted, accepted_text, check, check_text};
+pub use checking::{Checked, accepted, accepted_text, check};
 pub use deciding::{decided, explained};
 pub use first_answer::FirstAnswer;
 pub use forming::formed;

@@ -10,7 +10,7 @@ use Rattle.semantics.proofs.PlacesLaws.{row_from}
 use Rattle.outbox.specs.Contents.{Contents}
 use Rattle.round.specs.Scenario.{Scenario, IsScenario, shape_of}
 use Rattle.round.specs.Letters.{Letter, telling}
-use Rattle.round.specs.Contexts.{AreWords, took, context_numbers, context_of, IsToldTo, shape_told, tells_oral, outbox_told, letter_told, loyal_letter}
+use Rattle.round.specs.Contexts.{AreWords, took, context_numbers, context_of, IsToldTo, shape_told, tells_oral, outbox_told, letter_told, faithful_letter}
 use Rattle.round.specs.Laws.{ContextsTell, LoyalLettersFollow}
 use Rattle.round.proofs.Telling.{number_at, value_is_told}
 
@@ -72,10 +72,10 @@ told_is s before g is within le small =
 
 -- so his letter is the loyal one
 pub letter_is : (s : Scenario) (before : List (List Letter)) (g : ℕ) → IsScenario s → g < s.generals → length before ≤ s.bound → AreWords s before g
-    → letter_told g (suc (length before)) (context_of s before g) ≡ loyal_letter s before g
+    → letter_told g (suc (length before)) (context_of s before g) ≡ faithful_letter s before g
 letter_is s before g is within le small =
-    ap (λ (shape : Shape). record (loyal_letter s before g) { outbox = outbox_told shape (context_of s before g) }) (shape_is_told s before g (suc (length before)) is)
-    ∙ ap (λ (o : Contents). record (loyal_letter s before g) { outbox = o }) (told_is s before g is within le small)
+    ap (λ (shape : Shape). record (faithful_letter s before g) { outbox = outbox_told shape (context_of s before g) }) (shape_is_told s before g (suc (length before)) is)
+    ∙ ap (λ (o : Contents). record (faithful_letter s before g) { outbox = o }) (told_is s before g is within le small)
 
 pub proved_loyal_letters_follow : LoyalLettersFollow
 proved_loyal_letters_follow = record {

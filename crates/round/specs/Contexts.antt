@@ -73,16 +73,16 @@ abbrev pub outbox_told : Shape → List ℕ → Contents
 outbox_told shape context = record { relay = oral shape; rows = map (λ row. map (λ place. Some (taken_value context place.rank)) row) (places (oral shape)); entries = [] }
 
 -- a loyal general's letter, with this outbox: he runs nothing
-abbrev pub loyal_letter_with : ℕ → ℕ → List ℕ → Contents → Letter
-loyal_letter_with g round context outbox =
+abbrev pub faithful_letter_with : ℕ → ℕ → List ℕ → Contents → Letter
+faithful_letter_with g round context outbox =
     record { general = g; round = round; context = context; program = None; transcript = []; steps = 0; outbox = outbox; exited = true }
 
 -- a loyal general's letter, from his context alone
 abbrev pub letter_told : ℕ → ℕ → List ℕ → Letter
-letter_told g round context = loyal_letter_with g round context (outbox_told (shape_told g round context) context)
+letter_told g round context = faithful_letter_with g round context (outbox_told (shape_told g round context) context)
 
 -- a loyal general's letter of the round behind these: he tells each receiver what he took
-abbrev pub loyal_letter : Scenario → List (List Letter) → ℕ → Letter
-loyal_letter s before g =
+abbrev pub faithful_letter : Scenario → List (List Letter) → ℕ → Letter
+faithful_letter s before g =
     let round = suc (length before) in
-    loyal_letter_with g round (context_of s before g) (telling (shape_of s g round) (took s before g))
+    faithful_letter_with g round (context_of s before g) (telling (shape_of s g round) (took s before g))

@@ -12,7 +12,7 @@ use Rattle.outbox.specs.Contents.{Contents, order_at}
 use Rattle.board.specs.Board.{Access}
 use Rattle.round.specs.Scenario.{Scenario, IsScenario, shape_of}
 use Rattle.round.specs.Letters.{Letter, tells}
-use Rattle.round.specs.Contexts.{AreWords, took, context_of, number_told, at_general, at_round, IsToldTo, shape_told, tells_oral, letter_told, loyal_letter}
+use Rattle.round.specs.Contexts.{AreWords, took, context_of, number_told, at_general, at_round, IsToldTo, shape_told, tells_oral, letter_told, faithful_letter}
 use Rattle.round.specs.Activation.{Activation, started, has_ended}
 use Rattle.round.specs.Runs.{Runs, IsWithin, AreFitting, IsLetter}
 
@@ -28,7 +28,7 @@ pub record ContextsTell : Type 0 where
 -- a loyal general's letter follows from his context, where what he took has 32 bits; and what a context tells is a letter of the general and round that it tells, whatever it is
 pub record LoyalLettersFollow : Type 0 where
   pub letter : (s : Scenario) (before : List (List Letter)) (g : ℕ) → IsScenario s → g < s.generals → length before ≤ s.bound → AreWords s before g →
-      letter_told g (suc (length before)) (context_of s before g) ≡ loyal_letter s before g
+      letter_told g (suc (length before)) (context_of s before g) ≡ faithful_letter s before g
   pub kept : (context : List ℕ) → IsContext context → IsLetter (letter_told (number_told context at_general) (number_told context at_round) context)
 
 -- what an outbox tells a receiver of a label that its general relays is the order that was put at the label's rank

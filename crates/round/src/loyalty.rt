@@ -18,8 +18,8 @@ const AT_GENERALS: usize = 0;
 const AT_COMMANDER: usize = 3;
 
 /// A loyal general's letter of a round: he tells each receiver of each label what his context says that he took. The
-/// context is that of this general in this round. The definition of this name tells it of what he took in the rounds
-/// before; that they agree is the law `loyal_letters_follow`.
+/// context is that of this general in this round. The definition `faithful_letter` tells it of what he took in the
+/// rounds before; that they agree is the law `loyal_letters_follow`.
 ///
 /// # Errors
 ///

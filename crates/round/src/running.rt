@@ -93,7 +93,7 @@ impl Running {
         ensures { (before : List (List Written)) → WasTold scenario.now before told.now
             → self.new ≡ started self.old.patience self.old.program (context_of scenario.now before general) self.old.relay }
     {
-        told.write_context(scenario, general, told.rounds(), &mut self.context);
+        told.write_context_after(scenario, general, told.rounds(), &mut self.context);
     }
 
     /// The letter of the activation as it stands, with the accesses that it made. The program, the context and the outbox

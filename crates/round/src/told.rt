@@ -132,12 +132,12 @@ impl Told {
         ensures words { OnOk result ((before : List (List LetterSeen)) → WasTold scenario.now before self.now → AreWords scenario.now (take rounds before) general) }
     {
         let mut bytes = Vec::with_capacity(alloc, 4096)?;
-        self.write_context(scenario, general, rounds, &mut bytes);
+        self.write_context_after(scenario, general, rounds, &mut bytes);
         Ok(bytes)
     }
 
     /// [`Told::context_after`] in place of what the vector held, which has room for it. It takes no memory.
-    pub(crate) fn write_context(
+    pub(crate) fn write_context_after(
         &self,
         scenario: &Scenario,
         general: u8,

@@ -9,7 +9,7 @@ use Rattle.round.specs.Contexts.{tells_oral}
 use Rattle.round.proofs.Loyal.{oral_is_told}
 use Rattle.round.specs.Scenario.{Scenario, IsScenario, program_of, shape_of}
 use Rattle.round.specs.Letters.{Letter}
-use Rattle.round.specs.Contexts.{AreWords, context_of, shape_told, outbox_told, loyal_letter}
+use Rattle.round.specs.Contexts.{AreWords, context_of, shape_told, outbox_told, faithful_letter}
 use Rattle.round.specs.Activation.{started}
 use Rattle.round.specs.Runs.{Runs, IsWithin, IsRunOf, IsLetter}
 use Rattle.round.specs.Told.{AreLettersOf, AreRoundsOf}
@@ -19,7 +19,7 @@ use Rattle.world.specs.Accounted.{IsLetterOf, IsAccountedRound, AreAccounted}
 use Rattle.threads.specs.Holding.{EndedInTime, Stands}
 use Rattle.round.proofs.Patience.{within_none}
 
-loyal_over : (s : Scenario) (before : List (List Letter)) (g : ℕ) → EndedInTime s (loyal_letter s before g)
+loyal_over : (s : Scenario) (before : List (List Letter)) (g : ℕ) → EndedInTime s (faithful_letter s before g)
 loyal_over s before g = record { within = within_none s.patience; over = refl }
 
 -- a letter of a general stands
@@ -56,7 +56,7 @@ module _ (s : Scenario) (before : List (List Letter)) (g : ℕ) (l : Letter) (is
       let kind = kept.kind (subst (λ (c : List ℕ). tells_oral c) (sym told) (oral_is_told s before g is)) in
       (λ i. record { shape = shape i; kind = kind i })
 
-  loyal : AreWords s before g → l.program ≡ None → IsRunOf l None → l ≡ loyal_letter s before g
+  loyal : AreWords s before g → l.program ≡ None → IsRunOf l None → l ≡ faithful_letter s before g
   loyal small none run =
       let outbox : l.outbox ≡ outbox_told (shape_told g (suc (length before)) (context_of s before g)) (context_of s before g) =
       run.2 ∙ (λ i. outbox_told ((kept.shape ∙ (λ j. shape_told (own j) (of_round j) (told j))) i) (told i)) in

@@ -12,7 +12,7 @@ use Rattle.world.specs.declared.event.Event.TheVariants.{Close}
 use Rattle.semantics.specs.Relay.{oral}
 use Rattle.round.specs.Scenario.{Scenario, IsScenario, program_of, shape_of}
 use Rattle.round.specs.Letters.{Letter}
-use Rattle.round.specs.Contexts.{context_of, loyal_letter}
+use Rattle.round.specs.Contexts.{context_of, faithful_letter}
 use Rattle.round.specs.Activation.{Activation, started, is_reached}
 use Rattle.world.specs.Part.{Part, Acting, Silent, Posted, owes_no_letter}
 use Rattle.world.specs.World.{World, each, round_open, begins, begun, accesses_of, letters_at, round_letters, happen, run}
@@ -96,7 +96,7 @@ module _ (s : Scenario) (closed : List (List Letter)) (piece : List Access) (let
       let l = (his x.general lt).0 in
       let both = round.each x.general l (his x.general lt).1 in
       let A : Option (List Insn) → Type 0 = λ o. IsLetterOf s closed x.general o l in
-      let loyal : l ≡ loyal_letter s closed x.general = subst A is both.0 in
+      let loyal : l ≡ faithful_letter s closed x.general = subst A is both.0 in
       let none : accesses_of x.general piece ≡ [] = both.1 ∙ ap (λ (m : Letter). m.transcript) loyal in
       absurd (of_has front rest x (ap (accesses_of x.general) (sym e) ∙ none))
   acts_one front rest x e lt (Some program) is = (started s.patience program (context_of s closed x.general) (oral (shape_of s x.general (suc (length closed)))), refl)
@@ -144,7 +144,7 @@ letter_acting s closed piece ledger w g l a (Some program) is fits sc cl op lett
 
 letter_posted : (s : Scenario) (closed : List (List Letter)) (w : World) (g : ℕ) (l : Letter) (o : Option (List Insn)) → Fits o Posted → w.scenario ≡ s → w.closed ≡ closed → IsLetterOf s closed g o l
     → letters_at w g (Some Posted) ≡ l ∷ []
-letter_posted s closed w g l None fits sc cl letter = (λ i. loyal_letter (sc i) (cl i) g ∷ []) ∙ ap (λ (m : Letter). m ∷ []) (sym letter)
+letter_posted s closed w g l None fits sc cl letter = (λ i. faithful_letter (sc i) (cl i) g ∷ []) ∙ ap (λ (m : Letter). m ∷ []) (sym letter)
 letter_posted s closed w g l (Some program) fits sc cl letter = absurd fits
 
 -- a ripe world at the ends that the letters tell of has these letters

@@ -9,7 +9,7 @@ use Rattle.board.specs.Ledger.{RecordedBoard}
 use Rattle.semantics.specs.Relay.{Relay}
 use Rattle.round.specs.Scenario.{Scenario, IsScenario, shape_of}
 use Rattle.round.specs.Letters.{Letter}
-use Rattle.round.specs.Contexts.{AreWords, IsToldTo, context_of, shape_told, letter_told, loyal_letter}
+use Rattle.round.specs.Contexts.{AreWords, IsToldTo, context_of, shape_told, letter_told, faithful_letter}
 use Rattle.round.specs.Activation.{Activation}
 use Rattle.round.specs.Told.{ToldSeen, WasTold, AreLettersOf}
 use Rattle.round.proofs.Contexts.{shape_is}
@@ -38,7 +38,7 @@ written_round : (s : Scenario) (closed : List (List Letter)) (accesses : List Ac
 written_round s closed accesses g None h = All-nil (IsOfRound s (suc (length closed)))
 written_round s closed accesses g (Some (Acting a)) h = all_one (IsOfRound s (suc (length closed))) _ (refl, ap (λ (r : Relay). r.shape) (h a refl).relay)
 written_round s closed accesses g (Some Silent) h = All-nil (IsOfRound s (suc (length closed)))
-written_round s closed accesses g (Some Posted) h = all_one (IsOfRound s (suc (length closed))) (loyal_letter s closed g) (refl, refl)
+written_round s closed accesses g (Some Posted) h = all_one (IsOfRound s (suc (length closed))) (faithful_letter s closed g) (refl, refl)
 
 -- the letters of a held world's round are of that round
 pub row_told : (s : Scenario) (closed : List (List Letter)) (k : RecordedBoard) (opened : ℕ) (ps : List Part) (full : Bool) (told : ToldSeen) (row : List Letter) → IsScenario s → IsHeld s closed k opened ps full → WasTold s closed told →
@@ -72,11 +72,11 @@ told_own s before g h r bytes is lt le same who when =
 
 -- the letter that follows from it
 pub told_letter : (s : Scenario) (before : List (List Letter)) (g h r : ℕ) (bytes : List ℕ) (l : Letter) → IsScenario s → g < s.generals → length before ≤ s.bound → AreWords s before g → bytes ≡ context_of s before g → h ≡ g →
-    r ≡ suc (length before) → l ≡ letter_told h r bytes → l ≡ loyal_letter s before g
+    r ≡ suc (length before) → l ≡ letter_told h r bytes → l ≡ faithful_letter s before g
 told_letter s before g h r bytes l is lt le small same who when is_told =
     is_told ∙ ((λ i. letter_told (who i) (when i) (same i)) ∙ letter_is s before g is lt le small)
 
 pub told_ok : {E : Type 0} (result : Result Letter E) (s : Scenario) (before : List (List Letter)) (g h r : ℕ) (bytes : List ℕ) → IsScenario s → g < s.generals → length before ≤ s.bound → AreWords s before g → bytes ≡ context_of s before g → h ≡ g →
-    r ≡ suc (length before) → IfOk result (λ l. l ≡ letter_told h r bytes) → IfOk result (λ l. l ≡ loyal_letter s before g)
+    r ≡ suc (length before) → IfOk result (λ l. l ≡ letter_told h r bytes) → IfOk result (λ l. l ≡ faithful_letter s before g)
 told_ok (Ok l) s before g h r bytes is lt le small same who when told = told_letter s before g h r bytes l is lt le small same who when told
 told_ok (Err e) s before g h r bytes is lt le small same who when told = tt

@@ -4,7 +4,7 @@ use Rattle.insn.specs.declared.insn.Insn.{Insn}
 use Rattle.board.specs.Board.{IsBoard}
 use Rattle.round.specs.Scenario.{Scenario, program_of}
 use Rattle.round.specs.Letters.{Letter, letter_of}
-use Rattle.round.specs.Contexts.{loyal_letter}
+use Rattle.round.specs.Contexts.{faithful_letter}
 use Rattle.world.specs.Part.{Part, Acting, Silent, Posted}
 use Rattle.world.specs.World.{World}
 
@@ -19,7 +19,7 @@ Fits (Some program) Posted = ⊥
 
 -- in each closed round the general's letter is the loyal one
 abbrev pub Tells : Scenario → List (List Letter) → ℕ → Type 0
-Tells s closed g = (k : ℕ) → k < length closed → letter_of (slice_index_or closed k []) g ≡ Some (loyal_letter s (take k closed) g)
+Tells s closed g = (k : ℕ) → k < length closed → letter_of (slice_index_or closed k []) g ≡ Some (faithful_letter s (take k closed) g)
 
 -- the invariant of a world
 pub record IsKept (w : World) : Type 0 where

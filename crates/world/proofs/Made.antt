@@ -13,7 +13,7 @@ use Rattle.world.specs.declared.event.Event.TheVariants.{Tick, Post, Close}
 use Rattle.semantics.specs.Relay.{oral}
 use Rattle.round.specs.Scenario.{Scenario, program_of, is_traitor, shape_of}
 use Rattle.round.specs.Letters.{Letter}
-use Rattle.round.specs.Contexts.{context_of, loyal_letter}
+use Rattle.round.specs.Contexts.{context_of, faithful_letter}
 use Rattle.round.specs.Activation.{Activation, Turn, Goes, Asks, Ended, turn, started, is_reached}
 use Rattle.world.specs.Part.{Part, Acting, Silent, Posted}
 use Rattle.world.specs.World.{World, each, round_open, begins, begun, accesses_of, letters_at, round_letters, served, ticked, posting, happen}
@@ -204,7 +204,7 @@ module _ (s : Scenario) (closed : List (List Letter)) (words : List ℕ) (ledger
       )
   letter_made w piece sc cl op made ripe came g Silent at o is fits = absurd (let f : false ≡ true = ripe.posted_all g Silent at in cc)
   letter_made w piece sc cl op made ripe came g Posted at None is fits =
-      (loyal_letter s closed g, (λ i. loyal_letter (sc i) (cl i) g ∷ []), refl, made_none s (suc (length closed)) g piece made (ap is_some is))
+      (faithful_letter s closed g, (λ i. faithful_letter (sc i) (cl i) g ∷ []), refl, made_none s (suc (length closed)) g piece made (ap is_some is))
   letter_made w piece sc cl op made ripe came g Posted at (Some program) is fits = absurd fits
 
   -- the letters of a ripe round account for what it added, and have as many accesses

@@ -13,7 +13,7 @@ use Rattle.world.specs.declared.event.Event.{Event}
 use Rattle.world.specs.declared.event.Event.TheVariants.{Tick, Post, Close}
 use Rattle.round.specs.Scenario.{Scenario, program_of, is_traitor}
 use Rattle.round.specs.Letters.{Letter, letter_of, messages}
-use Rattle.round.specs.Contexts.{loyal_letter}
+use Rattle.round.specs.Contexts.{faithful_letter}
 use Rattle.round.specs.Activation.{Activation}
 use Rattle.world.specs.Part.{Part, Acting, Silent, Posted, owes_no_letter}
 use Rattle.world.specs.World.{World, begins, opening, round_open, letters_at, round_letters, closing, happen, run, each}
@@ -72,7 +72,7 @@ not_his w g j (Some Silent) ne = refl
 not_his w g j (Some Posted) ne = rw (ne_eqb j g ne) refl
 
 his : (w : World) (g : ℕ) (o : Option (List Insn)) (part : Part) → o ≡ None → Fits o part → owes_no_letter part ≡ true
-    → find (λ l. l.general == g) (letters_at w g (Some part)) ≡ Some (loyal_letter w.scenario w.closed g)
+    → find (λ l. l.general == g) (letters_at w g (Some part)) ≡ Some (faithful_letter w.scenario w.closed g)
 his w g None (Acting a) n f h = absurd f
 his w g None Silent n f h = cc
 his w g None Posted n f h = rw (eq-eqb g g refl) refl
@@ -87,7 +87,7 @@ some_part w k more g lt = within w.parts g (let h = k.open_parts more in omega a
     within (p ∷ ps) (suc g) lt = within ps g (omega arith)
 
 told_now : (w : World) → IsKept w → length w.closed < suc w.scenario.bound → list_all owes_no_letter w.parts ≡ true → (g : ℕ) → g < w.scenario.generals → program_of w.scenario g ≡ None
-    → letter_of (round_letters w) g ≡ Some (loyal_letter w.scenario w.closed g)
+    → letter_of (round_letters w) g ≡ Some (faithful_letter w.scenario w.closed g)
 told_now w k more all g lt loyal =
     let part = some_part w k more g lt in
     each-find w.scenario.generals (λ l. l.general == g) (λ j. letters_at w j (slice_get w.parts j)) g _ lt
@@ -96,10 +96,10 @@ told_now w k more all g lt loyal =
     ∙ his w g (program_of w.scenario g) part.0 loyal (k.parts g part.0 part.1).1 (all-at owes_no_letter w.parts g part.0 all part.1))
 
 tells_more : (s : Scenario) (rounds : List (List Letter)) (ls : List Letter) (g : ℕ) → Tells s rounds g
-    → letter_of ls g ≡ Some (loyal_letter s rounds g) → Tells s (rounds ++ ls ∷ []) g
+    → letter_of ls g ≡ Some (faithful_letter s rounds g) → Tells s (rounds ++ ls ∷ []) g
 tells_more s rounds ls g before new k lt =
     ⊎_elim (λ (x : (k == length rounds ≡ true) × (k ≡ length rounds)).
-    (let A : ℕ → Type 0 = λ i. letter_of (get_or (rounds ++ ls ∷ []) i []) g ≡ Some (loyal_letter s (take i (rounds ++ ls ∷ [])) g) in
+    (let A : ℕ → Type 0 = λ i. letter_of (get_or (rounds ++ ls ∷ []) i []) g ≡ Some (faithful_letter s (take i (rounds ++ ls ∷ [])) g) in
     subst A (sym x.1) (rw (get_or-seam rounds ls [], take-whole rounds (ls ∷ [])) new)))
     (λ (x : (k == length rounds ≡ false) × (k ≢ length rounds)).
     let less : k < length rounds = (let ne = x.1 in let l = length-append rounds (ls ∷ []) in omega arith) in

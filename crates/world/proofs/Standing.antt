@@ -11,7 +11,7 @@ use Rattle.semantics.specs.Relay.{IsContext, Relay, oral}
 use Rattle.label.proofs.Ranks.{get_left, get_right}
 use Rattle.round.specs.Scenario.{Scenario, IsScenario, program_of, shape_of}
 use Rattle.round.specs.Letters.{Letter}
-use Rattle.round.specs.Contexts.{context_of, loyal_letter, IsToldTo, shape_told}
+use Rattle.round.specs.Contexts.{context_of, faithful_letter, IsToldTo, shape_told}
 use Rattle.round.specs.Activation.{Activation, started}
 use Rattle.round.specs.Runs.{Runs, AreFitting, IsRunOf, IsLetter}
 use Rattle.round.proofs.Contexts.{context_is}
@@ -164,8 +164,8 @@ letter_in s w sc more k m g lt (Some Silent) e = All-nil (λ l. IsLetterIn s w.c
 letter_in s w sc more k m g lt (Some Posted) e =
     let fits : Fits (program_of s g) Posted = (let A : Scenario → Type 0 = λ v. Fits (program_of v g) Posted in subst A sc (k.parts g Posted e).1) in
     let none : program_of s g ≡ None = no_program (program_of s g) fits in
-    let one : IsLetterIn s w.closed (loyal_letter s w.closed g) = record { general = lt; rounds = more; round = refl; context = refl; relay = refl; program = sym none; made = refl; within = within_none s.patience } in
-    one_letter (λ x. IsLetterIn s w.closed x) (loyal_letter w.scenario w.closed g) (let A : Scenario → Type 0 = λ v. IsLetterIn s w.closed (loyal_letter v w.closed g) in subst A (sym sc) one)
+    let one : IsLetterIn s w.closed (faithful_letter s w.closed g) = record { general = lt; rounds = more; round = refl; context = refl; relay = refl; program = sym none; made = refl; within = within_none s.patience } in
+    one_letter (λ x. IsLetterIn s w.closed x) (faithful_letter w.scenario w.closed g) (let A : Scenario → Type 0 = λ v. IsLetterIn s w.closed (faithful_letter v w.closed g) in subst A (sym sc) one)
 
 -- what stands in the list of closed rounds, and the row behind it
 row_cases : (closed : List (List Letter)) (new row : List Letter) (k : ℕ) → slice_get (closed ++ new ∷ []) k ≡ Some row

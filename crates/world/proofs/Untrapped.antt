@@ -10,7 +10,7 @@ use Rattle.world.specs.declared.event.Event.{Event}
 use Rattle.world.specs.declared.event.Event.TheVariants.{Tick, Post, Close}
 use Rattle.round.specs.Scenario.{Scenario, IsScenario, program_of}
 use Rattle.round.specs.Letters.{Letter}
-use Rattle.round.specs.Contexts.{loyal_letter}
+use Rattle.round.specs.Contexts.{faithful_letter}
 use Rattle.round.specs.Activation.{Activation, has_ended}
 use Rattle.world.specs.Part.{Part, Acting, Silent, Posted}
 use Rattle.world.specs.World.{World, each, begun, opening, round_open, letters_at, round_letters, closing, happen, run}
@@ -35,7 +35,7 @@ letter_short w s t g (Some (Acting a)) e = one_letter IsShort _ (λ p is.
     let same : a.program ≡ p = (let f = sym d.program ∙ (ap (λ v. program_of v g) (sym t.scenario) ∙ is) in cc) in
     (let n = ap length same in let l = d.within in omega arith))
 letter_short w s t g (Some Silent) e = All-nil IsShort
-letter_short w s t g (Some Posted) e = one_letter IsShort (loyal_letter w.scenario w.closed g) (λ p is. absurd (let f : None ≡ Some p = is in cc))
+letter_short w s t g (Some Posted) e = one_letter IsShort (faithful_letter w.scenario w.closed g) (λ p is. absurd (let f : None ≡ Some p = is in cc))
 
 round_short : (w : World) (s : Scenario) → IsOnTime s w → All IsShort (round_letters w)
 round_short w s t = each_all IsShort w.scenario.generals (λ g. letters_at w g (slice_get w.parts g)) (λ g. letter_short w s t g (slice_get w.parts g) refl)

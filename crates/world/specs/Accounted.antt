@@ -5,7 +5,7 @@ use Rattle.board.specs.Board.{Access}
 use Rattle.semantics.specs.Relay.{oral}
 use Rattle.round.specs.Scenario.{Scenario, program_of, shape_of}
 use Rattle.round.specs.Letters.{Letter}
-use Rattle.round.specs.Contexts.{context_of, loyal_letter}
+use Rattle.round.specs.Contexts.{context_of, faithful_letter}
 use Rattle.round.specs.Activation.{Activation, started, is_reached}
 use Rattle.round.specs.Runs.{Runs, IsWithin}
 use Rattle.world.specs.World.{accesses_of, each, traitor_letter_with}
@@ -13,7 +13,7 @@ use Rattle.world.specs.World.{accesses_of, each, traitor_letter_with}
 -- the letter is what the general's program, or the loyal general, makes of the round behind these:
 -- it has run, as far as the letter tells, within the patience, and has ended by itself or by the patience
 abbrev pub IsLetterOf : Scenario → List (List Letter) → ℕ → Option (List Insn) → Letter → Type 0
-IsLetterOf s before g None l = l ≡ loyal_letter s before g
+IsLetterOf s before g None l = l ≡ faithful_letter s before g
 IsLetterOf s before g (Some program) l =
     (end : Activation) × Runs l.steps (started None program (context_of s before g) (oral (shape_of s g (suc (length before))))) l.transcript end
     × (l ≡ traitor_letter_with s before g (Some program) l.transcript l.steps end) × IsWithin s.patience l.steps × ((l.exited || is_reached s.patience l.steps) ≡ true)

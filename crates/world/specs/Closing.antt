@@ -6,7 +6,7 @@ use Rattle.board.specs.Board.{Access}
 use Rattle.semantics.specs.Relay.{oral}
 use Rattle.round.specs.Scenario.{Scenario, program_of, shape_of}
 use Rattle.round.specs.Letters.{Letter}
-use Rattle.round.specs.Contexts.{loyal_letter}
+use Rattle.round.specs.Contexts.{faithful_letter}
 use Rattle.round.specs.Activation.{Activation, started}
 use Rattle.round.specs.Running.{letter_left}
 use Rattle.round.specs.Runs.{IsLetter}
@@ -19,7 +19,7 @@ use Rattle.world.specs.World.{each, accesses_of}
 abbrev pub draft_of : Scenario → List (List Letter) → List Access → ℕ → Option Part → Draft
 draft_of s closed accesses g (Some (Acting a)) = Begun (accesses_of g accesses)
 draft_of s closed accesses g (Some Silent) = Missing
-draft_of s closed accesses g (Some Posted) = Whole (loyal_letter s closed g)
+draft_of s closed accesses g (Some Posted) = Whole (faithful_letter s closed g)
 draft_of s closed accesses g None = Missing
 
 abbrev pub drafts_held : Scenario → List (List Letter) → List Access → List Part → List Draft

@@ -4,7 +4,7 @@ use Rattle.board.specs.Board.{Access}
 use Rattle.board.specs.Ledger.{RecordedBoard}
 use Rattle.round.specs.Scenario.{Scenario, program_of}
 use Rattle.round.specs.Letters.{Letter}
-use Rattle.round.specs.Contexts.{loyal_letter}
+use Rattle.round.specs.Contexts.{faithful_letter}
 use Rattle.round.specs.Activation.{Activation, turn}
 use Rattle.round.specs.Runs.{Runs, IsLetter}
 use Rattle.round.specs.Running.{moved, Pauses, letter_left}
@@ -51,7 +51,7 @@ steps_of _ = 0
 abbrev pub letter_held : Scenario → List (List Letter) → List Access → ℕ → Option Part → List Letter
 letter_held s closed accesses g (Some (Acting a)) = letter_left g (suc (length closed)) (accesses_of g accesses) a ∷ []
 letter_held s closed accesses g (Some Silent) = []
-letter_held s closed accesses g (Some Posted) = loyal_letter s closed g ∷ []
+letter_held s closed accesses g (Some Posted) = faithful_letter s closed g ∷ []
 letter_held s closed accesses g None = []
 
 -- the letters of a round

@@ -6,7 +6,7 @@ use Rattle.semantics.specs.Execution.{step}
 use Rattle.semantics.specs.Relay.{oral}
 use Rattle.round.specs.Scenario.{Scenario, IsScenario, program_of, shape_of}
 use Rattle.round.specs.Letters.{Letter}
-use Rattle.round.specs.Contexts.{context_of, loyal_letter}
+use Rattle.round.specs.Contexts.{context_of, faithful_letter}
 use Rattle.round.specs.Activation.{Activation, started, has_ended}
 use Rattle.round.specs.Runs.{Runs, AreFitting, IsRunOf, IsWithin, IsLetter}
 use Rattle.world.specs.declared.event.Event.{Event}
@@ -47,7 +47,7 @@ HasRun w g a =
 
 -- a loyal general's letter is what he took, a traitor's the run of its transcript
 abbrev pub IsMade : Scenario → List (List Letter) → Letter → Option (List Insn) → Type 0
-IsMade s before l None = l ≡ loyal_letter s before l.general
+IsMade s before l None = l ≡ faithful_letter s before l.general
 IsMade s before l (Some program) = IsRunOf l (Some program)
 
 -- a letter of the round behind these, which is one of the campaign; its steps lie within the patience

@@ -6,7 +6,7 @@ use Rattle.board.specs.Board.{Access, reply, next}
 use Rattle.semantics.specs.Relay.{oral}
 use Rattle.round.specs.Scenario.{Scenario, program_of, shape_of}
 use Rattle.round.specs.Letters.{Letter}
-use Rattle.round.specs.Contexts.{context_of, loyal_letter}
+use Rattle.round.specs.Contexts.{context_of, faithful_letter}
 use Rattle.round.specs.Activation.{Activation, started, Turn, Goes, Asks, Ended, turn}
 use Rattle.world.specs.declared.event.Event.{Event}
 use Rattle.world.specs.declared.event.Event.TheVariants.{Tick, Post, Close}
@@ -75,7 +75,7 @@ abbrev pub letters_at : World → ℕ → Option Part → List Letter
 letters_at w g (Some (Acting a)) =
     traitor_letter_with w.scenario w.closed g (program_of w.scenario g) (accesses_of g (drop w.opened w.ledger)) a.state.steps a ∷ []
 letters_at w g (Some Silent) = []
-letters_at w g (Some Posted) = loyal_letter w.scenario w.closed g ∷ []
+letters_at w g (Some Posted) = faithful_letter w.scenario w.closed g ∷ []
 letters_at w g None = []
 
 abbrev pub round_letters : World → List Letter

@@ -102,7 +102,7 @@ impl World {
     pub(crate) fn post(&mut self, general: u32)
         ensures { self.new ≡ happen self.old (Post general) }
     {
-        parts::post(&mut self.parts, general);
+        parts::mark_posted(&mut self.parts, general);
     }
 
     /// The end of the round. All memory that it takes is taken before anything changes: room for the list among the closed

@@ -3,7 +3,7 @@ ghost use Rattle.std.specs.Prelude.{◌≡◌, ◌≢◌, ◌<◌, ◌≤◌, �
 ghost use Rattle.std.specs.List.{list_all};
 ghost use Rattle.board.specs.Board.{Access as Entry};
 ghost use Rattle.round.specs.Activation.{Activation};
-ghost use Rattle.round.specs.Contexts.{loyal_letter};
+ghost use Rattle.round.specs.Contexts.{faithful_letter};
 ghost use Rattle.round.specs.Running.{letter_left};
 ghost use Rattle.round.specs.Runs.{IsLetter};
 ghost use Rattle.round.specs.Told.{WasTold};
@@ -72,7 +72,7 @@ fn loyal(
     requires told { WasTold scenario.now closed.now told.now }
     requires left { length closed.now ≤ scenario.now.bound }
     requires inside { general < scenario.now.generals }
-    ensures { IfOk result (λ letter. letter ≡ loyal_letter scenario.now closed.now general) }
+    ensures { IfOk result (λ letter. letter ≡ faithful_letter scenario.now closed.now general) }
 {
     scenario.recall();
     let round = closed.len() as u32 + 1;

@@ -63,8 +63,8 @@ pub(crate) fn ahead(parts: &mut Vec<Part>, general: u32, limit: u32) -> u32
     }
 }
 
-/// A loyal general's letter; a second one changes nothing.
-pub(crate) fn post(parts: &mut Vec<Part>, general: u32)
+/// Marks a loyal general as one who has posted; a second time changes nothing.
+pub(crate) fn mark_posted(parts: &mut Vec<Part>, general: u32)
     ensures { parts.new.items ≡ posted_of general parts.old.items (slice_get parts.old.items general) }
 {
     let place = general as usize;

@@ -5,6 +5,6 @@ use Rattle.world.proofs.world.World.post.Goals as goal
 pub invariant_of-self : goal.invariant_of-self
 invariant_of-self c = (
   post_held c.self.inside.scenario c.self.inside.closed.items c.self.inside.board c.self.inside.opened c.self.inside.parts.items c.self.inside.full c.args.general
-      c.post.new.parts.items c.self.invariant.0 c.post.ensures,
+      c.mark_posted.new.parts.items c.self.invariant.0 c.mark_posted.ensures,
   c.self.invariant.1,
 )

@@ -5,7 +5,7 @@ use Rattle.round.specs.Contexts.{context_of, AreWords}
 use Rattle.round.specs.Told.{ToldSeen, WasTold}
 use Rattle.round.proofs.Filling.{looked_up, looked_tree}
 use Rattle.round.proofs.Values.{few_values, first_told, commander_told, later_told, words_told, words_first}
-use Rattle.round.proofs.told.Told.write_context.Goals as goal
+use Rattle.round.proofs.told.Told.write_context_after.Goals as goal
 
 pub level-requires-clause-short : goal.level-requires-clause-short
 level-requires-clause-short c =
