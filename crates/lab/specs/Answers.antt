@@ -90,8 +90,8 @@ IsFormOf n m c text =
     × (text ≡ form_text head.0 head.1 head.2)
 
 -- the text tells a table, and these are its decisions, which agree where the bound holds
-abbrev pub Decides : List ℕ → List ℕ → Type 0
-Decides text lines =
+abbrev pub DecidesTable : List ℕ → List ℕ → Type 0
+DecidesTable text lines =
     (table : MessageTable) × (table_told text ≡ Ok table) × (lines ≡ decision_lines table)
     × TableAgrees table (decisions_of table)
 
@@ -103,7 +103,7 @@ Prints (Assemble file Hex target) first second text = Assembles first text
 Prints (Assemble file Raw target) first second text = AssemblesRaw first text
 Prints (Disassemble file) first second text = Disassembles first text
 Prints (DisassembleUnits file) first second text = DisassemblesUnits first text
-Prints (Book file) first second text = Decides first text
+Prints (Book file) first second text = DecidesTable first text
 Prints (ExplainDecisions file traitors) first second text = ExplainsTable first traitors.items text
 Prints (Form n m c) first second text = IsFormOf (string_bytes n) (string_bytes m) (string_bytes c) text
 Prints (Play scenario schedule) first second text = Plays first second text

@@ -1,7 +1,7 @@
 ghost use Rattle.std.specs.Prelude.{◌≡◌, ◌≢◌, ◌<◌, ◌++◌, IfOk, IfErr, OnOk, string_bytes};
 ghost use Rattle.book.specs.Decisions.{decisions_of, TableAgrees};
 ghost use Rattle.book.specs.Grammar.{table_told};
-ghost use Rattle.lab.specs.Answers.{Decides, ExplainsTable};
+ghost use Rattle.lab.specs.Answers.{DecidesTable, ExplainsTable};
 ghost use Rattle.lab.specs.Lines.{decision_line, decision_lines};
 ghost use Rattle.lab.specs.Refusals.{RefusesTable};
 
@@ -15,7 +15,7 @@ use std::alloc::{AllocError, Global};
 ///
 /// What the table refuses, or want of memory.
 pub fn decided(alloc: Global, text: &str) -> Result<String, Refusal>
-    ensures decided { IfOk result (λ lines. Decides text.now (string_bytes lines)) }
+    ensures decided { IfOk result (λ lines. DecidesTable text.now (string_bytes lines)) }
     ensures refused { IfErr result (RefusesTable text.now) }
 {
     let table = read_table(alloc, text)?;

@@ -39,7 +39,7 @@ pub own_walk : (n : ℕ) (row : List Letter) (places : List ℕ) (k : ℕ) (f : 
 own_walk n row places k f trees route t d mark w front = record {
   due = d.due;
   size = route.size;
-  posted = route.posted;
+  indexed = route.indexed;
   short = route.short;
   w = w;
   front = front;
@@ -86,7 +86,7 @@ child_route n row places k f g old cur route x more child told = record {
   few = route.few;
   size = route.size;
   small = route.small;
-  posted = route.posted;
+  indexed = route.indexed;
   short = (let s = child.size in let l = child_long n route.c x route.w f route.front in let b = route.short in omega arith);
   c = route.c;
   w = route.w ++ x ∷ [];

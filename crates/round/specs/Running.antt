@@ -36,9 +36,9 @@ abbrev pub IsBack : Stop → State → State → Type 0
 IsBack (Asked r) old new = before new ≡ old
 IsBack _ old new = Unit {0}
 
--- a served request is entered
-abbrev pub entered : ℕ → ℕ → Request → RecordedBoard → RecordedBoard
-entered general round request k = record k {
+-- a served request is entered into the ledger
+abbrev pub access_entered : ℕ → ℕ → Request → RecordedBoard → RecordedBoard
+access_entered general round request k = record k {
   words = next k.words request;
   ledger = k.ledger ++ record { general = general; round = round; request = request; reply = reply k.words request } ∷ [];
 }
@@ -46,7 +46,7 @@ entered general round request k = record k {
 -- what a turn leaves of the activation and of the board; a request is served within it
 abbrev pub moved : ℕ → ℕ → Activation → RecordedBoard → Turn → Activation × RecordedBoard
 moved general round a k (Goes b) = (b, k)
-moved general round a k (Asks request answered) = (answered (reply k.words request), entered general round request k)
+moved general round a k (Asks request answered) = (answered (reply k.words request), access_entered general round request k)
 moved general round a k Ended = (a, k)
 
 -- an activation by what it is made of

@@ -29,9 +29,9 @@ unfoldable pub heard_also : Messages → List Letter → Messages
 heard_also M letters w p = cond (length w == round_of letters) (told_now letters w p) (M w p)
 
 -- the letters are of one round of the tree's campaign
-pub record AreDue (t : LieutenantTree) (posted : List Letter) : Type 0 where
-  pub round : round_of posted < t.bound + 2
-  pub letters : (i : ℕ) (l : Letter) → slice_get posted i ≡ Some l → l.outbox.relay.shape ≡ record { generals = t.generals; commander = t.commander; general = l.general; round = round_of posted }
+pub record AreDue (t : LieutenantTree) (given : List Letter) : Type 0 where
+  pub round : round_of given < t.bound + 2
+  pub letters : (i : ℕ) (l : Letter) → slice_get given i ≡ Some l → l.outbox.relay.shape ≡ record { generals = t.generals; commander = t.commander; general = l.general; round = round_of given }
 
 -- the letters are of this round of the campaign
 abbrev pub AreLettersOf : Scenario → ℕ → List Letter → Type 0

@@ -60,7 +60,7 @@ impl Model for Running {
 }
 
 impl Running {
-    /// The program at its start in the context, with an outbox in which nothing is put or entered. It has so many steps, or as many as it needs.
+    /// The program at its start in the context, with an outbox in which nothing is put, nor entered where orders are signed. It has so many steps, or as many as it needs.
     pub fn start(
         program: Arc<Verified>,
         context: Vec<u8>,
@@ -159,7 +159,7 @@ impl Running {
         self.over
     }
 
-    /// What it has put and entered so far.
+    /// What it has put so far, or entered where orders are signed.
     pub fn outbox(&self) -> &Outbox
         ensures relay { result.now.relay ≡ self.now.relay }
         ensures rows { result.now.rows ≡ self.now.state.outbox }

@@ -8,7 +8,7 @@ ghost use Rattle.board.specs.Board.{reply};
 ghost use Rattle.machine.specs.Standing.{HasAsked, before};
 ghost use Rattle.machine.specs.Advance.{IsOfRun, IsAskOfRun, IsStopOfRun, IsCounted};
 ghost use Rattle.round.specs.Activation.{turn};
-ghost use Rattle.round.specs.Running.{Stopped, IsBack, entered, moved, activation_of, Silently, Pauses, IsSameRun, lesser};
+ghost use Rattle.round.specs.Running.{Stopped, IsBack, access_entered, moved, activation_of, Silently, Pauses, IsSameRun, lesser};
 
 use crate::running::Running;
 use board::Board;
@@ -106,7 +106,7 @@ fn serve(
 ) -> Result<(), AllocError>
     requires { HasAsked activation.old.state }
     ensures relay { activation.new.relay ≡ activation.old.relay }
-    ensures done { OnOk result ((activation.new.state ≡ resumed request (reply board.old.words request) activation.old.state) × (board.new ≡ entered general round request board.old)) }
+    ensures done { OnOk result ((activation.new.state ≡ resumed request (reply board.old.words request) activation.old.state) × (board.new ≡ access_entered general round request board.old)) }
     ensures steps { OnOk result (activation.new.state.steps ≡ activation.old.state.steps) }
     ensures undone { OnErr result ((activation.new.state ≡ before activation.old.state) × (board.new ≡ board.old)) }
     ensures of_run { (program : List Insn) (context : List ℕ) →

@@ -6,7 +6,7 @@ use thiserror::Error;
 pub enum Event {
     /// One instruction of this traitor's program.
     Tick(u32),
-    /// This loyal general's letter.
+    /// This loyal general's letter counts as given.
     Post(u32),
     /// The end of the round.
     Close,

@@ -107,7 +107,7 @@ impl World {
         Ok(())
     }
 
-    /// The general's letter, where he is loyal.
+    /// Marks the general as one who has posted, where he is loyal.
     fn post_if_loyal(&mut self, general: u8)
         requires { general < self.old.scenario.generals }
         ensures { self.new ≡ run self.old (post_of general (program_of self.old.scenario general)) }
@@ -131,7 +131,7 @@ impl World {
         }
     }
 
-    /// All loyal generals' letters, ascending.
+    /// Marks all loyal generals so, ascending.
     fn all_post(&mut self)
         ensures { self.new ≡ run self.old (each self.old.scenario.generals (λ g. post_of g (program_of self.old.scenario g))) }
     {

@@ -20,7 +20,7 @@ descend-requires-clause-route c =
       few = c.requires.few;
       size = round;
       small = c.shape-size.ensures.within.last;
-      posted = c.letter_indices-indices.ensures;
+      indexed = c.letter_indices-indices.ensures;
       short = (let s = front.size in let f = c.shape-size.ensures.within.first in let ne = c.if-size-eq1.false in omega arith);
       c = c.args.commander;
       w = c.args.commander ∷ [];
