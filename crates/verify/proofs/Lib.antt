@@ -52,3 +52,4 @@ pub mod JoinSound
 pub mod EdgesSound
 pub mod PassSound
 pub mod JudgedSound
+pub mod JudgedAnswers
