@@ -1,10 +1,11 @@
 -- What the verifier answers, from where the pass comes.
-use Rattle.std.proofs.Common.{◌≡◌, ◌∙◌, ◌⊎◌, inl, inr, List, Option, Some, None, Result, Ok, Err, OnOk, refl, sym, ap, subst}
+use Rattle.std.proofs.Common.{◌≡◌, ◌∙◌, ◌⊎◌, inl, inr, ◌<◌, List, length, Option, Some, None, Result, Ok, Err, OnOk, refl, sym, ap, subst}
 use Rattle.std.specs.Prelude.{IfSome, IfErr, IsSome}
 use Rattle.std.specs.List.{AllByRecursion}
 use Rattle.insn.specs.declared.insn.Insn.{Insn}
 use Rattle.insn.specs.Insn.{IsInsn}
-use Rattle.insn.specs.Program.{instruction_at}
+use Rattle.insn.specs.Program.{slots_of, instruction_at}
+use Rattle.semantics.specs.Run.{IsSound}
 use Rattle.semantics.specs.Plain.{IsPlain}
 use Rattle.verify.specs.declared.error.VerifyError.{VerifyError}
 use Rattle.verify.specs.declared.error.VerifyError.TheVariants.{Memory}
@@ -16,6 +17,7 @@ use Rattle.verify.specs.Instructions.{reason_of}
 use Rattle.verify.specs.Passes.{reason_at, ComesThrough}
 use Rattle.verify.specs.Judgement.{judged}
 use Rattle.verify.proofs.JudgedRuns.{through_judged, stopped_judged, structural_judged}
+use Rattle.verify.proofs.JudgedSound.{judged_sound}
 use Rattle.verify.proofs.PlainJudged.{plain_judged}
 use Rattle.verify.proofs.PassRuns.{IsAnswer}
 use Rattle.verify.proofs.OwnReasons.{reason_own, instruction_own}
@@ -33,6 +35,11 @@ pub accepted : (program : List Insn) (r : Result (Unit {0}) VerifyError) (u : Un
     r ≡ Ok u → judged program ≡ None
 accepted program r u structural passed e =
     through_judged program (no_structural (structural_fault program) r u structural e) (subst (λ (x : Result (Unit {0}) VerifyError). OnOk x (ComesThrough program)) e passed)
+
+-- and is sound
+pub accepted_sound : (program : List Insn) (r : Result (Unit {0}) VerifyError) (u : Unit {0}) → AllByRecursion IsInsn program → 0 < length (slots_of program) →
+    IfSome (structural_fault program) (λ fault. r ≡ Err fault) → OnOk r (ComesThrough program) → r ≡ Ok u → IsSound program
+accepted_sound program r u well some structural passed e = judged_sound program well some (accepted program r u structural passed e)
 
 judged_of : (program : List Insn) (fault : VerifyError) → structural_fault program ≡ None → IsAnswer program fault → IsJudged program fault
 judged_of program fault none (inl memory) = inl memory

@@ -6,11 +6,8 @@ pub mod PlainWalk
 pub mod SafeLaws
 pub mod Zips
 pub mod TableLemmas
-pub mod Numbers
 pub mod EdgeEnds
 pub mod Jumps
-pub mod Blanks
-pub mod Rests
 pub mod StepLemmas
 pub mod BranchLemmas
 pub mod Loads

@@ -5,7 +5,6 @@ pub mod Gamma
 pub mod Tables
 pub mod Registers
 pub mod Reasons
-pub mod Reads
 pub mod Outcomes
 pub mod Kept
 pub mod Branches

@@ -100,7 +100,7 @@ fn pass_branch(
 
 /// The program ends.
 fn pass_exit(unit: usize, state: Box<AbsState>) -> Result<(), VerifyError>
-    ensures refused { result_err result ≡ option_map (λ r. VerifyError.At r unit) (first_reason (exit_checks (known_at (seen state.value.registers) 0))) }
+    ensures { result_err result ≡ option_map (λ r. VerifyError.At r unit) (first_reason (exit_checks (known_at (seen state.value.registers) 0))) }
 {
     if let Err(reason) = steps::exit(&state) {
         return Err(VerifyError::At(reason, unit));
