@@ -1,12 +1,18 @@
 -- What the edges of a conditional jump hold.
-use Rattle.std.proofs.Common.{◌≡◌, ℕ, Ok, Bool, refl, ap, ◌∙◌, arith}
+use Rattle.std.proofs.Common.{◌≡◌, ℕ, List, Result, Ok, Bool, refl, ap, ◌∙◌, arith}
 use Rattle.word.specs.declared.Width.{Width}
 use Rattle.word.specs.declared.Width.TheVariants.{W32, W64}
 use Rattle.word.specs.declared.Condition.{Condition}
 use Rattle.word.specs.Arithmetic.{taken, related}
 use Rattle.semantics.specs.declared.value.Value.{Value}
 use Rattle.semantics.specs.declared.value.Value.TheVariants as value
+use Rattle.semantics.specs.State.{Cause, value_at, operand_value}
 use Rattle.semantics.specs.Step.{condition_of}
+use Rattle.verify.specs.declared.comparison.Comparison.{Comparison}
+
+-- the condition, of the registers' values
+abbrev pub decided_by : Comparison → List Value → Result Bool Cause
+decided_by c vs = condition_of c.width c.condition (value_at vs c.dst) (operand_value vs c.operand)
 
 -- what is used of a number is used of that
 taken-twice : (w : Width) (n : ℕ) → taken w (taken w n) ≡ taken w n

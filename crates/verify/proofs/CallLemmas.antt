@@ -29,11 +29,11 @@ use Rattle.helper.proofs.Tests.{copy_in, place_in, row_in, sway_in}
 use Rattle.helper.proofs.Accepts.{asked_trap, sent_trap}
 use Rattle.helper.proofs.Traps.{number_if, pointer_is}
 use Rattle.verify.specs.declared.state.AbsState.{AbsState}
-use Rattle.verify.specs.Gamma.{RegistersDescribe, Describes}
+use Rattle.verify.proofs.Gamma.{RegistersDescribe, Describes}
 use Rattle.semantics.specs.Relay.{IsSetting, Relay}
-use Rattle.verify.specs.Outcomes.{DescribesAt, GoesOn}
+use Rattle.verify.proofs.Outcomes.{DescribesAt, GoesOn}
 use Rattle.verify.specs.Calls.{abstract_at, arguments_reason}
-use Rattle.verify.specs.CallStates.{Puts, CopyStands, RowStands, WindowStands}
+use Rattle.verify.proofs.CallStates.{Puts, CopyStands, RowStands, WindowStands}
 use Rattle.verify.proofs.CallArguments.{arguments_fine}
 use Rattle.verify.proofs.Zips.{AllZip-at}
 

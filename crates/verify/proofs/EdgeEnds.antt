@@ -6,7 +6,7 @@ use Rattle.insn.specs.declared.insn.Insn.TheVariants.{Arithmetic, Negate, SignEx
 use Rattle.insn.specs.Insn.{units_of}
 use Rattle.insn.specs.Program.{slots_of, instruction_at}
 use Rattle.semantics.specs.Plain.{IsIn, leads_to}
-use Rattle.verify.specs.Outcomes.{IsStraight}
+use Rattle.verify.specs.Instructions.{IsStraight}
 use Rattle.verify.specs.Forward.{IsForward}
 use Rattle.verify.specs.Kept.{EdgesInside}
 use Rattle.verify.proofs.Edges.{start_inside}

@@ -8,11 +8,10 @@ use Rattle.insn.specs.declared.insn.Insn.TheVariants.{Arithmetic, Negate, SignEx
 use Rattle.verify.specs.declared.error.VerifyError.{VerifyError}
 use Rattle.verify.specs.declared.reason.Reason.{Reason}
 use Rattle.verify.specs.declared.state.AbsState.{AbsState}
-use Rattle.verify.specs.Outcomes.{IsStraight}
+use Rattle.verify.specs.Instructions.{IsStraight, straight_reason, reason_of, StraightFlows, StateFlows, AnswersAt, UnitFlows}
 use Rattle.verify.specs.declared.error.VerifyError.TheVariants.{At}
 use Rattle.verify.specs.Kept.{Kept}
 use Rattle.verify.specs.Flow.{Answers, JumpFlows}
-use Rattle.verify.specs.Instructions.{straight_reason, reason_of, StraightFlows, StateFlows, AnswersAt, UnitFlows}
 
 answers_of : (o : Option Reason) (unit : ℕ) (r : Result (Unit {0}) VerifyError) → result_err r ≡ option_map (λ x. At x unit) o → Answers o unit r
 answers_of None unit (Ok u) e = tt

@@ -1,3 +1,8 @@
+pub mod Gamma
+pub mod Outcomes
+pub mod Stores
+pub mod CallStates
+pub mod Safe
 pub mod StructureLemmas
 pub mod Starts
 pub mod Edges

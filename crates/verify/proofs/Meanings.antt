@@ -13,7 +13,7 @@ use Rattle.absval.specs.declared.value.AbsVal.{AbsVal}
 use Rattle.absval.specs.declared.value.AbsVal.TheVariants.{Unset, Number, Pointer}
 use Rattle.absval.specs.Contains.{Contains}
 use Rattle.absval.specs.Table.{Ends, ends_of}
-use Rattle.verify.specs.Gamma.{RegistersDescribe}
+use Rattle.verify.proofs.Gamma.{RegistersDescribe}
 use Rattle.verify.specs.Registers.{seen, known_at, operand_known, first_known}
 use Rattle.verify.specs.Knowledge.{value_of}
 use Rattle.verify.proofs.SetRows.{IsSet, single_set, single_of}

@@ -4,12 +4,11 @@ ghost use Rattle.std.specs.Result.{result_err};
 ghost use Rattle.verify.specs.Registers.{seen, known_at, operand_known, edge_known};
 ghost use Rattle.verify.specs.Reasons.{first_reason, compare_checks, exit_checks};
 ghost use Rattle.verify.specs.Flow.{JumpFlows, EdgeFlows, BranchFlows, Answers, kept_at};
-ghost use Rattle.verify.specs.Instructions.{straight_reason, reason_of, StraightFlows, StateFlows, AnswersAt, UnitFlows};
+ghost use Rattle.verify.specs.Instructions.{IsStraight, straight_reason, reason_of, StraightFlows, StateFlows, AnswersAt, UnitFlows};
 ghost use Rattle.verify.specs.Passes.{ComesThrough, IsFirstFault};
 ghost use Rattle.insn.specs.Program.{slots_of, instruction_at};
 ghost use Rattle.verify.specs.Forward.{IsForward};
 ghost use Rattle.verify.specs.Branches.{branch_of};
-ghost use Rattle.verify.specs.Outcomes.{IsStraight};
 ghost use Rattle.verify.specs.Kept.{EdgesInside, EdgesForward};
 
 use crate::comparison::Comparison;

@@ -7,8 +7,7 @@ ghost use Rattle.absval.specs.Table.{Numbers, ends_of, computed, negated_known, 
 ghost use Rattle.verify.specs.Registers.{seen, known_at, operand_known, first_known};
 ghost use Rattle.verify.specs.Reasons.{first_reason, is_unset, made_checks, arithmetic_checks, write_checks, compare_checks, exit_checks, Assigns};
 ghost use Rattle.verify.specs.MemoryTable.{load_given, signed_load_given, Stores, load_reason, signed_load_reason, store_reason};
-ghost use Rattle.verify.specs.Instructions.{straight_reason, Becomes};
-ghost use Rattle.verify.specs.Outcomes.{IsStraight};
+ghost use Rattle.verify.specs.Instructions.{IsStraight, straight_reason, Becomes};
 
 use crate::comparison::Comparison;
 use crate::reason::Reason;

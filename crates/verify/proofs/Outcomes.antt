@@ -1,7 +1,6 @@
 -- Where an instruction leads, in terms of abstract states (own).
 use Rattle.std.specs.Prelude.{ℕ, ◌≡◌, ◌+◌, true, List}
 use Rattle.insn.specs.declared.insn.Insn.{Insn}
-use Rattle.insn.specs.declared.insn.Insn.TheVariants.{Jump, LongJump, Branch, Exit}
 use Rattle.insn.specs.Insn.{units_of}
 use Rattle.semantics.specs.State.{State, Outcome, Next, Ask, Trap}
 use Rattle.semantics.specs.State.{Exit as Exited}
@@ -9,7 +8,7 @@ use Rattle.semantics.specs.Call.{fits, resumed}
 use Rattle.semantics.specs.Execution.{executed}
 use Rattle.semantics.specs.Relay.{IsSetting, Relay}
 use Rattle.verify.specs.declared.state.AbsState.{AbsState}
-use Rattle.verify.specs.Gamma.{Describes}
+use Rattle.verify.proofs.Gamma.{Describes}
 
 -- the state is at the unit, and described
 abbrev pub DescribesAt : AbsState → ℕ → State → Type 0
@@ -25,11 +24,3 @@ GoesOn a unit (Trap cause) = ⊥
 -- from every state that is described, the instruction goes on behind itself to one that is
 abbrev pub Follows : AbsState → Insn → AbsState → Type 0
 Follows old i new = (context : List ℕ) (relay : Relay) (s : State) → IsSetting context relay → Describes old s → GoesOn new (s.unit + units_of i) (executed context relay i s)
-
--- an instruction that goes on behind itself
-abbrev pub IsStraight : Insn → Type 0
-IsStraight (Jump distance) = ⊥
-IsStraight (LongJump distance) = ⊥
-IsStraight (Branch width condition dst operand distance) = ⊥
-IsStraight Exit = ⊥
-IsStraight _ = Unit {0}
