@@ -1,4 +1,4 @@
--- What the edges of a conditional jump hold.
+-- The condition of a jump, and what is used of its numbers.
 use Rattle.std.proofs.Common.{◌≡◌, ℕ, List, Result, Ok, Bool, refl, ap, ◌∙◌, arith}
 use Rattle.word.specs.declared.Width.{Width}
 use Rattle.word.specs.declared.Width.TheVariants.{W32, W64}

@@ -17,7 +17,7 @@ use Rattle.semantics.specs.Entries.{is_entered}
 use Rattle.semantics.specs.State.{Cause, Argument, State, Next, Ask, Trap, value_at, given}
 use Rattle.semantics.specs.Memory.{stack_place, cells_at, bytes_in, with_words}
 use Rattle.semantics.specs.Outbox.{Choice, places_set, along_row, as_taken}
-use Rattle.semantics.specs.Call.{argument, below, pointer, slot_in, word_in, pointer_in, copy_of, orders_of, orders_at, asked, sent, sign_in, pass_in, attempted, called, fits, resumed}
+use Rattle.semantics.specs.Call.{argument, below, slot_in, word_in, pointer_in, copy_of, orders_of, orders_at, asked, sent, sign_in, pass_in, attempted, called, fits, resumed}
 use Rattle.absval.specs.declared.value.AbsVal.{AbsVal}
 use Rattle.absval.specs.declared.value.AbsVal.TheVariants.{Unset as Unknown}
 use Rattle.absval.specs.Contains.{Contains}

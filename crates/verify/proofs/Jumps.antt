@@ -1,4 +1,4 @@
--- What is known of an instruction's edges, from what is known of its kind.
+-- Where the edges of a jump end, from where those of its instruction do.
 use Rattle.std.proofs.Common.{◌≡◌, ℕ, sym, subst}
 use Rattle.std.specs.Prelude.{ℤ}
 use Rattle.word.specs.declared.Width.{Width}

@@ -13,12 +13,11 @@ pub mod Zips
 pub mod TableLemmas
 pub mod EdgeEnds
 pub mod Jumps
-pub mod StepLemmas
 pub mod BranchLemmas
 pub mod Loads
 pub mod StoreLemmas
 pub mod CallArguments
-pub mod CallRegisters
+pub mod CallChecks
 pub mod CallWindows
 pub mod CallLemmas
 pub mod Seen

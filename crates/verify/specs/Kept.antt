@@ -20,4 +20,3 @@ EdgesInside i unit end = (v : ℕ) → IsIn (pos v) (leads_to i unit) → v < en
 -- and lies further on
 abbrev pub EdgesForward : Insn → ℕ → Type 0
 EdgesForward i unit = (z : ℤ) → IsIn z (leads_to i unit) → pos unit <ℤ z
-

@@ -155,7 +155,6 @@ fn stack_window(
     requires { size ≤ 8 }
     ensures refused { result_err result ≡ write_refused region (window_known region offsets.low offsets.high distance size) }
     ensures there { IfOk result (λ w. window_known region offsets.low offsets.high distance size ≡ Some w) }
-    ensures stack { IfOk result (λ w. region ≡ Region.Stack) }
     ensures fits { IfOk result (λ w. w.place + w.size ≤ 512) }
     ensures single { IfOk result (λ w. offsets.low ≡ offsets.high → w.size ≡ size) }
 {

@@ -4,7 +4,7 @@ use Rattle.semantics.specs.declared.request.Helper.{Helper}
 use Rattle.semantics.specs.Call.{helper_of}
 use Rattle.helper.specs.Table.{arguments_of}
 use Rattle.verify.specs.Calls.{answer_of, arguments_reason, window_reason, helper_reason}
-use Rattle.verify.proofs.CallRegisters.{passed, err_is, or_first, or_refused}
+use Rattle.verify.proofs.CallChecks.{passed, err_is, or_first, or_refused}
 use Rattle.verify.proofs.calls.call.Goals as goal
 
 pub returns-in_err-check_arguments-clause-refused : goal.returns-in_err-check_arguments-clause-refused

@@ -1,8 +1,7 @@
 use Rattle.std.proofs.Common.{rules, ◌≡◌, w16, w32, to_z, of_z, length}
 use Rattle.verify.proofs.Jumps.{jump_inside, long_inside, branch_inside}
 use Rattle.verify.specs.Instructions.{IsStraight}
-use Rattle.verify.proofs.StepLemmas.{OnOk-map}
-use Rattle.verify.proofs.InstructionLemmas.{straight_answers, straight_flows, jump_flows, long_flows}
+use Rattle.verify.proofs.InstructionLemmas.{OnOk-map, straight_answers, straight_flows, jump_flows, long_flows}
 use Rattle.verify.proofs.pass.pass_state.Goals as goal
 
 pub pass_jump-requires-clause-edges : goal.pass_jump-requires-clause-edges

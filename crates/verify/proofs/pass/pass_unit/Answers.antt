@@ -1,9 +1,8 @@
-use Rattle.std.proofs.Common.{◌≡◌, ◌∙◌, ap, sym, length, length-set, Some}
+use Rattle.std.proofs.Common.{◌≡◌, ◌∙◌, ap, sym, length, length-set}
 use Rattle.insn.specs.Program.{slots_of, instruction_at}
 use Rattle.verify.proofs.EdgeEnds.{inside_of_forward}
 use Rattle.verify.specs.Flow.{kept_at}
-use Rattle.verify.proofs.StepLemmas.{OnOk-map}
-use Rattle.verify.proofs.InstructionLemmas.{unit_answers, unit_flows}
+use Rattle.verify.proofs.InstructionLemmas.{OnOk-map, unit_answers, unit_flows}
 use Rattle.verify.proofs.pass.pass_unit.Goals as goal
 
 pub pass_state-requires-clause-inside : goal.pass_state-requires-clause-inside

@@ -1,7 +1,6 @@
--- Registers behind a call, and checks one after another.
+-- Checks of a call, one after another.
 use Rattle.std.proofs.Common.{◌≡◌, Option, Some, None, refl, ap}
 use Rattle.std.specs.Prelude.{Result, Ok, Err, IsErrAnd}
-use Rattle.semantics.specs.declared.value.Value.TheVariants as value
 use Rattle.verify.specs.declared.reason.Reason.{Reason}
 use Rattle.verify.specs.Calls.{answer_of, or_reason}
 
