@@ -17,7 +17,7 @@ use Rattle.semantics.specs.Entries.{is_entered}
 use Rattle.semantics.specs.State.{Cause, Argument, State, Next, Ask, Trap, value_at, given}
 use Rattle.semantics.specs.Memory.{stack_place, cells_at, bytes_in, with_words}
 use Rattle.semantics.specs.Outbox.{Choice, places_set, along_row, as_taken}
-use Rattle.semantics.specs.Call.{argument, below, pointer, slot_in, word_in, pointer_in, copy_of, orders_of, orders_at, asked, sent, sign_in, pass_in, attempted, called, fits, resumed}
+use Rattle.semantics.specs.Call.{argument, below, slot_in, word_in, pointer_in, copy_of, orders_of, orders_at, asked, sent, sign_in, pass_in, attempted, called, fits, resumed}
 use Rattle.absval.specs.declared.value.AbsVal.{AbsVal}
 use Rattle.absval.specs.declared.value.AbsVal.TheVariants.{Unset as Unknown}
 use Rattle.absval.specs.Contains.{Contains}
@@ -29,11 +29,11 @@ use Rattle.helper.proofs.Tests.{copy_in, place_in, row_in, sway_in}
 use Rattle.helper.proofs.Accepts.{asked_trap, sent_trap}
 use Rattle.helper.proofs.Traps.{number_if, pointer_is}
 use Rattle.verify.specs.declared.state.AbsState.{AbsState}
-use Rattle.verify.specs.Gamma.{RegistersDescribe, Describes}
+use Rattle.verify.proofs.Gamma.{RegistersDescribe, Describes}
 use Rattle.semantics.specs.Relay.{IsSetting, Relay}
-use Rattle.verify.specs.Outcomes.{DescribesAt, GoesOn}
+use Rattle.verify.proofs.Outcomes.{DescribesAt, GoesOn}
 use Rattle.verify.specs.Calls.{abstract_at, arguments_reason}
-use Rattle.verify.specs.CallStates.{Puts, CopyStands, RowStands, WindowStands}
+use Rattle.verify.proofs.CallStates.{Puts, CopyStands, RowStands, WindowStands}
 use Rattle.verify.proofs.CallArguments.{arguments_fine}
 use Rattle.verify.proofs.Zips.{AllZip-at}
 

@@ -30,11 +30,11 @@ use Rattle.helper.proofs.Answered.{calls_return}
 use Rattle.verify.specs.declared.reason.Reason.{Reason}
 use Rattle.verify.specs.declared.reason.Reason.TheVariants as reason
 use Rattle.verify.specs.declared.state.AbsState.{AbsState}
-use Rattle.verify.specs.Gamma.{RegistersDescribe, Describes}
-use Rattle.verify.specs.Outcomes.{GoesOn}
+use Rattle.verify.proofs.Gamma.{RegistersDescribe, Describes}
+use Rattle.verify.proofs.Outcomes.{GoesOn}
 use Rattle.verify.specs.MemoryTable.{all_bytes}
 use Rattle.verify.specs.Calls.{IsBelow, IsPointer, abstract_at, window_from, target_reason, source_reason, copy_reason, row_reason, reason_if, arguments_reason, window_reason, helper_reason, is_certain, known_behind}
-use Rattle.verify.specs.CallStates.{Puts, WordsStand, CopyStands, RowStands, WindowStands}
+use Rattle.verify.proofs.CallStates.{Puts, WordsStand, CopyStands, RowStands, WindowStands}
 use Rattle.verify.specs.Knowledge.{put_bytes, spread_bytes}
 use Rattle.verify.specs.Transfer.{written, copied, stack_behind, called}
 use Rattle.verify.proofs.TableLemmas.{length-table}

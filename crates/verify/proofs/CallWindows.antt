@@ -26,7 +26,7 @@ use Rattle.absmem.proofs.Overwriting.{length-overwritten}
 use Rattle.verify.specs.declared.reason.Reason.TheVariants.{StackUnset}
 use Rattle.verify.specs.MemoryTable.{all_bytes}
 use Rattle.verify.specs.Calls.{answer_of, source_reason}
-use Rattle.verify.specs.CallStates.{WordsStand}
+use Rattle.verify.proofs.CallStates.{WordsStand}
 use Rattle.verify.proofs.Loads.{Lies, number_found, context_part}
 use Rattle.verify.proofs.StoreLemmas.{low_bytes, length-low}
 

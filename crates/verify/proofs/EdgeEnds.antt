@@ -6,11 +6,9 @@ use Rattle.insn.specs.declared.insn.Insn.TheVariants.{Arithmetic, Negate, SignEx
 use Rattle.insn.specs.Insn.{units_of}
 use Rattle.insn.specs.Program.{slots_of, instruction_at}
 use Rattle.semantics.specs.Plain.{IsIn, leads_to}
-use Rattle.semantics.specs.State.{Outcome, Next, Ask, Trap}
-use Rattle.semantics.specs.State.{Exit as Exited}
-use Rattle.verify.specs.Outcomes.{IsStraight, IsEnd}
+use Rattle.verify.specs.Instructions.{IsStraight}
 use Rattle.verify.specs.Forward.{IsForward}
-use Rattle.verify.specs.Kept.{Kept, Arrives, EdgesInside}
+use Rattle.verify.specs.Kept.{EdgesInside}
 use Rattle.verify.proofs.Edges.{start_inside}
 
 -- what goes on behind itself has its edge there
@@ -28,13 +26,6 @@ straight_edge (LoadSigned part dst base offset) unit h = inl refl
 straight_edge (Store size base offset source) unit h = inl refl
 straight_edge (Call helper) unit h = inl refl
 straight_edge Exit unit h = absurd h
-
--- where the program ends, nothing is left to be described
-pub end_arrives : (pending : List Kept) (i : Insn) (unit : ℕ) (o : Outcome) → IsEnd o → Arrives pending i unit o
-end_arrives pending i unit (Next t) h = absurd h
-end_arrives pending i unit (Ask request t) h = absurd h
-end_arrives pending i unit (Exited r0 t) h = tt
-end_arrives pending i unit (Trap cause) h = absurd h
 
 -- in a program that leads forward each edge ends inside
 pub inside_of_forward : (program : List Insn) (unit : ℕ) (i : Insn) (end : ℕ) → IsForward program → instruction_at program unit ≡ Some i → end ≡ length (slots_of program) → EdgesInside i unit end

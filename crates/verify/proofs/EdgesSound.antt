@@ -20,12 +20,11 @@ use Rattle.absval.specs.declared.value.AbsVal.{AbsVal}
 use Rattle.absval.specs.Table.{Ends, Nothing, Numbers, Pointers}
 use Rattle.verify.specs.declared.comparison.Comparison.{Comparison}
 use Rattle.verify.specs.declared.state.AbsState.{AbsState}
-use Rattle.verify.specs.Gamma.{RegistersDescribe, Describes}
-use Rattle.verify.specs.Branches.{decided_by}
+use Rattle.verify.proofs.Gamma.{RegistersDescribe, Describes}
 use Rattle.verify.specs.Registers.{seen, known_at, refined_known, edge_by, edge_known}
 use Rattle.verify.specs.Knowledge.{value_of}
 use Rattle.verify.specs.Transfer.{narrowed}
-use Rattle.verify.proofs.BranchLemmas.{decided_used}
+use Rattle.verify.proofs.BranchLemmas.{decided_by, decided_used}
 use Rattle.verify.proofs.Zips.{AllZip-narrow}
 use Rattle.verify.proofs.RangeRows.{by_test}
 use Rattle.verify.proofs.SetRows.{AreSets, single_set, single_of, refined_sets, refined_have}

@@ -1,5 +1,5 @@
 -- What the pass answers at an instruction, and what flows on.
-use Rattle.std.proofs.Common.{◌≡◌, ℕ, ℤ, List, Option, Some, None, Result, Ok, Err, sym, subst, refl}
+use Rattle.std.proofs.Common.{◌≡◌, ℕ, ℤ, List, Option, Some, None, Result, Ok, Err, OnOk, sym, subst, refl}
 use Rattle.std.specs.Prelude.{option_map, Box, slice_set}
 use Rattle.std.specs.Result.{result_err}
 use Rattle.std.specs.declared.alloc.Global.{Global}
@@ -8,11 +8,14 @@ use Rattle.insn.specs.declared.insn.Insn.TheVariants.{Arithmetic, Negate, SignEx
 use Rattle.verify.specs.declared.error.VerifyError.{VerifyError}
 use Rattle.verify.specs.declared.reason.Reason.{Reason}
 use Rattle.verify.specs.declared.state.AbsState.{AbsState}
-use Rattle.verify.specs.Outcomes.{IsStraight}
+use Rattle.verify.specs.Instructions.{IsStraight, straight_reason, reason_of, StraightFlows, StateFlows, AnswersAt, UnitFlows}
 use Rattle.verify.specs.declared.error.VerifyError.TheVariants.{At}
 use Rattle.verify.specs.Kept.{Kept}
 use Rattle.verify.specs.Flow.{Answers, JumpFlows}
-use Rattle.verify.specs.Instructions.{straight_reason, reason_of, StraightFlows, StateFlows, AnswersAt, UnitFlows}
+
+pub OnOk-map : {E : Type 0} (r : Result (Unit {0}) E) (P Q : Type 0) → (P → Q) → OnOk r P → OnOk r Q
+OnOk-map (Ok u) P Q f p = f p
+OnOk-map (Err e) P Q f p = tt
 
 answers_of : (o : Option Reason) (unit : ℕ) (r : Result (Unit {0}) VerifyError) → result_err r ≡ option_map (λ x. At x unit) o → Answers o unit r
 answers_of None unit (Ok u) e = tt

@@ -21,7 +21,7 @@ use Rattle.absmem.specs.Known.{byte_at, spill_at, joined_spill}
 use Rattle.absmem.specs.Describes.{IsByteIf, cell_at, StandsAt}
 use Rattle.absmem.proofs.Keeping.{described_left}
 use Rattle.verify.specs.declared.state.AbsState.{AbsState}
-use Rattle.verify.specs.Gamma.{RegistersDescribe, Describes}
+use Rattle.verify.proofs.Gamma.{RegistersDescribe, Describes}
 use Rattle.verify.specs.Registers.{seen, known_at, joined_all}
 use Rattle.verify.specs.Knowledge.{value_of, at_entry, met}
 use Rattle.verify.proofs.TableLemmas.{length-table, table_at}

@@ -22,7 +22,7 @@ use Rattle.verify.specs.declared.error.VerifyError.{VerifyError}
 use Rattle.verify.specs.declared.reason.Reason.{Reason}
 use Rattle.verify.specs.declared.state.AbsState.{AbsState}
 use Rattle.verify.specs.Forward.{IsForward}
-use Rattle.verify.specs.Safe.{StartsSafe}
+use Rattle.verify.proofs.Safe.{StartsSafe}
 use Rattle.verify.specs.Structure.{structural_fault}
 use Rattle.verify.specs.Instructions.{reason_of}
 use Rattle.verify.specs.Knowledge.{at_entry}

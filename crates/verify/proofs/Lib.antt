@@ -1,3 +1,8 @@
+pub mod Gamma
+pub mod Outcomes
+pub mod Stores
+pub mod CallStates
+pub mod Safe
 pub mod StructureLemmas
 pub mod Starts
 pub mod Edges
@@ -6,17 +11,13 @@ pub mod PlainWalk
 pub mod SafeLaws
 pub mod Zips
 pub mod TableLemmas
-pub mod Numbers
 pub mod EdgeEnds
 pub mod Jumps
-pub mod Blanks
-pub mod Rests
-pub mod StepLemmas
 pub mod BranchLemmas
 pub mod Loads
 pub mod StoreLemmas
 pub mod CallArguments
-pub mod CallRegisters
+pub mod CallChecks
 pub mod CallWindows
 pub mod CallLemmas
 pub mod Seen
@@ -52,3 +53,4 @@ pub mod JoinSound
 pub mod EdgesSound
 pub mod PassSound
 pub mod JudgedSound
+pub mod JudgedAnswers

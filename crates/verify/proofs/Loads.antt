@@ -94,10 +94,6 @@ context_part context at size long all le =
 abbrev pub Lies : Region → ℤ → ℤ → ℤ → ℕ → ℕ → ℕ → Type 0
 Lies region low high distance first total size = (o : ℤ) → low ≤ℤ o → o ≤ℤ high → LiesIn first total size (window region (o +ℤ distance) size)
 
-pub lies_at : (region reg : Region) (low high x distance : ℤ) (first total n size : ℕ) → region ≡ reg → x ≡ distance → n ≡ size → Lies region low high x first total n → Lies reg low high distance first total size
-lies_at region reg low high x distance first total n size e f g lies =
-    subst (λ (m : ℕ). Lies reg low high distance first total m) g (subst (λ (y : ℤ). Lies reg low high y first total n) f (subst (λ (r : Region). Lies r low high x first total n) e lies))
-
 -- what holds of each place in the window holds of the cells at a pointer
 pub reads_give : (r : AbsVal) (f : List Cell → Result Value Cause) (context : List ℕ) (cells : List Cell) (region : Region) (low high distance : ℤ) (first total size : ℕ) (v : Value) → IsPointerIn region low high v →
     Lies region low high distance first total size →

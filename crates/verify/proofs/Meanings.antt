@@ -1,6 +1,6 @@
 -- What is known of registers, by its ends: it is well formed, and holds the registers' values.
 use Rattle.std.proofs.Common.{ℕ, zero, suc, ◌^◌, ◌<◌, List, [], ◌∷◌, arith}
-use Rattle.std.specs.Prelude.{ℤ, slice_set}
+use Rattle.std.specs.Prelude.{slice_set}
 use Rattle.std.specs.Int.{w64, cast_unsigned}
 use Rattle.word.specs.declared.Operation.{Operation}
 use Rattle.word.specs.declared.Operation.TheVariants.{Add, Sub, Mul, Div, SignedDiv, Or, And, ShiftLeft, ShiftRight, Mod, SignedMod, Xor, Move, ShiftSigned}
@@ -13,7 +13,7 @@ use Rattle.absval.specs.declared.value.AbsVal.{AbsVal}
 use Rattle.absval.specs.declared.value.AbsVal.TheVariants.{Unset, Number, Pointer}
 use Rattle.absval.specs.Contains.{Contains}
 use Rattle.absval.specs.Table.{Ends, ends_of}
-use Rattle.verify.specs.Gamma.{RegistersDescribe}
+use Rattle.verify.proofs.Gamma.{RegistersDescribe}
 use Rattle.verify.specs.Registers.{seen, known_at, operand_known, first_known}
 use Rattle.verify.specs.Knowledge.{value_of}
 use Rattle.verify.proofs.SetRows.{IsSet, single_set, single_of}
@@ -61,10 +61,6 @@ pub all_set : (known : List AbsVal) (r : ℕ) (a : AbsVal) → AllWell known →
 all_set [] r a all h = tt
 all_set (b ∷ known) zero a all h = (h, all.1)
 all_set (b ∷ known) (suc r) a all h = (all.0, all_set known r a all.1 h)
-
--- a word
-immediate_below : (n : ℤ) → cast_unsigned w64 n < 2 ^ 64 → Meant (operand_known [] (Immediate n))
-immediate_below n h = single_set (cast_unsigned w64 n) h
 
 -- ---- operands
 

@@ -1,5 +1,5 @@
 -- Rows of the table of loads and stores.
-use Rattle.std.proofs.Common.{ap₂, ◌≡◌, ◌∙◌, ℕ, zero, suc, ◌+◌, ◌<◌, ◌≤◌, List, Bool, true, false, Option, Some, None, Result, Err, refl, sym, subst, arith}
+use Rattle.std.proofs.Common.{ap₂, ◌≡◌, ◌∙◌, ℕ, zero, suc, ◌+◌, ◌<◌, ◌≤◌, List, Bool, true, false, Option, Some, None, Result, Ok, Err, refl, sym, ap, subst, arith}
 use Rattle.std.specs.Prelude.{ℤ, ◌&&◌, ◌-◌, ◌↔◌, IsTrue, if◌then◌else◌}
 use Rattle.std.specs.Option.{ok_or}
 use Rattle.std.specs.Result.{result_err}
@@ -14,10 +14,10 @@ use Rattle.insn.specs.Insn.{bytes_of, part_bytes}
 use Rattle.word.specs.declared.Narrow.{Narrow}
 use Rattle.absval.specs.declared.value.Offsets.{Offsets}
 use Rattle.absval.specs.declared.value.AbsVal.{AbsVal}
-use Rattle.absval.specs.declared.value.AbsVal.TheVariants.{Pointer}
+use Rattle.absval.specs.declared.value.AbsVal.TheVariants.{Unset, Number, Pointer}
 use Rattle.absval.specs.Table.{Ends, ends_of, loaded_known}
 use Rattle.absmem.specs.Known.{Known, byte_at}
-use Rattle.verify.specs.MemoryTable.{all_bytes, unset_in, spilled, unless, pointer_or, stack_given, load_from, load_given, signed_from, signed_load_given, write_refused}
+use Rattle.verify.specs.MemoryTable.{pointer_in, all_bytes, unset_in, spilled, unless, pointer_or, stack_given, load_from, load_given, signed_from, signed_load_given, write_refused}
 
 window_refused : (o : Option Window) → result_err (ok_or o Bounds) ≡ write_refused Stack o
 window_refused None = refl
@@ -70,6 +70,13 @@ stack_checked b known region w e f = rw (e, f) refl
 pub number_from_stack : (known : Known) (size : Size) (w : Window) (b : Bool) → None ≡ spilled known size w → all_bytes known.bytes w.place w.size ≡ b →
     unless (if b then None else Some StackUnset) (loaded_known size) ≡ stack_given known size w
 number_from_stack known size w b e f = ap₂ (λ (o : Option Ends) (t : Bool). pointer_or o (unless (if t then None else Some StackUnset) (loaded_known size))) e (sym f)
+
+-- the pointer that is found is the base
+pub pointer_found : (base : AbsVal) (region : Region) (offsets : Offsets) → Ok (region, offsets) ≡ pointer_in base → base ≡ Pointer region offsets
+pointer_found Unset region offsets e = absurd cc
+pointer_found (Number numbers) region offsets e = absurd cc
+pointer_found (Pointer other at) region offsets e =
+    let same : (region, offsets) ≡ (other, at) = cc in ap (λ (p : Region × Offsets). Pointer p.0 p.1) (sym same)
 
 -- a window that leaves its region
 pub load_out : (known : Known) (size : Size) (base : AbsVal) (region : Region) (offsets : Offsets) (distance x : ℤ) (n : ℕ) (reason : Reason) → base ≡ Pointer region offsets → x ≡ distance → n ≡ bytes_of size →

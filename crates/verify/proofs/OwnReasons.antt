@@ -26,11 +26,11 @@ use Rattle.verify.specs.declared.reason.Reason.TheVariants as reason
 use Rattle.verify.specs.declared.state.AbsState.{AbsState}
 use Rattle.verify.specs.Structure.{IsOwn}
 use Rattle.verify.specs.Registers.{seen, known_at, operand_known}
-use Rattle.verify.specs.Reasons.{Check, first_reason, arithmetic_checks, made_checks, write_checks}
+use Rattle.verify.specs.Reasons.{Check, first_reason, arithmetic_checks, made_checks, write_checks, compare_checks, exit_checks}
 use Rattle.verify.specs.MemoryTable.{all_bytes, unset_in, unless, spilled, pointer_or, load_from, load_given, all_numbers, signed_from, signed_load_given, is_storable, write_refused, store_refused, unset_or, frame_or}
 use Rattle.verify.specs.Calls.{or_reason, reason_if, argument_reason, arguments_reason, window_from, target_reason, source_reason, copy_reason, row_reason, window_reason, helper_reason}
 use Rattle.verify.specs.Calls.{abstract_at as argument}
-use Rattle.verify.specs.Instructions.{straight_reason}
+use Rattle.verify.specs.Instructions.{straight_reason, reason_of}
 
 abbrev pub Own : Option Reason → Type 0
 Own None = Unit {0}
@@ -42,7 +42,7 @@ abbrev EachOwn : List Check → Type 0
 EachOwn [] = Unit {0}
 EachOwn (check ∷ checks) = IsOwn check.1 × EachOwn checks
 
-pub first_own : (checks : List Check) → EachOwn checks → Own (first_reason checks)
+first_own : (checks : List Check) → EachOwn checks → Own (first_reason checks)
 first_own [] h = tt
 first_own (check ∷ checks) h = by_test check.0 (first_own checks h.1)
   where
@@ -168,7 +168,7 @@ call_own (Some helper) a = or_own (arguments_reason (arguments_of helper) 1 a.re
 
 -- ---- instructions
 
-pub straight_own : (i : Insn) (a : AbsState) → Own (straight_reason i a)
+straight_own : (i : Insn) (a : AbsState) → Own (straight_reason i a)
 straight_own (Arithmetic w operation dst operand) a = first_own (arithmetic_checks (seen a.registers) w operation dst operand) (tt, (tt, (tt, (tt, tt))))
 straight_own (Negate w dst) a = first_own (made_checks dst (known_at (seen a.registers) dst) (negated_known w (known_at (seen a.registers) dst))) (tt, (tt, (tt, tt)))
 straight_own (SignExtend w part dst src) a = first_own (made_checks dst (known_at (seen a.registers) src) (extended_known w part (known_at (seen a.registers) src))) (tt, (tt, (tt, tt)))
@@ -185,6 +185,11 @@ straight_own (Jump distance) a = tt
 straight_own (LongJump distance) a = tt
 straight_own (Branch w condition dst operand distance) a = tt
 straight_own Exit a = tt
+
+pub instruction_own : (i : Insn) (a : AbsState) → Own (reason_of i a)
+instruction_own (Branch w condition dst operand distance) a = first_own (compare_checks (known_at (seen a.registers) dst) (operand_known (seen a.registers) operand)) (tt, (tt, (tt, (tt, tt))))
+instruction_own Exit a = first_own (exit_checks (known_at (seen a.registers) 0)) (tt, (tt, tt))
+instruction_own i a = straight_own i a
 
 -- so the reason that is answered is
 pub reason_own : (o : Option Reason) (r : Reason) → Some r ≡ o → Own o → IsOwn r

@@ -18,11 +18,11 @@ use Rattle.semantics.specs.Plain.{IsIn, leads_to}
 use Rattle.absval.specs.Table.{Ends, Nothing, Numbers, Pointers}
 use Rattle.verify.specs.declared.comparison.Comparison.{Comparison}
 use Rattle.verify.specs.declared.state.AbsState.{AbsState}
-use Rattle.verify.specs.Gamma.{Describes}
+use Rattle.verify.proofs.Gamma.{Describes}
 use Rattle.verify.specs.Registers.{seen, known_at, operand_known}
 use Rattle.verify.specs.Reasons.{first_reason, compare_checks, exit_checks}
-use Rattle.verify.specs.Outcomes.{DescribesAt, GoesOn, IsStraight}
-use Rattle.verify.specs.Instructions.{reason_of}
+use Rattle.verify.proofs.Outcomes.{DescribesAt, GoesOn}
+use Rattle.verify.specs.Instructions.{IsStraight, reason_of}
 use Rattle.verify.specs.Transfer.{Edge, follows, narrowed, edge_to, edges}
 use Rattle.verify.specs.Judgement.{KnownSoFar, reached_at, joined_with, along, along_all}
 use Rattle.verify.proofs.Meanings.{Stands, stands_at, operand_stands}

@@ -54,10 +54,6 @@ pub taken_same : (w : Width) (x : ℕ) → x < 2 ^ bits_of w → taken w x ≡ x
 taken_same W32 x h = mod-eq_of_lt h
 taken_same W64 x h = refl
 
-pub taken_below : (w : Width) (x : ℕ) → x < 2 ^ 64 → taken w x < 2 ^ bits_of w
-taken_below W32 x h = omega arith
-taken_below W64 x h = h
-
 -- of numbers of the width, one number and one number give the exact result
 used_holds : (w : Width) (operation : Operation) (p q : ℕ × ℕ) (x y : ℕ) → Holds (2 ^ bits_of w) p x → Holds (2 ^ bits_of w) q y →
     Holds (2 ^ bits_of w) (of_used w operation p q) (operated w operation x y)

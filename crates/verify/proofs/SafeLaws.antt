@@ -7,7 +7,7 @@ use Rattle.semantics.specs.Execution.{step}
 use Rattle.semantics.specs.Run.{IsSound}
 use Rattle.semantics.specs.Safety.{LeadsTo, IsSafe}
 use Rattle.semantics.proofs.SafetyLaws.{sound_of_safe}
-use Rattle.verify.specs.Safe.{StartsSafe}
+use Rattle.verify.proofs.Safe.{StartsSafe}
 
 -- what is weaker for each next state is weaker for the outcome
 pub leads_weaker : (P Q : State → Type 0) (o : Outcome) → ((t : State) → P t → Q t) → LeadsTo P o → LeadsTo Q o

@@ -29,12 +29,12 @@ use Rattle.verify.specs.declared.reason.Reason.{Reason}
 use Rattle.verify.specs.declared.reason.Reason.TheVariants as reason
 use Rattle.word.specs.Arithmetic.{negated, sign_extended, swapped}
 use Rattle.verify.specs.declared.state.AbsState.{AbsState}
-use Rattle.verify.specs.Gamma.{Describes}
+use Rattle.verify.proofs.Gamma.{Describes}
 use Rattle.verify.specs.Registers.{seen, known_at, operand_known, first_known}
 use Rattle.verify.specs.Reasons.{first_reason, made_checks, is_unset}
 use Rattle.verify.specs.MemoryTable.{unset_or, frame_or, load_given, signed_load_given, store_refused}
-use Rattle.verify.specs.Outcomes.{GoesOn, Follows, IsStraight}
-use Rattle.verify.specs.Instructions.{reason_of}
+use Rattle.verify.proofs.Outcomes.{GoesOn, Follows}
+use Rattle.verify.specs.Instructions.{IsStraight, reason_of}
 use Rattle.verify.specs.Knowledge.{value_of}
 use Rattle.verify.specs.Transfer.{assigned, number_stored, pointer_stored, stored, called, follows}
 use Rattle.verify.proofs.StoreLemmas.{store_goes}

@@ -1,8 +1,8 @@
 -- What stores leave.
-use Rattle.std.proofs.Common.{◌≡◌, ◌∙◌, ℕ, zero, suc, ◌+◌, ◌<◌, ◌≤◌, List, map, length, Result, Ok, Err, refl, sym, ap, subst, arith}
+use Rattle.std.proofs.Common.{◌≡◌, ◌∙◌, ℕ, zero, suc, ◌+◌, ◌≤◌, List, map, length, Result, Ok, Err, refl, sym, ap, subst, arith}
 use Rattle.std.specs.Prelude.{ℤ, ◌≤ℤ◌, ◌+ℤ◌}
 use Rattle.std.proofs.lemmas.Int.{ints}
-use Rattle.std.specs.Int.{byte_at, bytes_low_first}
+use Rattle.std.specs.Int.{bytes_low_first}
 use Rattle.word.specs.Bytes.{little_bytes}
 use Rattle.semantics.specs.declared.value.Region.{Region}
 use Rattle.semantics.specs.declared.value.Region.TheVariants.{Stack, Context}
@@ -21,9 +21,9 @@ use Rattle.absmem.specs.Known.{Known}
 use Rattle.absmem.specs.Describes.{Describes as StackDescribes, AreBytes}
 use Rattle.absmem.proofs.Overwriting.{length-overwritten}
 use Rattle.verify.specs.declared.state.AbsState.{AbsState}
-use Rattle.verify.specs.Gamma.{RegistersDescribe}
-use Rattle.verify.specs.Outcomes.{GoesOn}
-use Rattle.verify.specs.Stores.{Leads}
+use Rattle.verify.proofs.Gamma.{RegistersDescribe}
+use Rattle.verify.proofs.Outcomes.{GoesOn}
+use Rattle.verify.proofs.Stores.{Leads}
 use Rattle.verify.proofs.Loads.{Lies}
 
 pub low_bytes : (from size n : ℕ) → AreBytes (map Byte (bytes_low_first from size n))

@@ -22,7 +22,7 @@ use Rattle.absmem.specs.Describes.{Describes as StackDescribes}
 use Rattle.verify.specs.declared.reason.Reason.{Reason}
 use Rattle.verify.specs.declared.reason.Reason.TheVariants.{PointerUse}
 use Rattle.verify.specs.MemoryTable.{is_storable, write_refused, store_refused}
-use Rattle.verify.specs.Stores.{Leads}
+use Rattle.verify.proofs.Stores.{Leads}
 use Rattle.verify.specs.Knowledge.{put_bytes, spread_bytes, put_pointer}
 use Rattle.verify.specs.Transfer.{number_stored, pointer_stored}
 use Rattle.verify.specs.Transfer as transfer

@@ -2,8 +2,8 @@
 use Rattle.std.proofs.Common.{◌<◌, get_or, drop, drop-cons, add-one, ◌≡◌, ℕ, zero, suc, ◌+◌, List, [], ◌∷◌, ◌++◌, Option, Some, None, Bool, true, false, refl, sym, ap, ◌∙◌, length, slice_get, if◌then◌else◌, arith}
 use Rattle.insn.specs.declared.insn.Insn.{Insn}
 use Rattle.insn.specs.Insn.{units_of}
-use Rattle.insn.specs.Program.{slots_of, starts_of}
-use Rattle.insn.proofs.SlotLemmas.{length-slots_of-cons, length-starts_of}
+use Rattle.insn.specs.Program.{starts_of}
+use Rattle.insn.proofs.SlotLemmas.{length-starts_of}
 use Rattle.std.proofs.lemmas.Option.{slice_get-get_or, slice_get_read}
 use Rattle.verify.specs.declared.error.VerifyError.{VerifyError}
 use Rattle.verify.specs.declared.error.VerifyError.TheVariants.{At}
@@ -37,11 +37,6 @@ first_fault-append_none (check ∷ checks) more e = by_test check.0 (λ h. first
 pub checks_step : (program : List Insn) (xs : List Insn) (k unit : ℕ) (i : Insn) → k < length xs → i ≡ get_or xs k i →
     checks_from program unit (drop k xs) ≡ jump_checks program unit i ++ checks_from program (unit + units_of i) (drop (k + 1) xs)
 checks_step program xs k unit i lt at = rw (drop_at xs k i lt at) refl
-
--- and its units
-pub units_step : (xs : List Insn) (k : ℕ) (i : Insn) → k < length xs → i ≡ get_or xs k i →
-    length (slots_of (drop k xs)) ≡ units_of i + length (slots_of (drop (k + 1) xs))
-units_step xs k i lt at = rw (drop_at xs k i lt at) (length-slots_of-cons i (drop (k + 1) xs))
 
 -- the last check is that of the last instruction, at the unit where it starts
 pub last_checks-at : (is : List Insn) (from k unit : ℕ) (i : Insn) → suc k ≡ length is → slice_get (starts_of from is) k ≡ Some unit → slice_get is k ≡ Some i →

@@ -1,5 +1,5 @@
 -- Lists that describe lists, place by place.
-use Rattle.std.proofs.Common.{◌≡◌, ◌∙◌, ◌≢◌, ℕ, zero, suc, ◌<◌, List, [], ◌∷◌, length, get_or, set, arith, subst, sym, ap, refl, ⊎_elim, get_or-set_same, get_or-set_other}
+use Rattle.std.proofs.Common.{◌≡◌, ◌≢◌, ℕ, zero, suc, ◌<◌, List, [], ◌∷◌, length, get_or, set, subst, sym, ap, refl, ⊎_elim, get_or-set_same, get_or-set_other}
 use Rattle.std.proofs.lemmas.Bool.{cases_eq}
 use Rattle.std.proofs.lemmas.List.{get_or_default}
 use Rattle.std.specs.List.{AllZip}
@@ -24,17 +24,6 @@ AllZip-length R [] (b ∷ ys) z = absurd z
 AllZip-length R (a ∷ xs) [] z = absurd z
 AllZip-length R (a ∷ xs) (b ∷ ys) z = ap suc (AllZip-length R xs ys z.1)
 
-pub AllZip-by_index : {A B : Type 0} (R : A → B → Type 0) (xs : List A) (ys : List B) (d : A) (e : B) → length xs ≡ length ys → ((k : ℕ) → k < length xs → R (get_or xs k d) (get_or ys k e)) → AllZip R xs ys
-AllZip-by_index R [] [] d e l f = tt
-AllZip-by_index R [] (b ∷ ys) d e l f = absurd (omega arith)
-AllZip-by_index R (a ∷ xs) [] d e l f = absurd (omega arith)
-AllZip-by_index R (a ∷ xs) (b ∷ ys) d e l f = (f 0 (omega arith), AllZip-by_index R xs ys d e (omega arith) (λ k h. f (suc k) (omega arith)))
-
--- each place of xs', as far as xs goes, holds what that of xs holds
-pub AllZip-wider : {A B : Type 0} (R : A → B → Type 0) (xs xs' : List A) (ys : List B) (d : A) (e : B) → length xs' ≡ length xs → ((k : ℕ) (y : B) → k < length xs → R (get_or xs k d) y → R (get_or xs' k d) y) → R d e → AllZip R xs ys → AllZip R xs' ys
-AllZip-wider R xs xs' ys d e l w r z =
-    AllZip-by_index R xs' ys d e (l ∙ AllZip-length R xs ys z) (λ k h. w k (get_or ys k e) (subst (λ n. k < n) l h) (AllZip-at R xs ys k d e z r))
-
 -- what a place holds after a write
 pub at_set : {A : Type 0} (P : A → Type 0) (xs : List A) (i k : ℕ) (x d : A) → i < length xs → (k ≡ i → P x) → (k ≢ i → P (get_or xs k d)) → P (get_or (set xs i x) k d)
 at_set P xs i k x d l f g =
@@ -43,10 +32,6 @@ at_set P xs i k x d l f g =
 -- what a read gives, at another default
 pub at_read : {A : Type 0} (P : A → Type 0) (xs : List A) (i k : ℕ) (x d : A) → i < length xs → k ≡ i → P (get_or xs k d) → P (get_or xs i x)
 at_read P xs i k x d l e p = rw (get_or_default xs i x d l) (subst (λ j. P (get_or xs j d)) e p)
-
--- what holds of a place holds of what was read there
-pub of_read : {A : Type 0} (P : A → Type 0) (xs : List A) (i : ℕ) (x d : A) → i < length xs → x ≡ get_or xs i x → P x → P (get_or xs i d)
-of_read P xs i x d l e p = rw (← get_or_default xs i x d l) (subst P e p)
 
 -- a place may hold less
 pub AllZip-narrow : {A B : Type 0} (R : A → B → Type 0) (xs : List A) (ys : List B) (i : ℕ) (x : A) (e : B) → AllZip R xs ys → R x (get_or ys i e) → AllZip R (set xs i x) ys

@@ -18,6 +18,14 @@ use Rattle.verify.specs.Calls.{call_reason, IsBehind, StackBehind}
 use Rattle.verify.specs.Kept.{Kept}
 use Rattle.verify.specs.Flow.{Answers, Flows, JumpFlows, BranchFlows}
 
+-- an instruction that goes on behind itself
+abbrev pub IsStraight : Insn → Type 0
+IsStraight (Jump distance) = ⊥
+IsStraight (LongJump distance) = ⊥
+IsStraight (Branch width condition dst operand distance) = ⊥
+IsStraight Exit = ⊥
+IsStraight _ = Unit {0}
+
 abbrev pub straight_reason : Insn → AbsState → Option Reason
 straight_reason (Arithmetic w operation dst operand) a = first_reason (arithmetic_checks (seen a.registers) w operation dst operand)
 straight_reason (Negate w dst) a = first_reason (made_checks dst (known_at (seen a.registers) dst) (negated_known w (known_at (seen a.registers) dst)))

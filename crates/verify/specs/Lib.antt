@@ -1,17 +1,11 @@
 pub mod Structure
 pub mod Forward
-pub mod Safe
-pub mod Gamma
 pub mod Tables
 pub mod Registers
 pub mod Reasons
-pub mod Reads
-pub mod Outcomes
 pub mod Kept
 pub mod Branches
-pub mod Stores
 pub mod Calls
-pub mod CallStates
 pub mod MemoryTable
 pub mod Flow
 pub mod Instructions

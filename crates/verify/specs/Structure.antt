@@ -1,5 +1,5 @@
 -- Faults of a program's structure: where its jumps lead, and how it ends (own).
-use Rattle.std.specs.Prelude.{ℕ, ℤ, pos, negsuc, ◌+◌, ◌+ℤ◌, Bool, true, false, nat_le, if◌then◌else◌, List, [], ◌∷◌, ◌++◌, length, Option, Some, None, is_none, ◌≡◌, IsSome}
+use Rattle.std.specs.Prelude.{ℕ, ℤ, pos, negsuc, ◌+◌, ◌+ℤ◌, Bool, true, false, nat_le, if◌then◌else◌, List, [], ◌∷◌, ◌++◌, length, Option, Some, None, is_none, IsSome}
 use Rattle.insn.specs.declared.insn.Insn.{Insn}
 use Rattle.insn.specs.declared.insn.Insn.TheVariants.{Jump, LongJump, Branch, Exit}
 use Rattle.insn.specs.Insn.{units_of}
@@ -60,11 +60,6 @@ IsOwn JumpOut = ⊥
 IsOwn JumpInWide = ⊥
 IsOwn LastNotExit = ⊥
 IsOwn reason = Unit {0}
-
--- the fault is the pass's own, of the instruction at that unit
-abbrev pub IsFaultAt : ℕ → VerifyError → Type 0
-IsFaultAt at (At reason unit) = IsOwn reason × (unit ≡ at)
-IsFaultAt at Memory = Unit {0}
 
 -- the fault is none of structure, and an instruction stands at its unit, if it has one
 abbrev pub IsOwnFault : List Insn → VerifyError → Type 0

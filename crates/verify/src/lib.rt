@@ -11,6 +11,7 @@ mod memory;
 mod pass;
 mod pending;
 mod reason;
+mod recalling;
 mod registers;
 mod state;
 mod steps;

@@ -1,18 +1,10 @@
 //! What loads and stores do to what is known.
-ghost use Rattle.std.specs.Prelude.{◌≡◌, ◌+◌, ◌≤◌, ◌<◌, ◌^◌, ◌≤ℤ◌, ◌+ℤ◌, ◌↔◌, ℕ, ℤ, List, Some, length, option_map, slice_range, IfOk, IfSome, IsTrue, OnOk, OnErr};
+ghost use Rattle.std.specs.Prelude.{◌≡◌, ◌+◌, ◌≤◌, ◌↔◌, Some, option_map, IfOk, IsTrue, OnOk, OnErr};
 ghost use Rattle.std.specs.Option.{ok_or};
 ghost use Rattle.std.specs.Result.{result_err};
-ghost use Rattle.word.specs.Arithmetic.{sign_extended};
 ghost use Rattle.insn.specs.Insn.{bytes_of, part_bytes};
-ghost use Rattle.semantics.specs.declared.value.Value.{Value};
-ghost use Rattle.semantics.specs.declared.value.Cell.{Cell};
-ghost use Rattle.semantics.specs.Memory.{window as window_at, value_in, loaded as loaded_from, loaded_signed, stored};
-ghost use Rattle.semantics.specs.Run.{IsContext};
-ghost use Rattle.absval.specs.Contains.{Contains, Gives, IsPointerIn};
 ghost use Rattle.absval.specs.Table.{ends_of, offset_ends};
-ghost use Rattle.absval.specs.Windows.{room_of, LiesIn, window_known};
-ghost use Rattle.absmem.specs.Describes.{Describes as StackDescribes, AreBytes};
-ghost use Rattle.verify.specs.Stores.{Leads};
+ghost use Rattle.absval.specs.Windows.{room_of, window_known};
 ghost use Rattle.verify.specs.MemoryTable.{pointer_in, ends_given, unset_in, spilled, stack_given, load_given, all_numbers, signed_load_given, write_refused, pointer_refused, store_refused, StoresNumber, StoresPointer, Stores};
 
 use crate::reason::Reason;
@@ -49,8 +41,7 @@ fn bytes_of_part(part: Narrow) -> usize
 
 /// The pointer that a base is.
 fn pointer_of(base: AbsVal) -> Result<(Region, Offsets), Reason>
-    ensures exact { result ≡ pointer_in base }
-    ensures holds { IfOk result (λ p. base ≡ AbsVal.Pointer p.0 p.1) }
+    ensures { result ≡ pointer_in base }
 {
     match base {
         AbsVal::Pointer(region, offsets) => Ok((region, offsets)),
@@ -63,8 +54,6 @@ fn window(region: Region, offsets: Offsets, distance: i16, size: usize) -> Resul
     requires { size ≤ 8 }
     ensures exact { result ≡ ok_or (window_known region offsets.low offsets.high distance size) Reason.Bounds }
     ensures fits { IfOk result (λ w. w.place + w.size ≤ room_of region) }
-    ensures holds { IfOk result (λ w. (o : ℤ) → offsets.low ≤ℤ o → o ≤ℤ offsets.high →
-        LiesIn w.place w.size size (window_at region (o +ℤ distance) size)) }
     ensures single { IfOk result (λ w. offsets.low ≡ offsets.high → w.size ≡ size) }
 {
     let Some(window) = window_of(region, offsets, distance, size) else {
@@ -76,9 +65,7 @@ fn window(region: Region, offsets: Offsets, distance: i16, size: usize) -> Resul
 /// The pointer that a load of eight bytes at one address finds.
 fn stored_pointer(stack: &AbsStack, size: Size, window: Window) -> Option<AbsVal>
     requires { window.place + window.size ≤ 512 }
-    ensures exact { option_map ends_of result ≡ spilled stack.now size window }
-    ensures holds { IfSome result (λ r. (cells : List Cell) (at : ℕ) → StackDescribes stack.now cells → window.place ≤ at → at + bytes_of size ≤ window.place + window.size →
-        Gives r (value_in (slice_range cells at (at + bytes_of size)))) }
+    ensures { option_map ends_of result ≡ spilled stack.now size window }
 {
     let Size::Double = size else {
         return None;
@@ -97,9 +84,7 @@ fn stored_pointer(stack: &AbsStack, size: Size, window: Window) -> Option<AbsVal
 /// What a load from the stack gives.
 fn load_stack(stack: &AbsStack, size: Size, window: Window) -> Result<AbsVal, Reason>
     requires { window.place + window.size ≤ 512 }
-    ensures exact { ends_given result ≡ stack_given stack.now size window }
-    ensures holds { IfOk result (λ r. (cells : List Cell) (at : ℕ) → StackDescribes stack.now cells → length cells ≡ 512 →
-        window.place ≤ at → at + bytes_of size ≤ window.place + window.size → Gives r (value_in (slice_range cells at (at + bytes_of size)))) }
+    ensures { ends_given result ≡ stack_given stack.now size window }
 {
     if let Some(pointer) = stored_pointer(stack, size, window) {
         return Ok(pointer);
@@ -112,9 +97,7 @@ fn load_stack(stack: &AbsStack, size: Size, window: Window) -> Result<AbsVal, Re
 
 /// What a load gives.
 pub fn load(stack: &AbsStack, size: Size, base: AbsVal, distance: i16) -> Result<AbsVal, Reason>
-    ensures exact { ends_given result ≡ load_given stack.now size (ends_of base) distance }
-    ensures holds { IfOk result (λ r. (context : List ℕ) (cells : List Cell) (v : Value) → IsContext context → StackDescribes stack.now cells → length cells ≡ 512 → Contains base v →
-        Gives r (loaded_from context cells (bytes_of size) v distance)) }
+    ensures { ends_given result ≡ load_given stack.now size (ends_of base) distance }
 {
     let (region, offsets) = pointer_of(base)?;
     let window = window(region, offsets, distance, bytes(size))?;
@@ -126,8 +109,7 @@ pub fn load(stack: &AbsStack, size: Size, base: AbsVal, distance: i16) -> Result
 
 /// What extending so many loaded bytes by their sign may give: any number.
 fn extended(part: Narrow) -> AbsVal
-    ensures exact { ends_of result ≡ all_numbers }
-    ensures holds { (n : ℕ) → n < 2 ^ 64 → Contains result (Value.Number (sign_extended Width.W64 part n)) }
+    ensures { ends_of result ≡ all_numbers }
 {
     AbsVal::Number(NumberSet::any().sign_extend(Width::W64, part))
 }
@@ -135,9 +117,7 @@ fn extended(part: Narrow) -> AbsVal
 /// The cells of the window are bytes: those of the context are.
 fn check_bytes(stack: &AbsStack, region: Region, window: Window) -> Result<(), Reason>
     requires { window.place + window.size ≤ room_of region }
-    ensures exact { result_err result ≡ unset_in stack.now region window }
-    ensures holds { OnOk result (region ≡ Region.Stack → (cells : List Cell) (at n : ℕ) → StackDescribes stack.now cells → length cells ≡ 512 →
-        window.place ≤ at → at + n ≤ window.place + window.size → AreBytes (slice_range cells at (at + n))) }
+    ensures { result_err result ≡ unset_in stack.now region window }
 {
     match region {
         Region::Context => Ok(()),
@@ -157,9 +137,7 @@ pub fn load_signed(
     base: AbsVal,
     distance: i16,
 ) -> Result<AbsVal, Reason>
-    ensures exact { ends_given result ≡ signed_load_given stack.now part (ends_of base) distance }
-    ensures holds { IfOk result (λ r. (context : List ℕ) (cells : List Cell) (v : Value) → IsContext context → StackDescribes stack.now cells → length cells ≡ 512 → Contains base v →
-        Gives r (loaded_signed context cells part v distance)) }
+    ensures { ends_given result ≡ signed_load_given stack.now part (ends_of base) distance }
 {
     let (region, offsets) = pointer_of(base)?;
     let window = window(region, offsets, distance, bytes_of_part(part))?;
@@ -177,10 +155,7 @@ fn stack_window(
     requires { size ≤ 8 }
     ensures refused { result_err result ≡ write_refused region (window_known region offsets.low offsets.high distance size) }
     ensures there { IfOk result (λ w. window_known region offsets.low offsets.high distance size ≡ Some w) }
-    ensures stack { IfOk result (λ w. region ≡ Region.Stack) }
     ensures fits { IfOk result (λ w. w.place + w.size ≤ 512) }
-    ensures holds { IfOk result (λ w. (o : ℤ) → offsets.low ≤ℤ o → o ≤ℤ offsets.high →
-        LiesIn w.place w.size size (window_at Region.Stack (o +ℤ distance) size)) }
     ensures single { IfOk result (λ w. offsets.low ≡ offsets.high → w.size ≡ size) }
 {
     match region {
@@ -199,8 +174,6 @@ fn store_number(
     ensures refused { result_err result ≡ write_refused base.0 (window_known base.0 base.1.low base.1.high distance (bytes_of size)) }
     ensures left { OnOk result (StoresNumber stack.old (bytes_of size) (window_known base.0 base.1.low base.1.high distance (bytes_of size)) stack.new) }
     ensures kept { OnErr result (stack.new ≡ stack.old) }
-    ensures holds { OnOk result ((cells : List Cell) (p : Value) (n : ℕ) → StackDescribes stack.old cells → length cells ≡ 512 → IsPointerIn base.0 base.1.low base.1.high p →
-        Leads stack.new (stored cells (bytes_of size) p distance (Value.Number n))) }
 {
     let window = stack_window(base.0, base.1, distance, bytes(size))?;
     if window.size == bytes(size) {
@@ -229,8 +202,6 @@ fn store_pointer(
     ensures refused { result_err result ≡ pointer_refused size base.0 (offset_ends base.1) distance (offset_ends pointer.1) }
     ensures left { OnOk result (StoresPointer stack.old pointer.0 pointer.1.low (window_known base.0 base.1.low base.1.high distance 8) stack.new) }
     ensures kept { OnErr result (stack.new ≡ stack.old) }
-    ensures holds { OnOk result ((cells : List Cell) (p v : Value) → StackDescribes stack.old cells → length cells ≡ 512 → IsPointerIn base.0 base.1.low base.1.high p →
-        IsPointerIn pointer.0 pointer.1.low pointer.1.high v → Leads stack.new (stored cells (bytes_of size) p distance v)) }
 {
     let Size::Double = size else {
         return Err(Reason::PointerUse);
@@ -254,8 +225,6 @@ pub fn store(
     ensures refused { result_err result ≡ store_refused size (ends_of base) distance (ends_of value) }
     ensures left { OnOk result (Stores stack.old size (ends_of base) distance (ends_of value) stack.new) }
     ensures kept { OnErr result (stack.new ≡ stack.old) }
-    ensures holds { OnOk result ((cells : List Cell) (p v : Value) → StackDescribes stack.old cells → length cells ≡ 512 → Contains base p → Contains value v →
-        Leads stack.new (stored cells (bytes_of size) p distance v)) }
 {
     let base = pointer_of(base)?;
     match value {

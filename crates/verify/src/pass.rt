@@ -1,22 +1,15 @@
 //! The forward pass.
-ghost use Rattle.std.specs.Prelude.{◌≡◌, ◌≤◌, ◌<◌, ◌+◌, ◌∷◌, ◌⊎◌, List, ℕ, pos, ◌<ℤ◌, ◌+ℤ◌, length, IfOk, IfErr, OnOk, IsOk, IsErrAnd, Ok, option_map};
+ghost use Rattle.std.specs.Prelude.{◌≡◌, ◌<◌, ◌+◌, ◌⊎◌, pos, ◌<ℤ◌, ◌+ℤ◌, length, IfErr, OnOk, option_map};
 ghost use Rattle.std.specs.Result.{result_err};
 ghost use Rattle.verify.specs.Registers.{seen, known_at, operand_known, edge_known};
 ghost use Rattle.verify.specs.Reasons.{first_reason, compare_checks, exit_checks};
 ghost use Rattle.verify.specs.Flow.{JumpFlows, EdgeFlows, BranchFlows, Answers, kept_at};
-ghost use Rattle.verify.specs.Instructions.{straight_reason, reason_of, StraightFlows, StateFlows, AnswersAt, UnitFlows};
+ghost use Rattle.verify.specs.Instructions.{IsStraight, straight_reason, reason_of, StraightFlows, StateFlows, AnswersAt, UnitFlows};
 ghost use Rattle.verify.specs.Passes.{ComesThrough, IsFirstFault};
 ghost use Rattle.insn.specs.Program.{slots_of, instruction_at};
-ghost use Rattle.semantics.specs.State.{State};
-ghost use Rattle.semantics.specs.Plain.{IsIn, IsOfNumbers, IsPlain, operand_reads, writes};
-ghost use Rattle.verify.specs.Structure.{IsFaultAt, IsOwnFault};
 ghost use Rattle.verify.specs.Forward.{IsForward};
-ghost use Rattle.verify.specs.Gamma.{Describes};
-ghost use Rattle.verify.specs.Branches.{decided_by, branch_of};
-ghost use Rattle.verify.specs.Safe.{StartsSafe};
-ghost use Rattle.verify.specs.Reads.{AllNumbers, AllRead};
-ghost use Rattle.verify.specs.Outcomes.{IsStraight};
-ghost use Rattle.verify.specs.Kept.{Kept, IsAt, Keeps, LeadsOn, IsPassed, EdgesInside, EdgesForward, BlanksFrom, BlanksComeTo, BlanksAreUnwritten};
+ghost use Rattle.verify.specs.Branches.{branch_of};
+ghost use Rattle.verify.specs.Kept.{EdgesInside, EdgesForward};
 
 use crate::comparison::Comparison;
 use crate::error::VerifyError;
@@ -38,11 +31,6 @@ fn pass_straight(
     requires bound { unit < 4096 }
     requires edges { EdgesInside insn.now unit (length pending.old.items) }
     ensures length { length pending.new.items ≡ length pending.old.items }
-    ensures leads { OnOk result (LeadsOn state.value insn.now unit pending.new.items) }
-    ensures keeps { OnOk result (Keeps pending.old.items pending.new.items) }
-    ensures own { IfErr result (IsFaultAt unit) }
-    ensures plain { IsOfNumbers insn.now → (IsIn 10 (writes insn.now) → ⊥) → AllRead insn.now state.value.registers → IfErr result (λ fault. fault ≡ VerifyError.Memory) }
-    ensures blanks { OnOk result (IsOfNumbers insn.now → AllRead insn.now state.value.registers → BlanksFrom insn.now unit state.value.registers pending.old.items pending.new.items) }
     ensures refused { result_err result ≡ option_map (λ r. VerifyError.At r unit) (straight_reason insn.now state.value) }
     ensures flows { OnOk result (StraightFlows state.value insn.now unit pending.old.items pending.new.items) }
 {
@@ -59,9 +47,6 @@ fn pass_jump(unit: usize, distance: i32, state: Box<AbsState>, pending: &mut Pen
     requires forward { pos unit <ℤ (pos (unit + 1) +ℤ distance) }
     requires edges { EdgesInside (Insn.LongJump distance) unit (length pending.old.items) }
     ensures length { length pending.new.items ≡ length pending.old.items }
-    ensures leads { LeadsOn state.value (Insn.LongJump distance) unit pending.new.items }
-    ensures keeps { Keeps pending.old.items pending.new.items }
-    ensures blanks { BlanksFrom (Insn.LongJump distance) unit state.value.registers pending.old.items pending.new.items }
     ensures flows { JumpFlows distance state.value unit pending.old.items pending.new.items }
 {
     flow(pending, forward_target(unit, distance), state);
@@ -77,9 +62,6 @@ fn pass_edge(
 )
     requires { unit < length pending.old.items }
     ensures length { length pending.new.items ≡ length pending.old.items }
-    ensures here { (s : State) → Describes state.value s → decided_by compared.now s.registers ≡ Ok taken → IsAt pending.new.items unit s }
-    ensures keeps { Keeps pending.old.items pending.new.items }
-    ensures blank { BlanksComeTo unit state.value.registers pending.old.items pending.new.items }
     ensures exact { EdgeFlows (edge_known compared.now taken (seen state.value.registers)) state.value unit pending.old.items pending.new.items }
 {
     if branches::refine(&mut state.registers, compared, taken) {
@@ -100,11 +82,6 @@ fn pass_branch(
     requires forward { pos unit <ℤ (pos (unit + 1) +ℤ distance) }
     requires edges { EdgesInside (branch_of compared.now distance) unit (length pending.old.items) }
     ensures length { length pending.new.items ≡ length pending.old.items }
-    ensures leads { OnOk result (LeadsOn state.value (branch_of compared.now distance) unit pending.new.items) }
-    ensures keeps { OnOk result (Keeps pending.old.items pending.new.items) }
-    ensures own { IfErr result (IsFaultAt unit) }
-    ensures plain { AllNumbers (compared.now.dst ∷ operand_reads compared.now.operand) state.value.registers → IfErr result (λ fault. fault ≡ VerifyError.Memory) }
-    ensures blanks { OnOk result (BlanksFrom (branch_of compared.now distance) unit state.value.registers pending.old.items pending.new.items) }
     ensures refused { Answers (first_reason (compare_checks (known_at (seen state.value.registers) compared.now.dst) (operand_known (seen state.value.registers) compared.now.operand))) unit result }
     ensures flows { OnOk result (BranchFlows compared.now distance state.value unit pending.old.items pending.new.items) }
 {
@@ -122,10 +99,7 @@ fn pass_branch(
 
 /// The program ends.
 fn pass_exit(unit: usize, state: Box<AbsState>) -> Result<(), VerifyError>
-    ensures leads { OnOk result ((pending : List Kept) → LeadsOn state.value Insn.Exit unit pending) }
-    ensures own { IfErr result (IsFaultAt unit) }
-    ensures plain { AllRead Insn.Exit state.value.registers → IfErr result (λ fault. fault ≡ VerifyError.Memory) }
-    ensures refused { result_err result ≡ option_map (λ r. VerifyError.At r unit) (first_reason (exit_checks (known_at (seen state.value.registers) 0))) }
+    ensures { result_err result ≡ option_map (λ r. VerifyError.At r unit) (first_reason (exit_checks (known_at (seen state.value.registers) 0))) }
 {
     if let Err(reason) = steps::exit(&state) {
         return Err(VerifyError::At(reason, unit));
@@ -145,11 +119,6 @@ fn pass_state(
     requires forward { EdgesForward insn.now unit }
     requires inside { EdgesInside insn.now unit (length pending.old.items) }
     ensures length { length pending.new.items ≡ length pending.old.items }
-    ensures leads { OnOk result (LeadsOn state.value insn.now unit pending.new.items) }
-    ensures keeps { OnOk result (Keeps pending.old.items pending.new.items) }
-    ensures own { IfErr result (IsFaultAt unit) }
-    ensures plain { IsOfNumbers insn.now → (IsIn 10 (writes insn.now) → ⊥) → AllRead insn.now state.value.registers → IfErr result (λ fault. fault ≡ VerifyError.Memory) }
-    ensures blanks { OnOk result (IsOfNumbers insn.now → AllRead insn.now state.value.registers → BlanksFrom insn.now unit state.value.registers pending.old.items pending.new.items) }
     ensures refused { Answers (reason_of insn.now state.value) unit result }
     ensures flows { OnOk result (StateFlows insn.now state.value unit pending.old.items pending.new.items) }
 {
@@ -193,10 +162,6 @@ pub fn pass_unit(
     requires unit { unit < length (slots_of program.now) }
     requires room { length pending.old.items ≡ length (slots_of program.now) }
     ensures length { length pending.new.items ≡ length pending.old.items }
-    ensures passed { OnOk result (IsPassed program.now unit pending.old.items pending.new.items) }
-    ensures own { IfErr result (IsOwnFault program.now) }
-    ensures plain { IsPlain program.now → BlanksAreUnwritten program.now pending.old.items unit → IfErr result (λ fault. fault ≡ VerifyError.Memory) }
-    ensures blanks { OnOk result (IsPlain program.now → BlanksAreUnwritten program.now pending.old.items unit → BlanksAreUnwritten program.now pending.new.items (unit + 1)) }
     ensures refused { AnswersAt (instruction_at program.now unit) (kept_at pending.old.items unit) unit result }
     ensures flows { OnOk result (UnitFlows (instruction_at program.now unit) (kept_at pending.old.items unit) unit pending.old.items pending.new.items) }
 {
@@ -212,9 +177,6 @@ pub fn pass_unit(
 /// The forward pass over a program whose every edge leads forward.
 pub fn pass(alloc: Global, program: &Program) -> Result<(), VerifyError>
     requires { IsForward program.now }
-    ensures safe { OnOk result (StartsSafe program.now) }
-    ensures own { IfErr result (IsOwnFault program.now) }
-    ensures plain { IsPlain program.now → IfErr result (λ fault. fault ≡ VerifyError.Memory) }
     ensures passed { OnOk result (ComesThrough program.now) }
     ensures first { IfErr result (λ fault. (fault ≡ VerifyError.Memory) ⊎ IsFirstFault program.now fault) }
 {

@@ -1,9 +1,6 @@
 //! The states that are kept for units to come.
-ghost use Rattle.std.specs.Prelude.{◌≡◌, ℕ, ◌<◌, ◌⊎◌, false, None, Some, [], length, replicate, slice_index_or, slice_set, IfOk};
-ghost use Rattle.semantics.specs.State.{State};
-ghost use Rattle.verify.specs.Gamma.{Describes, has_number};
+ghost use Rattle.std.specs.Prelude.{◌≡◌, ◌<◌, None, Some, [], length, replicate, slice_index_or, slice_set, IfOk};
 ghost use Rattle.verify.specs.Flow.{Takes, Flows};
-ghost use Rattle.verify.specs.Kept.{Holds, IsAt, Keeps, IsBlank, BlanksComeTo};
 ghost use Rattle.verify.specs.KnownAtUnits.{known_of};
 
 use crate::state::AbsState;
@@ -81,10 +78,7 @@ pub fn kept(pending: &Pending, unit: usize) -> Option<AbsState>
 
 /// A state with what is kept already.
 fn joined(kept: &Option<Box<AbsState>>, mut state: Box<AbsState>) -> Box<AbsState>
-    ensures left { (s : State) → Holds kept.now s → Describes result.value s }
-    ensures right { (s : State) → Describes state.value s → Describes result.value s }
-    ensures blank { (r : ℕ) → r < 11 → has_number result.value.registers r ≡ false → IsBlank kept.now r ⊎ (has_number state.value.registers r ≡ false) }
-    ensures exact { Takes kept.now state.value (Some result) }
+    ensures { Takes kept.now state.value (Some result) }
 {
     if let Some(other) = kept {
         state.join(other);
@@ -121,9 +115,6 @@ pub fn second(
 pub fn flow(pending: &mut Pending, unit: usize, state: Box<AbsState>)
     requires { unit < length pending.old.items }
     ensures length { length pending.new.items ≡ length pending.old.items }
-    ensures here { (s : State) → Describes state.value s → IsAt pending.new.items unit s }
-    ensures keeps { Keeps pending.old.items pending.new.items }
-    ensures blank { BlanksComeTo unit state.value.registers pending.old.items pending.new.items }
     ensures exact { Flows state.value unit pending.old.items pending.new.items }
 {
     let kept = take(pending, unit);

@@ -1,16 +1,8 @@
 //! What is known of the registers.
-ghost use Rattle.std.specs.Prelude.{◌≡◌, ◌≤◌, ◌<◌, ◌&&◌, true, false, List, [], ◌∷◌, slice_index_or, slice_set, replicate};
-ghost use Rattle.semantics.specs.declared.value.Value.{Value};
-ghost use Rattle.semantics.specs.State.{Outbox, entry, value_at, operand_value};
-ghost use Rattle.semantics.specs.Step.{first_operand};
-ghost use Rattle.semantics.specs.Plain.{operand_reads, first_reads};
-ghost use Rattle.absval.specs.Contains.{Contains, is_number};
-ghost use Rattle.verify.specs.Gamma.{RegistersDescribe, Describes, has_number};
+ghost use Rattle.std.specs.Prelude.{◌≡◌, false, slice_set, replicate};
 ghost use Rattle.absmem.specs.declared.spill.Spill.{Spill};
 ghost use Rattle.absval.specs.Table.{ends_of, joined};
 ghost use Rattle.verify.specs.Registers.{seen, known_at, operand_known, first_known, entry_known, joined_all};
-ghost use Rattle.verify.specs.Branches.{StayNumbers};
-ghost use Rattle.verify.specs.Reads.{AllNumbers, LeavesBut, JoinsNumbers};
 
 use crate::state::AbsState;
 use absmem::AbsStack;
@@ -24,7 +16,6 @@ const AT_ZERO: Offsets = Offsets { low: 0, high: 0 };
 
 /// What is known at the entry: r1 points to the context, r10 to the end of the stack, of which nothing is known.
 pub fn at_entry() -> AbsState
-    ensures holds { (outbox : Outbox) → Describes result (entry outbox) }
     ensures registers { seen result.registers ≡ entry_known }
     ensures bytes { result.stack.bytes ≡ replicate 512 false }
     ensures spills { result.stack.spills ≡ replicate 64 Spill.Free }
@@ -40,19 +31,14 @@ pub fn at_entry() -> AbsState
 
 /// What is known of a register.
 pub fn read(registers: &[AbsVal; 11], r: Reg) -> AbsVal
-    ensures exact { result ≡ slice_index_or registers.now r AbsVal.Unset }
-    ensures holds { (vs : List Value) → RegistersDescribe registers.now vs → Contains result (value_at vs r) }
-    ensures numbers { AllNumbers (r ∷ []) registers.now → is_number result ≡ true }
-    ensures seen { ends_of result ≡ known_at (seen registers.now) r }
+    ensures { ends_of result ≡ known_at (seen registers.now) r }
 {
     registers[r.number() as usize]
 }
 
 /// What is known of an operand.
 pub fn operand(registers: &[AbsVal; 11], operand: Operand) -> AbsVal
-    ensures holds { (vs : List Value) → RegistersDescribe registers.now vs → Contains result (operand_value vs operand) }
-    ensures numbers { AllNumbers (operand_reads operand) registers.now → is_number result ≡ true }
-    ensures seen { ends_of result ≡ operand_known (seen registers.now) operand }
+    ensures { ends_of result ≡ operand_known (seen registers.now) operand }
 {
     match operand {
         Operand::Register(r) => read(registers, r),
@@ -62,9 +48,7 @@ pub fn operand(registers: &[AbsVal; 11], operand: Operand) -> AbsVal
 
 /// What is known of what an operation reads of dst: a move reads nothing there.
 pub fn first(registers: &[AbsVal; 11], operation: Operation, dst: Reg) -> AbsVal
-    ensures holds { (vs : List Value) → RegistersDescribe registers.now vs → Contains result (first_operand operation (value_at vs dst)) }
-    ensures numbers { AllNumbers (first_reads operation dst) registers.now → is_number result ≡ true }
-    ensures seen { ends_of result ≡ first_known (seen registers.now) operation dst }
+    ensures { ends_of result ≡ first_known (seen registers.now) operation dst }
 {
     match operation {
         Operation::Move => AbsVal::Number(NumberSet::exactly(0)),
@@ -74,28 +58,14 @@ pub fn first(registers: &[AbsVal; 11], operation: Operation, dst: Reg) -> AbsVal
 
 /// A register holds another value.
 pub fn write(registers: &mut [AbsVal; 11], r: Reg, value: AbsVal)
-    ensures holds { (vs : List Value) (v : Value) → RegistersDescribe registers.old vs → Contains value v → RegistersDescribe registers.new (slice_set vs r v) }
-    ensures numbers { is_number value ≡ true → LeavesBut (r ∷ []) registers.old registers.new }
-    ensures exact { registers.new ≡ slice_set registers.old r value }
-{
-    registers[r.number() as usize] = value;
-}
-
-/// More is known of what a register holds.
-pub fn narrow(registers: &mut [AbsVal; 11], r: Reg, value: AbsVal)
-    ensures holds { (vs : List Value) → RegistersDescribe registers.old vs → Contains value (value_at vs r) → RegistersDescribe registers.new vs }
-    ensures numbers { (first : List AbsVal) → StayNumbers first registers.old → (is_number value ≡ false → has_number first r ≡ false) → StayNumbers first registers.new }
-    ensures exact { registers.new ≡ slice_set registers.old r value }
+    ensures { registers.new ≡ slice_set registers.old r value }
 {
     registers[r.number() as usize] = value;
 }
 
 /// What is known where two paths meet.
 pub fn join(registers: &mut [AbsVal; 11], other: &[AbsVal; 11])
-    ensures left { (vs : List Value) → RegistersDescribe registers.old vs → RegistersDescribe registers.new vs }
-    ensures right { (vs : List Value) → RegistersDescribe other.now vs → RegistersDescribe registers.new vs }
-    ensures numbers { JoinsNumbers registers.old other.now registers.new 11 }
-    ensures exact { seen registers.new ≡ joined_all (seen registers.old) (seen other.now) }
+    ensures { seen registers.new ≡ joined_all (seen registers.old) (seen other.now) }
 {
     for i in 0..11 {
         join_one(&mut registers[i], &other[i]);
@@ -104,10 +74,7 @@ pub fn join(registers: &mut [AbsVal; 11], other: &[AbsVal; 11])
 
 /// The same of one register: where nothing is known of it, it stays, and the other is not looked at.
 fn join_one(register: &mut AbsVal, other: &AbsVal)
-    ensures left { (v : Value) → Contains register.old v → Contains register.new v }
-    ensures right { (v : Value) → Contains other.now v → Contains register.new v }
-    ensures number { is_number register.new ≡ (is_number register.old && is_number other.now) }
-    ensures exact { ends_of register.new ≡ joined (ends_of register.old) (ends_of other.now) }
+    ensures { ends_of register.new ≡ joined (ends_of register.old) (ends_of other.now) }
 {
     match register {
         AbsVal::Unset => {}

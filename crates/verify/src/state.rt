@@ -1,7 +1,4 @@
 ghost use Rattle.std.specs.Prelude.{◌≡◌};
-ghost use Rattle.semantics.specs.State.{State};
-ghost use Rattle.verify.specs.Gamma.{Describes};
-ghost use Rattle.verify.specs.Reads.{JoinsNumbers};
 ghost use Rattle.verify.specs.Flow.{IsJoin};
 
 use crate::registers;
@@ -36,10 +33,7 @@ impl AbsState {
 
     /// Keeps what both know.
     pub fn join(&mut self, other: &AbsState)
-        ensures left { (s : State) → Describes self.old s → Describes self.new s }
-        ensures right { (s : State) → Describes other.now s → Describes self.new s }
-        ensures numbers { JoinsNumbers self.old.registers other.now.registers self.new.registers 11 }
-        ensures exact { IsJoin self.old other.now self.new }
+        ensures { IsJoin self.old other.now self.new }
     {
         registers::join(&mut self.registers, &other.registers);
         self.stack.join(&other.stack);

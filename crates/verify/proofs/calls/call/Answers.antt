@@ -1,16 +1,10 @@
-use Rattle.std.proofs.Common.{rules, ◌≡◌, ◌∙◌, ◌+◌, ℕ, w32, ap, sym, subst, Option, Some}
+use Rattle.std.proofs.Common.{rules, ◌≡◌, ◌∙◌, w32, ap, sym, subst, Option, Some}
 use Rattle.std.proofs.lemmas.Int.{to_z-of_z}
 use Rattle.semantics.specs.declared.request.Helper.{Helper}
-use Rattle.semantics.specs.Call.{helper_of, called}
+use Rattle.semantics.specs.Call.{helper_of}
 use Rattle.helper.specs.Table.{arguments_of}
-use Rattle.helper.specs.Results.{returned_range}
-use Rattle.verify.specs.declared.state.AbsState.{AbsState}
-use Rattle.verify.specs.Gamma.{RegistersDescribe}
-use Rattle.verify.specs.Outcomes.{GoesOn}
 use Rattle.verify.specs.Calls.{answer_of, arguments_reason, window_reason, helper_reason}
-use Rattle.verify.specs.CallStates.{Puts}
-use Rattle.verify.proofs.CallRegisters.{passed, err_is, or_first, or_refused}
-use Rattle.verify.proofs.CallLemmas.{called_goes}
+use Rattle.verify.proofs.CallChecks.{passed, err_is, or_first, or_refused}
 use Rattle.verify.proofs.calls.call.Goals as goal
 
 pub returns-in_err-check_arguments-clause-refused : goal.returns-in_err-check_arguments-clause-refused
@@ -31,15 +25,3 @@ returns-in_err-pass_window-clause-refused c =
     (or_first (arguments_reason (arguments_of c.in-Some.helper) 1 c.args.state.now.registers) (window_reason c.in-Some.helper c.args.state.now) c.from_residual-in_err-pass_window.result
     (passed c.check_arguments.result c.in_ok-check_arguments.field-0 (arguments_reason (arguments_of c.in-Some.helper) 1 c.args.state.now.registers) c.in_ok-check_arguments.was checked)
     (same ∙ (sym c.in_err-pass_window.was ∙ c.pass_window.ensures.refused)))
-
-pub returns-clause-holds : goal.returns-clause-holds
-returns-clause-holds c = λ context relay s setting d.
-    let found : helper_of c.args.number ≡ Some c.in-Some.helper = ap helper_of (sym (to_z-of_z w32 c.args.number c.ranges.number)) ∙ sym c.in-Some.ensures in
-    let checked : c.check_arguments.result ≡ answer_of (arguments_reason (arguments_of c.in-Some.helper) 1 c.args.state.now.registers) = search rules in
-    let none = passed c.check_arguments.result c.in_ok-check_arguments.field-0 (arguments_reason (arguments_of c.in-Some.helper) 1 c.args.state.now.registers) c.in_ok-check_arguments.was checked in
-    let new : AbsState = record { registers = c.put_result.new.registers; stack = c.pass_window.new.state.stack } in
-    let kept = subst (λ (known : _). RegistersDescribe known s.registers) (sym c.pass_window.ensures.registers) d.registers in
-    let puts = subst (λ (ends : ℕ × ℕ). Puts ends.0 ends.1 c.put_result.new.registers s.registers) c.result.ensures.exact (c.put_result.ensures.puts s.registers kept) in
-    subst (λ (o : Option Helper). GoesOn new (s.unit + 1) (called context relay s o)) (sym found)
-    (called_goes c.in-Some.helper c.args.state.now new (returned_range c.in-Some.helper).0 (returned_range c.in-Some.helper).1 context relay s setting d none c.arguments.ensures.accepts c.result.ensures.holds
-    c.in_ok-pass_window.ensures.holds puts)

@@ -1,7 +1,7 @@
 use Rattle.std.proofs.Common.{◌≡◌, ◌∙◌, sym, subst}
 use Rattle.absval.specs.declared.value.AbsVal.{AbsVal}
 use Rattle.verify.specs.Calls.{answer_of, taken_reason, abstract_at}
-use Rattle.verify.proofs.CallRegisters.{passed, err_is, or_first, or_last, or_refused}
+use Rattle.verify.proofs.CallChecks.{passed, err_is, or_first, or_last, or_refused}
 use Rattle.verify.proofs.calls.check_arguments.Goals as goal
 
 pub returns-in_err-check_taken-2 : goal.returns-in_err-check_taken-2

@@ -1,10 +1,8 @@
-use Rattle.std.proofs.Common.{arith, ◌≡◌, ◌≢◌, ◌<◌, ◌∙◌, refl, ap, subst, length, length-set, get_or-set_other}
+use Rattle.std.proofs.Common.{arith, ◌≡◌, ◌≢◌, ◌<◌, ◌∙◌, refl, ap, length, length-set, get_or-set_other}
 use Rattle.absval.specs.declared.value.AbsVal.{AbsVal}
 use Rattle.absval.specs.declared.value.AbsVal.TheVariants.{Unset, Number}
-use Rattle.absval.specs.declared.number_set.NumberSet.{NumberSet}
-use Rattle.absval.specs.NumberSets.{Has, within}
+use Rattle.absval.specs.NumberSets.{within}
 use Rattle.verify.proofs.Zips.{at_set}
-use Rattle.verify.proofs.CallRegisters.{behind_puts}
 use Rattle.verify.proofs.TableLemmas.{behind_whole}
 use Rattle.verify.proofs.calls.put_result.Goals as goal
 
@@ -32,15 +30,11 @@ loop-r-preserved c =
       others = λ k ge le. let n : k ≢ i = omega arith in rw (get_or-set_other xs i k Unset Unset n) (c.loop-r.invariant.others k ge (omega arith));
     }
 
-pub returns-clause-behind : goal.returns-clause-behind
-returns-clause-behind c = record {
+pub returns : goal.returns
+returns c = record {
   first = c.loop-r.invariant.first;
   unset = λ r ge le. c.loop-r.invariant.unset r ge (omega arith);
   others = λ r ge. c.loop-r.invariant.others r (omega arith) (omega arith);
   whole = behind_whole (within c.args.range) c.args.registers.now c.loop-r.registers c.told-registers c.loop-r.invariant.size c.loop-r.invariant.first
       (λ r ge le. c.loop-r.invariant.unset r ge (omega arith)) (λ r ge. c.loop-r.invariant.others r (omega arith) (omega arith));
 }
-
-pub returns-clause-puts : goal.returns-clause-puts
-returns-clause-puts c = λ vs d.
-    behind_puts c.args.range.0 c.args.range.1 c.args.registers.now c.loop-r.registers vs c.told-registers c.loop-r.invariant.size (λ n inside. subst (λ (numbers : NumberSet). Has numbers n) c.within.ensures.exact (c.within.ensures.holds n inside)) (returns-clause-behind c) d

@@ -13,8 +13,5 @@ extended_any narrow.Byte = refl
 extended_any narrow.Half = refl
 extended_any narrow.Word = refl
 
-pub returns-clause-exact : goal.returns-clause-exact
-returns-clause-exact c = ap Numbers (c.sign_extend.ensures.exact ∙ (ap (extensions W64 c.args.part) c.any.ensures.exact ∙ extended_any c.args.part))
-
-pub returns-clause-holds : goal.returns-clause-holds
-returns-clause-holds c = λ n h. c.sign_extend.ensures.holds n (c.any.ensures.holds n h)
+pub returns : goal.returns
+returns c = ap Numbers (c.sign_extend.ensures.exact ∙ (ap (extensions W64 c.args.part) c.any.ensures.exact ∙ extended_any c.args.part))

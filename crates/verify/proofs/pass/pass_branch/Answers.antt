@@ -1,9 +1,6 @@
-use Rattle.std.proofs.Common.{◌≡◌, ◌+◌, ◌<◌, inl, inr, refl, sym, subst, length, List, ap, ◌∙◌, w16, w32, ℤ, pos, ◌+ℤ◌}
+use Rattle.std.proofs.Common.{◌≡◌, ◌+◌, ◌<◌, inl, inr, refl, subst, length, List, ap, ◌∙◌, w16, w32, ℤ, pos, ◌+ℤ◌}
 use Rattle.std.proofs.lemmas.Int.{to_z-of_z}
-use Rattle.verify.specs.declared.state.AbsState.{AbsState}
-use Rattle.verify.specs.Gamma.{Describes}
 use Rattle.verify.specs.Kept.{Kept}
-use Rattle.verify.proofs.BranchLemmas.{branch_arrives}
 use Rattle.verify.proofs.pass.pass_branch.Goals as goal
 
 pub pass_edge-requires : goal.pass_edge-requires
@@ -20,13 +17,3 @@ pass_edge-requires-2 c =
     let inside : c.forward_target-target.result < length c.args.pending.now.items = c.requires.edges c.forward_target-target.result (inr (inl to)) in
     let room : length c.second.new.pending.items ≡ length c.args.pending.now.items = ap (λ (pending : List Kept). length pending) c.in-Ok.ensures.rest in
     rw (c.pass_edge.ensures.length, room) inside
-
-pub returns-clause-leads : goal.returns-clause-leads
-returns-clause-leads c = λ context relay s premise e d.
-    let wide = to_z-of_z w32 c.from.result (record { sfits = c.from.type_inv }) in
-    let same = c.from.ensures ∙ to_z-of_z w16 c.args.distance c.ranges.distance in
-    let to = subst (λ (distance : ℤ). pos c.forward_target-target.result ≡ pos (c.args.unit + 1) +ℤ distance) (wide ∙ same) c.forward_target-target.ensures in
-    branch_arrives c.pass_edge-2.new.pending.items c.args.compared.now c.args.distance context relay c.args.state.value s c.args.unit c.forward_target-target.result e to d
-    (c.in_default.ensures.holds s (subst (λ (a : AbsState). Describes a s) (sym c.deref.ensures) d))
-    c.pass_edge-2.ensures.here
-    (λ t p q. c.pass_edge-2.ensures.keeps (c.args.unit + 1) t (c.pass_edge.ensures.here t (subst (λ (a : AbsState). Describes a t) (sym (c.in-Ok.ensures.value ∙ c.deref-2.ensures)) p) q))

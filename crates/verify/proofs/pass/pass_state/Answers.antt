@@ -1,8 +1,7 @@
 use Rattle.std.proofs.Common.{rules, ◌≡◌, w16, w32, to_z, of_z, length}
-use Rattle.verify.proofs.Jumps.{jump_inside, long_inside, branch_inside, jump_leads, long_leads, branch_leads, branch_blanks, exit_leads}
-use Rattle.verify.specs.Outcomes.{IsStraight}
-use Rattle.verify.proofs.StepLemmas.{OnOk-map}
-use Rattle.verify.proofs.InstructionLemmas.{straight_answers, straight_flows, jump_flows, long_flows}
+use Rattle.verify.proofs.Jumps.{jump_inside, long_inside, branch_inside}
+use Rattle.verify.specs.Instructions.{IsStraight}
+use Rattle.verify.proofs.InstructionLemmas.{OnOk-map, straight_answers, straight_flows, jump_flows, long_flows}
 use Rattle.verify.proofs.pass.pass_state.Goals as goal
 
 pub pass_jump-requires-clause-edges : goal.pass_jump-requires-clause-edges
@@ -20,31 +19,6 @@ pass_branch-requires-clause-edges c =
     let same : to_z w16 (of_z w16 c.in-Branch.distance) ≡ c.in-Branch.distance = search rules in
     branch_inside c.args.insn.now c.in-Branch.width c.in-Branch.condition c.in-Branch.dst c.in-Branch.operand c.in-Branch.distance _ c.args.unit (length c.args.pending.now.items)
     c.in-Branch.is same c.requires.inside
-
-pub returns-in-Jump-clause-leads : goal.returns-in-Jump-clause-leads
-returns-in-Jump-clause-leads c =
-    let same : to_z w32 (of_z w32 c.from.result) ≡ c.in-Jump.distance = search rules in
-    jump_leads c.args.state.value c.args.insn.now c.in-Jump.distance _ c.args.unit c.pass_jump.new.pending.items c.in-Jump.is same c.pass_jump.ensures.leads
-
-pub returns-in-LongJump-clause-leads : goal.returns-in-LongJump-clause-leads
-returns-in-LongJump-clause-leads c =
-    let same : to_z w32 (of_z w32 c.in-LongJump.distance) ≡ c.in-LongJump.distance = search rules in
-    long_leads c.args.state.value c.args.insn.now c.in-LongJump.distance _ c.args.unit c.pass_jump-in-LongJump.new.pending.items c.in-LongJump.is same c.pass_jump-in-LongJump.ensures.leads
-
-pub returns-in-Branch-clause-leads : goal.returns-in-Branch-clause-leads
-returns-in-Branch-clause-leads c =
-    let same : to_z w16 (of_z w16 c.in-Branch.distance) ≡ c.in-Branch.distance = search rules in
-    branch_leads c.pass_branch.result c.args.state.value c.args.insn.now c.in-Branch.width c.in-Branch.condition c.in-Branch.dst c.in-Branch.operand c.in-Branch.distance _ c.args.unit
-    c.pass_branch.new.pending.items c.in-Branch.is same c.pass_branch.ensures.leads
-
-pub returns-in-Branch-clause-blanks : goal.returns-in-Branch-clause-blanks
-returns-in-Branch-clause-blanks c =
-    let same : to_z w16 (of_z w16 c.in-Branch.distance) ≡ c.in-Branch.distance = search rules in
-    branch_blanks c.pass_branch.result c.args.state.value.registers c.args.pending.now.items c.pass_branch.new.pending.items c.args.insn.now c.in-Branch.width c.in-Branch.condition
-    c.in-Branch.dst c.in-Branch.operand c.in-Branch.distance _ c.args.unit c.in-Branch.is same c.pass_branch.ensures.blanks
-
-pub returns-in-Exit-clause-leads : goal.returns-in-Exit-clause-leads
-returns-in-Exit-clause-leads c = exit_leads c.pass_exit.result c.args.state.value c.args.insn.now c.args.unit c.args.pending.now.items c.in-Exit.is c.pass_exit.ensures.leads
 
 pub returns-in-Jump-clause-flows : goal.returns-in-Jump-clause-flows
 returns-in-Jump-clause-flows c =

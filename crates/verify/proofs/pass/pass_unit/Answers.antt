@@ -1,10 +1,8 @@
-use Rattle.std.proofs.Common.{◌≡◌, ◌∙◌, ap, sym, length, length-set, Some}
+use Rattle.std.proofs.Common.{◌≡◌, ◌∙◌, ap, sym, length, length-set}
 use Rattle.insn.specs.Program.{slots_of, instruction_at}
 use Rattle.verify.proofs.EdgeEnds.{inside_of_forward}
-use Rattle.verify.proofs.Blanks.{all_read, kept_blank, unit_blanks}
 use Rattle.verify.specs.Flow.{kept_at}
-use Rattle.verify.proofs.StepLemmas.{OnOk-map}
-use Rattle.verify.proofs.InstructionLemmas.{unit_answers, unit_flows}
+use Rattle.verify.proofs.InstructionLemmas.{OnOk-map, unit_answers, unit_flows}
 use Rattle.verify.proofs.pass.pass_unit.Goals as goal
 
 pub pass_state-requires-clause-inside : goal.pass_state-requires-clause-inside
@@ -12,20 +10,6 @@ pass_state-requires-clause-inside c =
     let room : length c.take.new.pending.items ≡ length (slots_of c.args.program.now) =
     ap length c.in-Some-take.ensures.rest ∙ (length-set _ _ _ ∙ c.requires.room) in
     inside_of_forward c.args.program.now c.args.unit c.in-Some.insn _ c.requires.forward (sym c.in-Some.ensures.found) room
-
-pub returns-clause-plain : goal.returns-clause-plain
-returns-clause-plain c = λ plain inv.
-    let at = sym c.in-Some.ensures.found in
-    let here = kept_blank c.args.program.now c.args.pending.now.items c.args.unit (Some c.in-Some-take.state) inv c.in-Some-take.ensures.value in
-    c.pass_state.ensures.plain (plain.numbers c.args.unit c.in-Some.insn at) (plain.frame_kept c.args.unit c.in-Some.insn at)
-    (all_read c.args.program.now c.in-Some.insn c.in-Some-take.state.value.registers c.args.unit plain at here)
-
-pub returns-clause-blanks : goal.returns-clause-blanks
-returns-clause-blanks c =
-    unit_blanks c.pass_state.result c.args.program.now c.in-Some.insn c.in-Some-take.state.value.registers c.args.pending.now.items c.take.new.pending.items c.pass_state.new.pending.items c.args.unit
-    (sym c.in-Some.ensures.found) c.in-Some-take.ensures.rest
-    (λ inv. kept_blank c.args.program.now c.args.pending.now.items c.args.unit (Some c.in-Some-take.state) inv c.in-Some-take.ensures.value)
-    c.pass_state.ensures.blanks
 
 pub returns-clause-refused : goal.returns-clause-refused
 returns-clause-refused c =

@@ -2,5 +2,5 @@ use Rattle.std.proofs.Common.{refl}
 use Rattle.verify.proofs.Seen.{seen_set}
 use Rattle.verify.proofs.steps.put.Goals as goal
 
-pub returns-clause-left : goal.returns-clause-left
-returns-clause-left c = (seen_set c.args.state.now.registers c.write.new.registers c.args.dst c.args.value c.write.ensures.exact, refl)
+pub returns : goal.returns
+returns c = (seen_set c.args.state.now.registers c.write.new.registers c.args.dst c.args.value c.write.ensures, refl)

@@ -14,7 +14,7 @@ use Rattle.absval.specs.Contains.{Contains}
 use Rattle.absmem.specs.Known.{Known}
 use Rattle.absmem.specs.Describes.{Describes as StackDescribes}
 use Rattle.verify.specs.declared.state.AbsState.{AbsState}
-use Rattle.verify.specs.Gamma.{RegistersDescribe}
+use Rattle.verify.proofs.Gamma.{RegistersDescribe}
 use Rattle.verify.specs.Calls.{abstract_at}
 
 -- the registers behind a call that returns n

@@ -1,20 +1,14 @@
 -- Where an instruction leads, in terms of abstract states (own).
-use Rattle.std.specs.Prelude.{ℕ, ◌≡◌, ◌+◌, Bool, true, List, Result, Ok, Err}
+use Rattle.std.specs.Prelude.{ℕ, ◌≡◌, ◌+◌, true, List}
 use Rattle.insn.specs.declared.insn.Insn.{Insn}
-use Rattle.insn.specs.declared.insn.Insn.TheVariants.{Jump, LongJump, Branch, Exit}
 use Rattle.insn.specs.Insn.{units_of}
-use Rattle.semantics.specs.State.{Cause, State, Outcome, Next, Ask, Trap}
+use Rattle.semantics.specs.State.{State, Outcome, Next, Ask, Trap}
 use Rattle.semantics.specs.State.{Exit as Exited}
 use Rattle.semantics.specs.Call.{fits, resumed}
 use Rattle.semantics.specs.Execution.{executed}
 use Rattle.semantics.specs.Relay.{IsSetting, Relay}
 use Rattle.verify.specs.declared.state.AbsState.{AbsState}
-use Rattle.verify.specs.Gamma.{Describes}
-
--- the condition is decided
-abbrev pub IsTest : Result Bool Cause → Type 0
-IsTest (Ok b) = Unit {0}
-IsTest (Err cause) = ⊥
+use Rattle.verify.proofs.Gamma.{Describes}
 
 -- the state is at the unit, and described
 abbrev pub DescribesAt : AbsState → ℕ → State → Type 0
@@ -30,17 +24,3 @@ GoesOn a unit (Trap cause) = ⊥
 -- from every state that is described, the instruction goes on behind itself to one that is
 abbrev pub Follows : AbsState → Insn → AbsState → Type 0
 Follows old i new = (context : List ℕ) (relay : Relay) (s : State) → IsSetting context relay → Describes old s → GoesOn new (s.unit + units_of i) (executed context relay i s)
-
-abbrev pub IsEnd : Outcome → Type 0
-IsEnd (Next t) = ⊥
-IsEnd (Ask request t) = ⊥
-IsEnd (Exited r0 t) = Unit {0}
-IsEnd (Trap cause) = ⊥
-
--- an instruction that goes on behind itself
-abbrev pub IsStraight : Insn → Type 0
-IsStraight (Jump distance) = ⊥
-IsStraight (LongJump distance) = ⊥
-IsStraight (Branch width condition dst operand distance) = ⊥
-IsStraight Exit = ⊥
-IsStraight _ = Unit {0}

@@ -1,11 +1,10 @@
 -- The concretization: which states an abstract state stands for (own).
-use Rattle.std.specs.Prelude.{ℕ, ◌≡◌, Bool, List, length, slice_index_or}
+use Rattle.std.specs.Prelude.{◌≡◌, List, length}
 use Rattle.std.specs.List.{AllZip}
 use Rattle.semantics.specs.declared.value.Value.{Value}
 use Rattle.semantics.specs.State.{State}
 use Rattle.absval.specs.declared.value.AbsVal.{AbsVal}
-use Rattle.absval.specs.declared.value.AbsVal.TheVariants.{Unset}
-use Rattle.absval.specs.Contains.{Contains, is_number}
+use Rattle.absval.specs.Contains.{Contains}
 use Rattle.absmem.specs.Describes.{Describes as StackDescribes}
 use Rattle.verify.specs.declared.state.AbsState.{AbsState}
 
@@ -17,7 +16,3 @@ pub record Describes (a : AbsState) (s : State) : Type 0 where
   pub registers : RegistersDescribe a.registers s.registers
   pub stack : StackDescribes a.stack s.cells
   pub size : length s.cells ≡ 512
-
--- the register is known to hold a number
-abbrev pub has_number : List AbsVal → ℕ → Bool
-has_number known r = is_number (slice_index_or known r Unset)
