@@ -18,7 +18,7 @@ use Rattle.absval.specs.declared.value.Offsets.{Offsets}
 use Rattle.absval.specs.declared.value.AbsVal.{AbsVal}
 use Rattle.absval.specs.declared.value.AbsVal.TheVariants.{Unset, Number, Pointer}
 
--- what is known of a value: nothing, a number of these, a pointer into the region at one of these offsets
+-- an `AbsVal`, told by plain values: perhaps unset, a number of this set, a pointer into the region from the first offset to the second
 pub data Ends : Type 0 where
   Nothing : Ends
   Numbers : NumberSet → Ends

@@ -144,17 +144,19 @@ spelt (name ∷ rest) =
 abbrev pub names_generals : Told → Bool
 names_generals told = not (is_named (codes "book") told.name) || option_map_or (λ word. is_some (generals_in word)) told.value true
 
--- the words are a subcommand's name and its words
+-- what the words ask for: what they spell, but of `book` only where its option names generals
 abbrev pub asked : List Text → Option Told
 asked words = option_and_then (λ told. if names_generals told then Some told else None) (spelt words)
 
--- only `table` has a third word, and must, and a second; `play` may have a second, and `audit` must; only `check`, `asm` and `book` have an option, and only `check` a second switch
+-- it has one word that is no flag
 abbrev pub is_alone : Told → Bool
 is_alone told = is_none told.second && is_none told.third
 
+-- it has no switch and no option
 abbrev pub is_plain : Told → Bool
 is_plain told = not told.switched && not told.also && is_none told.value
 
+-- only `table` has a third word, and must, and a second; `play` may have a second, and `audit` must; only `check`, `asm` and `book` have an option, and only `check` a second switch
 abbrev pub is_task : Told → Bool
 is_task told =
     (is_named (codes "check") told.name && is_alone told)

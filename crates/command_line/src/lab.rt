@@ -21,7 +21,8 @@ const SCHEDULE: &str = "The order of the turns; without it each round is punctua
 
 const CHRONICLE: &str = "What `play` or `muster` has printed of this campaign";
 
-const EXPLAIN: &str = "Tells what is known at each unit, and what a refused instruction misses";
+const EXPLAIN: &str =
+    "Tells what is known of the registers that are read, and what a refused instruction misses";
 
 /// The program's command line.
 pub(crate) fn lab_command<'a>(alloc: Global) -> Result<Command<'a>, AllocError>

@@ -4,7 +4,7 @@ use std::alloc::AllocError;
 /// What the words ask for: a subcommand with the names of its files, and what its flags say.
 #[derive(Debug, Drop, PartialEq, Eq)]
 pub enum Task {
-    /// Verify and run a program, in the context that a second file tells where one is named, and tell what is known at each unit if it is asked for.
+    /// Verify and run a program, in the context that a second file tells where one is named, and explain it if it is asked for.
     Check {
         program: String,
         notation: Notation,

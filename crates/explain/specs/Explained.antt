@@ -50,7 +50,7 @@ abbrev pub line_if : ℕ → Insn → Option (Option AbsState) → List ℕ
 line_if unit i None = []
 line_if unit i (Some known) = unit_line unit i known
 
--- what is known at a unit, where the verifier comes there: nothing, where no path leads to it
+-- what is known at a unit: the outer None where the pass does not come there, for a fault of structure or at an earlier unit; the inner None where no path leads to it
 abbrev pub KnownByUnit : Type 0
 KnownByUnit = ℕ → Option (Option AbsState)
 

@@ -12,7 +12,7 @@ use Rattle.lab.specs.declared.first_answer.FirstAnswer.{FirstAnswer}
 use Rattle.lab.specs.declared.hint.Hint.{Hint}
 use Rattle.lab.specs.Hints.{hint_behind}
 use Rattle.lab.specs.Telling.{refusal_text}
-use Rattle.lab.specs.Faults.{fault_text, status_of, Explains, Prevents, Stops}
+use Rattle.lab.specs.Faults.{fault_text, status_of, Undoes, Prevents, Stops}
 use Rattle.lab.specs.Names.{shown}
 use Rattle.lab.specs.Serving.{Files, IsFault, IsRefused, IsRefusedLater, IsTaken, IsTurnedDown, NoHint, Tells, TellsName, TellsRefusal, first_name, second_name}
 
@@ -69,7 +69,7 @@ prevented unread second_unread fails task files old new fault (inr (more, taken,
 
 -- each fault but want of memory
 pub fault_ends : (unread second_unread unwritten fails : Type 0) (task : Task) (files : Files) (old new : Option (List ℕ)) (kept : Type 0) (fault : Fault)
-    → Explains unread second_unread unwritten task files fault → (fault ≢ Write → kept)
+    → Undoes unread second_unread unwritten task files fault → (fault ≢ Write → kept)
     → fails ⊎ IfSome (with_newline (fault_text fault)) (Appends old new) → status_of fault ≡ 1
     → IsFault unread second_unread unwritten task files kept (Tells fails old new)
 fault_ends unread second_unread unwritten fails task files old new kept Write why same told one = inr (why.0, why.1, told)

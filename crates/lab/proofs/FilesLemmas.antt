@@ -16,7 +16,7 @@ use Rattle.lab.specs.Faults.{Prevents, Stops}
 use Rattle.lab.specs.Serving.{AreBytes, AreSecond, AreSecondBytes, Files, IsAnswer, IsAuditOf, IsPlayedBy, IsRefusedLater, IsScheduleOf, IsTrialOf, NoHint, first_name, second_name}
 use Rattle.lab.specs.declared.fault.Fault.{Fault}
 use Rattle.lab.specs.declared.first_answer.FirstAnswer.{FirstAnswer}
-use Rattle.lab.specs.declared.first_answer.FirstAnswer.TheVariants as outcome
+use Rattle.lab.specs.declared.first_answer.FirstAnswer.TheVariants as answer
 
 -- the schedule that the second file tells
 pub second_told : {R : Type 0} (bytes : R → Option (List ℕ)) (second : Option R) (own : R) (all : List ℕ) (schedule : List (List Repeat))
@@ -43,7 +43,7 @@ second_bytes (Some known) bytes are = (Some bytes, are, refl)
 
 -- an answer by the second file's schedule
 pub answered_played : (task : Task) (files : Files) (first text : List ℕ) (s : Scenario) → AreBytes files.first first
-    → ComesTo task first (outcome.Play s) → IsPlayedBy files.second s text → IsAnswer task files text
+    → ComesTo task first (answer.Play s) → IsPlayedBy files.second s text → IsAnswer task files text
 answered_played (Check file notation None explained) files first text s are comes by = absurd comes
 answered_played (Check file notation (Some context) explained) files first text s are comes by = absurd comes
 answered_played (Assemble file spelling target) files first text s are comes by = absurd comes
@@ -59,7 +59,7 @@ answered_played (Audit scenario chronicle) files first text s are comes by = abs
 
 -- an answer of threads
 pub answered_mustered : (task : Task) (files : Files) (first text : List ℕ) (s : Scenario) → AreBytes files.first first
-    → ComesTo task first (outcome.Muster s) → IsMustered s text → IsAnswer task files text
+    → ComesTo task first (answer.Muster s) → IsMustered s text → IsAnswer task files text
 answered_mustered (Check file notation None explained) files first text s are comes mustered = absurd comes
 answered_mustered (Check file notation (Some context) explained) files first text s are comes mustered = absurd comes
 answered_mustered (Assemble file spelling target) files first text s are comes mustered = absurd comes
@@ -75,7 +75,7 @@ answered_mustered (Audit scenario chronicle) files first text s are comes muster
 
 -- an answer on the second file
 pub answered_audited : (task : Task) (files : Files) (first text : List ℕ) (s : Scenario) → AreBytes files.first first
-    → ComesTo task first (outcome.Audit s) → IsAuditOf files.second s text → IsAnswer task files text
+    → ComesTo task first (answer.Audit s) → IsAuditOf files.second s text → IsAnswer task files text
 answered_audited (Check file notation None explained) files first text s are comes audit = absurd comes
 answered_audited (Check file notation (Some context) explained) files first text s are comes audit = absurd comes
 answered_audited (Assemble file spelling target) files first text s are comes audit = absurd comes
@@ -92,7 +92,7 @@ answered_audited (Audit scenario chronicle) files first text s are comes (bytes,
 
 -- an answer in the second file's setting
 pub answered_tried : (task : Task) (files : Files) (first text : List ℕ) (program : List Insn) → AreBytes files.first first
-    → ComesTo task first (outcome.Trial program) → IsTrialOf files.second (is_some (explained_in task)) program text → IsAnswer task files text
+    → ComesTo task first (answer.Trial program) → IsTrialOf files.second (is_some (explained_in task)) program text → IsAnswer task files text
 answered_tried (Check file notation None explained) files first text program are comes tried = absurd comes
 answered_tried (Check file notation (Some context) true) files first text program are comes (bytes, known, (lines, tried, behind)) =
     let second = second_bytes files.second bytes known in

@@ -29,7 +29,7 @@ use Rattle.lab.specs.Numbers.{numbers_in}
 use Rattle.lab.specs.Lines.{checked_lines, decision_lines, hex_line}
 use Rattle.lab.specs.declared.checking.Checked.{Checked}
 use Rattle.lab.specs.declared.first_answer.FirstAnswer.{FirstAnswer}
-use Rattle.lab.specs.declared.first_answer.FirstAnswer.TheVariants as outcome
+use Rattle.lab.specs.declared.first_answer.FirstAnswer.TheVariants as answer
 
 -- the verifier accepts the program, which is sound, and its trial on the bench, with a board that begins with zeros, ended so
 pub record IsRun (program : List Insn) (checked : Checked) : Type 0 where
@@ -112,15 +112,15 @@ Prints (Audit scenario chronicle) first second text = Audits first second text
 
 -- the task goes on with this behind its first file: a program to try, or a campaign
 abbrev pub GoesOn : Task → List ℕ → FirstAnswer → Type 0
-GoesOn (Check file notation (Some context) explained) first (outcome.Trial program) =
+GoesOn (Check file notation (Some context) explained) first (answer.Trial program) =
     HasProgram notation first program × (judged program ≡ None) × IsSound program
-GoesOn (Play scenario schedule) first (outcome.Play s) = Tells first s
-GoesOn (Muster scenario) first (outcome.Muster s) = Tells first s
-GoesOn (Audit scenario chronicle) first (outcome.Audit s) = Tells first s
+GoesOn (Play scenario schedule) first (answer.Play s) = Tells first s
+GoesOn (Muster scenario) first (answer.Muster s) = Tells first s
+GoesOn (Audit scenario chronicle) first (answer.Audit s) = Tells first s
 GoesOn _ first _ = ⊥
 
 -- what the task comes to on its first file: a text, whatever the second has, or that with which it goes on
 abbrev pub ComesTo : Task → List ℕ → FirstAnswer → Type 0
-ComesTo task first (outcome.Text text) = (second : Option (List ℕ)) → Prints task first second (string_bytes text)
-ComesTo task first (outcome.Bytes bytes) = (second : Option (List ℕ)) → Prints task first second bytes.items
+ComesTo task first (answer.Text text) = (second : Option (List ℕ)) → Prints task first second (string_bytes text)
+ComesTo task first (answer.Bytes bytes) = (second : Option (List ℕ)) → Prints task first second bytes.items
 ComesTo task first more = GoesOn task first more

@@ -58,6 +58,6 @@ Prevents unread second_unread task files fault =
     ⊎ ((more : FirstAnswer) × IsTaken task files.first more × Stops second_unread (NoHint (IsRefusedLater more files.second)) (second_name task) fault)
 
 -- why a task is not done: it has no answer, or the output failed on its answer
-abbrev pub Explains : Type 0 → Type 0 → Type 0 → Task → Files → Fault → Type 0
-Explains unread second_unread unwritten task files Write = unwritten × HasAnswer task files
-Explains unread second_unread unwritten task files fault = Prevents unread second_unread task files fault
+abbrev pub Undoes : Type 0 → Type 0 → Type 0 → Task → Files → Fault → Type 0
+Undoes unread second_unread unwritten task files Write = unwritten × HasAnswer task files
+Undoes unread second_unread unwritten task files fault = Prevents unread second_unread task files fault

@@ -9,7 +9,7 @@ use Rattle.world.specs.declared.schedule.Repeat.{Repeat}
 use Rattle.lab.specs.declared.refusal.Refusal.{Refusal}
 use Rattle.lab.specs.declared.refusal.Refusal.TheVariants.{NotText, Memory}
 use Rattle.lab.specs.declared.first_answer.FirstAnswer.{FirstAnswer}
-use Rattle.lab.specs.declared.first_answer.FirstAnswer.TheVariants as outcome
+use Rattle.lab.specs.declared.first_answer.FirstAnswer.TheVariants as answer
 use Rattle.lab.specs.Answers.{GoesOn, IsTriedBy, Prints}
 use Rattle.lab.specs.Campaigns.{IsAudited, IsPlayed, IsSchedule}
 use Rattle.lab.specs.Names.{shown}
@@ -113,10 +113,10 @@ IsUnmustered refusal = (refusal ≢ Memory) × RefusesMuster refusal
 
 -- behind a first file with which a task goes on so, it refuses so
 abbrev pub IsRefusedLater : FirstAnswer → Option (Option (List ℕ)) → Refusal → Type 0
-IsRefusedLater (outcome.Trial program) known refusal = IsSettingRefused known refusal
-IsRefusedLater (outcome.Play s) known refusal = IsScheduleRefused known refusal
-IsRefusedLater (outcome.Muster s) known refusal = IsUnmustered refusal
-IsRefusedLater (outcome.Audit s) known refusal = IsChronicleRefused s known refusal
+IsRefusedLater (answer.Trial program) known refusal = IsSettingRefused known refusal
+IsRefusedLater (answer.Play s) known refusal = IsScheduleRefused known refusal
+IsRefusedLater (answer.Muster s) known refusal = IsUnmustered refusal
+IsRefusedLater (answer.Audit s) known refusal = IsChronicleRefused s known refusal
 IsRefusedLater _ known refusal = ⊥
 
 -- the stream has grown by this line, or it failed

@@ -1,5 +1,5 @@
 ghost use Rattle.std.specs.Prelude.{◌≡◌, ◌≢◌, ◌⊎◌, IfOk, IfErr, IsSomeAnd, OnOk, codes, option_map};
-ghost use Rattle.lab.specs.Faults.{Explains, Prevents, Stops};
+ghost use Rattle.lab.specs.Faults.{Undoes, Prevents, Stops};
 ghost use Rattle.lab.specs.Serving.{IsAnswer, IsAuditOf, IsChronicleRefused, IsFault, IsPlayedBy, IsPrinted, IsScheduleOf, IsScheduleRefused, IsSettingRefused, IsTrialOf, NoHint, Tells, files, second_name};
 ghost use Rattle.lab.specs.declared.fault.Fault.TheVariants.{Write as unwritten};
 
@@ -77,7 +77,7 @@ where
     ensures done { OnOk result
         (IsPrinted task.entry.now (files R.bytes first second) (O.contents out.old) (O.contents out.new)) }
     ensures fault { IfErr result
-        (Explains (R.fails first) (IsSomeAnd second R.fails) (O.fails out.old) task.entry.now (files R.bytes first second)) }
+        (Undoes (R.fails first) (IsSomeAnd second R.fails) (O.fails out.old) task.entry.now (files R.bytes first second)) }
     ensures unprinted { IfErr result (λ fault. fault ≢ unwritten → out.new ≡ out.old) }
 {
     let text = answered(rt, alloc, task, first, second)?;
