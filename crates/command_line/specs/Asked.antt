@@ -156,7 +156,8 @@ is_alone told = is_none told.second && is_none told.third
 abbrev pub is_plain : Told → Bool
 is_plain told = not told.switched && not told.also && is_none told.value
 
--- only `table` has a third word, and must, and a second; `play` may have a second, and `audit` must; only `check`, `asm` and `book` have an option, and only `check` a second switch
+-- only `table` has a third word, and must, and a second; `play` may have a second (its schedule), and `audit` must; only `check`, `asm`
+-- and `book` have an option besides, and only `check` a second switch
 abbrev pub is_task : Told → Bool
 is_task told =
     (is_named (codes "check") told.name && is_alone told)

@@ -15,7 +15,8 @@ use Rattle.command_line.specs.declared.tasks.TaskError.TheVariants.{Words, Trait
 abbrev pub Text : Type 0
 Text = List ℕ
 
--- a subcommand's name, its words that are no flags, up to three, whether its switch stands in the words, and its second one, and the value of its option
+-- a subcommand's name, its words that are no flags, up to three, whether its switch stands in the words, and its second one, and the
+-- value of its option (the schedule of `play` counts as its second word)
 pub record Told : Type 0 where
   pub name : Text
   pub file : Text

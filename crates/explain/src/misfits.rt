@@ -43,7 +43,7 @@ fn misfit_at(registers: &[AbsVal; 11], r: Reg, argument: Option<Argument>) -> Op
     misfit_of(r, argument, abstract_at(registers, r))
 }
 
-/// Kept and count together.
+/// Slot and count together.
 fn past_board(slots: AbsVal, counts: AbsVal) -> Option<Sentence>
     ensures { result ≡ past_board slots counts }
 {

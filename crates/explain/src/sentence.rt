@@ -71,7 +71,7 @@ pub enum Misfit {
     Above(Reg, AbsVal, u64),
     /// The register is to be a pointer.
     NoPointer(Reg, AbsVal),
-    /// Kept and count together may be so much.
+    /// Slot and count together may be so much.
     Board(u64),
 }
 

@@ -52,7 +52,8 @@ IsChecked notation explained bytes text =
 abbrev pub IsTriedBy : List ℕ → List Insn → List ℕ → Type 0
 IsTriedBy bytes program lines = (s : Setting) × TellsSetting bytes s × IsTried program s lines
 
--- the first file has a program that the verifier accepts, and which is sound, and these are the lines of its trial in the setting of the second's, and behind them its explanation, if it is asked for; where there is no second file its bytes are none
+-- the first file has a program that the verifier accepts, and which is sound, and these are the lines of its trial in the setting that
+-- the second file tells, and behind them its explanation, where it is asked for; a second file that is missing counts as an empty one
 abbrev pub Tries : Notation → Bool → List ℕ → Option (List ℕ) → List ℕ → Type 0
 Tries notation explained first second text =
     (program : List Insn) × HasProgram notation first program × (judged program ≡ None) × IsSound program

@@ -19,7 +19,7 @@ abbrev pub HasProgram : Notation → List ℕ → List Insn → Type 0
 HasProgram Bytecode bytes program = SpellsProgram bytes program
 HasProgram Assembly text program = program_of text ≡ Some program
 
--- the notation of the program that the task is to explain, if it is
+-- the notation of the program that the task is to explain, where it is to explain one
 abbrev pub explained_in : Task → Option Notation
 explained_in (Check file notation context true) = Some notation
 explained_in _ = None
@@ -46,7 +46,7 @@ IsWhy notation bytes text = (program : List Insn) × HasProgram notation bytes p
 abbrev pub seems_behind : Refusal → List ℕ → Option Hint
 seems_behind refusal bytes = option_map Seems (likeness_of refusal bytes)
 
--- the notation of the program of which the task is to tell why the verifier refuses it, if it does and is
+-- the notation in which a refused program is read once more: that of the task, where the verifier refused it and an explanation is asked for
 abbrev pub asked_of : Refusal → Task → Option Notation
 asked_of (Verifier fault) task = explained_in task
 asked_of _ task = None

@@ -15,7 +15,7 @@ use explain::explanation;
 use insn::Program;
 use std::alloc::{AllocError, Global};
 
-/// The notation of the program that the task is to explain, if it is.
+/// The notation of the program that the task is to explain, where it is to explain one.
 pub(crate) fn explained_in(task: &Task) -> Option<Notation>
     ensures { result ≡ explained_in task.now }
 {
@@ -76,7 +76,8 @@ fn why(alloc: Global, notation: Notation, bytes: &[u8]) -> Result<String, Refusa
     }
 }
 
-/// The notation of the program of which the task is to tell why the verifier refuses it, if it does and is.
+/// The notation in which a refused program is read once more: that of the task, where the verifier refused it and an
+/// explanation is asked for.
 fn asked_of(refusal: &Refusal, task: &Task) -> Option<Notation>
     ensures { result ≡ asked_of refusal.now task.now }
 {
@@ -102,6 +103,7 @@ pub(crate) fn refused<'a>(
     };
     match why(alloc, notation, bytes) {
         Ok(text) => Fault::Refused(refusal, Some(Hint::Explained(text))),
+        // It was read before, so this is want of memory.
         Err(unread) => Fault::of_bytes(unread, file, bytes),
     }
 }

@@ -21,7 +21,7 @@ use std::thread::Threads;
 use verify::Verified;
 use world::Schedule;
 
-/// Does the task on its files: prints what it answers, or one line of what is at fault. The second file is read where the
+/// Does the task on its files: prints what it answers, or what is at fault, a line and what is said behind it. The second file is read where the
 /// task has one, and only where the first is not refused. All that is printed is in memory first. Only a muster starts threads,
 /// and it waits for them. A task that reads no file is given an empty one. The result is the exit status: 0 done, 1 refused or a fault of a file, 3 want of memory.
 pub fn serve<T, R, O, F>(

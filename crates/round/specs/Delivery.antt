@@ -73,7 +73,8 @@ pub record AreTreeIndices (trees : List LieutenantTree) (table : List ℕ) : Typ
   pub found : (i : ℕ) (t : LieutenantTree) → slice_get trees i ≡ Some t → slice_index table t.general ≡ i
   pub only : (g : ℕ) (t : LieutenantTree) → g < 13 → slice_get trees (slice_index table g) ≡ Some t → t.general ≡ g
 
--- a label that is shorter than those of the round of these letters, with what a walk from it down to the labels of that round needs: where each general's letter stands, and trees of the campaign to which the letters are due
+-- a label that is shorter than those of the round of these letters, with what a walk from it down to the labels of that round needs:
+-- where each general's letter stands, and trees of the campaign to which the letters are due
 pub record IsRoute (n : ℕ) (letters : List Letter) (indices : List ℕ) (k : ℕ) (f : Front) (trees : List LieutenantTree) : Type 0 where
   pub few : n ≤ 13
   pub size : k ≡ round_of letters

@@ -50,6 +50,7 @@ fn run(
     ensures ending { IfOk result (λ e. trial verified.now context.now (oral shape) ≡ Some (record { r0 = e.r0; state = e.activation.state; words = e.board.words })) }
     ensures relay { IfOk result (λ e. e.activation.relay ≡ oral shape) }
 {
+    // A sound program is over within as many steps as it has instructions.
     let limit = verified.program().len() as u32;
     let mut board = Board::new(alloc, [0; 64]);
     let mut activation = Activation::start(verified, context, Outbox::new(alloc, shape)?);
