@@ -43,5 +43,6 @@ turned a (Trap cause) = Goes (record a { state = record a.state { steps = a.stat
 abbrev pub has_ended : Activation → Bool
 has_ended a = a.over || is_reached a.patience a.state.steps
 
+-- what an activation does next: one step of its program, or nothing once it has ended
 abbrev pub turn : Activation → Turn
 turn a = cond (has_ended a) Ended (turned a (step a.program a.context a.relay a.state))

@@ -1,4 +1,4 @@
--- How code holds an activation, and what a turn leaves of it and of the board (own). No claim rests on this: what a tick does, World.antt of `world` says.
+-- How code holds an activation, and what a turn leaves of it and of the board (own). No headline of docs/TRUSTED.md rests on this: what a tick does, World.antt of `world` says.
 use Rattle.std.specs.Prelude.{ℕ, ◌≡◌, ◌≤◌, Bool, true, false, ◌||◌, Option, Some, None, min, All, List, [], ◌∷◌, ◌++◌}
 use Rattle.semantics.specs.declared.request.Request.{Request}
 use Rattle.semantics.specs.State.{State, Outcome, Next, Ask, Exit}

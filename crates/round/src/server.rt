@@ -8,7 +8,7 @@ use board::Board;
 use semantics::{Reply, Request};
 use std::alloc::AllocError;
 
-/// Who serves the accesses of a running program: a board, or a board behind a lock, held by one worker. It owes that a
+/// Who serves the accesses of a running program: a board, or a board behind a lock, held by one general's thread. It owes that a
 /// reply fits its request, and that what it has served is put down as it was asked and answered, in order; what it
 /// answers, and what others do to its board, is its own affair.
 pub trait Server {

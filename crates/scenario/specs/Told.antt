@@ -60,11 +60,13 @@ scenario_of h seats = record { generals = h.generals; bound = h.bound; commander
 abbrev pub unseated : Head → Seats
 unseated h = replicate h.generals None
 
+-- behind a good head, what the traitors' tables give
 abbrev pub Begun : Head → Result Items Flaw → Result Scenario ScenarioError → Type 0
 Begun h (Ok ds) r = Answers (scenario_of h) h.generals 0 (unseated h) ds r
 Begun h (Err flaw) (Ok s) = ⊥
 Begun h (Err flaw) (Err e) = Fails {Y = Items} e (Err flaw)
 
+-- what a text gives whose head is this, or has this fault
 abbrev pub Headed : Result Head Flaw → Members → Result Scenario ScenarioError → Type 0
 Headed (Ok h) ms r = Begun h (tables (get_member (codes "traitor") ms)) r
 Headed (Err flaw) ms (Ok s) = ⊥

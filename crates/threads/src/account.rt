@@ -145,7 +145,7 @@ fn count_accesses(letters: &[Letter], most: usize) -> usize
     count
 }
 
-/// Whether the rounds from one on are accounted for by the rest of the ledger, where all of them were told.
+/// Whether the rounds from this one on are accounted for by the rest of the ledger, where all of them were told.
 pub(crate) fn are_accounted(
     alloc: Global,
     told: &Told,

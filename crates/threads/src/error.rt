@@ -9,7 +9,7 @@ use std::fmt;
 /// Why there is no chronicle of a muster.
 #[derive(Clone, Copy, Debug, PartialEq, Eq)]
 pub enum MusterError {
-    /// M1: memory was refused.
+    /// Memory was refused.
     Memory,
     /// M2: the ledger does not account for the letters, or the board did not open with the scenario's words.
     Unaccounted,

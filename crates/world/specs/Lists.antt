@@ -60,6 +60,7 @@ abbrev pub later_lines : List (List ℕ) → List (List ℕ)
 later_lines [] = []
 later_lines (line ∷ lines) = lines
 
+-- a loyal general, who has no program, posts
 abbrev pub post_of : ℕ → Option (List Insn) → List Event
 post_of g None = Post g ∷ []
 post_of g (Some program) = []
@@ -84,15 +85,17 @@ listed_rounds s zero lines = []
 listed_rounds s (suc k) lines =
     map (λ g. event_of g (program_of s g)) (filter (λ g. nat_lt g s.generals) (first_line lines)) ++ (wound_up s ++ listed_rounds s k (later_lines lines))
 
+-- the events of a campaign by a schedule, of which each line is for a round
 abbrev pub listed : Scenario → List (List ℕ) → List Event
 listed s lines = listed_rounds s (suc s.bound) lines
 
--- how many turns it takes until it has asked once more or has ended, at most so many
+-- one turn, and how many the rest takes where it goes on
 abbrev pub further_turns : (Activation → ℕ) → Turn → ℕ
 further_turns rest (Goes a) = suc (rest a)
 further_turns rest (Asks request answered) = 1
 further_turns rest Ended = 0
 
+-- how many turns it takes until it has asked once more or has ended, at most so many
 abbrev pub until_access : ℕ → Activation → ℕ
 until_access zero a = 0
 until_access (suc k) a = further_turns (until_access k) (turn a)
@@ -102,6 +105,7 @@ abbrev pub ticks_named : ℕ → Option Part → List Event
 ticks_named g (Some (Acting a)) = replicate (until_access (length a.program) a) (Tick g)
 ticks_named g _ = []
 
+-- these names make their accesses in this order
 abbrev pub names_events : World → List ℕ → List Event
 names_events w [] = []
 names_events w (g ∷ names) =
@@ -115,10 +119,11 @@ replayed_rounds w (suc k) names =
     let events = names_events w (first_line names) ++ wound_up w.scenario in
     events ++ replayed_rounds (run w events) k (later_lines names)
 
+-- the events of a campaign in which the generals so named, round by round, make their accesses in this order
 abbrev pub replayed : Scenario → List (List ℕ) → List Event
 replayed s names = replayed_rounds (opening s) (suc s.bound) names
 
--- who made the accesses of so many rounds from one on
+-- who made the accesses of so many rounds from this round on
 abbrev pub names_in : ℕ → List Access → ℕ → List (List ℕ)
 names_in round ledger zero = []
 names_in round ledger (suc k) = map (λ a. a.general) (filter (λ a. a.round == round) ledger) ∷ names_in (suc round) ledger k

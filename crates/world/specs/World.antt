@@ -25,7 +25,7 @@ pub record World : Type 0 where
   pub parts : List Part
   pub full : Bool
 
--- for each general in order
+-- what f gives for each number below n, in order
 abbrev pub each : {A : Type 0} → ℕ → (ℕ → List A) → List A
 each zero f = []
 each (suc n) f = each n f ++ f n
@@ -50,6 +50,7 @@ begun s closed words ledger full = record {
   full = full;
 }
 
+-- the world before its first event: round 1 is open, on the scenario's board
 abbrev pub opening : Scenario → World
 opening s = begun s [] s.board [] true
 
@@ -78,6 +79,7 @@ letters_at w g (Some Silent) = []
 letters_at w g (Some Posted) = faithful_letter w.scenario w.closed g ∷ []
 letters_at w g None = []
 
+-- the letters of the open round, by general: what closing it makes of where each stands
 abbrev pub round_letters : World → List Letter
 round_letters w = each w.scenario.generals (λ g. letters_at w g (slice_get w.parts g))
 
@@ -93,14 +95,17 @@ served w g (Asks request answered) =
     }
 served w g Ended = w
 
+-- a traitor's activation takes its next step; with a loyal general nothing happens
 abbrev pub ticked : World → ℕ → Option Part → World
 ticked w g (Some (Acting a)) = served w g (turn a)
 ticked w g _ = w
 
+-- a loyal general's letter of the open round counts as given
 abbrev pub posting : World → ℕ → Option Part → World
 posting w g (Some Silent) = record w { parts = slice_set w.parts g Posted }
 posting w g _ = w
 
+-- the letters of the round are made and kept, and the next round begins
 abbrev pub closing : World → World
 closing w = begun w.scenario (w.closed ++ round_letters w ∷ []) w.words w.ledger (w.full && list_all owes_no_letter w.parts)
 
@@ -110,6 +115,7 @@ happen w (Tick g) = ticked w g (slice_get w.parts g)
 happen w (Post g) = posting w g (slice_get w.parts g)
 happen w Close = cond (round_open w.scenario w.closed) (closing w) w
 
+-- the world after these events, one after another
 abbrev pub run : World → List Event → World
 run w [] = w
 run w (e ∷ events) = run (happen w e) events

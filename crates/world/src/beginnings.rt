@@ -17,8 +17,8 @@ use std::alloc::{AllocError, Global};
 use std::sync::Arc;
 use verify::Verified;
 
-/// The parts of all generals before they are told anything, where a round is left behind so many: all that the round takes
-/// memory for as it begins.
+/// All generals' parts as the round after `before` closed ones begins, not yet told anything; none where no round is left.
+/// This takes all the memory that the beginning takes.
 pub(crate) fn blanks(
     alloc: Global,
     scenario: &Scenario,

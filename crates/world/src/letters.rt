@@ -164,7 +164,7 @@ fn leave(list: &mut Vec<Letter>, part: &mut Part, transcript: Transcript, genera
     }
 }
 
-/// The accesses from one on.
+/// The accesses from this place on.
 pub(crate) fn since(ledger: &[Access], opened: usize) -> &[Access]
     ensures { result.now ≡ drop opened ledger.now }
 {

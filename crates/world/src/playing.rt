@@ -131,7 +131,7 @@ impl World {
         }
     }
 
-    /// Marks all loyal generals so, ascending.
+    /// Marks all loyal generals as having posted, ascending.
     fn all_post(&mut self)
         ensures { self.new ≡ run self.old (each self.old.scenario.generals (λ g. post_of g (program_of self.old.scenario g))) }
     {
