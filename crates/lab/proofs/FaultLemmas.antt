@@ -6,8 +6,8 @@ use Rattle.std.specs.Io.KnownBytes.{Appends}
 use Rattle.command_line.specs.declared.tasks.Task.{Task}
 use Rattle.lab.specs.declared.refusal.Refusal.{Refusal}
 use Rattle.lab.specs.declared.refusal.Refusal.TheVariants as refusal
-use Rattle.lab.specs.declared.fault.Fault.{Fault}
-use Rattle.lab.specs.declared.fault.Fault.TheVariants.{Read, Text, Refused, Write, Memory}
+use Rattle.lab.specs.declared.failure.Failure.{Failure}
+use Rattle.lab.specs.declared.failure.Failure.TheVariants.{Read, Text, Refused, Write, Memory}
 use Rattle.lab.specs.declared.first_answer.FirstAnswer.{FirstAnswer}
 use Rattle.lab.specs.declared.hint.Hint.{Hint}
 use Rattle.lab.specs.Hints.{hint_behind}
@@ -42,7 +42,7 @@ named_line fails old new words None line = tt
 named_line fails old new words (Some name) line = line
 
 -- a file that stops a task, but for want of memory
-turned_down : (unread : Type 0) (refused : Refusal → Option Hint → Type 0) (name : List ℕ) (fails : Type 0) (old new : Option (List ℕ)) (fault : Fault)
+turned_down : (unread : Type 0) (refused : Refusal → Option Hint → Type 0) (name : List ℕ) (fails : Type 0) (old new : Option (List ℕ)) (fault : Failure)
     → Stops unread refused name fault → fails ⊎ IfSome (with_newline (fault_text fault)) (Appends old new) → status_of fault ≡ 1
     → IsTurnedDown unread refused name (Tells fails old new)
 turned_down unread refused name fails old new (Read file) why told one =
@@ -58,7 +58,7 @@ turned_down unread refused name fails old new Memory why told one =
     let no : ⊥ = omega (arith, one) in absurd no
 
 -- the first file, or the second
-prevented : (unread second_unread fails : Type 0) (task : Task) (files : Files) (old new : Option (List ℕ)) (fault : Fault)
+prevented : (unread second_unread fails : Type 0) (task : Task) (files : Files) (old new : Option (List ℕ)) (fault : Failure)
     → Prevents unread second_unread task files fault → fails ⊎ IfSome (with_newline (fault_text fault)) (Appends old new) → status_of fault ≡ 1
     → IsTurnedDown unread (IsRefused task files.first) (first_name task) (Tells fails old new)
     ⊎ ((more : FirstAnswer) × IsTaken task files.first more × IsTurnedDown second_unread (NoHint (IsRefusedLater more files.second)) (second_name task) (Tells fails old new))
@@ -68,7 +68,7 @@ prevented unread second_unread fails task files old new fault (inr (more, taken,
     inr (more, taken, turned_down second_unread (NoHint (IsRefusedLater more files.second)) (second_name task) fails old new fault why told one)
 
 -- each fault but want of memory
-pub fault_ends : (unread second_unread unwritten fails : Type 0) (task : Task) (files : Files) (old new : Option (List ℕ)) (kept : Type 0) (fault : Fault)
+pub fault_ends : (unread second_unread unwritten fails : Type 0) (task : Task) (files : Files) (old new : Option (List ℕ)) (kept : Type 0) (fault : Failure)
     → Undoes unread second_unread unwritten task files fault → (fault ≢ Write → kept)
     → fails ⊎ IfSome (with_newline (fault_text fault)) (Appends old new) → status_of fault ≡ 1
     → IsFault unread second_unread unwritten task files kept (Tells fails old new)

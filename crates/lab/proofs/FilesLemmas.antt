@@ -14,7 +14,7 @@ use Rattle.lab.specs.Hints.{explained_in}
 use Rattle.lab.specs.Campaigns.{IsAudited, IsMustered}
 use Rattle.lab.specs.Faults.{Prevents, Stops}
 use Rattle.lab.specs.Serving.{AreBytes, AreSecond, AreSecondBytes, Files, IsAnswer, IsAuditOf, IsPlayedBy, IsRefusedLater, IsScheduleOf, IsTrialOf, NoHint, first_name, second_name}
-use Rattle.lab.specs.declared.fault.Fault.{Fault}
+use Rattle.lab.specs.declared.failure.Failure.{Failure}
 use Rattle.lab.specs.declared.first_answer.FirstAnswer.{FirstAnswer}
 use Rattle.lab.specs.declared.first_answer.FirstAnswer.TheVariants as answer
 
@@ -111,7 +111,7 @@ answered_tried (Muster scenario) files first text program are comes tried = absu
 answered_tried (Audit scenario chronicle) files first text program are comes tried = absurd comes
 
 -- why a task has no answer behind a first file with which it goes on
-pub prevented_later : (task : Task) (files : Files) (unread second_unread : Type 0) (first name : List ℕ) (more : FirstAnswer) (fault : Fault)
+pub prevented_later : (task : Task) (files : Files) (unread second_unread : Type 0) (first name : List ℕ) (more : FirstAnswer) (fault : Failure)
     → AreBytes files.first first → GoesOn task first more → name ≡ second_name task
     → Stops second_unread (NoHint (IsRefusedLater more files.second)) name fault → Prevents unread second_unread task files fault
 prevented_later task files unread second_unread first name more fault are goes named why =

@@ -11,8 +11,8 @@ use Rattle.lab.specs.Faults.{Prevents, Stops, StopsFirst, fault_of_bytes}
 use Rattle.lab.specs.Hints.{IsHint, IsWhy, asked_of, explained_in, seems_behind}
 use Rattle.lab.specs.Refusals.{Refuses, RefusesCheckIn, RefusesNotation}
 use Rattle.lab.specs.Serving.{AreBytes, Files, IsRefused, first_name}
-use Rattle.lab.specs.declared.fault.Fault.{Fault}
-use Rattle.lab.specs.declared.fault.Fault.TheVariants.{Read, Text, Refused, Write, Memory as FaultMemory}
+use Rattle.lab.specs.declared.failure.Failure.{Failure}
+use Rattle.lab.specs.declared.failure.Failure.TheVariants.{Read, Text, Refused, Write, Memory as FaultMemory}
 use Rattle.lab.specs.declared.hint.Hint.{Hint}
 use Rattle.lab.specs.declared.hint.Hint.TheVariants.{Explained}
 use Rattle.lab.specs.declared.refusal.Refusal.{Refusal}
@@ -127,13 +127,13 @@ stopped_unspelt task notation known bytes first refusal file are named is refuse
 
 -- ---- why the task has no answer then
 
-stops_for : (unread : Type 0) (refused : Refusal → Option Hint → Type 0) (name : List ℕ) (fault : Fault) → Stops ⊥ refused name fault → Stops unread refused name fault
+stops_for : (unread : Type 0) (refused : Refusal → Option Hint → Type 0) (name : List ℕ) (fault : Failure) → Stops ⊥ refused name fault → Stops unread refused name fault
 stops_for unread refused name (Read file) stops = absurd stops.0
 stops_for unread refused name (Text file) stops = stops
 stops_for unread refused name (Refused cause hint) stops = stops
 stops_for unread refused name Write stops = absurd stops
 stops_for unread refused name FaultMemory stops = tt
 
-pub prevented_first : (task : Task) (files : Files) (unread second_unread : Type 0) (bytes : List ℕ) (fault : Fault) → AreBytes files.first bytes
+pub prevented_first : (task : Task) (files : Files) (unread second_unread : Type 0) (bytes : List ℕ) (fault : Failure) → AreBytes files.first bytes
     → StopsFirst task bytes fault → Prevents unread second_unread task files fault
 prevented_first task files unread second_unread bytes fault are stops = inl (stops_for unread (IsRefused task files.first) (first_name task) fault (stops files.first are))

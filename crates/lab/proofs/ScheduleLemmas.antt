@@ -13,7 +13,7 @@ use Rattle.lab.specs.Faults.{Stops, fault_of}
 use Rattle.lab.specs.Reading.{BeginsSo, IsFront}
 use Rattle.lab.specs.Refusals.{RefusesSchedule, RefusesText}
 use Rattle.lab.specs.Serving.{AreBytes, IsScheduleOf, IsScheduleRefused, NoHint}
-use Rattle.lab.specs.declared.fault.Fault.{Fault}
+use Rattle.lab.specs.declared.failure.Failure.{Failure}
 use Rattle.lab.specs.declared.refusal.Refusal.{Refusal}
 use Rattle.lab.specs.declared.refusal.Refusal.TheVariants as refusal
 use Rattle.lab.proofs.FilesLemmas.{second_told}
@@ -57,11 +57,11 @@ refused_as unread known all file (refusal.Threads error) are refuses = absurd re
 refused_as unread known all file refusal.NotText are refuses = (((λ e. cc, (all, are, refuses)), refl), refl)
 refused_as unread known all file refusal.Memory are refuses = tt
 
-pub front_refused : {R : Type 0} (bytes : R → Option (List ℕ)) (unread : Type 0) (second : Option R) (own : R) (front : List ℕ) (file : Bor (List ℕ)) (refusal : Refusal) (fault : Fault)
+pub front_refused : {R : Type 0} (bytes : R → Option (List ℕ)) (unread : Type 0) (second : Option R) (own : R) (front : List ℕ) (file : Bor (List ℕ)) (refusal : Refusal) (fault : Failure)
     → second ≡ Some own → IsFront 1048576 (bytes own) front → ((all : List ℕ) → BeginsSo 1048576 all front → RefusesText RefusesSchedule all refusal) → fault ≡ fault_of refusal file
     → Stops unread (NoHint (IsScheduleRefused (option_map bytes second))) file.now fault
 front_refused {R} bytes unread second own front file refusal fault is begins refuses same =
     let all = all_of 1048576 (bytes own) front begins in
     let stops : Stops unread (NoHint (IsScheduleRefused (Some (bytes own)))) file.now (fault_of refusal file) = refused_as unread (bytes own) all.0 file refusal all.1 (refuses all.0 all.2) in
     subst (λ (o : Option R). Stops unread (NoHint (IsScheduleRefused (option_map bytes o))) file.now fault) (sym is)
-    (subst (λ (f : Fault). Stops unread (NoHint (IsScheduleRefused (Some (bytes own)))) file.now f) (sym same) stops)
+    (subst (λ (f : Failure). Stops unread (NoHint (IsScheduleRefused (Some (bytes own)))) file.now f) (sym same) stops)

@@ -6,33 +6,33 @@ use Rattle.command_line.specs.declared.tasks.Task.{Task}
 use Rattle.lab.specs.declared.first_answer.FirstAnswer.{FirstAnswer}
 use Rattle.lab.specs.declared.refusal.Refusal.{Refusal}
 use Rattle.lab.specs.declared.refusal.Refusal.TheVariants as refusal
-use Rattle.lab.specs.declared.fault.Fault.{Fault}
+use Rattle.lab.specs.declared.failure.Failure.{Failure}
 use Rattle.lab.specs.declared.hint.Hint.{Hint}
-use Rattle.lab.specs.declared.fault.Fault.TheVariants.{Read, Text, Refused, Write, Memory}
+use Rattle.lab.specs.declared.failure.Failure.TheVariants.{Read, Text, Refused, Write, Memory}
 use Rattle.lab.specs.Names.{shown}
 use Rattle.lab.specs.Hints.{hint_behind, seems_behind}
 use Rattle.lab.specs.Telling.{refusal_text}
 use Rattle.lab.specs.Serving.{AreBytes, Files, HasAnswer, IsRefused, IsRefusedLater, IsTaken, NoHint, first_name, second_name}
 
 -- the fault of a file with this name
-abbrev pub fault_of : Refusal → Bor (List ℕ) → Fault
+abbrev pub fault_of : Refusal → Bor (List ℕ) → Failure
 fault_of refusal.Memory file = Memory
 fault_of refusal.NotText file = Text file
 fault_of other file = Refused other None
 
 -- the fault of a file with this name and these bytes, which seem to be something else where they spell no program
-abbrev pub fault_of_bytes : Refusal → Bor (List ℕ) → List ℕ → Fault
+abbrev pub fault_of_bytes : Refusal → Bor (List ℕ) → List ℕ → Failure
 fault_of_bytes refusal.Memory file bytes = Memory
 fault_of_bytes refusal.NotText file bytes = Text file
 fault_of_bytes other file bytes = Refused other (seems_behind other bytes)
 
 -- 3 for want of memory, else 1
-abbrev pub status_of : Fault → ℕ
+abbrev pub status_of : Failure → ℕ
 status_of Memory = 3
 status_of _ = 1
 
 -- what is said of a fault: of a refusal its code and place, and on further lines what its bytes seem to be, or why
-abbrev pub fault_text : Fault → Option (List ℕ)
+abbrev pub fault_text : Failure → Option (List ℕ)
 fault_text (Read file) = Some (codes "fault read ") ++? shown file.now
 fault_text (Text file) = Some (codes "fault text ") ++? shown file.now
 fault_text (Refused refusal hint) = Some (codes "refused " ++ refusal_text refusal ++ hint_behind hint)
@@ -40,7 +40,7 @@ fault_text Write = Some (codes "fault write")
 fault_text Memory = Some (codes "out of memory")
 
 -- why the file with this name stops a task: its reader failed, it is refused, with more that is said of it, or want of memory
-abbrev pub Stops : Type 0 → (Refusal → Option Hint → Type 0) → List ℕ → Fault → Type 0
+abbrev pub Stops : Type 0 → (Refusal → Option Hint → Type 0) → List ℕ → Failure → Type 0
 Stops unread refused name (Read file) = unread × (file.now ≡ name)
 Stops unread refused name (Text file) = refused refusal.NotText None × (file.now ≡ name)
 Stops unread refused name (Refused cause hint) = (cause ≢ refusal.NotText) × refused cause hint
@@ -48,16 +48,16 @@ Stops unread refused name Write = ⊥
 Stops unread refused name Memory = Unit {0}
 
 -- why a first file with these bytes stops a task: not since its reader failed
-abbrev pub StopsFirst : Task → List ℕ → Fault → Type 0
+abbrev pub StopsFirst : Task → List ℕ → Failure → Type 0
 StopsFirst task bytes fault = (known : Option (List ℕ)) → AreBytes known bytes → Stops ⊥ (IsRefused task known) (first_name task) fault
 
 -- why a task has no answer: its first file stops it, or what comes behind one that is taken
-abbrev pub Prevents : Type 0 → Type 0 → Task → Files → Fault → Type 0
+abbrev pub Prevents : Type 0 → Type 0 → Task → Files → Failure → Type 0
 Prevents unread second_unread task files fault =
     Stops unread (IsRefused task files.first) (first_name task) fault
     ⊎ ((more : FirstAnswer) × IsTaken task files.first more × Stops second_unread (NoHint (IsRefusedLater more files.second)) (second_name task) fault)
 
 -- why a task is not done: it has no answer, or the output failed on its answer
-abbrev pub Undoes : Type 0 → Type 0 → Type 0 → Task → Files → Fault → Type 0
+abbrev pub Undoes : Type 0 → Type 0 → Type 0 → Task → Files → Failure → Type 0
 Undoes unread second_unread unwritten task files Write = unwritten × HasAnswer task files
 Undoes unread second_unread unwritten task files fault = Prevents unread second_unread task files fault

@@ -4,7 +4,7 @@ ghost use Rattle.lab.specs.Faults.{StopsFirst};
 ghost use Rattle.lab.specs.Hints.{IsWhy, asked_of, behind_lines, explained_in};
 ghost use Rattle.lab.specs.Refusals.{Refuses, RefusesAssembly, RefusesDisassembly, RefusesNotation};
 
-use crate::fault::Fault;
+use crate::failure::Failure;
 use crate::hint::Hint;
 use crate::refusal::Refusal;
 use crate::texts::as_text;
@@ -93,17 +93,17 @@ pub(crate) fn refused<'a>(
     task: &'a Task,
     refusal: Refusal,
     bytes: &[u8],
-) -> Fault<'a>
+) -> Failure<'a>
     requires { Refuses task.now bytes.now refusal }
     ensures { StopsFirst task.entry.now bytes.now result }
 {
     let file = task.file().unwrap_or("");
     let Some(notation) = asked_of(&refusal, task) else {
-        return Fault::of_bytes(refusal, file, bytes);
+        return Failure::of_bytes(refusal, file, bytes);
     };
     match why(alloc, notation, bytes) {
-        Ok(text) => Fault::Refused(refusal, Some(Hint::Explained(text))),
+        Ok(text) => Failure::Refused(refusal, Some(Hint::Explained(text))),
         // It was read before, so this is want of memory.
-        Err(unread) => Fault::of_bytes(unread, file, bytes),
+        Err(unread) => Failure::of_bytes(unread, file, bytes),
     }
 }

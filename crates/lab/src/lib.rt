@@ -7,7 +7,7 @@ mod auditing;
 mod checking;
 mod deciding;
 mod explaining;
-mod fault;
+mod failure;
 mod first_answer;
 mod forming;
 mod hint;

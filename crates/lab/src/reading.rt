@@ -5,7 +5,7 @@ ghost use Rattle.lab.specs.Reading.{IsFront, IsTooLong};
 ghost use Rattle.lab.specs.Refusals.{RefusesBytes};
 ghost use Rattle.lab.specs.Serving.{AreBytes, AreSecondBytes, IsRefused, first_name};
 
-use crate::fault::Fault;
+use crate::failure::Failure;
 use crate::refusal::Refusal;
 use crate::streams::Source;
 use crate::within::Within;
@@ -24,7 +24,7 @@ pub(crate) fn read_first<'a, R: Source>(
     alloc: Global,
     task: &'a Task,
     first: R,
-) -> Result<Vec<u8>, Fault<'a>>
+) -> Result<Vec<u8>, Failure<'a>>
     ensures whole { IfOk result (λ all. AreBytes (R.bytes first) all.items) }
     ensures fault { IfErr result
         (Stops (R.fails first) (IsRefused task.entry.now (R.bytes first)) (first_name task.entry.now)) }
@@ -46,7 +46,7 @@ fn read_program<'a, R: Source>(
     alloc: Global,
     file: &'a str,
     source: R,
-) -> Result<Vec<u8>, Fault<'a>>
+) -> Result<Vec<u8>, Failure<'a>>
     ensures whole { IfOk result (λ all. AreBytes (R.bytes source) all.items) }
     ensures fault { IfErr result (Stops (R.fails source) (IsTooLong (R.bytes source)) file.entry.now) }
 {
@@ -54,7 +54,7 @@ fn read_program<'a, R: Source>(
         Ok(Within::Whole(bytes)) => Ok(bytes),
         Ok(Within::Longer { front, number }) => {
             let refusal = Refusal::Codec(too_long(number));
-            Err(Fault::of_bytes(refusal, file, front.as_slice()))
+            Err(Failure::of_bytes(refusal, file, front.as_slice()))
         }
         Err(error) => Err(unread(&error, file)),
     }
@@ -77,7 +77,7 @@ pub(crate) fn read_schedule<'a, R: Source>(
     alloc: Global,
     file: &'a str,
     source: R,
-) -> Result<Vec<u8>, Fault<'a>>
+) -> Result<Vec<u8>, Failure<'a>>
     ensures front { IfOk result (λ front. IsFront 1048576 (R.bytes source) front.items) }
     ensures fault { IfErr result (Stops (R.fails source) (λ _ _. ⊥) file.entry.now) }
 {
@@ -92,7 +92,7 @@ pub(crate) fn read_second<'a, R: Source>(
     alloc: Global,
     file: &'a str,
     second: Option<R>,
-) -> Result<Vec<u8>, Fault<'a>>
+) -> Result<Vec<u8>, Failure<'a>>
     ensures whole { IfOk result (λ all. AreSecondBytes (option_map R.bytes second) all.items) }
     ensures fault { IfErr result (Stops (IsSomeAnd second R.fails) (λ _ _. ⊥) file.entry.now) }
 {
@@ -103,7 +103,7 @@ pub(crate) fn read_second<'a, R: Source>(
 }
 
 /// All bytes of the file with this name.
-fn read<'a, R: Source>(alloc: Global, file: &'a str, source: R) -> Result<Vec<u8>, Fault<'a>>
+fn read<'a, R: Source>(alloc: Global, file: &'a str, source: R) -> Result<Vec<u8>, Failure<'a>>
     ensures whole { IfOk result (λ all. AreBytes (R.bytes source) all.items) }
     ensures fault { IfErr result (Stops (R.fails source) (λ _ _. ⊥) file.entry.now) }
 {
@@ -114,11 +114,11 @@ fn read<'a, R: Source>(alloc: Global, file: &'a str, source: R) -> Result<Vec<u8
 }
 
 /// The fault of a file with this name whose reading failed so.
-fn unread<'a>(error: &io::Error, file: &'a str) -> Fault<'a>
+fn unread<'a>(error: &io::Error, file: &'a str) -> Failure<'a>
     ensures { Stops (Unit {0}) (λ _ _. ⊥) file.entry.now result }
 {
     match error.kind() {
-        ErrorKind::OutOfMemory => Fault::Memory,
-        _ => Fault::Read(file),
+        ErrorKind::OutOfMemory => Failure::Memory,
+        _ => Failure::Read(file),
     }
 }

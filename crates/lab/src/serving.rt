@@ -1,12 +1,12 @@
 ghost use Rattle.std.specs.Prelude.{◌≡◌, ◌≢◌, ◌⊎◌, IfOk, IfErr, IsSomeAnd, OnOk, codes, option_map};
 ghost use Rattle.lab.specs.Faults.{Undoes, Prevents, Stops};
 ghost use Rattle.lab.specs.Serving.{IsAnswer, IsAuditOf, IsChronicleRefused, IsFault, IsPlayedBy, IsPrinted, IsScheduleOf, IsScheduleRefused, IsSettingRefused, IsTrialOf, NoHint, Tells, files, second_name};
-ghost use Rattle.lab.specs.declared.fault.Fault.TheVariants.{Write as unwritten};
+ghost use Rattle.lab.specs.declared.failure.Failure.TheVariants.{Write as unwritten};
 
 use crate::answering::answer;
 use crate::auditing::audited;
 use crate::explaining::{explained_in, refused, with_explanation};
-use crate::fault::Fault;
+use crate::failure::Failure;
 use crate::first_answer::FirstAnswer;
 use crate::mustering::mustered;
 use crate::playing::{played, schedule_of};
@@ -69,7 +69,7 @@ fn print<'a, T, R, O>(
     first: R,
     second: Option<R>,
     out: &mut O,
-) -> Result<(), Fault<'a>>
+) -> Result<(), Failure<'a>>
 where
     T: Threads + Wait + Sync,
     R: Source,
@@ -83,7 +83,7 @@ where
     let text = answered(rt, alloc, task, first, second)?;
     match out.put(text.as_slice()) {
         Ok(()) => Ok(()),
-        Err(_) => Err(Fault::Write),
+        Err(_) => Err(Failure::Write),
     }
 }
 
@@ -94,7 +94,7 @@ fn answered<'a, T, R>(
     task: &'a Task,
     first: R,
     second: Option<R>,
-) -> Result<Vec<u8>, Fault<'a>>
+) -> Result<Vec<u8>, Failure<'a>>
 where
     T: Threads + Wait + Sync,
     R: Source,
@@ -114,7 +114,7 @@ where
         Ok(FirstAnswer::Play(scenario)) => play_by(alloc, scenario, file, second),
         Ok(FirstAnswer::Muster(scenario)) => match mustered(rt, alloc, scenario) {
             Ok(text) => Ok(text),
-            Err(refusal) => Err(Fault::of(refusal, file)),
+            Err(refusal) => Err(Failure::of(refusal, file)),
         },
         Ok(FirstAnswer::Audit(scenario)) => audit_of(alloc, &scenario, file, second),
         Err(refusal) => Err(refused(alloc, task, refusal, bytes.as_slice())),
@@ -128,7 +128,7 @@ fn trial_of<'a, R: Source>(
     explained: bool,
     file: &'a str,
     second: Option<R>,
-) -> Result<Vec<u8>, Fault<'a>>
+) -> Result<Vec<u8>, Failure<'a>>
     ensures tried { IfOk result (λ text. IsTrialOf (option_map R.bytes second) explained program.now text.items) }
     ensures fault { IfErr result
         (Stops (IsSomeAnd second R.fails) (NoHint (IsSettingRefused (option_map R.bytes second))) file.entry.now) }
@@ -137,9 +137,9 @@ fn trial_of<'a, R: Source>(
     match tried_by(alloc, program, bytes.as_slice()) {
         Ok(lines) => match with_explanation(alloc, lines, explained, program.program()) {
             Ok(text) => Ok(text.into_bytes()),
-            Err(_) => Err(Fault::Memory),
+            Err(_) => Err(Failure::Memory),
         },
-        Err(refusal) => Err(Fault::of(refusal, file)),
+        Err(refusal) => Err(Failure::of(refusal, file)),
     }
 }
 
@@ -149,7 +149,7 @@ fn play_by<'a, R: Source>(
     scenario: Scenario,
     file: &'a str,
     second: Option<R>,
-) -> Result<Vec<u8>, Fault<'a>>
+) -> Result<Vec<u8>, Failure<'a>>
     ensures played { IfOk result (λ text. IsPlayedBy (option_map R.bytes second) scenario text.items) }
     ensures fault { IfErr result
         (Stops (IsSomeAnd second R.fails) (NoHint (IsScheduleRefused (option_map R.bytes second))) file.entry.now) }
@@ -157,7 +157,7 @@ fn play_by<'a, R: Source>(
     let schedule = scheduled(alloc, file, second)?;
     match played(alloc, scenario, &schedule) {
         Ok(text) => Ok(text),
-        Err(_) => Err(Fault::Memory),
+        Err(_) => Err(Failure::Memory),
     }
 }
 
@@ -166,7 +166,7 @@ fn scheduled<'a, R: Source>(
     alloc: Global,
     file: &'a str,
     second: Option<R>,
-) -> Result<Schedule, Fault<'a>>
+) -> Result<Schedule, Failure<'a>>
     ensures told { IfOk result (λ schedule. IsScheduleOf (option_map R.bytes second) schedule) }
     ensures fault { IfErr result
         (Stops (IsSomeAnd second R.fails) (NoHint (IsScheduleRefused (option_map R.bytes second))) file.entry.now) }
@@ -179,7 +179,7 @@ fn scheduled<'a, R: Source>(
     let front = read_schedule(alloc, file, second)?;
     match schedule_of(alloc, front.as_slice()) {
         Ok(schedule) => Ok(schedule),
-        Err(refusal) => Err(Fault::of(refusal, file)),
+        Err(refusal) => Err(Failure::of(refusal, file)),
     }
 }
 
@@ -189,7 +189,7 @@ fn audit_of<'a, R: Source>(
     scenario: &Scenario,
     file: &'a str,
     second: Option<R>,
-) -> Result<Vec<u8>, Fault<'a>>
+) -> Result<Vec<u8>, Failure<'a>>
     ensures audited { IfOk result (λ text. IsAuditOf (option_map R.bytes second) scenario.now text.items) }
     ensures fault { IfErr result
         (Stops (IsSomeAnd second R.fails) (NoHint (IsChronicleRefused scenario.now (option_map R.bytes second))) file.entry.now) }
@@ -197,6 +197,6 @@ fn audit_of<'a, R: Source>(
     let bytes = read_second(alloc, file, second)?;
     match audited(alloc, scenario, bytes.as_slice()) {
         Ok(text) => Ok(text),
-        Err(refusal) => Err(Fault::of(refusal, file)),
+        Err(refusal) => Err(Failure::of(refusal, file)),
     }
 }

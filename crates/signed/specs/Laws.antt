@@ -6,7 +6,7 @@ use Rattle.signed.specs.Chains.{Chain, Among, IsChain, orders}
 use Rattle.signed.specs.Agreement.{IsSignedBound, SignedAgree}
 use Rattle.signed.specs.Entries.{Dispatch, Entry, chain_of, entered, most_entries}
 use Rattle.signed.specs.Campaign.{Campaign, Conduct, is_traitor}
-use Rattle.signed.specs.World.{World, Event, Post, Posted, Refusal, opening, run, happen, refusal, sent, held_behind, context_behind, accepted_in, IsPunctual, IsFinished}
+use Rattle.signed.specs.World.{World, Event, Post, Posted, EventError, opening, run, happen, refusal, sent, held_behind, context_behind, accepted_in, IsPunctual, IsFinished}
 
 abbrev pub chains_in : List Dispatch → List Chain
 chains_in dispatches = map (λ x. x.chain) dispatches
@@ -56,7 +56,7 @@ pub record HeldChainsAreFew (A B : Type 0) : Type 0 where
 
 -- a refused event, and a second post, leave the world as it was
 pub record IdleEventsChangeNothing (A B : Type 0) : Type 0 where
-  pub refused : (d : Conduct A B) (s : Campaign) (events : List Event) (e : Event) (r : Refusal) →
+  pub refused : (d : Conduct A B) (s : Campaign) (events : List Event) (e : Event) (r : EventError) →
       refusal (run d (opening d s) events) e ≡ Some r → happen d (run d (opening d s) events) e ≡ run d (opening d s) events
   pub posted : (d : Conduct A B) (s : Campaign) (events : List Event) (g : ℕ) → slice_get (run d (opening d s) events).parts g ≡ Some Posted →
       (refusal (run d (opening d s) events) (Post g) ≡ None) × (happen d (run d (opening d s) events) (Post g) ≡ run d (opening d s) events)

@@ -142,11 +142,11 @@ run d w [] = w
 run d w (e ∷ events) = run d (happen d w e) events
 
 -- why an event is refused: all rounds are closed, or there is no such general, or he is not of that kind
-pub data Refusal : Type 0 where
-  NotOpen : Refusal
-  NoGeneral : Refusal
+pub data EventError : Type 0 where
+  NotOpen : EventError
+  NoGeneral : EventError
 
-abbrev pub unfit : {A : Type 0} → Event → Option (Part A) → Option Refusal
+abbrev pub unfit : {A : Type 0} → Event → Option (Part A) → Option EventError
 unfit (Tick g) (Some (Acting a)) = None
 unfit (Post g) (Some Silent) = None
 unfit (Post g) (Some Posted) = None
@@ -158,7 +158,7 @@ named_by (Tick g) = g
 named_by (Post g) = g
 named_by Close = 0
 
-abbrev pub refusal : {A B : Type 0} → World A B → Event → Option Refusal
+abbrev pub refusal : {A B : Type 0} → World A B → Event → Option EventError
 refusal w e = cond (round_open w.campaign w.closed) (unfit e (slice_get w.parts (named_by e))) (Some NotOpen)
 
 -- the orders that p has accepted, of the chains so far

@@ -8,7 +8,7 @@ use std::fmt;
 
 /// Why a task was not done.
 #[derive(Debug, Drop)]
-pub(crate) enum Fault<'a> {
+pub(crate) enum Failure<'a> {
     /// The file of this name could not be read.
     Read(&'a str),
     /// The file of this name is no text in UTF-8.
@@ -21,42 +21,42 @@ pub(crate) enum Fault<'a> {
     Memory,
 }
 
-impl fmt::Display for Fault<'_> {
+impl fmt::Display for Failure<'_> {
     ghost use Rattle.lab.specs.Faults.{fault_text};
 
     ghost output = { fault_text };
 
     fn fmt<W: fmt::Write>(&self, f: &mut fmt::Formatter<W>) -> fmt::Result {
         match self {
-            Fault::Read(file) => write!(f, "fault read {}", FileName(file)),
-            Fault::Text(file) => write!(f, "fault text {}", FileName(file)),
-            Fault::Refused(refusal, None) => write!(f, "refused {refusal}"),
-            Fault::Refused(refusal, Some(hint)) => write!(f, "refused {refusal}{hint}"),
-            Fault::Write => f.write_str("fault write"),
-            Fault::Memory => f.write_str("out of memory"),
+            Failure::Read(file) => write!(f, "fault read {}", FileName(file)),
+            Failure::Text(file) => write!(f, "fault text {}", FileName(file)),
+            Failure::Refused(refusal, None) => write!(f, "refused {refusal}"),
+            Failure::Refused(refusal, Some(hint)) => write!(f, "refused {refusal}{hint}"),
+            Failure::Write => f.write_str("fault write"),
+            Failure::Memory => f.write_str("out of memory"),
         }
     }
 }
 
-impl<'a> Fault<'a> {
+impl<'a> Failure<'a> {
     /// The fault of a file with this name.
-    pub(crate) fn of(refusal: Refusal, file: &'a str) -> Fault<'a>
+    pub(crate) fn of(refusal: Refusal, file: &'a str) -> Failure<'a>
         ensures { result ≡ fault_of refusal file.entry }
     {
         match refusal {
-            Refusal::Memory => Fault::Memory,
-            Refusal::NotText => Fault::Text(file),
-            refusal => Fault::Refused(refusal, None),
+            Refusal::Memory => Failure::Memory,
+            Refusal::NotText => Failure::Text(file),
+            refusal => Failure::Refused(refusal, None),
         }
     }
 
     /// The fault of a file of these bytes: where they spell no program, with what they seem to be.
-    pub(crate) fn of_bytes(refusal: Refusal, file: &'a str, bytes: &[u8]) -> Fault<'a>
+    pub(crate) fn of_bytes(refusal: Refusal, file: &'a str, bytes: &[u8]) -> Failure<'a>
         ensures { result ≡ fault_of_bytes refusal file.entry bytes.now }
     {
         match refusal {
-            Refusal::Codec(error) => Fault::Refused(Refusal::Codec(error), Hint::of_bytes(bytes)),
-            refusal => Fault::of(refusal, file),
+            Refusal::Codec(error) => Failure::Refused(Refusal::Codec(error), Hint::of_bytes(bytes)),
+            refusal => Failure::of(refusal, file),
         }
     }
 
@@ -65,7 +65,7 @@ impl<'a> Fault<'a> {
         ensures { result ≡ status_of self.now }
     {
         match self {
-            Fault::Memory => 3,
+            Failure::Memory => 3,
             _ => 1,
         }
     }
