@@ -148,9 +148,9 @@ reach_of (Store size base offset source) registers = Some (record { base = base;
 reach_of (Call number) registers = call_reach (helper_of number) (known_at registers 3)
 reach_of i registers = None
 
--- the offsets that may be touched
+-- the offsets that may be touched; where nothing is, those at which it would be
 abbrev pub touched : Offsets → Reach → Span
-touched o reach = record { low = o.0 +ℤ reach.distance; high = ((o.1 +ℤ reach.distance) +ℤ pos reach.size) -ℤ pos 1 }
+touched o reach = record { low = o.0 +ℤ reach.distance; high = (o.1 +ℤ reach.distance) +ℤ pos (reach.size - 1) }
 
 abbrev pub outside : Reach → AbsVal → Option Sentence
 outside reach (Pointer region o) = Some (sentence.Memory (access.Outside reach.base region (touched o reach)))

@@ -1,5 +1,5 @@
 //! What an instruction may touch of memory.
-ghost use Rattle.std.specs.Prelude.{◌≡◌, ◌≤◌, ◌≤ℤ◌, ◌+ℤ◌, ◌-ℤ◌, ◌^◌, pos, negsuc, IfSome};
+ghost use Rattle.std.specs.Prelude.{◌≡◌, ◌≤◌, ◌-◌, ◌≤ℤ◌, ◌+ℤ◌, ◌^◌, pos, negsuc, IfSome};
 ghost use Rattle.insn.specs.Insn.{bytes_of, part_bytes};
 ghost use Rattle.semantics.specs.Call.{helper_of};
 ghost use Rattle.verify.specs.Registers.{known_at};
@@ -125,14 +125,17 @@ fn first_touched(offset: i32, distance: i16) -> i64
     i64::from(offset) + i64::from(distance)
 }
 
-/// The last of so many bytes.
+/// The last of so many bytes; of none the place itself.
 fn last_touched(first: i64, size: usize) -> i64
     requires size { size ≤ 512 }
     requires low { negsuc (2 ^ 40) ≤ℤ first }
     requires high { first ≤ℤ pos (2 ^ 40) }
-    ensures { result ≡ (first +ℤ pos size) -ℤ pos 1 }
+    ensures { result ≡ first +ℤ pos (size - 1) }
 {
-    first + size as i64 - 1
+    if size == 0 {
+        return first;
+    }
+    first + (size - 1) as i64
 }
 
 /// The offsets that may be touched from these on.
