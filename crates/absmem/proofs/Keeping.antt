@@ -9,6 +9,7 @@ use Rattle.semantics.specs.declared.value.Cell.TheVariants.{Empty}
 use Rattle.semantics.specs.Memory.{overwritten, pieces_of}
 use Rattle.absmem.specs.declared.spill.Spill.{Spill}
 use Rattle.absmem.specs.declared.spill.Spill.TheVariants.{Free, Whole}
+use Rattle.absval.specs.Limits.{IsOffset}
 use Rattle.absmem.specs.Known.{Known, byte_at, spill_at, IsSetTo, IsFiled, left_of, joined_spill}
 use Rattle.absmem.specs.Describes.{Describes, IsByte, IsByteIf, cell_at, AreBytes, StandsAt}
 use Rattle.absmem.proofs.Overwriting.{cell-inside, cell-before, cell-behind, range-inside, range-before, range-behind}
@@ -114,20 +115,6 @@ filed_joined b (Whole shift region offset) (Whole s r o) filed = by_test _
     by_test : (t : Bool) → IsFiled b (if t then Whole shift region offset else Free)
     by_test true = filed
     by_test false = tt
-
--- the spills with one more, at its block
-pub filed_put : (spills : List Spill) (place : ℕ) (region : Region) (offset : ℤ) → place + 8 ≤ 512 → length spills ≡ 64 → ((b : ℕ) → b < 64 → IsFiled b (spill_at spills b)) →
-    (b : ℕ) → b < 64 → IsFiled b (spill_at (set spills (place / 8) (Whole (place % 8) region offset)) b)
-filed_put spills place region offset fits long filed b lt =
-    elim (cases_eq b (place / 8)) [
-      | inl same ↦
-          let inside : place / 8 < length spills = omega arith in
-          let small : place % 8 < 8 = omega arith in
-          let end : 8 * (place / 8) + place % 8 + 8 ≤ 512 = omega arith in
-          subst (λ (j : ℕ). IsFiled j (spill_at (set spills (place / 8) (Whole (place % 8) region offset)) j)) (sym same)
-          (rw (get_or-set_same spills (place / 8) (Whole (place % 8) region offset) Free inside) (small, end))
-      | inr ne ↦ rw (get_or-set_other spills (place / 8) b (Whole (place % 8) region offset) Free ne) (filed b lt)
-    ]
 
 pub stands_put : (spills : List Spill) (cells : List Cell) (place : ℕ) (region : Region) (offset : ℤ) → place + 8 ≤ 512 → length spills ≡ 64 → length cells ≡ 512 →
     ((b : ℕ) → b < 64 → StandsAt (overwritten cells place (pieces_of region offset)) b (spill_at spills b)) →

@@ -2,6 +2,7 @@
 use Rattle.std.specs.Prelude.{Option, Some, None, ℤ, ℕ, ◌+◌, ◌*◌, ◌<◌, ◌≤◌, ◌≡◌, Bool, ◌&&◌, ◌==◌, false, nat_lt, if◌then◌else◌, List, length, slice_index_or}
 use Rattle.std.specs.Ordering.{int_eq}
 use Rattle.semantics.specs.Memory.{is_same_region}
+use Rattle.absval.specs.Limits.{IsOffset}
 use Rattle.semantics.specs.declared.value.Region.{Region}
 use Rattle.absmem.specs.declared.spill.Spill.{Spill}
 use Rattle.absmem.specs.declared.spill.Spill.TheVariants.{Free, Whole}
@@ -23,10 +24,10 @@ pub record IsSetTo (value : Bool) (old new : List Bool) (place end : ℕ) : Type
   pub before : (k : ℕ) → k < place → byte_at new k ≡ byte_at old k
   pub behind : (k : ℕ) → end ≤ k → byte_at new k ≡ byte_at old k
 
--- a pointer lies in the stack and begins in its block
+-- a pointer lies in the stack and begins in its block, and its offset is within the limit
 abbrev pub IsFiled : ℕ → Spill → Type 0
 IsFiled b Free = Unit {0}
-IsFiled b (Whole shift region offset) = (shift < 8) × (8 * b + shift + 8 ≤ 512)
+IsFiled b (Whole shift region offset) = (shift < 8) × (8 * b + shift + 8 ≤ 512) × IsOffset offset
 
 pub record IsKnownStack (bytes : List Bool) (spills : List Spill) : Type 0 where
   pub cells : length bytes ≡ 512

@@ -8,6 +8,7 @@ use crate::blocks::Blocks;
 use crate::cell_set::CellSet;
 use crate::pointers;
 use crate::spill::Spill;
+use absval::Offset;
 use semantics::Region;
 use std::marker::Model;
 
@@ -84,7 +85,7 @@ impl AbsStack {
     }
 
     /// A pointer is stored at the place.
-    pub fn put_pointer(&mut self, place: usize, region: Region, offset: i32)
+    pub fn put_pointer(&mut self, place: usize, region: Region, offset: Offset)
         requires within { place + 8 ≤ 512 }
         ensures bytes { IsSetTo false self.old.bytes self.new.bytes place (place + 8) }
         ensures here { spill_at self.new.spills (place / 8) ≡ Spill.Whole (place % 8) region offset }
@@ -93,7 +94,7 @@ impl AbsStack {
     {
         pointers::clear(&mut self.spills, place, place + 8);
         self.bytes.set(place, place + 8, false);
-        pointers::put(&mut self.spills, place, region, offset);
+        pointers::put(&mut self.spills, place, region, offset.at);
     }
 
     /// Whether each cell of the window is known to be a byte.
@@ -107,7 +108,7 @@ impl AbsStack {
     }
 
     /// The pointer that is known to stand whole at the place.
-    pub fn pointer_at(&self, place: usize) -> Option<(Region, i32)>
+    pub fn pointer_at(&self, place: usize) -> Option<(Region, Offset)>
         requires within { place + 8 ≤ 512 }
         ensures known { result ≡ pointer_of (place % 8) (spill_at self.now.spills (place / 8)) }
         ensures holds { IfSome result
@@ -122,7 +123,7 @@ impl AbsStack {
             return None;
         };
         if shift as usize == place % 8 {
-            return Some((region, offset));
+            return Some((region, Offset { at: offset }));
         }
         None
     }

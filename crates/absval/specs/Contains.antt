@@ -23,7 +23,7 @@ IsPointerIn region low high (value.Pointer other offset) = (other ≡ region) ×
 abbrev pub Contains : AbsVal → Value → Type 0
 Contains Unset v = Unit {0}
 Contains (Number numbers) v = IsNumberOf numbers v
-Contains (Pointer region offsets) v = IsPointerIn region offsets.low offsets.high v
+Contains (Pointer region offsets) v = IsPointerIn region offsets.0 offsets.1 v
 
 -- there is a result, and it is one of those
 abbrev pub Gives : AbsVal → Result Value Cause → Type 0

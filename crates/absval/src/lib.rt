@@ -10,6 +10,6 @@ mod windows;
 
 pub use number_set::NumberSet;
 pub use operations::{arithmetic, negate, sign_extend, swap};
-pub use value::{AbsVal, Offsets};
+pub use value::{AbsVal, Offset, Offsets};
 pub use values::{immediate, join, loaded};
 pub use windows::{Window, window_of};

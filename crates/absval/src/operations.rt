@@ -1,10 +1,10 @@
-ghost use Rattle.std.specs.Prelude.{◌≡◌, ◌≢◌, ◌≤ℤ◌, ◌↔◌, ℕ, ℤ, true, IfSome, IsSome, IsSomeAnd, option_map};
+ghost use Rattle.std.specs.Prelude.{◌≡◌, ◌≢◌, ◌≤ℤ◌, ◌↔◌, ℕ, ℤ, true, IfSome, IsSome, IsSomeAnd};
 ghost use Rattle.word.specs.Arithmetic.{arithmetic as computed, negated, sign_extended, swapped};
 ghost use Rattle.semantics.specs.declared.value.Value.{Value};
 ghost use Rattle.semantics.specs.Step.{result_of, mapped};
 ghost use Rattle.absval.specs.NumberSets.{Has};
 ghost use Rattle.absval.specs.Contains.{Contains, Gives, is_number};
-ghost use Rattle.absval.specs.Table.{ends_of, computed as known, moved as known_moved, combined as known_combined, shifted as known_shifted, negated_known, extended_known, swapped_known};
+ghost use Rattle.absval.specs.Table.{computed as known, moved as known_moved, combined as known_combined, shifted as known_shifted, negated_known, extended_known, swapped_known};
 
 use crate::number_set::NumberSet;
 use crate::pointer::{as_signed, lowered, raised};
@@ -17,7 +17,7 @@ pub fn arithmetic(width: Width, operation: Operation, a: AbsVal, b: AbsVal) -> O
     ensures holds { IfSome result (λ r. (x y : Value) → Contains a x → Contains b y → Gives r (result_of width operation x y)) }
     ensures moves { operation ≡ Operation.Move → is_number b ≡ true → IsSomeAnd result (λ r. is_number r ≡ true) }
     ensures numbers { is_number a ≡ true → is_number b ≡ true → IsSomeAnd result (λ r. is_number r ≡ true) }
-    ensures exact { option_map ends_of result ≡ known width operation (ends_of a) (ends_of b) }
+    ensures exact { result ≡ known width operation a b }
 {
     if let Operation::Move = operation {
         return moved(width, b);
@@ -29,7 +29,7 @@ pub fn arithmetic(width: Width, operation: Operation, a: AbsVal, b: AbsVal) -> O
 fn moved(width: Width, b: AbsVal) -> Option<AbsVal>
     ensures holds { IfSome result (λ r. (x y : Value) → Contains b y → Gives r (result_of width Operation.Move x y)) }
     ensures numbers { is_number b ≡ true → IsSomeAnd result (λ r. is_number r ≡ true) }
-    ensures exact { option_map ends_of result ≡ known_moved width (ends_of b) }
+    ensures exact { result ≡ known_moved width b }
 {
     match b {
         AbsVal::Unset => None,
@@ -46,7 +46,7 @@ fn combined(width: Width, operation: Operation, a: AbsVal, b: AbsVal) -> Option<
     requires { operation ≢ Operation.Move }
     ensures holds { IfSome result (λ r. (x y : Value) → Contains a x → Contains b y → Gives r (result_of width operation x y)) }
     ensures numbers { is_number a ≡ true → is_number b ≡ true → IsSomeAnd result (λ r. is_number r ≡ true) }
-    ensures exact { option_map ends_of result ≡ known_combined width operation (ends_of a) (ends_of b) }
+    ensures exact { result ≡ known_combined width operation a b }
 {
     let AbsVal::Number(n) = b else {
         return None;
@@ -67,9 +67,9 @@ fn shifted(
     n: NumberSet,
 ) -> Option<AbsVal>
     requires { operation ≢ Operation.Move }
-    ensures holds { IfSome result (λ r. (o : ℤ) (y : ℕ) → offsets.low ≤ℤ o → o ≤ℤ offsets.high → Has n y →
+    ensures holds { IfSome result (λ r. (o : ℤ) (y : ℕ) → offsets.0 ≤ℤ o → o ≤ℤ offsets.1 → Has n y →
         Gives r (result_of width operation (Value.Pointer region o) (Value.Number y))) }
-    ensures exact { option_map ends_of result ≡ known_shifted width operation region (offsets.low, offsets.high) n }
+    ensures exact { result ≡ known_shifted width operation region offsets n }
 {
     let Width::W64 = width else {
         return None;
@@ -87,7 +87,7 @@ pub fn negate(width: Width, a: AbsVal) -> Option<AbsVal>
     ensures holds { IfSome result (λ r. (x : Value) → Contains a x → Gives r (mapped (negated width) x)) }
     ensures number { IsSome result ↔ (is_number a ≡ true) }
     ensures again { IfSome result (λ r. is_number r ≡ true) }
-    ensures exact { option_map ends_of result ≡ negated_known width (ends_of a) }
+    ensures exact { result ≡ negated_known width a }
 {
     match a {
         AbsVal::Number(n) => Some(AbsVal::Number(n.negate(width))),
@@ -100,7 +100,7 @@ pub fn sign_extend(width: Width, part: Narrow, a: AbsVal) -> Option<AbsVal>
     ensures holds { IfSome result (λ r. (x : Value) → Contains a x → Gives r (mapped (sign_extended width part) x)) }
     ensures number { IsSome result ↔ (is_number a ≡ true) }
     ensures again { IfSome result (λ r. is_number r ≡ true) }
-    ensures exact { option_map ends_of result ≡ extended_known width part (ends_of a) }
+    ensures exact { result ≡ extended_known width part a }
 {
     match a {
         AbsVal::Number(n) => Some(AbsVal::Number(n.sign_extend(width, part))),
@@ -113,7 +113,7 @@ pub fn swap(order: ByteOrder, size: SwapSize, a: AbsVal) -> Option<AbsVal>
     ensures holds { IfSome result (λ r. (x : Value) → Contains a x → Gives r (mapped (swapped order size) x)) }
     ensures number { IsSome result ↔ (is_number a ≡ true) }
     ensures again { IfSome result (λ r. is_number r ≡ true) }
-    ensures exact { option_map ends_of result ≡ swapped_known order size (ends_of a) }
+    ensures exact { result ≡ swapped_known order size a }
 {
     match a {
         AbsVal::Number(n) => Some(AbsVal::Number(n.swap(order, size))),

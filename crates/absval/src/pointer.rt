@@ -1,13 +1,12 @@
 //! Numbers added to pointers and taken from them.
-ghost use Rattle.std.specs.Prelude.{pos, negsuc, ◌≡◌, ◌≤◌, ◌+ℤ◌, ◌-ℤ◌, ◌≤ℤ◌, ℕ, ℤ, IfSome, Some, None, option_map, if◌then◌else◌};
+ghost use Rattle.std.specs.Prelude.{pos, negsuc, ◌≡◌, ◌≤◌, ◌+ℤ◌, ◌-ℤ◌, ◌≤ℤ◌, ℕ, ℤ, IfSome, Some, None, if◌then◌else◌};
 ghost use Rattle.std.specs.Int.{w64, cast_signed};
-ghost use Rattle.absval.specs.Table.{in_a_row, is_near, raised as known_raised, lowered as known_lowered};
+ghost use Rattle.absval.specs.Limits.{is_near, IsOffset};
+ghost use Rattle.absval.specs.Table.{in_a_row, raised as known_raised, lowered as known_lowered};
 
-use crate::value::Offsets;
+use crate::value::{LIMIT, Offsets};
 use range::Range;
-
-/// The greatest distance of an offset from 0.
-const LIMIT: i64 = 65_536;
+use std::marker::Model;
 
 /// A range of numbers read as signed.
 #[derive(Clone, Copy, Debug, PartialEq, Eq)]
@@ -16,10 +15,22 @@ pub(crate) struct SignedRange {
     pub(crate) high: i64,
 }
 
+impl Model for SignedRange {
+    ghost use Rattle.std.specs.Prelude.{ℤ, ◌≤ℤ◌};
+
+    ghost Value = { ℤ × ℤ };
+
+    ghost view = { λ s. (s.low, s.high) };
+
+    ghost invariant = { λ s. s.low ≤ℤ s.high };
+
+    ghost inverse = { λ v. record { low = v.0; high = v.1 } };
+}
+
 /// The numbers of the range as signed, where they are in a row.
 pub(crate) fn as_signed(range: Range) -> Option<SignedRange>
-    ensures holds { IfSome result (λ s. (n : ℕ) → range.0 ≤ n → n ≤ range.1 → (s.low ≤ℤ cast_signed w64 n) × (cast_signed w64 n ≤ℤ s.high)) }
-    ensures exact { option_map (λ s. (s.low, s.high)) result ≡ in_a_row range }
+    ensures holds { IfSome result (λ s. (n : ℕ) → range.0 ≤ n → n ≤ range.1 → (s.0 ≤ℤ cast_signed w64 n) × (cast_signed w64 n ≤ℤ s.1)) }
+    ensures exact { result ≡ in_a_row range }
 {
     let low = range.lo.cast_signed();
     let high = range.hi.cast_signed();
@@ -31,10 +42,9 @@ pub(crate) fn as_signed(range: Range) -> Option<SignedRange>
 
 /// The offsets once the numbers are added, where none leaves the limit.
 pub(crate) fn raised(offsets: Offsets, by: SignedRange) -> Option<Offsets>
-    ensures holds { IfSome result (λ r. (o z : ℤ) → offsets.low ≤ℤ o → o ≤ℤ offsets.high → by.low ≤ℤ z → z ≤ℤ by.high →
-        (r.low ≤ℤ (o +ℤ z)) × ((o +ℤ z) ≤ℤ r.high)) }
-    ensures limits { IfSome result (λ r. (negsuc 65535 ≤ℤ r.low) × (r.high ≤ℤ pos 65536)) }
-    ensures exact { option_map (λ r. (r.low, r.high)) result ≡ known_raised (offsets.low, offsets.high) (by.low, by.high) }
+    ensures holds { IfSome result (λ r. (o z : ℤ) → offsets.0 ≤ℤ o → o ≤ℤ offsets.1 → by.0 ≤ℤ z → z ≤ℤ by.1 →
+        (r.0 ≤ℤ (o +ℤ z)) × ((o +ℤ z) ≤ℤ r.1)) }
+    ensures exact { result ≡ known_raised offsets by }
 {
     let low = sum(offsets.low, by.low)?;
     let high = sum(offsets.high, by.high)?;
@@ -43,10 +53,9 @@ pub(crate) fn raised(offsets: Offsets, by: SignedRange) -> Option<Offsets>
 
 /// The offsets once the numbers are taken away, where none leaves the limit.
 pub(crate) fn lowered(offsets: Offsets, by: SignedRange) -> Option<Offsets>
-    ensures holds { IfSome result (λ r. (o z : ℤ) → offsets.low ≤ℤ o → o ≤ℤ offsets.high → by.low ≤ℤ z → z ≤ℤ by.high →
-        (r.low ≤ℤ (o -ℤ z)) × ((o -ℤ z) ≤ℤ r.high)) }
-    ensures limits { IfSome result (λ r. (negsuc 65535 ≤ℤ r.low) × (r.high ≤ℤ pos 65536)) }
-    ensures exact { option_map (λ r. (r.low, r.high)) result ≡ known_lowered (offsets.low, offsets.high) (by.low, by.high) }
+    ensures holds { IfSome result (λ r. (o z : ℤ) → offsets.0 ≤ℤ o → o ≤ℤ offsets.1 → by.0 ≤ℤ z → z ≤ℤ by.1 →
+        (r.0 ≤ℤ (o -ℤ z)) × ((o -ℤ z) ≤ℤ r.1)) }
+    ensures exact { result ≡ known_lowered offsets by }
 {
     let low = difference(offsets.low, by.high)?;
     let high = difference(offsets.high, by.low)?;
@@ -56,7 +65,7 @@ pub(crate) fn lowered(offsets: Offsets, by: SignedRange) -> Option<Offsets>
 /// An offset and a number, where the sum is within the limit.
 fn sum(offset: i32, by: i64) -> Option<i32>
     ensures same { IfSome result (λ r. r ≡ offset +ℤ by) }
-    ensures limits { IfSome result (λ r. (negsuc 65535 ≤ℤ r) × (r ≤ℤ pos 65536)) }
+    ensures limits { IfSome result IsOffset }
     ensures exact { result ≡ (if is_near (offset +ℤ by) then Some (offset +ℤ by) else None) }
 {
     within(i64::from(offset).checked_add(by)?)
@@ -65,7 +74,7 @@ fn sum(offset: i32, by: i64) -> Option<i32>
 /// An offset less a number, where the difference is within the limit.
 fn difference(offset: i32, by: i64) -> Option<i32>
     ensures same { IfSome result (λ r. r ≡ offset -ℤ by) }
-    ensures limits { IfSome result (λ r. (negsuc 65535 ≤ℤ r) × (r ≤ℤ pos 65536)) }
+    ensures limits { IfSome result IsOffset }
     ensures exact { result ≡ (if is_near (offset -ℤ by) then Some (offset -ℤ by) else None) }
 {
     within(i64::from(offset).checked_sub(by)?)
@@ -74,10 +83,10 @@ fn difference(offset: i32, by: i64) -> Option<i32>
 /// The offset, where it is within the limit.
 fn within(offset: i64) -> Option<i32>
     ensures same { IfSome result (λ r. r ≡ offset) }
-    ensures limits { IfSome result (λ r. (negsuc 65535 ≤ℤ r) × (r ≤ℤ pos 65536)) }
+    ensures limits { IfSome result IsOffset }
     ensures exact { result ≡ (if is_near offset then Some offset else None) }
 {
-    if offset < -LIMIT || offset > LIMIT {
+    if offset < -i64::from(LIMIT) || offset > i64::from(LIMIT) {
         return None;
     }
     Some(offset as i32)

@@ -1,11 +1,70 @@
+//! What is known of a value.
+ghost use Rattle.std.specs.Prelude.{◌≡◌};
+
 use crate::number_set::NumberSet;
 use semantics::Region;
+use std::marker::Model;
 
-/// From which to which offset a pointer may point, both among them.
+/// The greatest distance of an offset from 0.
+pub(crate) const LIMIT: i32 = 65_536;
+
+/// An offset that a pointer may have: within the limit.
+#[derive(Clone, Copy, Debug, PartialEq, Eq)]
+pub struct Offset {
+    pub at: i32,
+}
+
+impl Model for Offset {
+    ghost use Rattle.std.specs.Prelude.{ℤ};
+    ghost use Rattle.absval.specs.Limits.{IsOffset};
+
+    ghost Value = { ℤ };
+
+    ghost view = { λ o. o.at };
+
+    ghost invariant = { λ o. IsOffset o.at };
+
+    ghost inverse = { λ v. record { at = v } };
+}
+
+/// From which to which offset a pointer may point, both among them and within the limit.
 #[derive(Clone, Copy, Debug, PartialEq, Eq)]
 pub struct Offsets {
     pub low: i32,
     pub high: i32,
+}
+
+impl Model for Offsets {
+    ghost use Rattle.std.specs.Prelude.{ℤ};
+    ghost use Rattle.absval.specs.Limits.{AreOffsets};
+
+    ghost Value = { ℤ × ℤ };
+
+    ghost view = { λ o. (o.low, o.high) };
+
+    ghost invariant = { λ o. AreOffsets o.low o.high };
+
+    ghost inverse = { λ v. record { low = v.0; high = v.1 } };
+}
+
+impl Offsets {
+    /// One offset.
+    pub fn exactly(offset: Offset) -> Offsets
+        ensures { result ≡ (offset, offset) }
+    {
+        Offsets {
+            low: offset.at,
+            high: offset.at,
+        }
+    }
+
+    /// The least of them.
+    pub fn least(self) -> Offset
+        ensures { result ≡ self.0 }
+    {
+        let _high = self.high;
+        Offset { at: self.low }
+    }
 }
 
 /// What is known of a value.

@@ -3,7 +3,7 @@ ghost use Rattle.std.specs.Int.{w64, cast_unsigned};
 ghost use Rattle.insn.specs.Insn.{bytes_of};
 ghost use Rattle.semantics.specs.declared.value.Value.{Value};
 ghost use Rattle.absval.specs.Contains.{Contains, IsNumberOf, IsPointerIn, is_number};
-ghost use Rattle.absval.specs.Table.{Numbers, Pointers, ends_of, immediate_known, loaded_known, joined as known_joined, joined_offsets};
+ghost use Rattle.absval.specs.Table.{immediate_known, loaded_known, joined as known_joined, joined_offsets};
 
 use crate::number_set::NumberSet;
 use crate::value::{AbsVal, Offsets};
@@ -15,7 +15,7 @@ use semantics::Region;
 pub fn immediate(n: i32) -> AbsVal
     ensures number { is_number result ≡ true }
     ensures holds { Contains result (Value.Number (cast_unsigned w64 n)) }
-    ensures exact { ends_of result ≡ immediate_known n }
+    ensures exact { result ≡ immediate_known n }
 {
     AbsVal::Number(NumberSet::exactly(i64::from(n).cast_unsigned()))
 }
@@ -24,7 +24,7 @@ pub fn immediate(n: i32) -> AbsVal
 pub fn loaded(size: Size) -> AbsVal
     ensures number { is_number result ≡ true }
     ensures holds { (n : ℕ) → n < 256 ^ bytes_of size → Contains result (Value.Number n) }
-    ensures exact { ends_of result ≡ loaded_known size }
+    ensures exact { result ≡ loaded_known size }
 {
     AbsVal::Number(NumberSet::within(numbers_of(size)))
 }
@@ -49,7 +49,7 @@ pub fn join(a: AbsVal, b: AbsVal) -> AbsVal
     ensures left { (v : Value) → Contains a v → Contains result v }
     ensures right { (v : Value) → Contains b v → Contains result v }
     ensures number { is_number result ≡ (is_number a && is_number b) }
-    ensures exact { ends_of result ≡ known_joined (ends_of a) (ends_of b) }
+    ensures exact { result ≡ known_joined a b }
 {
     match a {
         AbsVal::Unset => AbsVal::Unset,
@@ -63,7 +63,7 @@ fn join_number(m: NumberSet, b: AbsVal) -> AbsVal
     ensures left { (v : Value) → IsNumberOf m v → Contains result v }
     ensures right { (v : Value) → Contains b v → Contains result v }
     ensures number { is_number result ≡ is_number b }
-    ensures exact { ends_of result ≡ known_joined (Numbers m) (ends_of b) }
+    ensures exact { result ≡ known_joined (AbsVal.Number m) b }
 {
     match b {
         AbsVal::Number(n) => AbsVal::Number(m.join(n)),
@@ -73,10 +73,10 @@ fn join_number(m: NumberSet, b: AbsVal) -> AbsVal
 
 /// What holds each of the pointers and each value of the other.
 fn join_pointer(region: Region, m: Offsets, b: AbsVal) -> AbsVal
-    ensures left { (v : Value) → IsPointerIn region m.low m.high v → Contains result v }
+    ensures left { (v : Value) → IsPointerIn region m.0 m.1 v → Contains result v }
     ensures right { (v : Value) → Contains b v → Contains result v }
     ensures number { is_number result ≡ false }
-    ensures exact { ends_of result ≡ known_joined (Pointers region (m.low, m.high)) (ends_of b) }
+    ensures exact { result ≡ known_joined (AbsVal.Pointer region m) b }
 {
     match b {
         AbsVal::Pointer(other, n) => match (region, other) {
@@ -90,11 +90,11 @@ fn join_pointer(region: Region, m: Offsets, b: AbsVal) -> AbsVal
 
 /// From the least offset of both to the greatest.
 fn joined(m: Offsets, n: Offsets) -> Offsets
-    ensures low_left { result.low ≤ℤ m.low }
-    ensures low_right { result.low ≤ℤ n.low }
-    ensures high_left { m.high ≤ℤ result.high }
-    ensures high_right { n.high ≤ℤ result.high }
-    ensures exact { (result.low, result.high) ≡ joined_offsets (m.low, m.high) (n.low, n.high) }
+    ensures low_left { result.0 ≤ℤ m.0 }
+    ensures low_right { result.0 ≤ℤ n.0 }
+    ensures high_left { m.1 ≤ℤ result.1 }
+    ensures high_right { n.1 ≤ℤ result.1 }
+    ensures exact { result ≡ joined_offsets m n }
 {
     Offsets {
         low: m.low.min(n.low),

@@ -79,14 +79,14 @@ fn place_at(region: Region, offset: i32, distance: i16) -> Option<usize>
 /// The cells that an access of so many bytes may touch, a distance from a pointer, where all of them lie in its region.
 pub fn window_of(region: Region, offsets: Offsets, distance: i16, size: usize) -> Option<Window>
     requires { size ≤ 4096 }
-    ensures exact { result ≡ window_known region offsets.low offsets.high distance size }
+    ensures exact { result ≡ window_known region offsets.0 offsets.1 distance size }
     ensures fits { IfSome result (λ w. w.place + w.size ≤ room_of region) }
-    ensures holds { IfSome result (λ w. (o : ℤ) → offsets.low ≤ℤ o → o ≤ℤ offsets.high →
+    ensures holds { IfSome result (λ w. (o : ℤ) → offsets.0 ≤ℤ o → o ≤ℤ offsets.1 →
         LiesIn w.place w.size size (window_at region (o +ℤ distance) size)) }
-    ensures there { offsets.low ≤ℤ offsets.high → IsOk (window_at region (offsets.low +ℤ distance) size) →
-        IsOk (window_at region (offsets.high +ℤ distance) size) → IsSome result }
-    ensures least { IfSome result (λ w. pos w.place ≡ (offsets.low +ℤ distance) +ℤ pos (base_of region)) }
-    ensures greatest { IfSome result (λ w. pos (w.place + w.size) ≡ ((offsets.high +ℤ distance) +ℤ pos (base_of region)) +ℤ pos size) }
+    ensures there { offsets.0 ≤ℤ offsets.1 → IsOk (window_at region (offsets.0 +ℤ distance) size) →
+        IsOk (window_at region (offsets.1 +ℤ distance) size) → IsSome result }
+    ensures least { IfSome result (λ w. pos w.place ≡ (offsets.0 +ℤ distance) +ℤ pos (base_of region)) }
+    ensures greatest { IfSome result (λ w. pos (w.place + w.size) ≡ ((offsets.1 +ℤ distance) +ℤ pos (base_of region)) +ℤ pos size) }
 {
     window_between(region, offsets.low, offsets.high, distance, size)
 }

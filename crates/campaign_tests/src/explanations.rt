@@ -84,10 +84,15 @@ const EXPLAINED: &[(&str, &str)] = &[
         "ldd r2, [r1+32]\nand r2, 15\nmov r3, r10\nadd r3, -8\nadd r3, r2\nstb [r3+0], 1\nmov r0, 0\nexit\n",
         "\n0 ldd r2, [r1+32] ; r1 context 0\n1 and r2, 15 ; r2 any number\n2 mov r3, r10 ; r10 stack 0\n3 add r3, -8 ; r3 stack 0\n4 add r3, r2 ; r3 stack -8 ; r2 0 to 15\n5 stb [r3+0], 1 ; r3 stack -8 to 7\n5 stb [r3+0], 1: r3 may reach the stack at -8 to 7: it has -512 to -1",
     ),
+    // nothing is touched, and its place lies outside
+    (
+        "mov r2, r10\nadd r2, 8\nmov r1, 0\nmov r3, 0\ncall 5\nexit\n",
+        "\n0 mov r2, r10 ; r10 stack 0\n1 add r2, 8 ; r2 stack 0\n2 mov r1, 0\n3 mov r3, 0\n4 call 5 ; r1 0 ; r2 stack 8 ; r3 0\n4 call 5: r2 may reach the stack at 8: it has -512 to -1",
+    ),
     // V9
     (
         "stw [r10-8], 1\nldd r0, [r10-8]\nexit\n",
-        "\n0 stw [r10-8], 1 ; r10 stack 0\n1 ldd r0, [r10-8] ; r10 stack 0\n1 ldd r0, [r10-8]: r10 may reach the stack at -8 to -1: unset at -4",
+        "\n0 stw [r10-8], 1 ; r10 stack 0\n1 ldd r0, [r10-8] ; r10 stack 0\n1 ldd r0, [r10-8]: r10 may reach the stack at -8 to -1: no byte is known at -4",
     ),
     // V10
     (

@@ -23,7 +23,7 @@ use Rattle.verify.specs.Structure.{structural_fault}
 use Rattle.verify.specs.Kept.{Kept}
 use Rattle.verify.specs.Flow.{kept_at}
 use Rattle.verify.specs.Passes.{reason_at}
-use Rattle.verify.specs.Calls.{abstract_at}
+use Rattle.verify.specs.Registers.{known_at}
 use Rattle.verify.specs.Transfer.{edges}
 use Rattle.verify.specs.Judgement.{KnownSoFar, reached_at, along_all, settled, passed_at, passed_on, passed_to, judged}
 use Rattle.verify.specs.KnownAtUnits.{AreKnown, EndsSo, IsLast, IsSurvey, known_of}
@@ -68,8 +68,8 @@ between_fits size (pos first) (negsuc n) = tt
 between_fits size (negsuc m) (pos last) = tt
 between_fits size (negsuc m) (negsuc n) = tt
 
-window_fits : (o : Offsets) (reach : Reach) → Fits (window_known Stack o.low o.high reach.distance reach.size)
-window_fits o reach = between_fits reach.size ((o.low +ℤ reach.distance) +ℤ pos 512) ((o.high +ℤ reach.distance) +ℤ pos 512)
+window_fits : (o : Offsets) (reach : Reach) → Fits (window_known Stack o.0 o.1 reach.distance reach.size)
+window_fits o reach = between_fits reach.size ((o.0 +ℤ reach.distance) +ℤ pos 512) ((o.1 +ℤ reach.distance) +ℤ pos 512)
 
 cell_same : (known : Known) (reach : Reach) (v : AbsVal) → empty_cell (listed known) reach v ≡ empty_cell known reach v
 cell_same known reach value.Unset = refl
@@ -77,12 +77,12 @@ cell_same known reach (value.Number n) = refl
 cell_same known reach (value.Pointer Context o) = refl
 cell_same known reach (value.Pointer Stack o) =
     ap (option_map (λ k. sentence.Memory (access.Empty reach.base (touched o reach) (pos k -ℤ pos 512))))
-    (empty_in_listed known (window_known Stack o.low o.high reach.distance reach.size) (window_fits o reach))
+    (empty_in_listed known (window_known Stack o.0 o.1 reach.distance reach.size) (window_fits o reach))
 
 reach_same : (known : Known) (registers : List AbsVal) (o : Option Reach)
-    → option_and_then (λ reach. empty_cell (listed known) reach (abstract_at registers reach.base)) o ≡ option_and_then (λ reach. empty_cell known reach (abstract_at registers reach.base)) o
+    → option_and_then (λ reach. empty_cell (listed known) reach (known_at registers reach.base)) o ≡ option_and_then (λ reach. empty_cell known reach (known_at registers reach.base)) o
 reach_same known registers None = refl
-reach_same known registers (Some reach) = cell_same known reach (abstract_at registers reach.base)
+reach_same known registers (Some reach) = cell_same known reach (known_at registers reach.base)
 
 -- ---- so the lines are the same
 

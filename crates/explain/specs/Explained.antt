@@ -12,7 +12,7 @@ use Rattle.verify.specs.declared.error.VerifyError.TheVariants.{At}
 use Rattle.verify.specs.declared.reason.Reason.{Reason}
 use Rattle.verify.specs.declared.reason.Reason.TheVariants as reason
 use Rattle.verify.specs.declared.state.AbsState.{AbsState}
-use Rattle.verify.specs.Calls.{abstract_at}
+use Rattle.verify.specs.Registers.{known_at}
 use Rattle.verify.specs.Structure.{structural_fault}
 use Rattle.verify.specs.Judgement.{reached_at, passed_to, judged}
 use Rattle.explain.specs.declared.sentence.Sentence.{Sentence}
@@ -28,7 +28,7 @@ use Rattle.explain.specs.Reads.{read_by}
 -- behind each register that is read what is known of it
 abbrev pub read_text : List AbsVal → Option ℕ → List ℕ
 read_text registers None = []
-read_text registers (Some r) = codes " ; " ++ named_text r (abstract_at registers r)
+read_text registers (Some r) = codes " ; " ++ named_text r (known_at registers r)
 
 abbrev pub reads_text : List AbsVal → List (Option ℕ) → List ℕ
 reads_text registers (first ∷ second ∷ third ∷ []) = read_text registers first ++ read_text registers second ++ read_text registers third

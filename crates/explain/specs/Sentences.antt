@@ -66,7 +66,7 @@ extent_text Context = codes "0 to 4095"
 -- what an access may touch
 abbrev pub access_text : Access → List ℕ
 access_text (access.Outside r region span) = reached_text r region span ++ codes ": it has " ++ extent_text region
-access_text (access.Empty r span at) = reached_text r Stack span ++ codes ": unset at " ++ signed_decimal at
+access_text (access.Empty r span at) = reached_text r Stack span ++ codes ": no byte is known at " ++ signed_decimal at
 access_text (access.Context r value) = named_text r value ++ codes ": the context is only read"
 
 -- what a call asks

@@ -26,7 +26,7 @@ use Rattle.absval.specs.Windows.{window_known}
 use Rattle.absmem.specs.Known.{Known, byte_at}
 use Rattle.helper.specs.declared.argument.Argument.{Argument}
 use Rattle.helper.specs.Table.{bound_of, arguments_of}
-use Rattle.verify.specs.Calls.{abstract_at}
+use Rattle.verify.specs.Registers.{known_at}
 use Rattle.verify.specs.declared.state.AbsState.{AbsState}
 use Rattle.verify.specs.declared.reason.Reason.{Reason}
 use Rattle.verify.specs.declared.reason.Reason.TheVariants as reason
@@ -48,7 +48,7 @@ unset_if r (Pointer region offsets) = None
 
 abbrev pub unset_at : List AbsVal → Option ℕ → Option Sentence
 unset_at registers None = None
-unset_at registers (Some r) = unset_if r (abstract_at registers r)
+unset_at registers (Some r) = unset_if r (known_at registers r)
 
 abbrev pub first_unset : List AbsVal → List (Option ℕ) → Option Sentence
 first_unset registers (first ∷ second ∷ third ∷ []) = option_or (unset_at registers first) (option_or (unset_at registers second) (unset_at registers third))
@@ -61,7 +61,7 @@ pointer_if r (Pointer region offsets) = Some (sentence.Register (misuse.Computed
 
 abbrev pub pointer_at : List AbsVal → Option ℕ → Option Sentence
 pointer_at registers None = None
-pointer_at registers (Some r) = pointer_if r (abstract_at registers r)
+pointer_at registers (Some r) = pointer_if r (known_at registers r)
 
 abbrev pub first_pointer : List AbsVal → List (Option ℕ) → Option Sentence
 first_pointer registers (first ∷ second ∷ third ∷ []) = option_or (pointer_at registers first) (option_or (pointer_at registers second) (pointer_at registers third))
@@ -86,8 +86,8 @@ clamped z =
     if int_le z (pos (2 ^ 63 - 1)) then (if int_le (negsuc (2 ^ 63 - 1)) z then z else negsuc (2 ^ 63 - 1)) else pos (2 ^ 63 - 1)
 
 abbrev pub moved : Bool → Offsets → Span → Span
-moved false o by = record { low = clamped (o.low +ℤ by.low); high = clamped (o.high +ℤ by.high) }
-moved true o by = record { low = clamped (o.low -ℤ by.high); high = clamped (o.high -ℤ by.low) }
+moved false o by = record { low = clamped (o.0 +ℤ by.low); high = clamped (o.1 +ℤ by.high) }
+moved true o by = record { low = clamped (o.0 -ℤ by.high); high = clamped (o.1 -ℤ by.low) }
 
 abbrev pub either_sign : Option ℕ → NumberSet → Option Sentence
 either_sign None n = None
@@ -98,7 +98,7 @@ far down dst region o operand n None = either_sign (of_operand operand) n
 far down dst region o operand n (Some by) = Some (sentence.Register (misuse.Far dst region (moved down o by)))
 
 abbrev pub operand_at : List AbsVal → Operand → AbsVal
-operand_at registers (Register r) = abstract_at registers r
+operand_at registers (Register r) = known_at registers r
 operand_at registers (Immediate n) = Number (single (cast_unsigned w64 n))
 
 -- a pointer and a number, of which a sum or difference is made
@@ -109,11 +109,11 @@ sum_misuse _ dst operand a b = None
 -- ---- pointers that are used as they may not be
 
 abbrev pub no_base : List AbsVal → ℕ → Option Sentence
-no_base registers base = Some (sentence.Register (misuse.NoBase base (abstract_at registers base)))
+no_base registers base = Some (sentence.Register (misuse.NoBase base (known_at registers base)))
 
 abbrev pub stored_at : List AbsVal → ℕ → Option ℕ → Option Sentence
 stored_at registers base None = None
-stored_at registers base (Some r) = Some (sentence.Register (misuse.Stored r (abstract_at registers r) base (abstract_at registers base)))
+stored_at registers base (Some r) = Some (sentence.Register (misuse.Stored r (known_at registers r) base (known_at registers base)))
 
 abbrev pub store_misuse : List AbsVal → ℕ → Option ℕ → AbsVal → Option Sentence
 store_misuse registers base source (Pointer region o) = stored_at registers base source
@@ -121,11 +121,11 @@ store_misuse registers base source _ = no_base registers base
 
 abbrev pub pointer_misuse : Insn → List AbsVal → Option Sentence
 pointer_misuse (Arithmetic w operation dst operand) registers =
-    option_or (sum_misuse (lowers w operation) dst operand (abstract_at registers dst) (operand_at registers operand))
+    option_or (sum_misuse (lowers w operation) dst operand (known_at registers dst) (operand_at registers operand))
     (first_pointer registers (read_by (Arithmetic w operation dst operand)))
 pointer_misuse (Load size dst base offset) registers = no_base registers base
 pointer_misuse (LoadSigned part dst base offset) registers = no_base registers base
-pointer_misuse (Store size base offset source) registers = store_misuse registers base (of_operand source) (abstract_at registers base)
+pointer_misuse (Store size base offset source) registers = store_misuse registers base (of_operand source) (known_at registers base)
 pointer_misuse i registers = first_pointer registers (read_by i)
 
 -- ---- accesses
@@ -145,12 +145,12 @@ abbrev pub reach_of : Insn → List AbsVal → Option Reach
 reach_of (Load size dst base offset) registers = Some (record { base = base; distance = offset; size = bytes_of size })
 reach_of (LoadSigned part dst base offset) registers = Some (record { base = base; distance = offset; size = part_bytes part })
 reach_of (Store size base offset source) registers = Some (record { base = base; distance = offset; size = bytes_of size })
-reach_of (Call number) registers = call_reach (helper_of number) (abstract_at registers 3)
+reach_of (Call number) registers = call_reach (helper_of number) (known_at registers 3)
 reach_of i registers = None
 
--- the offsets that may be touched
+-- the offsets that may be touched; where nothing is, those at which it would be
 abbrev pub touched : Offsets → Reach → Span
-touched o reach = record { low = o.low +ℤ reach.distance; high = ((o.high +ℤ reach.distance) +ℤ pos reach.size) -ℤ pos 1 }
+touched o reach = record { low = o.0 +ℤ reach.distance; high = (o.1 +ℤ reach.distance) +ℤ pos (reach.size - 1) }
 
 abbrev pub outside : Reach → AbsVal → Option Sentence
 outside reach (Pointer region o) = Some (sentence.Memory (access.Outside reach.base region (touched o reach)))
@@ -168,7 +168,7 @@ empty_in known (Some w) = first_empty known.bytes w.place w.size
 abbrev pub empty_cell : Known → Reach → AbsVal → Option Sentence
 empty_cell known reach (Pointer Stack o) =
     option_map (λ k. sentence.Memory (access.Empty reach.base (touched o reach) (pos k -ℤ pos 512)))
-    (empty_in known (window_known Stack o.low o.high reach.distance reach.size))
+    (empty_in known (window_known Stack o.0 o.1 reach.distance reach.size))
 empty_cell known reach _ = None
 
 abbrev pub context_written : Reach → AbsVal → Option Sentence
@@ -185,7 +185,7 @@ misfit_of r None value = None
 
 abbrev pub misfit_at : List AbsVal → ℕ → Option Argument → Option Sentence
 misfit_at registers r None = None
-misfit_at registers r (Some argument) = misfit_of r (bound_of argument) (abstract_at registers r)
+misfit_at registers r (Some argument) = misfit_of r (bound_of argument) (known_at registers r)
 
 -- slot and count together
 abbrev pub past_board : AbsVal → AbsVal → Option Sentence
@@ -196,7 +196,7 @@ past_board _ _ = None
 abbrev pub arguments_misfit : List AbsVal → List (Option Argument) → Option Sentence
 arguments_misfit registers (first ∷ second ∷ third ∷ []) =
     option_or (misfit_at registers 1 first) (option_or (misfit_at registers 2 second) (option_or (misfit_at registers 3 third)
-    (past_board (abstract_at registers 1) (abstract_at registers 3))))
+    (past_board (known_at registers 1) (known_at registers 3))))
 arguments_misfit registers _ = None
 
 abbrev pub call_misfit : Insn → List AbsVal → Option Sentence
@@ -210,7 +210,7 @@ no_helper i = None
 -- ---- what an instruction misses, by the reason
 
 abbrev pub reached : (Reach → AbsVal → Option Sentence) → Insn → List AbsVal → Option Sentence
-reached tells i registers = option_and_then (λ reach. tells reach (abstract_at registers reach.base)) (reach_of i registers)
+reached tells i registers = option_and_then (λ reach. tells reach (known_at registers reach.base)) (reach_of i registers)
 
 abbrev pub shortfall : Reason → Insn → AbsState → Option Sentence
 shortfall reason.Unset i a = first_unset a.registers (read_by i)
@@ -221,5 +221,5 @@ shortfall reason.StackUnset i a = reached (empty_cell a.stack) i a.registers
 shortfall reason.ContextWrite i a = reached context_written i a.registers
 shortfall reason.Helper i a = no_helper i
 shortfall reason.Argument i a = call_misfit i a.registers
-shortfall reason.ExitPointer i a = Some (sentence.Register (misuse.Exit (abstract_at a.registers 0)))
+shortfall reason.ExitPointer i a = Some (sentence.Register (misuse.Exit (known_at a.registers 0)))
 shortfall _ i a = None

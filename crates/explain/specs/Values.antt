@@ -48,4 +48,4 @@ region_text Context = codes "context"
 abbrev pub value_text : AbsVal → List ℕ
 value_text Unset = codes "perhaps unset"
 value_text (Number n) = numbers_text n
-value_text (Pointer region offsets) = region_text region ++ codes " " ++ span_text (offsets.low, offsets.high)
+value_text (Pointer region offsets) = region_text region ++ codes " " ++ span_text offsets

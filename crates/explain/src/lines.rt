@@ -3,7 +3,7 @@ ghost use Rattle.std.specs.Prelude.{◌≡◌, ◌≤◌, ◌<◌, ◌++◌, len
 ghost use Rattle.insn.specs.Program.{slots_of};
 ghost use Rattle.explain.specs.Explained.{read_text, reads_text, known_text, place_text, unit_line, line_if, known_lines, target_of, sentence_of, sentence_line, known_by, refused_line, explained};
 
-use crate::reach::abstract_at;
+use crate::reach::known_at;
 use crate::reads::{Registers, read_by};
 use crate::sentence::{Sentence, Structure};
 use crate::shortfall::shortfall;
@@ -25,7 +25,7 @@ fn put_read(
     let Some(r) = register else {
         return Ok(());
     };
-    let known = Known(abstract_at(registers, r));
+    let known = Known(known_at(registers, r));
     let r = r.number();
     write!(out, " ; r{r} {known}")
 }

@@ -1,11 +1,11 @@
 //! Calls that are refused.
 ghost use Rattle.std.specs.Prelude.{◌≡◌, ◌≤◌, option_map, ◌+◌, Some};
 ghost use Rattle.insn.specs.declared.insn.Insn.{Insn};
-ghost use Rattle.verify.specs.Calls.{abstract_at};
+ghost use Rattle.verify.specs.Registers.{known_at};
 ghost use Rattle.helper.specs.Table.{bound_of, arguments_of};
 ghost use Rattle.explain.specs.Shortfalls.{misfit_of, misfit_at, past_board, arguments_misfit, call_misfit, no_helper};
 
-use crate::reach::abstract_at;
+use crate::reach::known_at;
 use crate::reads::numbered;
 use crate::sentence::{Misfit, Sentence};
 use absval::{AbsVal, NumberSet};
@@ -40,7 +40,7 @@ fn misfit_at(registers: &[AbsVal; 11], r: Reg, argument: Option<Argument>) -> Op
     ensures { result ≡ misfit_at registers.now r argument }
 {
     let argument = argument?;
-    misfit_of(r, argument, abstract_at(registers, r))
+    misfit_of(r, argument, known_at(registers, r))
 }
 
 /// Slot and count together.
@@ -74,8 +74,8 @@ fn arguments_misfit(registers: &[AbsVal; 11], arguments: [Option<Argument>; 3]) 
     if let Some(sentence) = misfit_at(registers, numbered(3), third) {
         return Some(sentence);
     }
-    let slots = abstract_at(registers, numbered(1));
-    past_board(slots, abstract_at(registers, numbered(3)))
+    let slots = known_at(registers, numbered(1));
+    past_board(slots, known_at(registers, numbered(3)))
 }
 
 /// What a call asks that may not be.

@@ -1,12 +1,12 @@
 //! Registers that are used as they may not be.
 ghost use Rattle.std.specs.Prelude.{◌≡◌};
 ghost use Rattle.insn.specs.declared.insn.Insn.{Insn};
-ghost use Rattle.verify.specs.Calls.{abstract_at};
+ghost use Rattle.verify.specs.Registers.{known_at};
 ghost use Rattle.explain.specs.Reads.{read_by};
 ghost use Rattle.explain.specs.Shortfalls.{unset_if, unset_at, first_unset, pointer_if, pointer_at, first_pointer, no_base, stored_at, store_misuse, pointer_misuse};
 
 use crate::moving::{operand_at, sum_misuse};
-use crate::reach::abstract_at;
+use crate::reach::known_at;
 use crate::reads::{Registers, of_operand, read_by};
 use crate::sentence::{Misuse, Sentence};
 use absval::AbsVal;
@@ -17,7 +17,7 @@ fn unset_at(registers: &[AbsVal; 11], register: Option<Reg>) -> Option<Sentence>
     ensures { result ≡ unset_at registers.now register }
 {
     let r = register?;
-    match abstract_at(registers, r) {
+    match known_at(registers, r) {
         AbsVal::Unset => Some(Sentence::Register(Misuse::Unset(r))),
         AbsVal::Number(_) | AbsVal::Pointer(..) => None,
     }
@@ -42,7 +42,7 @@ fn pointer_at(registers: &[AbsVal; 11], register: Option<Reg>) -> Option<Sentenc
     ensures { result ≡ pointer_at registers.now register }
 {
     let r = register?;
-    let value = abstract_at(registers, r);
+    let value = known_at(registers, r);
     match value {
         AbsVal::Pointer(..) => Some(Sentence::Register(Misuse::Computed(r, value))),
         AbsVal::Unset | AbsVal::Number(_) => None,
@@ -67,7 +67,7 @@ fn first_pointer(registers: &[AbsVal; 11], read: Registers) -> Option<Sentence>
 fn no_base(registers: &[AbsVal; 11], base: Reg) -> Option<Sentence>
     ensures { result ≡ no_base registers.now base }
 {
-    let value = abstract_at(registers, base);
+    let value = known_at(registers, base);
     Some(Sentence::Register(Misuse::NoBase(base, value)))
 }
 
@@ -76,16 +76,16 @@ fn stored_at(registers: &[AbsVal; 11], base: Reg, source: Option<Reg>) -> Option
     ensures { result ≡ stored_at registers.now base source }
 {
     let r = source?;
-    let value = abstract_at(registers, r);
-    let at = abstract_at(registers, base);
+    let value = known_at(registers, r);
+    let at = known_at(registers, base);
     Some(Sentence::Register(Misuse::Stored(r, value, base, at)))
 }
 
 /// What a store makes of a pointer, or without one.
 fn store_misuse(registers: &[AbsVal; 11], base: Reg, source: Option<Reg>) -> Option<Sentence>
-    ensures { result ≡ store_misuse registers.now base source (abstract_at registers.now base) }
+    ensures { result ≡ store_misuse registers.now base source (known_at registers.now base) }
 {
-    match abstract_at(registers, base) {
+    match known_at(registers, base) {
         AbsVal::Pointer(..) => stored_at(registers, base, source),
         AbsVal::Unset | AbsVal::Number(_) => no_base(registers, base),
     }
@@ -102,7 +102,7 @@ pub(crate) fn pointer_misuse(insn: &Insn, registers: &[AbsVal; 11]) -> Option<Se
             dst,
             operand,
         } => {
-            let first = abstract_at(registers, *dst);
+            let first = known_at(registers, *dst);
             let second = operand_at(registers, *operand);
             if let Some(sentence) = sum_misuse(
                 (*width, *operation),

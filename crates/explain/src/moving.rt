@@ -2,7 +2,7 @@
 ghost use Rattle.std.specs.Prelude.{◌≡◌, ◌+ℤ◌, ◌-ℤ◌};
 ghost use Rattle.explain.specs.Shortfalls.{signed_row, lowers, clamped, moved, either_sign, far, operand_at, sum_misuse};
 
-use crate::reach::abstract_at;
+use crate::reach::known_at;
 use crate::reads::of_operand;
 use crate::sentence::{Misuse, Sentence};
 use crate::values::{Span, between, signed};
@@ -87,7 +87,7 @@ pub(crate) fn operand_at(registers: &[AbsVal; 11], operand: Operand) -> AbsVal
     ensures { result ≡ operand_at registers.now operand }
 {
     match operand {
-        Operand::Register(r) => abstract_at(registers, r),
+        Operand::Register(r) => known_at(registers, r),
         Operand::Immediate(number) => {
             AbsVal::Number(NumberSet::exactly(i64::from(number).cast_unsigned()))
         }

@@ -1,8 +1,8 @@
 //! What an instruction may touch of memory.
-ghost use Rattle.std.specs.Prelude.{◌≡◌, ◌≤◌, ◌≤ℤ◌, ◌+ℤ◌, ◌-ℤ◌, ◌^◌, pos, negsuc, IfSome};
+ghost use Rattle.std.specs.Prelude.{◌≡◌, ◌≤◌, ◌-◌, ◌≤ℤ◌, ◌+ℤ◌, ◌^◌, pos, negsuc, IfSome};
 ghost use Rattle.insn.specs.Insn.{bytes_of, part_bytes};
 ghost use Rattle.semantics.specs.Call.{helper_of};
-ghost use Rattle.verify.specs.Calls.{abstract_at};
+ghost use Rattle.verify.specs.Registers.{known_at};
 ghost use Rattle.explain.specs.Shortfalls.{counted, call_reach, reach_of, touched};
 
 use crate::reads::numbered;
@@ -21,8 +21,8 @@ pub(crate) struct Reach {
 }
 
 /// What is known of a register.
-pub(crate) fn abstract_at(registers: &[AbsVal; 11], r: Reg) -> AbsVal
-    ensures { result ≡ abstract_at registers.now r }
+pub(crate) fn known_at(registers: &[AbsVal; 11], r: Reg) -> AbsVal
+    ensures { result ≡ known_at registers.now r }
 {
     registers[r.number() as usize]
 }
@@ -113,7 +113,7 @@ pub(crate) fn reach_of(insn: &Insn, registers: &[AbsVal; 11]) -> Option<Reach>
             distance: *offset,
             size: bytes_of_part(*part),
         }),
-        Insn::Call { helper } => call_reach(*helper, abstract_at(registers, numbered(3))),
+        Insn::Call { helper } => call_reach(*helper, known_at(registers, numbered(3))),
         _ => None,
     }
 }
@@ -125,14 +125,17 @@ fn first_touched(offset: i32, distance: i16) -> i64
     i64::from(offset) + i64::from(distance)
 }
 
-/// The last of so many bytes.
+/// The last of so many bytes; of none the place itself.
 fn last_touched(first: i64, size: usize) -> i64
     requires size { size ≤ 512 }
     requires low { negsuc (2 ^ 40) ≤ℤ first }
     requires high { first ≤ℤ pos (2 ^ 40) }
-    ensures { result ≡ (first +ℤ pos size) -ℤ pos 1 }
+    ensures { result ≡ first +ℤ pos (size - 1) }
 {
-    first + size as i64 - 1
+    if size == 0 {
+        return first;
+    }
+    first + (size - 1) as i64
 }
 
 /// The offsets that may be touched from these on.

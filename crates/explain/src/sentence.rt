@@ -272,7 +272,7 @@ impl fmt::Display for Access {
             }
             Access::Empty(r, span, at) => {
                 let reached = Reached(r, Place(Region::Stack, span));
-                write!(f, "{reached}: unset at {at}")
+                write!(f, "{reached}: no byte is known at {at}")
             }
             Access::Context(r, value) => {
                 let named = Named(r, value);

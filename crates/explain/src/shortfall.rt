@@ -5,7 +5,7 @@ ghost use Rattle.explain.specs.Shortfalls.{shortfall, reached, outside, empty_ce
 use crate::accesses::{context_written, empty_cell, outside};
 use crate::misfits::{call_misfit, no_helper};
 use crate::misuse::{first_unset, pointer_misuse};
-use crate::reach::{abstract_at, reach_of};
+use crate::reach::{known_at, reach_of};
 use crate::reads::{numbered, read_by};
 use crate::sentence::{Misuse, Sentence};
 use insn::Insn;
@@ -16,7 +16,7 @@ fn outside_of(insn: &Insn, state: &AbsState) -> Option<Sentence>
     ensures { result ≡ reached outside insn.now state.now.registers }
 {
     let reach = reach_of(insn, &state.registers)?;
-    outside(reach, abstract_at(&state.registers, reach.base))
+    outside(reach, known_at(&state.registers, reach.base))
 }
 
 /// A load of a cell that may hold no byte.
@@ -24,11 +24,7 @@ fn empty_of(insn: &Insn, state: &AbsState) -> Option<Sentence>
     ensures { result ≡ reached (empty_cell state.now.stack) insn.now state.now.registers }
 {
     let reach = reach_of(insn, &state.registers)?;
-    empty_cell(
-        &state.stack,
-        reach,
-        abstract_at(&state.registers, reach.base),
-    )
+    empty_cell(&state.stack, reach, known_at(&state.registers, reach.base))
 }
 
 /// A store to the context.
@@ -36,7 +32,7 @@ fn written_of(insn: &Insn, state: &AbsState) -> Option<Sentence>
     ensures { result ≡ reached context_written insn.now state.now.registers }
 {
     let reach = reach_of(insn, &state.registers)?;
-    context_written(reach, abstract_at(&state.registers, reach.base))
+    context_written(reach, known_at(&state.registers, reach.base))
 }
 
 /// What an instruction misses, by the reason of its fault and what is known there.
@@ -53,7 +49,7 @@ pub(crate) fn shortfall(reason: Reason, insn: &Insn, state: &AbsState) -> Option
         Reason::Helper => no_helper(insn),
         Reason::Argument => call_misfit(insn, &state.registers),
         Reason::ExitPointer => {
-            let value = abstract_at(&state.registers, numbered(0));
+            let value = known_at(&state.registers, numbered(0));
             Some(Sentence::Register(Misuse::Exit(value)))
         }
         _ => None,

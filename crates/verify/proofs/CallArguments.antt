@@ -8,15 +8,16 @@ use Rattle.semantics.specs.declared.request.Helper.TheVariants.{BoardCopy, SendR
 use Rattle.semantics.specs.State.{Cause, Argument as ArgumentCause, value_at}
 use Rattle.semantics.specs.Call.{below}
 use Rattle.absval.specs.declared.value.AbsVal.{AbsVal}
-use Rattle.absval.specs.declared.value.AbsVal.TheVariants.{Unset, Number, Pointer}
 use Rattle.absval.specs.NumberSets.{greatest}
 use Rattle.absval.specs.Contains.{Contains}
 use Rattle.helper.specs.declared.argument.Argument.{Argument}
 use Rattle.helper.specs.Table.{bound_of, arguments_of, refusal, test_of, or_else, refused}
 use Rattle.verify.specs.declared.reason.Reason.{Reason}
 use Rattle.verify.proofs.Gamma.{RegistersDescribe}
-use Rattle.verify.specs.Calls.{or_reason, reason_if, abstract_at, argument_reason, arguments_reason, IsBelow, IsPointer}
+use Rattle.verify.specs.Calls.{or_reason, reason_if, argument_reason, arguments_reason, IsBelow, IsPointer}
 use Rattle.verify.proofs.Zips.{AllZip-at}
+use Rattle.absval.specs.declared.value.AbsVal.TheVariants.{Unset, Number, Pointer}
+use Rattle.verify.specs.Registers.{known_at}
 
 pub or_parts : (a b : Option Reason) → or_reason a b ≡ None → (a ≡ None) × (b ≡ None)
 or_parts None b e = (refl, e)
@@ -56,9 +57,9 @@ pub arguments_fine : (arguments : List (Option Argument)) (r : ℕ) (known : Lis
 arguments_fine [] r known vs d e = refl
 arguments_fine (None ∷ arguments) r known vs d e = arguments_fine arguments (r + 1) known vs d e
 arguments_fine (Some argument ∷ arguments) r known vs d e =
-    let parts = or_parts (argument_reason (bound_of argument) (abstract_at known r)) (arguments_reason arguments (r + 1) known) e in
+    let parts = or_parts (argument_reason (bound_of argument) (known_at known r)) (arguments_reason arguments (r + 1) known) e in
     or_none (test_of (bound_of argument) (value_at vs r)) (refused arguments (r + 1) vs)
-    (argument_fine (bound_of argument) (abstract_at known r) (value_at vs r) parts.0 (AllZip-at Contains known vs r Unset value.Unset d tt))
+    (argument_fine (bound_of argument) (known_at known r) (value_at vs r) parts.0 (AllZip-at Contains known vs r Unset value.Unset d tt))
     (arguments_fine arguments (r + 1) known vs d parts.1)
 
 below_of : (bound : ℕ) (a : AbsVal) → argument_reason (Some bound) a ≡ None → IsBelow bound a
@@ -72,16 +73,16 @@ pointer_of (Number numbers) e = cc
 pointer_of (Pointer region offsets) e = tt
 
 -- what is known of the arguments of the helpers that take a pointer
-pub copy_arguments : (known : List AbsVal) → arguments_reason (arguments_of BoardCopy) 1 known ≡ None → IsBelow 64 (abstract_at known 1) × IsPointer (abstract_at known 2) × IsBelow 65 (abstract_at known 3)
+pub copy_arguments : (known : List AbsVal) → arguments_reason (arguments_of BoardCopy) 1 known ≡ None → IsBelow 64 (known_at known 1) × IsPointer (known_at known 2) × IsBelow 65 (known_at known 3)
 copy_arguments known e =
-    let first = or_parts (argument_reason (Some 64) (abstract_at known 1)) _ e in
-    let second = or_parts (argument_reason None (abstract_at known 2)) _ first.1 in
-    let third = or_parts (argument_reason (Some 65) (abstract_at known 3)) _ second.1 in
-    (below_of 64 (abstract_at known 1) first.0, pointer_of (abstract_at known 2) second.0, below_of 65 (abstract_at known 3) third.0)
+    let first = or_parts (argument_reason (Some 64) (known_at known 1)) _ e in
+    let second = or_parts (argument_reason None (known_at known 2)) _ first.1 in
+    let third = or_parts (argument_reason (Some 65) (known_at known 3)) _ second.1 in
+    (below_of 64 (known_at known 1) first.0, pointer_of (known_at known 2) second.0, below_of 65 (known_at known 3) third.0)
 
-pub row_arguments : (known : List AbsVal) → arguments_reason (arguments_of SendRow) 1 known ≡ None → IsPointer (abstract_at known 2) × IsBelow 14 (abstract_at known 3)
+pub row_arguments : (known : List AbsVal) → arguments_reason (arguments_of SendRow) 1 known ≡ None → IsPointer (known_at known 2) × IsBelow 14 (known_at known 3)
 row_arguments known e =
-    let first = or_parts (argument_reason (Some 1016) (abstract_at known 1)) _ e in
-    let second = or_parts (argument_reason None (abstract_at known 2)) _ first.1 in
-    let third = or_parts (argument_reason (Some 14) (abstract_at known 3)) _ second.1 in
-    (pointer_of (abstract_at known 2) second.0, below_of 14 (abstract_at known 3) third.0)
+    let first = or_parts (argument_reason (Some 1016) (known_at known 1)) _ e in
+    let second = or_parts (argument_reason None (known_at known 2)) _ first.1 in
+    let third = or_parts (argument_reason (Some 14) (known_at known 3)) _ second.1 in
+    (pointer_of (known_at known 2) second.0, below_of 14 (known_at known 3) third.0)

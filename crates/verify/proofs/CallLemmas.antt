@@ -19,7 +19,6 @@ use Rattle.semantics.specs.Memory.{stack_place, cells_at, bytes_in, with_words}
 use Rattle.semantics.specs.Outbox.{Choice, places_set, along_row, as_taken}
 use Rattle.semantics.specs.Call.{argument, below, slot_in, word_in, pointer_in, copy_of, orders_of, orders_at, asked, sent, sign_in, pass_in, attempted, called, fits, resumed}
 use Rattle.absval.specs.declared.value.AbsVal.{AbsVal}
-use Rattle.absval.specs.declared.value.AbsVal.TheVariants.{Unset as Unknown}
 use Rattle.absval.specs.Contains.{Contains}
 use Rattle.absmem.specs.Known.{Known}
 use Rattle.absmem.specs.Describes.{Describes as StackDescribes}
@@ -32,10 +31,12 @@ use Rattle.verify.specs.declared.state.AbsState.{AbsState}
 use Rattle.verify.proofs.Gamma.{RegistersDescribe, Describes}
 use Rattle.semantics.specs.Relay.{IsSetting, Relay}
 use Rattle.verify.proofs.Outcomes.{DescribesAt, GoesOn}
-use Rattle.verify.specs.Calls.{abstract_at, arguments_reason}
+use Rattle.verify.specs.Calls.{arguments_reason}
 use Rattle.verify.proofs.CallStates.{Puts, CopyStands, RowStands, WindowStands}
 use Rattle.verify.proofs.CallArguments.{arguments_fine}
 use Rattle.verify.proofs.Zips.{AllZip-at}
+use Rattle.absval.specs.declared.value.AbsVal.TheVariants.{Unset as Unknown}
+use Rattle.verify.specs.Registers.{known_at}
 
 held_in : (lo hi m : ℕ) → (n : ℕ) × (Number m ≡ Number n) × IsIn lo hi n → IsIn lo hi m
 held_in lo hi m h = let same : h.0 ≡ m = let e = h.1 in cc in subst (λ (n : ℕ). IsIn lo hi n) same h.2
@@ -94,8 +95,8 @@ taken_number bound Unset n e = cc
 taken_number bound (Number m) n e = ap Number (number_if (nat_lt m bound) m n e)
 taken_number bound (Pointer region offset) n e = cc
 
-at_register : (known : List AbsVal) (s : State) (r : ℕ) (v : Value) → RegistersDescribe known s.registers → value_at s.registers r ≡ v → Contains (abstract_at known r) v
-at_register known s r v d e = subst (λ (w : Value). Contains (abstract_at known r) w) e (AllZip-at Contains known s.registers r Unknown Unset d tt)
+at_register : (known : List AbsVal) (s : State) (r : ℕ) (v : Value) → RegistersDescribe known s.registers → value_at s.registers r ≡ v → Contains (known_at known r) v
+at_register known s r v d e = subst (λ (w : Value). Contains (known_at known r) w) e (AllZip-at Contains known s.registers r Unknown Unset d tt)
 
 -- ---- board_copy
 
@@ -113,7 +114,7 @@ fitting_length : (slot count : ℕ) (words : List ℕ) → fits (Copy (slot, cou
 fitting_length slot count words e = eqb-true (length words) count (and_parts (length words == count) (list_all (λ word. nat_lt word (2 ^ 64)) words) e).0
 
 pub copy_free : (a : AbsState) (new : Known) (s : State) (cause : Cause) → Describes a s → refused (arguments_of BoardCopy) 1 s.registers ≡ None →
-    CopyStands (abstract_at a.registers 1) (abstract_at a.registers 2) (abstract_at a.registers 3) a.stack new → copy_in s ≡ Err cause → ⊥
+    CopyStands (known_at a.registers 1) (known_at a.registers 2) (known_at a.registers 3) a.stack new → copy_in s ≡ Err cause → ⊥
 copy_free a new s cause d e stands q =
     let first = given_fails (slot_in s) (λ slot. given (pointer_in s 2) (λ to. given (argument s 3 65) (λ count. copy_of slot to count))) (or_else (refusal (pointer_in s 2)) (or_else (refusal (argument s 3 65)) None)) cause e q in
     let second = given_fails (pointer_in s 2) (λ to. given (argument s 3 65) (λ count. copy_of first.0 to count)) (or_else (refusal (argument s 3 65)) None) cause first.2 first.3 in
@@ -129,7 +130,7 @@ copy_free a new s cause d e stands q =
     let few : first.0 + third.0 ≤ 64 = subst (λ (n : ℕ). first.0 + n ≤ 64) long found.0 in
     copy_fails (nat_le (first.0 + third.0) 64) (stack_place second.0 (pos 0) (8 * third.0)) (Copy (first.0, third.0)) cause (le-leb (first.0 + third.0) 64 few) room third.3
 
-pub copy_stands : (a : AbsState) (new : Known) (s : State) → Describes a s → CopyStands (abstract_at a.registers 1) (abstract_at a.registers 2) (abstract_at a.registers 3) a.stack new →
+pub copy_stands : (a : AbsState) (new : Known) (s : State) → Describes a s → CopyStands (known_at a.registers 1) (known_at a.registers 2) (known_at a.registers 3) a.stack new →
     IfOk (copy_in s) (AnswersStand new s.cells (value_at s.registers 2))
 copy_stands a new s d stands =
     let P = λ (request : Request). AnswersStand new s.cells (value_at s.registers 2) request in
@@ -155,7 +156,7 @@ orders_fail (Ok found) f cause h q = by_bytes (bytes_in found) h q
 orders_fail (Err other) f cause h q = cc
 
 pub row_free : (a : AbsState) (context : List ℕ) (relay : Relay) (s : State) (cause : Cause) → IsSetting context relay → Describes a s → refused (arguments_of SendRow) 1 s.registers ≡ None →
-    RowStands (abstract_at a.registers 2) (abstract_at a.registers 3) a.stack → row_in context s ≡ Err cause → ⊥
+    RowStands (known_at a.registers 2) (known_at a.registers 3) a.stack → row_in context s ≡ Err cause → ⊥
 row_free a context relay s cause setting d e stands q =
     let first = given_fails (argument s 1 1016) (λ label. given (pointer_in s 2) (λ from. given (argument s 3 14) (λ count. given (orders_at context s from count) (λ orders. Ok (along_row label orders)))))
     (or_else (refusal (pointer_in s 2)) (or_else (refusal (argument s 3 14)) None)) cause e q in

@@ -17,7 +17,6 @@ use Rattle.absval.specs.declared.number_set.NumberSet.{NumberSet}
 use Rattle.absval.specs.NumberSets.{Has, within, greatest}
 use Rattle.absval.specs.declared.value.Offsets.{Offsets}
 use Rattle.absval.specs.declared.value.AbsVal.{AbsVal}
-use Rattle.absval.specs.declared.value.AbsVal.TheVariants.{Unset, Number, Pointer}
 use Rattle.absval.specs.declared.windows.Window.{Window}
 use Rattle.absval.specs.Contains.{Contains, IsPointerIn}
 use Rattle.absval.specs.Windows.{room_of, window_known}
@@ -33,7 +32,7 @@ use Rattle.verify.specs.declared.state.AbsState.{AbsState}
 use Rattle.verify.proofs.Gamma.{RegistersDescribe, Describes}
 use Rattle.verify.proofs.Outcomes.{GoesOn}
 use Rattle.verify.specs.MemoryTable.{all_bytes}
-use Rattle.verify.specs.Calls.{IsBelow, IsPointer, abstract_at, window_from, target_reason, source_reason, copy_reason, row_reason, reason_if, arguments_reason, window_reason, helper_reason, is_certain, known_behind}
+use Rattle.verify.specs.Calls.{IsBelow, IsPointer, window_from, target_reason, source_reason, copy_reason, row_reason, reason_if, arguments_reason, window_reason, helper_reason, is_certain, known_behind}
 use Rattle.verify.proofs.CallStates.{Puts, WordsStand, CopyStands, RowStands, WindowStands}
 use Rattle.verify.specs.Knowledge.{put_bytes, spread_bytes}
 use Rattle.verify.specs.Transfer.{written, copied, stack_behind, called}
@@ -45,6 +44,8 @@ use Rattle.verify.proofs.SetRows.{within_has, within_set}
 use Rattle.verify.proofs.Meanings.{AllWell}
 use Rattle.verify.proofs.LoadRows.{bytes_there}
 use Rattle.verify.proofs.WindowRows.{IsWindow, window_is, put_described, spread_described}
+use Rattle.absval.specs.declared.value.AbsVal.TheVariants.{Unset, Number, Pointer}
+use Rattle.verify.specs.Registers.{known_at}
 
 -- ---- registers
 
@@ -94,7 +95,7 @@ window_there : (region : Region) (low high distance : ℤ) (n : ℕ) (w : Window
 window_there region low high distance n w f = subst (λ (o : Option Window). IfSome o (IsWindow region low high distance n)) f (window_is region low high distance n)
 
 words_stand : (known : Known) (offsets : Offsets) (counts : NumberSet) (w : Window) (cells : List Cell) (p : Value) (words : List ℕ) → length known.bytes ≡ 512 → StackDescribes known cells → length cells ≡ 512 →
-    IsPointerIn Stack offsets.low offsets.high p → Has counts (length words) → IsWindow Stack offsets.low offsets.high (pos 0) (8 * greatest counts) w →
+    IsPointerIn Stack offsets.0 offsets.1 p → Has counts (length words) → IsWindow Stack offsets.0 offsets.1 (pos 0) (8 * greatest counts) w →
     WordsStand (written (is_certain offsets counts) (Some w) known) cells p words
 words_stand known offsets counts w cells p words flags d long target has there = by_test (is_certain offsets counts) refl
   where
@@ -106,12 +107,12 @@ words_stand known offsets counts w cells p words flags d long target has there =
 
     by_test : (t : Bool) → t ≡ is_certain offsets counts → WordsStand (written t (Some w) known) cells p words
     by_test true e =
-        words_found (put_bytes w known) offsets.low offsets.high w.place w.size (8 * greatest counts) cells p words long target few fits there.lies
+        words_found (put_bytes w known) offsets.0 offsets.1 w.place w.size (8 * greatest counts) cells p words long target few fits there.lies
         (λ at bytes are size ge le.
-        let here = certain_place offsets.low offsets.high counts.range.0 counts.range.1 w.place w.size (length words) at (sym e) has.range there.least there.greatest ge le in
+        let here = certain_place offsets.0 offsets.1 counts.range.0 counts.range.1 w.place w.size (length words) at (sym e) has.range there.least there.greatest ge le in
         subst (λ (k : ℕ). StackDescribes (put_bytes w known) (overwritten cells k bytes)) here.0 (put_described known w cells bytes fits flags long are (size ∙ here.1) d))
     by_test false e =
-        words_found (spread_bytes w known) offsets.low offsets.high w.place w.size (8 * greatest counts) cells p words long target few fits there.lies
+        words_found (spread_bytes w known) offsets.0 offsets.1 w.place w.size (8 * greatest counts) cells p words long target few fits there.lies
         (λ at bytes are size ge le. spread_described known w cells bytes at fits flags long are ge (omega (arith, size, le)) d)
 
 not_more : (n m : ℕ) (r : Reason) → reason_if (nat_lt n m) r ≡ None → m ≤ n
@@ -127,10 +128,10 @@ copy_stands (Number slots) (Pointer region offsets) (Number counts) known flags 
     let parts = or_parts (reason_if (nat_lt 64 (greatest slots + greatest counts)) reason.Argument) (target_reason region (window_from region offsets (8 * greatest counts))) none in
     let few : greatest slots + greatest counts ≤ 64 = not_more 64 (greatest slots + greatest counts) reason.Argument parts.0 in
     let found = target_of region (window_from region offsets (8 * greatest counts)) parts.1 in
-    let there : IsWindow Stack offsets.low offsets.high (pos 0) (8 * greatest counts) found.1 =
-    subst (λ (r : Region). IsWindow r offsets.low offsets.high (pos 0) (8 * greatest counts) found.1) found.0
-    (window_there region offsets.low offsets.high (pos 0) (8 * greatest counts) found.1 found.2) in
-    let stack : IsPointerIn Stack offsets.low offsets.high v = subst (λ (r : Region). IsPointerIn r offsets.low offsets.high v) found.0 target in
+    let there : IsWindow Stack offsets.0 offsets.1 (pos 0) (8 * greatest counts) found.1 =
+    subst (λ (r : Region). IsWindow r offsets.0 offsets.1 (pos 0) (8 * greatest counts) found.1) found.0
+    (window_there region offsets.0 offsets.1 (pos 0) (8 * greatest counts) found.1 found.2) in
+    let stack : IsPointerIn Stack offsets.0 offsets.1 v = subst (λ (r : Region). IsPointerIn r offsets.0 offsets.1 v) found.0 target in
     let most : slot ≤ greatest slots = at.range.1 in
     let count : length words ≤ greatest counts = has.range.1 in (
       omega arith,
@@ -158,9 +159,9 @@ source_of known Stack (Some w) e = (w, refl, λ same. no_reason (all_bytes known
 row_stands : (source counts : AbsVal) (known : Known) → IsPointer source → IsBelow 14 counts → row_reason known source counts ≡ None → RowStands source counts known
 row_stands (Pointer region offsets) (Number counts) known p c none context cells v count ctx d long target has =
     let found = source_of known region (window_from region offsets (4 * greatest counts)) none in
-    let there = window_there region offsets.low offsets.high (pos 0) (4 * greatest counts) found.0 found.1 in
+    let there = window_there region offsets.0 offsets.1 (pos 0) (4 * greatest counts) found.0 found.1 in
     let room : found.0.place + found.0.size ≤ room_of region = there.fits in
-    orders_found region offsets.low offsets.high found.0.place found.0.size (4 * greatest counts) count context cells v ctx target (omega (arith, has.range.1)) room there.lies
+    orders_found region offsets.0 offsets.1 found.0.place found.0.size (4 * greatest counts) count context cells v ctx target (omega (arith, has.range.1)) room there.lies
     (λ e at n ge le. let fits : found.0.place + found.0.size ≤ 512 = subst (λ (r : Region). found.0.place + found.0.size ≤ room_of r) e room in
     bytes_there known cells found.0 at n d long fits (found.2 e) ge le)
 row_stands Unset counts known p c none context cells v count ctx d long there has = absurd p
@@ -174,10 +175,10 @@ windows_stand : (helper : Helper) (a : AbsState) → length a.stack.bytes ≡ 51
     WindowStands helper a (stack_behind helper a)
 windows_stand BoardCopy a flags e f =
     let known = copy_arguments a.registers e in
-    copy_stands (abstract_at a.registers 1) (abstract_at a.registers 2) (abstract_at a.registers 3) a.stack flags known.0 known.1 known.2 f
+    copy_stands (known_at a.registers 1) (known_at a.registers 2) (known_at a.registers 3) a.stack flags known.0 known.1 known.2 f
 windows_stand SendRow a flags e f =
     let known = row_arguments a.registers e in
-    (refl, row_stands (abstract_at a.registers 2) (abstract_at a.registers 3) a.stack known.0 known.1 f)
+    (refl, row_stands (known_at a.registers 2) (known_at a.registers 3) a.stack known.0 known.1 f)
 windows_stand BoardGet a flags e f = refl
 windows_stand BoardSwap a flags e f = refl
 windows_stand BoardAdd a flags e f = refl
@@ -211,7 +212,7 @@ copied_flags (Pointer region offsets) (Pointer other from) known flags = flags
 copied_flags (Pointer region offsets) (Number counts) known flags = written_flags (is_certain offsets counts) (window_from region offsets (8 * greatest counts)) known flags
 
 pub behind_flags : (helper : Helper) (a : AbsState) → length a.stack.bytes ≡ 512 → length (stack_behind helper a).bytes ≡ 512
-behind_flags BoardCopy a flags = copied_flags (abstract_at a.registers 2) (abstract_at a.registers 3) a.stack flags
+behind_flags BoardCopy a flags = copied_flags (known_at a.registers 2) (known_at a.registers 3) a.stack flags
 behind_flags helper a flags = flags
 
 pub call_well : (o : Option Helper) (a : AbsState) → AllWell a.registers → AllWell (called o a).registers

@@ -15,7 +15,7 @@ use Rattle.absmem.specs.Known.{Known}
 use Rattle.absmem.specs.Describes.{Describes as StackDescribes}
 use Rattle.verify.specs.declared.state.AbsState.{AbsState}
 use Rattle.verify.proofs.Gamma.{RegistersDescribe}
-use Rattle.verify.specs.Calls.{abstract_at}
+use Rattle.verify.specs.Registers.{known_at}
 
 -- the registers behind a call that returns n
 abbrev pub values_behind : ℕ → List Value → List Value
@@ -43,6 +43,6 @@ RowStands source counts known = (context : List ℕ) (cells : List Cell) (p : Va
 
 -- what a helper finds at its pointer, and leaves there
 abbrev pub WindowStands : Helper → AbsState → Known → Type 0
-WindowStands BoardCopy a new = CopyStands (abstract_at a.registers 1) (abstract_at a.registers 2) (abstract_at a.registers 3) a.stack new
-WindowStands SendRow a new = (new ≡ a.stack) × RowStands (abstract_at a.registers 2) (abstract_at a.registers 3) a.stack
+WindowStands BoardCopy a new = CopyStands (known_at a.registers 1) (known_at a.registers 2) (known_at a.registers 3) a.stack new
+WindowStands SendRow a new = (new ≡ a.stack) × RowStands (known_at a.registers 2) (known_at a.registers 3) a.stack
 WindowStands _ a new = new ≡ a.stack

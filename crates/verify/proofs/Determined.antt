@@ -16,46 +16,26 @@ use Rattle.semantics.specs.Call.{helper_of}
 use Rattle.helper.specs.Results.{returned_range}
 use Rattle.helper.specs.Table.{arguments_of}
 use Rattle.absval.specs.declared.value.AbsVal.{AbsVal}
-use Rattle.absval.specs.declared.value.AbsVal.TheVariants as value
 use Rattle.absval.specs.NumberSets.{greatest, within, single}
 use Rattle.absval.specs.declared.windows.Window.{Window}
-use Rattle.absval.specs.Table.{Ends, Nothing, Numbers, Pointers, ends_of}
 use Rattle.absval.specs.Windows.{window_known}
 use Rattle.absmem.specs.declared.spill.Spill.{Spill}
 use Rattle.absmem.specs.declared.spill.Spill.TheVariants.{Free, Whole}
 use Rattle.absmem.specs.Known.{Known, byte_at, spill_at, IsSetTo, left_of, joined_spill}
 use Rattle.verify.specs.declared.state.AbsState.{AbsState}
-use Rattle.verify.specs.Registers.{seen, known_at, operand_known, entry_known, joined_all}
+use Rattle.verify.specs.Registers.{known_at, operand_known, entry_known, joined_all}
 use Rattle.verify.specs.Reasons.{Assigns}
 use Rattle.verify.specs.MemoryTable.{HasPutBytes, HasSpreadBytes, HasPutPointer, StoresNumber, StoresPointer, Stores}
 use Rattle.verify.specs.Calls.{arguments_reason, window_from, target_reason, copy_reason, window_reason, helper_reason, is_certain, IsBehind, IsWritten, IsWrittenTo, IsCopied, StackBehind, IsBelow, IsPointer}
-use Rattle.verify.specs.Calls.{abstract_at as argument}
 use Rattle.verify.specs.Flow.{IsJoin}
 use Rattle.verify.specs.Instructions.{reason_of, Becomes}
 use Rattle.verify.specs.Passes.{IsEntry}
-use Rattle.verify.specs.Knowledge.{value_of, stack_of, byte_behind, spill_behind, put_bytes, spread_bytes, put_pointer, at_entry, met}
+use Rattle.verify.specs.Knowledge.{stack_of, byte_behind, spill_behind, put_bytes, spread_bytes, put_pointer, at_entry, met}
 use Rattle.verify.specs.Transfer.{assigned, number_stored, pointer_stored, stored, written, copied, stack_behind, called, follows}
 use Rattle.verify.proofs.TableLemmas.{table_at, table_same}
 use Rattle.verify.proofs.SameReads.{listed, told, load_same, signed_same}
 use Rattle.verify.proofs.CallArguments.{or_parts, copy_arguments}
-
--- ---- registers
-
-value_back : (a : AbsVal) → value_of (ends_of a) ≡ a
-value_back value.Unset = refl
-value_back (value.Number n) = refl
-value_back (value.Pointer region offsets) = refl
-
-pub values_back : (xs : List AbsVal) → map value_of (seen xs) ≡ xs
-values_back [] = refl
-values_back (x ∷ xs) = ap₂ (λ (y : AbsVal) (ys : List AbsVal). y ∷ ys) (value_back x) (values_back xs)
-
-pub registers_are : (xs : List AbsVal) (known : List Ends) → seen xs ≡ known → xs ≡ map value_of known
-registers_are xs known e = sym (values_back xs) ∙ ap (map value_of) e
-
-set_is : (old new : List AbsVal) (dst : ℕ) (e : Ends) → seen new ≡ slice_set (seen old) dst e → new ≡ slice_set old dst (value_of e)
-set_is old new dst e h =
-    registers_are new (slice_set (seen old) dst e) h ∙ (map-set value_of (seen old) dst e ∙ ap (λ (xs : List AbsVal). slice_set xs dst (value_of e)) (values_back old))
+use Rattle.absval.specs.declared.value.AbsVal.TheVariants.{Unset, Number, Pointer}
 
 -- ---- stacks
 
@@ -119,7 +99,7 @@ pointer_is place region offset old new h =
 pub met_is : (a kept b : AbsState) → IsJoin a kept b → told b ≡ met (told a) (told kept)
 met_is a kept b h =
     ap₂ (λ (xs : List AbsVal) (known : Known). record { registers = xs; stack = known })
-    (registers_are b.registers (joined_all (seen a.registers) (seen kept.registers)) h.registers)
+    h.registers
     (stack_is b.stack (λ k. byte_at (listed a.stack).bytes k && byte_at (listed kept.stack).bytes k)
     (λ n. joined_spill (spill_at (listed a.stack).spills n) (spill_at (listed kept.stack).spills n))
     (λ k lt. h.bytes k ∙ sym (ap₂ (λ (s t : Bool). s && t) (byte_listed a.stack k lt) (byte_listed kept.stack k lt)))
@@ -128,17 +108,17 @@ met_is a kept b h =
 pub entry_is : (a : AbsState) → IsEntry a → told a ≡ at_entry
 entry_is a h =
     ap₂ (λ (xs : List AbsVal) (known : Known). record { registers = xs; stack = known })
-    (registers_are a.registers entry_known h.registers)
+    h.registers
     (stack_is a.stack (λ k. false) (λ n. Free)
     (λ k lt. ap (λ bytes. byte_at bytes k) h.bytes ∙ get_or-replicate 512 k false false lt)
     (λ n lt. ap (λ spills. spill_at spills n) h.spills ∙ get_or-replicate 64 n Free Free lt))
 
 -- a register is assigned
-assigned_is : (old new : AbsState) (dst : ℕ) (o p : Option Ends) → o ≡ p → Assigns old dst o new → told new ≡ assigned (told old) dst p
-assigned_is old new dst o None e h = absurd (subst (λ (q : Option Ends). Assigns old dst q new) e h)
+assigned_is : (old new : AbsState) (dst : ℕ) (o p : Option AbsVal) → o ≡ p → Assigns old dst o new → told new ≡ assigned (told old) dst p
+assigned_is old new dst o None e h = absurd (subst (λ (q : Option AbsVal). Assigns old dst q new) e h)
 assigned_is old new dst o (Some value) e h =
-    let k = subst (λ (q : Option Ends). Assigns old dst q new) e h in
-    ap₂ (λ (xs : List AbsVal) (known : Known). record { registers = xs; stack = listed known }) (set_is old.registers new.registers dst value k.0) k.1
+    let k = subst (λ (q : Option AbsVal). Assigns old dst q new) e h in
+    ap₂ (λ (xs : List AbsVal) (known : Known). record { registers = xs; stack = listed known }) k.0 k.1
 
 -- ---- stores
 
@@ -156,14 +136,14 @@ pointer_stored_is : (old new : Known) (region : Region) (offset : ℤ) (o : Opti
 pointer_stored_is old new region offset None h = absurd h
 pointer_stored_is old new region offset (Some w) h = pointer_is w.place region offset old new h
 
-stored_is : (old new : Known) (size : Size) (base : Ends) (distance : ℤ) (value : Ends) → Stores old size base distance value new →
+stored_is : (old new : Known) (size : Size) (base : AbsVal) (distance : ℤ) (value : AbsVal) → Stores old size base distance value new →
     listed new ≡ stored size base distance value (listed old)
-stored_is old new size Nothing distance value h = absurd h
-stored_is old new size (Numbers n) distance value h = absurd h
-stored_is old new size (Pointers region at) distance Nothing h = absurd h
-stored_is old new size (Pointers region at) distance (Numbers n) h =
+stored_is old new size Unset distance value h = absurd h
+stored_is old new size (Number n) distance value h = absurd h
+stored_is old new size (Pointer region at) distance Unset h = absurd h
+stored_is old new size (Pointer region at) distance (Number n) h =
     number_is old new (bytes_of size) (window_known region at.0 at.1 distance (bytes_of size)) h
-stored_is old new size (Pointers region at) distance (Pointers other kept) h =
+stored_is old new size (Pointer region at) distance (Pointer other kept) h =
     pointer_stored_is old new other kept.0 (window_known region at.0 at.1 distance 8) h
 
 -- ---- calls
@@ -180,20 +160,20 @@ room_is Stack (Some w) certain old new none h = written_is certain w old new h
 
 copied_is : (slots target counts : AbsVal) (old new : Known) → IsBelow 64 slots → IsPointer target → IsBelow 65 counts → copy_reason slots target counts ≡ None →
     IsCopied target counts old new → listed new ≡ copied target counts (listed old)
-copied_is (value.Number s) (value.Pointer region offsets) (value.Number n) old new b p c none h =
+copied_is (Number s) (Pointer region offsets) (Number n) old new b p c none h =
     room_is region (window_from region offsets (8 * greatest n)) (is_certain offsets n) old new (or_parts _ (target_reason region (window_from region offsets (8 * greatest n))) none).1 h
-copied_is value.Unset target counts old new b p c none h = absurd b
-copied_is (value.Pointer region offsets) target counts old new b p c none h = absurd b
-copied_is (value.Number s) value.Unset counts old new b p c none h = absurd p
-copied_is (value.Number s) (value.Number n) counts old new b p c none h = absurd p
-copied_is (value.Number s) (value.Pointer region offsets) value.Unset old new b p c none h = absurd c
-copied_is (value.Number s) (value.Pointer region offsets) (value.Pointer other at) old new b p c none h = absurd c
+copied_is Unset target counts old new b p c none h = absurd b
+copied_is (Pointer region offsets) target counts old new b p c none h = absurd b
+copied_is (Number s) Unset counts old new b p c none h = absurd p
+copied_is (Number s) (Number n) counts old new b p c none h = absurd p
+copied_is (Number s) (Pointer region offsets) Unset old new b p c none h = absurd c
+copied_is (Number s) (Pointer region offsets) (Pointer other at) old new b p c none h = absurd c
 
 behind_is : (helper : Helper) (old : AbsState) (new : Known) → arguments_reason (arguments_of helper) 1 old.registers ≡ None → window_reason helper old ≡ None →
     StackBehind helper old new → listed new ≡ stack_behind helper (told old)
 behind_is BoardCopy old new accepted none h =
     let known = copy_arguments old.registers accepted in
-    copied_is (argument old.registers 1) (argument old.registers 2) (argument old.registers 3) old.stack new known.0 known.1 known.2 none h
+    copied_is (known_at old.registers 1) (known_at old.registers 2) (known_at old.registers 3) old.stack new known.0 known.1 known.2 none h
 behind_is helper old new accepted none h = ap listed h
 
 called_is : (o : Option Helper) (old new : AbsState) → helper_reason o old ≡ None → IfSome o (λ h. IsBehind (within (returned_range h)) old.registers new.registers) →
@@ -211,14 +191,14 @@ follows_is (Arithmetic w operation dst operand) old new none h = assigned_is old
 follows_is (Negate w dst) old new none h = assigned_is old new dst _ _ refl h
 follows_is (SignExtend w part dst src) old new none h = assigned_is old new dst _ _ refl h
 follows_is (Swap order size dst) old new none h = assigned_is old new dst _ _ refl h
-follows_is (LoadNumber dst number) old new none h = assigned_is old new dst (Some (Numbers (single number))) (Some (Numbers (single number))) refl h
+follows_is (LoadNumber dst number) old new none h = assigned_is old new dst (Some (Number (single number))) (Some (Number (single number))) refl h
 follows_is (Load size dst base offset) old new none h =
-    assigned_is old new dst _ _ (sym (ap result_ok (load_same old.stack size (known_at (seen old.registers) base) offset))) h
+    assigned_is old new dst _ _ (sym (ap result_ok (load_same old.stack size (known_at old.registers base) offset))) h
 follows_is (LoadSigned part dst base offset) old new none h =
-    assigned_is old new dst _ _ (sym (ap result_ok (signed_same old.stack part (known_at (seen old.registers) base) offset))) h
+    assigned_is old new dst _ _ (sym (ap result_ok (signed_same old.stack part (known_at old.registers base) offset))) h
 follows_is (Store size base offset source) old new none h =
     ap₂ (λ (xs : List AbsVal) (known : Known). record { registers = xs; stack = known }) h.0
-    (stored_is old.stack new.stack size (known_at (seen old.registers) base) offset (operand_known (seen old.registers) source) h.1)
+    (stored_is old.stack new.stack size (known_at old.registers base) offset (operand_known old.registers source) h.1)
 follows_is (Call number) old new none h = called_is (helper_of number) old new none h.0 h.1
 follows_is (Jump distance) old new none h = absurd h
 follows_is (LongJump distance) old new none h = absurd h

@@ -14,7 +14,7 @@ use Rattle.semantics.specs.declared.value.Cell.TheVariants.{Empty}
 use Rattle.semantics.specs.State.{State, Outbox, entry, value_at}
 use Rattle.semantics.specs.Memory.{is_same_region}
 use Rattle.absval.specs.Contains.{Contains}
-use Rattle.absval.specs.Table.{Ends, Nothing, joined}
+use Rattle.absval.specs.Table.{joined}
 use Rattle.absmem.specs.declared.spill.Spill.{Spill}
 use Rattle.absmem.specs.declared.spill.Spill.TheVariants.{Free, Whole}
 use Rattle.absmem.specs.Known.{byte_at, spill_at, joined_spill}
@@ -22,34 +22,36 @@ use Rattle.absmem.specs.Describes.{IsByteIf, cell_at, StandsAt}
 use Rattle.absmem.proofs.Keeping.{described_left}
 use Rattle.verify.specs.declared.state.AbsState.{AbsState}
 use Rattle.verify.proofs.Gamma.{RegistersDescribe, Describes}
-use Rattle.verify.specs.Registers.{seen, known_at, joined_all}
-use Rattle.verify.specs.Knowledge.{value_of, at_entry, met}
+use Rattle.verify.specs.Registers.{known_at, joined_all}
+use Rattle.verify.specs.Knowledge.{at_entry, met}
 use Rattle.verify.proofs.TableLemmas.{length-table, table_at}
 use Rattle.verify.proofs.Zips.{AllZip-length}
-use Rattle.verify.proofs.Meanings.{Meant, Stands, AllWell, meant_at, stands_at}
+use Rattle.verify.proofs.Meanings.{IsWell, AllWell, meant_at, stands_at}
 use Rattle.verify.proofs.ValueRows.{joined_meant, left_stands, right_stands, same_region}
 use Rattle.verify.proofs.StepSound.{IsMeant}
+use Rattle.absval.specs.declared.value.AbsVal.TheVariants.{Unset}
+use Rattle.absval.specs.declared.value.AbsVal.{AbsVal}
 
 -- ---- registers, by what is known of each
 
-pub values_well : (es : List Ends) → ((k : ℕ) → k < length es → Meant (get_or es k Nothing)) → AllWell (map value_of es)
+pub values_well : (es : List AbsVal) → ((k : ℕ) → k < length es → IsWell (get_or es k Unset)) → AllWell es
 values_well [] f = tt
 values_well (e ∷ es) f = (f 0 (omega arith), values_well es (λ k lt. f (suc k) (omega arith)))
 
-pub values_describe : (es : List Ends) (vs : List Value) → length es ≡ length vs → ((k : ℕ) → k < length es → Stands (get_or es k Nothing) (value_at vs k)) → RegistersDescribe (map value_of es) vs
+pub values_describe : (es : List AbsVal) (vs : List Value) → length es ≡ length vs → ((k : ℕ) → k < length es → Contains (get_or es k Unset) (value_at vs k)) → RegistersDescribe es vs
 values_describe [] [] long f = tt
 values_describe [] (v ∷ vs) long f = absurd (omega arith)
 values_describe (e ∷ es) [] long f = absurd (omega arith)
 values_describe (e ∷ es) (v ∷ vs) long f = (f 0 (omega arith), values_describe es vs (omega arith) (λ k lt. f (suc k) (omega arith)))
 
-abbrev both_known : AbsState → AbsState → ℕ → Ends
-both_known a b r = joined (known_at (seen a.registers) r) (known_at (seen b.registers) r)
+abbrev both_known : AbsState → AbsState → ℕ → AbsVal
+both_known a b r = joined (known_at a.registers r) (known_at b.registers r)
 
-all_count : (a b : AbsState) → length (joined_all (seen a.registers) (seen b.registers)) ≡ 11
+all_count : (a b : AbsState) → length (joined_all a.registers b.registers) ≡ 11
 all_count a b = length-table 11 (both_known a b)
 
-all_at : (a b : AbsState) (k : ℕ) → k < 11 → get_or (joined_all (seen a.registers) (seen b.registers)) k Nothing ≡ both_known a b k
-all_at a b k lt = table_at 11 (both_known a b) k Nothing lt
+all_at : (a b : AbsState) (k : ℕ) → k < 11 → get_or (joined_all a.registers b.registers) k Unset ≡ both_known a b k
+all_at a b k lt = table_at 11 (both_known a b) k Unset lt
 
 eleven : (a : AbsState) (s : State) → IsMeant a → Describes a s → length s.registers ≡ 11
 eleven a s m d = sym (AllZip-length Contains a.registers s.registers d.registers) ∙ m.count
@@ -95,19 +97,19 @@ met_spills a b n lt = table_at 64 (λ (i : ℕ). joined_spill (spill_at a.stack.
 
 pub met_meant : (a b : AbsState) → IsMeant a → IsMeant b → IsMeant (met a b)
 met_meant a b m n = record {
-  count = length-map (joined_all (seen a.registers) (seen b.registers)) value_of ∙ all_count a b;
-  well = values_well (joined_all (seen a.registers) (seen b.registers))
+  count = all_count a b;
+  well = values_well (joined_all a.registers b.registers)
       (λ k lt. let less : k < 11 = omega (arith, all_count a b) in
-      subst Meant (sym (all_at a b k less)) (joined_meant (known_at (seen a.registers) k) (known_at (seen b.registers) k) (meant_at a.registers k m.well) (meant_at b.registers k n.well)));
+      subst IsWell (sym (all_at a b k less)) (joined_meant (known_at a.registers k) (known_at b.registers k) (meant_at a.registers k m.well) (meant_at b.registers k n.well)));
   flags = length-table 512 _;
 }
 
 pub met_left : (a b : AbsState) (s : State) → IsMeant a → IsMeant b → Describes a s → Describes (met a b) s
 met_left a b s m n d = record {
-  registers = values_describe (joined_all (seen a.registers) (seen b.registers)) s.registers (all_count a b ∙ sym (eleven a s m d))
+  registers = values_describe (joined_all a.registers b.registers) s.registers (all_count a b ∙ sym (eleven a s m d))
       (λ k lt. let less : k < 11 = omega (arith, all_count a b) in
-      subst (λ (e : Ends). Stands e (value_at s.registers k)) (sym (all_at a b k less))
-      (left_stands (known_at (seen a.registers) k) (known_at (seen b.registers) k) (value_at s.registers k) (meant_at a.registers k m.well) (meant_at b.registers k n.well)
+      subst (λ (e : AbsVal). Contains e (value_at s.registers k)) (sym (all_at a b k less))
+      (left_stands (known_at a.registers k) (known_at b.registers k) (value_at s.registers k) (meant_at a.registers k m.well) (meant_at b.registers k n.well)
       (stands_at a.registers s.registers k d.registers)));
   stack = described_left a.stack b.stack (met a b).stack s.cells (λ k. met_bytes a b k m.flags) (met_spills a b) d.stack;
   size = d.size;
@@ -115,10 +117,10 @@ met_left a b s m n d = record {
 
 pub met_right : (a b : AbsState) (s : State) → IsMeant a → IsMeant b → Describes b s → Describes (met a b) s
 met_right a b s m n d = record {
-  registers = values_describe (joined_all (seen a.registers) (seen b.registers)) s.registers (all_count a b ∙ sym (eleven b s n d))
+  registers = values_describe (joined_all a.registers b.registers) s.registers (all_count a b ∙ sym (eleven b s n d))
       (λ k lt. let less : k < 11 = omega (arith, all_count a b) in
-      subst (λ (e : Ends). Stands e (value_at s.registers k)) (sym (all_at a b k less))
-      (right_stands (known_at (seen a.registers) k) (known_at (seen b.registers) k) (value_at s.registers k) (meant_at a.registers k m.well) (meant_at b.registers k n.well)
+      subst (λ (e : AbsVal). Contains e (value_at s.registers k)) (sym (all_at a b k less))
+      (right_stands (known_at a.registers k) (known_at b.registers k) (value_at s.registers k) (meant_at a.registers k m.well) (meant_at b.registers k n.well)
       (stands_at b.registers s.registers k d.registers)));
   stack = record {
     bytes = λ k. subst (λ (t : Bool). IsByteIf t (cell_at s.cells k)) (sym (met_bytes a b k m.flags)) (byte_right (byte_at a.stack.bytes k) (byte_at b.stack.bytes k) (cell_at s.cells k) (d.stack.bytes k));

@@ -8,7 +8,6 @@ use Rattle.insn.specs.declared.insn.Insn.TheVariants.{Jump, LongJump, Branch, Ex
 use Rattle.insn.specs.Insn.{units_of}
 use Rattle.insn.specs.Program.{slots_of, instruction_at}
 use Rattle.semantics.specs.Plain.{IsIn, leads_to}
-use Rattle.absval.specs.Table.{Ends}
 use Rattle.verify.specs.declared.comparison.Comparison.{Comparison}
 use Rattle.verify.specs.declared.error.VerifyError.{VerifyError}
 use Rattle.verify.specs.declared.reason.Reason.{Reason}
@@ -17,17 +16,18 @@ use Rattle.verify.specs.declared.error.VerifyError.TheVariants.{At}
 use Rattle.verify.specs.Forward.{IsForward}
 use Rattle.verify.specs.Structure.{structural_fault}
 use Rattle.verify.specs.Kept.{Kept}
-use Rattle.verify.specs.Registers.{seen, edge_known}
+use Rattle.verify.specs.Registers.{edge_known}
 use Rattle.verify.specs.Flow.{Takes, kept_at, Flows, JumpFlows, EdgeFlows, BranchFlows}
 use Rattle.verify.specs.Instructions.{reason_of, StraightFlows, StateFlows, UnitFlows}
 use Rattle.verify.specs.Passes.{reason_at, ComesTo, ComesThrough, IsStopped, IsFirstFault}
-use Rattle.verify.specs.Knowledge.{value_of, at_entry}
+use Rattle.verify.specs.Knowledge.{at_entry}
 use Rattle.verify.specs.Transfer.{follows, Edge, narrowed, edge_to, edges}
 use Rattle.verify.specs.Judgement.{KnownSoFar, reached_at, joined_with, along, along_all, settled, passed_at, passed_on, passed_to, first_of, judged}
 use Rattle.verify.proofs.Edges.{start_inside}
 use Rattle.verify.proofs.Walk.{forward_of_structure}
 use Rattle.verify.proofs.SameReads.{listed, told, reason_same}
-use Rattle.verify.proofs.Determined.{registers_are, met_is, entry_is, follows_is}
+use Rattle.verify.proofs.Determined.{met_is, entry_is, follows_is}
+use Rattle.absval.specs.declared.value.AbsVal.{AbsVal}
 
 -- what is known where a state is kept
 abbrev pub known : Kept → Option AbsState
@@ -63,13 +63,13 @@ flows_agree units unit to a b old new reached e h agrees = record {
         ∙ sym (get_or-set_same reached to (Some (joined_with (reached_at reached to) a)) None room))))
 
 -- an edge of a conditional jump
-edge_agrees : (units unit to : ℕ) (o : Option (List Ends)) (a : AbsState) (old new : List Kept) (reached : KnownSoFar) → EdgeFlows o a to old new → Agrees units unit old reached →
-    Agrees units unit new (along_all (edge_to (pos to) (option_map (λ (known : List Ends). record { registers = map value_of known; stack = listed a.stack }) o)) reached)
+edge_agrees : (units unit to : ℕ) (o : Option (List AbsVal)) (a : AbsState) (old new : List Kept) (reached : KnownSoFar) → EdgeFlows o a to old new → Agrees units unit old reached →
+    Agrees units unit new (along_all (edge_to (pos to) (option_map (λ (known : List AbsVal). record { registers = known; stack = listed a.stack }) o)) reached)
 edge_agrees units unit to None a old new reached h agrees = subst (λ (pending : List Kept). Agrees units unit pending reached) (sym h) agrees
 edge_agrees units unit to (Some ends) a old new reached h agrees =
-    let same : told h.0 ≡ record { registers = map value_of ends; stack = listed a.stack } =
-    (λ t. record { registers = registers_are h.0.registers ends h.1 t; stack = listed (h.2 t) }) in
-    flows_agree units unit to (record { registers = map value_of ends; stack = listed a.stack }) h.0 old new reached same h.3 agrees
+    let same : told h.0 ≡ record { registers = ends; stack = listed a.stack } =
+    (λ t. record { registers = h.1 t; stack = listed (h.2 t) }) in
+    flows_agree units unit to (record { registers = ends; stack = listed a.stack }) h.0 old new reached same h.3 agrees
 
 two_edges : (z : ℤ) (o : Option AbsState) (es : List Edge) (reached : KnownSoFar) → along_all (edge_to z o ++ es) reached ≡ along_all es (along_all (edge_to z o) reached)
 two_edges z None es reached = refl
@@ -83,8 +83,8 @@ branch_agrees : (units unit : ℕ) (c : Comparison) (distance : ℤ) (a : AbsSta
     BranchFlows c distance a unit old new → Agrees units (unit + 1) old reached →
     Agrees units (unit + 1) new (along_all (edge_to (pos (unit + 1)) (narrowed c false (told a)) ++ edge_to (pos (unit + 1) +ℤ distance) (narrowed c true (told a))) reached)
 branch_agrees units unit c distance a old new reached lands h agrees =
-    let first = edge_agrees units (unit + 1) (unit + 1) (edge_known c false (seen a.registers)) a old h.0 reached h.1 agrees in
-    let second = edge_agrees units (unit + 1) lands.0 (edge_known c true (seen a.registers)) a h.0 new
+    let first = edge_agrees units (unit + 1) (unit + 1) (edge_known c false a.registers) a old h.0 reached h.1 agrees in
+    let second = edge_agrees units (unit + 1) lands.0 (edge_known c true a.registers) a h.0 new
     (along_all (edge_to (pos (unit + 1)) (narrowed c false (told a))) reached) (h.2 lands.0 (sym lands.1)) first in
     subst (λ (r : KnownSoFar). Agrees units (unit + 1) new r) (sym (two_edges (pos (unit + 1)) (narrowed c false (told a)) (edge_to (pos (unit + 1) +ℤ distance) (narrowed c true (told a))) reached))
     (subst (λ (z : ℤ). Agrees units (unit + 1) new (along_all (edge_to z (narrowed c true (told a))) (along_all (edge_to (pos (unit + 1)) (narrowed c false (told a))) reached))) (sym lands.1) second)

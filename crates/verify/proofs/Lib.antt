@@ -20,8 +20,6 @@ pub mod CallArguments
 pub mod CallChecks
 pub mod CallWindows
 pub mod CallLemmas
-pub mod Seen
-pub mod SeenEdges
 pub mod MemoryRows
 pub mod StepReasons
 pub mod OwnReasons

@@ -22,9 +22,9 @@ use Rattle.semantics.specs.State.{Cause, NoBytes, given}
 use Rattle.semantics.specs.Memory.{is_same_region, pieces_of, are_pieces, value_in, bytes_in, loaded, loaded_signed}
 use Rattle.semantics.specs.Run.{IsContext}
 use Rattle.semantics.proofs.WordLaws.{extended_fits}
-use Rattle.absval.specs.Contains.{Gives}
+use Rattle.absval.specs.Contains.{Contains, Gives}
 use Rattle.absval.specs.declared.windows.Window.{Window}
-use Rattle.absval.specs.Table.{Ends, Nothing, Numbers, Pointers, loaded_known}
+use Rattle.absval.specs.Table.{loaded_known}
 use Rattle.absval.specs.Windows.{window_known}
 use Rattle.absmem.specs.declared.spill.Spill.{Spill}
 use Rattle.absmem.specs.declared.spill.Spill.TheVariants.{Free, Whole}
@@ -34,12 +34,13 @@ use Rattle.absmem.proofs.Overwriting.{cell-of_range}
 use Rattle.verify.specs.declared.reason.Reason.{Reason}
 use Rattle.verify.specs.declared.reason.Reason.TheVariants.{StackUnset}
 use Rattle.verify.specs.MemoryTable.{all_bytes, unset_in, unless, spilled_at, spilled, pointer_or, stack_given, load_from, load_given, signed_from, signed_load_given, all_numbers}
-use Rattle.verify.specs.Knowledge.{value_of}
 use Rattle.verify.proofs.Loads.{gives_number, length-part, context_part, reads_give, extended_at}
 use Rattle.verify.proofs.RangeRows.{by_test}
 use Rattle.verify.proofs.SetRows.{within_set, within_has, any_set, any_has}
-use Rattle.verify.proofs.Meanings.{Meant, Stands}
+use Rattle.verify.proofs.Meanings.{IsWell}
 use Rattle.verify.proofs.WindowRows.{IsWindow, window_is}
+use Rattle.absval.specs.declared.value.AbsVal.TheVariants.{Unset, Number, Pointer}
+use Rattle.absval.specs.declared.value.AbsVal.{AbsVal}
 
 -- ---- bytes
 
@@ -71,10 +72,10 @@ some_bytes size.Half = (omega arith, omega arith)
 some_bytes size.Word = (omega arith, omega arith)
 some_bytes size.Double = (omega arith, omega arith)
 
-loaded_meant : (s : Size) → Meant (loaded_known s)
+loaded_meant : (s : Size) → IsWell (loaded_known s)
 loaded_meant s = let b = some_bytes s in within_set (0, 256 ^ bytes_of s - 1) (omega arith) (omega (arith, b.0, b.1))
 
-loaded_holds : (s : Size) (n : ℕ) → n < 256 ^ bytes_of s → Stands (loaded_known s) (value.Number n)
+loaded_holds : (s : Size) (n : ℕ) → n < 256 ^ bytes_of s → Contains (loaded_known s) (value.Number n)
 loaded_holds s n lt = let b = some_bytes s in within_has (0, 256 ^ bytes_of s - 1) n (omega (arith, b.0, b.1)) (omega arith, omega arith)
 
 -- ---- pointers
@@ -100,124 +101,124 @@ here_at : (z : ℤ) → z ≤ℤ z
 here_at z = omega (arith, ints)
 
 -- a pointer that is known to stand at a place
-abbrev Found : List Cell → ℕ → Option Ends → Type 0
-Found cells place o = IfSome o (λ e. Gives (value_of e) (value_in (slice_range cells place (place + 8))))
+abbrev Found : List Cell → ℕ → Option AbsVal → Type 0
+Found cells place o = IfSome o (λ e. Gives e (value_in (slice_range cells place (place + 8))))
 
-found_in : (cells : List Cell) (place : ℕ) (spill : Spill) → StandsAt cells (place / 8) spill → Found cells place (option_map (λ p. Pointers p.0 (p.1, p.1)) (pointer_of (place % 8) spill))
+found_in : (cells : List Cell) (place : ℕ) (spill : Spill) → StandsAt cells (place / 8) spill → Found cells place (option_map (λ p. Pointer p.0 (p.1, p.1)) (pointer_of (place % 8) spill))
 found_in cells place Free stands = tt
 found_in cells place (Whole shift region offset) stands =
-    by_test (λ (o : Option (Region × ℤ)). Found cells place (option_map (λ p. Pointers p.0 (p.1, p.1)) o)) (shift == place % 8) _ _
+    by_test (λ (o : Option (Region × ℤ)). Found cells place (option_map (λ p. Pointer p.0 (p.1, p.1)) o)) (shift == place % 8) _ _
     (λ t. let e : shift ≡ place % 8 = eqb-true shift (place % 8) t in
     let here : 8 * (place / 8) + shift ≡ place = omega arith in
     let pieces : slice_range cells place (place + 8) ≡ pieces_of region offset = subst (λ (n : ℕ). slice_range cells n (n + 8) ≡ pieces_of region offset) here stands in
-    subst (λ (r : Result Value Cause). Gives (value_of (Pointers region (offset, offset))) r) (sym (ap value_in pieces ∙ pieces_give region offset)) (refl, here_at offset, here_at offset))
+    subst (λ (r : Result Value Cause). Gives (Pointer region (offset, offset)) r) (sym (ap value_in pieces ∙ pieces_give region offset)) (refl, here_at offset, here_at offset))
     (λ f. tt)
 
 spilled_found : (known : Known) (s : Size) (w : Window) (cells : List Cell) (at : ℕ) → StackDescribes known cells → w.place + w.size ≤ 512 → w.place ≤ at → at + bytes_of s ≤ w.place + w.size →
-    IfSome (spilled known s w) (λ e. Gives (value_of e) (value_in (slice_range cells at (at + bytes_of s))))
+    IfSome (spilled known s w) (λ e. Gives e (value_in (slice_range cells at (at + bytes_of s))))
 spilled_found known size.Byte w cells at d fits ge le = tt
 spilled_found known size.Half w cells at d fits ge le = tt
 spilled_found known size.Word w cells at d fits ge le = tt
 spilled_found known size.Double w cells at d fits ge le =
-    by_test (λ (o : Option Ends). Found cells at o) (w.size == 8) _ _
+    by_test (λ (o : Option AbsVal). Found cells at o) (w.size == 8) _ _
     (λ t. let eight : w.size ≡ 8 = eqb-true w.size 8 t in
     let here : w.place ≡ at = omega arith in
     let block : w.place / 8 < 64 = omega arith in
     subst (λ (n : ℕ). Found cells n (spilled_at known w.place)) here (found_in cells w.place (spill_at known.spills (w.place / 8)) (d.spills (w.place / 8) block)))
     (λ f. tt)
 
-spilled_meant : (known : Known) (s : Size) (w : Window) → IfSome (spilled known s w) Meant
+spilled_meant : (known : Known) (s : Size) (w : Window) → IfSome (spilled known s w) IsWell
 spilled_meant known size.Byte w = tt
 spilled_meant known size.Half w = tt
 spilled_meant known size.Word w = tt
-spilled_meant known size.Double w = by_test (λ (o : Option Ends). IfSome o Meant) (w.size == 8) _ _ (λ t. mapped (pointer_of (w.place % 8) (spill_at known.spills (w.place / 8)))) (λ f. tt)
+spilled_meant known size.Double w = by_test (λ (o : Option AbsVal). IfSome o IsWell) (w.size == 8) _ _ (λ t. mapped (pointer_of (w.place % 8) (spill_at known.spills (w.place / 8)))) (λ f. tt)
   where
-    mapped : (o : Option (Region × ℤ)) → IfSome (option_map (λ p. Pointers p.0 (p.1, p.1)) o) Meant
+    mapped : (o : Option (Region × ℤ)) → IfSome (option_map (λ p. Pointer p.0 (p.1, p.1)) o) IsWell
     mapped None = tt
     mapped (Some p) = tt
 
 -- ---- loads
 
 -- what a load from a part of the stack's window gives
-abbrev Gets : Size → List Cell → ℕ → Result Ends Reason → Type 0
-Gets s cells at r = IfOk r (λ e. Gives (value_of e) (value_in (slice_range cells at (at + bytes_of s))))
+abbrev Gets : Size → List Cell → ℕ → Result AbsVal Reason → Type 0
+Gets s cells at r = IfOk r (λ e. Gives e (value_in (slice_range cells at (at + bytes_of s))))
 
 stack_gets : (known : Known) (s : Size) (w : Window) (cells : List Cell) (at : ℕ) → StackDescribes known cells → length cells ≡ 512 → w.place + w.size ≤ 512 → w.place ≤ at →
     at + bytes_of s ≤ w.place + w.size → Gets s cells at (stack_given known s w)
 stack_gets known s w cells at d long fits ge le = by_pointer (spilled known s w) (spilled_found known s w cells at d fits ge le)
   where
-    by_pointer : (o : Option Ends) → IfSome o (λ e. Gives (value_of e) (value_in (slice_range cells at (at + bytes_of s)))) →
+    by_pointer : (o : Option AbsVal) → IfSome o (λ e. Gives e (value_in (slice_range cells at (at + bytes_of s)))) →
         Gets s cells at (pointer_or o (unless (unset_in known Stack w) (loaded_known s)))
     by_pointer (Some e) h = h
     by_pointer None h =
         by_test (λ (o : Option Reason). Gets s cells at (unless o (loaded_known s))) (all_bytes known.bytes w.place w.size) None (Some StackUnset)
-        (λ t. gives_number (value_of (loaded_known s)) (slice_range cells at (at + bytes_of s)) (bytes_of s) (length-part cells at (bytes_of s) 512 long (omega arith))
+        (λ t. gives_number (loaded_known s) (slice_range cells at (at + bytes_of s)) (bytes_of s) (length-part cells at (bytes_of s) 512 long (omega arith))
         (bytes_there known cells w at (bytes_of s) d long fits t ge le) (loaded_holds s))
         (λ f. tt)
 
-stack_meant : (known : Known) (s : Size) (w : Window) → IfOk (stack_given known s w) Meant
+stack_meant : (known : Known) (s : Size) (w : Window) → IfOk (stack_given known s w) IsWell
 stack_meant known s w = by_pointer (spilled known s w) (spilled_meant known s w)
   where
-    by_pointer : (o : Option Ends) → IfSome o Meant → IfOk (pointer_or o (unless (unset_in known Stack w) (loaded_known s))) Meant
+    by_pointer : (o : Option AbsVal) → IfSome o IsWell → IfOk (pointer_or o (unless (unset_in known Stack w) (loaded_known s))) IsWell
     by_pointer (Some e) h = h
-    by_pointer None h = by_test (λ (o : Option Reason). IfOk (unless o (loaded_known s)) Meant) (all_bytes known.bytes w.place w.size) None (Some StackUnset) (λ t. loaded_meant s) (λ f. tt)
+    by_pointer None h = by_test (λ (o : Option Reason). IfOk (unless o (loaded_known s)) IsWell) (all_bytes known.bytes w.place w.size) None (Some StackUnset) (λ t. loaded_meant s) (λ f. tt)
 
 -- what holds of each place of a window holds of what is loaded there
-abbrev Loads : List ℕ → List Cell → Size → ℤ → Value → Result Ends Reason → Type 0
-Loads context cells s distance v r = IfOk r (λ e. Gives (value_of e) (loaded context cells (bytes_of s) v distance))
+abbrev Loads : List ℕ → List Cell → Size → ℤ → Value → Result AbsVal Reason → Type 0
+Loads context cells s distance v r = IfOk r (λ e. Gives e (loaded context cells (bytes_of s) v distance))
 
 from_window : (known : Known) (s : Size) (region : Region) (at : ℤ × ℤ) (distance : ℤ) (w : Window) (context : List ℕ) (cells : List Cell) (v : Value) → IsContext context → StackDescribes known cells →
-    length cells ≡ 512 → Stands (Pointers region at) v → IsWindow region at.0 at.1 distance (bytes_of s) w → Loads context cells s distance v (load_from known s region (Some w))
+    length cells ≡ 512 → Contains (Pointer region at) v → IsWindow region at.0 at.1 distance (bytes_of s) w → Loads context cells s distance v (load_from known s region (Some w))
 from_window known s Context at distance w context cells v ctx d long p h =
     let fits = h.fits in
-    reads_give (value_of (loaded_known s)) value_in context cells Context at.0 at.1 distance w.place w.size (bytes_of s) v p h.lies
+    reads_give (loaded_known s) value_in context cells Context at.0 at.1 distance w.place w.size (bytes_of s) v p h.lies
     (λ place ge le. let found = context_part context place (bytes_of s) ctx.long ctx.bytes (omega arith) in
-    gives_number (value_of (loaded_known s)) (slice_range (map Byte context) place (place + bytes_of s)) (bytes_of s) found.0 found.1 (loaded_holds s))
+    gives_number (loaded_known s) (slice_range (map Byte context) place (place + bytes_of s)) (bytes_of s) found.0 found.1 (loaded_holds s))
 from_window known s Stack at distance w context cells v ctx d long p h =
     by_answer (stack_given known s w) (λ place ge le. stack_gets known s w cells place d long h.fits ge le)
   where
-    by_answer : (r : Result Ends Reason) → ((place : ℕ) → w.place ≤ place → place + bytes_of s ≤ w.place + w.size → Gets s cells place r) → Loads context cells s distance v r
+    by_answer : (r : Result AbsVal Reason) → ((place : ℕ) → w.place ≤ place → place + bytes_of s ≤ w.place + w.size → Gets s cells place r) → Loads context cells s distance v r
     by_answer (Err reason) gets = tt
-    by_answer (Ok e) gets = reads_give (value_of e) value_in context cells Stack at.0 at.1 distance w.place w.size (bytes_of s) v p h.lies gets
+    by_answer (Ok e) gets = reads_give e value_in context cells Stack at.0 at.1 distance w.place w.size (bytes_of s) v p h.lies gets
 
-pub load_loads : (known : Known) (s : Size) (base : Ends) (distance : ℤ) (context : List ℕ) (cells : List Cell) (v : Value) → IsContext context → StackDescribes known cells →
-    length cells ≡ 512 → Stands base v → Loads context cells s distance v (load_given known s base distance)
-load_loads known s Nothing distance context cells v ctx d long p = tt
-load_loads known s (Numbers n) distance context cells v ctx d long p = tt
-load_loads known s (Pointers region at) distance context cells v ctx d long p =
+pub load_loads : (known : Known) (s : Size) (base : AbsVal) (distance : ℤ) (context : List ℕ) (cells : List Cell) (v : Value) → IsContext context → StackDescribes known cells →
+    length cells ≡ 512 → Contains base v → Loads context cells s distance v (load_given known s base distance)
+load_loads known s Unset distance context cells v ctx d long p = tt
+load_loads known s (Number n) distance context cells v ctx d long p = tt
+load_loads known s (Pointer region at) distance context cells v ctx d long p =
     by_window (window_known region at.0 at.1 distance (bytes_of s)) (window_is region at.0 at.1 distance (bytes_of s))
   where
     by_window : (o : Option Window) → IfSome o (IsWindow region at.0 at.1 distance (bytes_of s)) → Loads context cells s distance v (load_from known s region o)
     by_window None h = tt
     by_window (Some w) h = from_window known s region at distance w context cells v ctx d long p h
 
-pub load_meant : (known : Known) (s : Size) (base : Ends) (distance : ℤ) → IfOk (load_given known s base distance) Meant
-load_meant known s Nothing distance = tt
-load_meant known s (Numbers n) distance = tt
-load_meant known s (Pointers region at) distance = by_window region (window_known region at.0 at.1 distance (bytes_of s))
+pub load_meant : (known : Known) (s : Size) (base : AbsVal) (distance : ℤ) → IfOk (load_given known s base distance) IsWell
+load_meant known s Unset distance = tt
+load_meant known s (Number n) distance = tt
+load_meant known s (Pointer region at) distance = by_window region (window_known region at.0 at.1 distance (bytes_of s))
   where
-    by_window : (reg : Region) (o : Option Window) → IfOk (load_from known s reg o) Meant
+    by_window : (reg : Region) (o : Option Window) → IfOk (load_from known s reg o) IsWell
     by_window reg None = tt
     by_window Context (Some w) = loaded_meant s
     by_window Stack (Some w) = stack_meant known s w
 
 -- ---- loads that extend by the sign
 
-abbrev LoadsSigned : List ℕ → List Cell → Narrow → ℤ → Value → Result Ends Reason → Type 0
-LoadsSigned context cells part distance v r = IfOk r (λ e. Gives (value_of e) (loaded_signed context cells part v distance))
+abbrev LoadsSigned : List ℕ → List Cell → Narrow → ℤ → Value → Result AbsVal Reason → Type 0
+LoadsSigned context cells part distance v r = IfOk r (λ e. Gives e (loaded_signed context cells part v distance))
 
 signed_window : (known : Known) (part : Narrow) (region : Region) (at : ℤ × ℤ) (distance : ℤ) (w : Window) (context : List ℕ) (cells : List Cell) (v : Value) → IsContext context →
-    length cells ≡ 512 → Stands (Pointers region at) v → IsWindow region at.0 at.1 distance (part_bytes part) w →
+    length cells ≡ 512 → Contains (Pointer region at) v → IsWindow region at.0 at.1 distance (part_bytes part) w →
     (region ≡ Stack → (place : ℕ) → w.place ≤ place → place + part_bytes part ≤ w.place + w.size → AreBytes (slice_range cells place (place + part_bytes part))) →
-    Gives (value_of all_numbers) (loaded_signed context cells part v distance)
+    Gives all_numbers (loaded_signed context cells part v distance)
 signed_window known part region at distance w context cells v ctx long p h are =
-    reads_give (value_of all_numbers) (λ found. given (bytes_in found) (λ bytes. Ok (value.Number (sign_extended W64 part (little_number bytes))))) context cells region at.0 at.1 distance w.place w.size
+    reads_give all_numbers (λ found. given (bytes_in found) (λ bytes. Ok (value.Number (sign_extended W64 part (little_number bytes))))) context cells region at.0 at.1 distance w.place w.size
     (part_bytes part) v p h.lies
-    (λ place ge le. extended_at (value_of all_numbers) context cells region part w.place w.size place ctx long h.fits le (λ e. are e place ge le)
+    (λ place ge le. extended_at all_numbers context cells region part w.place w.size place ctx long h.fits le (λ e. are e place ge le)
     (λ n small. any_has (sign_extended W64 part n) (extended_fits W64 part n)))
 
 signed_from_loads : (known : Known) (part : Narrow) (region : Region) (at : ℤ × ℤ) (distance : ℤ) (o : Option Window) (context : List ℕ) (cells : List Cell) (v : Value) → IsContext context →
-    StackDescribes known cells → length cells ≡ 512 → Stands (Pointers region at) v → IfSome o (IsWindow region at.0 at.1 distance (part_bytes part)) →
+    StackDescribes known cells → length cells ≡ 512 → Contains (Pointer region at) v → IfSome o (IsWindow region at.0 at.1 distance (part_bytes part)) →
     LoadsSigned context cells part distance v (signed_from known region o)
 signed_from_loads known part region at distance None context cells v ctx d long p h = tt
 signed_from_loads known part Context at distance (Some w) context cells v ctx d long p h = signed_window known part Context at distance w context cells v ctx long p h (λ e. absurd (cc))
@@ -226,22 +227,22 @@ signed_from_loads known part Stack at distance (Some w) context cells v ctx d lo
     (λ t. signed_window known part Stack at distance w context cells v ctx long p h (λ e place ge le. bytes_there known cells w place (part_bytes part) d long h.fits t ge le))
     (λ f. tt)
 
-pub signed_loads : (known : Known) (part : Narrow) (base : Ends) (distance : ℤ) (context : List ℕ) (cells : List Cell) (v : Value) → IsContext context → StackDescribes known cells →
-    length cells ≡ 512 → Stands base v → LoadsSigned context cells part distance v (signed_load_given known part base distance)
-signed_loads known part Nothing distance context cells v ctx d long p = tt
-signed_loads known part (Numbers n) distance context cells v ctx d long p = tt
-signed_loads known part (Pointers region at) distance context cells v ctx d long p =
+pub signed_loads : (known : Known) (part : Narrow) (base : AbsVal) (distance : ℤ) (context : List ℕ) (cells : List Cell) (v : Value) → IsContext context → StackDescribes known cells →
+    length cells ≡ 512 → Contains base v → LoadsSigned context cells part distance v (signed_load_given known part base distance)
+signed_loads known part Unset distance context cells v ctx d long p = tt
+signed_loads known part (Number n) distance context cells v ctx d long p = tt
+signed_loads known part (Pointer region at) distance context cells v ctx d long p =
     signed_from_loads known part region at distance (window_known region at.0 at.1 distance (part_bytes part)) context cells v ctx d long p (window_is region at.0 at.1 distance (part_bytes part))
 
-pub signed_meant : (known : Known) (part : Narrow) (base : Ends) (distance : ℤ) → IfOk (signed_load_given known part base distance) Meant
-signed_meant known part Nothing distance = tt
-signed_meant known part (Numbers n) distance = tt
-signed_meant known part (Pointers region at) distance = by_window (window_known region at.0 at.1 distance (part_bytes part))
+pub signed_meant : (known : Known) (part : Narrow) (base : AbsVal) (distance : ℤ) → IfOk (signed_load_given known part base distance) IsWell
+signed_meant known part Unset distance = tt
+signed_meant known part (Number n) distance = tt
+signed_meant known part (Pointer region at) distance = by_window (window_known region at.0 at.1 distance (part_bytes part))
   where
-    by_reason : (o : Option Reason) → IfOk (unless o all_numbers) Meant
+    by_reason : (o : Option Reason) → IfOk (unless o all_numbers) IsWell
     by_reason None = any_set
     by_reason (Some reason) = tt
 
-    by_window : (o : Option Window) → IfOk (signed_from known region o) Meant
+    by_window : (o : Option Window) → IfOk (signed_from known region o) IsWell
     by_window None = tt
     by_window (Some w) = by_reason (unset_in known region w)

@@ -1,4 +1,4 @@
--- What is known of registers, by its ends: it is well formed, and holds the registers' values.
+-- What is known of registers: it is well formed, and holds the registers' values.
 use Rattle.std.proofs.Common.{ℕ, zero, suc, ◌^◌, ◌<◌, List, [], ◌∷◌, arith}
 use Rattle.std.specs.Prelude.{slice_set}
 use Rattle.std.specs.Int.{w64, cast_unsigned}
@@ -10,13 +10,11 @@ use Rattle.semantics.specs.declared.value.Value.{Value}
 use Rattle.semantics.specs.State.{value_at, operand_value}
 use Rattle.semantics.specs.Step.{first_operand}
 use Rattle.absval.specs.declared.value.AbsVal.{AbsVal}
-use Rattle.absval.specs.declared.value.AbsVal.TheVariants.{Unset, Number, Pointer}
 use Rattle.absval.specs.Contains.{Contains}
-use Rattle.absval.specs.Table.{Ends, ends_of}
 use Rattle.verify.proofs.Gamma.{RegistersDescribe}
-use Rattle.verify.specs.Registers.{seen, known_at, operand_known, first_known}
-use Rattle.verify.specs.Knowledge.{value_of}
+use Rattle.verify.specs.Registers.{known_at, operand_known, first_known}
 use Rattle.verify.proofs.SetRows.{IsSet, single_set, single_of}
+use Rattle.absval.specs.declared.value.AbsVal.TheVariants.{Unset, Number, Pointer}
 
 -- its numbers are a set
 abbrev pub IsWell : AbsVal → Type 0
@@ -24,37 +22,20 @@ IsWell Unset = Unit {0}
 IsWell (Number numbers) = IsSet numbers
 IsWell (Pointer region offsets) = Unit {0}
 
-abbrev pub Meant : Ends → Type 0
-Meant e = IsWell (value_of e)
-
--- the value is one of those
-abbrev pub Stands : Ends → Value → Type 0
-Stands e v = Contains (value_of e) v
-
 abbrev pub AllWell : List AbsVal → Type 0
 AllWell [] = Unit {0}
 AllWell (a ∷ known) = IsWell a × AllWell known
 
-well_back : (a : AbsVal) → IsWell a → Meant (ends_of a)
-well_back Unset h = tt
-well_back (Number numbers) h = h
-well_back (Pointer region offsets) h = tt
-
-pub stands_back : (a : AbsVal) (v : Value) → Contains a v → Stands (ends_of a) v
-stands_back Unset v h = tt
-stands_back (Number numbers) v h = h
-stands_back (Pointer region offsets) v h = h
-
-pub meant_at : (known : List AbsVal) (r : ℕ) → AllWell known → Meant (known_at (seen known) r)
+pub meant_at : (known : List AbsVal) (r : ℕ) → AllWell known → IsWell (known_at known r)
 meant_at [] r all = tt
-meant_at (a ∷ known) zero all = well_back a all.0
+meant_at (a ∷ known) zero all = all.0
 meant_at (a ∷ known) (suc r) all = meant_at known r all.1
 
-pub stands_at : (known : List AbsVal) (vs : List Value) (r : ℕ) → RegistersDescribe known vs → Stands (known_at (seen known) r) (value_at vs r)
+pub stands_at : (known : List AbsVal) (vs : List Value) (r : ℕ) → RegistersDescribe known vs → Contains (known_at known r) (value_at vs r)
 stands_at [] [] r z = tt
 stands_at [] (v ∷ vs) r z = absurd z
 stands_at (a ∷ known) [] r z = absurd z
-stands_at (a ∷ known) (v ∷ vs) zero z = stands_back a v z.0
+stands_at (a ∷ known) (v ∷ vs) zero z = z.0
 stands_at (a ∷ known) (v ∷ vs) (suc r) z = stands_at known vs r z.1
 
 pub all_set : (known : List AbsVal) (r : ℕ) (a : AbsVal) → AllWell known → IsWell a → AllWell (slice_set known r a)
@@ -69,20 +50,20 @@ abbrev pub IsWord : Operand → Type 0
 IsWord (Register r) = Unit {0}
 IsWord (Immediate n) = cast_unsigned w64 n < 2 ^ 64
 
-pub operand_meant : (known : List AbsVal) (operand : Operand) → IsWord operand → AllWell known → Meant (operand_known (seen known) operand)
+pub operand_meant : (known : List AbsVal) (operand : Operand) → IsWord operand → AllWell known → IsWell (operand_known known operand)
 operand_meant known (Register r) fits all = meant_at known r all
 operand_meant known (Immediate n) fits all = single_set (cast_unsigned w64 n) fits
 
-pub operand_stands : (known : List AbsVal) (vs : List Value) (operand : Operand) → IsWord operand → RegistersDescribe known vs → Stands (operand_known (seen known) operand) (operand_value vs operand)
+pub operand_stands : (known : List AbsVal) (vs : List Value) (operand : Operand) → IsWord operand → RegistersDescribe known vs → Contains (operand_known known operand) (operand_value vs operand)
 operand_stands known vs (Register r) fits z = stands_at known vs r z
 operand_stands known vs (Immediate n) fits z = single_of (cast_unsigned w64 n) fits
 
-pub first_meant : (known : List AbsVal) (operation : Operation) (dst : ℕ) → AllWell known → Meant (first_known (seen known) operation dst)
+pub first_meant : (known : List AbsVal) (operation : Operation) (dst : ℕ) → AllWell known → IsWell (first_known known operation dst)
 first_meant known Move dst all = single_set 0 (omega arith)
 first_meant known operation dst all = meant_at known dst all
 
 pub first_stands : (known : List AbsVal) (vs : List Value) (operation : Operation) (dst : ℕ) → RegistersDescribe known vs →
-    Stands (first_known (seen known) operation dst) (first_operand operation (value_at vs dst))
+    Contains (first_known known operation dst) (first_operand operation (value_at vs dst))
 first_stands known vs Move dst z = single_of 0 (omega arith)
 first_stands known vs Add dst z = stands_at known vs dst z
 first_stands known vs Sub dst z = stands_at known vs dst z

@@ -14,10 +14,10 @@ use Rattle.insn.specs.Insn.{bytes_of, part_bytes}
 use Rattle.word.specs.declared.Narrow.{Narrow}
 use Rattle.absval.specs.declared.value.Offsets.{Offsets}
 use Rattle.absval.specs.declared.value.AbsVal.{AbsVal}
-use Rattle.absval.specs.declared.value.AbsVal.TheVariants.{Unset, Number, Pointer}
-use Rattle.absval.specs.Table.{Ends, ends_of, loaded_known}
+use Rattle.absval.specs.Table.{loaded_known}
 use Rattle.absmem.specs.Known.{Known, byte_at}
 use Rattle.verify.specs.MemoryTable.{pointer_in, all_bytes, unset_in, spilled, unless, pointer_or, stack_given, load_from, load_given, signed_from, signed_load_given, write_refused}
+use Rattle.absval.specs.declared.value.AbsVal.TheVariants.{Unset, Number, Pointer}
 
 window_refused : (o : Option Window) → result_err (ok_or o Bounds) ≡ write_refused Stack o
 window_refused None = refl
@@ -69,7 +69,7 @@ stack_checked b known region w e f = rw (e, f) refl
 -- a load from the stack that finds no pointer
 pub number_from_stack : (known : Known) (size : Size) (w : Window) (b : Bool) → None ≡ spilled known size w → all_bytes known.bytes w.place w.size ≡ b →
     unless (if b then None else Some StackUnset) (loaded_known size) ≡ stack_given known size w
-number_from_stack known size w b e f = ap₂ (λ (o : Option Ends) (t : Bool). pointer_or o (unless (if t then None else Some StackUnset) (loaded_known size))) e (sym f)
+number_from_stack known size w b e f = ap₂ (λ (o : Option AbsVal) (t : Bool). pointer_or o (unless (if t then None else Some StackUnset) (loaded_known size))) e (sym f)
 
 -- the pointer that is found is the base
 pub pointer_found : (base : AbsVal) (region : Region) (offsets : Offsets) → Ok (region, offsets) ≡ pointer_in base → base ≡ Pointer region offsets
@@ -80,16 +80,16 @@ pointer_found (Pointer other at) region offsets e =
 
 -- a window that leaves its region
 pub load_out : (known : Known) (size : Size) (base : AbsVal) (region : Region) (offsets : Offsets) (distance x : ℤ) (n : ℕ) (reason : Reason) → base ≡ Pointer region offsets → x ≡ distance → n ≡ bytes_of size →
-    Err reason ≡ ok_or (window_known region offsets.low offsets.high x n) Bounds → Err reason ≡ load_given known size (ends_of base) distance
-load_out known size base region offsets distance x n reason e f g h = rw e (by_window (window_known region offsets.low offsets.high distance (bytes_of size)) (rw (f, g) at h))
+    Err reason ≡ ok_or (window_known region offsets.0 offsets.1 x n) Bounds → Err reason ≡ load_given known size base distance
+load_out known size base region offsets distance x n reason e f g h = rw e (by_window (window_known region offsets.0 offsets.1 distance (bytes_of size)) (rw (f, g) at h))
   where
     by_window : (o : Option Window) → Err reason ≡ ok_or o Bounds → Err reason ≡ load_from known size region o
     by_window None k = let same : reason ≡ Bounds = cc in rw same refl
     by_window (Some w) k = absurd cc
 
 pub signed_load_out : (known : Known) (part : Narrow) (base : AbsVal) (region : Region) (offsets : Offsets) (distance x : ℤ) (n : ℕ) (reason : Reason) → base ≡ Pointer region offsets → x ≡ distance → n ≡ part_bytes part →
-    Err reason ≡ ok_or (window_known region offsets.low offsets.high x n) Bounds → Err reason ≡ signed_load_given known part (ends_of base) distance
-signed_load_out known part base region offsets distance x n reason e f g h = rw e (by_window (window_known region offsets.low offsets.high distance (part_bytes part)) (rw (f, g) at h))
+    Err reason ≡ ok_or (window_known region offsets.0 offsets.1 x n) Bounds → Err reason ≡ signed_load_given known part base distance
+signed_load_out known part base region offsets distance x n reason e f g h = rw e (by_window (window_known region offsets.0 offsets.1 distance (part_bytes part)) (rw (f, g) at h))
   where
     by_window : (o : Option Window) → Err reason ≡ ok_or o Bounds → Err reason ≡ signed_from known region o
     by_window None k = let same : reason ≡ Bounds = cc in rw same refl

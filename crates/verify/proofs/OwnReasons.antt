@@ -15,22 +15,21 @@ use Rattle.semantics.specs.Call.{helper_of}
 use Rattle.helper.specs.declared.argument.Argument.{Argument}
 use Rattle.helper.specs.Table.{bound_of, arguments_of}
 use Rattle.absval.specs.declared.value.AbsVal.{AbsVal}
-use Rattle.absval.specs.declared.value.AbsVal.TheVariants as value
 use Rattle.absval.specs.declared.windows.Window.{Window}
 use Rattle.absval.specs.NumberSets.{greatest}
-use Rattle.absval.specs.Table.{Ends, Nothing, Numbers, Pointers, loaded_known, negated_known, extended_known, swapped_known}
+use Rattle.absval.specs.Table.{loaded_known, negated_known, extended_known, swapped_known}
 use Rattle.absval.specs.Windows.{window_known}
 use Rattle.absmem.specs.Known.{Known}
 use Rattle.verify.specs.declared.reason.Reason.{Reason}
 use Rattle.verify.specs.declared.reason.Reason.TheVariants as reason
 use Rattle.verify.specs.declared.state.AbsState.{AbsState}
 use Rattle.verify.specs.Structure.{IsOwn}
-use Rattle.verify.specs.Registers.{seen, known_at, operand_known}
+use Rattle.verify.specs.Registers.{known_at, operand_known}
 use Rattle.verify.specs.Reasons.{Check, first_reason, arithmetic_checks, made_checks, write_checks, compare_checks, exit_checks}
 use Rattle.verify.specs.MemoryTable.{all_bytes, unset_in, unless, spilled, pointer_or, load_from, load_given, all_numbers, signed_from, signed_load_given, is_storable, write_refused, store_refused, unset_or, frame_or}
 use Rattle.verify.specs.Calls.{or_reason, reason_if, argument_reason, arguments_reason, window_from, target_reason, source_reason, copy_reason, row_reason, window_reason, helper_reason}
-use Rattle.verify.specs.Calls.{abstract_at as argument}
 use Rattle.verify.specs.Instructions.{straight_reason, reason_of}
+use Rattle.absval.specs.declared.value.AbsVal.TheVariants.{Unset, Number, Pointer}
 
 abbrev pub Own : Option Reason → Type 0
 Own None = Unit {0}
@@ -58,10 +57,10 @@ if_own : (t : Bool) (r : Reason) → IsOwn r → Own (reason_if t r)
 if_own true r h = h
 if_own false r h = tt
 
-set_own : (e : Ends) (next : Option Reason) → Own next → Own (unset_or e next)
-set_own Nothing next h = tt
-set_own (Numbers n) next h = h
-set_own (Pointers region at) next h = h
+set_own : (e : AbsVal) (next : Option Reason) → Own next → Own (unset_or e next)
+set_own Unset next h = tt
+set_own (Number n) next h = h
+set_own (Pointer region at) next h = h
 
 frame_own : (dst : ℕ) (next : Option Reason) → Own next → Own (frame_or dst next)
 frame_own dst next h = by_test (dst == 10)
@@ -80,11 +79,11 @@ unset_own known Stack w = by_test (all_bytes known.bytes w.place w.size)
     by_test true = tt
     by_test false = tt
 
-unless_own : (u : Option Reason) (numbers : Ends) → Own u → Own (result_err (unless u numbers))
+unless_own : (u : Option Reason) (numbers : AbsVal) → Own u → Own (result_err (unless u numbers))
 unless_own None numbers h = tt
 unless_own (Some reason) numbers h = h
 
-given_own : (p : Option Ends) (given : Result Ends Reason) → Own (result_err given) → Own (result_err (pointer_or p given))
+given_own : (p : Option AbsVal) (given : Result AbsVal Reason) → Own (result_err given) → Own (result_err (pointer_or p given))
 given_own None given h = h
 given_own (Some pointer) given h = tt
 
@@ -93,31 +92,31 @@ from_own known size region None = tt
 from_own known size Context (Some w) = tt
 from_own known size Stack (Some w) = given_own (spilled known size w) (unless (unset_in known Stack w) (loaded_known size)) (unless_own (unset_in known Stack w) (loaded_known size) (unset_own known Stack w))
 
-load_own : (known : Known) (size : Size) (e : Ends) (distance : ℤ) → Own (result_err (load_given known size e distance))
-load_own known size Nothing distance = tt
-load_own known size (Numbers n) distance = tt
-load_own known size (Pointers region at) distance = from_own known size region (window_known region at.0 at.1 distance (bytes_of size))
+load_own : (known : Known) (size : Size) (e : AbsVal) (distance : ℤ) → Own (result_err (load_given known size e distance))
+load_own known size Unset distance = tt
+load_own known size (Number n) distance = tt
+load_own known size (Pointer region at) distance = from_own known size region (window_known region at.0 at.1 distance (bytes_of size))
 
 signed_from_own : (known : Known) (region : Region) (o : Option Window) → Own (result_err (signed_from known region o))
 signed_from_own known region None = tt
 signed_from_own known region (Some w) = unless_own (unset_in known region w) all_numbers (unset_own known region w)
 
-signed_own : (known : Known) (part : Narrow) (e : Ends) (distance : ℤ) → Own (result_err (signed_load_given known part e distance))
-signed_own known part Nothing distance = tt
-signed_own known part (Numbers n) distance = tt
-signed_own known part (Pointers region at) distance = signed_from_own known region (window_known region at.0 at.1 distance (part_bytes part))
+signed_own : (known : Known) (part : Narrow) (e : AbsVal) (distance : ℤ) → Own (result_err (signed_load_given known part e distance))
+signed_own known part Unset distance = tt
+signed_own known part (Number n) distance = tt
+signed_own known part (Pointer region at) distance = signed_from_own known region (window_known region at.0 at.1 distance (part_bytes part))
 
 write_own : (region : Region) (o : Option Window) → Own (write_refused region o)
 write_own Context o = tt
 write_own Stack None = tt
 write_own Stack (Some w) = tt
 
-store_own : (size : Size) (base : Ends) (distance : ℤ) (source : Ends) → Own (store_refused size base distance source)
-store_own size Nothing distance source = tt
-store_own size (Numbers n) distance source = tt
-store_own size (Pointers region at) distance Nothing = tt
-store_own size (Pointers region at) distance (Numbers n) = write_own region (window_known region at.0 at.1 distance (bytes_of size))
-store_own size (Pointers region at) distance (Pointers other kept) = by_test (is_storable size at kept)
+store_own : (size : Size) (base : AbsVal) (distance : ℤ) (source : AbsVal) → Own (store_refused size base distance source)
+store_own size Unset distance source = tt
+store_own size (Number n) distance source = tt
+store_own size (Pointer region at) distance Unset = tt
+store_own size (Pointer region at) distance (Number n) = write_own region (window_known region at.0 at.1 distance (bytes_of size))
+store_own size (Pointer region at) distance (Pointer other kept) = by_test (is_storable size at kept)
   where
     by_test : (t : Bool) → Own (if t then write_refused region (window_known region at.0 at.1 distance 8) else Some reason.PointerUse)
     by_test true = write_own region (window_known region at.0 at.1 distance 8)
@@ -126,17 +125,17 @@ store_own size (Pointers region at) distance (Pointers other kept) = by_test (is
 -- ---- calls
 
 argument_own : (bound : Option ℕ) (a : AbsVal) → Own (argument_reason bound a)
-argument_own bound value.Unset = tt
-argument_own (Some bound) (value.Number numbers) = if_own _ reason.Argument tt
-argument_own (Some bound) (value.Pointer region offsets) = tt
-argument_own None (value.Number numbers) = tt
-argument_own None (value.Pointer region offsets) = tt
+argument_own bound Unset = tt
+argument_own (Some bound) (Number numbers) = if_own _ reason.Argument tt
+argument_own (Some bound) (Pointer region offsets) = tt
+argument_own None (Number numbers) = tt
+argument_own None (Pointer region offsets) = tt
 
 arguments_own : (arguments : List (Option Argument)) (r : ℕ) (known : List AbsVal) → Own (arguments_reason arguments r known)
 arguments_own [] r known = tt
 arguments_own (None ∷ arguments) r known = arguments_own arguments (r + 1) known
 arguments_own (Some taken ∷ arguments) r known =
-    or_own (argument_reason (bound_of taken) (argument known r)) (arguments_reason arguments (r + 1) known) (argument_own (bound_of taken) (argument known r)) (arguments_own arguments (r + 1) known)
+    or_own (argument_reason (bound_of taken) (known_at known r)) (arguments_reason arguments (r + 1) known) (argument_own (bound_of taken) (known_at known r)) (arguments_own arguments (r + 1) known)
 
 target_own : (region : Region) (o : Option Window) → Own (target_reason region o)
 target_own Context o = tt
@@ -149,17 +148,17 @@ source_own known Context (Some w) = tt
 source_own known Stack (Some w) = if_own _ reason.StackUnset tt
 
 copy_own : (slots target counts : AbsVal) → Own (copy_reason slots target counts)
-copy_own (value.Number slots) (value.Pointer region offsets) (value.Number counts) =
+copy_own (Number slots) (Pointer region offsets) (Number counts) =
     or_own _ (target_reason region (window_from region offsets (8 * greatest counts))) (if_own _ reason.Argument tt) (target_own region (window_from region offsets (8 * greatest counts)))
 copy_own slots target counts = tt
 
 row_own : (known : Known) (source counts : AbsVal) → Own (row_reason known source counts)
-row_own known (value.Pointer region offsets) (value.Number counts) = source_own known region (window_from region offsets (4 * greatest counts))
+row_own known (Pointer region offsets) (Number counts) = source_own known region (window_from region offsets (4 * greatest counts))
 row_own known source counts = tt
 
 window_own : (helper : Helper) (a : AbsState) → Own (window_reason helper a)
-window_own BoardCopy a = copy_own (argument a.registers 1) (argument a.registers 2) (argument a.registers 3)
-window_own SendRow a = row_own a.stack (argument a.registers 2) (argument a.registers 3)
+window_own BoardCopy a = copy_own (known_at a.registers 1) (known_at a.registers 2) (known_at a.registers 3)
+window_own SendRow a = row_own a.stack (known_at a.registers 2) (known_at a.registers 3)
 window_own helper a = tt
 
 call_own : (o : Option Helper) (a : AbsState) → Own (helper_reason o a)
@@ -169,17 +168,17 @@ call_own (Some helper) a = or_own (arguments_reason (arguments_of helper) 1 a.re
 -- ---- instructions
 
 straight_own : (i : Insn) (a : AbsState) → Own (straight_reason i a)
-straight_own (Arithmetic w operation dst operand) a = first_own (arithmetic_checks (seen a.registers) w operation dst operand) (tt, (tt, (tt, (tt, tt))))
-straight_own (Negate w dst) a = first_own (made_checks dst (known_at (seen a.registers) dst) (negated_known w (known_at (seen a.registers) dst))) (tt, (tt, (tt, tt)))
-straight_own (SignExtend w part dst src) a = first_own (made_checks dst (known_at (seen a.registers) src) (extended_known w part (known_at (seen a.registers) src))) (tt, (tt, (tt, tt)))
-straight_own (Swap order size dst) a = first_own (made_checks dst (known_at (seen a.registers) dst) (swapped_known order size (known_at (seen a.registers) dst))) (tt, (tt, (tt, tt)))
+straight_own (Arithmetic w operation dst operand) a = first_own (arithmetic_checks a.registers w operation dst operand) (tt, (tt, (tt, (tt, tt))))
+straight_own (Negate w dst) a = first_own (made_checks dst (known_at a.registers dst) (negated_known w (known_at a.registers dst))) (tt, (tt, (tt, tt)))
+straight_own (SignExtend w part dst src) a = first_own (made_checks dst (known_at a.registers src) (extended_known w part (known_at a.registers src))) (tt, (tt, (tt, tt)))
+straight_own (Swap order size dst) a = first_own (made_checks dst (known_at a.registers dst) (swapped_known order size (known_at a.registers dst))) (tt, (tt, (tt, tt)))
 straight_own (LoadNumber dst number) a = first_own (write_checks dst) (tt, tt)
 straight_own (Load size dst base offset) a =
-    set_own (known_at (seen a.registers) base) _ (frame_own dst _ (load_own a.stack size (known_at (seen a.registers) base) offset))
+    set_own (known_at a.registers base) _ (frame_own dst _ (load_own a.stack size (known_at a.registers base) offset))
 straight_own (LoadSigned part dst base offset) a =
-    set_own (known_at (seen a.registers) base) _ (frame_own dst _ (signed_own a.stack part (known_at (seen a.registers) base) offset))
+    set_own (known_at a.registers base) _ (frame_own dst _ (signed_own a.stack part (known_at a.registers base) offset))
 straight_own (Store size base offset source) a =
-    set_own (known_at (seen a.registers) base) _ (set_own (operand_known (seen a.registers) source) _ (store_own size (known_at (seen a.registers) base) offset (operand_known (seen a.registers) source)))
+    set_own (known_at a.registers base) _ (set_own (operand_known a.registers source) _ (store_own size (known_at a.registers base) offset (operand_known a.registers source)))
 straight_own (Call number) a = call_own (helper_of number) a
 straight_own (Jump distance) a = tt
 straight_own (LongJump distance) a = tt
@@ -187,8 +186,8 @@ straight_own (Branch w condition dst operand distance) a = tt
 straight_own Exit a = tt
 
 pub instruction_own : (i : Insn) (a : AbsState) → Own (reason_of i a)
-instruction_own (Branch w condition dst operand distance) a = first_own (compare_checks (known_at (seen a.registers) dst) (operand_known (seen a.registers) operand)) (tt, (tt, (tt, (tt, tt))))
-instruction_own Exit a = first_own (exit_checks (known_at (seen a.registers) 0)) (tt, (tt, tt))
+instruction_own (Branch w condition dst operand distance) a = first_own (compare_checks (known_at a.registers dst) (operand_known a.registers operand)) (tt, (tt, (tt, (tt, tt))))
+instruction_own Exit a = first_own (exit_checks (known_at a.registers 0)) (tt, (tt, tt))
 instruction_own i a = straight_own i a
 
 -- so the reason that is answered is

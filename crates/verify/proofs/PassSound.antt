@@ -15,20 +15,22 @@ use Rattle.semantics.specs.Step.{number_of, condition_of, arrived, jumped, branc
 use Rattle.semantics.specs.Execution.{executed}
 use Rattle.semantics.specs.Safety.{LeadsTo}
 use Rattle.semantics.specs.Plain.{IsIn, leads_to}
-use Rattle.absval.specs.Table.{Ends, Nothing, Numbers, Pointers}
+use Rattle.absval.specs.Contains.{Contains}
 use Rattle.verify.specs.declared.comparison.Comparison.{Comparison}
 use Rattle.verify.specs.declared.state.AbsState.{AbsState}
 use Rattle.verify.proofs.Gamma.{Describes}
-use Rattle.verify.specs.Registers.{seen, known_at, operand_known}
+use Rattle.verify.specs.Registers.{known_at, operand_known}
 use Rattle.verify.specs.Reasons.{first_reason, compare_checks, exit_checks}
 use Rattle.verify.proofs.Outcomes.{DescribesAt, GoesOn}
 use Rattle.verify.specs.Instructions.{IsStraight, reason_of}
 use Rattle.verify.specs.Transfer.{Edge, follows, narrowed, edge_to, edges}
 use Rattle.verify.specs.Judgement.{KnownSoFar, reached_at, joined_with, along, along_all}
-use Rattle.verify.proofs.Meanings.{Stands, stands_at, operand_stands}
+use Rattle.verify.proofs.Meanings.{stands_at, operand_stands}
 use Rattle.verify.proofs.StepSound.{IsMeant, is_word, straight_goes, follows_meant}
 use Rattle.verify.proofs.JoinSound.{met_meant, met_left, met_right}
 use Rattle.verify.proofs.EdgesSound.{DescribedBy, narrowed_describes, narrowed_meant}
+use Rattle.absval.specs.declared.value.AbsVal.TheVariants.{Unset, Number, Pointer}
+use Rattle.absval.specs.declared.value.AbsVal.{AbsVal}
 
 -- what has been reached is well formed, and describes s at a unit
 abbrev pub AreMeant : KnownSoFar → Type 0
@@ -198,18 +200,18 @@ jump_follows i unit distance a s e d to there =
 -- ---- conditional jumps
 
 -- two numbers are compared
-decided : (e f : Ends) (c : Comparison) (x y : Value) → first_reason (compare_checks e f) ≡ None → Stands e x → Stands f y → (t : Bool) × (condition_of c.width c.condition x y ≡ Ok t)
-decided Nothing f c x y none p q = absurd cc
-decided (Pointers region o) Nothing c x y none p q = absurd cc
-decided (Pointers region o) (Numbers n) c x y none p q = absurd cc
-decided (Pointers region o) (Pointers other at) c x y none p q = absurd cc
-decided (Numbers m) Nothing c x y none p q = absurd cc
-decided (Numbers m) (Pointers region o) c x y none p q = absurd cc
-decided (Numbers m) (Numbers n) c value.Unset y none p q = absurd p
-decided (Numbers m) (Numbers n) c (value.Pointer region o) y none p q = absurd p
-decided (Numbers m) (Numbers n) c (value.Number i) value.Unset none p q = absurd q
-decided (Numbers m) (Numbers n) c (value.Number i) (value.Pointer region o) none p q = absurd q
-decided (Numbers m) (Numbers n) c (value.Number i) (value.Number j) none p q = (_, refl)
+decided : (e f : AbsVal) (c : Comparison) (x y : Value) → first_reason (compare_checks e f) ≡ None → Contains e x → Contains f y → (t : Bool) × (condition_of c.width c.condition x y ≡ Ok t)
+decided Unset f c x y none p q = absurd cc
+decided (Pointer region o) Unset c x y none p q = absurd cc
+decided (Pointer region o) (Number n) c x y none p q = absurd cc
+decided (Pointer region o) (Pointer other at) c x y none p q = absurd cc
+decided (Number m) Unset c x y none p q = absurd cc
+decided (Number m) (Pointer region o) c x y none p q = absurd cc
+decided (Number m) (Number n) c value.Unset y none p q = absurd p
+decided (Number m) (Number n) c (value.Pointer region o) y none p q = absurd p
+decided (Number m) (Number n) c (value.Number i) value.Unset none p q = absurd q
+decided (Number m) (Number n) c (value.Number i) (value.Pointer region o) none p q = absurd q
+decided (Number m) (Number n) c (value.Number i) (value.Number j) none p q = (_, refl)
 
 lead_first : (z : ℤ) (o : Option AbsState) (es : List Edge) (unit : ℕ) (t : State) → z ≡ pos unit → DescribedBy o t → Leads (edge_to z o ++ es) unit t
 lead_first z None es unit t e d = absurd d
@@ -255,12 +257,12 @@ branch_follows c distance unit a s (Ok false) e to there t same d =
 
 -- ---- the exit
 
-exits : (e : Ends) (s : State) (v : Value) → first_reason (exit_checks e) ≡ None → Stands e v → (P : State → Type 0) → LeadsTo P (exited s (number_of v))
-exits Nothing s v none p P = absurd cc
-exits (Pointers region o) s v none p P = absurd cc
-exits (Numbers n) s value.Unset none p P = absurd p
-exits (Numbers n) s (value.Number i) none p P = tt
-exits (Numbers n) s (value.Pointer region o) none p P = absurd p
+exits : (e : AbsVal) (s : State) (v : Value) → first_reason (exit_checks e) ≡ None → Contains e v → (P : State → Type 0) → LeadsTo P (exited s (number_of v))
+exits Unset s v none p P = absurd cc
+exits (Pointer region o) s v none p P = absurd cc
+exits (Number n) s value.Unset none p P = absurd p
+exits (Number n) s (value.Number i) none p P = tt
+exits (Number n) s (value.Pointer region o) none p P = absurd p
 
 -- ---- each instruction
 
@@ -289,12 +291,12 @@ executed_follows (Branch w condition dst operand distance) unit a context relay 
     let c : Comparison = record { width = w; condition = condition; dst = dst; operand = operand } in
     let fits = is_word operand insn.1 in
     let to = lands (pos (unit + 1) +ℤ distance) (inr (inl refl)) in
-    let test = decided (known_at (seen a.registers) dst) (operand_known (seen a.registers) operand) c (value_at s.registers dst) (operand_value s.registers operand) none
+    let test = decided (known_at a.registers dst) (operand_known a.registers operand) c (value_at s.registers dst) (operand_value s.registers operand) none
     (stands_at a.registers s.registers dst d.registers) (operand_stands a.registers s.registers operand fits d.registers) in
     branch_follows c distance unit a s (condition_of w condition (value_at s.registers dst) (operand_value s.registers operand)) e to.0 to.1 test.0 test.1
     (narrowed_describes c test.0 a s fits m d test.1)
 executed_follows Exit unit a context relay s insn m none lands setting e d =
-    exits (known_at (seen a.registers) 0) s (value_at s.registers 0) none (stands_at a.registers s.registers 0 d.registers) _
+    exits (known_at a.registers 0) s (value_at s.registers 0) none (stands_at a.registers s.registers 0 d.registers) _
 executed_follows (Arithmetic w operation dst operand) unit a context relay s insn m none lands setting e d =
     weaker _ _ _ (one_edge (Arithmetic w operation dst operand) unit a) (straight_follows (Arithmetic w operation dst operand) unit a context relay s tt insn m none setting e d)
 executed_follows (Negate w dst) unit a context relay s insn m none lands setting e d =

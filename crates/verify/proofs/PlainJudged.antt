@@ -8,11 +8,12 @@ use Rattle.insn.specs.Insn.{IsInsn}
 use Rattle.insn.specs.Program.{slots_of, instruction_at}
 use Rattle.insn.proofs.WellLemmas.{found_well}
 use Rattle.semantics.specs.Plain.{IsIn, IsPlain, Unwritten, at_entry, along as goes_along, leads_to}
-use Rattle.absval.specs.Table.{Ends, Nothing, joined}
+use Rattle.absval.specs.Table.{joined}
+use Rattle.absval.specs.Contains.{is_number}
 use Rattle.verify.specs.declared.error.VerifyError.{VerifyError}
 use Rattle.verify.specs.declared.reason.Reason.{Reason}
 use Rattle.verify.specs.declared.state.AbsState.{AbsState}
-use Rattle.verify.specs.Registers.{seen, known_at, joined_all}
+use Rattle.verify.specs.Registers.{known_at, joined_all}
 use Rattle.verify.specs.Knowledge.{met}
 use Rattle.verify.specs.Knowledge.{at_entry as entry}
 use Rattle.verify.specs.Transfer.{Edge, edges}
@@ -21,14 +22,16 @@ use Rattle.verify.proofs.Edges.{start_inside}
 use Rattle.verify.proofs.PlainWalk.{structure_of_plain}
 use Rattle.verify.proofs.TableLemmas.{length-table, table_at}
 use Rattle.verify.proofs.Zips.{at_set}
-use Rattle.verify.proofs.KnownNumbers.{is_numbers, number_at, seen_values, true_or_not, joined_numbers}
+use Rattle.verify.proofs.KnownNumbers.{number_at, true_or_not, joined_numbers}
 use Rattle.verify.proofs.PlainEdges.{EdgesFine}
 use Rattle.verify.proofs.PlainRuns.{instruction_runs}
+use Rattle.absval.specs.declared.value.AbsVal.TheVariants.{Unset}
+use Rattle.absval.specs.declared.value.AbsVal.{AbsVal}
 
 -- what is no number at a unit is unwritten on some path there
 record FineAt (program : List Insn) (unit : ℕ) (a : AbsState) : Type 0 where
-  size : length (seen a.registers) ≡ 11
-  blank : (r : ℕ) → r < 11 → number_at (seen a.registers) r ≡ false → Unwritten program r unit
+  size : length a.registers ≡ 11
+  blank : (r : ℕ) → r < 11 → number_at a.registers r ≡ false → Unwritten program r unit
 
 record Fine (program : List Insn) (reached : KnownSoFar) : Type 0 where
   count : length reached ≡ length (slots_of program)
@@ -36,16 +39,14 @@ record Fine (program : List Insn) (reached : KnownSoFar) : Type 0 where
 
 met_fine : (program : List Insn) (unit : ℕ) (a b : AbsState) → FineAt program unit a → FineAt program unit b → FineAt program unit (met a b)
 met_fine program unit a b h k =
-    let both = joined_all (seen a.registers) (seen b.registers) in
-    let same : seen (met a b).registers ≡ both = seen_values both in
+    let both = joined_all a.registers b.registers in
     record {
-      size = ap length same ∙ length-table 11 (λ r. joined (known_at (seen a.registers) r) (known_at (seen b.registers) r));
+      size = length-table 11 (λ r. joined (known_at a.registers r) (known_at b.registers r));
       blank = λ r low none.
-          let here : known_at both r ≡ joined (known_at (seen a.registers) r) (known_at (seen b.registers) r) =
-          table_at 11 (λ n. joined (known_at (seen a.registers) n) (known_at (seen b.registers) n)) r Nothing low in
-          let blank : number_at both r ≡ false = subst (λ (known : List Ends). number_at known r ≡ false) same none in
+          let here : known_at both r ≡ joined (known_at a.registers r) (known_at b.registers r) =
+          table_at 11 (λ n. joined (known_at a.registers n) (known_at b.registers n)) r Unset low in
           ⊎_elim (λ e. h.blank r low e) (λ e. k.blank r low e)
-          (joined_numbers (known_at (seen a.registers) r) (known_at (seen b.registers) r) (subst (λ (e : Ends). is_numbers e ≡ false) here blank));
+          (joined_numbers (known_at a.registers r) (known_at b.registers r) (subst (λ (e : AbsVal). is_number e ≡ false) here none));
     }
 
 joined_fine : (program : List Insn) (unit : ℕ) (o : Option AbsState) (a : AbsState) → IfSome o (λ b. FineAt program unit b) → FineAt program unit a → FineAt program unit (joined_with o a)
@@ -69,7 +70,7 @@ along_fine program reached to a lt fine here = record {
       (λ other e. fine.each v b e);
 }
 
-edges_walk : (program : List Insn) (i : Insn) (unit : ℕ) (known : List Ends) (es : List Edge) (reached : KnownSoFar) → IsPlain program → instruction_at program unit ≡ Some i →
+edges_walk : (program : List Insn) (i : Insn) (unit : ℕ) (known : List AbsVal) (es : List Edge) (reached : KnownSoFar) → IsPlain program → instruction_at program unit ≡ Some i →
     ((r : ℕ) → r < 11 → number_at known r ≡ false → Unwritten program r unit) → EdgesFine i unit known es → Fine program reached → Fine program (along_all es reached)
 edges_walk program i unit known [] reached plain at here h fine = fine
 edges_walk program i unit known (e ∷ es) reached plain at here h fine =
@@ -92,10 +93,10 @@ unit_passed program unit None k reached plain well fine at here = (reached, refl
 unit_passed program unit (Some i) None reached plain well fine at here = (reached, refl, fine)
 unit_passed program unit (Some i) (Some a) reached plain well fine at here =
     let runs = instruction_runs i unit a (plain.numbers unit i at) (plain.frame_kept unit i at) (found_well program unit (Some i) well (sym at))
-    (λ r low read. true_or_not (number_at (seen a.registers) r) (λ none. plain.written_before unit r i at read (here.blank r low none))) here.size in (
+    (λ r low read. true_or_not (number_at a.registers r) (λ none. plain.written_before unit r i at read (here.blank r low none))) here.size in (
       along_all (edges i unit a) reached,
       ap (λ (o : Option Reason). settled o unit (along_all (edges i unit a) reached)) runs.0,
-      edges_walk program i unit (seen a.registers) (edges i unit a) reached plain at here.blank runs.1 fine,
+      edges_walk program i unit a.registers (edges i unit a) reached plain at here.blank runs.1 fine,
     )
 
 nothing_at : (n v : ℕ) → reached_at (replicate n None) v ≡ None

@@ -15,22 +15,21 @@ use Rattle.semantics.specs.declared.request.Helper.TheVariants.{BoardCopy, SendR
 use Rattle.semantics.specs.Call.{helper_of}
 use Rattle.helper.specs.Table.{arguments_of}
 use Rattle.absval.specs.declared.value.AbsVal.{AbsVal}
-use Rattle.absval.specs.declared.value.AbsVal.TheVariants as value
 use Rattle.absval.specs.declared.windows.Window.{Window}
 use Rattle.absval.specs.NumberSets.{greatest}
-use Rattle.absval.specs.Table.{Ends, Nothing, Numbers, Pointers, loaded_known}
+use Rattle.absval.specs.Table.{loaded_known}
 use Rattle.absval.specs.Windows.{room_of, base_of, between, window_known}
 use Rattle.absmem.specs.Known.{Known, byte_at, spill_at, pointer_of}
 use Rattle.verify.specs.declared.reason.Reason.{Reason}
 use Rattle.verify.specs.declared.reason.Reason.TheVariants as reason
 use Rattle.verify.specs.declared.state.AbsState.{AbsState}
-use Rattle.verify.specs.Registers.{seen, known_at}
+use Rattle.verify.specs.Registers.{known_at}
 use Rattle.verify.specs.MemoryTable.{all_bytes, unset_in, unless, spilled_at, spilled, pointer_or, load_from, load_given, all_numbers, signed_from, signed_load_given, unset_or, frame_or}
 use Rattle.verify.specs.Calls.{or_reason, reason_if, arguments_reason, window_from, source_reason, row_reason, window_reason, helper_reason}
-use Rattle.verify.specs.Calls.{abstract_at as argument}
 use Rattle.verify.specs.Instructions.{reason_of}
 use Rattle.verify.specs.Knowledge.{stack_of}
 use Rattle.verify.proofs.TableLemmas.{table_at}
+use Rattle.absval.specs.declared.value.AbsVal.TheVariants.{Unset, Number, Pointer}
 
 -- a stack, and a state with its stack, cell by cell
 abbrev pub listed : Known → Known
@@ -82,28 +81,28 @@ spilled_same known Double w fits = by_test (w.size == 8) refl
     by_test false e = refl
     by_test true e =
         let eight : w.size ≡ 8 = eqb-true w.size 8 (sym e) in
-        ap (λ s. option_map (λ p. Pointers p.0 (p.1, p.1)) (pointer_of (w.place % 8) s)) (table_at 64 (spill_at known.spills) (w.place / 8) _ (omega arith))
+        ap (λ s. option_map (λ p. Pointer p.0 (p.1, p.1)) (pointer_of (w.place % 8) s)) (table_at 64 (spill_at known.spills) (w.place / 8) _ (omega arith))
 
 from_same : (known : Known) (size : Size) (region : Region) (o : Option Window) → Fits (room_of region) o → load_from (listed known) size region o ≡ load_from known size region o
 from_same known size region None fits = refl
 from_same known size Context (Some w) fits = refl
 from_same known size Stack (Some w) fits =
-    ap₂ (λ (p : Option Ends) (u : Option Reason). pointer_or p (unless u (loaded_known size))) (spilled_same known size w fits) (unset_same known Stack w fits)
+    ap₂ (λ (p : Option AbsVal) (u : Option Reason). pointer_or p (unless u (loaded_known size))) (spilled_same known size w fits) (unset_same known Stack w fits)
 
-pub load_same : (known : Known) (size : Size) (e : Ends) (distance : ℤ) → load_given (listed known) size e distance ≡ load_given known size e distance
-load_same known size Nothing distance = refl
-load_same known size (Numbers n) distance = refl
-load_same known size (Pointers region at) distance =
+pub load_same : (known : Known) (size : Size) (e : AbsVal) (distance : ℤ) → load_given (listed known) size e distance ≡ load_given known size e distance
+load_same known size Unset distance = refl
+load_same known size (Number n) distance = refl
+load_same known size (Pointer region at) distance =
     from_same known size region (window_known region at.0 at.1 distance (bytes_of size)) (window_fits region at.0 at.1 distance (bytes_of size))
 
 signed_from_same : (known : Known) (region : Region) (o : Option Window) → Fits (room_of region) o → signed_from (listed known) region o ≡ signed_from known region o
 signed_from_same known region None fits = refl
 signed_from_same known region (Some w) fits = ap (λ (u : Option Reason). unless u all_numbers) (unset_same known region w fits)
 
-pub signed_same : (known : Known) (part : Narrow) (e : Ends) (distance : ℤ) → signed_load_given (listed known) part e distance ≡ signed_load_given known part e distance
-signed_same known part Nothing distance = refl
-signed_same known part (Numbers n) distance = refl
-signed_same known part (Pointers region at) distance =
+pub signed_same : (known : Known) (part : Narrow) (e : AbsVal) (distance : ℤ) → signed_load_given (listed known) part e distance ≡ signed_load_given known part e distance
+signed_same known part Unset distance = refl
+signed_same known part (Number n) distance = refl
+signed_same known part (Pointer region at) distance =
     signed_from_same known region (window_known region at.0 at.1 distance (part_bytes part)) (window_fits region at.0 at.1 distance (part_bytes part))
 
 -- ---- calls
@@ -114,15 +113,15 @@ source_same known Context (Some w) fits = refl
 source_same known Stack (Some w) fits = ap (λ (b : Bool). reason_if (not b) reason.StackUnset) (bytes_listed known w.place w.size fits)
 
 row_same : (known : Known) (a b : AbsVal) → row_reason (listed known) a b ≡ row_reason known a b
-row_same known (value.Pointer region offsets) (value.Number counts) =
-    source_same known region (window_from region offsets (4 * greatest counts)) (window_fits region offsets.low offsets.high (pos 0) (4 * greatest counts))
-row_same known (value.Pointer region offsets) value.Unset = refl
-row_same known (value.Pointer region offsets) (value.Pointer other from) = refl
-row_same known value.Unset b = refl
-row_same known (value.Number n) b = refl
+row_same known (Pointer region offsets) (Number counts) =
+    source_same known region (window_from region offsets (4 * greatest counts)) (window_fits region offsets.0 offsets.1 (pos 0) (4 * greatest counts))
+row_same known (Pointer region offsets) Unset = refl
+row_same known (Pointer region offsets) (Pointer other from) = refl
+row_same known Unset b = refl
+row_same known (Number n) b = refl
 
 window_same : (helper : Helper) (a : AbsState) → window_reason helper (told a) ≡ window_reason helper a
-window_same SendRow a = row_same a.stack (argument a.registers 2) (argument a.registers 3)
+window_same SendRow a = row_same a.stack (known_at a.registers 2) (known_at a.registers 3)
 window_same BoardCopy a = refl
 window_same helper a = refl
 
@@ -134,8 +133,8 @@ call_same (Some helper) a = ap (λ (r : Option Reason). or_reason (arguments_rea
 
 pub reason_same : (i : Insn) (a : AbsState) → reason_of i (told a) ≡ reason_of i a
 reason_same (Load size dst base offset) a =
-    ap (λ r. unset_or (known_at (seen a.registers) base) (frame_or dst (result_err r))) (load_same a.stack size (known_at (seen a.registers) base) offset)
+    ap (λ r. unset_or (known_at a.registers base) (frame_or dst (result_err r))) (load_same a.stack size (known_at a.registers base) offset)
 reason_same (LoadSigned part dst base offset) a =
-    ap (λ r. unset_or (known_at (seen a.registers) base) (frame_or dst (result_err r))) (signed_same a.stack part (known_at (seen a.registers) base) offset)
+    ap (λ r. unset_or (known_at a.registers base) (frame_or dst (result_err r))) (signed_same a.stack part (known_at a.registers base) offset)
 reason_same (Call number) a = call_same (helper_of number) a
 reason_same i a = refl

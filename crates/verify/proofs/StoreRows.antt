@@ -15,10 +15,10 @@ use Rattle.semantics.specs.declared.value.Cell.{Cell}
 use Rattle.semantics.specs.Memory.{overwritten, pieces_of, stored}
 use Rattle.absval.specs.declared.number_set.NumberSet.{NumberSet}
 use Rattle.absval.specs.declared.windows.Window.{Window}
-use Rattle.absval.specs.Table.{Ends, Nothing, Numbers, Pointers}
 use Rattle.absval.specs.Windows.{window_known}
 use Rattle.absmem.specs.Known.{Known}
 use Rattle.absmem.specs.Describes.{Describes as StackDescribes}
+use Rattle.absval.specs.Contains.{Contains}
 use Rattle.verify.specs.declared.reason.Reason.{Reason}
 use Rattle.verify.specs.declared.reason.Reason.TheVariants.{PointerUse}
 use Rattle.verify.specs.MemoryTable.{is_storable, write_refused, store_refused}
@@ -28,8 +28,9 @@ use Rattle.verify.specs.Transfer.{number_stored, pointer_stored}
 use Rattle.verify.specs.Transfer as transfer
 use Rattle.verify.proofs.StoreLemmas.{stores_lead, bytes_lead, pieces_lead, number_lead}
 use Rattle.verify.proofs.RangeRows.{by_test}
-use Rattle.verify.proofs.Meanings.{Stands}
 use Rattle.verify.proofs.WindowRows.{IsWindow, window_is, one_wide, put_described, spread_described, pointer_described}
+use Rattle.absval.specs.declared.value.AbsVal.TheVariants.{Unset, Number, Pointer}
+use Rattle.absval.specs.declared.value.AbsVal.{AbsVal}
 
 -- a window that may be written lies in the stack
 abbrev Written : Region → Option Window → Type 0
@@ -48,7 +49,7 @@ there_is region low high distance n w e f =
 -- ---- numbers
 
 number_leads : (known : Known) (w : Window) (at : ℤ × ℤ) (distance : ℤ) (n : ℕ) (numbers : NumberSet) (cells : List Cell) (p v : Value) → StackDescribes known cells → length cells ≡ 512 →
-    length known.bytes ≡ 512 → Stands (Pointers Stack at) p → Stands (Numbers numbers) v → IsWindow Stack at.0 at.1 distance n w →
+    length known.bytes ≡ 512 → Contains (Pointer Stack at) p → Contains (Number numbers) v → IsWindow Stack at.0 at.1 distance n w →
     Leads (number_stored n (Some w) known) (stored cells n p distance v)
 number_leads known w at distance n numbers cells p v d long flags h k there =
     let fits : w.place + w.size ≤ 512 = there.fits in
@@ -79,7 +80,7 @@ may_store true o e = (refl, e)
 may_store false o e = cc
 
 pointer_leads : (known : Known) (w : Window) (at kept : ℤ × ℤ) (other : Region) (distance : ℤ) (cells : List Cell) (p v : Value) → StackDescribes known cells → length cells ≡ 512 →
-    length known.bytes ≡ 512 → Stands (Pointers Stack at) p → Stands (Pointers other kept) v → at.0 ≡ at.1 → kept.0 ≡ kept.1 → IsWindow Stack at.0 at.1 distance 8 w →
+    length known.bytes ≡ 512 → Contains (Pointer Stack at) p → Contains (Pointer other kept) v → at.0 ≡ at.1 → kept.0 ≡ kept.1 → IsWindow Stack at.0 at.1 distance 8 w →
     Leads (pointer_stored other kept.0 (Some w) known) (stored cells 8 p distance v)
 pointer_leads known w at kept other distance cells p v d long flags h k one same there =
     let fits : w.place + w.size ≤ 512 = there.fits in
@@ -92,21 +93,21 @@ pointer_leads known w at kept other distance cells p v d long flags h k one same
 
 -- ---- stores
 
-pub store_leads : (known : Known) (s : Size) (base : Ends) (distance : ℤ) (value : Ends) (cells : List Cell) (p v : Value) → store_refused s base distance value ≡ None → StackDescribes known cells →
-    length cells ≡ 512 → length known.bytes ≡ 512 → Stands base p → Stands value v → Leads (transfer.stored s base distance value known) (stored cells (bytes_of s) p distance v)
-store_leads known s Nothing distance value cells p v none d long flags h k = absurd cc
-store_leads known s (Numbers n) distance value cells p v none d long flags h k = absurd cc
-store_leads known s (Pointers region at) distance Nothing cells p v none d long flags h k = absurd cc
-store_leads known s (Pointers region at) distance (Numbers n) cells p v none d long flags h k =
+pub store_leads : (known : Known) (s : Size) (base : AbsVal) (distance : ℤ) (value : AbsVal) (cells : List Cell) (p v : Value) → store_refused s base distance value ≡ None → StackDescribes known cells →
+    length cells ≡ 512 → length known.bytes ≡ 512 → Contains base p → Contains value v → Leads (transfer.stored s base distance value known) (stored cells (bytes_of s) p distance v)
+store_leads known s Unset distance value cells p v none d long flags h k = absurd cc
+store_leads known s (Number n) distance value cells p v none d long flags h k = absurd cc
+store_leads known s (Pointer region at) distance Unset cells p v none d long flags h k = absurd cc
+store_leads known s (Pointer region at) distance (Number n) cells p v none d long flags h k =
     let found = written_of region (window_known region at.0 at.1 distance (bytes_of s)) none in
-    let stack = subst (λ (r : Region). Stands (Pointers r at) p) found.0 h in
+    let stack = subst (λ (r : Region). Contains (Pointer r at) p) found.0 h in
     subst (λ (o : Option Window). Leads (number_stored (bytes_of s) o known) (stored cells (bytes_of s) p distance v)) (sym found.2)
     (number_leads known found.1 at distance (bytes_of s) n cells p v d long flags stack k (there_is region at.0 at.1 distance (bytes_of s) found.1 found.0 found.2))
-store_leads known s (Pointers region at) distance (Pointers other kept) cells p v none d long flags h k =
+store_leads known s (Pointer region at) distance (Pointer other kept) cells p v none d long flags h k =
     let may = may_store (is_storable s at kept) (write_refused region (window_known region at.0 at.1 distance 8)) none in
     let whole = storable s at kept may.0 in
     let found = written_of region (window_known region at.0 at.1 distance 8) may.1 in
-    let stack = subst (λ (r : Region). Stands (Pointers r at) p) found.0 h in
+    let stack = subst (λ (r : Region). Contains (Pointer r at) p) found.0 h in
     subst (λ (t : Size). Leads (pointer_stored other kept.0 (window_known region at.0 at.1 distance 8) known) (stored cells (bytes_of t) p distance v)) (sym whole.0)
     (subst (λ (o : Option Window). Leads (pointer_stored other kept.0 o known) (stored cells 8 p distance v)) (sym found.2)
     (pointer_leads known found.1 at kept other distance cells p v d long flags stack k whole.1 whole.2 (there_is region at.0 at.1 distance 8 found.1 found.0 found.2)))

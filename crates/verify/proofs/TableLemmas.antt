@@ -1,15 +1,15 @@
 -- Lists by their entries.
-use Rattle.std.proofs.Common.{◌≡◌, ◌∙◌, ℕ, zero, suc, ◌+◌, ◌<◌, ◌≤◌, List, length, get_or, drop, arith, sym, subst, length-drop}
-use Rattle.std.proofs.lemmas.List.{ext_get_or, get_or-drop, length-map}
+use Rattle.std.proofs.Common.{◌≡◌, ◌∙◌, ℕ, zero, suc, ◌+◌, ◌<◌, ◌≤◌, List, length, get_or, set, drop, arith, sym, subst, length-drop}
+use Rattle.std.proofs.lemmas.List.{ext_get_or, get_or-drop, get_or_default}
 use Rattle.std.proofs.lemmas.List.FromFn.{length-map-range_with_len, get_or-map-range_with_len}
 use Rattle.absval.specs.declared.value.AbsVal.{AbsVal}
-use Rattle.absval.specs.declared.value.AbsVal.TheVariants.{Unset, Number}
 use Rattle.absval.specs.declared.number_set.NumberSet.{NumberSet}
-use Rattle.absval.specs.Table.{Nothing, ends_of}
 use Rattle.verify.specs.Tables.{table}
-use Rattle.verify.specs.Registers.{seen, known_at, joined_all, Joins}
+use Rattle.verify.specs.Registers.{known_at, joined_all, Joins}
 use Rattle.absval.specs.Table.{joined}
 use Rattle.verify.specs.Calls.{known_behind}
+use Rattle.verify.proofs.Zips.{at_set}
+use Rattle.absval.specs.declared.value.AbsVal.TheVariants.{Unset, Number}
 
 pub length-table : {A : Type 0} (n : ℕ) (entry : ℕ → A) → length (table n entry) ≡ n
 unfolding table
@@ -29,13 +29,16 @@ table_is n entry xs d long at =
 pub table_same : {A : Type 0} (n : ℕ) (f g : ℕ → A) (d : A) → ((k : ℕ) → k < n → f k ≡ g k) → table n f ≡ table n g
 table_same n f g d same = table_is n g (table n f) d (length-table n f) (λ k lt. table_at n f k d lt ∙ same k lt)
 
-length-seen : (xs : List AbsVal) → length (seen xs) ≡ length xs
-length-seen xs = length-map xs ends_of
+pub join_step : (xs before other : List AbsVal) (i : ℕ) (x u v : AbsVal) → i < length xs → i < length other → get_or xs i Unset ≡ get_or before i Unset →
+    x ≡ joined (get_or xs i u) (get_or other i v) → Joins before other xs i → Joins before other (set xs i x) (i + 1)
+join_step xs before other i x u v l m rest made so_far = λ k h.
+    at_set (λ (a : AbsVal). a ≡ joined (known_at before k) (known_at other k)) xs i k x Unset l
+    (λ e. rw (e, ← rest, get_or_default other i Unset v m, get_or_default xs i Unset u l) made) (λ n. so_far k (omega arith))
 
 -- registers that are joined one by one
-pub joins_all : (old other new : List AbsVal) → length new ≡ 11 → Joins old other new 11 → seen new ≡ joined_all (seen old) (seen other)
+pub joins_all : (old other new : List AbsVal) → length new ≡ 11 → Joins old other new 11 → new ≡ joined_all old other
 joins_all old other new long joins =
-    table_is 11 (λ r. joined (known_at (seen old) r) (known_at (seen other) r)) (seen new) Nothing (length-seen new ∙ long) joins
+    table_is 11 (λ r. joined (known_at old r) (known_at other r)) new Unset long joins
 
 -- the registers behind a call
 pub behind_whole : (numbers : NumberSet) (old new : List AbsVal) → length old ≡ 11 → length new ≡ 11 → get_or new 0 Unset ≡ Number numbers →

@@ -22,20 +22,22 @@ use Rattle.semantics.specs.Memory.{is_same_region}
 use Rattle.semantics.specs.Step.{pointed, moved, combined, first_operand, mapped}
 use Rattle.absval.specs.declared.number_set.NumberSet.{NumberSet}
 use Rattle.absval.specs.NumberSets.{Has, negations, extensions, swaps}
-use Rattle.absval.specs.Contains.{Gives, IsNumberOf, IsPointerIn}
-use Rattle.absval.specs.Table.{Ends, Nothing, Numbers, Pointers, joined, joined_offsets, in_a_row, is_near, near, raised, lowered, displaced, shifted, computed, negated_known, extended_known, swapped_known}
+use Rattle.absval.specs.Contains.{Contains, Gives, IsNumberOf, IsPointerIn}
+use Rattle.absval.specs.Limits.{is_near}
+use Rattle.absval.specs.Table.{joined, joined_offsets, in_a_row, near, raised, lowered, displaced, shifted, computed, negated_known, extended_known, swapped_known}
 use Rattle.absval.specs.Table as known
-use Rattle.verify.specs.Knowledge.{value_of}
 use Rattle.verify.proofs.RangeRows.{by_test}
 use Rattle.verify.proofs.SetRows.{IsSet, joined_set, left_of, right_of, table_set, table_of, copies_set, copies_of, negations_set, negations_of, extensions_set, extensions_of, swaps_set, swaps_of}
-use Rattle.verify.proofs.Meanings.{Meant, Stands}
+use Rattle.verify.proofs.Meanings.{IsWell}
+use Rattle.absval.specs.declared.value.AbsVal.TheVariants.{Unset, Number, Pointer}
+use Rattle.absval.specs.declared.value.AbsVal.{AbsVal}
 
 -- what is known of a result, if it is admitted: it is well formed, and there is a result that it holds of
-abbrev pub Makes : Option Ends → Result Value Cause → Type 0
-Makes o r = IfSome o (λ e. Gives (value_of e) r)
+abbrev pub Makes : Option AbsVal → Result Value Cause → Type 0
+Makes o r = IfSome o (λ e. Gives e r)
 
-abbrev pub MeantIf : Option Ends → Type 0
-MeantIf o = IfSome o Meant
+abbrev pub MeantIf : Option AbsVal → Type 0
+MeantIf o = IfSome o IsWell
 
 -- ---- pointers and numbers
 
@@ -80,9 +82,9 @@ if_true true a b e = refl
 if_true false a b e = cc
 
 -- a pointer between two offsets that are near is near
-near_gives : (region other : Region) (o : ℤ × ℤ) (z : ℤ) → other ≡ region → Between o z → IfSome (near o) (λ n. Gives (value_of (Pointers region n)) (pointed other z))
+near_gives : (region other : Region) (o : ℤ × ℤ) (z : ℤ) → other ≡ region → Between o z → IfSome (near o) (λ n. Gives (Pointer region n) (pointed other z))
 near_gives region other o z same p =
-    by_test (λ (s : Option (ℤ × ℤ)). IfSome s (λ n. Gives (value_of (Pointers region n)) (pointed other z))) (is_near o.0 && is_near o.1) _ _
+    by_test (λ (s : Option (ℤ × ℤ)). IfSome s (λ n. Gives (Pointer region n) (pointed other z))) (is_near o.0 && is_near o.1) _ _
     (λ t. let parts = and_parts (is_near o.0) (is_near o.1) t in
     let low = close_of o.0 parts.0 in
     let high = close_of o.1 parts.1 in
@@ -91,7 +93,7 @@ near_gives region other o z same p =
     let c = p.0 in
     let d = p.1 in
     let here : is_near z ≡ true = near_of z (omega (arith, ints), omega (arith, ints)) in
-    subst (λ (r : Result Value Cause). Gives (value_of (Pointers region o)) r) (sym (if_true (is_near z) (Ok (value.Pointer other z)) (Err PointerUse) here)) (same, p.0, p.1))
+    subst (λ (r : Result Value Cause). Gives (Pointer region o) r) (sym (if_true (is_near z) (Ok (value.Pointer other z)) (Err PointerUse) here)) (same, p.0, p.1))
     (λ f. tt)
 
 sum_between : (a b c d y z : ℤ) → a ≤ℤ y → y ≤ℤ b → c ≤ℤ z → z ≤ℤ d → ((a +ℤ c) ≤ℤ (y +ℤ z)) × ((y +ℤ z) ≤ℤ (b +ℤ d))
@@ -102,7 +104,7 @@ difference_between a b c d y z p q r s = (omega (arith, ints), omega (arith, int
 
 -- where the pointer may go, if it may
 abbrev Goes : Width → Operation → Region → ℤ × ℤ → ℤ × ℤ → Region → ℤ → ℕ → Type 0
-Goes w operation region o by other z m = IfSome (displaced w operation o by) (λ n. Gives (value_of (Pointers region n)) (moved w operation other z m))
+Goes w operation region o by other z m = IfSome (displaced w operation o by) (λ n. Gives (Pointer region n) (moved w operation other z m))
 
 displaced_goes : (w : Width) (operation : Operation) (region other : Region) (o by : ℤ × ℤ) (z : ℤ) (m : ℕ) → other ≡ region → Between o z → Between by (cast_signed w64 m) →
     Goes w operation region o by other z m
@@ -128,67 +130,67 @@ shifted_makes : (w : Width) (operation : Operation) (region other : Region) (o :
     Makes (shifted w operation region o n) (moved w operation other z m)
 shifted_makes w operation region other o n z m e p h = by_row (in_a_row n.range) (in_a_row_holds n.range m h.range h.bits.word)
   where
-    mapped_makes : (s : Option (ℤ × ℤ)) → IfSome s (λ n. Gives (value_of (Pointers region n)) (moved w operation other z m)) → Makes (option_map (Pointers region) s) (moved w operation other z m)
+    mapped_makes : (s : Option (ℤ × ℤ)) → IfSome s (λ n. Gives (Pointer region n) (moved w operation other z m)) → Makes (option_map (Pointer region) s) (moved w operation other z m)
     mapped_makes None k = tt
     mapped_makes (Some n) k = k
 
-    by_row : (s : Option (ℤ × ℤ)) → IfSome s (λ by. Between by (cast_signed w64 m)) → Makes (option_map (Pointers region) (option_and_then (displaced w operation o) s)) (moved w operation other z m)
+    by_row : (s : Option (ℤ × ℤ)) → IfSome s (λ by. Between by (cast_signed w64 m)) → Makes (option_map (Pointer region) (option_and_then (displaced w operation o) s)) (moved w operation other z m)
     by_row None k = tt
     by_row (Some by) k = mapped_makes (displaced w operation o by) (displaced_goes w operation region other o by z m e p k)
 
 shifted_meant : (w : Width) (operation : Operation) (region : Region) (o : ℤ × ℤ) (n : NumberSet) → MeantIf (shifted w operation region o n)
 shifted_meant w operation region o n = by_offsets (option_and_then (displaced w operation o) (in_a_row n.range))
   where
-    by_offsets : (s : Option (ℤ × ℤ)) → MeantIf (option_map (Pointers region) s)
+    by_offsets : (s : Option (ℤ × ℤ)) → MeantIf (option_map (Pointer region) s)
     by_offsets None = tt
     by_offsets (Some n) = tt
 
 -- ---- operations
 
-moved_makes : (w : Width) (b : Ends) (y : Value) → Meant b → Stands b y → Makes (known.moved w b) (combined w Move (value.Number 0) y)
-moved_makes w Nothing y h p = tt
-moved_makes w (Numbers n) value.Unset h p = absurd p
-moved_makes W32 (Numbers n) (value.Number m) h p = copies_of W32 n m h p
-moved_makes W64 (Numbers n) (value.Number m) h p = copies_of W64 n m h p
-moved_makes w (Numbers n) (value.Pointer region offset) h p = absurd p
-moved_makes W32 (Pointers region o) y h p = tt
-moved_makes W64 (Pointers region o) value.Unset h p = absurd p
-moved_makes W64 (Pointers region o) (value.Number m) h p = absurd p
-moved_makes W64 (Pointers region o) (value.Pointer other offset) h p = p
+moved_makes : (w : Width) (b : AbsVal) (y : Value) → IsWell b → Contains b y → Makes (known.moved w b) (combined w Move (value.Number 0) y)
+moved_makes w Unset y h p = tt
+moved_makes w (Number n) value.Unset h p = absurd p
+moved_makes W32 (Number n) (value.Number m) h p = copies_of W32 n m h p
+moved_makes W64 (Number n) (value.Number m) h p = copies_of W64 n m h p
+moved_makes w (Number n) (value.Pointer region offset) h p = absurd p
+moved_makes W32 (Pointer region o) y h p = tt
+moved_makes W64 (Pointer region o) value.Unset h p = absurd p
+moved_makes W64 (Pointer region o) (value.Number m) h p = absurd p
+moved_makes W64 (Pointer region o) (value.Pointer other offset) h p = p
 
-moved_meant : (w : Width) (b : Ends) → Meant b → MeantIf (known.moved w b)
-moved_meant w Nothing h = tt
-moved_meant w (Numbers n) h = copies_set w n h
-moved_meant W32 (Pointers region o) h = tt
-moved_meant W64 (Pointers region o) h = tt
+moved_meant : (w : Width) (b : AbsVal) → IsWell b → MeantIf (known.moved w b)
+moved_meant w Unset h = tt
+moved_meant w (Number n) h = copies_set w n h
+moved_meant W32 (Pointer region o) h = tt
+moved_meant W64 (Pointer region o) h = tt
 
-combined_makes : (w : Width) (operation : Operation) (a b : Ends) (x y : Value) → Meant a → Meant b → Stands a x → Stands b y → Makes (known.combined w operation a b) (combined w operation x y)
-combined_makes w operation Nothing b x y h k p q = tt
-combined_makes w operation (Numbers m) Nothing x y h k p q = tt
-combined_makes w operation (Numbers m) (Pointers region o) x y h k p q = tt
-combined_makes w operation (Numbers m) (Numbers n) value.Unset y h k p q = absurd p
-combined_makes w operation (Numbers m) (Numbers n) (value.Pointer region offset) y h k p q = absurd p
-combined_makes w operation (Numbers m) (Numbers n) (value.Number i) value.Unset h k p q = absurd q
-combined_makes w operation (Numbers m) (Numbers n) (value.Number i) (value.Pointer region offset) h k p q = absurd q
-combined_makes w operation (Numbers m) (Numbers n) (value.Number i) (value.Number j) h k p q = table_of w operation m n i j h k p q
-combined_makes w operation (Pointers region o) Nothing x y h k p q = tt
-combined_makes w operation (Pointers region o) (Pointers other at) x y h k p q = tt
-combined_makes w operation (Pointers region o) (Numbers n) value.Unset y h k p q = absurd p
-combined_makes w operation (Pointers region o) (Numbers n) (value.Number i) y h k p q = absurd p
-combined_makes w operation (Pointers region o) (Numbers n) (value.Pointer other offset) value.Unset h k p q = absurd q
-combined_makes w operation (Pointers region o) (Numbers n) (value.Pointer other offset) (value.Pointer reg at) h k p q = absurd q
-combined_makes w operation (Pointers region o) (Numbers n) (value.Pointer other offset) (value.Number j) h k p q = shifted_makes w operation region other o n offset j p.0 (p.1, p.2) q
+combined_makes : (w : Width) (operation : Operation) (a b : AbsVal) (x y : Value) → IsWell a → IsWell b → Contains a x → Contains b y → Makes (known.combined w operation a b) (combined w operation x y)
+combined_makes w operation Unset b x y h k p q = tt
+combined_makes w operation (Number m) Unset x y h k p q = tt
+combined_makes w operation (Number m) (Pointer region o) x y h k p q = tt
+combined_makes w operation (Number m) (Number n) value.Unset y h k p q = absurd p
+combined_makes w operation (Number m) (Number n) (value.Pointer region offset) y h k p q = absurd p
+combined_makes w operation (Number m) (Number n) (value.Number i) value.Unset h k p q = absurd q
+combined_makes w operation (Number m) (Number n) (value.Number i) (value.Pointer region offset) h k p q = absurd q
+combined_makes w operation (Number m) (Number n) (value.Number i) (value.Number j) h k p q = table_of w operation m n i j h k p q
+combined_makes w operation (Pointer region o) Unset x y h k p q = tt
+combined_makes w operation (Pointer region o) (Pointer other at) x y h k p q = tt
+combined_makes w operation (Pointer region o) (Number n) value.Unset y h k p q = absurd p
+combined_makes w operation (Pointer region o) (Number n) (value.Number i) y h k p q = absurd p
+combined_makes w operation (Pointer region o) (Number n) (value.Pointer other offset) value.Unset h k p q = absurd q
+combined_makes w operation (Pointer region o) (Number n) (value.Pointer other offset) (value.Pointer reg at) h k p q = absurd q
+combined_makes w operation (Pointer region o) (Number n) (value.Pointer other offset) (value.Number j) h k p q = shifted_makes w operation region other o n offset j p.0 (p.1, p.2) q
 
-combined_meant : (w : Width) (operation : Operation) (a b : Ends) → Meant a → Meant b → MeantIf (known.combined w operation a b)
-combined_meant w operation Nothing b h k = tt
-combined_meant w operation (Numbers m) Nothing h k = tt
-combined_meant w operation (Numbers m) (Pointers region o) h k = tt
-combined_meant w operation (Numbers m) (Numbers n) h k = table_set w operation m n h k
-combined_meant w operation (Pointers region o) Nothing h k = tt
-combined_meant w operation (Pointers region o) (Pointers other at) h k = tt
-combined_meant w operation (Pointers region o) (Numbers n) h k = shifted_meant w operation region o n
+combined_meant : (w : Width) (operation : Operation) (a b : AbsVal) → IsWell a → IsWell b → MeantIf (known.combined w operation a b)
+combined_meant w operation Unset b h k = tt
+combined_meant w operation (Number m) Unset h k = tt
+combined_meant w operation (Number m) (Pointer region o) h k = tt
+combined_meant w operation (Number m) (Number n) h k = table_set w operation m n h k
+combined_meant w operation (Pointer region o) Unset h k = tt
+combined_meant w operation (Pointer region o) (Pointer other at) h k = tt
+combined_meant w operation (Pointer region o) (Number n) h k = shifted_meant w operation region o n
 
-pub computed_makes : (w : Width) (operation : Operation) (a b : Ends) (x y : Value) → Meant a → Meant b → Stands a (first_operand operation x) → Stands b y →
+pub computed_makes : (w : Width) (operation : Operation) (a b : AbsVal) (x y : Value) → IsWell a → IsWell b → Contains a (first_operand operation x) → Contains b y →
     Makes (computed w operation a b) (combined w operation (first_operand operation x) y)
 computed_makes w Move a b x y h k p q = moved_makes w b y k q
 computed_makes w Add a b x y h k p q = combined_makes w Add a b x y h k p q
@@ -205,41 +207,41 @@ computed_makes w SignedMod a b x y h k p q = combined_makes w SignedMod a b x y 
 computed_makes w Xor a b x y h k p q = combined_makes w Xor a b x y h k p q
 computed_makes w ShiftSigned a b x y h k p q = combined_makes w ShiftSigned a b x y h k p q
 
-pub computed_meant : (w : Width) (operation : Operation) (a b : Ends) → Meant a → Meant b → MeantIf (computed w operation a b)
+pub computed_meant : (w : Width) (operation : Operation) (a b : AbsVal) → IsWell a → IsWell b → MeantIf (computed w operation a b)
 computed_meant w Move a b h k = moved_meant w b k
 computed_meant w operation a b h k = combined_meant w operation a b h k
 
 -- ---- one number from another
 
-mapped_makes : (f : NumberSet → NumberSet) (g : ℕ → ℕ) (a : Ends) (x : Value) → ((n : NumberSet) (i : ℕ) → IsSet n → Has n i → Has (f n) (g i)) → Meant a → Stands a x →
+mapped_makes : (f : NumberSet → NumberSet) (g : ℕ → ℕ) (a : AbsVal) (x : Value) → ((n : NumberSet) (i : ℕ) → IsSet n → Has n i → Has (f n) (g i)) → IsWell a → Contains a x →
     Makes (known.mapped f a) (mapped g x)
-mapped_makes f g Nothing x r h p = tt
-mapped_makes f g (Numbers n) value.Unset r h p = absurd p
-mapped_makes f g (Numbers n) (value.Number i) r h p = r n i h p
-mapped_makes f g (Numbers n) (value.Pointer region offset) r h p = absurd p
-mapped_makes f g (Pointers region o) x r h p = tt
+mapped_makes f g Unset x r h p = tt
+mapped_makes f g (Number n) value.Unset r h p = absurd p
+mapped_makes f g (Number n) (value.Number i) r h p = r n i h p
+mapped_makes f g (Number n) (value.Pointer region offset) r h p = absurd p
+mapped_makes f g (Pointer region o) x r h p = tt
 
-mapped_meant : (f : NumberSet → NumberSet) (a : Ends) → ((n : NumberSet) → IsSet n → IsSet (f n)) → Meant a → MeantIf (known.mapped f a)
-mapped_meant f Nothing r h = tt
-mapped_meant f (Numbers n) r h = r n h
-mapped_meant f (Pointers region o) r h = tt
+mapped_meant : (f : NumberSet → NumberSet) (a : AbsVal) → ((n : NumberSet) → IsSet n → IsSet (f n)) → IsWell a → MeantIf (known.mapped f a)
+mapped_meant f Unset r h = tt
+mapped_meant f (Number n) r h = r n h
+mapped_meant f (Pointer region o) r h = tt
 
-pub negated_makes : (w : Width) (a : Ends) (x : Value) → Meant a → Stands a x → Makes (negated_known w a) (mapped (negated w) x)
+pub negated_makes : (w : Width) (a : AbsVal) (x : Value) → IsWell a → Contains a x → Makes (negated_known w a) (mapped (negated w) x)
 negated_makes w a x h p = mapped_makes (negations w) (negated w) a x (negations_of w) h p
 
-pub negated_meant : (w : Width) (a : Ends) → Meant a → MeantIf (negated_known w a)
+pub negated_meant : (w : Width) (a : AbsVal) → IsWell a → MeantIf (negated_known w a)
 negated_meant w a h = mapped_meant (negations w) a (negations_set w) h
 
-pub extended_makes : (w : Width) (part : Narrow) (a : Ends) (x : Value) → Meant a → Stands a x → Makes (extended_known w part a) (mapped (sign_extended w part) x)
+pub extended_makes : (w : Width) (part : Narrow) (a : AbsVal) (x : Value) → IsWell a → Contains a x → Makes (extended_known w part a) (mapped (sign_extended w part) x)
 extended_makes w part a x h p = mapped_makes (extensions w part) (sign_extended w part) a x (extensions_of w part) h p
 
-pub extended_meant : (w : Width) (part : Narrow) (a : Ends) → Meant a → MeantIf (extended_known w part a)
+pub extended_meant : (w : Width) (part : Narrow) (a : AbsVal) → IsWell a → MeantIf (extended_known w part a)
 extended_meant w part a h = mapped_meant (extensions w part) a (extensions_set w part) h
 
-pub swapped_makes : (order : ByteOrder) (size : SwapSize) (a : Ends) (x : Value) → Meant a → Stands a x → Makes (swapped_known order size a) (mapped (swapped order size) x)
+pub swapped_makes : (order : ByteOrder) (size : SwapSize) (a : AbsVal) (x : Value) → IsWell a → Contains a x → Makes (swapped_known order size a) (mapped (swapped order size) x)
 swapped_makes order size a x h p = mapped_makes (swaps order size) (swapped order size) a x (swaps_of order size) h p
 
-pub swapped_meant : (order : ByteOrder) (size : SwapSize) (a : Ends) → Meant a → MeantIf (swapped_known order size a)
+pub swapped_meant : (order : ByteOrder) (size : SwapSize) (a : AbsVal) → IsWell a → MeantIf (swapped_known order size a)
 swapped_meant order size a h = mapped_meant (swaps order size) a (swaps_set order size) h
 
 -- ---- where two paths meet
@@ -259,14 +261,14 @@ most_high m n = (grind (arith, ints), grind (arith, ints))
 wider : (a b c d z : ℤ) → a ≤ℤ b → c ≤ℤ d → b ≤ℤ z → z ≤ℤ c → (a ≤ℤ z) × (z ≤ℤ d)
 wider a b c d z p q r s = (omega (arith, ints), omega (arith, ints))
 
-pub joined_meant : (a b : Ends) → Meant a → Meant b → Meant (joined a b)
-joined_meant Nothing b h k = tt
-joined_meant (Numbers m) Nothing h k = tt
-joined_meant (Numbers m) (Numbers n) h k = joined_set m n h k
-joined_meant (Numbers m) (Pointers region o) h k = tt
-joined_meant (Pointers region o) Nothing h k = tt
-joined_meant (Pointers region o) (Numbers n) h k = tt
-joined_meant (Pointers region o) (Pointers other at) h k = by_test Meant (is_same_region region other) _ _ (λ t. tt) (λ f. tt)
+pub joined_meant : (a b : AbsVal) → IsWell a → IsWell b → IsWell (joined a b)
+joined_meant Unset b h k = tt
+joined_meant (Number m) Unset h k = tt
+joined_meant (Number m) (Number n) h k = joined_set m n h k
+joined_meant (Number m) (Pointer region o) h k = tt
+joined_meant (Pointer region o) Unset h k = tt
+joined_meant (Pointer region o) (Number n) h k = tt
+joined_meant (Pointer region o) (Pointer other at) h k = by_test IsWell (is_same_region region other) _ _ (λ t. tt) (λ f. tt)
 
 numbers_kept : (m n : NumberSet) (v : Value) → ((i : ℕ) → Has m i → Has n i) → IsNumberOf m v → IsNumberOf n v
 numbers_kept m n value.Unset f h = h
@@ -278,24 +280,24 @@ pointers_kept region other m n value.Unset e p q h = h
 pointers_kept region other m n (value.Number i) e p q h = h
 pointers_kept region other m n (value.Pointer reg z) e p q h = let w = wider n.0 m.0 m.1 n.1 z p q h.1 h.2 in (h.0 ∙ e, w.0, w.1)
 
-pub left_stands : (a b : Ends) (v : Value) → Meant a → Meant b → Stands a v → Stands (joined a b) v
-left_stands Nothing b v h k p = tt
-left_stands (Numbers m) Nothing v h k p = tt
-left_stands (Numbers m) (Numbers n) v h k p = numbers_kept m _ v (λ i there. left_of m n i h k there) p
-left_stands (Numbers m) (Pointers region o) v h k p = tt
-left_stands (Pointers region o) Nothing v h k p = tt
-left_stands (Pointers region o) (Numbers n) v h k p = tt
-left_stands (Pointers region o) (Pointers other at) v h k p =
-    by_test (λ (e : Ends). Stands e v) (is_same_region region other) _ _
+pub left_stands : (a b : AbsVal) (v : Value) → IsWell a → IsWell b → Contains a v → Contains (joined a b) v
+left_stands Unset b v h k p = tt
+left_stands (Number m) Unset v h k p = tt
+left_stands (Number m) (Number n) v h k p = numbers_kept m _ v (λ i there. left_of m n i h k there) p
+left_stands (Number m) (Pointer region o) v h k p = tt
+left_stands (Pointer region o) Unset v h k p = tt
+left_stands (Pointer region o) (Number n) v h k p = tt
+left_stands (Pointer region o) (Pointer other at) v h k p =
+    by_test (λ (e : AbsVal). Contains e v) (is_same_region region other) _ _
     (λ t. pointers_kept region region o (joined_offsets o at) v refl (least_low o.0 at.0).0 (most_high o.1 at.1).0 p) (λ f. tt)
 
-pub right_stands : (a b : Ends) (v : Value) → Meant a → Meant b → Stands b v → Stands (joined a b) v
-right_stands Nothing b v h k p = tt
-right_stands (Numbers m) Nothing v h k p = tt
-right_stands (Numbers m) (Numbers n) v h k p = numbers_kept n _ v (λ i there. right_of m n i h k there) p
-right_stands (Numbers m) (Pointers region o) v h k p = tt
-right_stands (Pointers region o) Nothing v h k p = tt
-right_stands (Pointers region o) (Numbers n) v h k p = tt
-right_stands (Pointers region o) (Pointers other at) v h k p =
-    by_test (λ (e : Ends). Stands e v) (is_same_region region other) _ _
+pub right_stands : (a b : AbsVal) (v : Value) → IsWell a → IsWell b → Contains b v → Contains (joined a b) v
+right_stands Unset b v h k p = tt
+right_stands (Number m) Unset v h k p = tt
+right_stands (Number m) (Number n) v h k p = numbers_kept n _ v (λ i there. right_of m n i h k there) p
+right_stands (Number m) (Pointer region o) v h k p = tt
+right_stands (Pointer region o) Unset v h k p = tt
+right_stands (Pointer region o) (Number n) v h k p = tt
+right_stands (Pointer region o) (Pointer other at) v h k p =
+    by_test (λ (e : AbsVal). Contains e v) (is_same_region region other) _ _
     (λ t. pointers_kept other region at (joined_offsets o at) v (sym (same_region region other t)) (least_low o.0 at.0).1 (most_high o.1 at.1).1 p) (λ f. tt)

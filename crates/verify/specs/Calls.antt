@@ -1,5 +1,5 @@
 -- Calls of helpers, on what is known (own).
-use Rattle.std.specs.Prelude.{ℕ, ℤ, pos, ◌≡◌, ◌+◌, ◌*◌, ◌≤◌, ◌<◌, ◌&&◌, not, nat_lt, Bool, true, false, List, [], ◌∷◌, Option, Some, None, Result, Ok, Err, drop, slice_index_or}
+use Rattle.std.specs.Prelude.{ℕ, ℤ, pos, ◌≡◌, ◌+◌, ◌*◌, ◌≤◌, ◌<◌, ◌&&◌, not, nat_lt, Bool, true, false, List, [], ◌∷◌, Option, Some, None, Result, Ok, Err, drop}
 use Rattle.std.specs.Ordering.{int_eq}
 use Rattle.semantics.specs.declared.value.Region.{Region}
 use Rattle.semantics.specs.declared.value.Region.TheVariants.{Stack, Context}
@@ -10,16 +10,17 @@ use Rattle.absval.specs.declared.value.Offsets.{Offsets}
 use Rattle.absval.specs.declared.number_set.NumberSet.{NumberSet}
 use Rattle.absval.specs.NumberSets.{greatest, is_one}
 use Rattle.absval.specs.declared.value.AbsVal.{AbsVal}
-use Rattle.absval.specs.declared.value.AbsVal.TheVariants.{Unset, Number, Pointer}
 use Rattle.absval.specs.declared.windows.Window.{Window}
 use Rattle.absval.specs.Windows.{window_known}
 use Rattle.absmem.specs.Known.{Known, IsSetTo, spill_at, left_of}
 use Rattle.helper.specs.declared.argument.Argument.{Argument}
 use Rattle.helper.specs.Table.{bound_of, arguments_of}
+use Rattle.verify.specs.Registers.{known_at}
 use Rattle.verify.specs.MemoryTable.{all_bytes}
 use Rattle.verify.specs.declared.reason.Reason.{Reason}
 use Rattle.verify.specs.declared.reason.Reason.TheVariants as reason
 use Rattle.verify.specs.declared.state.AbsState.{AbsState}
+use Rattle.absval.specs.declared.value.AbsVal.TheVariants.{Unset, Number, Pointer}
 
 -- the answer of a check that has a reason to refuse, or none
 abbrev pub answer_of : Option Reason → Result (Unit {0}) Reason
@@ -35,9 +36,6 @@ or_reason (Some reason) other = Some reason
 abbrev pub reason_if : Bool → Reason → Option Reason
 reason_if true reason = Some reason
 reason_if false reason = None
-
-abbrev pub abstract_at : List AbsVal → ℕ → AbsVal
-abstract_at known r = slice_index_or known r Unset
 
 -- ---- arguments
 
@@ -57,7 +55,7 @@ taken_reason (Some argument) value = argument_reason (bound_of argument) value
 -- the first reason of the registers from r on
 abbrev pub arguments_reason : List (Option Argument) → ℕ → List AbsVal → Option Reason
 arguments_reason [] r known = None
-arguments_reason (argument ∷ arguments) r known = or_reason (taken_reason argument (abstract_at known r)) (arguments_reason arguments (r + 1) known)
+arguments_reason (argument ∷ arguments) r known = or_reason (taken_reason argument (known_at known r)) (arguments_reason arguments (r + 1) known)
 
 -- it is a number below the bound
 abbrev pub IsBelow : ℕ → AbsVal → Type 0
@@ -74,7 +72,7 @@ IsPointer (Pointer region offsets) = Unit {0}
 
 -- the cells that so many bytes may take at a pointer, where they all lie in its region
 abbrev pub window_from : Region → Offsets → ℕ → Option Window
-window_from region offsets size = window_known region offsets.low offsets.high (pos 0) size
+window_from region offsets size = window_known region offsets.0 offsets.1 (pos 0) size
 
 -- words are written to the stack
 abbrev pub target_reason : Region → Option Window → Option Reason
@@ -100,8 +98,8 @@ row_reason known (Pointer region offsets) (Number counts) = source_reason known 
 row_reason known _ _ = None
 
 abbrev pub window_reason : Helper → AbsState → Option Reason
-window_reason BoardCopy a = copy_reason (abstract_at a.registers 1) (abstract_at a.registers 2) (abstract_at a.registers 3)
-window_reason SendRow a = row_reason a.stack (abstract_at a.registers 2) (abstract_at a.registers 3)
+window_reason BoardCopy a = copy_reason (known_at a.registers 1) (known_at a.registers 2) (known_at a.registers 3)
+window_reason SendRow a = row_reason a.stack (known_at a.registers 2) (known_at a.registers 3)
 window_reason _ a = None
 
 -- ---- calls
@@ -121,9 +119,9 @@ abbrev pub known_behind : NumberSet → List AbsVal → List AbsVal
 known_behind numbers known = Number numbers ∷ Unset ∷ Unset ∷ Unset ∷ Unset ∷ Unset ∷ drop 6 known
 
 pub record IsBehind (numbers : NumberSet) (old new : List AbsVal) : Type 0 where
-  pub first : abstract_at new 0 ≡ Number numbers
-  pub unset : (r : ℕ) → 1 ≤ r → r ≤ 5 → abstract_at new r ≡ Unset
-  pub others : (r : ℕ) → 6 ≤ r → abstract_at new r ≡ abstract_at old r
+  pub first : known_at new 0 ≡ Number numbers
+  pub unset : (r : ℕ) → 1 ≤ r → r ≤ 5 → known_at new r ≡ Unset
+  pub others : (r : ℕ) → 6 ≤ r → known_at new r ≡ known_at old r
   pub whole : new ≡ known_behind numbers old
 
 -- bytes at one place are certain; elsewhere no more is known than before
@@ -142,7 +140,7 @@ IsWrittenTo certain (Some window) old new = IsWritten certain window old new
 
 -- pointer and count are one number each
 abbrev pub is_certain : Offsets → NumberSet → Bool
-is_certain offsets counts = int_eq offsets.low offsets.high && is_one counts
+is_certain offsets counts = int_eq offsets.0 offsets.1 && is_one counts
 
 abbrev pub IsCopied : AbsVal → AbsVal → Known → Known → Type 0
 IsCopied (Pointer region offsets) (Number counts) old new = IsWrittenTo (is_certain offsets counts) (window_from region offsets (8 * greatest counts)) old new
@@ -150,5 +148,5 @@ IsCopied _ _ old new = Unit {0}
 
 -- what a call leaves of the stack
 abbrev pub StackBehind : Helper → AbsState → Known → Type 0
-StackBehind BoardCopy a new = IsCopied (abstract_at a.registers 2) (abstract_at a.registers 3) a.stack new
+StackBehind BoardCopy a new = IsCopied (known_at a.registers 2) (known_at a.registers 3) a.stack new
 StackBehind _ a new = new ≡ a.stack

@@ -2,21 +2,13 @@
 use Rattle.std.specs.Prelude.{ℕ, ◌+◌, ◌/◌, ◌%◌, ◌==◌, ◌&&◌, Bool, true, false, nat_le, nat_lt, if◌then◌else◌, ℤ, map}
 use Rattle.semantics.specs.declared.value.Region.{Region}
 use Rattle.absval.specs.declared.value.AbsVal.{AbsVal}
-use Rattle.absval.specs.declared.value.AbsVal.TheVariants.{Unset, Number, Pointer}
 use Rattle.absval.specs.declared.windows.Window.{Window}
-use Rattle.absval.specs.Table.{Ends, Nothing, Numbers, Pointers}
 use Rattle.absmem.specs.declared.spill.Spill.{Spill}
 use Rattle.absmem.specs.declared.spill.Spill.TheVariants.{Free, Whole}
 use Rattle.absmem.specs.Known.{Known, byte_at, spill_at, left_of, joined_spill}
 use Rattle.verify.specs.declared.state.AbsState.{AbsState}
 use Rattle.verify.specs.Tables.{table}
-use Rattle.verify.specs.Registers.{seen, entry_known, joined_all}
-
--- the value with these ends
-abbrev pub value_of : Ends → AbsVal
-value_of Nothing = Unset
-value_of (Numbers n) = Number n
-value_of (Pointers region o) = Pointer region (record { low = o.0; high = o.1 })
+use Rattle.verify.specs.Registers.{entry_known, joined_all}
 
 -- ---- stacks
 
@@ -50,11 +42,11 @@ put_pointer place region offset known =
 
 -- at the entry r1 points to the context and r10 to the end of the stack, of which nothing is known
 abbrev pub at_entry : AbsState
-at_entry = record { registers = map value_of entry_known; stack = stack_of (λ k. false) (λ b. Free) }
+at_entry = record { registers = entry_known; stack = stack_of (λ k. false) (λ b. Free) }
 
 -- where two paths meet, what both know
 abbrev pub met : AbsState → AbsState → AbsState
 met a b = record {
-  registers = map value_of (joined_all (seen a.registers) (seen b.registers));
+  registers = joined_all a.registers b.registers;
   stack = stack_of (λ k. byte_at a.stack.bytes k && byte_at b.stack.bytes k) (λ n. joined_spill (spill_at a.stack.spills n) (spill_at b.stack.spills n));
 }

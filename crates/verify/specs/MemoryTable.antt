@@ -12,26 +12,23 @@ use Rattle.semantics.specs.declared.value.Region.{Region}
 use Rattle.semantics.specs.declared.value.Region.TheVariants.{Stack, Context}
 use Rattle.absval.specs.declared.value.Offsets.{Offsets}
 use Rattle.absval.specs.declared.value.AbsVal.{AbsVal}
-use Rattle.absval.specs.declared.value.AbsVal.TheVariants.{Pointer}
 use Rattle.insn.specs.declared.insn.Operand.{Operand}
 use Rattle.absval.specs.declared.windows.Window.{Window}
-use Rattle.absval.specs.Table.{Ends, Nothing, Numbers, Pointers, ends_of, loaded_known}
+use Rattle.absval.specs.Table.{loaded_known}
 use Rattle.absval.specs.Windows.{window_known}
 use Rattle.absmem.specs.declared.spill.Spill.{Spill}
 use Rattle.absmem.specs.declared.spill.Spill.TheVariants.{Whole}
 use Rattle.absmem.specs.Known.{Known, byte_at, spill_at, IsSetTo, left_of, pointer_of}
 use Rattle.verify.specs.declared.reason.Reason.{Reason}
-use Rattle.verify.specs.declared.reason.Reason.TheVariants.{Unset, FrameWrite, PointerUse, Bounds, StackUnset, ContextWrite}
+use Rattle.verify.specs.declared.reason.Reason.TheVariants as reason
+use Rattle.verify.specs.declared.reason.Reason.TheVariants.{FrameWrite, PointerUse, Bounds, StackUnset, ContextWrite}
 use Rattle.verify.specs.declared.state.AbsState.{AbsState}
-use Rattle.verify.specs.Registers.{seen, known_at, operand_known}
+use Rattle.verify.specs.Registers.{known_at, operand_known}
+use Rattle.absval.specs.declared.value.AbsVal.TheVariants.{Unset, Number, Pointer}
 
 abbrev pub pointer_in : AbsVal → Result (Region × Offsets) Reason
 pointer_in (Pointer region offsets) = Ok (region, offsets)
 pointer_in _ = Err PointerUse
-
-abbrev pub ends_given : Result AbsVal Reason → Result Ends Reason
-ends_given (Ok a) = Ok (ends_of a)
-ends_given (Err reason) = Err reason
 
 -- ---- loads: the base is a pointer, the window lies in its region, and the cells are there
 
@@ -45,53 +42,53 @@ abbrev pub unset_in : Known → Region → Window → Option Reason
 unset_in known Context w = None
 unset_in known Stack w = if all_bytes known.bytes w.place w.size then None else Some StackUnset
 
-abbrev pub unless : Option Reason → Ends → Result Ends Reason
+abbrev pub unless : Option Reason → AbsVal → Result AbsVal Reason
 unless None numbers = Ok numbers
 unless (Some reason) numbers = Err reason
 
 -- the pointer whose pieces 0 to 7 stand from the place on
-abbrev pub spilled_at : Known → ℕ → Option Ends
-spilled_at known place = option_map (λ p. Pointers p.0 (p.1, p.1)) (pointer_of (place % 8) (spill_at known.spills (place / 8)))
+abbrev pub spilled_at : Known → ℕ → Option AbsVal
+spilled_at known place = option_map (λ p. Pointer p.0 (p.1, p.1)) (pointer_of (place % 8) (spill_at known.spills (place / 8)))
 
 -- eight bytes at one address, where the window is no wider than they are, find a pointer
-abbrev pub spilled : Known → Size → Window → Option Ends
+abbrev pub spilled : Known → Size → Window → Option AbsVal
 spilled known Double w = if w.size == 8 then spilled_at known w.place else None
 spilled known Byte w = None
 spilled known Half w = None
 spilled known Word w = None
 
-abbrev pub pointer_or : Option Ends → Result Ends Reason → Result Ends Reason
+abbrev pub pointer_or : Option AbsVal → Result AbsVal Reason → Result AbsVal Reason
 pointer_or (Some pointer) number = Ok pointer
 pointer_or None number = number
 
-abbrev pub stack_given : Known → Size → Window → Result Ends Reason
+abbrev pub stack_given : Known → Size → Window → Result AbsVal Reason
 stack_given known size w = pointer_or (spilled known size w) (unless (unset_in known Stack w) (loaded_known size))
 
-abbrev pub load_from : Known → Size → Region → Option Window → Result Ends Reason
+abbrev pub load_from : Known → Size → Region → Option Window → Result AbsVal Reason
 load_from known size region None = Err Bounds
 load_from known size Context (Some w) = Ok (loaded_known size)
 load_from known size Stack (Some w) = stack_given known size w
 
 -- what a load gives
-abbrev pub load_given : Known → Size → Ends → ℤ → Result Ends Reason
-load_given known size Nothing distance = Err PointerUse
-load_given known size (Numbers n) distance = Err PointerUse
-load_given known size (Pointers region at) distance =
+abbrev pub load_given : Known → Size → AbsVal → ℤ → Result AbsVal Reason
+load_given known size Unset distance = Err PointerUse
+load_given known size (Number n) distance = Err PointerUse
+load_given known size (Pointer region at) distance =
     load_from known size region (window_known region at.0 at.1 distance (bytes_of size))
 
 -- all numbers
-abbrev pub all_numbers : Ends
-all_numbers = Numbers any
+abbrev pub all_numbers : AbsVal
+all_numbers = Number any
 
-abbrev pub signed_from : Known → Region → Option Window → Result Ends Reason
+abbrev pub signed_from : Known → Region → Option Window → Result AbsVal Reason
 signed_from known region None = Err Bounds
 signed_from known region (Some w) = unless (unset_in known region w) all_numbers
 
 -- what a load gives that extends by the sign: no pointer
-abbrev pub signed_load_given : Known → Narrow → Ends → ℤ → Result Ends Reason
-signed_load_given known part Nothing distance = Err PointerUse
-signed_load_given known part (Numbers n) distance = Err PointerUse
-signed_load_given known part (Pointers region at) distance =
+abbrev pub signed_load_given : Known → Narrow → AbsVal → ℤ → Result AbsVal Reason
+signed_load_given known part Unset distance = Err PointerUse
+signed_load_given known part (Number n) distance = Err PointerUse
+signed_load_given known part (Pointer region at) distance =
     signed_from known region (window_known region at.0 at.1 distance (part_bytes part))
 
 -- ---- stores: the base is a pointer, a pointer is stored whole, no context is written, and the window lies in the stack
@@ -113,12 +110,12 @@ pointer_refused size region at distance stored =
     if is_storable size at stored then write_refused region (window_known region at.0 at.1 distance 8) else Some PointerUse
 
 -- why a value may not be stored, if so
-abbrev pub store_refused : Size → Ends → ℤ → Ends → Option Reason
-store_refused size Nothing distance value = Some PointerUse
-store_refused size (Numbers n) distance value = Some PointerUse
-store_refused size (Pointers region at) distance Nothing = Some Unset
-store_refused size (Pointers region at) distance (Numbers n) = write_refused region (window_known region at.0 at.1 distance (bytes_of size))
-store_refused size (Pointers region at) distance (Pointers other stored) = pointer_refused size region at distance stored
+abbrev pub store_refused : Size → AbsVal → ℤ → AbsVal → Option Reason
+store_refused size Unset distance value = Some PointerUse
+store_refused size (Number n) distance value = Some PointerUse
+store_refused size (Pointer region at) distance Unset = Some reason.Unset
+store_refused size (Pointer region at) distance (Number n) = write_refused region (window_known region at.0 at.1 distance (bytes_of size))
+store_refused size (Pointer region at) distance (Pointer other stored) = pointer_refused size region at distance stored
 
 -- each pointer of which a cell lies from one place up to another is forgotten
 abbrev pub Forgets : ℕ → ℕ → List Spill → List Spill → Type 0
@@ -150,32 +147,32 @@ StoresPointer old region offset None new = ⊥
 StoresPointer old region offset (Some w) new = HasPutPointer w.place region offset old new
 
 -- what a store leaves
-abbrev pub Stores : Known → Size → Ends → ℤ → Ends → Known → Type 0
-Stores old size Nothing distance value new = ⊥
-Stores old size (Numbers n) distance value new = ⊥
-Stores old size (Pointers region at) distance Nothing new = ⊥
-Stores old size (Pointers region at) distance (Numbers n) new = StoresNumber old (bytes_of size) (window_known region at.0 at.1 distance (bytes_of size)) new
-Stores old size (Pointers region at) distance (Pointers other stored) new = StoresPointer old other stored.0 (window_known region at.0 at.1 distance 8) new
+abbrev pub Stores : Known → Size → AbsVal → ℤ → AbsVal → Known → Type 0
+Stores old size Unset distance value new = ⊥
+Stores old size (Number n) distance value new = ⊥
+Stores old size (Pointer region at) distance Unset new = ⊥
+Stores old size (Pointer region at) distance (Number n) new = StoresNumber old (bytes_of size) (window_known region at.0 at.1 distance (bytes_of size)) new
+Stores old size (Pointer region at) distance (Pointer other stored) new = StoresPointer old other stored.0 (window_known region at.0 at.1 distance 8) new
 
 -- ---- the instructions' checks in their order: what is read is set, r10 is not written, and then these
 
-abbrev pub unset_or : Ends → Option Reason → Option Reason
-unset_or Nothing next = Some Unset
-unset_or (Numbers n) next = next
-unset_or (Pointers region at) next = next
+abbrev pub unset_or : AbsVal → Option Reason → Option Reason
+unset_or Unset next = Some reason.Unset
+unset_or (Number n) next = next
+unset_or (Pointer region at) next = next
 
 abbrev pub frame_or : ℕ → Option Reason → Option Reason
 frame_or dst next = if dst == 10 then Some FrameWrite else next
 
 abbrev pub load_reason : AbsState → Size → ℕ → ℕ → ℤ → Option Reason
 load_reason state size dst base offset =
-    unset_or (known_at (seen state.registers) base) (frame_or dst (result_err (load_given state.stack size (known_at (seen state.registers) base) offset)))
+    unset_or (known_at state.registers base) (frame_or dst (result_err (load_given state.stack size (known_at state.registers base) offset)))
 
 abbrev pub signed_load_reason : AbsState → Narrow → ℕ → ℕ → ℤ → Option Reason
 signed_load_reason state part dst base offset =
-    unset_or (known_at (seen state.registers) base) (frame_or dst (result_err (signed_load_given state.stack part (known_at (seen state.registers) base) offset)))
+    unset_or (known_at state.registers base) (frame_or dst (result_err (signed_load_given state.stack part (known_at state.registers base) offset)))
 
 abbrev pub store_reason : AbsState → Size → ℕ → ℤ → Operand → Option Reason
 store_reason state size base offset source =
-    unset_or (known_at (seen state.registers) base) (unset_or (operand_known (seen state.registers) source)
-    (store_refused size (known_at (seen state.registers) base) offset (operand_known (seen state.registers) source)))
+    unset_or (known_at state.registers base) (unset_or (operand_known state.registers source)
+    (store_refused size (known_at state.registers base) offset (operand_known state.registers source)))

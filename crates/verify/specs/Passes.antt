@@ -7,7 +7,7 @@ use Rattle.absmem.specs.declared.spill.Spill.TheVariants.{Free}
 use Rattle.verify.specs.declared.error.VerifyError.{VerifyError}
 use Rattle.verify.specs.declared.reason.Reason.{Reason}
 use Rattle.verify.specs.declared.state.AbsState.{AbsState}
-use Rattle.verify.specs.Registers.{seen, entry_known}
+use Rattle.verify.specs.Registers.{entry_known}
 use Rattle.verify.specs.declared.error.VerifyError.TheVariants.{At}
 use Rattle.verify.specs.Kept.{Kept}
 use Rattle.verify.specs.Flow.{kept_at, Flows}
@@ -15,7 +15,7 @@ use Rattle.verify.specs.Instructions.{reason_of, UnitFlows}
 
 -- at the entry r1 points to the context, r10 to the end of the stack, of which nothing is known
 pub record IsEntry (a : AbsState) : Type 0 where
-  pub registers : seen a.registers ≡ entry_known
+  pub registers : a.registers ≡ entry_known
   pub bytes : a.stack.bytes ≡ replicate 512 false
   pub spills : a.stack.spills ≡ replicate 64 Free
 

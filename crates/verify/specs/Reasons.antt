@@ -3,11 +3,14 @@ use Rattle.std.specs.Prelude.{ℕ, ◌≡◌, ◌==◌, Bool, true, false, if◌
 use Rattle.word.specs.declared.Width.{Width}
 use Rattle.word.specs.declared.Operation.{Operation}
 use Rattle.insn.specs.declared.insn.Operand.{Operand}
-use Rattle.absval.specs.Table.{Ends, Nothing, Numbers, Pointers, computed}
+use Rattle.absval.specs.Table.{computed}
 use Rattle.verify.specs.declared.reason.Reason.{Reason}
-use Rattle.verify.specs.declared.reason.Reason.TheVariants.{Unset, FrameWrite, PointerUse, ExitPointer}
+use Rattle.verify.specs.declared.reason.Reason.TheVariants as reason
+use Rattle.verify.specs.declared.reason.Reason.TheVariants.{FrameWrite, PointerUse, ExitPointer}
 use Rattle.verify.specs.declared.state.AbsState.{AbsState}
-use Rattle.verify.specs.Registers.{seen, operand_known, first_known}
+use Rattle.verify.specs.Registers.{operand_known, first_known}
+use Rattle.absval.specs.declared.value.AbsVal.TheVariants.{Unset, Number, Pointer}
+use Rattle.absval.specs.declared.value.AbsVal.{AbsVal}
 
 -- a test, and the reason that stands where it holds
 abbrev pub Check : Type 0
@@ -18,37 +21,37 @@ abbrev pub first_reason : List Check → Option Reason
 first_reason [] = None
 first_reason (check ∷ checks) = if check.0 then Some check.1 else first_reason checks
 
-abbrev pub is_unset : Ends → Bool
-is_unset Nothing = true
-is_unset (Numbers n) = false
-is_unset (Pointers region o) = false
+abbrev pub is_unset : AbsVal → Bool
+is_unset Unset = true
+is_unset (Number n) = false
+is_unset (Pointer region o) = false
 
-abbrev pub is_pointer : Ends → Bool
-is_pointer Nothing = false
-is_pointer (Numbers n) = false
-is_pointer (Pointers region o) = true
+abbrev pub is_pointer : AbsVal → Bool
+is_pointer Unset = false
+is_pointer (Number n) = false
+is_pointer (Pointer region o) = true
 
 -- the value is set, the register that is written is not the frame pointer, and the table gives something
-abbrev pub made_checks : ℕ → Ends → Option Ends → List Check
-made_checks dst value made = (is_unset value, Unset) ∷ (dst == 10, FrameWrite) ∷ (is_none made, PointerUse) ∷ []
+abbrev pub made_checks : ℕ → AbsVal → Option AbsVal → List Check
+made_checks dst value made = (is_unset value, reason.Unset) ∷ (dst == 10, FrameWrite) ∷ (is_none made, PointerUse) ∷ []
 
-abbrev pub arithmetic_checks : List Ends → Width → Operation → ℕ → Operand → List Check
+abbrev pub arithmetic_checks : List AbsVal → Width → Operation → ℕ → Operand → List Check
 arithmetic_checks known w operation dst operand =
-    (is_unset (first_known known operation dst), Unset)
+    (is_unset (first_known known operation dst), reason.Unset)
     ∷ made_checks dst (operand_known known operand) (computed w operation (first_known known operation dst) (operand_known known operand))
 
 abbrev pub write_checks : ℕ → List Check
 write_checks dst = (dst == 10, FrameWrite) ∷ []
 
 -- both values are set, and numbers
-abbrev pub compare_checks : Ends → Ends → List Check
-compare_checks a b = (is_unset a, Unset) ∷ (is_unset b, Unset) ∷ (is_pointer a, PointerUse) ∷ (is_pointer b, PointerUse) ∷ []
+abbrev pub compare_checks : AbsVal → AbsVal → List Check
+compare_checks a b = (is_unset a, reason.Unset) ∷ (is_unset b, reason.Unset) ∷ (is_pointer a, PointerUse) ∷ (is_pointer b, PointerUse) ∷ []
 
 -- r0 is a number
-abbrev pub exit_checks : Ends → List Check
-exit_checks r0 = (is_unset r0, Unset) ∷ (is_pointer r0, ExitPointer) ∷ []
+abbrev pub exit_checks : AbsVal → List Check
+exit_checks r0 = (is_unset r0, reason.Unset) ∷ (is_pointer r0, ExitPointer) ∷ []
 
 -- dst is known to hold that, and all else is as before
-abbrev pub Assigns : AbsState → ℕ → Option Ends → AbsState → Type 0
+abbrev pub Assigns : AbsState → ℕ → Option AbsVal → AbsState → Type 0
 Assigns old dst None new = ⊥
-Assigns old dst (Some value) new = (seen new.registers ≡ slice_set (seen old.registers) dst value) × (new.stack ≡ old.stack)
+Assigns old dst (Some value) new = (new.registers ≡ slice_set old.registers dst value) × (new.stack ≡ old.stack)

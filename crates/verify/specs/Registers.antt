@@ -1,4 +1,4 @@
--- What is known of the registers, by its ends, and what a conditional jump tells of it (own).
+-- What is known of the registers, and what a conditional jump tells of it (own).
 use Rattle.std.specs.Prelude.{ℕ, pos, ◌<◌, ◌≡◌, ◌==◌, Bool, if◌then◌else◌, List, [], ◌∷◌, Option, Some, map, option_map, slice_index_or, slice_set}
 use Rattle.std.specs.Int.{w64, cast_unsigned}
 use Rattle.word.specs.declared.Width.{Width}
@@ -11,62 +11,60 @@ use Rattle.insn.specs.declared.insn.Operand.{Operand}
 use Rattle.insn.specs.declared.insn.Operand.TheVariants.{Register, Immediate}
 use Rattle.semantics.specs.declared.value.Region.TheVariants.{Stack, Context}
 use Rattle.absval.specs.declared.value.AbsVal.{AbsVal}
-use Rattle.absval.specs.Table.{Ends, Nothing, Numbers, Pointers, ends_of, joined, immediate_known}
+use Rattle.absval.specs.Table.{joined, immediate_known}
 use Rattle.verify.specs.declared.comparison.Comparison.{Comparison}
 use Rattle.verify.specs.Tables.{table}
+use Rattle.absval.specs.declared.value.AbsVal.TheVariants.{Unset, Number, Pointer}
 
--- what is known of each register
-abbrev pub seen : List AbsVal → List Ends
-seen registers = map ends_of registers
+-- what is known of a register
+abbrev pub known_at : List AbsVal → ℕ → AbsVal
+known_at known r = slice_index_or known r Unset
 
-abbrev pub known_at : List Ends → ℕ → Ends
-known_at known r = slice_index_or known r Nothing
-
-abbrev pub operand_known : List Ends → Operand → Ends
+abbrev pub operand_known : List AbsVal → Operand → AbsVal
 operand_known known (Register r) = known_at known r
 operand_known known (Immediate n) = immediate_known n
 
 -- of what an operation reads of dst: MOV reads nothing there
-abbrev pub first_known : List Ends → Operation → ℕ → Ends
-first_known known Move dst = Numbers (single 0)
+abbrev pub first_known : List AbsVal → Operation → ℕ → AbsVal
+first_known known Move dst = Number (single 0)
 first_known known _ dst = known_at known dst
 
 -- at the entry r1 points to the context and r10 to the end of the stack
-abbrev pub entry_known : List Ends
+abbrev pub entry_known : List AbsVal
 entry_known =
-    Nothing ∷ Pointers Context (pos 0, pos 0) ∷ Nothing ∷ Nothing ∷ Nothing ∷ Nothing ∷ Nothing ∷ Nothing ∷ Nothing ∷ Nothing
-    ∷ Pointers Stack (pos 0, pos 0) ∷ []
+    Unset ∷ Pointer Context (pos 0, pos 0) ∷ Unset ∷ Unset ∷ Unset ∷ Unset ∷ Unset ∷ Unset ∷ Unset ∷ Unset
+    ∷ Pointer Stack (pos 0, pos 0) ∷ []
 
 -- where two paths meet, each register is joined
-abbrev pub joined_all : List Ends → List Ends → List Ends
+abbrev pub joined_all : List AbsVal → List AbsVal → List AbsVal
 joined_all known other = table 11 (λ r. joined (known_at known r) (known_at other r))
 
 -- so it is of the first n registers
 abbrev pub Joins : List AbsVal → List AbsVal → List AbsVal → ℕ → Type 0
-Joins old other new n = (r : ℕ) → r < n → known_at (seen new) r ≡ joined (known_at (seen old) r) (known_at (seen other) r)
+Joins old other new n = (r : ℕ) → r < n → known_at new r ≡ joined (known_at old r) (known_at other r)
 
 -- ---- the edges of a conditional jump: nothing where the edge is not followed
 
 -- numbers are refined, others stay
-abbrev pub refined_known : Width → Condition → Bool → Ends → Ends → Option (Ends × Ends)
-refined_known w condition way (Numbers m) (Numbers n) = option_map (λ e. (Numbers e.0, Numbers e.1)) (refined w condition way m n)
+abbrev pub refined_known : Width → Condition → Bool → AbsVal → AbsVal → Option (AbsVal × AbsVal)
+refined_known w condition way (Number m) (Number n) = option_map (λ e. (Number e.0, Number e.1)) (refined w condition way m n)
 refined_known w condition way a b = Some (a, b)
 
 -- a register is compared with a number, of which the jump's width is used
-abbrev pub number_edge : Width → Condition → Bool → List Ends → ℕ → ℕ → Option (List Ends)
+abbrev pub number_edge : Width → Condition → Bool → List AbsVal → ℕ → ℕ → Option (List AbsVal)
 number_edge w condition way known dst n =
-    option_map (λ e. slice_set known dst e.0) (refined_known w condition way (known_at known dst) (Numbers (single (taken w n))))
+    option_map (λ e. slice_set known dst e.0) (refined_known w condition way (known_at known dst) (Number (single (taken w n))))
 
 -- a register is compared with another; of itself it tells nothing
-abbrev pub register_edge : Width → Condition → Bool → List Ends → ℕ → ℕ → Option (List Ends)
+abbrev pub register_edge : Width → Condition → Bool → List AbsVal → ℕ → ℕ → Option (List AbsVal)
 register_edge w condition way known dst src =
     if dst == src then Some known
     else option_map (λ e. slice_set (slice_set known dst e.0) src e.1) (refined_known w condition way (known_at known dst) (known_at known src))
 
-abbrev pub edge_by : Width → Condition → Bool → List Ends → ℕ → Operand → Option (List Ends)
+abbrev pub edge_by : Width → Condition → Bool → List AbsVal → ℕ → Operand → Option (List AbsVal)
 edge_by w condition way known dst (Register src) = register_edge w condition way known dst src
 edge_by w condition way known dst (Immediate n) = number_edge w condition way known dst (cast_unsigned w64 n)
 
 -- what the registers hold where the jump is taken, or is not
-abbrev pub edge_known : Comparison → Bool → List Ends → Option (List Ends)
+abbrev pub edge_known : Comparison → Bool → List AbsVal → Option (List AbsVal)
 edge_known c way known = edge_by c.width c.condition way known c.dst c.operand

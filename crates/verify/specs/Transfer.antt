@@ -12,23 +12,22 @@ use Rattle.semantics.specs.Call.{helper_of}
 use Rattle.helper.specs.Results.{returned_range}
 use Rattle.absval.specs.NumberSets.{single, within, greatest}
 use Rattle.absval.specs.declared.value.AbsVal.{AbsVal}
-use Rattle.absval.specs.declared.value.AbsVal.TheVariants.{Number, Pointer}
 use Rattle.absval.specs.declared.windows.Window.{Window}
-use Rattle.absval.specs.Table.{Ends, Numbers, Pointers, computed, negated_known, extended_known, swapped_known}
+use Rattle.absval.specs.Table.{computed, negated_known, extended_known, swapped_known}
 use Rattle.absval.specs.Windows.{window_known}
 use Rattle.absmem.specs.Known.{Known}
 use Rattle.verify.specs.declared.comparison.Comparison.{Comparison}
 use Rattle.verify.specs.declared.state.AbsState.{AbsState}
-use Rattle.verify.specs.Registers.{seen, known_at, operand_known, first_known, edge_known}
+use Rattle.verify.specs.Registers.{known_at, operand_known, first_known, edge_known}
 use Rattle.verify.specs.MemoryTable.{load_given, signed_load_given}
 use Rattle.verify.specs.Calls.{is_certain, window_from, known_behind}
-use Rattle.verify.specs.Calls.{abstract_at as argument}
-use Rattle.verify.specs.Knowledge.{value_of, put_bytes, spread_bytes, put_pointer}
+use Rattle.verify.specs.Knowledge.{put_bytes, spread_bytes, put_pointer}
+use Rattle.absval.specs.declared.value.AbsVal.TheVariants.{Number, Pointer}
 
 -- a register takes a value, where there is one
-abbrev pub assigned : AbsState → ℕ → Option Ends → AbsState
+abbrev pub assigned : AbsState → ℕ → Option AbsVal → AbsState
 assigned a dst None = a
-assigned a dst (Some value) = record { registers = slice_set a.registers dst (value_of value); stack = a.stack }
+assigned a dst (Some value) = record { registers = slice_set a.registers dst value; stack = a.stack }
 
 -- ---- stores
 
@@ -41,9 +40,9 @@ abbrev pub pointer_stored : Region → ℤ → Option Window → Known → Known
 pointer_stored region offset None known = known
 pointer_stored region offset (Some w) known = put_pointer w.place region offset known
 
-abbrev pub stored : Size → Ends → ℤ → Ends → Known → Known
-stored size (Pointers region at) distance (Numbers n) known = number_stored (bytes_of size) (window_known region at.0 at.1 distance (bytes_of size)) known
-stored size (Pointers region at) distance (Pointers other kept) known = pointer_stored other kept.0 (window_known region at.0 at.1 distance 8) known
+abbrev pub stored : Size → AbsVal → ℤ → AbsVal → Known → Known
+stored size (Pointer region at) distance (Number n) known = number_stored (bytes_of size) (window_known region at.0 at.1 distance (bytes_of size)) known
+stored size (Pointer region at) distance (Pointer other kept) known = pointer_stored other kept.0 (window_known region at.0 at.1 distance 8) known
 stored size base distance value known = known
 
 -- ---- calls
@@ -60,7 +59,7 @@ copied target counts known = known
 
 -- of the helpers, the one that copies words of the board writes to the stack
 abbrev pub stack_behind : Helper → AbsState → Known
-stack_behind BoardCopy a = copied (argument a.registers 2) (argument a.registers 3) a.stack
+stack_behind BoardCopy a = copied (known_at a.registers 2) (known_at a.registers 3) a.stack
 stack_behind helper a = a.stack
 
 abbrev pub called : Option Helper → AbsState → AbsState
@@ -72,21 +71,21 @@ called (Some helper) a = record { registers = known_behind (within (returned_ran
 -- what an instruction leaves that goes on behind itself
 abbrev pub follows : Insn → AbsState → AbsState
 follows (Arithmetic w operation dst operand) a =
-    assigned a dst (computed w operation (first_known (seen a.registers) operation dst) (operand_known (seen a.registers) operand))
-follows (Negate w dst) a = assigned a dst (negated_known w (known_at (seen a.registers) dst))
-follows (SignExtend w part dst src) a = assigned a dst (extended_known w part (known_at (seen a.registers) src))
-follows (Swap order size dst) a = assigned a dst (swapped_known order size (known_at (seen a.registers) dst))
-follows (LoadNumber dst number) a = assigned a dst (Some (Numbers (single number)))
-follows (Load size dst base offset) a = assigned a dst (result_ok (load_given a.stack size (known_at (seen a.registers) base) offset))
-follows (LoadSigned part dst base offset) a = assigned a dst (result_ok (signed_load_given a.stack part (known_at (seen a.registers) base) offset))
+    assigned a dst (computed w operation (first_known a.registers operation dst) (operand_known a.registers operand))
+follows (Negate w dst) a = assigned a dst (negated_known w (known_at a.registers dst))
+follows (SignExtend w part dst src) a = assigned a dst (extended_known w part (known_at a.registers src))
+follows (Swap order size dst) a = assigned a dst (swapped_known order size (known_at a.registers dst))
+follows (LoadNumber dst number) a = assigned a dst (Some (Number (single number)))
+follows (Load size dst base offset) a = assigned a dst (result_ok (load_given a.stack size (known_at a.registers base) offset))
+follows (LoadSigned part dst base offset) a = assigned a dst (result_ok (signed_load_given a.stack part (known_at a.registers base) offset))
 follows (Store size base offset source) a =
-    record { registers = a.registers; stack = stored size (known_at (seen a.registers) base) offset (operand_known (seen a.registers) source) a.stack }
+    record { registers = a.registers; stack = stored size (known_at a.registers base) offset (operand_known a.registers source) a.stack }
 follows (Call number) a = called (helper_of number) a
 follows i a = a
 
 -- what a conditional jump tells where it is taken, or is not: nothing where that cannot be
 abbrev pub narrowed : Comparison → Bool → AbsState → Option AbsState
-narrowed c taken a = option_map (λ known. record { registers = map value_of known; stack = a.stack }) (edge_known c taken (seen a.registers))
+narrowed c taken a = option_map (λ known. record { registers = known; stack = a.stack }) (edge_known c taken a.registers)
 
 -- a unit, and what is known along an edge that leads there
 abbrev pub Edge : Type 0

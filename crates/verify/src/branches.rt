@@ -1,9 +1,8 @@
 //! What a conditional jump tells of the registers that it compares.
-ghost use Rattle.std.specs.Prelude.{◌≡◌, option_map, unwrap_or, is_some};
+ghost use Rattle.std.specs.Prelude.{◌≡◌, unwrap_or, is_some};
 ghost use Rattle.std.specs.Int.{w64, cast_unsigned};
 ghost use Rattle.word.specs.Arithmetic.{taken as used};
-ghost use Rattle.absval.specs.Table.{ends_of};
-ghost use Rattle.verify.specs.Registers.{seen, refined_known, number_edge, register_edge, edge_known};
+ghost use Rattle.verify.specs.Registers.{refined_known, number_edge, register_edge, edge_known};
 
 use crate::comparison::Comparison;
 use crate::registers::{read, write};
@@ -20,7 +19,7 @@ fn refine_values(
     a: AbsVal,
     b: AbsVal,
 ) -> Option<(AbsVal, AbsVal)>
-    ensures { option_map (λ p. (ends_of p.0, ends_of p.1)) result ≡ refined_known width condition taken (ends_of a) (ends_of b) }
+    ensures { result ≡ refined_known width condition taken a b }
 {
     let AbsVal::Number(m) = a else {
         return Some((a, b));
@@ -51,8 +50,8 @@ fn refine_by_number(
     dst: Reg,
     number: i32,
 ) -> bool
-    ensures followed { result ≡ is_some (number_edge compared.0 compared.1 taken (seen registers.old) dst (cast_unsigned w64 number)) }
-    ensures left { seen registers.new ≡ unwrap_or (number_edge compared.0 compared.1 taken (seen registers.old) dst (cast_unsigned w64 number)) (seen registers.old) }
+    ensures followed { result ≡ is_some (number_edge compared.0 compared.1 taken registers.old dst (cast_unsigned w64 number)) }
+    ensures left { registers.new ≡ unwrap_or (number_edge compared.0 compared.1 taken registers.old dst (cast_unsigned w64 number)) registers.old }
 {
     let first = read(registers, dst);
     let second = AbsVal::Number(NumberSet::exactly(used_number(compared.0, number)));
@@ -71,8 +70,8 @@ fn refine_registers(
     dst: Reg,
     src: Reg,
 ) -> bool
-    ensures followed { result ≡ is_some (register_edge compared.0 compared.1 taken (seen registers.old) dst src) }
-    ensures left { seen registers.new ≡ unwrap_or (register_edge compared.0 compared.1 taken (seen registers.old) dst src) (seen registers.old) }
+    ensures followed { result ≡ is_some (register_edge compared.0 compared.1 taken registers.old dst src) }
+    ensures left { registers.new ≡ unwrap_or (register_edge compared.0 compared.1 taken registers.old dst src) registers.old }
 {
     if dst.number() == src.number() {
         return true;
@@ -89,8 +88,8 @@ fn refine_registers(
 
 /// Narrows the registers to what they may hold on an edge of the jump, and answers whether it may be taken at all.
 pub fn refine(registers: &mut [AbsVal; 11], compared: &Comparison, taken: bool) -> bool
-    ensures followed { result ≡ is_some (edge_known compared.now taken (seen registers.old)) }
-    ensures left { seen registers.new ≡ unwrap_or (edge_known compared.now taken (seen registers.old)) (seen registers.old) }
+    ensures followed { result ≡ is_some (edge_known compared.now taken registers.old) }
+    ensures left { registers.new ≡ unwrap_or (edge_known compared.now taken registers.old) registers.old }
 {
     let how = (compared.width, compared.condition);
     match compared.operand {

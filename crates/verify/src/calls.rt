@@ -6,7 +6,8 @@ ghost use Rattle.absval.specs.Contains.{is_number};
 ghost use Rattle.absval.specs.Windows.{room_of};
 ghost use Rattle.helper.specs.Table.{bound_of, arguments_of};
 ghost use Rattle.helper.specs.Results.{returned_range};
-ghost use Rattle.verify.specs.Calls.{answer_of, argument_reason, taken_reason, arguments_reason, abstract_at, IsBelow, IsPointer, window_from, target_reason, source_reason, copy_reason, row_reason, window_reason, call_reason, is_certain, IsBehind, IsWrittenTo, IsCopied, StackBehind};
+ghost use Rattle.verify.specs.Registers.{known_at};
+ghost use Rattle.verify.specs.Calls.{answer_of, argument_reason, taken_reason, arguments_reason, IsBelow, IsPointer, window_from, target_reason, source_reason, copy_reason, row_reason, window_reason, call_reason, is_certain, IsBehind, IsWrittenTo, IsCopied, StackBehind};
 
 use crate::reason::Reason;
 use crate::state::AbsState;
@@ -53,7 +54,7 @@ fn check_taken(argument: Option<Argument>, value: AbsVal) -> Result<(), Reason>
 /// What is known of a register.
 fn known(registers: &[AbsVal; 11], r: usize) -> AbsVal
     requires { r < 11 }
-    ensures { result ≡ abstract_at registers.now r }
+    ensures { result ≡ known_at registers.now r }
 {
     registers[r]
 }

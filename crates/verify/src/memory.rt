@@ -3,9 +3,8 @@ ghost use Rattle.std.specs.Prelude.{◌≡◌, ◌+◌, ◌≤◌, ◌↔◌, So
 ghost use Rattle.std.specs.Option.{ok_or};
 ghost use Rattle.std.specs.Result.{result_err};
 ghost use Rattle.insn.specs.Insn.{bytes_of, part_bytes};
-ghost use Rattle.absval.specs.Table.{ends_of, offset_ends};
 ghost use Rattle.absval.specs.Windows.{room_of, window_known};
-ghost use Rattle.verify.specs.MemoryTable.{pointer_in, ends_given, unset_in, spilled, stack_given, load_given, all_numbers, signed_load_given, write_refused, pointer_refused, store_refused, StoresNumber, StoresPointer, Stores};
+ghost use Rattle.verify.specs.MemoryTable.{pointer_in, unset_in, spilled, stack_given, load_given, all_numbers, signed_load_given, write_refused, pointer_refused, store_refused, StoresNumber, StoresPointer, Stores};
 
 use crate::reason::Reason;
 use absmem::AbsStack;
@@ -52,9 +51,9 @@ fn pointer_of(base: AbsVal) -> Result<(Region, Offsets), Reason>
 /// The cells that an access may touch.
 fn window(region: Region, offsets: Offsets, distance: i16, size: usize) -> Result<Window, Reason>
     requires { size ≤ 8 }
-    ensures exact { result ≡ ok_or (window_known region offsets.low offsets.high distance size) Reason.Bounds }
+    ensures exact { result ≡ ok_or (window_known region offsets.0 offsets.1 distance size) Reason.Bounds }
     ensures fits { IfOk result (λ w. w.place + w.size ≤ room_of region) }
-    ensures single { IfOk result (λ w. offsets.low ≡ offsets.high → w.size ≡ size) }
+    ensures single { IfOk result (λ w. offsets.0 ≡ offsets.1 → w.size ≡ size) }
 {
     let Some(window) = window_of(region, offsets, distance, size) else {
         return Err(Reason::Bounds);
@@ -65,7 +64,7 @@ fn window(region: Region, offsets: Offsets, distance: i16, size: usize) -> Resul
 /// The pointer that a load of eight bytes at one address finds.
 fn stored_pointer(stack: &AbsStack, size: Size, window: Window) -> Option<AbsVal>
     requires { window.place + window.size ≤ 512 }
-    ensures { option_map ends_of result ≡ spilled stack.now size window }
+    ensures { result ≡ spilled stack.now size window }
 {
     let Size::Double = size else {
         return None;
@@ -74,17 +73,13 @@ fn stored_pointer(stack: &AbsStack, size: Size, window: Window) -> Option<AbsVal
         return None;
     }
     let (region, offset) = stack.pointer_at(window.place)?;
-    let offsets = Offsets {
-        low: offset,
-        high: offset,
-    };
-    Some(AbsVal::Pointer(region, offsets))
+    Some(AbsVal::Pointer(region, Offsets::exactly(offset)))
 }
 
 /// What a load from the stack gives.
 fn load_stack(stack: &AbsStack, size: Size, window: Window) -> Result<AbsVal, Reason>
     requires { window.place + window.size ≤ 512 }
-    ensures { ends_given result ≡ stack_given stack.now size window }
+    ensures { result ≡ stack_given stack.now size window }
 {
     if let Some(pointer) = stored_pointer(stack, size, window) {
         return Ok(pointer);
@@ -97,7 +92,7 @@ fn load_stack(stack: &AbsStack, size: Size, window: Window) -> Result<AbsVal, Re
 
 /// What a load gives.
 pub fn load(stack: &AbsStack, size: Size, base: AbsVal, distance: i16) -> Result<AbsVal, Reason>
-    ensures { ends_given result ≡ load_given stack.now size (ends_of base) distance }
+    ensures { result ≡ load_given stack.now size base distance }
 {
     let (region, offsets) = pointer_of(base)?;
     let window = window(region, offsets, distance, bytes(size))?;
@@ -109,7 +104,7 @@ pub fn load(stack: &AbsStack, size: Size, base: AbsVal, distance: i16) -> Result
 
 /// What extending so many loaded bytes by their sign may give: any number.
 fn extended(part: Narrow) -> AbsVal
-    ensures { ends_of result ≡ all_numbers }
+    ensures { result ≡ all_numbers }
 {
     AbsVal::Number(NumberSet::any().sign_extend(Width::W64, part))
 }
@@ -137,7 +132,7 @@ pub fn load_signed(
     base: AbsVal,
     distance: i16,
 ) -> Result<AbsVal, Reason>
-    ensures { ends_given result ≡ signed_load_given stack.now part (ends_of base) distance }
+    ensures { result ≡ signed_load_given stack.now part base distance }
 {
     let (region, offsets) = pointer_of(base)?;
     let window = window(region, offsets, distance, bytes_of_part(part))?;
@@ -153,10 +148,10 @@ fn stack_window(
     size: usize,
 ) -> Result<Window, Reason>
     requires { size ≤ 8 }
-    ensures refused { result_err result ≡ write_refused region (window_known region offsets.low offsets.high distance size) }
-    ensures there { IfOk result (λ w. window_known region offsets.low offsets.high distance size ≡ Some w) }
+    ensures refused { result_err result ≡ write_refused region (window_known region offsets.0 offsets.1 distance size) }
+    ensures there { IfOk result (λ w. window_known region offsets.0 offsets.1 distance size ≡ Some w) }
     ensures fits { IfOk result (λ w. w.place + w.size ≤ 512) }
-    ensures single { IfOk result (λ w. offsets.low ≡ offsets.high → w.size ≡ size) }
+    ensures single { IfOk result (λ w. offsets.0 ≡ offsets.1 → w.size ≡ size) }
 {
     match region {
         Region::Context => Err(Reason::ContextWrite),
@@ -171,8 +166,8 @@ fn store_number(
     base: (Region, Offsets),
     distance: i16,
 ) -> Result<(), Reason>
-    ensures refused { result_err result ≡ write_refused base.0 (window_known base.0 base.1.low base.1.high distance (bytes_of size)) }
-    ensures left { OnOk result (StoresNumber stack.old (bytes_of size) (window_known base.0 base.1.low base.1.high distance (bytes_of size)) stack.new) }
+    ensures refused { result_err result ≡ write_refused base.0 (window_known base.0 base.1.0 base.1.1 distance (bytes_of size)) }
+    ensures left { OnOk result (StoresNumber stack.old (bytes_of size) (window_known base.0 base.1.0 base.1.1 distance (bytes_of size)) stack.new) }
     ensures kept { OnErr result (stack.new ≡ stack.old) }
 {
     let window = stack_window(base.0, base.1, distance, bytes(size))?;
@@ -186,7 +181,7 @@ fn store_number(
 
 /// Whether a pointer may have one offset only.
 fn is_one(offsets: Offsets) -> bool
-    ensures { IsTrue result ↔ (offsets.low ≡ offsets.high) }
+    ensures { IsTrue result ↔ (offsets.0 ≡ offsets.1) }
 {
     offsets.low == offsets.high
 }
@@ -199,8 +194,8 @@ fn store_pointer(
     distance: i16,
     pointer: (Region, Offsets),
 ) -> Result<(), Reason>
-    ensures refused { result_err result ≡ pointer_refused size base.0 (offset_ends base.1) distance (offset_ends pointer.1) }
-    ensures left { OnOk result (StoresPointer stack.old pointer.0 pointer.1.low (window_known base.0 base.1.low base.1.high distance 8) stack.new) }
+    ensures refused { result_err result ≡ pointer_refused size base.0 base.1 distance pointer.1 }
+    ensures left { OnOk result (StoresPointer stack.old pointer.0 pointer.1.0 (window_known base.0 base.1.0 base.1.1 distance 8) stack.new) }
     ensures kept { OnErr result (stack.new ≡ stack.old) }
 {
     let Size::Double = size else {
@@ -210,7 +205,7 @@ fn store_pointer(
         return Err(Reason::PointerUse);
     }
     let window = stack_window(base.0, base.1, distance, 8)?;
-    stack.put_pointer(window.place, pointer.0, pointer.1.low);
+    stack.put_pointer(window.place, pointer.0, pointer.1.least());
     Ok(())
 }
 
@@ -222,8 +217,8 @@ pub fn store(
     distance: i16,
     value: AbsVal,
 ) -> Result<(), Reason>
-    ensures refused { result_err result ≡ store_refused size (ends_of base) distance (ends_of value) }
-    ensures left { OnOk result (Stores stack.old size (ends_of base) distance (ends_of value) stack.new) }
+    ensures refused { result_err result ≡ store_refused size base distance value }
+    ensures left { OnOk result (Stores stack.old size base distance value stack.new) }
     ensures kept { OnErr result (stack.new ≡ stack.old) }
 {
     let base = pointer_of(base)?;

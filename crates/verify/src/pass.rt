@@ -1,7 +1,7 @@
 //! The forward pass.
 ghost use Rattle.std.specs.Prelude.{◌≡◌, ◌<◌, ◌+◌, ◌⊎◌, pos, ◌<ℤ◌, ◌+ℤ◌, length, IfErr, OnOk, option_map};
 ghost use Rattle.std.specs.Result.{result_err};
-ghost use Rattle.verify.specs.Registers.{seen, known_at, operand_known, edge_known};
+ghost use Rattle.verify.specs.Registers.{known_at, operand_known, edge_known};
 ghost use Rattle.verify.specs.Reasons.{first_reason, compare_checks, exit_checks};
 ghost use Rattle.verify.specs.Flow.{JumpFlows, EdgeFlows, BranchFlows, Answers, kept_at};
 ghost use Rattle.verify.specs.Instructions.{IsStraight, straight_reason, reason_of, StraightFlows, StateFlows, AnswersAt, UnitFlows};
@@ -62,7 +62,7 @@ fn pass_edge(
 )
     requires { unit < length pending.old.items }
     ensures length { length pending.new.items ≡ length pending.old.items }
-    ensures exact { EdgeFlows (edge_known compared.now taken (seen state.value.registers)) state.value unit pending.old.items pending.new.items }
+    ensures exact { EdgeFlows (edge_known compared.now taken state.value.registers) state.value unit pending.old.items pending.new.items }
 {
     if branches::refine(&mut state.registers, compared, taken) {
         flow(pending, unit, state);
@@ -82,7 +82,7 @@ fn pass_branch(
     requires forward { pos unit <ℤ (pos (unit + 1) +ℤ distance) }
     requires edges { EdgesInside (branch_of compared.now distance) unit (length pending.old.items) }
     ensures length { length pending.new.items ≡ length pending.old.items }
-    ensures refused { Answers (first_reason (compare_checks (known_at (seen state.value.registers) compared.now.dst) (operand_known (seen state.value.registers) compared.now.operand))) unit result }
+    ensures refused { Answers (first_reason (compare_checks (known_at state.value.registers compared.now.dst) (operand_known state.value.registers compared.now.operand))) unit result }
     ensures flows { OnOk result (BranchFlows compared.now distance state.value unit pending.old.items pending.new.items) }
 {
     if let Err(reason) = steps::compare(&state, compared) {
@@ -99,7 +99,7 @@ fn pass_branch(
 
 /// The program ends.
 fn pass_exit(unit: usize, state: Box<AbsState>) -> Result<(), VerifyError>
-    ensures { result_err result ≡ option_map (λ r. VerifyError.At r unit) (first_reason (exit_checks (known_at (seen state.value.registers) 0))) }
+    ensures { result_err result ≡ option_map (λ r. VerifyError.At r unit) (first_reason (exit_checks (known_at state.value.registers 0))) }
 {
     if let Err(reason) = steps::exit(&state) {
         return Err(VerifyError::At(reason, unit));

@@ -1,8 +1,8 @@
 //! What is known of the registers.
 ghost use Rattle.std.specs.Prelude.{◌≡◌, false, slice_set, replicate};
 ghost use Rattle.absmem.specs.declared.spill.Spill.{Spill};
-ghost use Rattle.absval.specs.Table.{ends_of, joined};
-ghost use Rattle.verify.specs.Registers.{seen, known_at, operand_known, first_known, entry_known, joined_all};
+ghost use Rattle.absval.specs.Table.{joined};
+ghost use Rattle.verify.specs.Registers.{known_at, operand_known, first_known, entry_known, joined_all};
 
 use crate::state::AbsState;
 use absmem::AbsStack;
@@ -16,7 +16,7 @@ const AT_ZERO: Offsets = Offsets { low: 0, high: 0 };
 
 /// What is known at the entry: r1 points to the context, r10 to the end of the stack, of which nothing is known.
 pub fn at_entry() -> AbsState
-    ensures registers { seen result.registers ≡ entry_known }
+    ensures registers { result.registers ≡ entry_known }
     ensures bytes { result.stack.bytes ≡ replicate 512 false }
     ensures spills { result.stack.spills ≡ replicate 64 Spill.Free }
 {
@@ -31,14 +31,14 @@ pub fn at_entry() -> AbsState
 
 /// What is known of a register.
 pub fn read(registers: &[AbsVal; 11], r: Reg) -> AbsVal
-    ensures { ends_of result ≡ known_at (seen registers.now) r }
+    ensures { result ≡ known_at registers.now r }
 {
     registers[r.number() as usize]
 }
 
 /// What is known of an operand.
 pub fn operand(registers: &[AbsVal; 11], operand: Operand) -> AbsVal
-    ensures { ends_of result ≡ operand_known (seen registers.now) operand }
+    ensures { result ≡ operand_known registers.now operand }
 {
     match operand {
         Operand::Register(r) => read(registers, r),
@@ -48,7 +48,7 @@ pub fn operand(registers: &[AbsVal; 11], operand: Operand) -> AbsVal
 
 /// What is known of what an operation reads of dst: a move reads nothing there.
 pub fn first(registers: &[AbsVal; 11], operation: Operation, dst: Reg) -> AbsVal
-    ensures { ends_of result ≡ first_known (seen registers.now) operation dst }
+    ensures { result ≡ first_known registers.now operation dst }
 {
     match operation {
         Operation::Move => AbsVal::Number(NumberSet::exactly(0)),
@@ -65,7 +65,7 @@ pub fn write(registers: &mut [AbsVal; 11], r: Reg, value: AbsVal)
 
 /// What is known where two paths meet.
 pub fn join(registers: &mut [AbsVal; 11], other: &[AbsVal; 11])
-    ensures { seen registers.new ≡ joined_all (seen registers.old) (seen other.now) }
+    ensures { registers.new ≡ joined_all registers.old other.now }
 {
     for i in 0..11 {
         join_one(&mut registers[i], &other[i]);
@@ -74,7 +74,7 @@ pub fn join(registers: &mut [AbsVal; 11], other: &[AbsVal; 11])
 
 /// The same of one register: where nothing is known of it, it stays, and the other is not looked at.
 fn join_one(register: &mut AbsVal, other: &AbsVal)
-    ensures { ends_of register.new ≡ joined (ends_of register.old) (ends_of other.now) }
+    ensures { register.new ≡ joined register.old other.now }
 {
     match register {
         AbsVal::Unset => {}

@@ -3,8 +3,8 @@ ghost use Rattle.std.specs.Prelude.{◌≡◌, [], ◌∷◌, OnOk, OnErr, Some,
 ghost use Rattle.std.specs.Result.{result_ok, result_err};
 ghost use Rattle.absval.specs.NumberSets.{single};
 ghost use Rattle.absval.specs.Contains.{is_number};
-ghost use Rattle.absval.specs.Table.{Numbers, ends_of, computed, negated_known, extended_known, swapped_known};
-ghost use Rattle.verify.specs.Registers.{seen, known_at, operand_known, first_known};
+ghost use Rattle.absval.specs.Table.{computed, negated_known, extended_known, swapped_known};
+ghost use Rattle.verify.specs.Registers.{known_at, operand_known, first_known};
 ghost use Rattle.verify.specs.Reasons.{first_reason, is_unset, made_checks, arithmetic_checks, write_checks, compare_checks, exit_checks, Assigns};
 ghost use Rattle.verify.specs.MemoryTable.{load_given, signed_load_given, Stores, load_reason, signed_load_reason, store_reason};
 ghost use Rattle.verify.specs.Instructions.{IsStraight, straight_reason, Becomes};
@@ -19,7 +19,7 @@ use word::{ByteOrder, Narrow, Operation, SwapSize, Width};
 
 /// A register that is read is set.
 fn check_set(value: &AbsVal) -> Result<(), Reason>
-    ensures { result_err result ≡ first_reason ((is_unset (ends_of value.now), Reason.Unset) ∷ []) }
+    ensures { result_err result ≡ first_reason ((is_unset value.now, Reason.Unset) ∷ []) }
 {
     match value {
         AbsVal::Unset => Err(Reason::Unset),
@@ -49,7 +49,7 @@ fn check_writable(dst: Reg) -> Result<(), Reason>
 
 /// Writes a result into a register.
 fn put(state: &mut AbsState, dst: Reg, value: AbsVal)
-    ensures { Assigns state.old dst (Some (ends_of value)) state.new }
+    ensures { Assigns state.old dst (Some value) state.new }
 {
     registers::write(&mut state.registers, dst, value);
 }
@@ -61,8 +61,8 @@ fn put_made(
     value: &AbsVal,
     made: Option<AbsVal>,
 ) -> Result<(), Reason>
-    ensures refused { result_err result ≡ first_reason (made_checks dst (ends_of value.now) (option_map ends_of made)) }
-    ensures left { OnOk result (Assigns state.old dst (option_map ends_of made) state.new) }
+    ensures refused { result_err result ≡ first_reason (made_checks dst value.now made) }
+    ensures left { OnOk result (Assigns state.old dst made state.new) }
     ensures kept { OnErr result (state.new ≡ state.old) }
 {
     check_set(value)?;
@@ -81,8 +81,8 @@ fn arithmetic(
     dst: Reg,
     operand: Operand,
 ) -> Result<(), Reason>
-    ensures refused { result_err result ≡ first_reason (arithmetic_checks (seen state.old.registers) width operation dst operand) }
-    ensures left { OnOk result (Assigns state.old dst (computed width operation (first_known (seen state.old.registers) operation dst) (operand_known (seen state.old.registers) operand)) state.new) }
+    ensures refused { result_err result ≡ first_reason (arithmetic_checks state.old.registers width operation dst operand) }
+    ensures left { OnOk result (Assigns state.old dst (computed width operation (first_known state.old.registers operation dst) (operand_known state.old.registers operand)) state.new) }
     ensures kept { OnErr result (state.new ≡ state.old) }
 {
     let first = registers::first(&state.registers, operation, dst);
@@ -93,8 +93,8 @@ fn arithmetic(
 }
 
 fn negate(state: &mut AbsState, width: Width, dst: Reg) -> Result<(), Reason>
-    ensures refused { result_err result ≡ first_reason (made_checks dst (known_at (seen state.old.registers) dst) (negated_known width (known_at (seen state.old.registers) dst))) }
-    ensures left { OnOk result (Assigns state.old dst (negated_known width (known_at (seen state.old.registers) dst)) state.new) }
+    ensures refused { result_err result ≡ first_reason (made_checks dst (known_at state.old.registers dst) (negated_known width (known_at state.old.registers dst))) }
+    ensures left { OnOk result (Assigns state.old dst (negated_known width (known_at state.old.registers dst)) state.new) }
     ensures kept { OnErr result (state.new ≡ state.old) }
 {
     let value = registers::read(&state.registers, dst);
@@ -109,8 +109,8 @@ fn sign_extend(
     dst: Reg,
     src: Reg,
 ) -> Result<(), Reason>
-    ensures refused { result_err result ≡ first_reason (made_checks dst (known_at (seen state.old.registers) src) (extended_known width part (known_at (seen state.old.registers) src))) }
-    ensures left { OnOk result (Assigns state.old dst (extended_known width part (known_at (seen state.old.registers) src)) state.new) }
+    ensures refused { result_err result ≡ first_reason (made_checks dst (known_at state.old.registers src) (extended_known width part (known_at state.old.registers src))) }
+    ensures left { OnOk result (Assigns state.old dst (extended_known width part (known_at state.old.registers src)) state.new) }
     ensures kept { OnErr result (state.new ≡ state.old) }
 {
     let value = registers::read(&state.registers, src);
@@ -119,8 +119,8 @@ fn sign_extend(
 }
 
 fn swap(state: &mut AbsState, order: ByteOrder, size: SwapSize, dst: Reg) -> Result<(), Reason>
-    ensures refused { result_err result ≡ first_reason (made_checks dst (known_at (seen state.old.registers) dst) (swapped_known order size (known_at (seen state.old.registers) dst))) }
-    ensures left { OnOk result (Assigns state.old dst (swapped_known order size (known_at (seen state.old.registers) dst)) state.new) }
+    ensures refused { result_err result ≡ first_reason (made_checks dst (known_at state.old.registers dst) (swapped_known order size (known_at state.old.registers dst))) }
+    ensures left { OnOk result (Assigns state.old dst (swapped_known order size (known_at state.old.registers dst)) state.new) }
     ensures kept { OnErr result (state.new ≡ state.old) }
 {
     let value = registers::read(&state.registers, dst);
@@ -130,7 +130,7 @@ fn swap(state: &mut AbsState, order: ByteOrder, size: SwapSize, dst: Reg) -> Res
 
 fn load_number(state: &mut AbsState, dst: Reg, number: u64) -> Result<(), Reason>
     ensures refused { result_err result ≡ first_reason (write_checks dst) }
-    ensures left { OnOk result (Assigns state.old dst (Some (Numbers (single number))) state.new) }
+    ensures left { OnOk result (Assigns state.old dst (Some (AbsVal.Number (single number))) state.new) }
     ensures kept { OnErr result (state.new ≡ state.old) }
 {
     check_writable(dst)?;
@@ -140,7 +140,7 @@ fn load_number(state: &mut AbsState, dst: Reg, number: u64) -> Result<(), Reason
 
 fn load(state: &mut AbsState, size: Size, dst: Reg, base: Reg, offset: i16) -> Result<(), Reason>
     ensures refused { result_err result ≡ load_reason state.old size dst base offset }
-    ensures left { OnOk result (Assigns state.old dst (result_ok (load_given state.old.stack size (known_at (seen state.old.registers) base) offset)) state.new) }
+    ensures left { OnOk result (Assigns state.old dst (result_ok (load_given state.old.stack size (known_at state.old.registers base) offset)) state.new) }
     ensures kept { OnErr result (state.new ≡ state.old) }
 {
     let pointer = registers::read(&state.registers, base);
@@ -159,7 +159,7 @@ fn load_signed(
     offset: i16,
 ) -> Result<(), Reason>
     ensures refused { result_err result ≡ signed_load_reason state.old part dst base offset }
-    ensures left { OnOk result (Assigns state.old dst (result_ok (signed_load_given state.old.stack part (known_at (seen state.old.registers) base) offset)) state.new) }
+    ensures left { OnOk result (Assigns state.old dst (result_ok (signed_load_given state.old.stack part (known_at state.old.registers base) offset)) state.new) }
     ensures kept { OnErr result (state.new ≡ state.old) }
 {
     let pointer = registers::read(&state.registers, base);
@@ -178,7 +178,7 @@ fn store(
     source: Operand,
 ) -> Result<(), Reason>
     ensures refused { result_err result ≡ store_reason state.old size base offset source }
-    ensures left { OnOk result (Stores state.old.stack size (known_at (seen state.old.registers) base) offset (operand_known (seen state.old.registers) source) state.new.stack) }
+    ensures left { OnOk result (Stores state.old.stack size (known_at state.old.registers base) offset (operand_known state.old.registers source) state.new.stack) }
     ensures registers { state.new.registers ≡ state.old.registers }
     ensures kept { OnErr result (state.new ≡ state.old) }
 {
@@ -239,7 +239,7 @@ pub fn straight(state: &mut AbsState, insn: &Insn) -> Result<(), Reason>
 
 /// Two values are compared.
 pub fn compare(state: &AbsState, compared: &Comparison) -> Result<(), Reason>
-    ensures { result_err result ≡ first_reason (compare_checks (known_at (seen state.now.registers) compared.now.dst) (operand_known (seen state.now.registers) compared.now.operand)) }
+    ensures { result_err result ≡ first_reason (compare_checks (known_at state.now.registers compared.now.dst) (operand_known state.now.registers compared.now.operand)) }
 {
     let first = registers::read(&state.registers, compared.dst);
     let second = registers::operand(&state.registers, compared.operand);
@@ -251,7 +251,7 @@ pub fn compare(state: &AbsState, compared: &Comparison) -> Result<(), Reason>
 
 /// The program ends with r0.
 pub fn exit(state: &AbsState) -> Result<(), Reason>
-    ensures { result_err result ≡ first_reason (exit_checks (known_at (seen state.now.registers) 0)) }
+    ensures { result_err result ≡ first_reason (exit_checks (known_at state.now.registers 0)) }
 {
     match state.registers[0] {
         AbsVal::Number(_) => Ok(()),

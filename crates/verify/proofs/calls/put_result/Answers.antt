@@ -1,10 +1,10 @@
 use Rattle.std.proofs.Common.{arith, ◌≡◌, ◌≢◌, ◌<◌, ◌∙◌, refl, ap, length, length-set, get_or-set_other}
 use Rattle.absval.specs.declared.value.AbsVal.{AbsVal}
-use Rattle.absval.specs.declared.value.AbsVal.TheVariants.{Unset, Number}
 use Rattle.absval.specs.NumberSets.{within}
 use Rattle.verify.proofs.Zips.{at_set}
 use Rattle.verify.proofs.TableLemmas.{behind_whole}
 use Rattle.verify.proofs.calls.put_result.Goals as goal
+use Rattle.absval.specs.declared.value.AbsVal.TheVariants.{Unset, Number}
 
 pub loop-r-init : goal.loop-r-init
 loop-r-init c =

@@ -1,9 +1,9 @@
 use Rattle.std.proofs.Common.{arith, refl, ◌≡◌, ◌∙◌, ◌<◌, length, length-set, get_or}
 use Rattle.std.proofs.lemmas.List.{ext_get_or}
 use Rattle.absval.specs.declared.value.AbsVal.{AbsVal}
-use Rattle.absval.specs.declared.value.AbsVal.TheVariants.{Unset}
 use Rattle.verify.proofs.Zips.{at_set, at_read}
 use Rattle.verify.proofs.registers.assign.Goals as goal
+use Rattle.absval.specs.declared.value.AbsVal.TheVariants.{Unset}
 
 pub loop-i-preserved : goal.loop-i-preserved
 loop-i-preserved c =

@@ -1,6 +1,6 @@
 use Rattle.std.proofs.Common.{ℕ, ◌<◌, ◌≡◌, length, get_or}
-use Rattle.absval.specs.declared.value.AbsVal.TheVariants.{Unset}
 use Rattle.verify.proofs.registers.assign.Given as goal
+use Rattle.absval.specs.declared.value.AbsVal.TheVariants.{Unset}
 
 abbrev pub invariant-loop-i : goal.invariant-loop-i
 invariant-loop-i l = record {

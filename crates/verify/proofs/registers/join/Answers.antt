@@ -1,8 +1,8 @@
 use Rattle.std.proofs.Common.{arith, ◌≢◌, get_or-set_other, ◌<◌, length, length-set}
-use Rattle.absval.specs.declared.value.AbsVal.TheVariants.{Unset}
-use Rattle.verify.proofs.Seen.{join_step}
+use Rattle.verify.proofs.TableLemmas.{join_step}
 use Rattle.verify.proofs.TableLemmas.{joins_all}
 use Rattle.verify.proofs.registers.join.Goals as goal
+use Rattle.absval.specs.declared.value.AbsVal.TheVariants.{Unset}
 
 pub loop-i-preserved : goal.loop-i-preserved
 loop-i-preserved c =

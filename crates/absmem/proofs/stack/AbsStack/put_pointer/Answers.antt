@@ -1,6 +1,4 @@
-use Rattle.std.proofs.Common.{◌≡◌, ℤ, ◌/◌, ◌%◌, set, sym, subst}
-use Rattle.std.specs.Int.{w32}
-use Rattle.std.proofs.lemmas.Int.{to_z-of_z}
+use Rattle.std.proofs.Common.{◌≡◌, ◌∙◌, ℤ, ◌/◌, ◌%◌, set, sym, subst, rules, w32, to_z, of_z}
 use Rattle.absmem.specs.declared.spill.Spill.TheVariants.{Whole}
 use Rattle.absmem.specs.Known.{Known}
 use Rattle.absmem.specs.Describes.{Describes}
@@ -10,7 +8,9 @@ use Rattle.absmem.proofs.stack.AbsStack.put_pointer.Goals as goal
 pub returns-clause-holds : goal.returns-clause-holds
 returns-clause-holds c =
     λ cells described long.
+    let field : to_z w32 (of_z w32 c.offset.inside.at) ≡ c.offset.inside.at = search rules in
+    let here : to_z w32 (of_z w32 c.offset.inside.at) ≡ c.args.offset = field ∙ c.offset.view_is in
     described_pointer (record { bytes = c.self.inside.bytes; spills = c.self.inside.spills }) _ c.clear.new.spills cells c.args.place c.args.region c.args.offset c.set.ensures.window
     c.clear.ensures.size c.clear.ensures.each
-    (subst (λ (o : ℤ). c.put.new.spills ≡ set c.clear.new.spills (c.args.place / 8) (Whole (c.args.place % 8) c.args.region o)) (to_z-of_z w32 c.args.offset c.ranges.offset) c.put.ensures) c.requires.within long
+    (subst (λ (o : ℤ). c.put.new.spills ≡ set c.clear.new.spills (c.args.place / 8) (Whole (c.args.place % 8) c.args.region o)) here c.put.ensures) c.requires.within long
     (subst (λ (known : Known). Describes known cells) (sym c.self.view_is) described)
