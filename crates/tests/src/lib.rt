@@ -10,7 +10,11 @@ mod bytecode;
 #[cfg(test)]
 mod cells;
 #[cfg(test)]
+mod edges;
+#[cfg(test)]
 mod helpers;
+#[cfg(test)]
+mod known_bits;
 #[cfg(test)]
 mod labels;
 #[cfg(test)]

@@ -1,52 +1,398 @@
-//! Ranges of words, and what a jump tells of them.
+//! The table of ranges: rows for each line and case of it, at the ends of what each case asks.
 
 use range::Range;
-use range::edges::refine;
 use range::operate::operate;
 use range::unary::{negate, sign_extend, swap};
-use range::used::of_width;
-use word::{ByteOrder, Condition, Narrow, Operation, SwapSize, Width};
-
-const BYTE: (u64, u64) = (0, 255);
+use word::{ByteOrder, Narrow, Operation, SwapSize, Width};
 
 /// An operation on two ranges, and the range of its results, each by its ends.
-const OPERATIONS: &[(Width, Operation, (u64, u64), (u64, u64), (u64, u64))] = &[
-    (Width::W64, Operation::And, BYTE, (7, 7), (0, 7)),
-    (Width::W64, Operation::Or, BYTE, (5, 300), (5, 511)),
-    (Width::W64, Operation::Mod, BYTE, (1, 64), (0, 63)),
+type Row = (Width, Operation, (u64, u64), (u64, u64), (u64, u64));
+
+/// Sums, differences and products: without a carry, with one, and where only some have one.
+const SUMS: &[Row] = &[
+    (
+        Width::W64,
+        Operation::Add,
+        (2, u64::MAX - 9),
+        (3, 9),
+        (5, u64::MAX),
+    ),
+    (
+        Width::W64,
+        Operation::Add,
+        (u64::MAX - 5, u64::MAX - 4),
+        (5, 5),
+        (0, u64::MAX),
+    ),
+    (
+        Width::W64,
+        Operation::Add,
+        (u64::MAX - 4, u64::MAX - 2),
+        (5, 9),
+        (0, 6),
+    ),
+    (Width::W64, Operation::Add, (2, 20), (3, 9), (5, 29)),
+    (
+        Width::W64,
+        Operation::Add,
+        (u64::MAX - 3, u64::MAX - 2),
+        (9, 12),
+        (5, 9),
+    ),
+    (Width::W64, Operation::Sub, (20, 30), (4, 9), (11, 26)),
     (
         Width::W64,
         Operation::Sub,
-        (7, 7),
-        (8, 9),
-        (u64::MAX - 1, u64::MAX),
+        (2, 4),
+        (6, 9),
+        (u64::MAX - 6, u64::MAX - 1),
+    ),
+    (Width::W64, Operation::Mul, (2, 3), (5, 7), (10, 21)),
+    (Width::W64, Operation::Sub, (9, 20), (4, 9), (0, 16)),
+    (Width::W64, Operation::Sub, (5, 6), (6, 6), (0, u64::MAX)),
+    (
+        Width::W64,
+        Operation::Sub,
+        (2, 5),
+        (6, 9),
+        (u64::MAX - 6, u64::MAX),
+    ),
+    (
+        Width::W64,
+        Operation::Mul,
+        (2, 3),
+        (5, 0x5555_5555_5555_5555),
+        (10, u64::MAX),
+    ),
+    (
+        Width::W64,
+        Operation::Mul,
+        (2, 0x1_0000_0000),
+        (3, 0x1_0000_0000),
+        (0, u64::MAX),
     ),
     (
         Width::W32,
         Operation::Add,
-        (0x1_0000_0001, 0x1_0000_0002),
-        (7, 7),
-        (8, 9),
-    ),
-    (Width::W64, Operation::ShiftLeft, (1, 1), (65, 65), (2, 2)),
-    (
-        Width::W32,
-        Operation::Mul,
-        BYTE,
-        (0, 0x100_0000),
-        (0, 255 * 0x100_0000),
+        (2, 0xffff_fff6),
+        (3, 9),
+        (5, 0xffff_ffff),
     ),
     (
         Width::W32,
+        Operation::Add,
+        (0xffff_fffa, 0xffff_fffb),
+        (5, 5),
+        (0, 0xffff_ffff),
+    ),
+    (
+        Width::W32,
+        Operation::Add,
+        (0xffff_fffb, 0xffff_fffd),
+        (5, 9),
+        (0, 6),
+    ),
+    (
+        Width::W32,
+        Operation::Add,
+        (0xffff_fffc, 0xffff_fffd),
+        (9, 12),
+        (5, 9),
+    ),
+    (Width::W32, Operation::Sub, (20, 30), (4, 9), (11, 26)),
+    (Width::W32, Operation::Sub, (5, 6), (6, 6), (0, 0xffff_ffff)),
+    (
+        Width::W32,
+        Operation::Sub,
+        (2, 5),
+        (6, 9),
+        (0xffff_fff9, 0xffff_ffff),
+    ),
+    (
+        Width::W32,
         Operation::Mul,
-        BYTE,
-        (0, 0x200_0000),
+        (2, 3),
+        (5, 0x5555_5555),
+        (10, 0xffff_ffff),
+    ),
+    (
+        Width::W32,
+        Operation::Mul,
+        (2, 65536),
+        (3, 65536),
         (0, 0xffff_ffff),
     ),
 ];
 
+/// Quotients and remainders: by numbers above 0, by 0, by either; signed ones also where an end is negative.
+const QUOTIENTS: &[Row] = &[
+    (
+        Width::W64,
+        Operation::SignedDiv,
+        (0x7fff_ffff_ffff_ffff, 0x7fff_ffff_ffff_ffff),
+        (1, 0x7fff_ffff_ffff_ffff),
+        (1, 0x7fff_ffff_ffff_ffff),
+    ),
+    (
+        Width::W64,
+        Operation::SignedDiv,
+        (20, 0x8000_0000_0000_0000),
+        (2, 3),
+        (0, u64::MAX),
+    ),
+    (
+        Width::W64,
+        Operation::SignedDiv,
+        (20, 50),
+        (2, 0x8000_0000_0000_0000),
+        (0, u64::MAX),
+    ),
+    (Width::W64, Operation::SignedDiv, (20, 50), (0, 0), (0, 0)),
+    (
+        Width::W64,
+        Operation::SignedMod,
+        (3, 6),
+        (7, 0x7fff_ffff_ffff_ffff),
+        (3, 6),
+    ),
+    (
+        Width::W64,
+        Operation::SignedMod,
+        (5, 0x7fff_ffff_ffff_ffff),
+        (6, 9),
+        (0, 8),
+    ),
+    (Width::W64, Operation::SignedMod, (3, 7), (7, 20), (0, 7)),
+    (
+        Width::W64,
+        Operation::SignedMod,
+        (20, 0x8000_0000_0000_0000),
+        (6, 9),
+        (0, u64::MAX),
+    ),
+    (
+        Width::W64,
+        Operation::SignedMod,
+        (20, 50),
+        (2, 0x8000_0000_0000_0000),
+        (0, u64::MAX),
+    ),
+    (Width::W64, Operation::SignedMod, (20, 50), (0, 0), (20, 50)),
+    (Width::W64, Operation::SignedMod, (20, 50), (0, 1), (0, 50)),
+    (Width::W64, Operation::SignedMod, (20, 50), (1, 9), (0, 8)),
+    (
+        Width::W32,
+        Operation::SignedDiv,
+        (0x7fff_ffff, 0x7fff_ffff),
+        (1, 0x7fff_ffff),
+        (1, 0x7fff_ffff),
+    ),
+    (
+        Width::W32,
+        Operation::SignedDiv,
+        (20, 0x8000_0000),
+        (2, 3),
+        (0, 0xffff_ffff),
+    ),
+    (
+        Width::W32,
+        Operation::SignedDiv,
+        (20, 50),
+        (2, 0x8000_0000),
+        (0, 0xffff_ffff),
+    ),
+    (Width::W32, Operation::SignedDiv, (20, 50), (0, 1), (0, 50)),
+    (
+        Width::W32,
+        Operation::SignedMod,
+        (3, 6),
+        (7, 0x7fff_ffff),
+        (3, 6),
+    ),
+    (
+        Width::W32,
+        Operation::SignedMod,
+        (5, 0x7fff_ffff),
+        (6, 9),
+        (0, 8),
+    ),
+    (
+        Width::W32,
+        Operation::SignedMod,
+        (20, 0x8000_0000),
+        (6, 9),
+        (0, 0xffff_ffff),
+    ),
+    (
+        Width::W32,
+        Operation::SignedMod,
+        (20, 50),
+        (2, 0x8000_0000),
+        (0, 0xffff_ffff),
+    ),
+    (Width::W64, Operation::Div, (20, 50), (0, 0), (0, 0)),
+    (Width::W64, Operation::Div, (20, 50), (0, 1), (0, 50)),
+    (Width::W64, Operation::Div, (20, 50), (1, 6), (3, 50)),
+    (Width::W64, Operation::Mod, (3, 6), (7, 9), (3, 6)),
+    (Width::W64, Operation::Mod, (3, 7), (7, 20), (0, 7)),
+    (Width::W64, Operation::Mod, (3, 50), (1, 9), (0, 8)),
+    (Width::W64, Operation::Mod, (3, 50), (0, 0), (3, 50)),
+    (Width::W64, Operation::Mod, (3, 50), (0, 1), (0, 50)),
+];
+
+/// Bits, shifts by one number and by several, and copies.
+const BITS_AND_SHIFTS: &[Row] = &[
+    (
+        Width::W64,
+        Operation::ShiftLeft,
+        (3, 0xfff_ffff_ffff_ffff),
+        (68, 68),
+        (48, u64::MAX - 15),
+    ),
+    (
+        Width::W64,
+        Operation::ShiftLeft,
+        (3, 0x1000_0000_0000_0000),
+        (4, 4),
+        (0, u64::MAX),
+    ),
+    (
+        Width::W64,
+        Operation::ShiftLeft,
+        (3, u64::MAX),
+        (64, 64),
+        (3, u64::MAX),
+    ),
+    (
+        Width::W64,
+        Operation::ShiftLeft,
+        (1, 2),
+        (1, 2),
+        (0, u64::MAX),
+    ),
+    (
+        Width::W64,
+        Operation::ShiftRight,
+        (20, 50),
+        (66, 66),
+        (5, 12),
+    ),
+    (Width::W64, Operation::ShiftRight, (20, 50), (1, 2), (0, 50)),
+    (
+        Width::W64,
+        Operation::ShiftSigned,
+        (20, 0x7fff_ffff_ffff_ffff),
+        (66, 66),
+        (5, 0x1fff_ffff_ffff_ffff),
+    ),
+    (
+        Width::W64,
+        Operation::ShiftSigned,
+        (20, 0x8000_0000_0000_0000),
+        (2, 2),
+        (0, u64::MAX),
+    ),
+    (
+        Width::W64,
+        Operation::ShiftSigned,
+        (20, 50),
+        (1, 2),
+        (0, 50),
+    ),
+    (Width::W64, Operation::And, (4, 9), (5, 300), (0, 9)),
+    (Width::W64, Operation::And, (5, 300), (4, 9), (0, 9)),
+    (Width::W64, Operation::Or, (5, 9), (6, 300), (6, 511)),
+    (Width::W64, Operation::Or, (6, 300), (5, 9), (6, 511)),
+    (Width::W64, Operation::Xor, (5, 9), (6, 255), (0, 255)),
+    (Width::W64, Operation::Xor, (5, 256), (6, 9), (0, 511)),
+    (Width::W64, Operation::And, (6, 6), (3, 3), (2, 2)),
+    (
+        Width::W64,
+        Operation::Move,
+        (0, u64::MAX),
+        (5, 300),
+        (5, 300),
+    ),
+    (
+        Width::W32,
+        Operation::ShiftLeft,
+        (3, 0x1000_0000),
+        (4, 4),
+        (0, 0xffff_ffff),
+    ),
+    (
+        Width::W32,
+        Operation::ShiftLeft,
+        (3, 0xffff_ffff),
+        (32, 32),
+        (3, 0xffff_ffff),
+    ),
+    (
+        Width::W32,
+        Operation::ShiftLeft,
+        (1, 2),
+        (1, 2),
+        (0, 0xffff_ffff),
+    ),
+    (
+        Width::W32,
+        Operation::ShiftRight,
+        (20, 50),
+        (34, 34),
+        (5, 12),
+    ),
+    (Width::W32, Operation::ShiftRight, (20, 50), (1, 2), (0, 50)),
+    (
+        Width::W32,
+        Operation::ShiftSigned,
+        (20, 0x7fff_ffff),
+        (34, 34),
+        (5, 0x1fff_ffff),
+    ),
+    (
+        Width::W32,
+        Operation::ShiftSigned,
+        (20, 0x8000_0000),
+        (2, 2),
+        (0, 0xffff_ffff),
+    ),
+    (
+        Width::W32,
+        Operation::ShiftSigned,
+        (20, 50),
+        (1, 2),
+        (0, 50),
+    ),
+    (Width::W32, Operation::And, (6, 6), (3, 3), (2, 2)),
+    (
+        Width::W32,
+        Operation::Move,
+        (0, u64::MAX),
+        (5, 300),
+        (5, 300),
+    ),
+];
+
+/// Low halves, where the upper ones agree and where they do not.
+const LOW_HALVES: &[Row] = &[
+    (
+        Width::W32,
+        Operation::Move,
+        (0, u64::MAX),
+        (0xffff_ffff, 0x1_0000_0000),
+        (0, 0xffff_ffff),
+    ),
+    (
+        Width::W32,
+        Operation::Sub,
+        (0x5_0000_0009, 0x5_0000_0014),
+        (0x3_0000_0004, 0x3_0000_0009),
+        (0, 16),
+    ),
+];
+
 /// The range of these ends.
-fn range((lo, hi): (u64, u64)) -> Option<Range> {
+pub(crate) fn range((lo, hi): (u64, u64)) -> Option<Range> {
     if lo <= hi {
         Some(Range { lo, hi })
     } else {
@@ -70,35 +416,156 @@ fn gives(
 }
 
 #[test]
-fn operates(rt: HostRuntime) {
-    for (row, &(width, operation, a, b, result)) in OPERATIONS.iter().enumerate() {
+fn sums(rt: HostRuntime) {
+    for (row, &(width, operation, a, b, result)) in SUMS.iter().enumerate() {
         assert!(rt; gives(width, operation, a, b, result), "row {row}");
     }
 }
 
-/// The negations of 1 and of 1 to 127.
-fn are_negated(small: Range) -> bool {
-    negate(Width::W64, Range::exactly(1)) == Range::exactly(u64::MAX)
-        && negate(Width::W32, small) == of_width(Width::W32)
-        && of_width(Width::W32)
-            == Range {
-                lo: 0,
-                hi: 0xffff_ffff,
-            }
-}
-
-/// The sign extension and the changes of byte order of 1 to 127.
-fn are_extended_and_swapped(small: Range) -> bool {
-    sign_extend(Width::W64, Narrow::Byte, small) == small
-        && swap(ByteOrder::Big, SwapSize::Half, small) == Range { lo: 0, hi: 0xffff }
-        && swap(ByteOrder::Little, SwapSize::Half, small) == small
+#[test]
+fn quotients(rt: HostRuntime) {
+    for (row, &(width, operation, a, b, result)) in QUOTIENTS.iter().enumerate() {
+        assert!(rt; gives(width, operation, a, b, result), "row {row}");
+    }
 }
 
 #[test]
-fn operates_on_one(rt: HostRuntime) {
-    let small = Range { lo: 1, hi: 127 };
-    assert!(rt; are_negated(small));
-    assert!(rt; are_extended_and_swapped(small));
+fn bits_and_shifts(rt: HostRuntime) {
+    for (row, &(width, operation, a, b, result)) in BITS_AND_SHIFTS.iter().enumerate() {
+        assert!(rt; gives(width, operation, a, b, result), "row {row}");
+    }
+}
+
+#[test]
+fn low_halves(rt: HostRuntime) {
+    for (row, &(width, operation, a, b, result)) in LOW_HALVES.iter().enumerate() {
+        assert!(rt; gives(width, operation, a, b, result), "row {row}");
+    }
+}
+
+/// A range, and that of the negated numbers.
+const NEGATED: &[(Width, (u64, u64), (u64, u64))] = &[
+    (
+        Width::W64,
+        (0x1_0000_0001, 0x1_0000_0001),
+        (0xffff_fffe_ffff_ffff, 0xffff_fffe_ffff_ffff),
+    ),
+    (Width::W64, (1, 2), (0, u64::MAX)),
+    (Width::W32, (1, 2), (0, 0xffff_ffff)),
+];
+
+/// A part, a range, and that of the numbers whose part is extended by its sign.
+const EXTENDED: &[(Width, Narrow, (u64, u64), (u64, u64))] = &[
+    (Width::W64, Narrow::Byte, (3, 127), (3, 127)),
+    (
+        Width::W64,
+        Narrow::Byte,
+        (384, 384),
+        (0xffff_ffff_ffff_ff80, 0xffff_ffff_ffff_ff80),
+    ),
+    (Width::W64, Narrow::Half, (3, 32767), (3, 32767)),
+    (Width::W64, Narrow::Half, (3, 32768), (0, u64::MAX)),
+    (Width::W64, Narrow::Word, (3, 0x7fff_ffff), (3, 0x7fff_ffff)),
+    (Width::W64, Narrow::Word, (3, 0x8000_0000), (0, u64::MAX)),
+    (Width::W32, Narrow::Byte, (3, 128), (0, 0xffff_ffff)),
+];
+
+/// An order, a size, a range, and that of the numbers whose bytes are put in the order.
+const SWAPPED: &[(ByteOrder, SwapSize, (u64, u64), (u64, u64))] = &[
+    (ByteOrder::Little, SwapSize::Half, (3, 65535), (3, 65535)),
+    (ByteOrder::Little, SwapSize::Half, (3, 65536), (0, 65535)),
+    (
+        ByteOrder::Little,
+        SwapSize::Half,
+        (0x1122_3344_5566_7788, 0x1122_3344_5566_7788),
+        (30600, 30600),
+    ),
+    (
+        ByteOrder::Little,
+        SwapSize::Word,
+        (3, 0xffff_ffff),
+        (3, 0xffff_ffff),
+    ),
+    (
+        ByteOrder::Little,
+        SwapSize::Word,
+        (3, 0x1_0000_0000),
+        (0, 0xffff_ffff),
+    ),
+    (ByteOrder::Little, SwapSize::Double, (3, 300), (3, 300)),
+    (ByteOrder::Big, SwapSize::Half, (3, 65535), (0, 65535)),
+    (
+        ByteOrder::Big,
+        SwapSize::Half,
+        (0x1122_3344_5566_7788, 0x1122_3344_5566_7788),
+        (34935, 34935),
+    ),
+    (
+        ByteOrder::Big,
+        SwapSize::Word,
+        (3, 0xffff_ffff),
+        (0, 0xffff_ffff),
+    ),
+    (ByteOrder::Big, SwapSize::Double, (3, 300), (0, u64::MAX)),
+    (ByteOrder::Reversed, SwapSize::Half, (3, 65535), (0, 65535)),
+    (
+        ByteOrder::Reversed,
+        SwapSize::Half,
+        (0x1122_3344_5566_7788, 0x1122_3344_5566_7788),
+        (34935, 34935),
+    ),
+    (
+        ByteOrder::Reversed,
+        SwapSize::Word,
+        (3, 0xffff_ffff),
+        (0, 0xffff_ffff),
+    ),
+    (
+        ByteOrder::Reversed,
+        SwapSize::Double,
+        (3, 300),
+        (0, u64::MAX),
+    ),
+];
+
+/// Whether the negated numbers of the first range have the second.
+fn negates(width: Width, a: (u64, u64), ends: (u64, u64)) -> bool {
+    let Some(a) = range(a) else {
+        return false;
+    };
+    let found = negate(width, a);
+    found.lo == ends.0 && found.hi == ends.1
+}
+
+/// Whether the numbers of the first range whose part is extended have the second.
+fn extends(width: Width, part: Narrow, a: (u64, u64), ends: (u64, u64)) -> bool {
+    let Some(a) = range(a) else {
+        return false;
+    };
+    let found = sign_extend(width, part, a);
+    found.lo == ends.0 && found.hi == ends.1
+}
+
+/// Whether the numbers of the first range whose bytes are put in the order have the second.
+fn swaps(order: ByteOrder, size: SwapSize, a: (u64, u64), ends: (u64, u64)) -> bool {
+    let Some(a) = range(a) else {
+        return false;
+    };
+    let found = swap(order, size, a);
+    found.lo == ends.0 && found.hi == ends.1
+}
+
+#[test]
+fn operations_on_one(rt: HostRuntime) {
+    for (row, &(width, a, ends)) in NEGATED.iter().enumerate() {
+        assert!(rt; negates(width, a, ends), "row {row}");
+    }
+    for (row, &(width, part, a, ends)) in EXTENDED.iter().enumerate() {
+        assert!(rt; extends(width, part, a, ends), "row {row}");
+    }
+    for (row, &(order, size, a, ends)) in SWAPPED.iter().enumerate() {
+        assert!(rt; swaps(order, size, a, ends), "row {row}");
+    }
 }
 
 #[test]
@@ -109,18 +576,4 @@ fn joins(rt: HostRuntime) {
     assert!(rt; !both.contains(13));
     assert!(rt; Range::exactly(7).is_single());
     assert!(rt; Range::full().contains(u64::MAX));
-}
-
-#[test]
-fn refines(rt: HostRuntime) {
-    let all = Range::full();
-    let limit = Range::exactly(63);
-    let low = Range { lo: 0, hi: 63 };
-    assert!(rt; refine(Width::W64, Condition::Above, false, all, limit) == Some((low, limit)));
-    assert!(rt; refine(Width::W32, Condition::Above, false, all, limit) == Some((all, limit)));
-    assert!(rt; refine(Width::W64, Condition::Above, true, low, limit).is_none());
-    assert!(rt;
-        refine(Width::W64, Condition::Different, true, low, limit)
-            == Some((Range { lo: 0, hi: 62 }, limit))
-    );
 }
