@@ -1,14 +1,11 @@
 -- What a step asks lies within the board.
-use Rattle.std.proofs.Common.{◌≡◌, ℕ, ℤ, pos, ◌+◌, ◌-◌, ◌*◌, ◌^◌, ◌<◌, ◌≤◌, List, Bool, true, false, refl, subst}
-use Rattle.std.specs.Prelude.{Option, Some, None, Result, Ok, Err, if◌then◌else◌, nat_lt, nat_le, ◌==◌}
+use Rattle.std.proofs.Common.{◌≡◌, ℕ, pos, ◌+◌, ◌-◌, ◌*◌, ◌^◌, ◌<◌, ◌≤◌, List, Bool, true, false, refl, subst}
+use Rattle.std.specs.Prelude.{Option, Some, None, Result, Ok, Err, if◌then◌else◌, nat_lt, nat_le}
 use Rattle.std.proofs.lemmas.Bool.{ltb-true, leb-true}
 use Rattle.insn.specs.declared.insn.Insn.{Insn}
-use Rattle.insn.specs.declared.insn.Insn.TheVariants as i
-use Rattle.insn.specs.Program.{instruction_at}
 use Rattle.semantics.specs.Relay.{Relay}
 use Rattle.semantics.specs.declared.value.Value.{Value}
 use Rattle.semantics.specs.declared.value.Value.TheVariants.{Unset, Number, Pointer}
-use Rattle.semantics.specs.declared.value.Cell.{Cell}
 use Rattle.semantics.specs.declared.request.Helper.{Helper}
 use Rattle.semantics.specs.declared.request.Helper.TheVariants.{BoardGet, BoardSwap, BoardAdd, BoardCas, BoardCopy, Send, SendRow, Sway, Honest, SignOrder, PassOn}
 use Rattle.semantics.specs.declared.request.Request.{Request}
@@ -17,9 +14,9 @@ use Rattle.semantics.specs.declared.entry.Entry.{Entry}
 use Rattle.semantics.specs.State.{Cause, State, Outcome, Next, Ask, Exit, Trap, value_at, given}
 use Rattle.semantics.specs.Memory.{stack_place}
 use Rattle.semantics.specs.Outbox.{Choice}
-use Rattle.semantics.specs.Step.{assigned, changed, arrived, branched, exited}
 use Rattle.semantics.specs.Call.{below, pointer, copy_of, called, asked, sent, attempted}
-use Rattle.semantics.specs.Execution.{executed, fetched, step}
+use Rattle.semantics.specs.Execution.{step}
+use Rattle.semantics.proofs.Walk.{changed_walk, step_walk}
 use Rattle.board.specs.Requests.{IsRequest}
 
 abbrev AsksWithin : Outcome → Type 0
@@ -57,31 +54,6 @@ copy_within slot to count = by (nat_le (slot + count) 64) (λ le. leb-true (slot
     by true h (Ok place) = h refl
     by true h (Err cause) = tt
     by false h r = tt
-
-either_within : (s t : State) (cause : Cause) (b : Bool) → AsksWithin (if b then Trap cause else Next t)
-either_within s t cause true = tt
-either_within s t cause false = tt
-
-assigned_within : (s : State) (dst units : ℕ) (r : Result Value Cause) → AsksWithin (assigned s dst units r)
-assigned_within s dst units (Err cause) = tt
-assigned_within s dst units (Ok value) = either_within s _ _ (dst == 10)
-
-changed_within : (s : State) (r : Result (List Cell) Cause) → AsksWithin (changed s r)
-changed_within s (Err cause) = tt
-changed_within s (Ok cells) = tt
-
-arrived_within : (s : State) (z : ℤ) → AsksWithin (arrived s z)
-arrived_within s (pos unit) = tt
-arrived_within s (ℤ.negsuc unit) = tt
-
-branched_within : (s : State) (distance : ℤ) (r : Result Bool Cause) → AsksWithin (branched s distance r)
-branched_within s distance (Err cause) = tt
-branched_within s distance (Ok true) = arrived_within s _
-branched_within s distance (Ok false) = tt
-
-exited_within : (s : State) (r : Result ℕ Cause) → AsksWithin (exited s r)
-exited_within s (Err cause) = tt
-exited_within s (Ok n) = tt
 
 sent_within : (relay : Relay) (s : State) (r0 : ℕ → ℕ) (r : Result Choice Cause) → AsksWithin (sent relay s r0 r)
 sent_within relay s r0 (Err cause) = tt
@@ -130,28 +102,17 @@ called_within context relay s (Some Honest) = sent_within relay s (λ set. set) 
 called_within context relay s (Some SignOrder) = attempted_within relay s _
 called_within context relay s (Some PassOn) = attempted_within relay s _
 
-executed_within : (context : List ℕ) (relay : Relay) (insn : Insn) (s : State) → AsksWithin (executed context relay insn s)
-executed_within context relay (i.Arithmetic width operation dst operand) s = assigned_within s dst 1 _
-executed_within context relay (i.Negate width dst) s = assigned_within s dst 1 _
-executed_within context relay (i.SignExtend width part dst src) s = assigned_within s dst 1 _
-executed_within context relay (i.Swap order size dst) s = assigned_within s dst 1 _
-executed_within context relay (i.LoadNumber dst number) s = assigned_within s dst 2 (Ok (Number number))
-executed_within context relay (i.Jump distance) s = arrived_within s _
-executed_within context relay (i.LongJump distance) s = arrived_within s _
-executed_within context relay (i.Branch width condition dst operand distance) s = branched_within s distance _
-executed_within context relay (i.Load size dst base offset) s = assigned_within s dst 1 _
-executed_within context relay (i.LoadSigned part dst base offset) s = assigned_within s dst 1 _
-executed_within context relay (i.Store size base offset source) s = changed_within s _
-executed_within context relay (i.Call helper) s = called_within context relay s _
-executed_within context relay i.Exit s = exited_within s _
-
-fetched_within : (context : List ℕ) (relay : Relay) (o : Option Insn) (s : State) → AsksWithin (fetched context relay o s)
-fetched_within context relay None s = tt
-fetched_within context relay (Some insn) s = executed_within context relay insn s
-
 step_within : (program : List Insn) (context : List ℕ) (relay : Relay) (s : State) → AsksWithin (step program context relay s)
-unfolding step
-step_within program context relay s = fetched_within context relay (instruction_at program s.unit) s
+step_within program context relay s =
+    step_walk program context relay s AsksWithin
+    (record {
+      trapped = λ cause. tt;
+      set = λ dst unit value other. tt;
+      moved = λ unit. tt;
+      exits = λ n. tt;
+      stores = λ size base offset value. changed_walk s AsksWithin (λ cause. tt) (λ cells. tt) _;
+    })
+    (called_within context relay s)
 
 -- what a step asks lies within the board
 pub asks_within : (program : List Insn) (context : List ℕ) (relay : Relay) (s t : State) (request : Request) → step program context relay s ≡ Ask request t → IsRequest request

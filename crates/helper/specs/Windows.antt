@@ -1,5 +1,6 @@
 -- When a call is refused, by the table alone.
 use Rattle.std.specs.Prelude.{ℕ, pos, ◌+◌, ◌*◌, ◌≡◌, nat_le, if◌then◌else◌, List, [], ◌∷◌, Option, Some, None}
+use Rattle.semantics.specs.Limits.{board_words}
 use Rattle.semantics.specs.Relay.{Relay}
 use Rattle.semantics.specs.declared.value.Value.{Value}
 use Rattle.semantics.specs.declared.value.Value.TheVariants.{Unset, Number, Pointer}
@@ -32,7 +33,7 @@ bytes_each ReadablePointer = 0
 
 -- so many words from a slot on lie on the board
 abbrev pub refused_span : Argument → Argument → ℕ → ℕ → Option Cause
-refused_span Slot Words slot count = if nat_le (slot + count) 64 then None else Some Refused
+refused_span Slot Words slot count = if nat_le (slot + count) board_words then None else Some Refused
 refused_span _ _ slot count = None
 
 -- a window of so many bytes that is written lies in the stack; one that is read lies in its region, and holds bytes

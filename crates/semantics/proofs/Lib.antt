@@ -1,5 +1,6 @@
 mod Rows
 pub mod RunLaws
+pub mod Walk
 pub mod StepLaws
 pub mod AskingExample
 pub mod SoundExample

@@ -1,15 +1,15 @@
 -- How many places a helper sets: at most one of each receiver in a row, and rows of few labels.
 use Rattle.std.proofs.Common.{ℕ, zero, suc, ◌+◌, ◌-◌, ◌<◌, ◌≤◌, ◌≡◌, ◌≢◌, Bool, true, false, not, cond, ◌||◌, ◌&&◌, List, [], ◌∷◌, ◌++◌, map, length, refl, sym, ap, ◌∙◌, arith, inl, inr, Some, None}
-use Rattle.std.specs.Prelude.{◌==◌, if◌then◌else◌, filter, count_by, sum_by, is_some, slice_get}
+use Rattle.std.specs.Prelude.{◌==◌, if◌then◌else◌, count_by, sum_by, is_some, slice_get}
 use Rattle.std.specs.List.{enumerate_from}
-use Rattle.std.proofs.lemmas.Bool.{cases_Bool, cases_eq, false≢true, and_parts, and_from, not-true, not_from_false, eqb-true, ne_eqb}
+use Rattle.std.proofs.lemmas.Bool.{cases_eq, false≢true, and_parts, not-true, eqb-true, ne_eqb}
 use Rattle.std.proofs.lemmas.Bool.Decides.{eqb_tells}
 use Rattle.std.proofs.lemmas.List.Sums.{sum_by-cons}
 use Rattle.label.specs.declared.shape.Shape.{Shape}
 use Rattle.semantics.specs.Relay.{Kind, Oral, Signed, Relay, labels_told, relayed}
-use Rattle.label.specs.Labels.{on, is_distinct, generals, others, labels}
+use Rattle.label.specs.Labels.{on, is_distinct, labels}
 use Rattle.label.specs.Relay.{IsShape, relay, receivers}
-use Rattle.label.proofs.Counting.{on-filter, range-distinct, others-distinct}
+use Rattle.label.proofs.Counting.{others-distinct}
 use Rattle.label.proofs.Bounds.{labels-few, most}
 use Rattle.semantics.specs.Outbox.{Place, Choice, places_set, at_place, along_row, at_receiver, as_taken, taken_value}
 use Rattle.semantics.specs.Places.{RelaysAreFew, FewPlacesAreSet, RangesAreKept}

@@ -1,5 +1,4 @@
-use Rattle.helper.proofs.Tests.{calls_test}
-use Rattle.helper.proofs.Accepts.{calls_accept}
+use Rattle.helper.proofs.Accepts.{calls_accept, calls_test}
 use Rattle.helper.proofs.table.arguments.Goals as goal
 
 pub returns-clause-tests : goal.returns-clause-tests
