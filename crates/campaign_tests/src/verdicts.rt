@@ -104,10 +104,22 @@ const TWO_FAULTS: &[(&str, &str)] = &[
     ("call 2\nexit", "V12 unit 0"),
     ("mov r1, 0\ncall 1\nmov r2, r10\ncall 2\nexit", "V5 unit 3"),
     ("mov r1, 1016\ncall 7\nexit", "V12 unit 1"),
-    ("mov r1, 0\nmov r2, r10\nmov r3, 14\ncall 7\nexit", "V12 unit 3"),
-    ("mov r2, r1\nmov r1, 60\nmov r3, 5\ncall 5\nexit", "V12 unit 3"),
-    ("mov r2, r1\nadd r2, 4090\nmov r1, 0\nmov r3, 1\ncall 5\nexit", "V10 unit 4"),
-    ("mov r2, r10\nadd r2, -4\nmov r1, 0\nmov r3, 2\ncall 7\nexit", "V8 unit 4"),
+    (
+        "mov r1, 0\nmov r2, r10\nmov r3, 14\ncall 7\nexit",
+        "V12 unit 3",
+    ),
+    (
+        "mov r2, r1\nmov r1, 60\nmov r3, 5\ncall 5\nexit",
+        "V12 unit 3",
+    ),
+    (
+        "mov r2, r1\nadd r2, 4090\nmov r1, 0\nmov r3, 1\ncall 5\nexit",
+        "V10 unit 4",
+    ),
+    (
+        "mov r2, r10\nadd r2, -4\nmov r1, 0\nmov r3, 2\ncall 7\nexit",
+        "V8 unit 4",
+    ),
     // the structure comes first
     ("mov r0, r3\nja -1\nexit", "V1 unit 1"),
 ];
@@ -133,42 +145,90 @@ out:    mov r0, 0
 
 /// How r2 is bounded, and what is said of the store.
 const BOUNDS: &[(&str, &str)] = &[
-    ("ldd r2, [r1+32]\njge r2, 8, out", "accepted 8 instructions 8 units\nr0 0 steps 8\n"),
+    (
+        "ldd r2, [r1+32]\njge r2, 8, out",
+        "accepted 8 instructions 8 units\nr0 0 steps 8\n",
+    ),
     ("ldd r2, [r1+32]\njge r2, 9, out", "V8 unit 5"),
-    ("ldd r2, [r1+32]\njlt r2, 8, on\nja out\non:", "accepted 9 instructions 9 units\nr0 0 steps 8\n"),
+    (
+        "ldd r2, [r1+32]\njlt r2, 8, on\nja out\non:",
+        "accepted 9 instructions 9 units\nr0 0 steps 8\n",
+    ),
     ("ldd r2, [r1+32]\njlt r2, 9, on\nja out\non:", "V8 unit 6"),
-    ("ldd r2, [r1+32]\njle r2, 7, on\nja out\non:", "accepted 9 instructions 9 units\nr0 0 steps 8\n"),
+    (
+        "ldd r2, [r1+32]\njle r2, 7, on\nja out\non:",
+        "accepted 9 instructions 9 units\nr0 0 steps 8\n",
+    ),
     ("ldd r2, [r1+32]\njle r2, 8, on\nja out\non:", "V8 unit 6"),
-    ("ldd r2, [r1+32]\njne r2, 7, out", "accepted 8 instructions 8 units\nr0 0 steps 4\n"),
+    (
+        "ldd r2, [r1+32]\njne r2, 7, out",
+        "accepted 8 instructions 8 units\nr0 0 steps 4\n",
+    ),
     ("ldd r2, [r1+32]\njne r2, 8, out", "V8 unit 5"),
     // an end of the range that is left out, and a number that is none
-    ("ldd r2, [r1+32]\nmod r2, 9\njeq r2, 8, out", "accepted 9 instructions 9 units\nr0 0 steps 9\n"),
+    (
+        "ldd r2, [r1+32]\nmod r2, 9\njeq r2, 8, out",
+        "accepted 9 instructions 9 units\nr0 0 steps 9\n",
+    ),
     ("ldd r2, [r1+32]\nmod r2, 9\njeq r2, 7, out", "V8 unit 6"),
-    ("ldd r2, [r1+32]\nmod r2, 9\njne r2, 8, on\nja out\non:", "accepted 10 instructions 10 units\nr0 0 steps 9\n"),
-    ("ldd r2, [r1+32]\nmod r2, 9\njne r2, 7, on\nja out\non:", "V8 unit 7"),
+    (
+        "ldd r2, [r1+32]\nmod r2, 9\njne r2, 8, on\nja out\non:",
+        "accepted 10 instructions 10 units\nr0 0 steps 9\n",
+    ),
+    (
+        "ldd r2, [r1+32]\nmod r2, 9\njne r2, 7, on\nja out\non:",
+        "V8 unit 7",
+    ),
     // signed conditions
-    ("ldw r2, [r1+32]\njsge r2, 8, out", "accepted 8 instructions 8 units\nr0 0 steps 8\n"),
+    (
+        "ldw r2, [r1+32]\njsge r2, 8, out",
+        "accepted 8 instructions 8 units\nr0 0 steps 8\n",
+    ),
     ("ldw r2, [r1+32]\njsge r2, 9, out", "V8 unit 5"),
-    ("ldw r2, [r1+32]\njslt r2, 8, on\nja out\non:", "accepted 9 instructions 9 units\nr0 0 steps 8\n"),
+    (
+        "ldw r2, [r1+32]\njslt r2, 8, on\nja out\non:",
+        "accepted 9 instructions 9 units\nr0 0 steps 8\n",
+    ),
     ("ldw r2, [r1+32]\njslt r2, 9, on\nja out\non:", "V8 unit 6"),
-    ("ldw r2, [r1+32]\njsle r2, 7, on\nja out\non:", "accepted 9 instructions 9 units\nr0 0 steps 8\n"),
+    (
+        "ldw r2, [r1+32]\njsle r2, 7, on\nja out\non:",
+        "accepted 9 instructions 9 units\nr0 0 steps 8\n",
+    ),
     ("ldw r2, [r1+32]\njsle r2, 8, on\nja out\non:", "V8 unit 6"),
     ("ldd r2, [r1+32]\njsge r2, 8, out", "V7 unit 4"),
     // loads that extend the sign, and shifts
     ("ldsb r2, [r1+32]", "V7 unit 3"),
     ("ldsh r2, [r1+32]", "V7 unit 3"),
     ("ldsw r2, [r1+32]", "V7 unit 3"),
-    ("ldsw r2, [r1+32]\nand r2, 7", "accepted 8 instructions 8 units\nr0 0 steps 8\n"),
-    ("ldw r2, [r1+32]\narsh r2, 29", "accepted 8 instructions 8 units\nr0 0 steps 8\n"),
+    (
+        "ldsw r2, [r1+32]\nand r2, 7",
+        "accepted 8 instructions 8 units\nr0 0 steps 8\n",
+    ),
+    (
+        "ldw r2, [r1+32]\narsh r2, 29",
+        "accepted 8 instructions 8 units\nr0 0 steps 8\n",
+    ),
     ("ldw r2, [r1+32]\narsh r2, 28", "V8 unit 5"),
     ("ldd r2, [r1+32]\narsh r2, 61", "V7 unit 4"),
-    ("ldd r2, [r1+32]\nrsh r2, 61", "accepted 8 instructions 8 units\nr0 0 steps 8\n"),
+    (
+        "ldd r2, [r1+32]\nrsh r2, 61",
+        "accepted 8 instructions 8 units\nr0 0 steps 8\n",
+    ),
     // orders of bytes
-    ("ldb r2, [r1+32]\nle16 r2\nrsh r2, 5", "accepted 9 instructions 9 units\nr0 0 steps 9\n"),
+    (
+        "ldb r2, [r1+32]\nle16 r2\nrsh r2, 5",
+        "accepted 9 instructions 9 units\nr0 0 steps 9\n",
+    ),
     ("ldb r2, [r1+32]\nbe16 r2\nrsh r2, 5", "V8 unit 6"),
     ("ldb r2, [r1+32]\nswap16 r2\nrsh r2, 5", "V8 unit 6"),
-    ("ldd r2, [r1+32]\nbe16 r2\nrsh r2, 13", "accepted 9 instructions 9 units\nr0 0 steps 9\n"),
-    ("ldd r2, [r1+32]\nswap32 r2\nrsh r2, 29", "accepted 9 instructions 9 units\nr0 0 steps 9\n"),
+    (
+        "ldd r2, [r1+32]\nbe16 r2\nrsh r2, 13",
+        "accepted 9 instructions 9 units\nr0 0 steps 9\n",
+    ),
+    (
+        "ldd r2, [r1+32]\nswap32 r2\nrsh r2, 29",
+        "accepted 9 instructions 9 units\nr0 0 steps 9\n",
+    ),
     ("ldd r2, [r1+32]\nle32 r2\nrsh r2, 13", "V7 unit 5"),
 ];
 
