@@ -1,9 +1,9 @@
 -- What the relations say of states that are joined and left behind determines what is known there.
-use Rattle.std.proofs.Common.{◌≡◌, ◌∙◌, ℕ, ◌+◌, ◌*◌, ◌/◌, ◌%◌, ◌<◌, List, [], ◌∷◌, arith, refl, sym, ap, ap₂, subst, Bool, true, false, Option, Some, None, eqb-true, eq-eqb}
-use Rattle.std.specs.Prelude.{ℤ, ◌==◌, ◌&&◌, nat_le, nat_lt, if◌then◌else◌, map, slice_set, IfSome}
+use Rattle.std.proofs.Common.{◌≡◌, ◌∙◌, ℕ, ◌+◌, ◌*◌, ◌/◌, ◌%◌, ◌<◌, List, arith, refl, sym, ap, ap₂, subst, Bool, true, false, Option, Some, None, eqb-true, eq-eqb}
+use Rattle.std.specs.Prelude.{ℤ, ◌==◌, ◌&&◌, nat_le, nat_lt, if◌then◌else◌, IfSome}
 use Rattle.std.specs.Bool.{MatchBool}
 use Rattle.std.specs.Result.{result_ok}
-use Rattle.std.proofs.lemmas.List.{map-set, get_or-replicate}
+use Rattle.std.proofs.lemmas.List.{get_or-replicate}
 use Rattle.insn.specs.declared.insn.Insn.{Insn}
 use Rattle.insn.specs.declared.insn.Insn.TheVariants.{Arithmetic, Negate, SignExtend, Swap, LoadNumber, Load, LoadSigned, Store, Call, Jump, LongJump, Branch, Exit}
 use Rattle.insn.specs.declared.insn.Size.{Size}
@@ -23,16 +23,18 @@ use Rattle.absmem.specs.declared.spill.Spill.{Spill}
 use Rattle.absmem.specs.declared.spill.Spill.TheVariants.{Free, Whole}
 use Rattle.absmem.specs.Known.{Known, byte_at, spill_at, IsSetTo, left_of, joined_spill}
 use Rattle.verify.specs.declared.state.AbsState.{AbsState}
-use Rattle.verify.specs.Registers.{known_at, operand_known, entry_known, joined_all}
+use Rattle.verify.specs.Registers.{known_at, operand_known}
 use Rattle.verify.specs.Reasons.{Assigns}
 use Rattle.verify.specs.MemoryTable.{HasPutBytes, HasSpreadBytes, HasPutPointer, StoresNumber, StoresPointer, Stores}
 use Rattle.verify.specs.Calls.{arguments_reason, window_from, target_reason, copy_reason, window_reason, helper_reason, is_certain, IsBehind, IsWritten, IsWrittenTo, IsCopied, StackBehind, IsBelow, IsPointer}
 use Rattle.verify.specs.Flow.{IsJoin}
 use Rattle.verify.specs.Instructions.{reason_of, Becomes}
 use Rattle.verify.specs.Passes.{IsEntry}
-use Rattle.verify.specs.Knowledge.{stack_of, byte_behind, spill_behind, put_bytes, spread_bytes, put_pointer, at_entry, met}
+use Rattle.absmem.specs.Stacks.{stack_of, byte_behind, spill_behind, put_bytes, spread_bytes, put_pointer}
+use Rattle.verify.specs.Knowledge.{at_entry, met}
 use Rattle.verify.specs.Transfer.{assigned, number_stored, pointer_stored, stored, written, copied, stack_behind, called, follows}
-use Rattle.verify.proofs.TableLemmas.{table_at, table_same}
+use Rattle.absmem.specs.TableLaws.{table_at}
+use Rattle.verify.proofs.TableLemmas.{table_same}
 use Rattle.verify.proofs.SameReads.{listed, told, load_same, signed_same}
 use Rattle.verify.proofs.CallArguments.{or_parts, copy_arguments}
 use Rattle.absval.specs.declared.value.AbsVal.TheVariants.{Unset, Number, Pointer}
@@ -67,13 +69,13 @@ stack_is new byte spill f g =
     (table_same 512 (byte_at new.bytes) byte false f) (table_same 64 (spill_at new.spills) spill Free g)
 
 put_is : (w : Window) (old new : Known) → IsSetTo true old.bytes new.bytes w.place (w.place + w.size) →
-    ((b : ℕ) → b < 64 → spill_at new.spills b ≡ left_of w.place (w.place + w.size) b (spill_at old.spills b)) → listed new ≡ put_bytes w (listed old)
+    ((b : ℕ) → b < 64 → spill_at new.spills b ≡ left_of w.place (w.place + w.size) b (spill_at old.spills b)) → listed new ≡ put_bytes w.place w.size (listed old)
 put_is w old new f g =
     stack_is new (byte_behind true w.place (w.place + w.size) (listed old)) (spill_behind w.place (w.place + w.size) (listed old))
     (set_byte true old new w.place (w.place + w.size) f) (left_spill old new w.place (w.place + w.size) g)
 
 spread_is : (w : Window) (old new : Known) → new.bytes ≡ old.bytes →
-    ((b : ℕ) → b < 64 → spill_at new.spills b ≡ left_of w.place (w.place + w.size) b (spill_at old.spills b)) → listed new ≡ spread_bytes w (listed old)
+    ((b : ℕ) → b < 64 → spill_at new.spills b ≡ left_of w.place (w.place + w.size) b (spill_at old.spills b)) → listed new ≡ spread_bytes w.place w.size (listed old)
 spread_is w old new e g =
     stack_is new (byte_at (listed old).bytes) (spill_behind w.place (w.place + w.size) (listed old))
     (λ k lt. ap (λ bytes. byte_at bytes k) e ∙ sym (byte_listed old k lt)) (left_spill old new w.place (w.place + w.size) g)
@@ -127,7 +129,7 @@ number_is old new size None h = absurd h
 number_is old new size (Some w) h = by_test (w.size == size) h
   where
     by_test : (t : Bool) → MatchBool t (HasPutBytes w.place w.size old new) (HasSpreadBytes w.place w.size old new) →
-        listed new ≡ (if t then put_bytes w (listed old) else spread_bytes w (listed old))
+        listed new ≡ (if t then put_bytes w.place w.size (listed old) else spread_bytes w.place w.size (listed old))
     by_test true k = put_is w old new k.bytes k.spills
     by_test false k = spread_is w old new k.bytes k.spills
 

@@ -27,8 +27,8 @@ use Rattle.verify.specs.Registers.{known_at}
 use Rattle.verify.specs.MemoryTable.{all_bytes, unset_in, unless, spilled_at, spilled, pointer_or, load_from, load_given, all_numbers, signed_from, signed_load_given, unset_or, frame_or}
 use Rattle.verify.specs.Calls.{or_reason, reason_if, arguments_reason, window_from, source_reason, row_reason, window_reason, helper_reason}
 use Rattle.verify.specs.Instructions.{reason_of}
-use Rattle.verify.specs.Knowledge.{stack_of}
-use Rattle.verify.proofs.TableLemmas.{table_at}
+use Rattle.absmem.specs.Stacks.{stack_of}
+use Rattle.absmem.specs.TableLaws.{table_at}
 use Rattle.absval.specs.declared.value.AbsVal.TheVariants.{Unset, Number, Pointer}
 
 -- a stack, and a state with its stack, cell by cell

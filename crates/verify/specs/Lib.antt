@@ -1,6 +1,5 @@
 pub mod Structure
 pub mod Forward
-pub mod Tables
 pub mod Registers
 pub mod Reasons
 pub mod Kept

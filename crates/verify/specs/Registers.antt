@@ -1,5 +1,5 @@
 -- What is known of the registers, by its ends, and what a conditional jump tells of it (own).
-use Rattle.std.specs.Prelude.{ℕ, pos, ◌<◌, ◌≡◌, ◌==◌, Bool, if◌then◌else◌, List, [], ◌∷◌, Option, Some, map, option_map, slice_index_or, slice_set}
+use Rattle.std.specs.Prelude.{ℕ, pos, ◌<◌, ◌≡◌, ◌==◌, Bool, if◌then◌else◌, List, [], ◌∷◌, Option, Some, option_map, slice_index_or, slice_set}
 use Rattle.std.specs.Int.{w64, cast_unsigned}
 use Rattle.word.specs.declared.Width.{Width}
 use Rattle.word.specs.declared.Operation.{Operation}
@@ -13,7 +13,7 @@ use Rattle.semantics.specs.declared.value.Region.TheVariants.{Stack, Context}
 use Rattle.absval.specs.declared.value.AbsVal.{AbsVal}
 use Rattle.absval.specs.Table.{joined, immediate_known}
 use Rattle.verify.specs.declared.comparison.Comparison.{Comparison}
-use Rattle.verify.specs.Tables.{table}
+use Rattle.absmem.specs.Tables.{table}
 use Rattle.absval.specs.declared.value.AbsVal.TheVariants.{Unset, Number, Pointer}
 
 -- what is known of a register
