@@ -50,7 +50,10 @@ pub(crate) fn empty_cell(stack: &AbsStack, reach: Reach, value: AbsVal) -> Optio
     requires { reach.size ≤ 512 }
     ensures { result ≡ empty_cell stack.now reach value }
 {
-    let AbsVal::Pointer(Region::Stack, offsets) = value else {
+    let AbsVal::Pointer(region, offsets) = value else {
+        return None;
+    };
+    let Region::Stack = region else {
         return None;
     };
     let window = window_of(Region::Stack, offsets, reach.distance, reach.size);

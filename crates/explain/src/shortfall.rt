@@ -24,11 +24,7 @@ fn empty_of(insn: &Insn, state: &AbsState) -> Option<Sentence>
     ensures { result ≡ reached (empty_cell state.now.stack) insn.now state.now.registers }
 {
     let reach = reach_of(insn, &state.registers)?;
-    empty_cell(
-        &state.stack,
-        reach,
-        known_at(&state.registers, reach.base),
-    )
+    empty_cell(&state.stack, reach, known_at(&state.registers, reach.base))
 }
 
 /// A store to the context.

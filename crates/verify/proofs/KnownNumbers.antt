@@ -10,6 +10,7 @@ use Rattle.insn.specs.Insn.{IsOperand}
 use Rattle.semantics.specs.Plain.{IsIn, operand_reads, first_reads}
 use Rattle.absval.specs.declared.number_set.NumberSet.{NumberSet}
 use Rattle.absval.specs.Table.{joined, computed, mapped}
+use Rattle.absval.specs.Contains.{is_number}
 use Rattle.verify.specs.declared.reason.Reason.TheVariants as reason
 use Rattle.verify.specs.declared.reason.Reason.TheVariants.{FrameWrite}
 use Rattle.verify.specs.Registers.{known_at, operand_known, first_known}
@@ -17,25 +18,20 @@ use Rattle.verify.specs.Reasons.{first_reason, is_unset, made_checks, write_chec
 use Rattle.absval.specs.declared.value.AbsVal.TheVariants.{Unset, Number, Pointer}
 use Rattle.absval.specs.declared.value.AbsVal.{AbsVal}
 
-abbrev pub is_numbers : AbsVal → Bool
-is_numbers Unset = false
-is_numbers (Number n) = true
-is_numbers (Pointer region o) = false
-
 -- the register is known to hold a number
 abbrev pub number_at : List AbsVal → ℕ → Bool
-number_at known r = is_numbers (known_at known r)
+number_at known r = is_number (known_at known r)
 
 abbrev pub AreNumbers : Option AbsVal → Type 0
 AreNumbers None = ⊥
-AreNumbers (Some e) = is_numbers e ≡ true
+AreNumbers (Some e) = is_number e ≡ true
 
 pub true_or_not : (b : Bool) → (b ≡ false → ⊥) → b ≡ true
 true_or_not true h = refl
 true_or_not false h = absurd (h refl)
 
 -- a join of numbers is of numbers
-pub joined_numbers : (a b : AbsVal) → is_numbers (joined a b) ≡ false → (is_numbers a ≡ false) ⊎ (is_numbers b ≡ false)
+pub joined_numbers : (a b : AbsVal) → is_number (joined a b) ≡ false → (is_number a ≡ false) ⊎ (is_number b ≡ false)
 joined_numbers Unset b h = inl refl
 joined_numbers (Number m) Unset h = inr refl
 joined_numbers (Number m) (Number n) h = absurd cc
@@ -47,11 +43,11 @@ joined_numbers (Pointer region o) b h = inl refl
 abbrev pub AllKnown : List ℕ → List AbsVal → Type 0
 AllKnown rs known = (r : ℕ) → r < 11 → IsIn r rs → number_at known r ≡ true
 
-pub operand_numbers : (known : List AbsVal) (operand : Operand) → IsOperand operand → AllKnown (operand_reads operand) known → is_numbers (operand_known known operand) ≡ true
+pub operand_numbers : (known : List AbsVal) (operand : Operand) → IsOperand operand → AllKnown (operand_reads operand) known → is_number (operand_known known operand) ≡ true
 operand_numbers known (Register r) well all = all r (omega (arith, well)) (inl refl)
 operand_numbers known (Immediate n) well all = refl
 
-pub first_numbers : (known : List AbsVal) (operation : Operation) (dst : ℕ) → dst < 11 → AllKnown (first_reads operation dst) known → is_numbers (first_known known operation dst) ≡ true
+pub first_numbers : (known : List AbsVal) (operation : Operation) (dst : ℕ) → dst < 11 → AllKnown (first_reads operation dst) known → is_number (first_known known operation dst) ≡ true
 first_numbers known Move dst lt all = refl
 first_numbers known operation dst lt all = all dst lt (inl refl)
 
@@ -64,7 +60,7 @@ pub right_in : (rs ss : List ℕ) (r : ℕ) → IsIn r ss → IsIn r (rs ++ ss)
 right_in [] ss r h = h
 right_in (x ∷ rs) ss r h = inr (right_in rs ss r h)
 
-pub computed_numbers : (w : Width) (operation : Operation) (a b : AbsVal) → is_numbers a ≡ true → is_numbers b ≡ true → AreNumbers (computed w operation a b)
+pub computed_numbers : (w : Width) (operation : Operation) (a b : AbsVal) → is_number a ≡ true → is_number b ≡ true → AreNumbers (computed w operation a b)
 computed_numbers w Move (Number m) (Number n) h k = refl
 computed_numbers w operation (Number m) (Number n) h k = refl
 computed_numbers w operation Unset b h k = absurd cc
@@ -72,14 +68,14 @@ computed_numbers w operation (Pointer region o) b h k = absurd cc
 computed_numbers w operation (Number m) Unset h k = absurd cc
 computed_numbers w operation (Number m) (Pointer region o) h k = absurd cc
 
-pub mapped_numbers : (e : AbsVal) → is_numbers e ≡ true → (f : NumberSet → NumberSet) → AreNumbers (mapped f e)
+pub mapped_numbers : (e : AbsVal) → is_number e ≡ true → (f : NumberSet → NumberSet) → AreNumbers (mapped f e)
 mapped_numbers (Number n) h f = refl
 mapped_numbers Unset h f = absurd cc
 mapped_numbers (Pointer region o) h f = absurd cc
 
 -- ---- so the checks pass
 
-pub made_none : (dst : ℕ) (value : AbsVal) (made : Option AbsVal) → is_numbers value ≡ true → (dst ≡ 10 → ⊥) → AreNumbers made → first_reason (made_checks dst value made) ≡ None
+pub made_none : (dst : ℕ) (value : AbsVal) (made : Option AbsVal) → is_number value ≡ true → (dst ≡ 10 → ⊥) → AreNumbers made → first_reason (made_checks dst value made) ≡ None
 made_none dst Unset made h other k = absurd cc
 made_none dst (Pointer region o) made h other k = absurd cc
 made_none dst (Number n) None h other k = absurd k
@@ -89,7 +85,7 @@ made_none dst (Number n) (Some e) h other k = by_test (dst == 10) refl
     by_test true e = absurd (other (eqb-true dst 10 (sym e)))
     by_test false e = refl
 
-pub arithmetic_none : (first : AbsVal) (dst : ℕ) (value : AbsVal) (made : Option AbsVal) → is_numbers first ≡ true → first_reason (made_checks dst value made) ≡ None →
+pub arithmetic_none : (first : AbsVal) (dst : ℕ) (value : AbsVal) (made : Option AbsVal) → is_number first ≡ true → first_reason (made_checks dst value made) ≡ None →
     first_reason ((is_unset first, reason.Unset) ∷ made_checks dst value made) ≡ None
 arithmetic_none Unset dst value made h k = absurd cc
 arithmetic_none (Pointer region o) dst value made h k = absurd cc
@@ -102,14 +98,14 @@ write_none dst other = by_test (dst == 10) refl
     by_test true e = absurd (other (eqb-true dst 10 (sym e)))
     by_test false e = refl
 
-pub compare_none : (a b : AbsVal) → is_numbers a ≡ true → is_numbers b ≡ true → first_reason (compare_checks a b) ≡ None
+pub compare_none : (a b : AbsVal) → is_number a ≡ true → is_number b ≡ true → first_reason (compare_checks a b) ≡ None
 compare_none (Number m) (Number n) h k = refl
 compare_none Unset b h k = absurd cc
 compare_none (Pointer region o) b h k = absurd cc
 compare_none (Number m) Unset h k = absurd cc
 compare_none (Number m) (Pointer region o) h k = absurd cc
 
-pub exit_none : (a : AbsVal) → is_numbers a ≡ true → first_reason (exit_checks a) ≡ None
+pub exit_none : (a : AbsVal) → is_number a ≡ true → first_reason (exit_checks a) ≡ None
 exit_none (Number m) h = refl
 exit_none Unset h = absurd cc
 exit_none (Pointer region o) h = absurd cc

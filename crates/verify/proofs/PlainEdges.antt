@@ -12,11 +12,12 @@ use Rattle.insn.specs.Insn.{IsOperand}
 use Rattle.semantics.specs.Plain.{IsIn, writes, leads_to}
 use Rattle.absval.specs.NumberSets.{single, refined}
 use Rattle.absval.specs.declared.number_set.NumberSet.{NumberSet}
+use Rattle.absval.specs.Contains.{is_number}
 use Rattle.verify.specs.declared.state.AbsState.{AbsState}
 use Rattle.verify.specs.Registers.{known_at, operand_known, refined_known, edge_known}
 use Rattle.verify.specs.Transfer.{assigned, Edge, edge_to}
 use Rattle.verify.proofs.Zips.{at_set}
-use Rattle.verify.proofs.KnownNumbers.{is_numbers, number_at, AreNumbers}
+use Rattle.verify.proofs.KnownNumbers.{number_at, AreNumbers}
 use Rattle.absval.specs.declared.value.AbsVal.TheVariants.{Unset, Number, Pointer}
 use Rattle.absval.specs.declared.value.AbsVal.{AbsVal}
 
@@ -31,11 +32,11 @@ EdgesFine i unit known [] = Unit {0}
 EdgesFine i unit known (e ∷ es) = EdgeFine i unit known e × EdgesFine i unit known es
 
 -- a number is put into a register
-pub put_number : (known : List AbsVal) (dst r : ℕ) (e : AbsVal) → length known ≡ 11 → dst < 11 → is_numbers e ≡ true → number_at (set known dst e) r ≡ false →
+pub put_number : (known : List AbsVal) (dst r : ℕ) (e : AbsVal) → length known ≡ 11 → dst < 11 → is_number e ≡ true → number_at (set known dst e) r ≡ false →
     (r ≢ dst) × (number_at known r ≡ false)
 put_number known dst r e size lt h =
     let inside : dst < length known = omega arith in
-    at_set (λ (x : AbsVal). is_numbers x ≡ false → (r ≢ dst) × (number_at known r ≡ false)) known dst r e Unset inside (λ same k. absurd cc) (λ other k. (other, k))
+    at_set (λ (x : AbsVal). is_number x ≡ false → (r ≢ dst) × (number_at known r ≡ false)) known dst r e Unset inside (λ same k. absurd cc) (λ other k. (other, k))
 
 pub assigned_edge : (i : Insn) (unit to : ℕ) (a : AbsState) (dst : ℕ) (o : Option AbsVal) → length a.registers ≡ 11 → dst < 11 → AreNumbers o →
     IsIn (pos to) (leads_to i unit) → ((r : ℕ) → IsIn r (writes i) → r ≡ dst) → EdgeFine i unit a.registers (pos to, assigned a dst o)
@@ -57,9 +58,9 @@ abbrev pub Narrows : List AbsVal → Option (List AbsVal) → Type 0
 Narrows known o = IfSome o (λ left. (length left ≡ 11) × ((r : ℕ) → r < 11 → number_at left r ≡ false → number_at known r ≡ false))
 
 abbrev pub ArePair : Option (AbsVal × AbsVal) → Type 0
-ArePair o = IfSome o (λ e. (is_numbers e.0 ≡ true) × (is_numbers e.1 ≡ true))
+ArePair o = IfSome o (λ e. (is_number e.0 ≡ true) × (is_number e.1 ≡ true))
 
-pub refined_pair : (w : Width) (c : Condition) (way : Bool) (a b : AbsVal) → is_numbers a ≡ true → is_numbers b ≡ true → ArePair (refined_known w c way a b)
+pub refined_pair : (w : Width) (c : Condition) (way : Bool) (a b : AbsVal) → is_number a ≡ true → is_number b ≡ true → ArePair (refined_known w c way a b)
 refined_pair w c way (Number m) (Number n) h k = by_left (refined w c way m n)
   where
     by_left : (o : Option (NumberSet × NumberSet)) → ArePair (option_map (λ e. (Number e.0, Number e.1)) o)
@@ -87,7 +88,7 @@ either_narrows true known o size h = (size, λ r low none. none)
 either_narrows false known o size h = h
 
 pub edge_narrows : (w : Width) (c : Condition) (dst : ℕ) (operand : Operand) (way : Bool) (known : List AbsVal) → length known ≡ 11 → dst < 11 → IsOperand operand →
-    is_numbers (known_at known dst) ≡ true → is_numbers (operand_known known operand) ≡ true →
+    is_number (known_at known dst) ≡ true → is_number (operand_known known operand) ≡ true →
     Narrows known (edge_known (record { width = w; condition = c; dst = dst; operand = operand }) way known)
 edge_narrows w c dst (Register src) way known size lt well h k =
     either_narrows (dst == src) known (option_map (λ e. set (set known dst e.0) src e.1) (refined_known w c way (known_at known dst) (known_at known src))) size

@@ -9,6 +9,7 @@ use Rattle.insn.specs.Program.{slots_of, instruction_at}
 use Rattle.insn.proofs.WellLemmas.{found_well}
 use Rattle.semantics.specs.Plain.{IsIn, IsPlain, Unwritten, at_entry, along as goes_along, leads_to}
 use Rattle.absval.specs.Table.{joined}
+use Rattle.absval.specs.Contains.{is_number}
 use Rattle.verify.specs.declared.error.VerifyError.{VerifyError}
 use Rattle.verify.specs.declared.reason.Reason.{Reason}
 use Rattle.verify.specs.declared.state.AbsState.{AbsState}
@@ -21,7 +22,7 @@ use Rattle.verify.proofs.Edges.{start_inside}
 use Rattle.verify.proofs.PlainWalk.{structure_of_plain}
 use Rattle.absmem.specs.TableLaws.{length-table, table_at}
 use Rattle.verify.proofs.Zips.{at_set}
-use Rattle.verify.proofs.KnownNumbers.{is_numbers, number_at, true_or_not, joined_numbers}
+use Rattle.verify.proofs.KnownNumbers.{number_at, true_or_not, joined_numbers}
 use Rattle.verify.proofs.PlainEdges.{EdgesFine}
 use Rattle.verify.proofs.PlainRuns.{instruction_runs}
 use Rattle.absval.specs.declared.value.AbsVal.TheVariants.{Unset}
@@ -45,7 +46,7 @@ met_fine program unit a b h k =
           let here : known_at both r ≡ joined (known_at a.registers r) (known_at b.registers r) =
           table_at 11 (λ n. joined (known_at a.registers n) (known_at b.registers n)) r Unset low in
           ⊎_elim (λ e. h.blank r low e) (λ e. k.blank r low e)
-          (joined_numbers (known_at a.registers r) (known_at b.registers r) (subst (λ (e : AbsVal). is_numbers e ≡ false) here none));
+          (joined_numbers (known_at a.registers r) (known_at b.registers r) (subst (λ (e : AbsVal). is_number e ≡ false) here none));
     }
 
 joined_fine : (program : List Insn) (unit : ℕ) (o : Option AbsState) (a : AbsState) → IfSome o (λ b. FineAt program unit b) → FineAt program unit a → FineAt program unit (joined_with o a)

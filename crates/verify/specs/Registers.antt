@@ -1,4 +1,4 @@
--- What is known of the registers, by its ends, and what a conditional jump tells of it (own).
+-- What is known of the registers, and what a conditional jump tells of it (own).
 use Rattle.std.specs.Prelude.{ℕ, pos, ◌<◌, ◌≡◌, ◌==◌, Bool, if◌then◌else◌, List, [], ◌∷◌, Option, Some, option_map, slice_index_or, slice_set}
 use Rattle.std.specs.Int.{w64, cast_unsigned}
 use Rattle.word.specs.declared.Width.{Width}
