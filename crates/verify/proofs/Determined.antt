@@ -1,6 +1,6 @@
 -- What the relations say of states that are joined and left behind determines what is known there.
 use Rattle.std.proofs.Common.{◌≡◌, ◌∙◌, ℕ, ◌+◌, ◌*◌, ◌/◌, ◌%◌, ◌<◌, List, [], ◌∷◌, arith, refl, sym, ap, ap₂, subst, Bool, true, false, Option, Some, None, eqb-true, eq-eqb}
-use Rattle.std.specs.Prelude.{ℤ, ◌==◌, ◌&&◌, nat_le, nat_lt, if◌then◌else◌, map, slice_set, IfSome}
+use Rattle.std.specs.Prelude.{ℤ, pos, is_some, unwrap_or, option_map, ◌==◌, ◌&&◌, nat_le, nat_lt, if◌then◌else◌, map, replicate, slice_set, IfSome}
 use Rattle.std.specs.Bool.{MatchBool}
 use Rattle.std.specs.Result.{result_ok}
 use Rattle.std.proofs.lemmas.List.{map-set, get_or-replicate}
@@ -30,13 +30,12 @@ use Rattle.verify.specs.Reasons.{Assigns}
 use Rattle.verify.specs.MemoryTable.{HasPutBytes, HasSpreadBytes, HasPutPointer, StoresNumber, StoresPointer, Stores}
 use Rattle.verify.specs.Calls.{arguments_reason, window_from, target_reason, copy_reason, window_reason, helper_reason, is_certain, IsBehind, IsWritten, IsWrittenTo, IsCopied, StackBehind, IsBelow, IsPointer}
 use Rattle.verify.specs.Calls.{abstract_at as argument}
-use Rattle.verify.specs.Flow.{IsJoin}
 use Rattle.verify.specs.Instructions.{reason_of, Becomes}
-use Rattle.verify.specs.Passes.{IsEntry}
-use Rattle.verify.specs.Knowledge.{value_of, stack_of, byte_behind, spill_behind, put_bytes, spread_bytes, put_pointer, at_entry, met}
-use Rattle.verify.specs.Transfer.{assigned, number_stored, pointer_stored, stored, written, copied, stack_behind, called, follows}
+use Rattle.verify.specs.Knowledge.{value_of, stack_of, listed, told, byte_behind, spill_behind, put_bytes, spread_bytes, put_pointer, at_entry, met}
+use Rattle.verify.specs.Transfer.{assigned, number_stored, pointer_stored, stored, written, copied, stack_behind, called, follows, edge_to}
+use Rattle.verify.specs.Judgement.{KnownSoFar, along, along_all}
 use Rattle.verify.proofs.TableLemmas.{table_at, table_same}
-use Rattle.verify.proofs.SameReads.{listed, told, load_same, signed_same}
+use Rattle.verify.proofs.SameReads.{load_same, signed_same}
 use Rattle.verify.proofs.CallArguments.{or_parts, copy_arguments}
 
 -- ---- registers
@@ -116,22 +115,24 @@ pointer_is place region offset old new h =
 -- ---- states
 
 -- where two paths meet
-pub met_is : (a kept b : AbsState) → IsJoin a kept b → told b ≡ met (told a) (told kept)
-met_is a kept b h =
+pub met_is : (a kept b : AbsState) → seen b.registers ≡ joined_all (seen a.registers) (seen kept.registers) →
+    ((k : ℕ) → byte_at b.stack.bytes k ≡ (byte_at a.stack.bytes k && byte_at kept.stack.bytes k)) →
+    ((n : ℕ) → n < 64 → spill_at b.stack.spills n ≡ joined_spill (spill_at a.stack.spills n) (spill_at kept.stack.spills n)) → told b ≡ met (told a) (told kept)
+met_is a kept b registers bytes spills =
     ap₂ (λ (xs : List AbsVal) (known : Known). record { registers = xs; stack = known })
-    (registers_are b.registers (joined_all (seen a.registers) (seen kept.registers)) h.registers)
+    (registers_are b.registers (joined_all (seen a.registers) (seen kept.registers)) registers)
     (stack_is b.stack (λ k. byte_at (listed a.stack).bytes k && byte_at (listed kept.stack).bytes k)
     (λ n. joined_spill (spill_at (listed a.stack).spills n) (spill_at (listed kept.stack).spills n))
-    (λ k lt. h.bytes k ∙ sym (ap₂ (λ (s t : Bool). s && t) (byte_listed a.stack k lt) (byte_listed kept.stack k lt)))
-    (λ n lt. h.spills n lt ∙ sym (ap₂ joined_spill (spill_listed a.stack n lt) (spill_listed kept.stack n lt))))
+    (λ k lt. bytes k ∙ sym (ap₂ (λ (s t : Bool). s && t) (byte_listed a.stack k lt) (byte_listed kept.stack k lt)))
+    (λ n lt. spills n lt ∙ sym (ap₂ joined_spill (spill_listed a.stack n lt) (spill_listed kept.stack n lt))))
 
-pub entry_is : (a : AbsState) → IsEntry a → told a ≡ at_entry
-entry_is a h =
+pub entry_is : (a : AbsState) → seen a.registers ≡ entry_known → a.stack.bytes ≡ replicate 512 false → a.stack.spills ≡ replicate 64 Free → told a ≡ at_entry
+entry_is a registers bytes spills =
     ap₂ (λ (xs : List AbsVal) (known : Known). record { registers = xs; stack = known })
-    (registers_are a.registers entry_known h.registers)
+    (registers_are a.registers entry_known registers)
     (stack_is a.stack (λ k. false) (λ n. Free)
-    (λ k lt. ap (λ bytes. byte_at bytes k) h.bytes ∙ get_or-replicate 512 k false false lt)
-    (λ n lt. ap (λ spills. spill_at spills n) h.spills ∙ get_or-replicate 64 n Free Free lt))
+    (λ k lt. ap (λ bytes. byte_at bytes k) bytes ∙ get_or-replicate 512 k false false lt)
+    (λ n lt. ap (λ spills. spill_at spills n) spills ∙ get_or-replicate 64 n Free Free lt))
 
 -- a register is assigned
 assigned_is : (old new : AbsState) (dst : ℕ) (o p : Option Ends) → o ≡ p → Assigns old dst o new → told new ≡ assigned (told old) dst p
@@ -139,6 +140,13 @@ assigned_is old new dst o None e h = absurd (subst (λ (q : Option Ends). Assign
 assigned_is old new dst o (Some value) e h =
     let k = subst (λ (q : Option Ends). Assigns old dst q new) e h in
     ap₂ (λ (xs : List AbsVal) (known : Known). record { registers = xs; stack = listed known }) (set_is old.registers new.registers dst value k.0) k.1
+
+-- an edge of a conditional jump is followed with what it tells
+pub edge_is : (unit : ℕ) (o : Option (List Ends)) (a b : AbsState) (old new : KnownSoFar) → true ≡ is_some o → seen b.registers ≡ unwrap_or o (seen a.registers) → b.stack ≡ a.stack →
+    new ≡ along (pos unit, told b) old → new ≡ along_all (edge_to (pos unit) (option_map (λ known. record { registers = map value_of known; stack = (told a).stack }) o)) old
+edge_is unit None a b old new e registers stack h = absurd cc
+edge_is unit (Some known) a b old new e registers stack h =
+    h ∙ ap₂ (λ (xs : List AbsVal) (s : Known). along (pos unit, record { registers = xs; stack = listed s }) old) (registers_are b.registers known registers) stack
 
 -- ---- stores
 

@@ -29,15 +29,8 @@ use Rattle.verify.specs.MemoryTable.{all_bytes, unset_in, unless, spilled_at, sp
 use Rattle.verify.specs.Calls.{or_reason, reason_if, arguments_reason, window_from, source_reason, row_reason, window_reason, helper_reason}
 use Rattle.verify.specs.Calls.{abstract_at as argument}
 use Rattle.verify.specs.Instructions.{reason_of}
-use Rattle.verify.specs.Knowledge.{stack_of}
+use Rattle.verify.specs.Knowledge.{listed, told}
 use Rattle.verify.proofs.TableLemmas.{table_at}
-
--- a stack, and a state with its stack, cell by cell
-abbrev pub listed : Known → Known
-listed known = stack_of (byte_at known.bytes) (spill_at known.spills)
-
-abbrev pub told : AbsState → AbsState
-told a = record { registers = a.registers; stack = listed a.stack }
 
 bytes_listed : (known : Known) (place size : ℕ) → place + size ≤ 512 → all_bytes (listed known).bytes place size ≡ all_bytes known.bytes place size
 bytes_listed known place zero fits = refl

@@ -24,6 +24,10 @@ value_of (Pointers region o) = Pointer region (record { low = o.0; high = o.1 })
 abbrev pub stack_of : (ℕ → Bool) → (ℕ → Spill) → Known
 stack_of byte spill = record { bytes = table 512 byte; spills = table 64 spill }
 
+-- a stack once more, so told
+abbrev pub listed : Known → Known
+listed known = stack_of (byte_at known.bytes) (spill_at known.spills)
+
 -- what is known of a cell once those from one place up to another have become so
 abbrev pub byte_behind : Bool → ℕ → ℕ → Known → ℕ → Bool
 byte_behind value place end known k = if nat_le place k && nat_lt k end then value else byte_at known.bytes k
@@ -47,6 +51,10 @@ put_pointer place region offset known =
     (λ b. if b == place / 8 then Whole (place % 8) region offset else spill_behind place (place + 8) known b)
 
 -- ---- states
+
+-- a state once more, its stack so told
+abbrev pub told : AbsState → AbsState
+told a = record { registers = a.registers; stack = listed a.stack }
 
 -- at the entry r1 points to the context and r10 to the end of the stack, of which nothing is known
 abbrev pub at_entry : AbsState
