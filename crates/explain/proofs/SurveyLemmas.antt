@@ -1,8 +1,6 @@
 -- What the verifier's survey tells of a program is what its one function knows there.
 use Rattle.std.proofs.Common.{◌≡◌, ◌∙◌, ℕ, zero, suc, ◌+◌, ◌-◌, ◌<◌, ◌≤◌, List, [], ◌∷◌, ◌++◌, length, arith, refl, sym, ap, ap₂, Bool, true, false, Option, Some, None, Result, Ok, Err}
 use Rattle.std.specs.Prelude.{ℤ, pos, negsuc, ◌+ℤ◌, ◌-ℤ◌, ◌&&◌, nat_le, nat_lt, option_map, option_and_then, slice_get, if◌then◌else◌, IsSome}
-use Rattle.std.specs.Result.{result_ok}
-use Rattle.std.proofs.lemmas.Option.{slice_get-get_or, slice_get_past}
 use Rattle.insn.specs.declared.insn.Insn.{Insn}
 use Rattle.insn.specs.Insn.{units_of}
 use Rattle.insn.specs.Program.{slots_of, instruction_at}
@@ -19,24 +17,16 @@ use Rattle.verify.specs.declared.error.VerifyError.TheVariants.{At, Memory}
 use Rattle.verify.specs.declared.reason.Reason.{Reason}
 use Rattle.verify.specs.declared.reason.Reason.TheVariants as reason
 use Rattle.verify.specs.declared.state.AbsState.{AbsState}
-use Rattle.verify.specs.Structure.{structural_fault}
-use Rattle.verify.specs.Kept.{Kept}
-use Rattle.verify.specs.Flow.{kept_at}
-use Rattle.verify.specs.Passes.{reason_at}
 use Rattle.verify.specs.Calls.{abstract_at}
-use Rattle.verify.specs.Transfer.{edges}
-use Rattle.verify.specs.Judgement.{KnownSoFar, reached_at, along_all, settled, passed_at, passed_on, passed_to, judged}
-use Rattle.verify.specs.KnownAtUnits.{AreKnown, EndsSo, IsLast, IsSurvey, known_of}
+use Rattle.verify.specs.Knowledge.{listed, told}
+use Rattle.verify.specs.KnownAtUnits.{known_before, told_there, IsSurvey}
 use Rattle.verify.proofs.Edges.{start_inside}
 use Rattle.verify.proofs.TableLemmas.{table_at}
-use Rattle.verify.proofs.SameReads.{listed, told, reason_same}
-use Rattle.verify.proofs.Walk.{forward_of_structure}
-use Rattle.verify.proofs.JudgedRuns.{comes_agree, known, structural_judged, stopped_judged, through_judged}
 use Rattle.explain.specs.declared.reach.Reach.{Reach}
 use Rattle.explain.specs.declared.sentence.Sentence.TheVariants as sentence
 use Rattle.explain.specs.declared.sentence.Access.TheVariants as access
 use Rattle.explain.specs.Shortfalls.{first_empty, empty_in, empty_cell, reach_of, shortfall, touched}
-use Rattle.explain.specs.Explained.{KnownByUnit, known_before, known_by, line_if, lines_by, refused_at, refused_line, sentence_line, sentence_of, known_lines, explained}
+use Rattle.explain.specs.Explained.{KnownByUnit, known_by, line_if, lines_by, refused_at, refused_line, sentence_line, sentence_of, known_lines, explained}
 
 -- ---- a stack that is told cell by cell has the same first empty cell
 
@@ -125,10 +115,6 @@ refused_same : (units : ℕ) (known : Option AbsState) (r : Reason) (unit : ℕ)
 refused_same units known r unit None = refl
 refused_same units known r unit (Some i) = ap (sentence_line unit i) (sentence_same units r unit i known)
 
--- what is known at a unit, with its stack cell by cell
-abbrev told_there : Option (Option AbsState) → Option (Option AbsState)
-told_there here = option_map (option_map told) here
-
 line_same : (unit : ℕ) (i : Insn) (here : Option (Option AbsState)) → line_if unit i (told_there here) ≡ line_if unit i here
 line_same unit i None = refl
 line_same unit i (Some None) = refl
@@ -151,79 +137,7 @@ units_same survey other end unit (i ∷ is) fits agree =
     sym (line_same unit i (survey unit)) ∙ ap (line_if unit i) (agree unit (omega (arith, more, one))) in
     ap₂ (λ (line lines : List ℕ). line ++ lines) here (units_same survey other end (unit + units_of i) is (omega (arith, more)) agree)
 
--- ---- the survey agrees with the function
-
--- behind a fault the answer stays
-stays : (program : List Insn) (fault : VerifyError) (unit more : ℕ) → passed_to program unit ≡ Err fault → passed_to program (more + unit) ≡ Err fault
-unfolding passed_to
-stays program fault unit zero e = let same : 0 + unit ≡ unit = omega arith in ap (passed_to program) same ∙ e
-stays program fault unit (suc more) e =
-    let next : suc more + unit ≡ suc (more + unit) = omega arith in
-    ap (passed_to program) next ∙ ap (passed_on program (more + unit)) (stays program fault unit more e)
-
-stopped_at : (unit : ℕ) (o : Option Insn) (kept : Kept) (reached : KnownSoFar) (r : Reason) → reason_at o kept ≡ Some r → passed_at unit o (known kept) reached ≡ Err (At r unit)
-stopped_at unit None kept reached r e = absurd cc
-stopped_at unit (Some i) None reached r e = absurd cc
-stopped_at unit (Some i) (Some a) reached r e =
-    ap (λ (o : Option Reason). settled o unit (along_all (edges i unit (told a.value)) reached)) (reason_same i a.value ∙ e)
-
-there_is : (o : Option Insn) (kept : Kept) (r : Reason) → reason_at o kept ≡ Some r → IsSome o
-there_is None kept r e = absurd cc
-there_is (Some i) kept r e = refl
-
--- behind the last unit of a survey that ends with a fault the function comes to none
-no_more : (program : List Insn) (states : List (Option AbsState)) (fault : VerifyError) (unit : ℕ) → structural_fault program ≡ None → IsLast program states fault → length states ≤ unit
-    → result_ok (passed_to program unit) ≡ None
-unfolding passed_to
-no_more program states fault unit none last past =
-    let at = last.unit in
-    let inside : at < length (slots_of program) = start_inside program at (there_is (instruction_at program at) (kept_at last.pending at) last.reason last.stops) in
-    let before = comes_agree program (forward_of_structure program none) at last.pending (omega arith) last.comes in
-    let here : passed_at at (instruction_at program at) (reached_at before.0 at) before.0 ≡ Err (At last.reason at) =
-    ap (λ (o : Option AbsState). passed_at at (instruction_at program at) o before.0) (sym (before.2.each at (omega arith) inside))
-    ∙ stopped_at at (instruction_at program at) (kept_at last.pending at) before.0 last.reason last.stops in
-    let now : passed_to program (suc at) ≡ Err (At last.reason at) = ap (passed_on program at) before.1 ∙ here in
-    let ends = last.last in
-    let sum : (unit - suc at) + suc at ≡ unit = omega (arith, ends) in
-    let there : passed_to program unit ≡ Err (At last.reason at) = ap (passed_to program) (sym sum) ∙ stays program (At last.reason at) (suc at) (unit - suc at) now in
-    ap result_ok there
-
-module _ (program : List Insn) (states : List (Option AbsState)) (none : structural_fault program ≡ None) where
-  function_is : (o : Option KnownSoFar) (unit : ℕ) → result_ok (passed_to program unit) ≡ o → known_before program unit ≡ option_map (λ reached. reached_at reached unit) o
-  function_is o unit e = rw (none, e) refl
-
-  -- at a unit to which the survey comes
-  inside_agrees : (unit : ℕ) → AreKnown program states → unit < length states → unit < length (slots_of program) → told_there (slice_get states unit) ≡ known_before program unit
-  inside_agrees unit are lt room =
-      let here = are unit lt in
-      let comes = comes_agree program (forward_of_structure program none) unit here.0 (omega arith) here.1 in
-      let each : known (kept_at here.0 unit) ≡ reached_at comes.0 unit = comes.2.each unit (omega arith) room in
-      ap told_there (slice_get-get_or states unit None lt)
-      ∙ (ap (λ (o : Option AbsState). Some (option_map told o)) here.2
-      ∙ (ap (λ (o : Option AbsState). Some o) (told_known (kept_at here.0 unit) ∙ each)
-      ∙ sym (function_is (Some comes.0) unit (ap result_ok comes.1))))
-    where
-      told_known : (slot : Kept) → option_map told (known_of slot) ≡ known slot
-      told_known None = refl
-      told_known (Some a) = refl
-
-  -- past it
-  outside_agrees : (fault : Option VerifyError) (unit : ℕ) → EndsSo program states fault → length states ≤ unit → unit < length (slots_of program) → told_there (slice_get states unit) ≡ known_before program unit
-  outside_agrees None unit ends past room = let all = ends.0 in absurd (omega (arith, all))
-  outside_agrees (Some fault) unit ends past room =
-      ap told_there (slice_get_past states unit past) ∙ sym (function_is None unit (no_more program states fault unit none ends past))
-
-  agrees : (fault : Option VerifyError) → AreKnown program states → EndsSo program states fault → Agree (slice_get states) (known_before program) (length (slots_of program))
-  agrees fault are ends unit room = by_test (nat_lt unit (length states)) refl
-    where
-      by_test : (b : Bool) → nat_lt unit (length states) ≡ b → told_there (slice_get states unit) ≡ known_before program unit
-      by_test true e = inside_agrees unit are (grind (arith)) room
-      by_test false e = outside_agrees fault unit ends (grind (arith)) room
-
-  fault_is : (fault : Option VerifyError) → EndsSo program states fault → fault ≡ judged program
-  fault_is None ends = sym (through_judged program none ends.1)
-  fault_is (Some fault) last =
-      sym (stopped_judged program fault none (last.unit, last.reason, record { pending = last.pending; comes = last.comes; stops = last.stops }, last.told))
+-- ---- the lines of a survey
 
 refused_agrees : (program : List Insn) (survey other : KnownByUnit) (fault : Option VerifyError) → Agree survey other (length (slots_of program)) → refused_line survey program fault ≡ refused_line other program fault
 refused_agrees program survey other None agree = refl
@@ -242,22 +156,10 @@ refused_agrees program survey other (Some (At r unit)) agree = by_insn (instruct
 
 -- the lines of the survey are those of the program
 pub survey_explained : (program : List Insn) (states : List (Option AbsState)) (fault : Option VerifyError) → IsSurvey program states fault → lines_by (slice_get states) program fault ≡ explained program
-survey_explained program states fault survey = by_structure (structural_fault program) refl
-  where
-    same : Agree (slice_get states) (known_before program) (length (slots_of program)) → fault ≡ judged program → lines_by (slice_get states) program fault ≡ explained program
-    same agree is =
-        ap₂ (λ (lines last : List ℕ). lines ++ last) (units_same (slice_get states) (known_before program) (length (slots_of program)) 0 program (omega arith) agree)
-        (refused_agrees program (slice_get states) (known_before program) fault agree)
-        ∙ ap (lines_by (known_before program) program) is
-
-    by_structure : (o : Option VerifyError) → structural_fault program ≡ o → lines_by (slice_get states) program fault ≡ explained program
-    by_structure None none = same (agrees program states none fault survey.known (survey.ends none)) (fault_is program states none fault (survey.ends none))
-    by_structure (Some first) some =
-        let both : (fault ≡ Some first) × (states ≡ []) = rw some at survey.structural in
-        same (λ unit room. ap (λ (s : List (Option AbsState)). told_there (slice_get s unit)) both.1 ∙ (ap told_there (slice_get_past [] unit (omega arith)) ∙ sym (nothing unit))) (both.0 ∙ sym (structural_judged program first some))
-      where
-        nothing : (unit : ℕ) → known_before program unit ≡ None
-        nothing unit = rw some refl
+survey_explained program states fault survey =
+    ap₂ (λ (lines last : List ℕ). lines ++ last) (units_same (slice_get states) (known_before program) (length (slots_of program)) 0 program (omega arith) survey.known)
+    (refused_agrees program (slice_get states) (known_before program) fault survey.known)
+    ∙ ap (lines_by (known_before program) program) survey.fault_is
 
 -- a text that grows by the lines of the survey, from nothing
 pub told_whole : (program insns : List Insn) (states shown : List (Option AbsState)) (fault : Option VerifyError) (start middle last : List ℕ) → IsSurvey program states fault

@@ -25,6 +25,9 @@ AreKnown program states = (unit : ℕ) → unit < length states → told_there (
 on_the_pass : (program : List Insn) (unit : ℕ) (r : Result KnownSoFar VerifyError) → passed_to program unit ≡ r → known_on_the_pass program unit ≡ option_map (λ (reached : KnownSoFar). reached_at reached unit) (result_ok r)
 on_the_pass program unit r e = ap (λ (x : Result KnownSoFar VerifyError). option_map (λ (reached : KnownSoFar). reached_at reached unit) (result_ok x)) e
 
+pub none_known : (program : List Insn) (states : List (Option AbsState)) → states ≡ [] → AreKnown program states
+none_known program states e unit lt = absurd (let none : length states ≡ 0 = ap (λ (s : List (Option AbsState)). length s) e in omega (arith, lt, none))
+
 -- one unit more
 pub known_more : (program : List Insn) (states : List (Option AbsState)) (pending : KnownSoFar) (here : Option AbsState) (unit : ℕ) → AreKnown program states → length states ≡ unit →
     passed_to program unit ≡ Ok pending → option_map told here ≡ reached_at pending unit → AreKnown program (states ++ here ∷ [])
