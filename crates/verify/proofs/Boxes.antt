@@ -5,7 +5,6 @@ use Rattle.std.specs.declared.alloc.Global.{Global}
 use Rattle.std.proofs.lemmas.List.{map-set, set-set}
 use Rattle.verify.specs.declared.state.AbsState.{AbsState}
 use Rattle.verify.specs.Kept.{unboxed, all_unboxed}
-use Rattle.verify.specs.Knowledge.{told}
 use Rattle.verify.specs.Judgement.{KnownSoFar, reached_at, joined_with, along}
 
 pub set_unboxed : (states : List (Option (Box AbsState Global))) (items : KnownSoFar) (unit : ℕ) (x y : Option (Box AbsState Global)) → all_unboxed states ≡ items → x ≡ y →

@@ -1,10 +1,10 @@
 -- What the verifier answers, from what is judged.
-use Rattle.std.proofs.Common.{◌≡◌, ◌∙◌, ◌⊎◌, inl, inr, List, Option, Some, None, refl, sym, subst}
+use Rattle.std.proofs.Common.{◌≡◌, ◌⊎◌, inl, inr, List, Option, Some, None, refl, sym, subst}
 use Rattle.std.specs.Prelude.{IsSome}
 use Rattle.std.specs.List.{AllByRecursion}
 use Rattle.insn.specs.declared.insn.Insn.{Insn}
 use Rattle.insn.specs.Insn.{IsInsn}
-use Rattle.insn.specs.Program.{slots_of, instruction_at}
+use Rattle.insn.specs.Program.{instruction_at}
 use Rattle.semantics.specs.Plain.{IsPlain}
 use Rattle.verify.specs.declared.error.VerifyError.{VerifyError}
 use Rattle.verify.specs.declared.error.VerifyError.TheVariants.{Memory}

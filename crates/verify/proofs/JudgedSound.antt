@@ -36,7 +36,7 @@ use Rattle.verify.proofs.StepSound.{IsMeant}
 use Rattle.verify.proofs.JoinSound.{entry_meant, entry_described}
 use Rattle.verify.proofs.EdgesSound.{DescribedBy}
 use Rattle.verify.proofs.Taken.{taken_if, length-along, length-passed_at}
-use Rattle.verify.proofs.PassSound.{AreMeant, At, Keeps, Lands, along_meant, along_takes, unit_leads, unit_meant, unit_keeps}
+use Rattle.verify.proofs.PassSound.{AreMeant, At, Lands, along_meant, along_takes, unit_leads, unit_meant, unit_keeps}
 
 -- ---- a unit is passed
 

@@ -14,7 +14,7 @@ use Rattle.verify.specs.Instructions.{reason_of}
 use Rattle.verify.specs.Knowledge.{told, at_entry}
 use Rattle.verify.specs.Transfer.{edges}
 use Rattle.verify.specs.Judgement.{KnownSoFar, reached_at, along, along_all, settled, passed_at, passed_on, passed_to, first_of, judged}
-use Rattle.verify.specs.Passes.{reason_at, ComesThrough, IsStopped, IsFirstFault}
+use Rattle.verify.specs.Passes.{reason_at, ComesThrough, IsFirstFault}
 use Rattle.verify.proofs.Edges.{start_inside}
 use Rattle.verify.proofs.Taken.{length-along}
 

@@ -1,10 +1,9 @@
 -- The code passes an instruction that goes on behind itself as the function does.
-use Rattle.std.proofs.Common.{◌≡◌, ◌∙◌, ℕ, ◌+◌, [], ◌∷◌, refl, sym, ap, ap₂, List, Option, Some, None, Result, Ok, Err}
+use Rattle.std.proofs.Common.{◌≡◌, ◌∙◌, ℕ, ◌+◌, [], ◌∷◌, refl, sym, ap, ap₂, List, Option, Some, None, Ok, Err}
 use Rattle.std.specs.Prelude.{pos}
 use Rattle.insn.specs.declared.insn.Insn.{Insn}
 use Rattle.insn.specs.declared.insn.Insn.TheVariants.{Arithmetic, Negate, SignExtend, Swap, LoadNumber, Jump, LongJump, Branch, Load, LoadSigned, Store, Call, Exit}
 use Rattle.insn.specs.Insn.{units_of}
-use Rattle.verify.specs.declared.error.VerifyError.{VerifyError}
 use Rattle.verify.specs.declared.error.VerifyError.TheVariants.{At}
 use Rattle.verify.specs.declared.reason.Reason.{Reason}
 use Rattle.verify.specs.declared.state.AbsState.{AbsState}

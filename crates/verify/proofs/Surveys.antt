@@ -13,7 +13,7 @@ use Rattle.verify.specs.declared.error.VerifyError.TheVariants.{At, Memory}
 use Rattle.verify.specs.declared.state.AbsState.{AbsState}
 use Rattle.verify.specs.Structure.{structural_fault}
 use Rattle.verify.specs.Knowledge.{told}
-use Rattle.verify.specs.Judgement.{KnownSoFar, reached_at, passed_to, judged}
+use Rattle.verify.specs.Judgement.{KnownSoFar, reached_at, passed_to}
 use Rattle.verify.specs.Passes.{Does}
 use Rattle.verify.specs.KnownAtUnits.{known_on_the_pass, known_before, told_there, IsSurvey}
 use Rattle.verify.proofs.PassLaws.{stays, judged_pass, structural_judged}

@@ -1,14 +1,13 @@
 -- What is known at a unit is taken out: there nothing is known then, elsewhere what was.
-use Rattle.std.proofs.Common.{◌≡◌, ◌∙◌, ℕ, zero, suc, List, [], ◌∷◌, length, refl, sym, ap, subst, Option, Some, None, Result, Ok, Err, length-set}
+use Rattle.std.proofs.Common.{◌≡◌, ◌∙◌, ℕ, zero, suc, List, [], ◌∷◌, length, refl, sym, ap, subst, Option, Some, None, Ok, length-set}
 use Rattle.std.specs.Prelude.{ℤ, pos, negsuc, slice_set, IfSome}
 use Rattle.std.proofs.lemmas.List.{set-get_or}
 use Rattle.insn.specs.declared.insn.Insn.{Insn}
-use Rattle.verify.specs.declared.error.VerifyError.{VerifyError}
 use Rattle.verify.specs.declared.reason.Reason.{Reason}
 use Rattle.verify.specs.declared.state.AbsState.{AbsState}
 use Rattle.verify.specs.Instructions.{reason_of}
 use Rattle.verify.specs.Transfer.{Edge, edge_to, edges}
-use Rattle.verify.specs.Judgement.{KnownSoFar, reached_at, along, along_all, settled, followed, passed_at}
+use Rattle.verify.specs.Judgement.{KnownSoFar, reached_at, along, along_all, settled, passed_at}
 
 -- where nothing was known, nothing changes
 pub taken_none : (reached : KnownSoFar) (unit : ℕ) → reached_at reached unit ≡ None → slice_set reached unit None ≡ reached

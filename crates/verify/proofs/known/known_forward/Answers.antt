@@ -1,9 +1,9 @@
-use Rattle.std.proofs.Common.{◌≡◌, ◌∙◌, ◌<◌, ◌≤◌, ◌+◌, ℕ, List, ◌∷◌, [], ◌++◌, Option, Some, Result, arith, ap, sym, subst, length}
+use Rattle.std.proofs.Common.{◌≡◌, ◌∙◌, ◌<◌, ◌+◌, List, ◌∷◌, [], Option, Some, arith, ap, sym, subst, length}
 use Rattle.std.proofs.lemmas.List.{length-append}
 use Rattle.insn.specs.Program.{slots_of, instruction_at}
 use Rattle.verify.specs.declared.error.VerifyError.{VerifyError}
 use Rattle.verify.specs.declared.state.AbsState.{AbsState}
-use Rattle.verify.specs.Judgement.{reached_at, passed_at, passed_to}
+use Rattle.verify.specs.Judgement.{reached_at, passed_at}
 use Rattle.verify.specs.KnownAtUnits.{IsSurvey}
 use Rattle.verify.proofs.Taken.{length-passed_at}
 use Rattle.verify.proofs.Walk.{forward_of_structure}

@@ -1,4 +1,4 @@
-use Rattle.std.proofs.Common.{◌≡◌, ◌∙◌, ◌<◌, ℕ, arith, rules, ap, sym, length}
+use Rattle.std.proofs.Common.{◌≡◌, ◌∙◌, ◌<◌, ℕ, arith, rules, ap, length}
 use Rattle.std.specs.Result.{result_err}
 use Rattle.insn.specs.Program.{slots_of, instruction_at}
 use Rattle.verify.specs.Judgement.{reached_at, passed_to}

@@ -1,4 +1,4 @@
-use Rattle.std.proofs.Common.{◌≡◌, ◌+◌, ◌<◌, inl, inr, refl, subst, length, List, ap, ◌∙◌, w16, w32, ℤ, pos, ◌+ℤ◌, false}
+use Rattle.std.proofs.Common.{◌≡◌, ◌+◌, ◌<◌, inl, inr, refl, subst, length, ap, ◌∙◌, w16, w32, ℤ, pos, ◌+ℤ◌, false}
 use Rattle.std.proofs.lemmas.Int.{to_z-of_z}
 use Rattle.verify.specs.Judgement.{KnownSoFar}
 use Rattle.verify.specs.Knowledge.{told}

@@ -1,4 +1,4 @@
-use Rattle.std.proofs.Common.{◌≡◌, ◌∙◌, None, sym, ap, subst, List, Result, Ok}
+use Rattle.std.proofs.Common.{◌≡◌, ◌∙◌, None, sym, ap, subst, List, Result}
 use Rattle.insn.specs.declared.insn.Insn.{Insn}
 use Rattle.semantics.specs.Run.{IsSound}
 use Rattle.verify.specs.declared.error.VerifyError.{VerifyError}
