@@ -1,5 +1,5 @@
 //! What a call of a helper does to what is known.
-ghost use Rattle.std.specs.Prelude.{◌≡◌, ◌+◌, ◌*◌, ◌≤◌, ◌<◌, true, [], ◌∷◌, None, Some, IfSome, OnOk, OnErr};
+ghost use Rattle.std.specs.Prelude.{◌≡◌, ◌+◌, ◌*◌, ◌≤◌, ◌<◌, true, [], ◌∷◌, None, Some, IfSome, OnOk};
 ghost use Rattle.absval.specs.NumberSets.{within, greatest};
 ghost use Rattle.semantics.specs.Call.{helper_of};
 ghost use Rattle.absval.specs.Contains.{is_number};
@@ -106,7 +106,6 @@ fn write_words(stack: &mut AbsStack, offsets: Offsets, counts: NumberSet) -> Res
     requires { greatest counts ≤ 64 }
     ensures refused { result ≡ answer_of (target_reason Region.Stack (window_from Region.Stack offsets (8 * greatest counts))) }
     ensures left { OnOk result (IsWrittenTo (is_certain offsets counts) (window_from Region.Stack offsets (8 * greatest counts)) stack.old stack.new) }
-    ensures kept { OnErr result (stack.new ≡ stack.old) }
 {
     let Some(window) = window_of(Region::Stack, offsets, 0, 8 * counts.greatest() as usize) else {
         return Err(Reason::Bounds);
@@ -126,7 +125,6 @@ fn copy(stack: &mut AbsStack, slots: AbsVal, target: AbsVal, counts: AbsVal) -> 
     requires counts { IsBelow 65 counts }
     ensures refused { result ≡ answer_of (copy_reason slots target counts) }
     ensures left { OnOk result (IsCopied target counts stack.old stack.new) }
-    ensures kept { OnErr result (stack.new ≡ stack.old) }
 {
     let slots = number(slots);
     let (region, offsets) = pointer(target);
@@ -176,7 +174,6 @@ fn pass_window(state: &mut AbsState, helper: Helper) -> Result<(), Reason>
     ensures refused { result ≡ answer_of (window_reason helper state.old) }
     ensures registers { state.new.registers ≡ state.old.registers }
     ensures left { OnOk result (StackBehind helper state.old state.new.stack) }
-    ensures kept { OnErr result (state.new ≡ state.old) }
 {
     let first = known(&state.registers, 1);
     let second = known(&state.registers, 2);
@@ -203,7 +200,6 @@ pub fn call(state: &mut AbsState, number: i32) -> Result<(), Reason>
     ensures refused { result ≡ answer_of (call_reason state.old number) }
     ensures registers { OnOk result (IfSome (helper_of number) (λ h. IsBehind (within (returned_range h)) state.old.registers state.new.registers)) }
     ensures stack { OnOk result (IfSome (helper_of number) (λ h. StackBehind h state.old state.new.stack)) }
-    ensures kept { OnErr result (state.new ≡ state.old) }
 {
     let Some(helper) = helper::helper_of(number) else {
         return Err(Reason::Helper);

@@ -1,5 +1,5 @@
 //! What loads and stores do to what is known.
-ghost use Rattle.std.specs.Prelude.{◌≡◌, ◌+◌, ◌≤◌, ◌↔◌, Some, option_map, IfOk, IsTrue, OnOk, OnErr};
+ghost use Rattle.std.specs.Prelude.{◌≡◌, ◌+◌, ◌≤◌, ◌↔◌, Some, option_map, IfOk, IsTrue, OnOk};
 ghost use Rattle.std.specs.Option.{ok_or};
 ghost use Rattle.std.specs.Result.{result_err};
 ghost use Rattle.insn.specs.Insn.{bytes_of, part_bytes};
@@ -173,7 +173,6 @@ fn store_number(
 ) -> Result<(), Reason>
     ensures refused { result_err result ≡ write_refused base.0 (window_known base.0 base.1.low base.1.high distance (bytes_of size)) }
     ensures left { OnOk result (StoresNumber stack.old (bytes_of size) (window_known base.0 base.1.low base.1.high distance (bytes_of size)) stack.new) }
-    ensures kept { OnErr result (stack.new ≡ stack.old) }
 {
     let window = stack_window(base.0, base.1, distance, bytes(size))?;
     if window.size == bytes(size) {
@@ -201,7 +200,6 @@ fn store_pointer(
 ) -> Result<(), Reason>
     ensures refused { result_err result ≡ pointer_refused size base.0 (offset_ends base.1) distance (offset_ends pointer.1) }
     ensures left { OnOk result (StoresPointer stack.old pointer.0 pointer.1.low (window_known base.0 base.1.low base.1.high distance 8) stack.new) }
-    ensures kept { OnErr result (stack.new ≡ stack.old) }
 {
     let Size::Double = size else {
         return Err(Reason::PointerUse);
@@ -224,7 +222,6 @@ pub fn store(
 ) -> Result<(), Reason>
     ensures refused { result_err result ≡ store_refused size (ends_of base) distance (ends_of value) }
     ensures left { OnOk result (Stores stack.old size (ends_of base) distance (ends_of value) stack.new) }
-    ensures kept { OnErr result (stack.new ≡ stack.old) }
 {
     let base = pointer_of(base)?;
     match value {

@@ -1,5 +1,5 @@
 //! What one instruction does to what is known.
-ghost use Rattle.std.specs.Prelude.{◌≡◌, [], ◌∷◌, OnOk, OnErr, Some, None, option_map, if◌then◌else◌};
+ghost use Rattle.std.specs.Prelude.{◌≡◌, [], ◌∷◌, OnOk, Some, None, option_map, if◌then◌else◌};
 ghost use Rattle.std.specs.Result.{result_ok, result_err};
 ghost use Rattle.absval.specs.NumberSets.{single};
 ghost use Rattle.absval.specs.Contains.{is_number};
@@ -63,7 +63,6 @@ fn put_made(
 ) -> Result<(), Reason>
     ensures refused { result_err result ≡ first_reason (made_checks dst (ends_of value.now) (option_map ends_of made)) }
     ensures left { OnOk result (Assigns state.old dst (option_map ends_of made) state.new) }
-    ensures kept { OnErr result (state.new ≡ state.old) }
 {
     check_set(value)?;
     check_writable(dst)?;
@@ -83,7 +82,6 @@ fn arithmetic(
 ) -> Result<(), Reason>
     ensures refused { result_err result ≡ first_reason (arithmetic_checks (seen state.old.registers) width operation dst operand) }
     ensures left { OnOk result (Assigns state.old dst (computed width operation (first_known (seen state.old.registers) operation dst) (operand_known (seen state.old.registers) operand)) state.new) }
-    ensures kept { OnErr result (state.new ≡ state.old) }
 {
     let first = registers::first(&state.registers, operation, dst);
     let second = registers::operand(&state.registers, operand);
@@ -95,7 +93,6 @@ fn arithmetic(
 fn negate(state: &mut AbsState, width: Width, dst: Reg) -> Result<(), Reason>
     ensures refused { result_err result ≡ first_reason (made_checks dst (known_at (seen state.old.registers) dst) (negated_known width (known_at (seen state.old.registers) dst))) }
     ensures left { OnOk result (Assigns state.old dst (negated_known width (known_at (seen state.old.registers) dst)) state.new) }
-    ensures kept { OnErr result (state.new ≡ state.old) }
 {
     let value = registers::read(&state.registers, dst);
     let made = absval::negate(width, value);
@@ -111,7 +108,6 @@ fn sign_extend(
 ) -> Result<(), Reason>
     ensures refused { result_err result ≡ first_reason (made_checks dst (known_at (seen state.old.registers) src) (extended_known width part (known_at (seen state.old.registers) src))) }
     ensures left { OnOk result (Assigns state.old dst (extended_known width part (known_at (seen state.old.registers) src)) state.new) }
-    ensures kept { OnErr result (state.new ≡ state.old) }
 {
     let value = registers::read(&state.registers, src);
     let made = absval::sign_extend(width, part, value);
@@ -121,7 +117,6 @@ fn sign_extend(
 fn swap(state: &mut AbsState, order: ByteOrder, size: SwapSize, dst: Reg) -> Result<(), Reason>
     ensures refused { result_err result ≡ first_reason (made_checks dst (known_at (seen state.old.registers) dst) (swapped_known order size (known_at (seen state.old.registers) dst))) }
     ensures left { OnOk result (Assigns state.old dst (swapped_known order size (known_at (seen state.old.registers) dst)) state.new) }
-    ensures kept { OnErr result (state.new ≡ state.old) }
 {
     let value = registers::read(&state.registers, dst);
     let made = absval::swap(order, size, value);
@@ -131,7 +126,6 @@ fn swap(state: &mut AbsState, order: ByteOrder, size: SwapSize, dst: Reg) -> Res
 fn load_number(state: &mut AbsState, dst: Reg, number: u64) -> Result<(), Reason>
     ensures refused { result_err result ≡ first_reason (write_checks dst) }
     ensures left { OnOk result (Assigns state.old dst (Some (Numbers (single number))) state.new) }
-    ensures kept { OnErr result (state.new ≡ state.old) }
 {
     check_writable(dst)?;
     put(state, dst, AbsVal::Number(NumberSet::exactly(number)));
@@ -141,7 +135,6 @@ fn load_number(state: &mut AbsState, dst: Reg, number: u64) -> Result<(), Reason
 fn load(state: &mut AbsState, size: Size, dst: Reg, base: Reg, offset: i16) -> Result<(), Reason>
     ensures refused { result_err result ≡ load_reason state.old size dst base offset }
     ensures left { OnOk result (Assigns state.old dst (result_ok (load_given state.old.stack size (known_at (seen state.old.registers) base) offset)) state.new) }
-    ensures kept { OnErr result (state.new ≡ state.old) }
 {
     let pointer = registers::read(&state.registers, base);
     check_set(&pointer)?;
@@ -160,7 +153,6 @@ fn load_signed(
 ) -> Result<(), Reason>
     ensures refused { result_err result ≡ signed_load_reason state.old part dst base offset }
     ensures left { OnOk result (Assigns state.old dst (result_ok (signed_load_given state.old.stack part (known_at (seen state.old.registers) base) offset)) state.new) }
-    ensures kept { OnErr result (state.new ≡ state.old) }
 {
     let pointer = registers::read(&state.registers, base);
     check_set(&pointer)?;
@@ -180,7 +172,6 @@ fn store(
     ensures refused { result_err result ≡ store_reason state.old size base offset source }
     ensures left { OnOk result (Stores state.old.stack size (known_at (seen state.old.registers) base) offset (operand_known (seen state.old.registers) source) state.new.stack) }
     ensures registers { state.new.registers ≡ state.old.registers }
-    ensures kept { OnErr result (state.new ≡ state.old) }
 {
     let pointer = registers::read(&state.registers, base);
     let value = registers::operand(&state.registers, source);
@@ -194,7 +185,6 @@ pub fn straight(state: &mut AbsState, insn: &Insn) -> Result<(), Reason>
     requires { IsStraight insn.now }
     ensures reason { result_err result ≡ straight_reason insn.now state.old }
     ensures becomes { OnOk result (Becomes state.old insn.now state.new) }
-    ensures kept { OnErr result (state.new ≡ state.old) }
 {
     match insn {
         Insn::Arithmetic {
