@@ -23,6 +23,12 @@ pub mod CallLemmas
 pub mod MemoryRows
 pub mod StepReasons
 pub mod OwnReasons
+pub mod Boxes
+pub mod Taken
+pub mod StraightLemmas
+pub mod PassLaws
+pub mod UnitRuns
+pub mod Surveys
 pub mod KnownNumbers
 pub mod PlainEdges
 pub mod PlainRuns

@@ -6,7 +6,6 @@ pub mod Kept
 pub mod Branches
 pub mod Calls
 pub mod MemoryTable
-pub mod Flow
 pub mod Instructions
 pub mod Passes
 pub mod Knowledge
