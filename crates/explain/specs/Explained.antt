@@ -17,7 +17,6 @@ use Rattle.verify.specs.KnownAtUnits.{known_before}
 use Rattle.explain.specs.declared.sentence.Sentence.{Sentence}
 use Rattle.explain.specs.declared.sentence.Sentence.TheVariants as sentence
 use Rattle.explain.specs.declared.sentence.Structure.TheVariants as structure
-use Rattle.explain.specs.Values.{value_text}
 use Rattle.explain.specs.Sentences.{named_text, sentence_text}
 use Rattle.explain.specs.Shortfalls.{shortfall}
 use Rattle.explain.specs.Reads.{read_by}

@@ -92,7 +92,7 @@ first_fault program fault (suc unit) e = by_before (passed_to program unit) refl
         (unit, why.0, record { reached = reached; comes = comes; stops = why.1 }, why.2)
 
 -- the first fault is what the pass answers
-pub first_answered : (program : List Insn) (fault : VerifyError) → IsFirstFault program fault → passed_to program (length (slots_of program)) ≡ Err fault
+first_answered : (program : List Insn) (fault : VerifyError) → IsFirstFault program fault → passed_to program (length (slots_of program)) ≡ Err fault
 first_answered program fault h =
     let stop = h.2 in
     let unit = h.0 in

@@ -1,5 +1,5 @@
 -- The code passes an instruction that goes on behind itself as the function does.
-use Rattle.std.proofs.Common.{◌≡◌, ◌∙◌, ℕ, ◌+◌, [], ◌∷◌, refl, sym, ap, ap₂, List, Option, Some, None, Ok, Err}
+use Rattle.std.proofs.Common.{◌≡◌, ◌∙◌, ℕ, ◌+◌, [], ◌∷◌, refl, sym, ap, ap₂, List, Option, Ok, Err}
 use Rattle.std.specs.Prelude.{pos}
 use Rattle.insn.specs.declared.insn.Insn.{Insn}
 use Rattle.insn.specs.declared.insn.Insn.TheVariants.{Arithmetic, Negate, SignExtend, Swap, LoadNumber, Jump, LongJump, Branch, Load, LoadSigned, Store, Call, Exit}

@@ -3,17 +3,16 @@ use Rattle.std.proofs.Common.{◌≡◌, ◌∙◌, ℕ, zero, suc, ◌+◌, ◌
 use Rattle.std.proofs.lemmas.List.{ext_get_or, get_or-drop, get_or_default}
 use Rattle.absval.specs.declared.value.AbsVal.{AbsVal}
 use Rattle.absval.specs.declared.number_set.NumberSet.{NumberSet}
-use Rattle.absmem.specs.Tables.{table}
-use Rattle.absmem.specs.TableLaws.{length-table, table_at, table_is}
-use Rattle.verify.specs.Registers.{known_at, joined_all, Joins}
+use Rattle.absmem.specs.TableLaws.{table_is}
+use Rattle.verify.specs.Registers.{known_at, joined_all}
 use Rattle.absval.specs.Table.{joined}
 use Rattle.verify.specs.Calls.{known_behind}
 use Rattle.verify.proofs.Zips.{at_set}
 use Rattle.absval.specs.declared.value.AbsVal.TheVariants.{Unset, Number}
 
--- two of the same entries are one
-pub table_same : {A : Type 0} (n : ℕ) (f g : ℕ → A) (d : A) → ((k : ℕ) → k < n → f k ≡ g k) → table n f ≡ table n g
-table_same n f g d same = table_is n g (table n f) d (length-table n f) (λ k lt. table_at n f k d lt ∙ same k lt)
+-- the first n registers are joined
+abbrev pub Joins : List AbsVal → List AbsVal → List AbsVal → ℕ → Type 0
+Joins old other new n = (r : ℕ) → r < n → known_at new r ≡ joined (known_at old r) (known_at other r)
 
 pub join_step : (xs before other : List AbsVal) (i : ℕ) (x u v : AbsVal) → i < length xs → i < length other → get_or xs i Unset ≡ get_or before i Unset →
     x ≡ joined (get_or xs i u) (get_or other i v) → Joins before other xs i → Joins before other (set xs i x) (i + 1)

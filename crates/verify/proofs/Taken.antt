@@ -1,7 +1,6 @@
 -- What is known at a unit is taken out: there nothing is known then, elsewhere what was.
 use Rattle.std.proofs.Common.{◌≡◌, ◌∙◌, ℕ, zero, suc, List, [], ◌∷◌, length, refl, sym, ap, ap₂, subst, true, Option, Some, None, Ok, length-set}
 use Rattle.std.specs.Prelude.{ℤ, pos, negsuc, is_some, unwrap_or, option_map, slice_set, IfSome}
-use Rattle.std.proofs.lemmas.List.{set-get_or}
 use Rattle.insn.specs.declared.insn.Insn.{Insn}
 use Rattle.absval.specs.declared.value.AbsVal.{AbsVal}
 use Rattle.absmem.specs.Known.{Known}
@@ -10,10 +9,6 @@ use Rattle.verify.specs.declared.state.AbsState.{AbsState}
 use Rattle.verify.specs.Instructions.{reason_of}
 use Rattle.verify.specs.Transfer.{Edge, edge_to, edges}
 use Rattle.verify.specs.Judgement.{KnownSoFar, reached_at, along, along_all, settled, passed_at}
-
--- where nothing was known, nothing changes
-pub taken_none : (reached : KnownSoFar) (unit : ℕ) → reached_at reached unit ≡ None → slice_set reached unit None ≡ reached
-taken_none reached unit e = ap (slice_set reached unit) (sym e) ∙ set-get_or reached unit None
 
 -- what is known then was known before
 pub taken_some : (reached : KnownSoFar) (unit v : ℕ) (a : AbsState) → reached_at (slice_set reached unit None) v ≡ Some a → reached_at reached v ≡ Some a
@@ -36,7 +31,7 @@ pub length-along : (e : Edge) (reached : KnownSoFar) → length (along e reached
 length-along (pos u, a) reached = length-set reached u _
 length-along (negsuc n, a) reached = refl
 
-pub length-along_all : (es : List Edge) (reached : KnownSoFar) → length (along_all es reached) ≡ length reached
+length-along_all : (es : List Edge) (reached : KnownSoFar) → length (along_all es reached) ≡ length reached
 length-along_all [] reached = refl
 length-along_all (e ∷ es) reached = length-along_all es (along e reached) ∙ length-along e reached
 

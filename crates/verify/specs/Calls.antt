@@ -1,5 +1,5 @@
 -- Calls of helpers, on what is known (own).
-use Rattle.std.specs.Prelude.{ℕ, ℤ, pos, ◌≡◌, ◌+◌, ◌*◌, ◌≤◌, ◌<◌, ◌&&◌, not, nat_lt, Bool, true, false, List, [], ◌∷◌, Option, Some, None, Result, Ok, Err, drop}
+use Rattle.std.specs.Prelude.{ℕ, ℤ, pos, ◌+◌, ◌*◌, ◌<◌, ◌&&◌, not, nat_lt, Bool, true, false, List, [], ◌∷◌, Option, Some, None, Result, Ok, Err, drop}
 use Rattle.std.specs.Ordering.{int_eq}
 use Rattle.semantics.specs.declared.value.Region.{Region}
 use Rattle.semantics.specs.declared.value.Region.TheVariants.{Stack, Context}
@@ -12,7 +12,7 @@ use Rattle.absval.specs.NumberSets.{greatest, is_one}
 use Rattle.absval.specs.declared.value.AbsVal.{AbsVal}
 use Rattle.absval.specs.declared.windows.Window.{Window}
 use Rattle.absval.specs.Windows.{window_known}
-use Rattle.absmem.specs.Known.{Known, IsSetTo, spill_at, left_of}
+use Rattle.absmem.specs.Known.{Known}
 use Rattle.helper.specs.declared.argument.Argument.{Argument}
 use Rattle.helper.specs.Table.{bound_of, arguments_of}
 use Rattle.verify.specs.Registers.{known_at}

@@ -1,13 +1,9 @@
 -- Why an instruction may not run on what is known (own).
-use Rattle.std.specs.Prelude.{◌≡◌, Option, Some, None, IfSome}
-use Rattle.std.specs.Result.{result_ok}
-use Rattle.absval.specs.NumberSets.{single, within}
+use Rattle.std.specs.Prelude.{Option, None}
 use Rattle.insn.specs.declared.insn.Insn.{Insn}
 use Rattle.insn.specs.declared.insn.Insn.TheVariants.{Arithmetic, Negate, SignExtend, Swap, LoadNumber, Load, LoadSigned, Store, Call, Jump, LongJump, Branch, Exit}
 use Rattle.absval.specs.Table.{negated_known, extended_known, swapped_known}
 use Rattle.verify.specs.declared.reason.Reason.{Reason}
-use Rattle.semantics.specs.Call.{helper_of}
-use Rattle.helper.specs.Results.{returned_range}
 use Rattle.verify.specs.declared.state.AbsState.{AbsState}
 use Rattle.verify.specs.Registers.{known_at, operand_known}
 use Rattle.verify.specs.Reasons.{first_reason, made_checks, arithmetic_checks, write_checks, compare_checks, exit_checks}
@@ -39,4 +35,3 @@ abbrev pub reason_of : Insn → AbsState → Option Reason
 reason_of (Branch w condition dst operand distance) a = first_reason (compare_checks (known_at a.registers dst) (operand_known a.registers operand))
 reason_of Exit a = first_reason (exit_checks (known_at a.registers 0))
 reason_of i a = straight_reason i a
-

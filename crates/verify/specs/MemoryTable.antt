@@ -1,6 +1,5 @@
 -- The verifier's table of loads and stores (own): what each answers, from what is known of the stack and of the values.
-use Rattle.std.specs.Prelude.{ℕ, ℤ, zero, suc, ◌+◌, ◌/◌, ◌%◌, ◌<◌, ◌≡◌, ◌≢◌, ◌==◌, ◌&&◌, Bool, true, false, if◌then◌else◌, List, Option, Some, None, Result, Ok, Err, option_map}
-use Rattle.std.specs.Bool.{MatchBool}
+use Rattle.std.specs.Prelude.{ℕ, ℤ, zero, suc, ◌/◌, ◌%◌, ◌==◌, ◌&&◌, Bool, true, false, if◌then◌else◌, List, Option, Some, None, Result, Ok, Err, option_map}
 use Rattle.std.specs.Ordering.{int_eq}
 use Rattle.std.specs.Result.{result_err}
 use Rattle.word.specs.declared.Narrow.{Narrow}
@@ -16,9 +15,7 @@ use Rattle.insn.specs.declared.insn.Operand.{Operand}
 use Rattle.absval.specs.declared.windows.Window.{Window}
 use Rattle.absval.specs.Table.{loaded_known}
 use Rattle.absval.specs.Windows.{window_known}
-use Rattle.absmem.specs.declared.spill.Spill.{Spill}
-use Rattle.absmem.specs.declared.spill.Spill.TheVariants.{Whole}
-use Rattle.absmem.specs.Known.{Known, byte_at, spill_at, IsSetTo, left_of, pointer_of}
+use Rattle.absmem.specs.Known.{Known, byte_at, spill_at, pointer_of}
 use Rattle.verify.specs.declared.reason.Reason.{Reason}
 use Rattle.verify.specs.declared.reason.Reason.TheVariants as reason
 use Rattle.verify.specs.declared.reason.Reason.TheVariants.{FrameWrite, PointerUse, Bounds, StackUnset, ContextWrite}

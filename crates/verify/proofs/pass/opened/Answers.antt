@@ -1,4 +1,4 @@
-use Rattle.std.proofs.Common.{◌∙◌, ap}
+use Rattle.std.proofs.Common.{◌∙◌}
 use Rattle.verify.proofs.PassLaws.{opens_so}
 use Rattle.verify.proofs.pass.opened.Goals as goal
 

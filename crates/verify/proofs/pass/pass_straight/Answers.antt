@@ -1,4 +1,4 @@
-use Rattle.std.proofs.Common.{◌+◌, ◌<◌, ◌∙◌, ℕ, ap, subst, length}
+use Rattle.std.proofs.Common.{◌+◌, ◌<◌, ◌∙◌, ℕ, ap, length}
 use Rattle.verify.specs.Transfer.{stepped}
 use Rattle.insn.specs.Insn.{units_of}
 use Rattle.verify.proofs.EdgeEnds.{straight_edge}
