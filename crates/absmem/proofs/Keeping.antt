@@ -9,7 +9,6 @@ use Rattle.semantics.specs.declared.value.Cell.TheVariants.{Empty}
 use Rattle.semantics.specs.Memory.{overwritten, pieces_of}
 use Rattle.absmem.specs.declared.spill.Spill.{Spill}
 use Rattle.absmem.specs.declared.spill.Spill.TheVariants.{Free, Whole}
-use Rattle.absval.specs.Limits.{IsOffset}
 use Rattle.absmem.specs.Known.{Known, byte_at, spill_at, IsSetTo, IsFiled, left_of, joined_spill}
 use Rattle.absmem.specs.Describes.{Describes, IsByte, IsByteIf, cell_at, AreBytes, StandsAt}
 use Rattle.absmem.proofs.Overwriting.{cell-inside, cell-before, cell-behind, range-inside, range-before, range-behind}

@@ -3,3 +3,4 @@ pub mod Keeping
 pub mod HoldingBits
 pub mod Masks
 pub mod Members
+pub mod Whole

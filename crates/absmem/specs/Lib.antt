@@ -1,4 +1,7 @@
 pub mod Known
+pub mod Tables
+pub mod TableLaws
+pub mod Stacks
 pub mod Holding
 pub mod Members
 pub mod Laws

@@ -1,7 +1,8 @@
-ghost use Rattle.std.specs.Prelude.{◌≡◌, ◌≢◌, ◌+◌, ◌/◌, ◌%◌, ◌<◌, ◌≤◌, ◌↔◌, ◌&&◌, ℕ, true, false, List, IsTrue, IfSome, length, replicate, slice_range};
+ghost use Rattle.std.specs.Prelude.{◌≡◌, ◌+◌, ◌/◌, ◌%◌, ◌<◌, ◌≤◌, ◌↔◌, ℕ, true, List, IsTrue, IfSome, length, slice_range};
 ghost use Rattle.semantics.specs.declared.value.Cell.{Cell};
 ghost use Rattle.semantics.specs.Memory.{overwritten, pieces_of};
-ghost use Rattle.absmem.specs.Known.{byte_at, spill_at, IsSetTo, left_of, joined_spill, pointer_of};
+ghost use Rattle.absmem.specs.Known.{byte_at, spill_at, pointer_of};
+ghost use Rattle.absmem.specs.Stacks.{unknown_stack, put_bytes, spread_bytes, put_pointer, joined_stack};
 ghost use Rattle.absmem.specs.Describes.{Describes, AreBytes};
 
 use crate::blocks::Blocks;
@@ -32,8 +33,7 @@ impl Model for AbsStack {
 impl AbsStack {
     /// Nothing is known.
     pub fn unknown() -> AbsStack
-        ensures bytes { result.bytes ≡ replicate 512 false }
-        ensures spills { result.spills ≡ replicate 64 Spill.Free }
+        ensures exact { result ≡ unknown_stack }
         ensures holds { (cells : List Cell) → Describes result cells }
     {
         AbsStack {
@@ -63,8 +63,7 @@ impl AbsStack {
     /// Bytes are stored at the place.
     pub fn put_bytes(&mut self, place: usize, size: usize)
         requires within { place + size ≤ 512 }
-        ensures bytes { IsSetTo true self.old.bytes self.new.bytes place (place + size) }
-        ensures spills { (b : ℕ) → b < 64 → spill_at self.new.spills b ≡ left_of place (place + size) b (spill_at self.old.spills b) }
+        ensures exact { self.new ≡ put_bytes place size self.old }
         ensures holds { (cells new : List Cell) → Describes self.old cells → length cells ≡ 512 → AreBytes new → length new ≡ size →
             Describes self.new (overwritten cells place new) }
     {
@@ -76,8 +75,7 @@ impl AbsStack {
     /// Bytes are stored somewhere in the window.
     pub fn spread_bytes(&mut self, place: usize, size: usize)
         requires within { place + size ≤ 512 }
-        ensures bytes { self.new.bytes ≡ self.old.bytes }
-        ensures spills { (b : ℕ) → b < 64 → spill_at self.new.spills b ≡ left_of place (place + size) b (spill_at self.old.spills b) }
+        ensures exact { self.new ≡ spread_bytes place size self.old }
         ensures holds { (cells new : List Cell) (at : ℕ) → Describes self.old cells → length cells ≡ 512 → AreBytes new → place ≤ at → at + length new ≤ place + size →
             Describes self.new (overwritten cells at new) }
     {
@@ -87,9 +85,7 @@ impl AbsStack {
     /// A pointer is stored at the place.
     pub fn put_pointer(&mut self, place: usize, region: Region, offset: Offset)
         requires within { place + 8 ≤ 512 }
-        ensures bytes { IsSetTo false self.old.bytes self.new.bytes place (place + 8) }
-        ensures here { spill_at self.new.spills (place / 8) ≡ Spill.Whole (place % 8) region offset }
-        ensures others { (b : ℕ) → b < 64 → b ≢ place / 8 → spill_at self.new.spills b ≡ left_of place (place + 8) b (spill_at self.old.spills b) }
+        ensures exact { self.new ≡ put_pointer place region offset self.old }
         ensures holds { (cells : List Cell) → Describes self.old cells → length cells ≡ 512 → Describes self.new (overwritten cells place (pieces_of region offset)) }
     {
         pointers::clear(&mut self.spills, place, place + 8);
@@ -130,8 +126,7 @@ impl AbsStack {
 
     /// Keeps what both know.
     pub fn join(&mut self, other: &AbsStack)
-        ensures bytes { (k : ℕ) → byte_at self.new.bytes k ≡ (byte_at self.old.bytes k && byte_at other.now.bytes k) }
-        ensures spills { (b : ℕ) → b < 64 → spill_at self.new.spills b ≡ joined_spill (spill_at self.old.spills b) (spill_at other.now.spills b) }
+        ensures exact { self.new ≡ joined_stack self.old other.now }
         ensures left { (cells : List Cell) → Describes self.old cells → Describes self.new cells }
         ensures right { (cells : List Cell) → Describes other.now cells → Describes self.new cells }
     {

@@ -1,229 +1,30 @@
 -- What the verifier's survey tells of a program is what its one function knows there.
-use Rattle.std.proofs.Common.{◌≡◌, ◌∙◌, ℕ, zero, suc, ◌+◌, ◌-◌, ◌<◌, ◌≤◌, List, [], ◌∷◌, ◌++◌, length, arith, refl, sym, ap, ap₂, Bool, true, false, Option, Some, None, Result, Ok, Err}
-use Rattle.std.specs.Prelude.{ℤ, pos, negsuc, ◌+ℤ◌, ◌-ℤ◌, ◌&&◌, nat_le, nat_lt, option_map, option_and_then, slice_get, if◌then◌else◌, IsSome}
-use Rattle.std.specs.Result.{result_ok}
-use Rattle.std.proofs.lemmas.Option.{slice_get-get_or, slice_get_past}
+use Rattle.std.proofs.Common.{◌≡◌, ◌∙◌, ℕ, ◌+◌, ◌<◌, ◌≤◌, List, [], ◌∷◌, ◌++◌, length, arith, refl, ap, ap₂, Option, Some, None}
+use Rattle.std.specs.Prelude.{slice_get}
 use Rattle.insn.specs.declared.insn.Insn.{Insn}
 use Rattle.insn.specs.Insn.{units_of}
 use Rattle.insn.specs.Program.{slots_of, instruction_at}
 use Rattle.insn.proofs.SlotLemmas.{length-slots_of-cons, units_some}
-use Rattle.semantics.specs.declared.value.Region.TheVariants.{Stack, Context}
-use Rattle.absval.specs.declared.value.AbsVal.{AbsVal}
-use Rattle.absval.specs.declared.value.AbsVal.TheVariants as value
-use Rattle.absval.specs.declared.value.Offsets.{Offsets}
-use Rattle.absval.specs.declared.windows.Window.{Window}
-use Rattle.absval.specs.Windows.{between, window_known}
-use Rattle.absmem.specs.Known.{Known, byte_at}
 use Rattle.verify.specs.declared.error.VerifyError.{VerifyError}
 use Rattle.verify.specs.declared.error.VerifyError.TheVariants.{At, Memory}
-use Rattle.verify.specs.declared.reason.Reason.{Reason}
-use Rattle.verify.specs.declared.reason.Reason.TheVariants as reason
 use Rattle.verify.specs.declared.state.AbsState.{AbsState}
-use Rattle.verify.specs.Structure.{structural_fault}
-use Rattle.verify.specs.Kept.{Kept}
-use Rattle.verify.specs.Flow.{kept_at}
-use Rattle.verify.specs.Passes.{reason_at}
-use Rattle.verify.specs.Registers.{known_at}
-use Rattle.verify.specs.Transfer.{edges}
-use Rattle.verify.specs.Judgement.{KnownSoFar, reached_at, along_all, settled, passed_at, passed_on, passed_to, judged}
-use Rattle.verify.specs.KnownAtUnits.{AreKnown, EndsSo, IsLast, IsSurvey, known_of}
+use Rattle.verify.specs.KnownAtUnits.{known_before, IsSurvey}
 use Rattle.verify.proofs.Edges.{start_inside}
-use Rattle.verify.proofs.TableLemmas.{table_at}
-use Rattle.verify.proofs.SameReads.{listed, told, reason_same}
-use Rattle.verify.proofs.Walk.{forward_of_structure}
-use Rattle.verify.proofs.JudgedRuns.{comes_agree, known, structural_judged, stopped_judged, through_judged}
-use Rattle.explain.specs.declared.reach.Reach.{Reach}
-use Rattle.explain.specs.declared.sentence.Sentence.TheVariants as sentence
-use Rattle.explain.specs.declared.sentence.Access.TheVariants as access
-use Rattle.explain.specs.Shortfalls.{first_empty, empty_in, empty_cell, reach_of, shortfall, touched}
-use Rattle.explain.specs.Explained.{KnownByUnit, known_before, known_by, line_if, lines_by, refused_at, refused_line, sentence_line, sentence_of, known_lines, explained}
-
--- ---- a stack that is told cell by cell has the same first empty cell
-
-abbrev Fits : Option Window → Type 0
-Fits None = Unit {0}
-Fits (Some w) = w.place + w.size ≤ 512
-
-empty_listed : (known : Known) (place size : ℕ) → place + size ≤ 512 → first_empty (listed known).bytes place size ≡ first_empty known.bytes place size
-empty_listed known place zero fits = refl
-empty_listed known place (suc n) fits =
-    let here : byte_at (listed known).bytes place ≡ byte_at known.bytes place = table_at 512 (byte_at known.bytes) place false (omega arith) in
-    ap₂ (λ (b : Bool) (later : Option ℕ). if b then later else Some place) here (empty_listed known (suc place) n (omega arith))
-
-empty_in_listed : (known : Known) (w : Option Window) → Fits w → empty_in (listed known) w ≡ empty_in known w
-empty_in_listed known None fits = refl
-empty_in_listed known (Some w) fits = empty_listed known w.place w.size fits
-
--- between two offsets of the stack
-between_fits : (size : ℕ) (x y : ℤ) → Fits (between 512 size x y)
-between_fits size (pos first) (pos last) = by_tests (nat_le first last) (nat_le (last + size) 512) refl refl
-  where
-    by_tests : (s t : Bool) → s ≡ nat_le first last → t ≡ nat_le (last + size) 512 →
-        Fits (if s && t then Some (record { place = first; size = (last - first) + size }) else None)
-    by_tests true true p q = grind (arith)
-    by_tests true false p q = tt
-    by_tests false true p q = tt
-    by_tests false false p q = tt
-between_fits size (pos first) (negsuc n) = tt
-between_fits size (negsuc m) (pos last) = tt
-between_fits size (negsuc m) (negsuc n) = tt
-
-window_fits : (o : Offsets) (reach : Reach) → Fits (window_known Stack o.0 o.1 reach.distance reach.size)
-window_fits o reach = between_fits reach.size ((o.0 +ℤ reach.distance) +ℤ pos 512) ((o.1 +ℤ reach.distance) +ℤ pos 512)
-
-cell_same : (known : Known) (reach : Reach) (v : AbsVal) → empty_cell (listed known) reach v ≡ empty_cell known reach v
-cell_same known reach value.Unset = refl
-cell_same known reach (value.Number n) = refl
-cell_same known reach (value.Pointer Context o) = refl
-cell_same known reach (value.Pointer Stack o) =
-    ap (option_map (λ k. sentence.Memory (access.Empty reach.base (touched o reach) (pos k -ℤ pos 512))))
-    (empty_in_listed known (window_known Stack o.0 o.1 reach.distance reach.size) (window_fits o reach))
-
-reach_same : (known : Known) (registers : List AbsVal) (o : Option Reach)
-    → option_and_then (λ reach. empty_cell (listed known) reach (known_at registers reach.base)) o ≡ option_and_then (λ reach. empty_cell known reach (known_at registers reach.base)) o
-reach_same known registers None = refl
-reach_same known registers (Some reach) = cell_same known reach (known_at registers reach.base)
-
--- ---- so the lines are the same
-
-shortfall_same : (r : Reason) (i : Insn) (a : AbsState) → shortfall r i (told a) ≡ shortfall r i a
-shortfall_same reason.BackJump i a = refl
-shortfall_same reason.JumpOut i a = refl
-shortfall_same reason.JumpInWide i a = refl
-shortfall_same reason.LastNotExit i a = refl
-shortfall_same reason.Unset i a = refl
-shortfall_same reason.FrameWrite i a = refl
-shortfall_same reason.PointerUse i a = refl
-shortfall_same reason.Bounds i a = refl
-shortfall_same reason.StackUnset i a = reach_same a.stack a.registers (reach_of i a.registers)
-shortfall_same reason.ContextWrite i a = refl
-shortfall_same reason.Helper i a = refl
-shortfall_same reason.Argument i a = refl
-shortfall_same reason.ExitPointer i a = refl
-
-known_same : (r : Reason) (i : Insn) (known : Option AbsState)
-    → option_and_then (λ a. shortfall r i a) (option_map told known) ≡ option_and_then (λ a. shortfall r i a) known
-known_same r i None = refl
-known_same r i (Some a) = shortfall_same r i a
-
-sentence_same : (units : ℕ) (r : Reason) (unit : ℕ) (i : Insn) (known : Option AbsState) → sentence_of units r unit i (option_map told known) ≡ sentence_of units r unit i known
-sentence_same units reason.BackJump unit i known = refl
-sentence_same units reason.JumpOut unit i known = refl
-sentence_same units reason.JumpInWide unit i known = refl
-sentence_same units reason.LastNotExit unit i known = refl
-sentence_same units reason.Unset unit i known = known_same reason.Unset i known
-sentence_same units reason.FrameWrite unit i known = known_same reason.FrameWrite i known
-sentence_same units reason.PointerUse unit i known = known_same reason.PointerUse i known
-sentence_same units reason.Bounds unit i known = known_same reason.Bounds i known
-sentence_same units reason.StackUnset unit i known = known_same reason.StackUnset i known
-sentence_same units reason.ContextWrite unit i known = known_same reason.ContextWrite i known
-sentence_same units reason.Helper unit i known = known_same reason.Helper i known
-sentence_same units reason.Argument unit i known = known_same reason.Argument i known
-sentence_same units reason.ExitPointer unit i known = known_same reason.ExitPointer i known
-
-refused_same : (units : ℕ) (known : Option AbsState) (r : Reason) (unit : ℕ) (o : Option Insn) → refused_at units (option_map told known) r unit o ≡ refused_at units known r unit o
-refused_same units known r unit None = refl
-refused_same units known r unit (Some i) = ap (sentence_line unit i) (sentence_same units r unit i known)
-
--- what is known at a unit, with its stack cell by cell
-abbrev told_there : Option (Option AbsState) → Option (Option AbsState)
-told_there here = option_map (option_map told) here
-
-line_same : (unit : ℕ) (i : Insn) (here : Option (Option AbsState)) → line_if unit i (told_there here) ≡ line_if unit i here
-line_same unit i None = refl
-line_same unit i (Some None) = refl
-line_same unit i (Some (Some a)) = refl
-
-known_by_told : (here : Option (Option AbsState)) → known_by (told_there here) ≡ option_map told (known_by here)
-known_by_told None = refl
-known_by_told (Some known) = refl
+use Rattle.explain.specs.Explained.{KnownByUnit, known_by, line_if, lines_by, refused_at, refused_line, known_lines, explained}
 
 -- two surveys say the same of each unit below the end
 abbrev Agree : KnownByUnit → KnownByUnit → ℕ → Type 0
-Agree survey other end = (unit : ℕ) → unit < end → told_there (survey unit) ≡ other unit
+Agree survey other end = (unit : ℕ) → unit < end → survey unit ≡ other unit
 
 units_same : (survey other : KnownByUnit) (end unit : ℕ) (is : List Insn) → unit + length (slots_of is) ≤ end → Agree survey other end → known_lines survey unit is ≡ known_lines other unit is
 units_same survey other end unit [] fits agree = refl
 units_same survey other end unit (i ∷ is) fits agree =
     let more = length-slots_of-cons i is in
     let one : 1 ≤ units_of i = units_some i in
-    let here : line_if unit i (survey unit) ≡ line_if unit i (other unit) =
-    sym (line_same unit i (survey unit)) ∙ ap (line_if unit i) (agree unit (omega (arith, more, one))) in
+    let here : line_if unit i (survey unit) ≡ line_if unit i (other unit) = ap (line_if unit i) (agree unit (omega (arith, more, one))) in
     ap₂ (λ (line lines : List ℕ). line ++ lines) here (units_same survey other end (unit + units_of i) is (omega (arith, more)) agree)
 
--- ---- the survey agrees with the function
-
--- behind a fault the answer stays
-stays : (program : List Insn) (fault : VerifyError) (unit more : ℕ) → passed_to program unit ≡ Err fault → passed_to program (more + unit) ≡ Err fault
-unfolding passed_to
-stays program fault unit zero e = let same : 0 + unit ≡ unit = omega arith in ap (passed_to program) same ∙ e
-stays program fault unit (suc more) e =
-    let next : suc more + unit ≡ suc (more + unit) = omega arith in
-    ap (passed_to program) next ∙ ap (passed_on program (more + unit)) (stays program fault unit more e)
-
-stopped_at : (unit : ℕ) (o : Option Insn) (kept : Kept) (reached : KnownSoFar) (r : Reason) → reason_at o kept ≡ Some r → passed_at unit o (known kept) reached ≡ Err (At r unit)
-stopped_at unit None kept reached r e = absurd cc
-stopped_at unit (Some i) None reached r e = absurd cc
-stopped_at unit (Some i) (Some a) reached r e =
-    ap (λ (o : Option Reason). settled o unit (along_all (edges i unit (told a.value)) reached)) (reason_same i a.value ∙ e)
-
-there_is : (o : Option Insn) (kept : Kept) (r : Reason) → reason_at o kept ≡ Some r → IsSome o
-there_is None kept r e = absurd cc
-there_is (Some i) kept r e = refl
-
--- behind the last unit of a survey that ends with a fault the function comes to none
-no_more : (program : List Insn) (states : List (Option AbsState)) (fault : VerifyError) (unit : ℕ) → structural_fault program ≡ None → IsLast program states fault → length states ≤ unit
-    → result_ok (passed_to program unit) ≡ None
-unfolding passed_to
-no_more program states fault unit none last past =
-    let at = last.unit in
-    let inside : at < length (slots_of program) = start_inside program at (there_is (instruction_at program at) (kept_at last.pending at) last.reason last.stops) in
-    let before = comes_agree program (forward_of_structure program none) at last.pending (omega arith) last.comes in
-    let here : passed_at at (instruction_at program at) (reached_at before.0 at) before.0 ≡ Err (At last.reason at) =
-    ap (λ (o : Option AbsState). passed_at at (instruction_at program at) o before.0) (sym (before.2.each at (omega arith) inside))
-    ∙ stopped_at at (instruction_at program at) (kept_at last.pending at) before.0 last.reason last.stops in
-    let now : passed_to program (suc at) ≡ Err (At last.reason at) = ap (passed_on program at) before.1 ∙ here in
-    let ends = last.last in
-    let sum : (unit - suc at) + suc at ≡ unit = omega (arith, ends) in
-    let there : passed_to program unit ≡ Err (At last.reason at) = ap (passed_to program) (sym sum) ∙ stays program (At last.reason at) (suc at) (unit - suc at) now in
-    ap result_ok there
-
-module _ (program : List Insn) (states : List (Option AbsState)) (none : structural_fault program ≡ None) where
-  function_is : (o : Option KnownSoFar) (unit : ℕ) → result_ok (passed_to program unit) ≡ o → known_before program unit ≡ option_map (λ reached. reached_at reached unit) o
-  function_is o unit e = rw (none, e) refl
-
-  -- at a unit to which the survey comes
-  inside_agrees : (unit : ℕ) → AreKnown program states → unit < length states → unit < length (slots_of program) → told_there (slice_get states unit) ≡ known_before program unit
-  inside_agrees unit are lt room =
-      let here = are unit lt in
-      let comes = comes_agree program (forward_of_structure program none) unit here.0 (omega arith) here.1 in
-      let each : known (kept_at here.0 unit) ≡ reached_at comes.0 unit = comes.2.each unit (omega arith) room in
-      ap told_there (slice_get-get_or states unit None lt)
-      ∙ (ap (λ (o : Option AbsState). Some (option_map told o)) here.2
-      ∙ (ap (λ (o : Option AbsState). Some o) (told_known (kept_at here.0 unit) ∙ each)
-      ∙ sym (function_is (Some comes.0) unit (ap result_ok comes.1))))
-    where
-      told_known : (slot : Kept) → option_map told (known_of slot) ≡ known slot
-      told_known None = refl
-      told_known (Some a) = refl
-
-  -- past it
-  outside_agrees : (fault : Option VerifyError) (unit : ℕ) → EndsSo program states fault → length states ≤ unit → unit < length (slots_of program) → told_there (slice_get states unit) ≡ known_before program unit
-  outside_agrees None unit ends past room = let all = ends.0 in absurd (omega (arith, all))
-  outside_agrees (Some fault) unit ends past room =
-      ap told_there (slice_get_past states unit past) ∙ sym (function_is None unit (no_more program states fault unit none ends past))
-
-  agrees : (fault : Option VerifyError) → AreKnown program states → EndsSo program states fault → Agree (slice_get states) (known_before program) (length (slots_of program))
-  agrees fault are ends unit room = by_test (nat_lt unit (length states)) refl
-    where
-      by_test : (b : Bool) → nat_lt unit (length states) ≡ b → told_there (slice_get states unit) ≡ known_before program unit
-      by_test true e = inside_agrees unit are (grind (arith)) room
-      by_test false e = outside_agrees fault unit ends (grind (arith)) room
-
-  fault_is : (fault : Option VerifyError) → EndsSo program states fault → fault ≡ judged program
-  fault_is None ends = sym (through_judged program none ends.1)
-  fault_is (Some fault) last =
-      sym (stopped_judged program fault none (last.unit, last.reason, record { pending = last.pending; comes = last.comes; stops = last.stops }, last.told))
+-- ---- the lines of a survey
 
 refused_agrees : (program : List Insn) (survey other : KnownByUnit) (fault : Option VerifyError) → Agree survey other (length (slots_of program)) → refused_line survey program fault ≡ refused_line other program fault
 refused_agrees program survey other None agree = refl
@@ -237,27 +38,14 @@ refused_agrees program survey other (Some (At r unit)) agree = by_insn (instruct
     by_insn None at = refl
     by_insn (Some i) at =
         let room : unit < length (slots_of program) = start_inside program unit (rw at refl) in
-        sym (refused_same units (known_by (survey unit)) r unit (Some i))
-        ∙ ap (λ (known : Option AbsState). refused_at units known r unit (Some i)) (sym (known_by_told (survey unit)) ∙ ap known_by (agree unit room))
+        ap (λ (here : Option (Option AbsState)). refused_at units (known_by here) r unit (Some i)) (agree unit room)
 
 -- the lines of the survey are those of the program
 pub survey_explained : (program : List Insn) (states : List (Option AbsState)) (fault : Option VerifyError) → IsSurvey program states fault → lines_by (slice_get states) program fault ≡ explained program
-survey_explained program states fault survey = by_structure (structural_fault program) refl
-  where
-    same : Agree (slice_get states) (known_before program) (length (slots_of program)) → fault ≡ judged program → lines_by (slice_get states) program fault ≡ explained program
-    same agree is =
-        ap₂ (λ (lines last : List ℕ). lines ++ last) (units_same (slice_get states) (known_before program) (length (slots_of program)) 0 program (omega arith) agree)
-        (refused_agrees program (slice_get states) (known_before program) fault agree)
-        ∙ ap (lines_by (known_before program) program) is
-
-    by_structure : (o : Option VerifyError) → structural_fault program ≡ o → lines_by (slice_get states) program fault ≡ explained program
-    by_structure None none = same (agrees program states none fault survey.known (survey.ends none)) (fault_is program states none fault (survey.ends none))
-    by_structure (Some first) some =
-        let both : (fault ≡ Some first) × (states ≡ []) = rw some at survey.structural in
-        same (λ unit room. ap (λ (s : List (Option AbsState)). told_there (slice_get s unit)) both.1 ∙ (ap told_there (slice_get_past [] unit (omega arith)) ∙ sym (nothing unit))) (both.0 ∙ sym (structural_judged program first some))
-      where
-        nothing : (unit : ℕ) → known_before program unit ≡ None
-        nothing unit = rw some refl
+survey_explained program states fault survey =
+    ap₂ (λ (lines last : List ℕ). lines ++ last) (units_same (slice_get states) (known_before program) (length (slots_of program)) 0 program (omega arith) survey.known)
+    (refused_agrees program (slice_get states) (known_before program) fault survey.known)
+    ∙ ap (lines_by (known_before program) program) survey.fault_is
 
 -- a text that grows by the lines of the survey, from nothing
 pub told_whole : (program insns : List Insn) (states shown : List (Option AbsState)) (fault : Option VerifyError) (start middle last : List ℕ) → IsSurvey program states fault

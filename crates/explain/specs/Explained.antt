@@ -1,6 +1,5 @@
 -- The explanation of a program: what is known at each unit to which the verifier comes, and why it is refused, if so (own).
-use Rattle.std.specs.Prelude.{ℕ, ℤ, pos, ◌+◌, ◌+ℤ◌, if◌then◌else◌, List, [], ◌∷◌, ◌++◌, Option, Some, None, is_none, option_map, option_and_then, codes, decimal, length}
-use Rattle.std.specs.Result.{result_ok}
+use Rattle.std.specs.Prelude.{ℕ, ℤ, pos, ◌+◌, ◌+ℤ◌, List, [], ◌∷◌, ◌++◌, Option, Some, None, option_map, option_and_then, codes, decimal, length}
 use Rattle.insn.specs.declared.insn.Insn.{Insn}
 use Rattle.insn.specs.declared.insn.Insn.TheVariants.{Jump, LongJump, Branch}
 use Rattle.insn.specs.Insn.{units_of}
@@ -13,12 +12,11 @@ use Rattle.verify.specs.declared.reason.Reason.{Reason}
 use Rattle.verify.specs.declared.reason.Reason.TheVariants as reason
 use Rattle.verify.specs.declared.state.AbsState.{AbsState}
 use Rattle.verify.specs.Registers.{known_at}
-use Rattle.verify.specs.Structure.{structural_fault}
-use Rattle.verify.specs.Judgement.{reached_at, passed_to, judged}
+use Rattle.verify.specs.Judgement.{judged}
+use Rattle.verify.specs.KnownAtUnits.{known_before}
 use Rattle.explain.specs.declared.sentence.Sentence.{Sentence}
 use Rattle.explain.specs.declared.sentence.Sentence.TheVariants as sentence
 use Rattle.explain.specs.declared.sentence.Structure.TheVariants as structure
-use Rattle.explain.specs.Values.{value_text}
 use Rattle.explain.specs.Sentences.{named_text, sentence_text}
 use Rattle.explain.specs.Shortfalls.{shortfall}
 use Rattle.explain.specs.Reads.{read_by}
@@ -98,10 +96,6 @@ abbrev pub lines_by : KnownByUnit → List Insn → Option VerifyError → List 
 lines_by survey program fault = known_lines survey 0 program ++ refused_line survey program fault
 
 -- ---- of a program
-
--- what the verifier knows as it comes to a unit: it comes to none where there is a fault of structure, and to none behind an instruction that it refuses
-abbrev pub known_before : List Insn → KnownByUnit
-known_before program unit = if is_none (structural_fault program) then option_map (λ reached. reached_at reached unit) (result_ok (passed_to program unit)) else None
 
 abbrev pub explained : List Insn → List ℕ
 explained program = lines_by (known_before program) program (judged program)

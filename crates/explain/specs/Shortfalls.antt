@@ -12,7 +12,7 @@ use Rattle.insn.specs.declared.insn.Operand.{Operand}
 use Rattle.insn.specs.declared.insn.Operand.TheVariants.{Register, Immediate}
 use Rattle.insn.specs.Insn.{bytes_of, part_bytes}
 use Rattle.semantics.specs.declared.value.Region.{Region}
-use Rattle.semantics.specs.declared.value.Region.TheVariants.{Stack, Context}
+use Rattle.semantics.specs.declared.value.Region.TheVariants.{Stack}
 use Rattle.semantics.specs.declared.request.Helper.{Helper}
 use Rattle.semantics.specs.declared.request.Helper.TheVariants.{BoardCopy, SendRow}
 use Rattle.semantics.specs.Call.{helper_of}

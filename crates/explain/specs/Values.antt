@@ -1,12 +1,11 @@
 -- What is known of a value, as text (own).
-use Rattle.std.specs.Prelude.{ℕ, ℤ, pos, ◌+◌, ◌-◌, ◌%◌, ◌^◌, ◌==◌, ◌&&◌, ◌||◌, not, nat_le, bit_and, Bool, true, false, if◌then◌else◌, List, [], ◌++◌, codes, decimal}
+use Rattle.std.specs.Prelude.{ℕ, ℤ, ◌+◌, ◌-◌, ◌%◌, ◌^◌, ◌==◌, ◌&&◌, ◌||◌, nat_le, bit_and, Bool, false, if◌then◌else◌, List, [], ◌++◌, codes, decimal}
 use Rattle.std.specs.Fmt.{signed_decimal, digits}
 use Rattle.std.specs.Int.{w64, cast_signed}
 use Rattle.std.specs.Ordering.{int_eq}
 use Rattle.semantics.specs.declared.value.Region.{Region}
 use Rattle.semantics.specs.declared.value.Region.TheVariants.{Stack, Context}
 use Rattle.absval.specs.declared.number_set.NumberSet.{NumberSet}
-use Rattle.absval.specs.declared.value.Offsets.{Offsets}
 use Rattle.absval.specs.declared.value.AbsVal.{AbsVal}
 use Rattle.absval.specs.declared.value.AbsVal.TheVariants.{Unset, Number, Pointer}
 

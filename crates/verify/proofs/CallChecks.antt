@@ -1,8 +1,19 @@
--- Checks of a call, one after another.
-use Rattle.std.proofs.Common.{◌≡◌, Option, Some, None, refl, ap}
+-- Checks one after another, and what is left behind them.
+use Rattle.std.proofs.Common.{◌≡◌, ◌∙◌, List, Option, Some, None, refl, sym, ap}
 use Rattle.std.specs.Prelude.{Result, Ok, Err, IsErrAnd}
+use Rattle.semantics.specs.declared.request.Helper.{Helper}
+use Rattle.semantics.specs.declared.request.Helper.TheVariants.{BoardCopy}
+use Rattle.helper.specs.Table.{arguments_of}
+use Rattle.helper.specs.Results.{returned_range}
+use Rattle.absval.specs.NumberSets.{within}
+use Rattle.absval.specs.declared.value.AbsVal.{AbsVal}
+use Rattle.absmem.specs.Known.{Known}
 use Rattle.verify.specs.declared.reason.Reason.{Reason}
-use Rattle.verify.specs.Calls.{answer_of, or_reason}
+use Rattle.verify.specs.declared.state.AbsState.{AbsState}
+use Rattle.verify.specs.Registers.{known_at}
+use Rattle.verify.specs.Reasons.{unless, outcome}
+use Rattle.verify.specs.Calls.{answer_of, or_reason, arguments_reason, copy_reason, window_reason, helper_reason, known_behind}
+use Rattle.verify.specs.Transfer.{copied, stack_behind, called}
 
 -- ---- checks one after another
 
@@ -25,3 +36,59 @@ err_is (Err other) reason h = ap Err h
 pub or_refused : (a b : Option Reason) (r : Result (Unit {0}) Reason) (reason : Reason) → r ≡ Err reason → r ≡ answer_of a → r ≡ answer_of (or_reason a b)
 or_refused None b r reason e f = cc
 or_refused (Some other) b r reason e f = f
+
+-- ---- what is left
+
+-- what is left of a part is left of the whole
+pub lifted : {A B : Type 0} (f : A → B) (r : Result (Unit {0}) Reason) (why : Option Reason) (new wanted : A) → outcome r new ≡ unless why wanted → outcome r (f new) ≡ unless why (f wanted)
+lifted f (Ok u) None new wanted h = let same : new ≡ wanted = cc in ap (λ a. Ok (f a)) same
+lifted f (Ok u) (Some reason) new wanted h = absurd cc
+lifted f (Err other) None new wanted h = absurd cc
+lifted f (Err other) (Some reason) new wanted h = let same : other ≡ reason = cc in ap Err same
+
+-- why it is refused
+pub refused_for : {A : Type 0} (r : Result (Unit {0}) Reason) (why : Option Reason) (reason : Reason) (new wanted : A) → r ≡ Err reason → outcome r new ≡ unless why wanted → why ≡ Some reason
+refused_for (Ok u) why reason new wanted e h = absurd cc
+refused_for (Err other) None reason new wanted e h = absurd cc
+refused_for (Err other) (Some stands) reason new wanted e h =
+    let same : other ≡ stands = cc in let there : other ≡ reason = cc in ap (λ (x : Reason). Some x) (sym same ∙ there)
+
+-- where it is not, this is left
+pub accepted_with : {A : Type 0} (r : Result (Unit {0}) Reason) (why : Option Reason) (u : Unit {0}) (new wanted : A) → r ≡ Ok u → outcome r new ≡ unless why wanted → (why ≡ None) × (new ≡ wanted)
+accepted_with (Ok v) None u new wanted e h = (refl, let same : new ≡ wanted = cc in same)
+accepted_with (Ok v) (Some reason) u new wanted e h = absurd cc
+accepted_with (Err other) why u new wanted e h = absurd cc
+
+-- ---- calls
+
+-- words are copied, or why not
+pub copy_left : (a : AbsState) (first second third : AbsVal) (r : Result (Unit {0}) Reason) (new : Known) → first ≡ known_at a.registers 1 → second ≡ known_at a.registers 2 →
+    third ≡ known_at a.registers 3 → outcome r new ≡ unless (copy_reason first second third) (copied second third a.stack) →
+    outcome r (record a { stack = new }) ≡ unless (window_reason BoardCopy a) (record a { stack = stack_behind BoardCopy a })
+copy_left a first second third r new e f g h =
+    lifted (λ (known : Known). record a { stack = known }) r (window_reason BoardCopy a) new (stack_behind BoardCopy a)
+    (h ∙ (λ i. unless (copy_reason (e i) (f i) (g i)) (copied (f i) (g i) a.stack)))
+
+-- an argument is refused
+pub arguments_refused : (helper : Helper) (a new wanted : AbsState) (r : Result (Unit {0}) Reason) (reason : Reason) → r ≡ Err reason →
+    r ≡ answer_of (arguments_reason (arguments_of helper) 1 a.registers) → outcome r new ≡ unless (helper_reason (Some helper) a) wanted
+arguments_refused helper a new wanted r reason e f = by_reason (arguments_reason (arguments_of helper) 1 a.registers) f
+  where
+    by_reason : (why : Option Reason) → r ≡ answer_of why → outcome r new ≡ unless (or_reason why (window_reason helper a)) wanted
+    by_reason None g = absurd cc
+    by_reason (Some other) g = ap (λ (q : Result (Unit {0}) Reason). outcome q new) g
+
+-- the arguments pass, and the window is refused
+pub window_refused : (helper : Helper) (a new wanted : AbsState) (r : Result (Unit {0}) Reason) (reason : Reason) → r ≡ Err reason →
+    arguments_reason (arguments_of helper) 1 a.registers ≡ None → window_reason helper a ≡ Some reason → outcome r new ≡ unless (helper_reason (Some helper) a) wanted
+window_refused helper a new wanted r reason e f g =
+    ap (λ (q : Result (Unit {0}) Reason). outcome q new) e
+    ∙ (λ i. unless (or_reason (sym f i) (sym g i)) wanted)
+
+-- both pass
+pub call_left : (helper : Helper) (a b : AbsState) (registers : List AbsVal) → arguments_reason (arguments_of helper) 1 a.registers ≡ None → window_reason helper a ≡ None →
+    b ≡ record a { stack = stack_behind helper a } → registers ≡ known_behind (within (returned_range helper)) b.registers →
+    Ok (record { registers = registers; stack = b.stack }) ≡ unless (helper_reason (Some helper) a) (called (Some helper) a)
+call_left helper a b registers e f g h =
+    ap (λ (xs : List AbsVal). Ok (record { registers = xs; stack = b.stack })) h
+    ∙ (λ i. unless (or_reason (sym e i) (sym f i)) (record { registers = known_behind (within (returned_range helper)) (g i).registers; stack = (g i).stack }))

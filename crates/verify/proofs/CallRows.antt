@@ -34,9 +34,9 @@ use Rattle.verify.proofs.Outcomes.{GoesOn}
 use Rattle.verify.specs.MemoryTable.{all_bytes}
 use Rattle.verify.specs.Calls.{IsBelow, IsPointer, window_from, target_reason, source_reason, copy_reason, row_reason, reason_if, arguments_reason, window_reason, helper_reason, is_certain, known_behind}
 use Rattle.verify.proofs.CallStates.{Puts, WordsStand, CopyStands, RowStands, WindowStands}
-use Rattle.verify.specs.Knowledge.{put_bytes, spread_bytes}
+use Rattle.absmem.specs.Stacks.{put_bytes, spread_bytes}
 use Rattle.verify.specs.Transfer.{written, copied, stack_behind, called}
-use Rattle.verify.proofs.TableLemmas.{length-table}
+use Rattle.absmem.specs.TableLaws.{length-table}
 use Rattle.verify.proofs.CallArguments.{or_parts, no_reason, copy_arguments, row_arguments}
 use Rattle.verify.proofs.CallWindows.{orders_found, words_found, certain_place}
 use Rattle.verify.proofs.CallLemmas.{called_goes}
@@ -107,12 +107,12 @@ words_stand known offsets counts w cells p words flags d long target has there =
 
     by_test : (t : Bool) → t ≡ is_certain offsets counts → WordsStand (written t (Some w) known) cells p words
     by_test true e =
-        words_found (put_bytes w known) offsets.0 offsets.1 w.place w.size (8 * greatest counts) cells p words long target few fits there.lies
+        words_found (put_bytes w.place w.size known) offsets.0 offsets.1 w.place w.size (8 * greatest counts) cells p words long target few fits there.lies
         (λ at bytes are size ge le.
         let here = certain_place offsets.0 offsets.1 counts.range.0 counts.range.1 w.place w.size (length words) at (sym e) has.range there.least there.greatest ge le in
-        subst (λ (k : ℕ). StackDescribes (put_bytes w known) (overwritten cells k bytes)) here.0 (put_described known w cells bytes fits flags long are (size ∙ here.1) d))
+        subst (λ (k : ℕ). StackDescribes (put_bytes w.place w.size known) (overwritten cells k bytes)) here.0 (put_described known w cells bytes fits flags long are (size ∙ here.1) d))
     by_test false e =
-        words_found (spread_bytes w known) offsets.0 offsets.1 w.place w.size (8 * greatest counts) cells p words long target few fits there.lies
+        words_found (spread_bytes w.place w.size known) offsets.0 offsets.1 w.place w.size (8 * greatest counts) cells p words long target few fits there.lies
         (λ at bytes are size ge le. spread_described known w cells bytes at fits flags long are ge (omega (arith, size, le)) d)
 
 not_more : (n m : ℕ) (r : Reason) → reason_if (nat_lt n m) r ≡ None → m ≤ n

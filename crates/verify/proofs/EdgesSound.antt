@@ -1,9 +1,7 @@
 -- The edges of a conditional jump: what is known where it is taken, or is not, describes the states that go that way.
-use Rattle.std.proofs.Common.{◌≡◌, ◌∙◌, ℕ, zero, suc, ◌^◌, ◌<◌, List, [], ◌∷◌, map, length, Bool, Option, Some, None, Ok, IfSome, refl, arith, length-set}
+use Rattle.std.proofs.Common.{◌≡◌, ◌∙◌, ℕ, ◌^◌, ◌<◌, List, length, Bool, Option, Some, None, Ok, IfSome, refl, arith, length-set}
 use Rattle.std.specs.Prelude.{◌==◌, option_map, slice_set}
 use Rattle.std.specs.Int.{w64, cast_unsigned}
-use Rattle.std.specs.List.{AllZip}
-use Rattle.std.proofs.lemmas.List.{length-map}
 use Rattle.word.specs.declared.Width.{Width}
 use Rattle.word.specs.declared.Width.TheVariants.{W32, W64}
 use Rattle.word.specs.declared.Condition.{Condition}

@@ -1,9 +1,9 @@
 -- Where two paths meet, what both know describes each state that either describes; and what is known at the entry.
-use Rattle.std.proofs.Common.{◌≡◌, ◌∙◌, ℕ, suc, ℤ, pos, ◌<◌, ◌≤◌, List, [], ◌∷◌, map, length, get_or, replicate, Bool, true, false, refl, sym, subst, arith, ⊎_elim}
+use Rattle.std.proofs.Common.{◌≡◌, ◌∙◌, ℕ, suc, ℤ, pos, ◌<◌, ◌≤◌, List, [], ◌∷◌, length, get_or, replicate, Bool, true, false, refl, sym, subst, arith, ⊎_elim}
 use Rattle.std.specs.Prelude.{◌≤ℤ◌, ◌==◌, ◌&&◌, if◌then◌else◌}
 use Rattle.std.specs.Ordering.{int_eq}
 use Rattle.std.proofs.lemmas.Int.{ints}
-use Rattle.std.proofs.lemmas.List.{length-map, length-replicate}
+use Rattle.std.proofs.lemmas.List.{length-replicate}
 use Rattle.std.proofs.lemmas.Bool.{eqb-true, cases_lt}
 use Rattle.std.proofs.lemmas.Bool.Decides.{Decides-int_eq}
 use Rattle.std.proofs.Math.ListN.{get_or-eq_default}
@@ -24,7 +24,7 @@ use Rattle.verify.specs.declared.state.AbsState.{AbsState}
 use Rattle.verify.proofs.Gamma.{RegistersDescribe, Describes}
 use Rattle.verify.specs.Registers.{known_at, joined_all}
 use Rattle.verify.specs.Knowledge.{at_entry, met}
-use Rattle.verify.proofs.TableLemmas.{length-table, table_at}
+use Rattle.absmem.specs.TableLaws.{length-table, table_at}
 use Rattle.verify.proofs.Zips.{AllZip-length}
 use Rattle.verify.proofs.Meanings.{IsWell, AllWell, meant_at, stands_at}
 use Rattle.verify.proofs.ValueRows.{joined_meant, left_stands, right_stands, same_region}

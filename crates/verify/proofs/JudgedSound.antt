@@ -1,6 +1,6 @@
 -- A program in which the function finds no fault is sound.
-use Rattle.std.proofs.Common.{◌≡◌, ◌∙◌, ℕ, zero, suc, ◌+◌, ◌<◌, ◌≤◌, List, [], ◌∷◌, length, replicate, Option, Some, None, Result, Ok, Err, IfSome, refl, sym, ap, subst, arith, ⊎_elim}
-use Rattle.std.specs.Prelude.{pos, IsSome}
+use Rattle.std.proofs.Common.{◌≡◌, ◌∙◌, ℕ, zero, suc, ◌+◌, ◌<◌, ◌≤◌, List, [], ◌∷◌, length, replicate, Option, Some, None, Result, Ok, Err, IfSome, refl, sym, ap, subst, arith, ⊎_elim, ◌≢◌, length-set, get_or-set_other}
+use Rattle.std.specs.Prelude.{pos, slice_set, IsSome}
 use Rattle.std.specs.List.{AllByRecursion}
 use Rattle.std.proofs.lemmas.Int.{ints}
 use Rattle.std.proofs.lemmas.Bool.{cases_lt}
@@ -35,15 +35,16 @@ use Rattle.verify.proofs.Walk.{forward_of_structure}
 use Rattle.verify.proofs.StepSound.{IsMeant}
 use Rattle.verify.proofs.JoinSound.{entry_meant, entry_described}
 use Rattle.verify.proofs.EdgesSound.{DescribedBy}
-use Rattle.verify.proofs.PassSound.{AreMeant, At, Keeps, Lands, length-along, along_meant, along_takes, all_length, unit_leads, unit_meant, unit_keeps}
+use Rattle.verify.proofs.Taken.{taken_if, length-along, length-passed_at}
+use Rattle.verify.proofs.PassSound.{AreMeant, At, Lands, along_meant, along_takes, unit_leads, unit_meant, unit_keeps}
 
 -- ---- a unit is passed
 
--- what was described at the unit leads on to what is, and what was described elsewhere still is
+-- what was described at the unit leads on to what is, and what was described further on still is
 record Passed (program : List Insn) (unit : ℕ) (old new : KnownSoFar) : Type 0 where
   leads : (i : Insn) (context : List ℕ) (relay : Relay) (s : State) → IsSetting context relay → instruction_at program unit ≡ Some i → s.unit ≡ unit → At old unit s →
       LeadsTo (λ t. IsIn (pos t.unit) (leads_to i unit) × At new t.unit t) (executed context relay i s)
-  keeps : Keeps old new
+  keeps : (v : ℕ) (s : State) → unit < v → At old v s → At new v s
   meant : AreMeant new
   count : length new ≡ length old
 
@@ -51,7 +52,7 @@ record Passed (program : List Insn) (unit : ℕ) (old new : KnownSoFar) : Type 0
 passed_by : (program : List Insn) (unit : ℕ) (old : KnownSoFar) → AreMeant old → ((i : Insn) (s : State) → instruction_at program unit ≡ Some i → At old unit s → ⊥) → Passed program unit old old
 passed_by program unit old all none = record {
   leads = λ i context relay s setting at e kept. absurd (none i s at kept);
-  keeps = λ v s h. h;
+  keeps = λ v s lt h. h;
   meant = all;
   count = refl;
 }
@@ -80,18 +81,23 @@ unit_passed program unit (Some i) None old new forward well all long at known e 
     let same : old ≡ new = cc in
     subst (λ (r : KnownSoFar). Passed program unit old r) same (passed_by program unit old all (λ j s found h. subst (λ (o : Option AbsState). DescribedBy o s) known h))
 unit_passed program unit (Some i) (Some a) old new forward well all long at known e =
-    let parts = settled_ok (reason_of i a) unit (along_all (edges i unit a) old) new e in
+    let taken : KnownSoFar = slice_set old unit None in
+    let left : AreMeant taken = λ v. taken_if IsMeant old unit v (all v) in
+    let count : length taken ≡ length old = length-set old unit None in
+    let parts = settled_ok (reason_of i a) unit (along_all (edges i unit a) taken) new e in
     let insn : IsInsn i = subst (λ (o : Option Insn). IfSome o (λ j. IsInsn j)) at (found_well program unit (instruction_at program unit) well refl) in
     let m : IsMeant a = subst (λ (o : Option AbsState). IfSome o IsMeant) known (all unit) in
     subst (λ (r : KnownSoFar). Passed program unit old r) parts.1 (record {
       leads = λ j context relay s setting found e h.
           let same : i ≡ j = let both = sym at ∙ found in cc in
-          subst (λ (l : Insn). LeadsTo (λ t. IsIn (pos t.unit) (leads_to l unit) × At (along_all (edges i unit a) old) t.unit t) (executed context relay l s)) same
-          (unit_leads i unit a old context relay s insn all m parts.0 (lands_at program unit i forward at) (inside_at program unit i old forward long at) setting e
+          subst (λ (l : Insn). LeadsTo (λ t. IsIn (pos t.unit) (leads_to l unit) × At (along_all (edges i unit a) taken) t.unit t) (executed context relay l s)) same
+          (unit_leads i unit a taken context relay s insn left m parts.0 (lands_at program unit i forward at) (inside_at program unit i taken forward (count ∙ long) at) setting e
           (subst (λ (o : Option AbsState). DescribedBy o s) known h));
-      keeps = unit_keeps i unit a old insn all m;
-      meant = unit_meant i unit a old insn all m;
-      count = all_length (edges i unit a) old;
+      keeps = λ v s lt h.
+          let other : v ≢ unit = omega arith in
+          unit_keeps i unit a taken insn left m v s (subst (λ (o : Option AbsState). DescribedBy o s) (sym (get_or-set_other old unit v None None other)) h);
+      meant = unit_meant i unit a taken insn left m;
+      count = length-passed_at unit (Some i) (Some a) old (along_all (edges i unit a) taken) (ap (λ (o : Option Reason). settled o unit (along_all (edges i unit a) taken)) parts.0);
     })
 
 -- ---- what a state owes at the units from one on
@@ -137,7 +143,7 @@ some_is (Some i) some = (i, refl)
 pass_step : (program : List Insn) (context : List ℕ) (relay : Relay) (old new : KnownSoFar) (unit : ℕ) → IsForward program → Passed program unit old new → IsSetting context relay →
     Rest program context relay new (unit + 1) → Rest program context relay old unit
 pass_step program context relay old new unit forward passed setting rest s le some kept = ⊎_elim
-    (λ lt. rest s (omega arith) some (passed.keeps s.unit s kept))
+    (λ lt. rest s (omega arith) some (passed.keeps s.unit s lt kept))
     (λ ge. let e : s.unit ≡ unit = omega arith in
     let found = some_is (instruction_at program s.unit) some in
     let at = subst (λ (u : ℕ). instruction_at program u ≡ Some found.0) e found.1 in
@@ -188,7 +194,7 @@ starts program some =
     let room : 0 < length (empty program) = omega arith in
     record {
       meant = along_meant (pos 0) at_entry (empty program) (nothing_meant program) entry_meant;
-      count = length-along (pos 0) at_entry (empty program) ∙ long;
+      count = length-along (pos 0, at_entry) (empty program) ∙ long;
       rests = rests_start program (along (pos 0, at_entry) (empty program)) some
           (λ relay. along_takes 0 at_entry (empty program) (entry (empty_outbox relay)) (nothing_meant program) entry_meant room (entry_described (empty_outbox relay)));
     }

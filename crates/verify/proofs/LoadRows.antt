@@ -33,7 +33,8 @@ use Rattle.absmem.specs.Describes.{Describes as StackDescribes, IsByte, IsByteIf
 use Rattle.absmem.proofs.Overwriting.{cell-of_range}
 use Rattle.verify.specs.declared.reason.Reason.{Reason}
 use Rattle.verify.specs.declared.reason.Reason.TheVariants.{StackUnset}
-use Rattle.verify.specs.MemoryTable.{all_bytes, unset_in, unless, spilled_at, spilled, pointer_or, stack_given, load_from, load_given, signed_from, signed_load_given, all_numbers}
+use Rattle.verify.specs.Reasons.{unless}
+use Rattle.verify.specs.MemoryTable.{all_bytes, unset_in, spilled_at, spilled, pointer_or, stack_given, load_from, load_given, signed_from, signed_load_given, all_numbers}
 use Rattle.verify.proofs.Loads.{gives_number, length-part, context_part, reads_give, extended_at}
 use Rattle.verify.proofs.RangeRows.{by_test}
 use Rattle.verify.proofs.SetRows.{within_set, within_has, any_set, any_has}

@@ -16,7 +16,8 @@ use Rattle.absval.specs.declared.value.Offsets.{Offsets}
 use Rattle.absval.specs.declared.value.AbsVal.{AbsVal}
 use Rattle.absval.specs.Table.{loaded_known}
 use Rattle.absmem.specs.Known.{Known, byte_at}
-use Rattle.verify.specs.MemoryTable.{pointer_in, all_bytes, unset_in, spilled, unless, pointer_or, stack_given, load_from, load_given, signed_from, signed_load_given, write_refused}
+use Rattle.verify.specs.Reasons.{unless}
+use Rattle.verify.specs.MemoryTable.{pointer_in, all_bytes, unset_in, spilled, pointer_or, stack_given, load_from, load_given, signed_from, signed_load_given, write_refused}
 use Rattle.absval.specs.declared.value.AbsVal.TheVariants.{Unset, Number, Pointer}
 
 window_refused : (o : Option Window) → result_err (ok_or o Bounds) ≡ write_refused Stack o

@@ -25,8 +25,8 @@ use Rattle.verify.specs.declared.reason.Reason.TheVariants as reason
 use Rattle.verify.specs.declared.state.AbsState.{AbsState}
 use Rattle.verify.specs.Structure.{IsOwn}
 use Rattle.verify.specs.Registers.{known_at, operand_known}
-use Rattle.verify.specs.Reasons.{Check, first_reason, arithmetic_checks, made_checks, write_checks, compare_checks, exit_checks}
-use Rattle.verify.specs.MemoryTable.{all_bytes, unset_in, unless, spilled, pointer_or, load_from, load_given, all_numbers, signed_from, signed_load_given, is_storable, write_refused, store_refused, unset_or, frame_or}
+use Rattle.verify.specs.Reasons.{Check, first_reason, arithmetic_checks, made_checks, write_checks, compare_checks, exit_checks, unless}
+use Rattle.verify.specs.MemoryTable.{all_bytes, unset_in, spilled, pointer_or, load_from, load_given, all_numbers, signed_from, signed_load_given, is_storable, write_refused, store_refused, unset_or, frame_or}
 use Rattle.verify.specs.Calls.{or_reason, reason_if, argument_reason, arguments_reason, window_from, target_reason, source_reason, copy_reason, row_reason, window_reason, helper_reason}
 use Rattle.verify.specs.Instructions.{straight_reason, reason_of}
 use Rattle.absval.specs.declared.value.AbsVal.TheVariants.{Unset, Number, Pointer}

@@ -31,6 +31,7 @@ use Rattle.verify.proofs.JoinSound.{met_meant, met_left, met_right}
 use Rattle.verify.proofs.EdgesSound.{DescribedBy, narrowed_describes, narrowed_meant}
 use Rattle.absval.specs.declared.value.AbsVal.TheVariants.{Unset, Number, Pointer}
 use Rattle.absval.specs.declared.value.AbsVal.{AbsVal}
+use Rattle.verify.proofs.Taken.{length-along}
 
 -- what has been reached is well formed, and describes s at a unit
 abbrev pub AreMeant : KnownSoFar → Type 0
@@ -44,10 +45,6 @@ abbrev pub Keeps : KnownSoFar → KnownSoFar → Type 0
 Keeps old new = (v : ℕ) (s : State) → At old v s → At new v s
 
 -- ---- one edge
-
-pub length-along : (z : ℤ) (a : AbsState) (reached : KnownSoFar) → length (along (z, a) reached) ≡ length reached
-length-along (pos u) a reached = length-set reached u _
-length-along (negsuc n) a reached = refl
 
 joined_meant : (o : Option AbsState) (a : AbsState) → IfSome o IsMeant → IsMeant a → IsMeant (joined_with o a)
 joined_meant None a h m = m
@@ -108,10 +105,6 @@ abbrev EdgesMeant : List Edge → Type 0
 EdgesMeant [] = Unit {0}
 EdgesMeant (e ∷ es) = IsMeant e.1 × EdgesMeant es
 
-pub all_length : (es : List Edge) (reached : KnownSoFar) → length (along_all es reached) ≡ length reached
-all_length [] reached = refl
-all_length (e ∷ es) reached = all_length es (along e reached) ∙ length-along e.0 e.1 reached
-
 all_meant : (es : List Edge) (reached : KnownSoFar) → EdgesMeant es → AreMeant reached → AreMeant (along_all es reached)
 all_meant [] reached h all = all
 all_meant (e ∷ es) reached h all = all_meant es (along e reached) h.1 (along_meant e.0 e.1 reached all h.0)
@@ -130,7 +123,7 @@ all_take [] reached unit s h all lt leads = absurd leads
 all_take (e ∷ es) reached unit s h all lt leads = ⊎_elim
     (λ here. all_keeps es (along e reached) h.1 (along_meant e.0 e.1 reached all h.0) unit s
     (subst (λ (z : ℤ). At (along (z, e.1) reached) unit s) (sym here.0) (along_takes unit e.1 reached s all h.0 lt here.1)))
-    (λ later. all_take es (along e reached) unit s h.1 (along_meant e.0 e.1 reached all h.0) (let same = length-along e.0 e.1 reached in omega arith) later)
+    (λ later. all_take es (along e reached) unit s h.1 (along_meant e.0 e.1 reached all h.0) (let same = length-along e reached in omega arith) later)
     leads
 
 -- ---- the edges of an instruction

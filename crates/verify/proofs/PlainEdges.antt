@@ -1,6 +1,6 @@
 -- What flows along an edge where registers hold numbers.
-use Rattle.std.proofs.Common.{◌≡◌, ◌≢◌, ◌∙◌, ℕ, ◌<◌, List, [], ◌∷◌, ◌++◌, length, set, arith, refl, ap, subst, Bool, true, false, Option, Some, None, length-set}
-use Rattle.std.specs.Prelude.{ℤ, pos, ◌==◌, if◌then◌else◌, option_map, map, slice_set, IfSome}
+use Rattle.std.proofs.Common.{◌≡◌, ◌≢◌, ◌∙◌, ℕ, ◌<◌, List, [], ◌∷◌, ◌++◌, length, set, arith, refl, Bool, true, false, Option, Some, None, length-set}
+use Rattle.std.specs.Prelude.{ℤ, pos, ◌==◌, if◌then◌else◌, option_map, IfSome}
 use Rattle.std.specs.Int.{w64, cast_unsigned}
 use Rattle.word.specs.declared.Width.{Width}
 use Rattle.word.specs.declared.Condition.{Condition}

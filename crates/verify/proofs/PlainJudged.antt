@@ -1,6 +1,6 @@
 -- In a plain program the function finds no fault: each register that is read is known to hold a number.
 use Rattle.std.proofs.Common.{◌≡◌, ◌∙◌, ℕ, zero, suc, ◌<◌, List, [], ◌∷◌, length, arith, refl, sym, ap, subst, false, Option, Some, None, Result, Ok, ⊎_elim, length-set}
-use Rattle.std.specs.Prelude.{ℤ, pos, replicate, IfSome}
+use Rattle.std.specs.Prelude.{ℤ, pos, replicate, slice_set, IfSome}
 use Rattle.std.specs.List.{AllByRecursion}
 use Rattle.std.proofs.lemmas.List.{length-replicate}
 use Rattle.insn.specs.declared.insn.Insn.{Insn}
@@ -20,7 +20,8 @@ use Rattle.verify.specs.Transfer.{Edge, edges}
 use Rattle.verify.specs.Judgement.{KnownSoFar, reached_at, joined_with, along, along_all, settled, passed_at, passed_on, passed_to, first_of, judged}
 use Rattle.verify.proofs.Edges.{start_inside}
 use Rattle.verify.proofs.PlainWalk.{structure_of_plain}
-use Rattle.verify.proofs.TableLemmas.{length-table, table_at}
+use Rattle.absmem.specs.TableLaws.{length-table, table_at}
+use Rattle.verify.proofs.Taken.{taken_some}
 use Rattle.verify.proofs.Zips.{at_set}
 use Rattle.verify.proofs.KnownNumbers.{number_at, true_or_not, joined_numbers}
 use Rattle.verify.proofs.PlainEdges.{EdgesFine}
@@ -84,6 +85,12 @@ edges_walk program i unit known (e ∷ es) reached plain at here h fine =
     }) in
     edges_walk program i unit known es (along e reached) plain at here h.1 (subst (λ (z : ℤ). Fine program (along (z, e.1) reached)) (sym start.1) next)
 
+taken_fine : (program : List Insn) (reached : KnownSoFar) (unit : ℕ) → Fine program reached → Fine program (slice_set reached unit None)
+taken_fine program reached unit fine = record {
+  count = length-set reached unit None ∙ fine.count;
+  each = λ v a e. fine.each v a (taken_some reached unit v a e);
+}
+
 abbrev Passed : List Insn → Result KnownSoFar VerifyError → Type 0
 Passed program answer = (next : KnownSoFar) × (answer ≡ Ok next) × Fine program next
 
@@ -94,9 +101,9 @@ unit_passed program unit (Some i) None reached plain well fine at here = (reache
 unit_passed program unit (Some i) (Some a) reached plain well fine at here =
     let runs = instruction_runs i unit a (plain.numbers unit i at) (plain.frame_kept unit i at) (found_well program unit (Some i) well (sym at))
     (λ r low read. true_or_not (number_at a.registers r) (λ none. plain.written_before unit r i at read (here.blank r low none))) here.size in (
-      along_all (edges i unit a) reached,
-      ap (λ (o : Option Reason). settled o unit (along_all (edges i unit a) reached)) runs.0,
-      edges_walk program i unit a.registers (edges i unit a) reached plain at here.blank runs.1 fine,
+      along_all (edges i unit a) (slice_set reached unit None),
+      ap (λ (o : Option Reason). settled o unit (along_all (edges i unit a) (slice_set reached unit None))) runs.0,
+      edges_walk program i unit a.registers (edges i unit a) (slice_set reached unit None) plain at here.blank runs.1 (taken_fine program reached unit fine),
     )
 
 nothing_at : (n v : ℕ) → reached_at (replicate n None) v ≡ None

@@ -1,46 +1,38 @@
--- Why a load or a store may not run: one check after the other.
-use Rattle.std.proofs.Common.{◌≡◌, ◌∙◌, ℕ, Bool, true, false, List, [], ◌∷◌, Option, Some, None, refl, ap}
-use Rattle.std.specs.Prelude.{◌==◌, if◌then◌else◌}
+-- A store: one check after the other, and what is stored.
+use Rattle.std.proofs.Common.{◌≡◌, ◌∙◌, List, [], ◌∷◌, Option, None, refl, ap}
+use Rattle.std.specs.Prelude.{ℤ, Result}
+use Rattle.insn.specs.declared.insn.Size.{Size}
+use Rattle.absmem.specs.Known.{Known}
 use Rattle.verify.specs.declared.reason.Reason.{Reason}
 use Rattle.verify.specs.declared.reason.Reason.TheVariants as reason
 use Rattle.verify.specs.declared.reason.Reason.TheVariants.{FrameWrite}
-use Rattle.verify.specs.Reasons.{Check, first_reason, is_unset, write_checks}
-use Rattle.verify.specs.MemoryTable.{unset_or, frame_or}
+use Rattle.verify.specs.declared.state.AbsState.{AbsState}
+use Rattle.verify.specs.Reasons.{Check, first_reason, is_unset, unless, outcome}
+use Rattle.verify.specs.MemoryTable.{unset_or, store_refused}
+use Rattle.verify.specs.Transfer.{stored}
+use Rattle.verify.proofs.CallChecks.{lifted}
 use Rattle.absval.specs.declared.value.AbsVal.TheVariants.{Unset, Number, Pointer}
 use Rattle.absval.specs.declared.value.AbsVal.{AbsVal}
 
 abbrev unset_check : AbsVal → List Check
 unset_check a = (is_unset a, reason.Unset) ∷ []
 
-unset_first : (a : AbsVal) (e : Reason) (next : Option Reason) → Some e ≡ first_reason (unset_check a) → Some e ≡ unset_or a next
-unset_first Unset e next h = h
-unset_first (Number n) e next h = absurd cc
-unset_first (Pointer region at) e next h = absurd cc
-
 set_next : (a : AbsVal) (next : Option Reason) → None ≡ first_reason (unset_check a) → next ≡ unset_or a next
 set_next Unset next h = absurd cc
 set_next (Number n) next h = refl
 set_next (Pointer region at) next h = refl
 
--- an unset value stands before the next reason
-pub unset_stands : (a b : AbsVal) (e : Reason) (next : Option Reason) → a ≡ b → Some e ≡ first_reason (unset_check a) → Some e ≡ unset_or b next
-unset_stands a b e next same h = unset_first a e next h ∙ ap (λ (x : AbsVal). unset_or x next) same
-
 -- behind one that is set the next reason stands
 pub set_passes : (a b : AbsVal) (next : Option Reason) → a ≡ b → None ≡ first_reason (unset_check a) → next ≡ unset_or b next
 set_passes a b next same h = set_next a next h ∙ ap (λ (x : AbsVal). unset_or x next) same
 
--- so it is of the frame pointer
-pub frame_stands : (dst : ℕ) (e : Reason) (next : Option Reason) → Some e ≡ first_reason (write_checks dst) → Some e ≡ frame_or dst next
-frame_stands dst e next h = by_test (dst == 10) h
-  where
-    by_test : (b : Bool) → Some e ≡ (if b then Some FrameWrite else None) → Some e ≡ (if b then Some FrameWrite else next)
-    by_test true k = k
-    by_test false k = absurd cc
-
-pub frame_passes : (dst : ℕ) (next : Option Reason) → None ≡ first_reason (write_checks dst) → next ≡ frame_or dst next
-frame_passes dst next h = by_test (dst == 10) h
-  where
-    by_test : (b : Bool) → None ≡ (if b then Some FrameWrite else None) → next ≡ (if b then Some FrameWrite else next)
-    by_test true k = absurd cc
-    by_test false k = refl
+-- what is stored, or why it is not
+pub store_left : (size : Size) (base pointer value operand : AbsVal) (x offset : ℤ) (a : AbsState) (r : Result (Unit {0}) Reason) (new : Known) → base ≡ pointer → value ≡ operand → x ≡ offset →
+    None ≡ first_reason (unset_check base) → None ≡ first_reason (unset_check value) → outcome r new ≡ unless (store_refused size base x value) (stored size base x value a.stack) →
+    outcome r (record a { stack = new }) ≡ unless (unset_or pointer (unset_or operand (store_refused size pointer offset operand))) (record a { stack = stored size pointer offset operand a.stack })
+store_left size base pointer value operand x offset a r new e f g set also h =
+    let why : Option Reason = store_refused size pointer offset operand in
+    lifted (λ (known : Known). record a { stack = known }) r why new (stored size pointer offset operand a.stack)
+    (h ∙ (λ i. unless (store_refused size (e i) (g i) (f i)) (stored size (e i) (g i) (f i) a.stack)))
+    ∙ ap (λ (o : Option Reason). unless o (record a { stack = stored size pointer offset operand a.stack }))
+    (set_passes value operand why f also ∙ set_passes base pointer (unset_or operand why) e set)

@@ -37,7 +37,7 @@ use Rattle.verify.proofs.Outcomes.{GoesOn, Follows}
 use Rattle.verify.specs.Instructions.{IsStraight, reason_of}
 use Rattle.verify.specs.Transfer.{assigned, number_stored, pointer_stored, stored, called, follows}
 use Rattle.verify.proofs.StoreLemmas.{store_goes}
-use Rattle.verify.proofs.TableLemmas.{length-table}
+use Rattle.absmem.specs.TableLaws.{length-table}
 use Rattle.verify.proofs.Zips.{AllZip-set}
 use Rattle.verify.proofs.SetRows.{single_set, single_of}
 use Rattle.verify.proofs.Meanings.{IsWord, IsWell, AllWell, all_set, meant_at, stands_at, operand_meant, operand_stands, first_meant, first_stands}

@@ -23,7 +23,7 @@ use Rattle.verify.specs.declared.reason.Reason.{Reason}
 use Rattle.verify.specs.declared.reason.Reason.TheVariants.{PointerUse}
 use Rattle.verify.specs.MemoryTable.{is_storable, write_refused, store_refused}
 use Rattle.verify.proofs.Stores.{Leads}
-use Rattle.verify.specs.Knowledge.{put_bytes, spread_bytes, put_pointer}
+use Rattle.absmem.specs.Stacks.{put_bytes, spread_bytes, put_pointer}
 use Rattle.verify.specs.Transfer.{number_stored, pointer_stored}
 use Rattle.verify.specs.Transfer as transfer
 use Rattle.verify.proofs.StoreLemmas.{stores_lead, bytes_lead, pieces_lead, number_lead}
@@ -53,16 +53,16 @@ number_leads : (known : Known) (w : Window) (at : ℤ × ℤ) (distance : ℤ) (
     Leads (number_stored n (Some w) known) (stored cells n p distance v)
 number_leads known w at distance n numbers cells p v d long flags h k there =
     let fits : w.place + w.size ≤ 512 = there.fits in
-    by_test (λ (left : Known). Leads left (stored cells n p distance v)) (w.size == n) (put_bytes w known) (spread_bytes w known)
+    by_test (λ (left : Known). Leads left (stored cells n p distance v)) (w.size == n) (put_bytes w.place w.size known) (spread_bytes w.place w.size known)
     (λ t. let same : w.size ≡ n = eqb-true w.size n t in
-    number_lead (put_bytes w known) numbers cells n p v distance k
-    (λ m. stores_lead (put_bytes w known) Stack at.0 at.1 distance w.place w.size n cells p (value.Number m) refl h there.lies
-    (λ place ge le. bytes_lead (put_bytes w known) cells place n m long (omega arith)
+    number_lead (put_bytes w.place w.size known) numbers cells n p v distance k
+    (λ m. stores_lead (put_bytes w.place w.size known) Stack at.0 at.1 distance w.place w.size n cells p (value.Number m) refl h there.lies
+    (λ place ge le. bytes_lead (put_bytes w.place w.size known) cells place n m long (omega arith)
     (λ new are size. let here : w.place ≡ place = omega arith in
-    subst (λ (i : ℕ). StackDescribes (put_bytes w known) (overwritten cells i new)) here (put_described known w cells new fits flags long are (size ∙ sym same) d)))))
-    (λ f. number_lead (spread_bytes w known) numbers cells n p v distance k
-    (λ m. stores_lead (spread_bytes w known) Stack at.0 at.1 distance w.place w.size n cells p (value.Number m) refl h there.lies
-    (λ place ge le. bytes_lead (spread_bytes w known) cells place n m long (omega arith)
+    subst (λ (i : ℕ). StackDescribes (put_bytes w.place w.size known) (overwritten cells i new)) here (put_described known w cells new fits flags long are (size ∙ sym same) d)))))
+    (λ f. number_lead (spread_bytes w.place w.size known) numbers cells n p v distance k
+    (λ m. stores_lead (spread_bytes w.place w.size known) Stack at.0 at.1 distance w.place w.size n cells p (value.Number m) refl h there.lies
+    (λ place ge le. bytes_lead (spread_bytes w.place w.size known) cells place n m long (omega arith)
     (λ new are size. spread_described known w cells new place fits flags long are ge (omega arith) d))))
 
 -- ---- pointers

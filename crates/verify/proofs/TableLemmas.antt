@@ -1,33 +1,18 @@
 -- Lists by their entries.
 use Rattle.std.proofs.Common.{◌≡◌, ◌∙◌, ℕ, zero, suc, ◌+◌, ◌<◌, ◌≤◌, List, length, get_or, set, drop, arith, sym, subst, length-drop}
 use Rattle.std.proofs.lemmas.List.{ext_get_or, get_or-drop, get_or_default}
-use Rattle.std.proofs.lemmas.List.FromFn.{length-map-range_with_len, get_or-map-range_with_len}
 use Rattle.absval.specs.declared.value.AbsVal.{AbsVal}
 use Rattle.absval.specs.declared.number_set.NumberSet.{NumberSet}
-use Rattle.verify.specs.Tables.{table}
-use Rattle.verify.specs.Registers.{known_at, joined_all, Joins}
+use Rattle.absmem.specs.TableLaws.{table_is}
+use Rattle.verify.specs.Registers.{known_at, joined_all}
 use Rattle.absval.specs.Table.{joined}
 use Rattle.verify.specs.Calls.{known_behind}
 use Rattle.verify.proofs.Zips.{at_set}
 use Rattle.absval.specs.declared.value.AbsVal.TheVariants.{Unset, Number}
 
-pub length-table : {A : Type 0} (n : ℕ) (entry : ℕ → A) → length (table n entry) ≡ n
-unfolding table
-length-table n entry = length-map-range_with_len entry 0 n
-
-pub table_at : {A : Type 0} (n : ℕ) (entry : ℕ → A) (k : ℕ) (d : A) → k < n → get_or (table n entry) k d ≡ entry k
-unfolding table
-table_at n entry k d lt = get_or-map-range_with_len entry 0 n k k d lt (omega arith)
-
--- a list that has these entries
-pub table_is : {A : Type 0} (n : ℕ) (entry : ℕ → A) (xs : List A) (d : A) → length xs ≡ n → ((k : ℕ) → k < n → get_or xs k d ≡ entry k) → xs ≡ table n entry
-table_is n entry xs d long at =
-    let size = length-table n entry in
-    ext_get_or d xs (table n entry) (long ∙ sym size) (λ k lt. at k (omega (arith, long)) ∙ sym (table_at n entry k d (omega (arith, long))))
-
--- two of the same entries are one
-pub table_same : {A : Type 0} (n : ℕ) (f g : ℕ → A) (d : A) → ((k : ℕ) → k < n → f k ≡ g k) → table n f ≡ table n g
-table_same n f g d same = table_is n g (table n f) d (length-table n f) (λ k lt. table_at n f k d lt ∙ same k lt)
+-- the first n registers are joined
+abbrev pub Joins : List AbsVal → List AbsVal → List AbsVal → ℕ → Type 0
+Joins old other new n = (r : ℕ) → r < n → known_at new r ≡ joined (known_at old r) (known_at other r)
 
 pub join_step : (xs before other : List AbsVal) (i : ℕ) (x u v : AbsVal) → i < length xs → i < length other → get_or xs i Unset ≡ get_or before i Unset →
     x ≡ joined (get_or xs i u) (get_or other i v) → Joins before other xs i → Joins before other (set xs i x) (i + 1)

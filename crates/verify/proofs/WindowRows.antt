@@ -15,9 +15,9 @@ use Rattle.absmem.specs.declared.spill.Spill.TheVariants.{Free, Whole}
 use Rattle.absmem.specs.Known.{Known, byte_at, spill_at, IsSetTo, left_of}
 use Rattle.absmem.specs.Describes.{Describes as StackDescribes, AreBytes}
 use Rattle.absmem.proofs.Keeping.{described_put, described_spread, described_pointer}
-use Rattle.verify.specs.Tables.{table}
-use Rattle.verify.specs.Knowledge.{byte_behind, spill_behind, put_bytes, spread_bytes, put_pointer}
-use Rattle.verify.proofs.TableLemmas.{length-table, table_at, table_is}
+use Rattle.absmem.specs.Tables.{table}
+use Rattle.absmem.specs.Stacks.{byte_behind, spill_behind, put_bytes, spread_bytes, put_pointer}
+use Rattle.absmem.specs.TableLaws.{length-table, table_at, table_is}
 use Rattle.verify.proofs.Loads.{Lies}
 use Rattle.verify.proofs.RangeRows.{by_test}
 
@@ -105,15 +105,15 @@ spills_left : (known : Known) (place end b : ℕ) → b < 64 → spill_at (table
 spills_left known place end b lt = table_at 64 (spill_behind place end known) b Free lt
 
 pub put_described : (known : Known) (w : Window) (cells new : List Cell) → w.place + w.size ≤ 512 → length known.bytes ≡ 512 → length cells ≡ 512 → AreBytes new → length new ≡ w.size →
-    StackDescribes known cells → StackDescribes (put_bytes w known) (overwritten cells w.place new)
+    StackDescribes known cells → StackDescribes (put_bytes w.place w.size known) (overwritten cells w.place new)
 put_described known w cells new fits flags long are size d =
-    described_put known (put_bytes w known) cells new w.place w.size (behind_set true known w.place (w.place + w.size) (omega arith) fits flags)
+    described_put known (put_bytes w.place w.size known) cells new w.place w.size (behind_set true known w.place (w.place + w.size) (omega arith) fits flags)
     (λ b lt. spills_left known w.place (w.place + w.size) b lt) fits long are size d
 
 pub spread_described : (known : Known) (w : Window) (cells new : List Cell) (at : ℕ) → w.place + w.size ≤ 512 → length known.bytes ≡ 512 → length cells ≡ 512 → AreBytes new → w.place ≤ at →
-    at + length new ≤ w.place + w.size → StackDescribes known cells → StackDescribes (spread_bytes w known) (overwritten cells at new)
+    at + length new ≤ w.place + w.size → StackDescribes known cells → StackDescribes (spread_bytes w.place w.size known) (overwritten cells at new)
 spread_described known w cells new at fits flags long are ge le d =
-    described_spread known (spread_bytes w known) cells new w.place w.size at (sym (table_is 512 (byte_at known.bytes) known.bytes false flags (λ k lt. refl)))
+    described_spread known (spread_bytes w.place w.size known) cells new w.place w.size at (sym (table_is 512 (byte_at known.bytes) known.bytes false flags (λ k lt. refl)))
     (λ b lt. spills_left known w.place (w.place + w.size) b lt) fits long are ge le d
 
 pub pointer_described : (known : Known) (place : ℕ) (region : Region) (offset : ℤ) (cells : List Cell) → place + 8 ≤ 512 → length known.bytes ≡ 512 → length cells ≡ 512 →

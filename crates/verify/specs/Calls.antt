@@ -1,5 +1,5 @@
 -- Calls of helpers, on what is known (own).
-use Rattle.std.specs.Prelude.{ℕ, ℤ, pos, ◌≡◌, ◌+◌, ◌*◌, ◌≤◌, ◌<◌, ◌&&◌, not, nat_lt, Bool, true, false, List, [], ◌∷◌, Option, Some, None, Result, Ok, Err, drop}
+use Rattle.std.specs.Prelude.{ℕ, ℤ, pos, ◌+◌, ◌*◌, ◌<◌, ◌&&◌, not, nat_lt, Bool, true, false, List, [], ◌∷◌, Option, Some, None, Result, Ok, Err, drop}
 use Rattle.std.specs.Ordering.{int_eq}
 use Rattle.semantics.specs.declared.value.Region.{Region}
 use Rattle.semantics.specs.declared.value.Region.TheVariants.{Stack, Context}
@@ -12,7 +12,7 @@ use Rattle.absval.specs.NumberSets.{greatest, is_one}
 use Rattle.absval.specs.declared.value.AbsVal.{AbsVal}
 use Rattle.absval.specs.declared.windows.Window.{Window}
 use Rattle.absval.specs.Windows.{window_known}
-use Rattle.absmem.specs.Known.{Known, IsSetTo, spill_at, left_of}
+use Rattle.absmem.specs.Known.{Known}
 use Rattle.helper.specs.declared.argument.Argument.{Argument}
 use Rattle.helper.specs.Table.{bound_of, arguments_of}
 use Rattle.verify.specs.Registers.{known_at}
@@ -118,35 +118,6 @@ call_reason a number = helper_reason (helper_of number) a
 abbrev pub known_behind : NumberSet → List AbsVal → List AbsVal
 known_behind numbers known = Number numbers ∷ Unset ∷ Unset ∷ Unset ∷ Unset ∷ Unset ∷ drop 6 known
 
-pub record IsBehind (numbers : NumberSet) (old new : List AbsVal) : Type 0 where
-  pub first : known_at new 0 ≡ Number numbers
-  pub unset : (r : ℕ) → 1 ≤ r → r ≤ 5 → known_at new r ≡ Unset
-  pub others : (r : ℕ) → 6 ≤ r → known_at new r ≡ known_at old r
-  pub whole : new ≡ known_behind numbers old
-
--- bytes at one place are certain; elsewhere no more is known than before
-abbrev pub BytesWritten : Bool → ℕ → ℕ → List Bool → List Bool → Type 0
-BytesWritten true place end old new = IsSetTo true old new place end
-BytesWritten false place end old new = new ≡ old
-
--- bytes are written from one place up to another: pointers that stood there are forgotten
-pub record IsWritten (certain : Bool) (window : Window) (old new : Known) : Type 0 where
-  pub bytes : BytesWritten certain window.place (window.place + window.size) old.bytes new.bytes
-  pub spills : (b : ℕ) → b < 64 → spill_at new.spills b ≡ left_of window.place (window.place + window.size) b (spill_at old.spills b)
-
-abbrev pub IsWrittenTo : Bool → Option Window → Known → Known → Type 0
-IsWrittenTo certain None old new = Unit {0}
-IsWrittenTo certain (Some window) old new = IsWritten certain window old new
-
 -- pointer and count are one number each
 abbrev pub is_certain : Offsets → NumberSet → Bool
 is_certain offsets counts = int_eq offsets.0 offsets.1 && is_one counts
-
-abbrev pub IsCopied : AbsVal → AbsVal → Known → Known → Type 0
-IsCopied (Pointer region offsets) (Number counts) old new = IsWrittenTo (is_certain offsets counts) (window_from region offsets (8 * greatest counts)) old new
-IsCopied _ _ old new = Unit {0}
-
--- what a call leaves of the stack
-abbrev pub StackBehind : Helper → AbsState → Known → Type 0
-StackBehind BoardCopy a new = IsCopied (known_at a.registers 2) (known_at a.registers 3) a.stack new
-StackBehind _ a new = new ≡ a.stack

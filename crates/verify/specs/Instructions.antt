@@ -1,23 +1,14 @@
--- What the pass does at an instruction: why it may not run, and what it leaves. A relation between the states before and behind; Transfer says the same as a function (own).
-use Rattle.std.specs.Prelude.{ℕ, ◌+◌, ◌≡◌, List, slice_set, Option, Some, None, Result, IsOk, IfSome}
-use Rattle.std.specs.Result.{result_ok}
-use Rattle.absval.specs.NumberSets.{single, within}
+-- Why an instruction may not run on what is known (own).
+use Rattle.std.specs.Prelude.{Option, None}
 use Rattle.insn.specs.declared.insn.Insn.{Insn}
 use Rattle.insn.specs.declared.insn.Insn.TheVariants.{Arithmetic, Negate, SignExtend, Swap, LoadNumber, Load, LoadSigned, Store, Call, Jump, LongJump, Branch, Exit}
-use Rattle.insn.specs.Insn.{units_of}
-use Rattle.absval.specs.Table.{computed, negated_known, extended_known, swapped_known}
-use Rattle.verify.specs.declared.error.VerifyError.{VerifyError}
+use Rattle.absval.specs.Table.{negated_known, extended_known, swapped_known}
 use Rattle.verify.specs.declared.reason.Reason.{Reason}
-use Rattle.semantics.specs.Call.{helper_of}
-use Rattle.helper.specs.Results.{returned_range}
 use Rattle.verify.specs.declared.state.AbsState.{AbsState}
-use Rattle.verify.specs.Registers.{known_at, operand_known, first_known}
-use Rattle.verify.specs.Reasons.{first_reason, made_checks, arithmetic_checks, write_checks, compare_checks, exit_checks, Assigns}
-use Rattle.verify.specs.MemoryTable.{load_given, signed_load_given, Stores, load_reason, signed_load_reason, store_reason}
-use Rattle.verify.specs.Calls.{call_reason, IsBehind, StackBehind}
-use Rattle.verify.specs.Kept.{Kept}
-use Rattle.verify.specs.Flow.{Answers, Flows, JumpFlows, BranchFlows}
-use Rattle.absval.specs.declared.value.AbsVal.TheVariants.{Number}
+use Rattle.verify.specs.Registers.{known_at, operand_known}
+use Rattle.verify.specs.Reasons.{first_reason, made_checks, arithmetic_checks, write_checks, compare_checks, exit_checks}
+use Rattle.verify.specs.MemoryTable.{load_reason, signed_load_reason, store_reason}
+use Rattle.verify.specs.Calls.{call_reason}
 
 -- an instruction that goes on behind itself
 abbrev pub IsStraight : Insn → Type 0
@@ -44,44 +35,3 @@ abbrev pub reason_of : Insn → AbsState → Option Reason
 reason_of (Branch w condition dst operand distance) a = first_reason (compare_checks (known_at a.registers dst) (operand_known a.registers operand))
 reason_of Exit a = first_reason (exit_checks (known_at a.registers 0))
 reason_of i a = straight_reason i a
-
--- what is known once an instruction has gone on behind itself
-abbrev pub Becomes : AbsState → Insn → AbsState → Type 0
-Becomes old (Arithmetic w operation dst operand) new =
-    Assigns old dst (computed w operation (first_known old.registers operation dst) (operand_known old.registers operand)) new
-Becomes old (Negate w dst) new = Assigns old dst (negated_known w (known_at old.registers dst)) new
-Becomes old (SignExtend w part dst src) new = Assigns old dst (extended_known w part (known_at old.registers src)) new
-Becomes old (Swap order size dst) new = Assigns old dst (swapped_known order size (known_at old.registers dst)) new
-Becomes old (LoadNumber dst number) new = Assigns old dst (Some (Number (single number))) new
-Becomes old (Load size dst base offset) new = Assigns old dst (result_ok (load_given old.stack size (known_at old.registers base) offset)) new
-Becomes old (LoadSigned part dst base offset) new = Assigns old dst (result_ok (signed_load_given old.stack part (known_at old.registers base) offset)) new
-Becomes old (Store size base offset source) new =
-    (new.registers ≡ old.registers) × Stores old.stack size (known_at old.registers base) offset (operand_known old.registers source) new.stack
-Becomes old (Call number) new =
-    IfSome (helper_of number) (λ h. IsBehind (within (returned_range h)) old.registers new.registers) × IfSome (helper_of number) (λ h. StackBehind h old new.stack)
-Becomes old _ new = ⊥
-
--- what the pass answers at a unit: where no instruction starts or no state comes, nothing is wrong
-abbrev pub AnswersAt : Option Insn → Kept → ℕ → Result (Unit {0}) VerifyError → Type 0
-AnswersAt None kept unit result = IsOk result
-AnswersAt (Some i) None unit result = IsOk result
-AnswersAt (Some i) (Some a) unit result = Answers (reason_of i a.value) unit result
-
--- ---- what flows on from a unit
-
-abbrev pub StraightFlows : AbsState → Insn → ℕ → List Kept → List Kept → Type 0
-StraightFlows a i unit old new = (b : AbsState) × Becomes a i b × Flows b (unit + units_of i) old new
-
-abbrev pub StateFlows : Insn → AbsState → ℕ → List Kept → List Kept → Type 0
-StateFlows (Jump distance) a unit old new = JumpFlows distance a unit old new
-StateFlows (LongJump distance) a unit old new = JumpFlows distance a unit old new
-StateFlows (Branch w condition dst operand distance) a unit old new =
-    BranchFlows (record { width = w; condition = condition; dst = dst; operand = operand }) distance a unit old new
-StateFlows Exit a unit old new = new ≡ old
-StateFlows i a unit old new = StraightFlows a i unit old new
-
--- what is kept for a unit is taken from there
-abbrev pub UnitFlows : Option Insn → Kept → ℕ → List Kept → List Kept → Type 0
-UnitFlows None kept unit old new = new ≡ old
-UnitFlows (Some i) None unit old new = new ≡ slice_set old unit None
-UnitFlows (Some i) (Some a) unit old new = StateFlows i a.value unit (slice_set old unit None) new

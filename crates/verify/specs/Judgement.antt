@@ -36,17 +36,21 @@ abbrev pub settled : Option Reason → ℕ → KnownSoFar → Result KnownSoFar 
 settled None unit reached = Ok reached
 settled (Some reason) unit reached = Err (At reason unit)
 
--- a unit is passed: nothing is done where no instruction starts, or no path leads
+-- an instruction is passed, with this known at its unit
+abbrev pub followed : ℕ → Insn → AbsState → KnownSoFar → Result KnownSoFar VerifyError
+followed unit i a reached = settled (reason_of i a) unit (along_all (edges i unit a) reached)
+
+-- a unit is passed: what is known there is taken out; nothing is done where no instruction starts, or no path leads
 abbrev pub passed_at : ℕ → Option Insn → Option AbsState → KnownSoFar → Result KnownSoFar VerifyError
 passed_at unit None known reached = Ok reached
 passed_at unit (Some i) None reached = Ok reached
-passed_at unit (Some i) (Some a) reached = settled (reason_of i a) unit (along_all (edges i unit a) reached)
+passed_at unit (Some i) (Some a) reached = followed unit i a (slice_set reached unit None)
 
 abbrev pub passed_on : List Insn → ℕ → Result KnownSoFar VerifyError → Result KnownSoFar VerifyError
 passed_on program unit (Err fault) = Err fault
 passed_on program unit (Ok reached) = passed_at unit (instruction_at program unit) (reached_at reached unit) reached
 
--- what is known once the units below one are passed in their order, or the first fault
+-- what is known at the units from one on, once those below are passed in their order, or the first fault
 unfoldable pub passed_to : List Insn → ℕ → Result KnownSoFar VerifyError
 passed_to program zero = Ok (along (pos 0, at_entry) (replicate (length (slots_of program)) None))
 passed_to program (suc unit) = passed_on program unit (passed_to program unit)

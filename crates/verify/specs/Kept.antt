@@ -1,17 +1,21 @@
 -- The states that are kept for units to come (own).
-use Rattle.std.specs.Prelude.{ℕ, ℤ, pos, ◌<ℤ◌, ◌<◌, List, Option, Box}
+use Rattle.std.specs.Prelude.{ℕ, ℤ, pos, ◌<ℤ◌, ◌<◌, List, Option, Box, map, option_map}
 use Rattle.std.specs.declared.alloc.Global.{Global}
 use Rattle.insn.specs.declared.insn.Insn.{Insn}
 use Rattle.semantics.specs.Plain.{IsIn, leads_to}
 use Rattle.verify.specs.declared.state.AbsState.{AbsState}
+use Rattle.verify.specs.Judgement.{KnownSoFar}
 
--- what is kept for a unit
-abbrev pub Kept : Type 0
-Kept = Option (Box AbsState Global)
+-- what is kept for a unit, seen without its box
+abbrev pub unboxed : Option (Box AbsState Global) → Option AbsState
+unboxed kept = option_map (λ b. b.value) kept
 
 -- what is kept for each unit
 pub record KeptStates : Type 0 where
-  pub items : List Kept
+  pub items : KnownSoFar
+
+abbrev pub all_unboxed : List (Option (Box AbsState Global)) → KnownSoFar
+all_unboxed states = map unboxed states
 
 -- each edge ends within so many units
 abbrev pub EdgesInside : Insn → ℕ → ℕ → Type 0

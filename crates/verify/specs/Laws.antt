@@ -11,7 +11,7 @@ use Rattle.semantics.specs.Plain.{IsPlain}
 use Rattle.semantics.specs.Run.{IsSound}
 use Rattle.verify.specs.Judgement.{judged}
 
--- all runs of the pass over a program without a structural fault agree with the function: no program has both a run to the end and a first fault, and none has two
+-- the pass over a program without a structural fault agrees with what is judged: none has both an end to which the pass comes and a first fault, and none has two first faults
 pub record PassesAgree : Type 0 where
   pub through : (program : List Insn) → structural_fault program ≡ None → ComesThrough program → judged program ≡ None
   pub stopped : (program : List Insn) (fault : VerifyError) → structural_fault program ≡ None → IsFirstFault program fault → judged program ≡ Some fault

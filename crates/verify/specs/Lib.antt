@@ -1,13 +1,11 @@
 pub mod Structure
 pub mod Forward
-pub mod Tables
 pub mod Registers
 pub mod Reasons
 pub mod Kept
 pub mod Branches
 pub mod Calls
 pub mod MemoryTable
-pub mod Flow
 pub mod Instructions
 pub mod Passes
 pub mod Knowledge

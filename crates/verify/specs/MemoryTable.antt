@@ -1,6 +1,5 @@
 -- The verifier's table of loads and stores (own): what each answers, from what is known of the stack and of the values.
-use Rattle.std.specs.Prelude.{ℕ, ℤ, zero, suc, ◌+◌, ◌/◌, ◌%◌, ◌<◌, ◌≡◌, ◌≢◌, ◌==◌, ◌&&◌, Bool, true, false, if◌then◌else◌, List, Option, Some, None, Result, Ok, Err, option_map}
-use Rattle.std.specs.Bool.{MatchBool}
+use Rattle.std.specs.Prelude.{ℕ, ℤ, zero, suc, ◌/◌, ◌%◌, ◌==◌, ◌&&◌, Bool, true, false, if◌then◌else◌, List, Option, Some, None, Result, Ok, Err, option_map}
 use Rattle.std.specs.Ordering.{int_eq}
 use Rattle.std.specs.Result.{result_err}
 use Rattle.word.specs.declared.Narrow.{Narrow}
@@ -16,14 +15,13 @@ use Rattle.insn.specs.declared.insn.Operand.{Operand}
 use Rattle.absval.specs.declared.windows.Window.{Window}
 use Rattle.absval.specs.Table.{loaded_known}
 use Rattle.absval.specs.Windows.{window_known}
-use Rattle.absmem.specs.declared.spill.Spill.{Spill}
-use Rattle.absmem.specs.declared.spill.Spill.TheVariants.{Whole}
-use Rattle.absmem.specs.Known.{Known, byte_at, spill_at, IsSetTo, left_of, pointer_of}
+use Rattle.absmem.specs.Known.{Known, byte_at, spill_at, pointer_of}
 use Rattle.verify.specs.declared.reason.Reason.{Reason}
 use Rattle.verify.specs.declared.reason.Reason.TheVariants as reason
 use Rattle.verify.specs.declared.reason.Reason.TheVariants.{FrameWrite, PointerUse, Bounds, StackUnset, ContextWrite}
 use Rattle.verify.specs.declared.state.AbsState.{AbsState}
 use Rattle.verify.specs.Registers.{known_at, operand_known}
+use Rattle.verify.specs.Reasons.{unless}
 use Rattle.absval.specs.declared.value.AbsVal.TheVariants.{Unset, Number, Pointer}
 
 abbrev pub pointer_in : AbsVal → Result (Region × Offsets) Reason
@@ -41,10 +39,6 @@ all_bytes bytes place (suc n) = byte_at bytes place && all_bytes bytes (suc plac
 abbrev pub unset_in : Known → Region → Window → Option Reason
 unset_in known Context w = None
 unset_in known Stack w = if all_bytes known.bytes w.place w.size then None else Some StackUnset
-
-abbrev pub unless : Option Reason → AbsVal → Result AbsVal Reason
-unless None numbers = Ok numbers
-unless (Some reason) numbers = Err reason
 
 -- the pointer whose pieces 0 to 7 stand from the place on
 abbrev pub spilled_at : Known → ℕ → Option AbsVal
@@ -116,43 +110,6 @@ store_refused size (Number n) distance value = Some PointerUse
 store_refused size (Pointer region at) distance Unset = Some reason.Unset
 store_refused size (Pointer region at) distance (Number n) = write_refused region (window_known region at.0 at.1 distance (bytes_of size))
 store_refused size (Pointer region at) distance (Pointer other stored) = pointer_refused size region at distance stored
-
--- each pointer of which a cell lies from one place up to another is forgotten
-abbrev pub Forgets : ℕ → ℕ → List Spill → List Spill → Type 0
-Forgets place end old new = (b : ℕ) → b < 64 → spill_at new b ≡ left_of place end b (spill_at old b)
-
--- bytes stand there
-pub record HasPutBytes (place size : ℕ) (old new : Known) : Type 0 where
-  pub bytes : IsSetTo true old.bytes new.bytes place (place + size)
-  pub spills : Forgets place (place + size) old.spills new.spills
-
--- bytes stand somewhere there: what was a byte is one
-pub record HasSpreadBytes (place size : ℕ) (old new : Known) : Type 0 where
-  pub bytes : new.bytes ≡ old.bytes
-  pub spills : Forgets place (place + size) old.spills new.spills
-
--- the pieces of a pointer stand there
-pub record HasPutPointer (place : ℕ) (region : Region) (offset : ℤ) (old new : Known) : Type 0 where
-  pub bytes : IsSetTo false old.bytes new.bytes place (place + 8)
-  pub here : spill_at new.spills (place / 8) ≡ Whole (place % 8) region offset
-  pub others : (b : ℕ) → b < 64 → b ≢ place / 8 → spill_at new.spills b ≡ left_of place (place + 8) b (spill_at old.spills b)
-
--- a number is stored at one address, where the window is no wider than it is, or at one of several
-abbrev pub StoresNumber : Known → ℕ → Option Window → Known → Type 0
-StoresNumber old size None new = ⊥
-StoresNumber old size (Some w) new = MatchBool (w.size == size) (HasPutBytes w.place w.size old new) (HasSpreadBytes w.place w.size old new)
-
-abbrev pub StoresPointer : Known → Region → ℤ → Option Window → Known → Type 0
-StoresPointer old region offset None new = ⊥
-StoresPointer old region offset (Some w) new = HasPutPointer w.place region offset old new
-
--- what a store leaves
-abbrev pub Stores : Known → Size → AbsVal → ℤ → AbsVal → Known → Type 0
-Stores old size Unset distance value new = ⊥
-Stores old size (Number n) distance value new = ⊥
-Stores old size (Pointer region at) distance Unset new = ⊥
-Stores old size (Pointer region at) distance (Number n) new = StoresNumber old (bytes_of size) (window_known region at.0 at.1 distance (bytes_of size)) new
-Stores old size (Pointer region at) distance (Pointer other stored) new = StoresPointer old other stored.0 (window_known region at.0 at.1 distance 8) new
 
 -- ---- the instructions' checks in their order: what is read is set, r10 is not written, and then these
 

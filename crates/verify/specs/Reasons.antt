@@ -1,5 +1,5 @@
 -- Why an instruction may not run: the verifier's checks in their order (own).
-use Rattle.std.specs.Prelude.{ℕ, ◌≡◌, ◌==◌, Bool, true, false, if◌then◌else◌, List, [], ◌∷◌, Option, Some, None, is_none, slice_set}
+use Rattle.std.specs.Prelude.{ℕ, ◌==◌, Bool, true, false, if◌then◌else◌, List, [], ◌∷◌, Option, Some, None, Result, Ok, Err, is_none}
 use Rattle.word.specs.declared.Width.{Width}
 use Rattle.word.specs.declared.Operation.{Operation}
 use Rattle.insn.specs.declared.insn.Operand.{Operand}
@@ -7,7 +7,6 @@ use Rattle.absval.specs.Table.{computed}
 use Rattle.verify.specs.declared.reason.Reason.{Reason}
 use Rattle.verify.specs.declared.reason.Reason.TheVariants as reason
 use Rattle.verify.specs.declared.reason.Reason.TheVariants.{FrameWrite, PointerUse, ExitPointer}
-use Rattle.verify.specs.declared.state.AbsState.{AbsState}
 use Rattle.verify.specs.Registers.{operand_known, first_known}
 use Rattle.absval.specs.declared.value.AbsVal.TheVariants.{Unset, Number, Pointer}
 use Rattle.absval.specs.declared.value.AbsVal.{AbsVal}
@@ -51,7 +50,12 @@ compare_checks a b = (is_unset a, reason.Unset) ∷ (is_unset b, reason.Unset) �
 abbrev pub exit_checks : AbsVal → List Check
 exit_checks r0 = (is_unset r0, reason.Unset) ∷ (is_pointer r0, ExitPointer) ∷ []
 
--- dst is known to hold that, and all else is as before
-abbrev pub Assigns : AbsState → ℕ → Option AbsVal → AbsState → Type 0
-Assigns old dst None new = ⊥
-Assigns old dst (Some value) new = (new.registers ≡ slice_set old.registers dst value) × (new.stack ≡ old.stack)
+-- what is left, unless a reason stands
+abbrev pub unless : {A : Type 0} → Option Reason → A → Result A Reason
+unless None left = Ok left
+unless (Some reason) left = Err reason
+
+-- what the code has left, or its reason
+abbrev pub outcome : {A : Type 0} → Result (Unit {0}) Reason → A → Result A Reason
+outcome (Ok u) left = Ok left
+outcome (Err reason) left = Err reason

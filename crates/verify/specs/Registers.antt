@@ -1,5 +1,5 @@
 -- What is known of the registers, and what a conditional jump tells of it (own).
-use Rattle.std.specs.Prelude.{ℕ, pos, ◌<◌, ◌≡◌, ◌==◌, Bool, if◌then◌else◌, List, [], ◌∷◌, Option, Some, map, option_map, slice_index_or, slice_set}
+use Rattle.std.specs.Prelude.{ℕ, pos, ◌==◌, Bool, if◌then◌else◌, List, [], ◌∷◌, Option, Some, option_map, slice_index_or, slice_set}
 use Rattle.std.specs.Int.{w64, cast_unsigned}
 use Rattle.word.specs.declared.Width.{Width}
 use Rattle.word.specs.declared.Operation.{Operation}
@@ -13,7 +13,7 @@ use Rattle.semantics.specs.declared.value.Region.TheVariants.{Stack, Context}
 use Rattle.absval.specs.declared.value.AbsVal.{AbsVal}
 use Rattle.absval.specs.Table.{joined, immediate_known}
 use Rattle.verify.specs.declared.comparison.Comparison.{Comparison}
-use Rattle.verify.specs.Tables.{table}
+use Rattle.absmem.specs.Tables.{table}
 use Rattle.absval.specs.declared.value.AbsVal.TheVariants.{Unset, Number, Pointer}
 
 -- what is known of a register
@@ -38,10 +38,6 @@ entry_known =
 -- where two paths meet, each register is joined
 abbrev pub joined_all : List AbsVal → List AbsVal → List AbsVal
 joined_all known other = table 11 (λ r. joined (known_at known r) (known_at other r))
-
--- so it is of the first n registers
-abbrev pub Joins : List AbsVal → List AbsVal → List AbsVal → ℕ → Type 0
-Joins old other new n = (r : ℕ) → r < n → known_at new r ≡ joined (known_at old r) (known_at other r)
 
 -- ---- the edges of a conditional jump: nothing where the edge is not followed
 

@@ -1,5 +1,5 @@
 -- The transfer functions: what an instruction leaves of what is known, and what is known along each edge that leads on (own).
-use Rattle.std.specs.Prelude.{ℕ, ℤ, pos, ◌+◌, ◌*◌, ◌+ℤ◌, ◌==◌, Bool, true, false, if◌then◌else◌, List, [], ◌∷◌, ◌++◌, Option, Some, None, option_map, map, slice_set}
+use Rattle.std.specs.Prelude.{ℕ, ℤ, pos, ◌+◌, ◌*◌, ◌+ℤ◌, ◌==◌, Bool, true, false, if◌then◌else◌, List, [], ◌∷◌, ◌++◌, Option, Some, None, Result, option_map, slice_set}
 use Rattle.std.specs.Result.{result_ok}
 use Rattle.insn.specs.declared.insn.Insn.{Insn}
 use Rattle.insn.specs.declared.insn.Insn.TheVariants.{Arithmetic, Negate, SignExtend, Swap, LoadNumber, Load, LoadSigned, Store, Call, Jump, LongJump, Branch, Exit}
@@ -16,12 +16,15 @@ use Rattle.absval.specs.declared.windows.Window.{Window}
 use Rattle.absval.specs.Table.{computed, negated_known, extended_known, swapped_known}
 use Rattle.absval.specs.Windows.{window_known}
 use Rattle.absmem.specs.Known.{Known}
+use Rattle.absmem.specs.Stacks.{put_bytes, spread_bytes, put_pointer}
 use Rattle.verify.specs.declared.comparison.Comparison.{Comparison}
 use Rattle.verify.specs.declared.state.AbsState.{AbsState}
 use Rattle.verify.specs.Registers.{known_at, operand_known, first_known, edge_known}
 use Rattle.verify.specs.MemoryTable.{load_given, signed_load_given}
+use Rattle.verify.specs.declared.reason.Reason.{Reason}
+use Rattle.verify.specs.Reasons.{unless}
+use Rattle.verify.specs.Instructions.{straight_reason}
 use Rattle.verify.specs.Calls.{is_certain, window_from, known_behind}
-use Rattle.verify.specs.Knowledge.{put_bytes, spread_bytes, put_pointer}
 use Rattle.absval.specs.declared.value.AbsVal.TheVariants.{Number, Pointer}
 
 -- a register takes a value, where there is one
@@ -34,7 +37,7 @@ assigned a dst (Some value) = record { registers = slice_set a.registers dst val
 -- a number is stored at one address, where the window is no wider than it is, or at one of several
 abbrev pub number_stored : ℕ → Option Window → Known → Known
 number_stored size None known = known
-number_stored size (Some w) known = if w.size == size then put_bytes w known else spread_bytes w known
+number_stored size (Some w) known = if w.size == size then put_bytes w.place w.size known else spread_bytes w.place w.size known
 
 abbrev pub pointer_stored : Region → ℤ → Option Window → Known → Known
 pointer_stored region offset None known = known
@@ -50,8 +53,8 @@ stored size base distance value known = known
 -- words are written: to one place, or somewhere
 abbrev pub written : Bool → Option Window → Known → Known
 written certain None known = known
-written true (Some w) known = put_bytes w known
-written false (Some w) known = spread_bytes w known
+written true (Some w) known = put_bytes w.place w.size known
+written false (Some w) known = spread_bytes w.place w.size known
 
 abbrev pub copied : AbsVal → AbsVal → Known → Known
 copied (Pointer region offsets) (Number counts) known = written (is_certain offsets counts) (window_from region offsets (8 * greatest counts)) known
@@ -82,6 +85,10 @@ follows (Store size base offset source) a =
     record { registers = a.registers; stack = stored size (known_at a.registers base) offset (operand_known a.registers source) a.stack }
 follows (Call number) a = called (helper_of number) a
 follows i a = a
+
+-- what is left by an instruction that goes on behind itself, or why it may not run
+abbrev pub stepped : Insn → AbsState → Result AbsState Reason
+stepped i a = unless (straight_reason i a) (follows i a)
 
 -- what a conditional jump tells where it is taken, or is not: nothing where that cannot be
 abbrev pub narrowed : Comparison → Bool → AbsState → Option AbsState

@@ -1,13 +1,14 @@
 //! What a call of a helper does to what is known.
-ghost use Rattle.std.specs.Prelude.{◌≡◌, ◌+◌, ◌*◌, ◌≤◌, ◌<◌, true, [], ◌∷◌, None, Some, IfSome, OnOk, OnErr};
+ghost use Rattle.std.specs.Prelude.{◌≡◌, ◌+◌, ◌*◌, ◌≤◌, ◌<◌, true, [], ◌∷◌, None, Some};
 ghost use Rattle.absval.specs.NumberSets.{within, greatest};
 ghost use Rattle.semantics.specs.Call.{helper_of};
 ghost use Rattle.absval.specs.Contains.{is_number};
 ghost use Rattle.absval.specs.Windows.{room_of};
 ghost use Rattle.helper.specs.Table.{bound_of, arguments_of};
-ghost use Rattle.helper.specs.Results.{returned_range};
 ghost use Rattle.verify.specs.Registers.{known_at};
-ghost use Rattle.verify.specs.Calls.{answer_of, argument_reason, taken_reason, arguments_reason, IsBelow, IsPointer, window_from, target_reason, source_reason, copy_reason, row_reason, window_reason, call_reason, is_certain, IsBehind, IsWrittenTo, IsCopied, StackBehind};
+ghost use Rattle.verify.specs.Reasons.{unless, outcome};
+ghost use Rattle.verify.specs.Calls.{answer_of, argument_reason, taken_reason, arguments_reason, IsBelow, IsPointer, window_from, target_reason, source_reason, copy_reason, row_reason, window_reason, call_reason, is_certain, known_behind};
+ghost use Rattle.verify.specs.Transfer.{written, copied, stack_behind, called};
 
 use crate::reason::Reason;
 use crate::state::AbsState;
@@ -105,9 +106,7 @@ fn is_certain(offsets: Offsets, counts: NumberSet) -> bool
 /// Words are written at an offset of the stack, so many of 8 bytes each.
 fn write_words(stack: &mut AbsStack, offsets: Offsets, counts: NumberSet) -> Result<(), Reason>
     requires { greatest counts ≤ 64 }
-    ensures refused { result ≡ answer_of (target_reason Region.Stack (window_from Region.Stack offsets (8 * greatest counts))) }
-    ensures left { OnOk result (IsWrittenTo (is_certain offsets counts) (window_from Region.Stack offsets (8 * greatest counts)) stack.old stack.new) }
-    ensures kept { OnErr result (stack.new ≡ stack.old) }
+    ensures { let at = window_from Region.Stack offsets (8 * greatest counts) in outcome result stack.new ≡ unless (target_reason Region.Stack at) (written (is_certain offsets counts) at stack.old) }
 {
     let Some(window) = window_of(Region::Stack, offsets, 0, 8 * counts.greatest() as usize) else {
         return Err(Reason::Bounds);
@@ -125,9 +124,7 @@ fn copy(stack: &mut AbsStack, slots: AbsVal, target: AbsVal, counts: AbsVal) -> 
     requires slots { IsBelow 64 slots }
     requires target { IsPointer target }
     requires counts { IsBelow 65 counts }
-    ensures refused { result ≡ answer_of (copy_reason slots target counts) }
-    ensures left { OnOk result (IsCopied target counts stack.old stack.new) }
-    ensures kept { OnErr result (stack.new ≡ stack.old) }
+    ensures { outcome result stack.new ≡ unless (copy_reason slots target counts) (copied target counts stack.old) }
 {
     let slots = number(slots);
     let (region, offsets) = pointer(target);
@@ -174,10 +171,7 @@ fn check_row(stack: &AbsStack, source: AbsVal, counts: AbsVal) -> Result<(), Rea
 /// The cells at a pointer, for the helpers that take one.
 fn pass_window(state: &mut AbsState, helper: Helper) -> Result<(), Reason>
     requires { arguments_reason (arguments_of helper) 1 state.old.registers ≡ None }
-    ensures refused { result ≡ answer_of (window_reason helper state.old) }
-    ensures registers { state.new.registers ≡ state.old.registers }
-    ensures left { OnOk result (StackBehind helper state.old state.new.stack) }
-    ensures kept { OnErr result (state.new ≡ state.old) }
+    ensures { outcome result state.new ≡ unless (window_reason helper state.old) (record state.old { stack = stack_behind helper state.old }) }
 {
     let first = known(&state.registers, 1);
     let second = known(&state.registers, 2);
@@ -191,7 +185,7 @@ fn pass_window(state: &mut AbsState, helper: Helper) -> Result<(), Reason>
 
 /// Behind a call r0 has the result, and r1 to r5 are unset.
 fn put_result(registers: &mut [AbsVal; 11], range: Range)
-    ensures { IsBehind (within range) registers.old registers.new }
+    ensures { registers.new ≡ known_behind (within range) registers.old }
 {
     registers[0] = AbsVal::Number(NumberSet::within(range));
     for r in 1..6 {
@@ -201,10 +195,7 @@ fn put_result(registers: &mut [AbsVal; 11], range: Range)
 
 /// The helper of the number is called.
 pub fn call(state: &mut AbsState, number: i32) -> Result<(), Reason>
-    ensures refused { result ≡ answer_of (call_reason state.old number) }
-    ensures registers { OnOk result (IfSome (helper_of number) (λ h. IsBehind (within (returned_range h)) state.old.registers state.new.registers)) }
-    ensures stack { OnOk result (IfSome (helper_of number) (λ h. StackBehind h state.old state.new.stack)) }
-    ensures kept { OnErr result (state.new ≡ state.old) }
+    ensures { outcome result state.new ≡ unless (call_reason state.old number) (called (helper_of number) state.old) }
 {
     let Some(helper) = helper::helper_of(number) else {
         return Err(Reason::Helper);

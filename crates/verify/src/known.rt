@@ -1,14 +1,11 @@
 //! What is known at each unit as the pass comes there.
-ghost use Rattle.std.specs.Prelude.{◌≡◌, ◌≢◌, IfOk, OnOk, length};
-ghost use Rattle.insn.specs.Program.{slots_of};
-ghost use Rattle.verify.specs.Forward.{IsForward};
-ghost use Rattle.verify.specs.Passes.{ComesTo};
-ghost use Rattle.verify.specs.KnownAtUnits.{AreKnown, EndsSo, IsSurvey};
+ghost use Rattle.std.specs.Prelude.{◌≡◌, ◌≢◌, None, IfOk, OnOk};
+ghost use Rattle.verify.specs.Structure.{structural_fault};
+ghost use Rattle.verify.specs.KnownAtUnits.{IsSurvey};
 
 use crate::error::VerifyError;
-use crate::pass::pass_unit;
-use crate::pending::{Pending, boxed, empty, flow, kept};
-use crate::registers;
+use crate::pass::{opened, pass_unit};
+use crate::pending::kept;
 use crate::state::AbsState;
 use crate::structure::find_fault;
 use insn::Program;
@@ -36,11 +33,10 @@ pub fn known_at_units(alloc: Global, program: &Program) -> Result<Survey, AllocE
     known_forward(alloc, program)
 }
 
-/// The same of a program whose every edge leads forward.
+/// The same of a program without a fault of structure.
 fn known_forward(alloc: Global, program: &Program) -> Result<Survey, AllocError>
-    requires { IsForward program.now }
-    ensures known { IfOk result (λ s. AreKnown program.now s.states.items) }
-    ensures ends { IfOk result (λ s. EndsSo program.now s.states.items s.fault) }
+    requires { structural_fault program.now ≡ None }
+    ensures { IfOk result (λ s. IsSurvey program.now s.states.items s.fault) }
 {
     let mut pending = opened(alloc, program)?;
     let mut states = Vec::with_capacity(alloc, program.units())?;
@@ -69,14 +65,4 @@ fn named(fault: VerifyError) -> Result<VerifyError, AllocError>
         VerifyError::Memory => Err(AllocError),
         _ => Ok(fault),
     }
-}
-
-/// What is kept as the pass opens.
-fn opened(alloc: Global, program: &Program) -> Result<Pending, AllocError>
-    ensures room { IfOk result (λ pending. length pending.items ≡ length (slots_of program.now)) }
-    ensures comes { IfOk result (λ pending. ComesTo program.now 0 pending.items) }
-{
-    let mut pending = empty(alloc, program.units())?;
-    flow(&mut pending, 0, boxed(alloc, registers::at_entry())?);
-    Ok(pending)
 }

@@ -1,7 +1,7 @@
 //! Laws of the verifier: each function does nothing, and its contract is the law.
 ghost use Rattle.verify.specs.Laws.{PassesAgree, PlainIsAccepted, AcceptedIsSound};
 
-/// The runs of the pass over a program agree: all come to its end, or all are stopped by the same fault.
+/// The pass over a program comes to its end, or is stopped by one first fault, and that is what is judged.
 pub fn passes_agree()
     ensures { PassesAgree }
 {}

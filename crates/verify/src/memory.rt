@@ -1,10 +1,12 @@
 //! What loads and stores do to what is known.
-ghost use Rattle.std.specs.Prelude.{◌≡◌, ◌+◌, ◌≤◌, ◌↔◌, Some, option_map, IfOk, IsTrue, OnOk, OnErr};
+ghost use Rattle.std.specs.Prelude.{◌≡◌, ◌+◌, ◌≤◌, ◌↔◌, Some, option_map, IfOk, IsTrue};
 ghost use Rattle.std.specs.Option.{ok_or};
 ghost use Rattle.std.specs.Result.{result_err};
 ghost use Rattle.insn.specs.Insn.{bytes_of, part_bytes};
 ghost use Rattle.absval.specs.Windows.{room_of, window_known};
-ghost use Rattle.verify.specs.MemoryTable.{pointer_in, unset_in, spilled, stack_given, load_given, all_numbers, signed_load_given, write_refused, pointer_refused, store_refused, StoresNumber, StoresPointer, Stores};
+ghost use Rattle.verify.specs.Reasons.{unless, outcome};
+ghost use Rattle.verify.specs.MemoryTable.{pointer_in, unset_in, spilled, stack_given, load_given, all_numbers, signed_load_given, write_refused, pointer_refused, store_refused};
+ghost use Rattle.verify.specs.Transfer.{number_stored, pointer_stored, stored};
 
 use crate::reason::Reason;
 use absmem::AbsStack;
@@ -166,9 +168,7 @@ fn store_number(
     base: (Region, Offsets),
     distance: i16,
 ) -> Result<(), Reason>
-    ensures refused { result_err result ≡ write_refused base.0 (window_known base.0 base.1.0 base.1.1 distance (bytes_of size)) }
-    ensures left { OnOk result (StoresNumber stack.old (bytes_of size) (window_known base.0 base.1.0 base.1.1 distance (bytes_of size)) stack.new) }
-    ensures kept { OnErr result (stack.new ≡ stack.old) }
+    ensures { let at = window_known base.0 base.1.0 base.1.1 distance (bytes_of size) in outcome result stack.new ≡ unless (write_refused base.0 at) (number_stored (bytes_of size) at stack.old) }
 {
     let window = stack_window(base.0, base.1, distance, bytes(size))?;
     if window.size == bytes(size) {
@@ -194,9 +194,7 @@ fn store_pointer(
     distance: i16,
     pointer: (Region, Offsets),
 ) -> Result<(), Reason>
-    ensures refused { result_err result ≡ pointer_refused size base.0 base.1 distance pointer.1 }
-    ensures left { OnOk result (StoresPointer stack.old pointer.0 pointer.1.0 (window_known base.0 base.1.0 base.1.1 distance 8) stack.new) }
-    ensures kept { OnErr result (stack.new ≡ stack.old) }
+    ensures { let at = window_known base.0 base.1.0 base.1.1 distance 8 in outcome result stack.new ≡ unless (pointer_refused size base.0 base.1 distance pointer.1) (pointer_stored pointer.0 pointer.1.0 at stack.old) }
 {
     let Size::Double = size else {
         return Err(Reason::PointerUse);
@@ -217,9 +215,7 @@ pub fn store(
     distance: i16,
     value: AbsVal,
 ) -> Result<(), Reason>
-    ensures refused { result_err result ≡ store_refused size base distance value }
-    ensures left { OnOk result (Stores stack.old size base distance value stack.new) }
-    ensures kept { OnErr result (stack.new ≡ stack.old) }
+    ensures { outcome result stack.new ≡ unless (store_refused size base distance value) (stored size base distance value stack.old) }
 {
     let base = pointer_of(base)?;
     match value {

@@ -1,11 +1,10 @@
 //! The forward pass.
-ghost use Rattle.std.specs.Prelude.{◌≡◌, ◌<◌, ◌+◌, ◌⊎◌, pos, ◌<ℤ◌, ◌+ℤ◌, length, IfErr, OnOk, option_map};
+ghost use Rattle.std.specs.Prelude.{◌≡◌, ◌<◌, ◌+◌, pos, ◌<ℤ◌, ◌+ℤ◌, length, IfOk, Ok, option_map};
 ghost use Rattle.std.specs.Result.{result_err};
-ghost use Rattle.verify.specs.Registers.{known_at, operand_known, edge_known};
-ghost use Rattle.verify.specs.Reasons.{first_reason, compare_checks, exit_checks};
-ghost use Rattle.verify.specs.Flow.{JumpFlows, EdgeFlows, BranchFlows, Answers, kept_at};
-ghost use Rattle.verify.specs.Instructions.{IsStraight, straight_reason, reason_of, StraightFlows, StateFlows, AnswersAt, UnitFlows};
-ghost use Rattle.verify.specs.Passes.{ComesThrough, IsFirstFault};
+ghost use Rattle.verify.specs.Instructions.{IsStraight, reason_of};
+ghost use Rattle.verify.specs.Transfer.{narrowed, edge_to};
+ghost use Rattle.verify.specs.Judgement.{KnownSoFar, reached_at, along, along_all, followed, passed_at, passed_to};
+ghost use Rattle.verify.specs.Passes.{Does, Answers};
 ghost use Rattle.insn.specs.Program.{slots_of, instruction_at};
 ghost use Rattle.verify.specs.Forward.{IsForward};
 ghost use Rattle.verify.specs.Branches.{branch_of};
@@ -18,7 +17,7 @@ use crate::state::AbsState;
 use crate::structure::forward_target;
 use crate::{branches, registers, steps};
 use insn::{Insn, Program};
-use std::alloc::Global;
+use std::alloc::{AllocError, Global};
 
 /// An instruction that goes on behind itself.
 fn pass_straight(
@@ -30,9 +29,7 @@ fn pass_straight(
     requires straight { IsStraight insn.now }
     requires bound { unit < 4096 }
     requires edges { EdgesInside insn.now unit (length pending.old.items) }
-    ensures length { length pending.new.items ≡ length pending.old.items }
-    ensures refused { result_err result ≡ option_map (λ r. VerifyError.At r unit) (straight_reason insn.now state.value) }
-    ensures flows { OnOk result (StraightFlows state.value insn.now unit pending.old.items pending.new.items) }
+    ensures { Does (followed unit insn.now state.value pending.old.items) result pending.new.items }
 {
     if let Err(reason) = steps::straight(&mut state, insn) {
         return Err(VerifyError::At(reason, unit));
@@ -46,8 +43,7 @@ fn pass_jump(unit: usize, distance: i32, state: Box<AbsState>, pending: &mut Pen
     requires bound { unit < 4096 }
     requires forward { pos unit <ℤ (pos (unit + 1) +ℤ distance) }
     requires edges { EdgesInside (Insn.LongJump distance) unit (length pending.old.items) }
-    ensures length { length pending.new.items ≡ length pending.old.items }
-    ensures flows { JumpFlows distance state.value unit pending.old.items pending.new.items }
+    ensures { pending.new.items ≡ along (pos (unit + 1) +ℤ distance, state.value) pending.old.items }
 {
     flow(pending, forward_target(unit, distance), state);
 }
@@ -61,8 +57,7 @@ fn pass_edge(
     pending: &mut Pending,
 )
     requires { unit < length pending.old.items }
-    ensures length { length pending.new.items ≡ length pending.old.items }
-    ensures exact { EdgeFlows (edge_known compared.now taken state.value.registers) state.value unit pending.old.items pending.new.items }
+    ensures { pending.new.items ≡ along_all (edge_to (pos unit) (narrowed compared.now taken state.value)) pending.old.items }
 {
     if branches::refine(&mut state.registers, compared, taken) {
         flow(pending, unit, state);
@@ -81,9 +76,7 @@ fn pass_branch(
     requires bound { unit < 4096 }
     requires forward { pos unit <ℤ (pos (unit + 1) +ℤ distance) }
     requires edges { EdgesInside (branch_of compared.now distance) unit (length pending.old.items) }
-    ensures length { length pending.new.items ≡ length pending.old.items }
-    ensures refused { Answers (first_reason (compare_checks (known_at state.value.registers compared.now.dst) (operand_known state.value.registers compared.now.operand))) unit result }
-    ensures flows { OnOk result (BranchFlows compared.now distance state.value unit pending.old.items pending.new.items) }
+    ensures { Does (followed unit (branch_of compared.now distance) state.value pending.old.items) result pending.new.items }
 {
     if let Err(reason) = steps::compare(&state, compared) {
         return Err(VerifyError::At(reason, unit));
@@ -99,7 +92,7 @@ fn pass_branch(
 
 /// The program ends.
 fn pass_exit(unit: usize, state: Box<AbsState>) -> Result<(), VerifyError>
-    ensures { result_err result ≡ option_map (λ r. VerifyError.At r unit) (first_reason (exit_checks (known_at state.value.registers 0))) }
+    ensures { (reached : KnownSoFar) → Does (followed unit Insn.Exit state.value reached) result reached }
 {
     if let Err(reason) = steps::exit(&state) {
         return Err(VerifyError::At(reason, unit));
@@ -118,9 +111,7 @@ fn pass_state(
     requires bound { unit < 4096 }
     requires forward { EdgesForward insn.now unit }
     requires inside { EdgesInside insn.now unit (length pending.old.items) }
-    ensures length { length pending.new.items ≡ length pending.old.items }
-    ensures refused { Answers (reason_of insn.now state.value) unit result }
-    ensures flows { OnOk result (StateFlows insn.now state.value unit pending.old.items pending.new.items) }
+    ensures { Does (followed unit insn.now state.value pending.old.items) result pending.new.items }
 {
     match insn {
         Insn::Jump { distance } => {
@@ -161,9 +152,7 @@ pub fn pass_unit(
     requires forward { IsForward program.now }
     requires unit { unit < length (slots_of program.now) }
     requires room { length pending.old.items ≡ length (slots_of program.now) }
-    ensures length { length pending.new.items ≡ length pending.old.items }
-    ensures refused { AnswersAt (instruction_at program.now unit) (kept_at pending.old.items unit) unit result }
-    ensures flows { OnOk result (UnitFlows (instruction_at program.now unit) (kept_at pending.old.items unit) unit pending.old.items pending.new.items) }
+    ensures { Does (passed_at unit (instruction_at program.now unit) (reached_at pending.old.items unit) pending.old.items) result pending.new.items }
 {
     let Some(insn) = program.at(unit) else {
         return Ok(());
@@ -174,14 +163,21 @@ pub fn pass_unit(
     pass_state(alloc, unit, &insn, state, pending)
 }
 
-/// The forward pass over a program whose every edge leads forward.
-pub fn pass(alloc: Global, program: &Program) -> Result<(), VerifyError>
-    requires { IsForward program.now }
-    ensures passed { OnOk result (ComesThrough program.now) }
-    ensures first { IfErr result (λ fault. (fault ≡ VerifyError.Memory) ⊎ IsFirstFault program.now fault) }
+/// What is kept as the pass opens: the entry, for the first unit.
+pub fn opened(alloc: Global, program: &Program) -> Result<Pending, AllocError>
+    ensures { IfOk result (λ pending. passed_to program.now 0 ≡ Ok pending.items) }
 {
     let mut pending = empty(alloc, program.units())?;
     flow(&mut pending, 0, boxed(alloc, registers::at_entry())?);
+    Ok(pending)
+}
+
+/// The forward pass over a program whose every edge leads forward.
+pub fn pass(alloc: Global, program: &Program) -> Result<(), VerifyError>
+    requires { IsForward program.now }
+    ensures { Answers (result_err (passed_to program.now (length (slots_of program.now)))) result }
+{
+    let mut pending = opened(alloc, program)?;
     for unit in 0..program.units() {
         pass_unit(alloc, program, unit, &mut pending)?;
     }

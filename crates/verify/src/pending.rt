@@ -1,7 +1,7 @@
 //! The states that are kept for units to come.
-ghost use Rattle.std.specs.Prelude.{◌≡◌, ◌<◌, None, Some, [], length, replicate, slice_index_or, slice_set, IfOk};
-ghost use Rattle.verify.specs.Flow.{Takes, Flows};
-ghost use Rattle.verify.specs.KnownAtUnits.{known_of};
+ghost use Rattle.std.specs.Prelude.{◌≡◌, ◌<◌, None, [], length, replicate, slice_set, pos, IfOk};
+ghost use Rattle.verify.specs.Judgement.{reached_at, joined_with, along};
+ghost use Rattle.verify.specs.Kept.{unboxed};
 
 use crate::state::AbsState;
 use std::alloc::{AllocError, Global};
@@ -15,11 +15,11 @@ pub struct Pending {
 }
 
 impl Model for Pending {
-    ghost use Rattle.verify.specs.Kept.{KeptStates};
+    ghost use Rattle.verify.specs.Kept.{KeptStates, all_unboxed};
 
     ghost Value = { KeptStates };
 
-    ghost view = { λ p. record { items = p.states.items } };
+    ghost view = { λ p. record { items = all_unboxed p.states.items } };
 }
 
 /// A state of its own.
@@ -59,7 +59,7 @@ pub fn empty(alloc: Global, units: usize) -> Result<Pending, AllocError>
 /// Takes out what is kept for a unit.
 pub fn take(pending: &mut Pending, unit: usize) -> Option<Box<AbsState>>
     requires { unit < length pending.old.items }
-    ensures value { result ≡ slice_index_or pending.old.items unit None }
+    ensures value { unboxed result ≡ reached_at pending.old.items unit }
     ensures rest { pending.new.items ≡ slice_set pending.old.items unit None }
 {
     pending.states[unit].take()
@@ -68,7 +68,7 @@ pub fn take(pending: &mut Pending, unit: usize) -> Option<Box<AbsState>>
 /// What is kept for a unit, once more.
 pub fn kept(pending: &Pending, unit: usize) -> Option<AbsState>
     requires { unit < length pending.now.items }
-    ensures { result ≡ known_of (slice_index_or pending.now.items unit None) }
+    ensures { result ≡ reached_at pending.now.items unit }
 {
     match &pending.states[unit] {
         Some(state) => Some(state.copy()),
@@ -78,7 +78,7 @@ pub fn kept(pending: &Pending, unit: usize) -> Option<AbsState>
 
 /// A state with what is kept already.
 fn joined(kept: &Option<Box<AbsState>>, mut state: Box<AbsState>) -> Box<AbsState>
-    ensures { Takes kept.now state.value (Some result) }
+    ensures { result.value ≡ joined_with (unboxed kept.now) state.value }
 {
     if let Some(other) = kept {
         state.join(other);
@@ -114,8 +114,7 @@ pub fn second(
 /// Keeps a state for a unit, with what is kept there.
 pub fn flow(pending: &mut Pending, unit: usize, state: Box<AbsState>)
     requires { unit < length pending.old.items }
-    ensures length { length pending.new.items ≡ length pending.old.items }
-    ensures exact { Flows state.value unit pending.old.items pending.new.items }
+    ensures { pending.new.items ≡ along (pos unit, state.value) pending.old.items }
 {
     let kept = take(pending, unit);
     pending.states[unit] = Some(joined(&kept, state));

@@ -1,8 +1,8 @@
 //! What is known of the registers.
-ghost use Rattle.std.specs.Prelude.{◌≡◌, false, slice_set, replicate};
-ghost use Rattle.absmem.specs.declared.spill.Spill.{Spill};
+ghost use Rattle.std.specs.Prelude.{◌≡◌, slice_set};
 ghost use Rattle.absval.specs.Table.{joined};
-ghost use Rattle.verify.specs.Registers.{known_at, operand_known, first_known, entry_known, joined_all};
+ghost use Rattle.verify.specs.Registers.{known_at, operand_known, first_known, joined_all};
+ghost use Rattle.verify.specs.Knowledge.{at_entry};
 
 use crate::state::AbsState;
 use absmem::AbsStack;
@@ -16,9 +16,7 @@ const AT_ZERO: Offsets = Offsets { low: 0, high: 0 };
 
 /// What is known at the entry: r1 points to the context, r10 to the end of the stack, of which nothing is known.
 pub fn at_entry() -> AbsState
-    ensures registers { result.registers ≡ entry_known }
-    ensures bytes { result.stack.bytes ≡ replicate 512 false }
-    ensures spills { result.stack.spills ≡ replicate 64 Spill.Free }
+    ensures { result ≡ at_entry }
 {
     let mut registers = [AbsVal::Unset; 11];
     registers[1] = AbsVal::Pointer(Region::Context, AT_ZERO);

@@ -1,5 +1,5 @@
 ghost use Rattle.std.specs.Prelude.{◌≡◌};
-ghost use Rattle.verify.specs.Flow.{IsJoin};
+ghost use Rattle.verify.specs.Knowledge.{met};
 
 use crate::registers;
 use absmem::AbsStack;
@@ -33,7 +33,7 @@ impl AbsState {
 
     /// Keeps what both know.
     pub fn join(&mut self, other: &AbsState)
-        ensures { IsJoin self.old other.now self.new }
+        ensures { self.new ≡ met self.old other.now }
     {
         registers::join(&mut self.registers, &other.registers);
         self.stack.join(&other.stack);

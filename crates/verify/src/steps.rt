@@ -1,13 +1,11 @@
 //! What one instruction does to what is known.
-ghost use Rattle.std.specs.Prelude.{◌≡◌, [], ◌∷◌, OnOk, OnErr, Some, None, option_map, if◌then◌else◌};
-ghost use Rattle.std.specs.Result.{result_ok, result_err};
-ghost use Rattle.absval.specs.NumberSets.{single};
+ghost use Rattle.std.specs.Prelude.{◌≡◌, [], ◌∷◌, Some, None, if◌then◌else◌};
+ghost use Rattle.std.specs.Result.{result_err};
 ghost use Rattle.absval.specs.Contains.{is_number};
-ghost use Rattle.absval.specs.Table.{computed, negated_known, extended_known, swapped_known};
-ghost use Rattle.verify.specs.Registers.{known_at, operand_known, first_known};
-ghost use Rattle.verify.specs.Reasons.{first_reason, is_unset, made_checks, arithmetic_checks, write_checks, compare_checks, exit_checks, Assigns};
-ghost use Rattle.verify.specs.MemoryTable.{load_given, signed_load_given, Stores, load_reason, signed_load_reason, store_reason};
-ghost use Rattle.verify.specs.Instructions.{IsStraight, straight_reason, Becomes};
+ghost use Rattle.verify.specs.Registers.{known_at, operand_known};
+ghost use Rattle.verify.specs.Reasons.{first_reason, is_unset, made_checks, write_checks, compare_checks, exit_checks, unless, outcome};
+ghost use Rattle.verify.specs.Instructions.{IsStraight};
+ghost use Rattle.verify.specs.Transfer.{assigned, stepped};
 
 use crate::comparison::Comparison;
 use crate::reason::Reason;
@@ -49,7 +47,7 @@ fn check_writable(dst: Reg) -> Result<(), Reason>
 
 /// Writes a result into a register.
 fn put(state: &mut AbsState, dst: Reg, value: AbsVal)
-    ensures { Assigns state.old dst (Some value) state.new }
+    ensures { state.new ≡ assigned state.old dst (Some value) }
 {
     registers::write(&mut state.registers, dst, value);
 }
@@ -61,9 +59,7 @@ fn put_made(
     value: &AbsVal,
     made: Option<AbsVal>,
 ) -> Result<(), Reason>
-    ensures refused { result_err result ≡ first_reason (made_checks dst value.now made) }
-    ensures left { OnOk result (Assigns state.old dst made state.new) }
-    ensures kept { OnErr result (state.new ≡ state.old) }
+    ensures { outcome result state.new ≡ unless (first_reason (made_checks dst value.now made)) (assigned state.old dst made) }
 {
     check_set(value)?;
     check_writable(dst)?;
@@ -81,9 +77,7 @@ fn arithmetic(
     dst: Reg,
     operand: Operand,
 ) -> Result<(), Reason>
-    ensures refused { result_err result ≡ first_reason (arithmetic_checks state.old.registers width operation dst operand) }
-    ensures left { OnOk result (Assigns state.old dst (computed width operation (first_known state.old.registers operation dst) (operand_known state.old.registers operand)) state.new) }
-    ensures kept { OnErr result (state.new ≡ state.old) }
+    ensures { outcome result state.new ≡ stepped (Insn.Arithmetic width operation dst operand) state.old }
 {
     let first = registers::first(&state.registers, operation, dst);
     let second = registers::operand(&state.registers, operand);
@@ -93,9 +87,7 @@ fn arithmetic(
 }
 
 fn negate(state: &mut AbsState, width: Width, dst: Reg) -> Result<(), Reason>
-    ensures refused { result_err result ≡ first_reason (made_checks dst (known_at state.old.registers dst) (negated_known width (known_at state.old.registers dst))) }
-    ensures left { OnOk result (Assigns state.old dst (negated_known width (known_at state.old.registers dst)) state.new) }
-    ensures kept { OnErr result (state.new ≡ state.old) }
+    ensures { outcome result state.new ≡ stepped (Insn.Negate width dst) state.old }
 {
     let value = registers::read(&state.registers, dst);
     let made = absval::negate(width, value);
@@ -109,9 +101,7 @@ fn sign_extend(
     dst: Reg,
     src: Reg,
 ) -> Result<(), Reason>
-    ensures refused { result_err result ≡ first_reason (made_checks dst (known_at state.old.registers src) (extended_known width part (known_at state.old.registers src))) }
-    ensures left { OnOk result (Assigns state.old dst (extended_known width part (known_at state.old.registers src)) state.new) }
-    ensures kept { OnErr result (state.new ≡ state.old) }
+    ensures { outcome result state.new ≡ stepped (Insn.SignExtend width part dst src) state.old }
 {
     let value = registers::read(&state.registers, src);
     let made = absval::sign_extend(width, part, value);
@@ -119,9 +109,7 @@ fn sign_extend(
 }
 
 fn swap(state: &mut AbsState, order: ByteOrder, size: SwapSize, dst: Reg) -> Result<(), Reason>
-    ensures refused { result_err result ≡ first_reason (made_checks dst (known_at state.old.registers dst) (swapped_known order size (known_at state.old.registers dst))) }
-    ensures left { OnOk result (Assigns state.old dst (swapped_known order size (known_at state.old.registers dst)) state.new) }
-    ensures kept { OnErr result (state.new ≡ state.old) }
+    ensures { outcome result state.new ≡ stepped (Insn.Swap order size dst) state.old }
 {
     let value = registers::read(&state.registers, dst);
     let made = absval::swap(order, size, value);
@@ -129,9 +117,7 @@ fn swap(state: &mut AbsState, order: ByteOrder, size: SwapSize, dst: Reg) -> Res
 }
 
 fn load_number(state: &mut AbsState, dst: Reg, number: u64) -> Result<(), Reason>
-    ensures refused { result_err result ≡ first_reason (write_checks dst) }
-    ensures left { OnOk result (Assigns state.old dst (Some (AbsVal.Number (single number))) state.new) }
-    ensures kept { OnErr result (state.new ≡ state.old) }
+    ensures { outcome result state.new ≡ stepped (Insn.LoadNumber dst number) state.old }
 {
     check_writable(dst)?;
     put(state, dst, AbsVal::Number(NumberSet::exactly(number)));
@@ -139,9 +125,7 @@ fn load_number(state: &mut AbsState, dst: Reg, number: u64) -> Result<(), Reason
 }
 
 fn load(state: &mut AbsState, size: Size, dst: Reg, base: Reg, offset: i16) -> Result<(), Reason>
-    ensures refused { result_err result ≡ load_reason state.old size dst base offset }
-    ensures left { OnOk result (Assigns state.old dst (result_ok (load_given state.old.stack size (known_at state.old.registers base) offset)) state.new) }
-    ensures kept { OnErr result (state.new ≡ state.old) }
+    ensures { outcome result state.new ≡ stepped (Insn.Load size dst base offset) state.old }
 {
     let pointer = registers::read(&state.registers, base);
     check_set(&pointer)?;
@@ -158,9 +142,7 @@ fn load_signed(
     base: Reg,
     offset: i16,
 ) -> Result<(), Reason>
-    ensures refused { result_err result ≡ signed_load_reason state.old part dst base offset }
-    ensures left { OnOk result (Assigns state.old dst (result_ok (signed_load_given state.old.stack part (known_at state.old.registers base) offset)) state.new) }
-    ensures kept { OnErr result (state.new ≡ state.old) }
+    ensures { outcome result state.new ≡ stepped (Insn.LoadSigned part dst base offset) state.old }
 {
     let pointer = registers::read(&state.registers, base);
     check_set(&pointer)?;
@@ -177,10 +159,7 @@ fn store(
     offset: i16,
     source: Operand,
 ) -> Result<(), Reason>
-    ensures refused { result_err result ≡ store_reason state.old size base offset source }
-    ensures left { OnOk result (Stores state.old.stack size (known_at state.old.registers base) offset (operand_known state.old.registers source) state.new.stack) }
-    ensures registers { state.new.registers ≡ state.old.registers }
-    ensures kept { OnErr result (state.new ≡ state.old) }
+    ensures { outcome result state.new ≡ stepped (Insn.Store size base offset source) state.old }
 {
     let pointer = registers::read(&state.registers, base);
     let value = registers::operand(&state.registers, source);
@@ -192,9 +171,7 @@ fn store(
 /// An instruction that goes on behind itself.
 pub fn straight(state: &mut AbsState, insn: &Insn) -> Result<(), Reason>
     requires { IsStraight insn.now }
-    ensures reason { result_err result ≡ straight_reason insn.now state.old }
-    ensures becomes { OnOk result (Becomes state.old insn.now state.new) }
-    ensures kept { OnErr result (state.new ≡ state.old) }
+    ensures { outcome result state.new ≡ stepped insn.now state.old }
 {
     match insn {
         Insn::Arithmetic {

@@ -1,9 +1,9 @@
-ghost use Rattle.std.specs.Prelude.{◌≡◌, ◌⊎◌, None, Some, IfOk, IfErr, IsErrAnd, OnOk, IfSome, Err};
+ghost use Rattle.std.specs.Prelude.{◌≡◌, ◌⊎◌, None, Some, IfOk, IfErr, IsErrAnd, IfSome, Err};
 ghost use Rattle.semantics.specs.Run.{IsSound};
 ghost use Rattle.semantics.specs.Plain.{IsPlain};
 ghost use Rattle.verify.specs.Structure.{structural_fault, IsOwnFault};
 ghost use Rattle.verify.specs.Judgement.{judged};
-ghost use Rattle.verify.specs.Passes.{IsFirstFault, ComesThrough};
+ghost use Rattle.verify.specs.Passes.{Answers, IsFirstFault, ComesThrough};
 
 use crate::error::{Refused, VerifyError};
 use crate::pass::pass;
@@ -15,9 +15,8 @@ use std::alloc::Global;
 
 /// The first fault: those of structure, and behind them those of the pass.
 fn check(alloc: Global, program: &Program) -> Result<(), VerifyError>
+    ensures judged { Answers (judged program.now) result }
     ensures structural { IfSome (structural_fault program.now) (λ fault. result ≡ Err fault) }
-    ensures first { structural_fault program.now ≡ None → IfErr result (λ fault. (fault ≡ VerifyError.Memory) ⊎ IsFirstFault program.now fault) }
-    ensures passed { OnOk result (ComesThrough program.now) }
 {
     if let Some(fault) = find_fault(program) {
         return Err(fault);

@@ -31,10 +31,6 @@ loop-r-preserved c =
     }
 
 pub returns : goal.returns
-returns c = record {
-  first = c.loop-r.invariant.first;
-  unset = λ r ge le. c.loop-r.invariant.unset r ge (omega arith);
-  others = λ r ge. c.loop-r.invariant.others r (omega arith) (omega arith);
-  whole = behind_whole (within c.args.range) c.args.registers.now c.loop-r.registers c.told-registers c.loop-r.invariant.size c.loop-r.invariant.first
-      (λ r ge le. c.loop-r.invariant.unset r ge (omega arith)) (λ r ge. c.loop-r.invariant.others r (omega arith) (omega arith));
-}
+returns c =
+    behind_whole (within c.args.range) c.args.registers.now c.loop-r.registers c.told-registers c.loop-r.invariant.size c.loop-r.invariant.first
+    (λ r ge le. c.loop-r.invariant.unset r ge (omega arith)) (λ r ge. c.loop-r.invariant.others r (omega arith) (omega arith))

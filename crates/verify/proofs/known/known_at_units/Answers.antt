@@ -1,6 +1,9 @@
 use Rattle.std.proofs.Common.{◌∙◌, sym}
-use Rattle.verify.proofs.Walk.{forward_of_structure}
+use Rattle.verify.proofs.Surveys.{survey_structural}
 use Rattle.verify.proofs.known.known_at_units.Goals as goal
 
+pub returns-in-Some : goal.returns-in-Some
+returns-in-Some c = survey_structural c.args.program.now c.new.result.items c.in-Some.fault c.new.ensures.items (sym c.find_fault.ensures ∙ c.in-Some.is)
+
 pub known_forward-requires : goal.known_forward-requires
-known_forward-requires c = forward_of_structure c.args.program.now (sym c.find_fault.ensures ∙ c.in_default.is)
+known_forward-requires c = sym c.find_fault.ensures ∙ c.in_default.is

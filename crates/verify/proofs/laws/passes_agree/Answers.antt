@@ -1,6 +1,6 @@
 use Rattle.std.proofs.Common.{◌≡◌, None, Some}
 use Rattle.verify.specs.Judgement.{judged}
-use Rattle.verify.proofs.JudgedRuns.{through_judged, stopped_judged}
+use Rattle.verify.proofs.PassLaws.{through_judged, stopped_judged}
 use Rattle.verify.proofs.laws.passes_agree.Goals as goal
 
 pub returns : goal.returns

@@ -1,12 +1,14 @@
-use Rattle.std.proofs.Common.{◌≡◌, ◌+◌, ◌<◌, inl, inr, refl, subst, length, List, ap, ◌∙◌, w16, w32, ℤ, pos, ◌+ℤ◌}
+use Rattle.std.proofs.Common.{◌≡◌, ◌+◌, ◌<◌, inl, inr, refl, subst, length, ap, ◌∙◌, w16, w32, ℤ, pos, ◌+ℤ◌, false}
 use Rattle.std.proofs.lemmas.Int.{to_z-of_z}
-use Rattle.verify.specs.Kept.{Kept}
+use Rattle.verify.specs.Judgement.{KnownSoFar}
+use Rattle.verify.specs.Transfer.{narrowed}
+use Rattle.verify.proofs.Taken.{length-edge}
 use Rattle.verify.proofs.pass.pass_branch.Goals as goal
 
 pub pass_edge-requires : goal.pass_edge-requires
 pass_edge-requires c =
     let inside : c.args.unit + 1 < length c.args.pending.now.items = c.requires.edges (c.args.unit + 1) (inl refl) in
-    let room : length c.second.new.pending.items ≡ length c.args.pending.now.items = ap (λ (pending : List Kept). length pending) c.in-Ok.ensures.rest in
+    let room : length c.second.new.pending.items ≡ length c.args.pending.now.items = ap (λ (pending : KnownSoFar). length pending) c.in-Ok.ensures.rest in
     rw room inside
 
 pub pass_edge-requires-2 : goal.pass_edge-requires-2
@@ -15,5 +17,7 @@ pass_edge-requires-2 c =
     let same = c.from.ensures ∙ to_z-of_z w16 c.args.distance c.ranges.distance in
     let to = subst (λ (distance : ℤ). pos c.forward_target-target.result ≡ pos (c.args.unit + 1) +ℤ distance) (wide ∙ same) c.forward_target-target.ensures in
     let inside : c.forward_target-target.result < length c.args.pending.now.items = c.requires.edges c.forward_target-target.result (inr (inl to)) in
-    let room : length c.second.new.pending.items ≡ length c.args.pending.now.items = ap (λ (pending : List Kept). length pending) c.in-Ok.ensures.rest in
-    rw (c.pass_edge.ensures.length, room) inside
+    let room : length c.second.new.pending.items ≡ length c.args.pending.now.items = ap (λ (pending : KnownSoFar). length pending) c.in-Ok.ensures.rest in
+    let same : length c.pass_edge.new.pending.items ≡ length c.second.new.pending.items =
+    length-edge (pos (c.args.unit + 1)) (narrowed c.args.compared.now false c.in-Ok.other.value) c.second.new.pending.items c.pass_edge.new.pending.items c.pass_edge.ensures in
+    rw (same, room) inside

@@ -1,5 +1,5 @@
 use Rattle.std.proofs.Common.{ℕ, ◌≤◌, ◌≡◌, length, get_or}
-use Rattle.verify.specs.Registers.{Joins}
+use Rattle.verify.proofs.TableLemmas.{Joins}
 use Rattle.verify.proofs.registers.join.Given as goal
 use Rattle.absval.specs.declared.value.AbsVal.TheVariants.{Unset}
 

@@ -1,0 +1,42 @@
+-- What is known of a stack that is written or joined, as functions of what was known (own).
+use Rattle.std.specs.Prelude.{ℕ, ℤ, ◌+◌, ◌/◌, ◌%◌, ◌==◌, ◌&&◌, Bool, true, false, nat_le, nat_lt, if◌then◌else◌}
+use Rattle.semantics.specs.declared.value.Region.{Region}
+use Rattle.absmem.specs.declared.spill.Spill.{Spill}
+use Rattle.absmem.specs.declared.spill.Spill.TheVariants.{Free, Whole}
+use Rattle.absmem.specs.Known.{Known, byte_at, spill_at, left_of, joined_spill}
+use Rattle.absmem.specs.Tables.{table}
+
+-- a stack, told cell by cell and block by block
+abbrev pub stack_of : (ℕ → Bool) → (ℕ → Spill) → Known
+stack_of byte spill = record { bytes = table 512 byte; spills = table 64 spill }
+
+-- nothing is known
+abbrev pub unknown_stack : Known
+unknown_stack = stack_of (λ k. false) (λ b. Free)
+
+-- what is known of a cell once those from one place up to another have become so
+abbrev pub byte_behind : Bool → ℕ → ℕ → Known → ℕ → Bool
+byte_behind value place end known k = if nat_le place k && nat_lt k end then value else byte_at known.bytes k
+
+-- each pointer of which a cell is written is forgotten
+abbrev pub spill_behind : ℕ → ℕ → Known → ℕ → Spill
+spill_behind place end known b = left_of place end b (spill_at known.spills b)
+
+-- so many bytes stand from the place on
+abbrev pub put_bytes : ℕ → ℕ → Known → Known
+put_bytes place size known = stack_of (byte_behind true place (place + size) known) (spill_behind place (place + size) known)
+
+-- bytes stand somewhere among so many cells from the place on: what was a byte is one
+abbrev pub spread_bytes : ℕ → ℕ → Known → Known
+spread_bytes place size known = stack_of (byte_at known.bytes) (spill_behind place (place + size) known)
+
+-- the pieces of a pointer stand at the place
+abbrev pub put_pointer : ℕ → Region → ℤ → Known → Known
+put_pointer place region offset known =
+    stack_of (byte_behind false place (place + 8) known)
+    (λ b. if b == place / 8 then Whole (place % 8) region offset else spill_behind place (place + 8) known b)
+
+-- what both know
+abbrev pub joined_stack : Known → Known → Known
+joined_stack one other =
+    stack_of (λ k. byte_at one.bytes k && byte_at other.bytes k) (λ b. joined_spill (spill_at one.spills b) (spill_at other.spills b))
