@@ -7,7 +7,7 @@ use Rattle.absmem.specs.declared.spill.Spill.{Spill}
 use Rattle.absmem.specs.declared.spill.Spill.TheVariants.{Free, Whole}
 use Rattle.absmem.specs.Known.{Known, byte_at, spill_at, IsSetTo, left_of}
 use Rattle.absmem.specs.Stacks.{stack_of, unknown_stack, byte_behind, spill_behind, put_bytes, spread_bytes, put_pointer}
-use Rattle.absmem.specs.TableLaws.{table_is}
+use Rattle.absmem.proofs.TableLaws.{table_is}
 
 pub stack_is : (new : Known) (byte : ℕ → Bool) (spill : ℕ → Spill) → length new.bytes ≡ 512 → length new.spills ≡ 64 →
     ((k : ℕ) → k < 512 → byte_at new.bytes k ≡ byte k) → ((b : ℕ) → b < 64 → spill_at new.spills b ≡ spill b) → new ≡ stack_of byte spill

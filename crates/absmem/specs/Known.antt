@@ -1,6 +1,7 @@
 -- What is known of a stack of 512 cells.
 use Rattle.std.specs.Prelude.{Option, Some, None, ℤ, ℕ, ◌+◌, ◌*◌, ◌<◌, ◌≤◌, ◌≡◌, Bool, ◌&&◌, ◌==◌, false, nat_lt, if◌then◌else◌, List, length, slice_index_or}
 use Rattle.std.specs.Ordering.{int_eq}
+use Rattle.semantics.specs.Limits.{stack_size}
 use Rattle.semantics.specs.Memory.{is_same_region}
 use Rattle.absval.specs.Limits.{IsOffset}
 use Rattle.semantics.specs.declared.value.Region.{Region}
@@ -27,10 +28,10 @@ pub record IsSetTo (value : Bool) (old new : List Bool) (place end : ℕ) : Type
 -- a pointer lies in the stack and begins in its block, and its offset is within the limit
 abbrev pub IsFiled : ℕ → Spill → Type 0
 IsFiled b Free = Unit {0}
-IsFiled b (Whole shift region offset) = (shift < 8) × (8 * b + shift + 8 ≤ 512) × IsOffset offset
+IsFiled b (Whole shift region offset) = (shift < 8) × (8 * b + shift + 8 ≤ stack_size) × IsOffset offset
 
 pub record IsKnownStack (bytes : List Bool) (spills : List Spill) : Type 0 where
-  pub cells : length bytes ≡ 512
+  pub cells : length bytes ≡ stack_size
   pub blocks : length spills ≡ 64
   pub filed : (b : ℕ) → b < 64 → IsFiled b (spill_at spills b)
 

@@ -1,4 +1,4 @@
--- The words of a set are found again from its cells.
+-- The words of a set are found again from its cells: a proof, which the Model of `CellSet` cites and nobody need read.
 use Rattle.std.proofs.Common.{◌≡◌, ℕ, zero, suc, ◌+◌, ◌-◌, ◌*◌, ◌/◌, ◌%◌, ◌^◌, ◌<◌, ◌≤◌, List, length, take, drop, Bool, false, refl, sym, ap, ◌∙◌, arith, get_or, cond}
 use Rattle.std.specs.Prelude.{◌==◌, slice_range}
 use Rattle.std.specs.Int.{bit_at}

@@ -1,6 +1,5 @@
 pub mod Known
 pub mod Tables
-pub mod TableLaws
 pub mod Stacks
 pub mod Holding
 pub mod Members

@@ -3,6 +3,7 @@ use Rattle.std.specs.Prelude.{ℕ, ◌+◌, ◌*◌, ◌^◌, ◌/◌, ◌%◌, 
 use Rattle.std.specs.Int.{bit_at}
 use Rattle.std.specs.List.{range_with_len}
 use Rattle.std.specs.Simd.Lanes.{mask_l}
+use Rattle.semantics.specs.Limits.{stack_size}
 
 abbrev pub word_at : List ℕ → ℕ → ℕ
 word_at words number = slice_index_or words number 0
@@ -12,7 +13,7 @@ is_member words k = bit_at (word_at words (k / 64)) (k % 64) == 1
 
 -- for each cell whether it belongs to the set
 unfoldable pub members : List ℕ → List Bool
-members words = map (is_member words) (range_with_len 0 512)
+members words = map (is_member words) (range_with_len 0 stack_size)
 
 -- the words of the set to which these cells belong
 unfoldable pub words_of : List Bool → List ℕ

@@ -1,5 +1,6 @@
 -- What is known of a stack that is written or joined, as functions of what was known (own).
 use Rattle.std.specs.Prelude.{ℕ, ℤ, ◌+◌, ◌/◌, ◌%◌, ◌==◌, ◌&&◌, Bool, true, false, nat_le, nat_lt, if◌then◌else◌}
+use Rattle.semantics.specs.Limits.{stack_size}
 use Rattle.semantics.specs.declared.value.Region.{Region}
 use Rattle.absmem.specs.declared.spill.Spill.{Spill}
 use Rattle.absmem.specs.declared.spill.Spill.TheVariants.{Free, Whole}
@@ -8,7 +9,7 @@ use Rattle.absmem.specs.Tables.{table}
 
 -- a stack, told cell by cell and block by block
 abbrev pub stack_of : (ℕ → Bool) → (ℕ → Spill) → Known
-stack_of byte spill = record { bytes = table 512 byte; spills = table 64 spill }
+stack_of byte spill = record { bytes = table stack_size byte; spills = table 64 spill }
 
 -- nothing is known
 abbrev pub unknown_stack : Known

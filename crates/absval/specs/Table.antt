@@ -1,5 +1,5 @@
 -- The verifier's table of values (own): what is known of a result, from what is known of its operands.
-use Rattle.std.specs.Prelude.{ℕ, ℤ, Bool, option_map, option_and_then, pos, negsuc, ◌-◌, ◌^◌, ◌+ℤ◌, ◌-ℤ◌, int_le, nat_lt, nat_le, ◌&&◌, if◌then◌else◌, Option, Some, None}
+use Rattle.std.specs.Prelude.{ℕ, ℤ, option_map, option_and_then, pos, ◌-◌, ◌^◌, ◌+ℤ◌, ◌-ℤ◌, nat_lt, nat_le, ◌&&◌, if◌then◌else◌, Option, Some, None}
 use Rattle.std.specs.Int.{w64, cast_unsigned, int_min, int_max}
 use Rattle.word.specs.declared.Width.{Width}
 use Rattle.word.specs.declared.Width.TheVariants.{W64}

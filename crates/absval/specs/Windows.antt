@@ -3,15 +3,13 @@ use Rattle.std.specs.Prelude.{ℕ, ℤ, pos, ◌+◌, ◌-◌, ◌≤◌, ◌+�
 use Rattle.semantics.specs.declared.value.Region.{Region}
 use Rattle.semantics.specs.declared.value.Region.TheVariants.{Stack, Context}
 use Rattle.semantics.specs.State.{Cause}
+use Rattle.semantics.specs.Limits.{stack_size}
+use Rattle.semantics.specs.Memory.{room_of}
 use Rattle.absval.specs.declared.windows.Window.{Window}
 
--- how many cells a region has, and the place of its offset 0
-abbrev pub room_of : Region → ℕ
-room_of Stack = 512
-room_of Context = 4096
-
+-- the place of a region's offset 0
 abbrev pub base_of : Region → ℕ
-base_of Stack = 512
+base_of Stack = stack_size
 base_of Context = 0
 
 -- so many cells from the place on lie in the window

@@ -4,7 +4,9 @@ ghost use Rattle.word.specs.Arithmetic.{arithmetic, taken, negated, sign_extende
 ghost use Rattle.range.specs.Interval.{IsIn};
 ghost use Rattle.bits.specs.Known.{HasBits};
 ghost use Rattle.absval.specs.NumberSets.{Has, HaveBoth, single, within, any, greatest, is_one, joined, copies, reduced, settled, table, negations, extensions, swaps, refined};
+ghost use Rattle.absval.specs.Table.{in_a_row};
 
+use crate::pointer;
 use bits::{Bits, operate as bitwise};
 use range::{Range, edges, operate as ranges, unary, used};
 use std::marker::Model;
@@ -92,6 +94,14 @@ impl NumberSet {
         ensures holds { (x : ℕ) → IsTrue result → Has self x → x ≡ greatest self }
     {
         self.range.is_single()
+    }
+
+    /// The ends of its range read as signed, where all numbers between are below 2^63, or none is.
+    pub fn as_signed(self) -> Option<(i64, i64)>
+        ensures { result ≡ in_a_row self.range }
+    {
+        let row = pointer::as_signed(self.range)?;
+        Some((row.low, row.high))
     }
 
     /// The numbers of either, and those that look like them.

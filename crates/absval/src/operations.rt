@@ -1,9 +1,9 @@
-ghost use Rattle.std.specs.Prelude.{◌≡◌, ◌≢◌, ◌≤ℤ◌, ◌↔◌, ℕ, ℤ, true, IfSome, IsSome, IsSomeAnd};
-ghost use Rattle.word.specs.Arithmetic.{arithmetic as computed, negated, sign_extended, swapped};
+ghost use Rattle.std.specs.Prelude.{◌≡◌, ◌≢◌, ◌≤ℤ◌, ℕ, ℤ, IfSome};
+ghost use Rattle.word.specs.Arithmetic.{negated, sign_extended, swapped};
 ghost use Rattle.semantics.specs.declared.value.Value.{Value};
 ghost use Rattle.semantics.specs.Step.{result_of, mapped};
 ghost use Rattle.absval.specs.NumberSets.{Has};
-ghost use Rattle.absval.specs.Contains.{Contains, Gives, is_number};
+ghost use Rattle.absval.specs.Contains.{Contains, Gives};
 ghost use Rattle.absval.specs.Table.{computed as known, moved as known_moved, combined as known_combined, shifted as known_shifted, negated_known, extended_known, swapped_known};
 
 use crate::number_set::NumberSet;
@@ -15,8 +15,6 @@ use word::{ByteOrder, Narrow, Operation, SwapSize, Width};
 /// What an operation on two values gives: nothing where it is none that pointers admit.
 pub fn arithmetic(width: Width, operation: Operation, a: AbsVal, b: AbsVal) -> Option<AbsVal>
     ensures holds { IfSome result (λ r. (x y : Value) → Contains a x → Contains b y → Gives r (result_of width operation x y)) }
-    ensures moves { operation ≡ Operation.Move → is_number b ≡ true → IsSomeAnd result (λ r. is_number r ≡ true) }
-    ensures numbers { is_number a ≡ true → is_number b ≡ true → IsSomeAnd result (λ r. is_number r ≡ true) }
     ensures exact { result ≡ known width operation a b }
 {
     if let Operation::Move = operation {
@@ -28,7 +26,6 @@ pub fn arithmetic(width: Width, operation: Operation, a: AbsVal, b: AbsVal) -> O
 /// What a move gives: it reads the second value alone.
 fn moved(width: Width, b: AbsVal) -> Option<AbsVal>
     ensures holds { IfSome result (λ r. (x y : Value) → Contains b y → Gives r (result_of width Operation.Move x y)) }
-    ensures numbers { is_number b ≡ true → IsSomeAnd result (λ r. is_number r ≡ true) }
     ensures exact { result ≡ known_moved width b }
 {
     match b {
@@ -45,7 +42,6 @@ fn moved(width: Width, b: AbsVal) -> Option<AbsVal>
 fn combined(width: Width, operation: Operation, a: AbsVal, b: AbsVal) -> Option<AbsVal>
     requires { operation ≢ Operation.Move }
     ensures holds { IfSome result (λ r. (x y : Value) → Contains a x → Contains b y → Gives r (result_of width operation x y)) }
-    ensures numbers { is_number a ≡ true → is_number b ≡ true → IsSomeAnd result (λ r. is_number r ≡ true) }
     ensures exact { result ≡ known_combined width operation a b }
 {
     let AbsVal::Number(n) = b else {
@@ -85,8 +81,6 @@ fn shifted(
 /// What negating a value gives: nothing of a pointer.
 pub fn negate(width: Width, a: AbsVal) -> Option<AbsVal>
     ensures holds { IfSome result (λ r. (x : Value) → Contains a x → Gives r (mapped (negated width) x)) }
-    ensures number { IsSome result ↔ (is_number a ≡ true) }
-    ensures again { IfSome result (λ r. is_number r ≡ true) }
     ensures exact { result ≡ negated_known width a }
 {
     match a {
@@ -98,8 +92,6 @@ pub fn negate(width: Width, a: AbsVal) -> Option<AbsVal>
 /// What extending the low bits of a value by their sign gives: nothing of a pointer.
 pub fn sign_extend(width: Width, part: Narrow, a: AbsVal) -> Option<AbsVal>
     ensures holds { IfSome result (λ r. (x : Value) → Contains a x → Gives r (mapped (sign_extended width part) x)) }
-    ensures number { IsSome result ↔ (is_number a ≡ true) }
-    ensures again { IfSome result (λ r. is_number r ≡ true) }
     ensures exact { result ≡ extended_known width part a }
 {
     match a {
@@ -111,8 +103,6 @@ pub fn sign_extend(width: Width, part: Narrow, a: AbsVal) -> Option<AbsVal>
 /// What putting the low bytes of a value in order gives: nothing of a pointer.
 pub fn swap(order: ByteOrder, size: SwapSize, a: AbsVal) -> Option<AbsVal>
     ensures holds { IfSome result (λ r. (x : Value) → Contains a x → Gives r (mapped (swapped order size) x)) }
-    ensures number { IsSome result ↔ (is_number a ≡ true) }
-    ensures again { IfSome result (λ r. is_number r ≡ true) }
     ensures exact { result ≡ swapped_known order size a }
 {
     match a {

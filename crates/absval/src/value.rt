@@ -1,5 +1,6 @@
 //! What is known of a value.
 ghost use Rattle.std.specs.Prelude.{◌≡◌};
+ghost use Rattle.std.specs.Ordering.{int_eq};
 
 use crate::number_set::NumberSet;
 use semantics::Region;
@@ -64,6 +65,13 @@ impl Offsets {
     {
         let _high = self.high;
         Offset { at: self.low }
+    }
+
+    /// Whether it is one offset.
+    pub fn is_one(self) -> bool
+        ensures { result ≡ int_eq self.0 self.1 }
+    {
+        self.low == self.high
     }
 }
 

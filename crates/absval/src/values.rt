@@ -1,8 +1,8 @@
-ghost use Rattle.std.specs.Prelude.{◌≡◌, ◌≤◌, ◌<◌, ◌^◌, ◌-◌, ◌*◌, ◌&&◌, ◌≤ℤ◌, ℕ, true, false};
+ghost use Rattle.std.specs.Prelude.{◌≡◌, ◌≤◌, ◌<◌, ◌^◌, ◌-◌, ◌≤ℤ◌, ℕ};
 ghost use Rattle.std.specs.Int.{w64, cast_unsigned};
 ghost use Rattle.insn.specs.Insn.{bytes_of};
 ghost use Rattle.semantics.specs.declared.value.Value.{Value};
-ghost use Rattle.absval.specs.Contains.{Contains, IsNumberOf, IsPointerIn, is_number};
+ghost use Rattle.absval.specs.Contains.{Contains, IsNumberOf, IsPointerIn};
 ghost use Rattle.absval.specs.Table.{immediate_known, loaded_known, joined as known_joined, joined_offsets};
 
 use crate::number_set::NumberSet;
@@ -13,7 +13,6 @@ use semantics::Region;
 
 /// An immediate number, extended by its sign.
 pub fn immediate(n: i32) -> AbsVal
-    ensures number { is_number result ≡ true }
     ensures holds { Contains result (Value.Number (cast_unsigned w64 n)) }
     ensures exact { result ≡ immediate_known n }
 {
@@ -22,7 +21,6 @@ pub fn immediate(n: i32) -> AbsVal
 
 /// What a load of so many bytes may give.
 pub fn loaded(size: Size) -> AbsVal
-    ensures number { is_number result ≡ true }
     ensures holds { (n : ℕ) → n < 256 ^ bytes_of size → Contains result (Value.Number n) }
     ensures exact { result ≡ loaded_known size }
 {
@@ -48,7 +46,6 @@ fn numbers_of(size: Size) -> Range
 pub fn join(a: AbsVal, b: AbsVal) -> AbsVal
     ensures left { (v : Value) → Contains a v → Contains result v }
     ensures right { (v : Value) → Contains b v → Contains result v }
-    ensures number { is_number result ≡ (is_number a && is_number b) }
     ensures exact { result ≡ known_joined a b }
 {
     match a {
@@ -62,7 +59,6 @@ pub fn join(a: AbsVal, b: AbsVal) -> AbsVal
 fn join_number(m: NumberSet, b: AbsVal) -> AbsVal
     ensures left { (v : Value) → IsNumberOf m v → Contains result v }
     ensures right { (v : Value) → Contains b v → Contains result v }
-    ensures number { is_number result ≡ is_number b }
     ensures exact { result ≡ known_joined (AbsVal.Number m) b }
 {
     match b {
@@ -75,7 +71,6 @@ fn join_number(m: NumberSet, b: AbsVal) -> AbsVal
 fn join_pointer(region: Region, m: Offsets, b: AbsVal) -> AbsVal
     ensures left { (v : Value) → IsPointerIn region m.0 m.1 v → Contains result v }
     ensures right { (v : Value) → Contains b v → Contains result v }
-    ensures number { is_number result ≡ false }
     ensures exact { result ≡ known_joined (AbsVal.Pointer region m) b }
 {
     match b {

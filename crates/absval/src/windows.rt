@@ -1,7 +1,7 @@
-ghost use Rattle.std.specs.Prelude.{pos, ◌≡◌, ◌≢◌, ◌+◌, ◌≤◌, ◌≤ℤ◌, ◌+ℤ◌, ℕ, ℤ, IfSome, IfNone, IsSome, IsOk};
+ghost use Rattle.std.specs.Prelude.{pos, ◌≡◌, ◌≢◌, ◌+◌, ◌≤◌, ◌≤ℤ◌, ◌+ℤ◌, ℕ, ℤ, IfSome, IfNone};
 ghost use Rattle.semantics.specs.declared.value.Region.{Region};
-ghost use Rattle.semantics.specs.Memory.{window as window_at};
-ghost use Rattle.absval.specs.Windows.{room_of, base_of, LiesIn, window_known};
+ghost use Rattle.semantics.specs.Memory.{window as window_at, room_of};
+ghost use Rattle.absval.specs.Windows.{base_of, LiesIn, window_known};
 
 use crate::value::Offsets;
 use semantics::Region;
@@ -83,8 +83,6 @@ pub fn window_of(region: Region, offsets: Offsets, distance: i16, size: usize) -
     ensures fits { IfSome result (λ w. w.place + w.size ≤ room_of region) }
     ensures holds { IfSome result (λ w. (o : ℤ) → offsets.0 ≤ℤ o → o ≤ℤ offsets.1 →
         LiesIn w.place w.size size (window_at region (o +ℤ distance) size)) }
-    ensures there { offsets.0 ≤ℤ offsets.1 → IsOk (window_at region (offsets.0 +ℤ distance) size) →
-        IsOk (window_at region (offsets.1 +ℤ distance) size) → IsSome result }
     ensures least { IfSome result (λ w. pos w.place ≡ (offsets.0 +ℤ distance) +ℤ pos (base_of region)) }
     ensures greatest { IfSome result (λ w. pos (w.place + w.size) ≡ ((offsets.1 +ℤ distance) +ℤ pos (base_of region)) +ℤ pos size) }
 {
@@ -97,7 +95,6 @@ fn window_between(region: Region, low: i32, high: i32, distance: i16, size: usiz
     ensures exact { result ≡ window_known region low high distance size }
     ensures fits { IfSome result (λ w. w.place + w.size ≤ room_of region) }
     ensures holds { IfSome result (λ w. (o : ℤ) → low ≤ℤ o → o ≤ℤ high → LiesIn w.place w.size size (window_at region (o +ℤ distance) size)) }
-    ensures there { low ≤ℤ high → IsOk (window_at region (low +ℤ distance) size) → IsOk (window_at region (high +ℤ distance) size) → IsSome result }
     ensures least { IfSome result (λ w. pos w.place ≡ (low +ℤ distance) +ℤ pos (base_of region)) }
     ensures greatest { IfSome result (λ w. pos (w.place + w.size) ≡ ((high +ℤ distance) +ℤ pos (base_of region)) +ℤ pos size) }
 {

@@ -3,14 +3,12 @@ use Rattle.std.proofs.Common.{◌≡◌, ℕ, ℤ, pos, zero, suc, ◌+◌, ◌-
 use Rattle.std.specs.Prelude.{Option, Some, None, ◌+ℤ◌, nat_lt, nat_le, neg_ℤ, if◌then◌else◌}
 use Rattle.std.proofs.lemmas.Bool.Decides.{nat_tests}
 use Rattle.std.proofs.lemmas.Int.{ints}
+use Rattle.std.proofs.lemmas.Option.{same_Some}
 use Rattle.text.specs.Options.{◌>>=◌}
 use Rattle.asm.specs.declared.number.Number.{Number}
 use Rattle.asm.specs.Number.{signed_within}
 use Rattle.asm.specs.Operand.{Named}
 use Rattle.asm.specs.Distance.{defined, between, distance_of}
-
-to_some : {A : Type 0} (a b : A) → Some a ≡ Some b → a ≡ b
-to_some a b e = cc
 
 ahead : (a b limit : ℕ) (z : ℤ) (t : Bool) → a ≤ b → cond t (Some (pos (b - a))) None ≡ Some z → pos a +ℤ z ≡ pos b
 ahead a b limit z true le e = let is : pos (b - a) ≡ z = cc in let sum : a + (b - a) ≡ b = omega arith in rw (← is) (ap pos sum)
@@ -41,7 +39,7 @@ pub record Reaches (names : List (List ℕ × ℕ)) (unit : ℕ) (name : List �
 -- what was bound
 given_name : (o : Option ℕ) (start : ℕ) (d : Number) → (o >>= λ target. Some (between start target)) ≡ Some d → (target : ℕ) × (o ≡ Some target) × (between start target ≡ d)
 given_name None start d h = absurd cc
-given_name (Some target) start d h = (target, refl, to_some (between start target) d h)
+given_name (Some target) start d h = (target, refl, same_Some (between start target) d h)
 
 pub reaches : (limit : ℕ) (names : List (List ℕ × ℕ)) (unit : ℕ) (name : List ℕ) (d : Number) (z : ℤ) → distance_of names unit (Named name) ≡ Some d → signed_within limit d ≡ Some z → Reaches names unit name z
 unfolding distance_of

@@ -14,7 +14,7 @@ use Rattle.insn.proofs.SlotLemmas.{slots_of-append, length-slots_of-cons}
 use Rattle.asm.specs.declared.fault.Fault.{Fault}
 use Rattle.asm.specs.declared.fault.Fault.TheVariants as faults
 use Rattle.asm.specs.declared.fault.AsmError.{AsmError}
-use Rattle.asm.specs.Faults.{at_line, ◌>>=◌}
+use Rattle.asm.specs.Faults.{◌>>=◌}
 use Rattle.asm.specs.Number.{signed_within}
 use Rattle.asm.specs.Operand.{Goal, Away, Named}
 use Rattle.asm.specs.Statement.{Source, Plain, Jump, LongJump, Branch, statement_of}
@@ -23,7 +23,7 @@ use Rattle.asm.specs.Distance.{defined, distance_of}
 use Rattle.asm.specs.Program.{Placed, Read, placed_units, source_units, units_in, with_name, with_source, with_words, with_line, line_read, read_on, nothing, insn_of, insns_on, program_in, lines_of, said}
 use Rattle.asm.proofs.DistanceLaws.{Reaches, reaches}
 use Rattle.asm.specs.Names.{name_in, goal_name, distance_in, IsDefinedAt, JumpsLeadToNames}
-use Rattle.asm.proofs.SaidLemmas.{bound, had, held}
+use Rattle.asm.proofs.SaidLemmas.{bound, had, held, free}
 
 -- ---- what gave a result
 
@@ -175,10 +175,6 @@ unfolding with_words
 words_names n next line words h =
     let s = bound (statement_of words) (λ statement. Ok (with_source n line statement)) next h in
     source_names n next line s.0 (same_ok (with_source n line s.0) next s.2)
-
-free : (b : Bool) (x y : Read) → cond b (Err faults.Twice) (Ok x) ≡ Ok y → x ≡ y
-free true x y h = absurd cc
-free false x y h = same_ok {E = Fault} x y h
 
 name_own : (r n : Read) (line : List ℕ) (o : Outline) (given : Option (List ℕ)) (name : List ℕ) (unit : ℕ) → outline_of line ≡ Some o → o.name ≡ given → with_name r given ≡ Ok n → defined n.names name ≡ Some unit
     → (defined r.names name ≡ Some unit) ⊎ Own r line name unit

@@ -5,9 +5,9 @@ use Rattle.std.specs.Int.{w16, w32}
 use Rattle.std.specs.Fmt.{signed_decimal}
 use Rattle.std.proofs.lemmas.Bool.Decides.{nat_tests}
 use Rattle.std.proofs.lemmas.Int.{ints}
+use Rattle.std.proofs.lemmas.Bool.{and_parts}
 use Rattle.text.specs.Stop.{is_within}
 use Rattle.text.specs.Number.{magnitude_of}
-use Rattle.text.proofs.BytesLemmas.{and_first}
 use Rattle.text.proofs.DecimalLemmas.{AreDigits, digits-decimal, magnitude_of-decimal}
 use Rattle.asm.specs.declared.number.Number.{Number}
 use Rattle.asm.specs.Number.{number_of, signed_within, bits_within}
@@ -23,7 +23,7 @@ number_for (negsuc n) = record { negative = true; magnitude = suc n }
 no_minus : (ds : List ℕ) → AreDigits ds → (get_or ds 0 0 == 45) ≡ false
 no_minus [] h = refl
 no_minus (c ∷ cs) h =
-    let first : is_within 48 57 c ≡ true = and_first (is_within 48 57 c) _ h in
+    let first : is_within 48 57 c ≡ true = (and_parts (is_within 48 57 c) _ h).0 in
     grind (arith, nat_tests)
 
 number_of-digits : (ds : List ℕ) (n : ℕ) → AreDigits ds → magnitude_of ds ≡ Some n → number_of ds ≡ Some (record { negative = false; magnitude = n })

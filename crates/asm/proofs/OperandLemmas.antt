@@ -3,12 +3,13 @@ use Rattle.std.proofs.Common.{◌≡◌, ℕ, suc, ◌+◌, ◌-◌, ◌<◌, �
 use Rattle.std.specs.Prelude.{ℤ, pos, negsuc, decimal, not, ◌==◌, nat_lt}
 use Rattle.std.specs.Fmt.{signed_decimal}
 use Rattle.std.proofs.lemmas.Fmt.{decimal_digit, decimal_step}
-use Rattle.std.proofs.lemmas.Bool.{cases_lt}
+use Rattle.std.proofs.lemmas.List.{length_push, get_or_push}
+use Rattle.std.proofs.lemmas.Bool.{cases_lt, and_parts}
 use Rattle.std.proofs.lemmas.Bool.Decides.{nat_tests}
 use Rattle.text.specs.declared.stop.Stop.TheVariants.{Sign}
 use Rattle.text.specs.Stop.{is_within, is_stop}
 use Rattle.text.specs.Parts.{before, from}
-use Rattle.text.proofs.BytesLemmas.{all-weaker, and_first}
+use Rattle.text.proofs.BytesLemmas.{all-weaker}
 use Rattle.text.proofs.CutLemmas.{Lacks, take_front, before-append, from-append}
 use Rattle.text.proofs.DecimalLemmas.{AreDigits, digits-decimal, digit_is_not}
 use Rattle.insn.specs.Insn.{IsOperand}
@@ -46,7 +47,7 @@ raw_for (Immediate z) = raws.Number (number_for z)
 -- digits do not begin with a greater byte
 first_is_not : (ds : List ℕ) (other : ℕ) → AreDigits ds → 57 < other → (0 == other) ≡ false → (get_or ds 0 0 == other) ≡ false
 first_is_not [] other h lt zero_is = zero_is
-first_is_not (c ∷ cs) other h lt zero_is = digit_is_not c other (and_first (is_within 48 57 c) _ h) lt
+first_is_not (c ∷ cs) other h lt zero_is = digit_is_not c other (and_parts (is_within 48 57 c) _ h).0 lt
 
 -- a printed number does not begin with a register's letter
 no_register : (z : ℤ) → IsSmall z → (get_or (signed_decimal z) 0 0 == 114) ≡ false
@@ -56,7 +57,7 @@ no_register (negsuc n) small = refl
 letter_first : (ds : List ℕ) → AreDigits ds → is_letter (get_or ds 0 0) ≡ false
 letter_first [] h = refl
 letter_first (c ∷ cs) h =
-    let first : is_within 48 57 c ≡ true = and_first (is_within 48 57 c) _ h in
+    let first : is_within 48 57 c ≡ true = (and_parts (is_within 48 57 c) _ h).0 in
     grind (arith, nat_tests)
 
 -- a printed number does not begin with a name's letter
@@ -84,14 +85,6 @@ goal_of-text (pos n) small = rw (signed_of-text (pos n) small) refl
 goal_of-text (negsuc n) small = rw (signed_of-text (negsuc n) small) refl
 
 -- places
-last_of : (xs : List ℕ) (c : ℕ) → get_or (xs ++ c ∷ []) (length xs) 0 ≡ c
-last_of [] c = refl
-last_of (x ∷ xs) c = last_of xs c
-
-length_one_more : (xs : List ℕ) (c : ℕ) → length (xs ++ c ∷ []) ≡ length xs + 1
-length_one_more [] c = refl
-length_one_more (x ∷ xs) c = omega (arith, length_one_more xs c)
-
 inside_is : (whole text : List ℕ) (n : ℕ) → length whole ≡ n + 2 → get_or whole 0 0 ≡ 91 → get_or whole (n + 1) 0 ≡ 93 → take n (drop 1 whole) ≡ text → inside whole ≡ Some text
 inside_is whole text n len first last between =
     let long : nat_lt (length whole) 2 ≡ false = grind (arith, nat_tests) in
@@ -101,8 +94,8 @@ inside_is whole text n len first last between =
 
 inside-brackets : (text : List ℕ) → inside (91 ∷ (text ++ 93 ∷ [])) ≡ Some text
 inside-brackets text =
-    let len : length (text ++ 93 ∷ []) ≡ length text + 1 = length_one_more text 93 in
-    inside_is (91 ∷ (text ++ 93 ∷ [])) text (length text) (omega arith) refl (rw add-one (last_of text 93)) (take_front text (93 ∷ []))
+    let len : length (text ++ 93 ∷ []) ≡ length text + 1 = length_push text 93 in
+    inside_is (91 ∷ (text ++ 93 ∷ [])) text (length text) (omega arith) refl (rw add-one (get_or_push text 93 0 (length text) refl)) (take_front text (93 ∷ []))
 
 sign_of : ℤ → ℕ
 sign_of (pos n) = 43

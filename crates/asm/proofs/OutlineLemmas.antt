@@ -1,12 +1,13 @@
 -- A printed line has its outline, and says its instruction.
-use Rattle.std.proofs.Common.{◌≡◌, ℕ, zero, suc, ◌-◌, Bool, true, false, List, [], ◌∷◌, ◌++◌, Option, Some, None, length, get_or, refl, ap, ◌∙◌, arith}
+use Rattle.std.proofs.Common.{◌≡◌, ℕ, zero, suc, ◌-◌, Bool, true, false, List, [], ◌∷◌, ◌++◌, Option, Some, None, length, get_or, refl, ap, ◌∙◌, arith, append-nil}
 use Rattle.std.specs.Prelude.{Ok, not, ◌==◌, ◌&&◌, nat_lt, nat_le}
 use Rattle.std.specs.List.{list_all}
 use Rattle.std.proofs.lemmas.Bool.Decides.{nat_tests}
+use Rattle.std.proofs.lemmas.Bool.{and_parts}
 use Rattle.text.specs.declared.stop.Stop.TheVariants.{Blank, Solid}
 use Rattle.text.specs.Stop.{is_stop, colon, semicolon, feed}
 use Rattle.text.specs.Parts.{until, before}
-use Rattle.text.proofs.BytesLemmas.{all-append, all-weaker, and_first, and_second}
+use Rattle.text.proofs.BytesLemmas.{all-append, all-weaker}
 use Rattle.text.proofs.CutLemmas.{Lacks, until-all, before-all, before-append}
 use Rattle.insn.specs.declared.insn.Insn.{Insn}
 use Rattle.insn.specs.declared.insn.Insn.TheVariants as insns
@@ -20,7 +21,7 @@ use Rattle.asm.proofs.MnemonicLemmas.{mnemonic_of-name}
 use Rattle.asm.proofs.SourceLemmas.{source_for, source_of-text}
 use Rattle.asm.proofs.TokenLemmas.{is_plain, IsPlain, ArePlain, plain_operands}
 use Rattle.asm.proofs.WordLemmas.{is_fine, is_fine-name}
-use Rattle.asm.proofs.WordsLemmas.{append-nil, plain_blank, until_solid, line_words-text}
+use Rattle.asm.proofs.WordsLemmas.{plain_blank, until_solid, line_words-text}
 
 -- a byte of a line: visible or a space, no semicolon
 abbrev pub in_line : ℕ → Bool
@@ -55,8 +56,8 @@ line_bytes w ts p ps = all-append in_line w (operands_text ts) (all-weaker is_pl
 -- no carriage return stands at the end
 no_return : (xs : List ℕ) (k : ℕ) → list_all in_line xs ≡ true → (get_or xs k 0 == 13) ≡ false
 no_return [] k h = refl
-no_return (x ∷ xs) zero h = line_return x (and_first (in_line x) _ h)
-no_return (x ∷ xs) (suc k) h = no_return xs k (and_second (in_line x) _ h)
+no_return (x ∷ xs) zero h = line_return x (and_parts (in_line x) _ h).0
+no_return (x ∷ xs) (suc k) h = no_return xs k (and_parts (in_line x) _ h).1
 
 return_free : (line : List ℕ) → list_all in_line line ≡ true → without_return line ≡ line
 return_free line h = rw (no_return line (length line - 1) h) refl
@@ -86,19 +87,19 @@ outline_of-text w ts word p ps =
 
 -- the word of an instruction
 fine_word : (w : List ℕ) → is_fine w ≡ true → is_word w ≡ true
-fine_word w h = and_second (nat_lt 0 (length w)) (is_word w) (and_first (nat_lt 0 (length w) && is_word w) _ h)
+fine_word w h = (and_parts (nat_lt 0 (length w)) (is_word w) (and_parts (nat_lt 0 (length w) && is_word w) _ h).0).1
 
 fine_plain : (w : List ℕ) → is_fine w ≡ true → IsPlain w
 fine_plain w h =
-    let some : nat_lt 0 (length w) ≡ true = and_first (nat_lt 0 (length w)) (is_word w) (and_first (nat_lt 0 (length w) && is_word w) _ h) in
-    record { bytes = and_second (nat_lt 0 (length w) && is_word w) _ h; some = grind (arith, nat_tests) }
+    let some : nat_lt 0 (length w) ≡ true = (and_parts (nat_lt 0 (length w)) (is_word w) (and_parts (nat_lt 0 (length w) && is_word w) _ h).0).0 in
+    record { bytes = (and_parts (nat_lt 0 (length w) && is_word w) _ h).1; some = grind (arith, nat_tests) }
 
 is_mnemonic : (i : Insn) → IsInsn i → IsMnemonic (word_of i)
 is_mnemonic (insns.SignExtend width part dst src) is = is.0
 is_mnemonic (insns.Arithmetic width operation dst operand) is = tt
 is_mnemonic (insns.Negate width dst) is = tt
 is_mnemonic (insns.Swap order size dst) is = tt
-is_mnemonic (insns.LoadNumber dst number) is = tt
+is_mnemonic (insns.LoadImmediate dst number) is = tt
 is_mnemonic (insns.Jump distance) is = tt
 is_mnemonic (insns.LongJump distance) is = tt
 is_mnemonic (insns.Branch width condition dst operand distance) is = tt

@@ -1,5 +1,5 @@
 -- The text of a program says that program.
-use Rattle.std.proofs.Common.{◌≡◌, ℕ, ◌+◌, ◌<◌, ◌≤◌, true, List, [], ◌∷◌, ◌++◌, Some, length, refl, sym, ap, ◌∙◌, arith, append_assoc}
+use Rattle.std.proofs.Common.{◌≡◌, ℕ, ◌+◌, ◌<◌, ◌≤◌, true, List, [], ◌∷◌, ◌++◌, Some, length, refl, sym, ap, ◌∙◌, arith, append_assoc, append-nil}
 use Rattle.std.specs.Prelude.{Ok, nat_lt, nat_le}
 use Rattle.std.specs.Result.{result_ok}
 use Rattle.std.specs.List.{AllByRecursion, sum_by}
@@ -15,7 +15,6 @@ use Rattle.asm.specs.Program.{Placed, Read, lines_of, read_on, source_units, pla
 use Rattle.asm.specs.Printing.{insn_text, text_of}
 use Rattle.asm.proofs.KeepingLemmas.{lines_first}
 use Rattle.asm.proofs.SourceLemmas.{source_for, insn_of-source, source_units-source}
-use Rattle.asm.proofs.WordsLemmas.{append-nil}
 use Rattle.asm.proofs.OutlineLemmas.{insn_lacks_feed, without_return-insn, line_read-insn}
 
 lines_of-text : (i : Insn) (is : List Insn) → IsInsn i → lines_of (text_of (i ∷ is)) ≡ insn_text i ∷ lines_of (text_of is)

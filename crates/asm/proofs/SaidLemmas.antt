@@ -3,6 +3,7 @@ use Rattle.std.proofs.Common.{◌≡◌, ℕ, ◌+◌, ◌<◌, ◌≤◌, Bool,
 use Rattle.std.specs.Prelude.{Result, Ok, Err, is_some, slice_index, ◌^◌}
 use Rattle.std.specs.Option.{ok_or}
 use Rattle.std.specs.List.{AllByRecursion}
+use Rattle.std.proofs.lemmas.Option.{same_Some}
 use Rattle.insn.specs.declared.insn.Insn.{Insn}
 use Rattle.insn.specs.Insn.{IsWell}
 use Rattle.insn.proofs.WellLemmas.{all_push, all_at}
@@ -45,7 +46,7 @@ source_well (words.Arithmetic width operation) os well = after (two_of os) fault
 source_well (words.Negate width) os well = after (one_of os) faults.Operand _ (λ a. after (register_of a) faults.Operand _ (λ dst. tt))
 source_well (words.SignExtend width part) os well = after (two_of os) faults.Operand _ (λ o. after (register_of o.0) faults.Operand _ (λ dst. after (register_of o.1) faults.Operand _ (λ src. well)))
 source_well (words.Swap order bytes) os well = after (one_of os) faults.Operand _ (λ a. after (register_of a) faults.Operand _ (λ dst. tt))
-source_well words.LoadNumber os well = after (two_of os) faults.Operand _ (λ o. after (register_of o.0) faults.Operand _ (λ dst. after (number_of o.1) faults.Operand _ (λ n. after (bits_within n) faults.Range _ (λ number. tt))))
+source_well words.LoadImmediate os well = after (two_of os) faults.Operand _ (λ o. after (register_of o.0) faults.Operand _ (λ dst. after (number_of o.1) faults.Operand _ (λ n. after (bits_within n) faults.Range _ (λ number. tt))))
 source_well words.Jump os well = after (one_of os) faults.Operand _ (λ a. after (goal_of a) faults.Operand _ (λ goal. tt))
 source_well words.LongJump os well = after (one_of os) faults.Operand _ (λ a. after (goal_of a) faults.Operand _ (λ goal. tt))
 source_well (words.Branch width condition) os well = after (three_of os) faults.Operand _ (λ o. after (register_of o.0) faults.Operand _ (λ dst. after (raw_of o.1) faults.Operand _ (λ raw. after (goal_of o.2) faults.Operand _ (λ goal. after (fitted raw) faults.Range _ (λ operand. tt)))))
@@ -72,16 +73,13 @@ held line (Ok a) f b h = (a, refl, h)
 inside : {A E : Type 0} (o : Result A E) (x y : A) → o ≡ Ok x → o ≡ Ok y → x ≡ y
 inside o x y e h = cc
 
-same : {A : Type 0} (x y : A) → Some x ≡ Some y → x ≡ y
-same x y h = cc
-
 statement_well : (words : List (List ℕ)) (s : Source) → statement_of words ≡ Ok (Some s) → IsWellSource s
 statement_well [] s h = absurd cc
 statement_well (word ∷ os) s h =
     let m = had (mnemonic_of word) faults.Mnemonic (λ m. source_of m os >>= λ source. Ok (Some source)) (Some s) h in
     let said = bound (source_of m.0 os) (λ source. Ok (Some source)) (Some s) m.2 in
     let well : IsWellSource said.0 = subst GivesWell said.1 (source_well m.0 os (mnemonic_read word m.0 m.1).0) in
-    subst IsWellSource (same said.0 s (inside _ (Some said.0) (Some s) refl said.2)) well
+    subst IsWellSource (same_Some said.0 s (inside _ (Some said.0) (Some s) refl said.2)) well
 
 -- all statements so far
 abbrev pub IsWellPlaced : Placed → Type 0
@@ -100,7 +98,7 @@ words_well words line r n h all =
     let said = bound (statement_of words) (λ s. Ok (with_source r line s)) n h in
     added_well words r n line said.0 said.1 (inside _ (with_source r line said.0) n refl said.2) all
 
-free : (b : Bool) (x y : Read) → cond b (Err faults.Twice) (Ok x) ≡ Ok y → x ≡ y
+pub free : (b : Bool) (x y : Read) → cond b (Err faults.Twice) (Ok x) ≡ Ok y → x ≡ y
 free true x y h = absurd cc
 free false x y h = inside _ x y refl h
 

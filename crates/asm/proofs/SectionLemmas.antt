@@ -2,7 +2,7 @@
 use Rattle.std.proofs.Common.{◌≡◌, ℕ, ◌<◌, Bool, true, false, cond, List, [], ◌∷◌, ◌++◌, Option, Some, length, get_or, take, drop, take-append-drop, nat_eq, refl, ap, sym, subst, ◌∙◌, arith}
 use Rattle.std.specs.Prelude.{not, ◌&&◌, ◌||◌}
 use Rattle.std.specs.Str.{bytes_eq}
-use Rattle.text.proofs.BytesLemmas.{and_first, and_second}
+use Rattle.std.proofs.lemmas.Bool.{and_parts}
 use Rattle.asm.specs.declared.mnemonic.Mnemonic.{Mnemonic}
 use Rattle.asm.specs.Table.{name_of, mnemonics, first_named, mnemonic_of}
 
@@ -32,13 +32,13 @@ passed b m found h = ap (λ t. cond t (Some m) found) h
 behind : (p rest : List ℕ) (before ms : List Mnemonic) → all_otherwise p before ≡ true → first_named (p ++ rest) (before ++ ms) ≡ first_named (p ++ rest) ms
 behind p rest [] ms h = refl
 behind p rest (m ∷ more) ms h =
-    passed (bytes_eq (name_of m) (p ++ rest)) m _ (differs (name_of m) p rest (and_first (begins_otherwise p (name_of m)) _ h)) ∙ behind p rest more ms (and_second (begins_otherwise p (name_of m)) _ h)
+    passed (bytes_eq (name_of m) (p ++ rest)) m _ (differs (name_of m) p rest (and_parts (begins_otherwise p (name_of m)) _ h).0) ∙ behind p rest more ms (and_parts (begins_otherwise p (name_of m)) _ h).1
 
 -- and none of those after is found
 within : (p rest : List ℕ) (ms after : List Mnemonic) → all_otherwise p after ≡ true → first_named (p ++ rest) (ms ++ after) ≡ first_named (p ++ rest) ms
 within p rest [] [] h = refl
 within p rest [] (m ∷ more) h =
-    passed (bytes_eq (name_of m) (p ++ rest)) m _ (differs (name_of m) p rest (and_first (begins_otherwise p (name_of m)) _ h)) ∙ within p rest [] more (and_second (begins_otherwise p (name_of m)) _ h)
+    passed (bytes_eq (name_of m) (p ++ rest)) m _ (differs (name_of m) p rest (and_parts (begins_otherwise p (name_of m)) _ h).0) ∙ within p rest [] more (and_parts (begins_otherwise p (name_of m)) _ h).1
 within p rest (m ∷ ms) after h = ap (cond (bytes_eq (name_of m) (p ++ rest)) (Some m)) (within p rest ms after h)
 
 -- the part from i, of n mnemonics

@@ -1,22 +1,19 @@
 -- What is read of a register's or a mnemonic's text.
-use Rattle.std.proofs.Common.{◌≡◌, ℕ, ◌+◌, ◌-◌, ◌≤◌, Bool, true, false, cond, List, [], ◌∷◌, Option, Some, None, refl, ap, sym, subst, ◌∙◌, arith}
+use Rattle.std.proofs.Common.{◌≡◌, ℕ, ◌+◌, ◌-◌, ◌≤◌, Bool, true, false, cond, List, [], ◌∷◌, Option, Some, refl, ap, sym, subst, ◌∙◌, arith}
 use Rattle.std.specs.Prelude.{decimal, ◌==◌, ◌&&◌}
 use Rattle.std.specs.List.{AllByRecursion}
 use Rattle.std.specs.Str.{bytes_eq}
 use Rattle.std.proofs.lemmas.Bool.Decides.{nat_tests}
 use Rattle.std.proofs.lemmas.Fmt.{decimal_digit}
 use Rattle.std.proofs.lemmas.Slice.Eq.{bytes_eq-Decides}
+use Rattle.std.proofs.lemmas.Bool.{and_parts}
+use Rattle.std.proofs.lemmas.Option.{cond_some}
 use Rattle.text.specs.Stop.{is_within}
-use Rattle.text.proofs.BytesLemmas.{and_first, and_second}
 use Rattle.asm.specs.declared.mnemonic.Mnemonic.{Mnemonic}
 use Rattle.asm.specs.Operand.{register_of}
 use Rattle.asm.specs.Table.{IsMnemonic, name_of, mnemonics, first_named, mnemonic_of}
 use Rattle.asm.specs.Printing.{register_text}
 use Rattle.asm.proofs.OperandLemmas.{ten_text}
-
-cond_some : {A : Type 0} (b : Bool) (x y : A) → cond b (Some x) None ≡ Some y → (b ≡ true) × (x ≡ y)
-cond_some true x y h = (refl, cc)
-cond_some false x y h = absurd cc
 
 is_byte : (c d : ℕ) → c == d ≡ true → c ≡ d
 is_byte c d h = grind (arith, nat_tests)
@@ -26,8 +23,8 @@ digit_from a h = (grind (arith, nat_tests), grind (arith, nat_tests))
 
 one_digit : (c a r : ℕ) → (c == 114 && is_within 48 57 a ≡ true) × (a - 48 ≡ r) → (r ≤ 10) × (c ∷ a ∷ [] ≡ register_text r)
 one_digit c a r h =
-    let letter : c ≡ 114 = is_byte c 114 (and_first (c == 114) _ h.0) in
-    let digit : (48 ≤ a) × (a ≤ 57) = digit_from a (and_second (c == 114) _ h.0) in
+    let letter : c ≡ 114 = is_byte c 114 (and_parts (c == 114) _ h.0).0 in
+    let digit : (48 ≤ a) × (a ≤ 57) = digit_from a (and_parts (c == 114) _ h.0).1 in
     let low : 48 ≤ a = digit.0 in
     let high : a ≤ 57 = digit.1 in
     let e : a - 48 ≡ r = h.1 in
@@ -37,9 +34,9 @@ one_digit c a r h =
 
 two_digits : (c a b r : ℕ) → (c == 114 && a == 49 && b == 48 ≡ true) × (10 ≡ r) → (r ≤ 10) × (c ∷ a ∷ b ∷ [] ≡ register_text r)
 two_digits c a b r h =
-    let letter : c ≡ 114 = is_byte c 114 (and_first (c == 114) _ (and_first (c == 114 && a == 49) _ h.0)) in
-    let one : a ≡ 49 = is_byte a 49 (and_second (c == 114) _ (and_first (c == 114 && a == 49) _ h.0)) in
-    let zero : b ≡ 48 = is_byte b 48 (and_second (c == 114 && a == 49) _ h.0) in
+    let letter : c ≡ 114 = is_byte c 114 (and_parts (c == 114) _ (and_parts (c == 114 && a == 49) _ h.0).0).0 in
+    let one : a ≡ 49 = is_byte a 49 (and_parts (c == 114) _ (and_parts (c == 114 && a == 49) _ h.0).0).1 in
+    let zero : b ≡ 48 = is_byte b 48 (and_parts (c == 114 && a == 49) _ h.0).1 in
     let e : 10 ≡ r = h.1 in
     let text : decimal r ≡ 49 ∷ 48 ∷ [] = ap decimal (sym e) ∙ ten_text in
     (omega arith, cc)

@@ -61,7 +61,7 @@ plain_operands (insns.Arithmetic width operation dst operand) is = (plain_regist
 plain_operands (insns.Negate width dst) is = (plain_register dst is, tt)
 plain_operands (insns.SignExtend width part dst src) is = (plain_register dst is.1, (plain_register src is.2, tt))
 plain_operands (insns.Swap order size dst) is = (plain_register dst is, tt)
-plain_operands (insns.LoadNumber dst number) is = (plain_register dst is.0, (record { bytes = plain_decimal number is.1; some = decimal_nonempty number is.1 }, tt))
+plain_operands (insns.LoadImmediate dst number) is = (plain_register dst is.0, (record { bytes = plain_decimal number is.1; some = decimal_nonempty number is.1 }, tt))
 plain_operands (insns.Jump distance) is = (plain_signed distance (small_16 distance is), tt)
 plain_operands (insns.LongJump distance) is = (plain_signed distance (small_32 distance is), tt)
 plain_operands (insns.Branch width condition dst operand distance) is = (plain_register dst is.0, (plain_operand operand is.1, (plain_signed distance (small_16 distance is.2), tt)))

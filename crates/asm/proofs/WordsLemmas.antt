@@ -1,22 +1,19 @@
 -- A printed word with its operands is read again.
-use Rattle.std.proofs.Common.{◌≡◌, ℕ, ◌<◌, true, false, List, [], ◌∷◌, ◌++◌, Some, length, drop, refl, sym, ap, ◌∙◌, arith, append_assoc}
+use Rattle.std.proofs.Common.{◌≡◌, ℕ, ◌<◌, true, false, List, [], ◌∷◌, ◌++◌, Some, length, drop, refl, sym, ap, ◌∙◌, arith, append_assoc, append-nil}
 use Rattle.std.specs.Prelude.{not, ◌==◌, ◌&&◌, nat_lt}
 use Rattle.std.specs.List.{list_all}
 use Rattle.std.proofs.lemmas.Bool.Decides.{nat_tests}
+use Rattle.std.proofs.lemmas.Bool.{and_from, and_parts}
 use Rattle.text.specs.declared.stop.Stop.{Stop}
 use Rattle.text.specs.declared.stop.Stop.TheVariants.{Blank, Solid}
 use Rattle.text.specs.Options.{◌>>=◌}
 use Rattle.text.specs.Stop.{is_stop, comma}
 use Rattle.text.specs.Parts.{until, before, from, pieces}
-use Rattle.text.proofs.BytesLemmas.{all-weaker, and_both, and_first, and_second}
+use Rattle.text.proofs.BytesLemmas.{all-weaker}
 use Rattle.text.proofs.CutLemmas.{Lacks, before-all, from-all, before-append, from-append, pieces-all, pieces-append}
 use Rattle.asm.specs.Line.{is_token, is_word, is_all_blank, one_word, token_of, tokens_on, line_words}
 use Rattle.asm.specs.Printing.{more_text, operands_text}
 use Rattle.asm.proofs.TokenLemmas.{is_plain, IsPlain, ArePlain}
-
-pub append-nil : {A : Type 0} (xs : List A) → xs ++ [] ≡ xs
-append-nil [] = refl
-append-nil (x ∷ xs) = ap (λ l. x ∷ l) (append-nil xs)
 
 plain_comma : (c : ℕ) → is_plain c ≡ true → not (is_stop comma c) ≡ true
 plain_comma c h = grind (arith, nat_tests)
@@ -36,7 +33,7 @@ until_first stop c cs h = rw h refl
 
 pub until_solid : (xs ys : List ℕ) → 0 < length xs → list_all is_plain xs ≡ true → until Solid (xs ++ ys) ≡ 0
 until_solid [] ys some h = absurd (omega (arith, some))
-until_solid (x ∷ xs) ys some h = until_first Solid x (xs ++ ys) (plain_solid x (and_first (is_plain x) _ h))
+until_solid (x ∷ xs) ys some h = until_first Solid x (xs ++ ys) (plain_solid x (and_parts (is_plain x) _ h).0)
 
 pub some_append : (xs ys : List ℕ) → 0 < length xs → 0 < length (xs ++ ys)
 some_append [] ys some = absurd (omega (arith, some))
@@ -51,7 +48,7 @@ not_blank xs e some = rw e (not_empty xs some)
 -- tokens
 is_token-plain : (xs : List ℕ) → list_all is_plain xs ≡ true → is_token xs ≡ true
 is_token-plain [] h = refl
-is_token-plain (x ∷ xs) h = and_both (nat_lt x 128 && not (x == 13)) (is_token xs) (plain_token x (and_first (is_plain x) _ h)) (is_token-plain xs (and_second (is_plain x) _ h))
+is_token-plain (x ∷ xs) h = and_from (nat_lt x 128 && not (x == 13)) (is_token xs) (plain_token x (and_parts (is_plain x) _ h).0) (is_token-plain xs (and_parts (is_plain x) _ h).1)
 
 lacks_blank : (xs : List ℕ) → list_all is_plain xs ≡ true → Lacks Blank xs
 lacks_blank xs h = all-weaker is_plain (λ c. not (is_stop Blank c)) plain_blank xs h

@@ -1,12 +1,11 @@
 -- What the assembler keeps.
-use Rattle.std.specs.Prelude.{ℕ, ◌≡◌, ◌+◌, ◌≤◌, List, [], ◌∷◌, map, length, Option, Some, None, Result, Ok, Err}
+use Rattle.std.specs.Prelude.{ℕ, ◌≡◌, ◌≤◌, List, [], ◌∷◌, map, length, Option, Some, None, Result, Ok, Err}
 use Rattle.std.proofs.Common.{Bor}
 use Rattle.std.specs.Cmp.Lexicographic.{slice_cmp}
 use Rattle.std.specs.Ordering.{nat_cmp}
 use Rattle.std.specs.List.{sum_by, AllByRecursion}
 use Rattle.std.specs.BTreeMap.{BTreeMap, get_by}
-use Rattle.text.specs.declared.stop.Stop.{Stop}
-use Rattle.text.specs.Parts.{pieces}
+use Rattle.insn.specs.Program.{most_units}
 use Rattle.asm.specs.declared.fault.LineError.{LineError}
 use Rattle.asm.specs.declared.fault.LineError.TheVariants.{Memory}
 use Rattle.asm.specs.declared.fault.AsmError.{AsmError}
@@ -26,8 +25,8 @@ Finds map names = (name : List ℕ) → get_by (λ k. slice_cmp nat_cmp name k.n
 -- the code's reading is this one; its statements are kept while a program has room for their units, and never more than 4,096
 pub record Keeps (kept : Reading) (r : Read) : Type 0 where
   pub units : kept.units ≡ units_in r
-  pub sources : kept.units ≤ 4096 → map kept_view kept.sources.items ≡ r.sources
-  pub few : length kept.sources.items ≤ 4096
+  pub sources : kept.units ≤ most_units → map kept_view kept.sources.items ≡ r.sources
+  pub few : length kept.sources.items ≤ most_units
   pub names : Finds kept.names r.names
 
 -- how many units the kept statements take
@@ -46,15 +45,6 @@ GivesRead (Err e) kept read = Fails e read
 -- 32 bits are extended at 64 alone
 abbrev pub AreWellKept : List Kept → Type 0
 AreWellKept sources = AllByRecursion (λ k. IsWellSource (kept_view k).source) sources
-
--- the pieces that are left
-abbrev pub left : Stop → Option (Bor (List ℕ)) → List (List ℕ)
-left stop None = []
-left stop (Some rest) = pieces stop rest.now
-
-abbrev pub left_len : Option (Bor (List ℕ)) → ℕ
-left_len None = 0
-left_len (Some rest) = length rest.now + 1
 
 -- a text as its first line and the text behind it, if it has lines
 abbrev pub GivesLines : Option (Bor (List ℕ) × Bor (List ℕ)) → List (List ℕ) → Type 0

@@ -2,6 +2,7 @@
 use Rattle.std.specs.Prelude.{ℕ, ℤ, pos, ◌≡◌, ◌+◌, ◌<◌, ◌≤◌, ◌⊎◌, max, List, [], ◌∷◌, ◌++◌, Some, Ok, Err, length, slice_get}
 use Rattle.std.specs.List.{sum_by}
 use Rattle.insn.specs.declared.insn.Insn.{Insn}
+use Rattle.insn.specs.Program.{most_units}
 use Rattle.asm.specs.declared.fault.Fault.{Fault}
 use Rattle.asm.specs.declared.fault.Fault.TheVariants.{Count}
 use Rattle.asm.specs.declared.fault.AsmError.TheVariants.{At}
@@ -43,14 +44,14 @@ pub record IsFirstLine (lines : List (List ℕ)) (fault : Fault) (number : ℕ) 
 pub record IsMiscounted (lines : List (List ℕ)) (fault : Fault) (number : ℕ) : Type 0 where
   pub read : Read
   pub faultless : read_on nothing 1 lines ≡ Ok read
-  pub units : (units_in read ≡ 0) ⊎ (4096 < units_in read)
+  pub units : (units_in read ≡ 0) ⊎ (most_units < units_in read)
   pub is : (fault ≡ Count) × (number ≡ max 1 (length lines))
 
 -- no line has a fault of its own, the units can be counted, and this line's jump leads nowhere, and none before it
 pub record IsFirstJump (lines : List (List ℕ)) (fault : Fault) (number : ℕ) : Type 0 where
   pub read : Read
   pub faultless : read_on nothing 1 lines ≡ Ok read
-  pub units : (0 < units_in read) × (units_in read ≤ 4096)
+  pub units : (0 < units_in read) × (units_in read ≤ most_units)
   pub front : List Placed
   pub jump : Placed
   pub back : List Placed

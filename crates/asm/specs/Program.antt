@@ -8,6 +8,7 @@ use Rattle.text.specs.Parts.{pieces}
 use Rattle.insn.specs.declared.insn.Insn.{Insn}
 use Rattle.insn.specs.declared.insn.Insn.TheVariants as insns
 use Rattle.insn.specs.Insn.{units_of}
+use Rattle.insn.specs.Program.{most_units}
 use Rattle.asm.specs.declared.fault.Fault.{Fault}
 use Rattle.asm.specs.declared.fault.Fault.TheVariants as faults
 use Rattle.asm.specs.declared.fault.AsmError.{AsmError}
@@ -106,7 +107,7 @@ nothing = record { names = []; sources = [] }
 
 -- 1 to 4,096 units (A7 at the number of lines, at least 1), then the instructions
 abbrev pub program_in : ℕ → Read → Result (List Insn) AsmError
-program_in lines r = if nat_lt 0 (units_in r) && nat_le (units_in r) 4096 then insns_on r.names 0 [] r.sources else Err (At faults.Count (max 1 lines))
+program_in lines r = if nat_lt 0 (units_in r) && nat_le (units_in r) most_units then insns_on r.names 0 [] r.sources else Err (At faults.Count (max 1 lines))
 
 -- what a text says: a program, or the first fault with its line
 unfoldable pub said : List ℕ → Result (List Insn) AsmError

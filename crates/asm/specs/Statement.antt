@@ -76,12 +76,12 @@ source_of (words.Swap order bytes) operands =
     ok_or (one_of operands) faults.Operand >>= λ a.
     ok_or (register_of a) faults.Operand >>= λ dst.
     Ok (Plain (insns.Swap order bytes dst))
-source_of words.LoadNumber operands =
+source_of words.LoadImmediate operands =
     ok_or (two_of operands) faults.Operand >>= λ o.
     ok_or (register_of o.0) faults.Operand >>= λ dst.
     ok_or (number_of o.1) faults.Operand >>= λ n.
     ok_or (bits_within n) faults.Range >>= λ number.
-    Ok (Plain (insns.LoadNumber dst number))
+    Ok (Plain (insns.LoadImmediate dst number))
 source_of words.Jump operands =
     ok_or (one_of operands) faults.Operand >>= λ a.
     ok_or (goal_of a) faults.Operand >>= λ goal.

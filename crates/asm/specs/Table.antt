@@ -33,14 +33,14 @@ operation_name op.Mod = codes "mod"
 operation_name op.SignedMod = codes "smod"
 operation_name op.Xor = codes "xor"
 operation_name op.Move = codes "mov"
-operation_name op.ShiftSigned = codes "arsh"
+operation_name op.ArithmeticShiftRight = codes "arsh"
 
 abbrev pub condition_name : Condition → List ℕ
 condition_name c.Equal = codes "jeq"
 condition_name c.Above = codes "jgt"
 condition_name c.AtLeast = codes "jge"
 condition_name c.AnyBit = codes "jset"
-condition_name c.Different = codes "jne"
+condition_name c.NotEqual = codes "jne"
 condition_name c.SignedAbove = codes "jsgt"
 condition_name c.SignedAtLeast = codes "jsge"
 condition_name c.Below = codes "jlt"
@@ -85,7 +85,7 @@ name_of (words.Arithmetic width operation) = operation_name operation ++ width_n
 name_of (words.Negate width) = codes "neg" ++ width_name width
 name_of (words.SignExtend width part) = codes "movsx" ++ part_bits part ++ width_name width
 name_of (words.Swap order bytes) = order_name order ++ swap_bits bytes
-name_of words.LoadNumber = codes "lddw"
+name_of words.LoadImmediate = codes "lddw"
 name_of words.Jump = codes "ja"
 name_of words.LongJump = codes "ja.w"
 name_of (words.Branch width condition) = condition_name condition ++ width_name width
@@ -105,7 +105,7 @@ IsMnemonic _ = Unit {0}
 unfoldable pub mnemonics : List Mnemonic
 mnemonics =
     words.Arithmetic W64 op.Add ∷ words.Arithmetic W32 op.Add ∷ words.Arithmetic W64 op.And ∷ words.Arithmetic W32 op.And ∷
-    words.Arithmetic W64 op.ShiftSigned ∷ words.Arithmetic W32 op.ShiftSigned ∷
+    words.Arithmetic W64 op.ArithmeticShiftRight ∷ words.Arithmetic W32 op.ArithmeticShiftRight ∷
     words.Swap Big swap.Half ∷ words.Swap Big swap.Word ∷ words.Swap Big swap.Double ∷
     words.Call ∷
     words.Arithmetic W64 op.Div ∷ words.Arithmetic W32 op.Div ∷
@@ -113,14 +113,14 @@ mnemonics =
     words.Jump ∷ words.LongJump ∷
     words.Branch W64 c.Equal ∷ words.Branch W32 c.Equal ∷ words.Branch W64 c.Above ∷ words.Branch W32 c.Above ∷
     words.Branch W64 c.AtLeast ∷ words.Branch W32 c.AtLeast ∷ words.Branch W64 c.AnyBit ∷ words.Branch W32 c.AnyBit ∷
-    words.Branch W64 c.Different ∷ words.Branch W32 c.Different ∷ words.Branch W64 c.SignedAbove ∷ words.Branch W32 c.SignedAbove ∷
+    words.Branch W64 c.NotEqual ∷ words.Branch W32 c.NotEqual ∷ words.Branch W64 c.SignedAbove ∷ words.Branch W32 c.SignedAbove ∷
     words.Branch W64 c.SignedAtLeast ∷ words.Branch W32 c.SignedAtLeast ∷ words.Branch W64 c.Below ∷ words.Branch W32 c.Below ∷
     words.Branch W64 c.AtMost ∷ words.Branch W32 c.AtMost ∷ words.Branch W64 c.SignedBelow ∷ words.Branch W32 c.SignedBelow ∷
     words.Branch W64 c.SignedAtMost ∷ words.Branch W32 c.SignedAtMost ∷
     words.Swap Little swap.Half ∷ words.Swap Little swap.Word ∷ words.Swap Little swap.Double ∷
     words.Arithmetic W64 op.ShiftLeft ∷ words.Arithmetic W32 op.ShiftLeft ∷
     words.Load size.Byte ∷ words.Load size.Half ∷ words.Load size.Word ∷ words.Load size.Double ∷
-    words.LoadSigned narrow.Byte ∷ words.LoadSigned narrow.Half ∷ words.LoadSigned narrow.Word ∷ words.LoadNumber ∷
+    words.LoadSigned narrow.Byte ∷ words.LoadSigned narrow.Half ∷ words.LoadSigned narrow.Word ∷ words.LoadImmediate ∷
     words.Arithmetic W64 op.Move ∷ words.Arithmetic W32 op.Move ∷ words.Arithmetic W64 op.Mul ∷ words.Arithmetic W32 op.Mul ∷
     words.Arithmetic W64 op.Mod ∷ words.Arithmetic W32 op.Mod ∷
     words.SignExtend W64 narrow.Byte ∷ words.SignExtend W32 narrow.Byte ∷ words.SignExtend W64 narrow.Half ∷ words.SignExtend W32 narrow.Half ∷

@@ -87,7 +87,7 @@ fn mnemonic_for(insn: &Insn) -> Mnemonic
         Insn::Negate { width, .. } => Mnemonic::Negate(*width),
         Insn::SignExtend { width, part, .. } => Mnemonic::SignExtend(*width, *part),
         Insn::Swap { order, size, .. } => Mnemonic::Swap(*order, *size),
-        Insn::LoadNumber { .. } => Mnemonic::LoadNumber,
+        Insn::LoadImmediate { .. } => Mnemonic::LoadImmediate,
         Insn::Jump { .. } => Mnemonic::Jump,
         Insn::LongJump { .. } => Mnemonic::LongJump,
         Insn::Branch {
@@ -197,7 +197,7 @@ fn put_operands(out: &mut String, insn: &Insn) -> Result<(), AllocError>
         Insn::Negate { dst, .. } => put_target(out, *dst),
         Insn::SignExtend { dst, src, .. } => put_pair(out, *dst, Operand::Register(*src)),
         Insn::Swap { dst, .. } => put_target(out, *dst),
-        Insn::LoadNumber { dst, number } => put_wide(out, *dst, *number),
+        Insn::LoadImmediate { dst, number } => put_wide(out, *dst, *number),
         Insn::Jump { distance } => put_distance(out, *distance as i64),
         Insn::LongJump { distance } => put_distance(out, *distance as i64),
         Insn::Branch {

@@ -129,14 +129,14 @@ fn swap<'a>(order: ByteOrder, size: SwapSize, operands: &[&'a [u8]]) -> Result<S
 }
 
 /// `rD, number`
-fn load_number<'a>(operands: &[&'a [u8]]) -> Result<Statement<'a>, Fault>
-    ensures { GivesResult source_view result (source_of words.LoadNumber (map (λ r. r.now) operands.now)) }
+fn load_immediate<'a>(operands: &[&'a [u8]]) -> Result<Statement<'a>, Fault>
+    ensures { GivesResult source_view result (source_of words.LoadImmediate (map (λ r. r.now) operands.now)) }
 {
     let (a, b) = two_operands(operands).ok_or(Fault::Operand)?;
     let dst = register(a).ok_or(Fault::Operand)?;
     let n = read_number(b).ok_or(Fault::Operand)?;
     let number = fit64(n).ok_or(Fault::Range)?;
-    Ok(plain(Insn::LoadNumber { dst, number }))
+    Ok(plain(Insn::LoadImmediate { dst, number }))
 }
 
 /// A target.
@@ -278,7 +278,7 @@ fn read_source<'a>(mnemonic: Mnemonic, operands: &[&'a [u8]]) -> Result<Statemen
         Mnemonic::Negate(width) => negate(width, operands),
         Mnemonic::SignExtend(width, part) => sign_extend(width, part, operands),
         Mnemonic::Swap(order, size) => swap(order, size, operands),
-        Mnemonic::LoadNumber => load_number(operands),
+        Mnemonic::LoadImmediate => load_immediate(operands),
         Mnemonic::Jump => jump(operands),
         Mnemonic::LongJump => long_jump(operands),
         Mnemonic::Branch(width, condition) => branch(width, condition, operands),

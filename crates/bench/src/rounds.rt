@@ -1,13 +1,12 @@
 //! Times the contexts of a round, and the delivery of its letters.
-ghost use Rattle.std.specs.Prelude.{◌≡◌, ◌≤◌, suc, List, IsTrue, IfOk, length};
+ghost use Rattle.std.specs.Prelude.{◌≡◌, ◌≤◌, suc, List, IfOk, length};
 ghost use Rattle.round.specs.Letters.{Letter as LetterSeen};
-ghost use Rattle.round.specs.Scenario.{shape_of};
 ghost use Rattle.round.specs.Told.{AreLettersOf, AreRoundsOf, WasTold};
 
 use crate::campaigns::scenario_of;
 use crate::median::median;
 use anyhow::{Result, bail};
-use round::{Letter, Round, Scenario, Told};
+use round::{Letter, Round, Scenario, Told, are_letters_of, are_rounds_of};
 use std::alloc::{AllocError, Global};
 use std::rt::Clock;
 use std::time::Instant;
@@ -37,44 +36,6 @@ pub fn report_rounds<R: Print + Eprint + Clock + AllocGlobal>(rt: &R) -> Result<
     let mut told = told_by(alloc, scenario, before)?;
     report_context(rt, scenario, &told)?;
     report_delivery(rt, scenario, &mut told, last.letters())
-}
-
-/// Whether the letter is of this round of the campaign.
-fn is_of_round(scenario: &Scenario, round: u32, letter: &Letter) -> bool
-    ensures { IsTrue result → ((letter.now.round ≡ round) × (letter.now.outbox.relay.shape ≡ shape_of scenario.now letter.now.general round)) }
-{
-    let shape = letter.outbox.shape();
-    letter.round == round
-        && shape.generals == u32::from(scenario.generals())
-        && shape.commander == u32::from(scenario.commander())
-        && shape.general == letter.general
-        && shape.round == round
-}
-
-/// Whether the letters are of this round of the campaign.
-fn are_of_round(scenario: &Scenario, round: u32, letters: &[Letter]) -> bool
-    ensures { IsTrue result → AreLettersOf scenario.now round letters.now }
-{
-    for letter in letters {
-        if !is_of_round(scenario, round, letter) {
-            return false;
-        }
-    }
-    true
-}
-
-/// Whether the letters of each round are of that round of the campaign.
-fn are_rounds_of(scenario: &Scenario, rounds: &[Round]) -> bool
-    ensures { IsTrue result → AreRoundsOf scenario.now rounds.now }
-{
-    let mut number = 0;
-    for round in rounds {
-        if number == u32::MAX || !are_of_round(scenario, number + 1, round.letters()) {
-            return false;
-        }
-        number += 1;
-    }
-    true
 }
 
 /// What the letters of these rounds have told.
@@ -156,7 +117,7 @@ fn delivery_time<C: Clock>(
     requires left { told.old.rounds ≤ scenario.now.bound }
 {
     let _few = scenario.bound();
-    if !are_of_round(scenario, u32::from(told.rounds()) + 1, letters) {
+    if !are_letters_of(scenario, u32::from(told.rounds()) + 1, letters) {
         bail!("letters of another round");
     }
     let mut times = Vec::with_capacity(alloc, TIMES)?;

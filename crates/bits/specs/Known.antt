@@ -6,7 +6,7 @@ use Rattle.std.specs.Int.{w64, bit_at, bit_not}
 use Rattle.word.specs.Arithmetic.{bits_of, taken}
 use Rattle.word.specs.declared.Width.{Width}
 use Rattle.word.specs.declared.Operation.{Operation}
-use Rattle.word.specs.declared.Operation.TheVariants.{Add, Sub, Mul, Div, SignedDiv, Or, And, ShiftLeft, ShiftRight, Mod, SignedMod, Xor, Move, ShiftSigned}
+use Rattle.word.specs.declared.Operation.TheVariants.{Add, Sub, Mul, Div, SignedDiv, Or, And, ShiftLeft, ShiftRight, Mod, SignedMod, Xor, Move, ArithmeticShiftRight}
 
 -- a word whose bits outside the mask are those of the value
 pub record HasBits (b : ℕ × ℕ) (x : ℕ) : Type 0 where
@@ -65,7 +65,7 @@ row w ShiftLeft a b = unknown w
 row w ShiftRight a b = unknown w
 row w Mod a b = unknown w
 row w SignedMod a b = unknown w
-row w ShiftSigned a b = unknown w
+row w ArithmeticShiftRight a b = unknown w
 
 -- the known bits of an operation's results
 abbrev pub table : Width → Operation → ℕ × ℕ → ℕ × ℕ → ℕ × ℕ

@@ -1,8 +1,8 @@
 //! The table of operations.
 
-ghost use Rattle.std.specs.Prelude.{◌≡◌, ◌<◌, ◌^◌, ℕ, bit_and, bit_or, bit_xor};
+ghost use Rattle.std.specs.Prelude.{◌≡◌, ◌<◌, ◌^◌, ℕ};
 ghost use Rattle.word.specs.Arithmetic.{taken, bits_of, arithmetic};
-ghost use Rattle.bits.specs.Known.{HasBits, used, common, either, differing, table};
+ghost use Rattle.bits.specs.Known.{HasBits, used, common, either, differing, row, table};
 
 use crate::bits::Bits;
 use word::{Operation, Width};
@@ -14,8 +14,16 @@ pub fn operate(width: Width, operation: Operation, a: Bits, b: Bits) -> Bits
     ensures holds { (x y : ℕ) → HasBits a x → HasBits b y
         → arithmetic width operation x y < 2 ^ bits_of width → HasBits result (arithmetic width operation x y) }
 {
+    let _unknown = (a.mask, b.mask);
     let a = used(width, a);
     let b = used(width, b);
+    by_row(width, operation, a, b)
+}
+
+/// The operation's row of the table.
+fn by_row(width: Width, operation: Operation, a: Bits, b: Bits) -> Bits
+    ensures exact { result ≡ row width operation a b }
+{
     match operation {
         Operation::And => and(a, b),
         Operation::Or => or(a, b),
@@ -30,7 +38,7 @@ pub fn operate(width: Width, operation: Operation, a: Bits, b: Bits) -> Bits
         Operation::ShiftRight => Bits::unknown(width),
         Operation::Mod => Bits::unknown(width),
         Operation::SignedMod => Bits::unknown(width),
-        Operation::ShiftSigned => Bits::unknown(width),
+        Operation::ArithmeticShiftRight => Bits::unknown(width),
     }
 }
 
@@ -59,7 +67,6 @@ fn low_word(a: Bits) -> Bits
 /// The bits that both words have.
 fn and(a: Bits, b: Bits) -> Bits
     ensures exact { result ≡ common a b }
-    ensures holds { (x y : ℕ) → HasBits a x → HasBits b y → HasBits result (bit_and x y) }
 {
     let value = a.value & b.value;
     let possible = (a.value | a.mask) & (b.value | b.mask);
@@ -72,7 +79,6 @@ fn and(a: Bits, b: Bits) -> Bits
 /// The bits that one word has or the other.
 fn or(a: Bits, b: Bits) -> Bits
     ensures exact { result ≡ either a b }
-    ensures holds { (x y : ℕ) → HasBits a x → HasBits b y → HasBits result (bit_or x y) }
 {
     let value = a.value | b.value;
     Bits {
@@ -84,7 +90,6 @@ fn or(a: Bits, b: Bits) -> Bits
 /// The bits that one word has and the other has not.
 fn xor(a: Bits, b: Bits) -> Bits
     ensures exact { result ≡ differing a b }
-    ensures holds { (x y : ℕ) → HasBits a x → HasBits b y → HasBits result (bit_xor x y) }
 {
     let mask = a.mask | b.mask;
     Bits {

@@ -1,5 +1,5 @@
 -- What the conditions of a table mean.
-use Rattle.std.proofs.Common.{ℕ, zero, suc, ◌*◌, ◌<◌, ◌≤◌, ◌≡◌, Bool, true, false, List, [], ◌∷◌, map, length, refl, sym, ap, ◌∙◌, arith, inl, inr, Option, Some, None}
+use Rattle.std.proofs.Common.{ℕ, zero, suc, ◌*◌, ◌≤◌, ◌≡◌, Bool, true, false, List, [], ◌∷◌, map, refl, sym, ap, ◌∙◌, arith, inl, inr, Option, Some, None}
 use Rattle.std.specs.Prelude.{◌==◌, ◌↔◌, nat_lt, nat_le, if◌then◌else◌}
 use Rattle.std.specs.List.{list_all}
 use Rattle.std.proofs.lemmas.Bool.{cases_Bool, and_parts, and_from, or_left, or_cases, or_parts, or_from, eq-eqb, eqb-true, eqb-false, ne_eqb, lt-ltb, ltb-true, le-leb, leb-true, true≢false}
@@ -8,8 +8,7 @@ use Rattle.label.specs.Labels.{on, others}
 use Rattle.label.specs.Lieutenants.{lieutenants}
 use Rattle.label.specs.Oral.{IsBound, Agree}
 use Rattle.label.proofs.Counting.{others-on}
-use Rattle.label.proofs.Counts.{on-get}
-use Rattle.label.proofs.Ranks.{others-at}
+use Rattle.label.proofs.Counts.{among}
 use Rattle.book.specs.declared.conditions.Obedience.{Obedience}
 use Rattle.book.specs.declared.conditions.Obedience.TheVariants.{Traitor, Obeyed, Disobeyed}
 use Rattle.book.specs.Conditions.{are_alike, is_told, same_order, obedience_to, obedience_in, judged, loyal, loyal_decisions, sent, named_in}
@@ -91,10 +90,6 @@ same_from G v (x ∷ xs) some there h =
     let first : G x ≡ Some v = h x (head_on x xs) in
     let rest : list_all (is_told v) (map G xs) ≡ true = all_told_from G v xs (λ p i. h p (on_behind x p xs i)) in
     rw (first, rest) refl
-
--- who stands among the others
-pub among : (n : ℕ) (w : List ℕ) (p : ℕ) → p < n → on w p ≡ false → on (others n w) p ≡ true
-among n w p l off = on-get (others n w) (length (others p w)) p (others-at n w p l off)
 
 loyal_among : (t : MessageTable) (traitors : List ℕ) (p : ℕ) → IsLoyal t traitors p → on (loyal t traitors) p ≡ true
 loyal_among t traitors p h =

@@ -9,7 +9,7 @@ use Rattle.combine.specs.Rule.{is_most, majority}
 use Rattle.label.specs.Oral.{om}
 use Rattle.book.specs.Decisions.{decision_of}
 use Rattle.book.specs.Explained.{decided, list_of}
-use Rattle.book.specs.Lists.{ListsMean}
+use Rattle.book.specs.Theorem.{ListsMean}
 use Rattle.book.specs.Table.{MessageTable}
 
 -- the first that passes passes

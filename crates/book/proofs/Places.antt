@@ -3,14 +3,13 @@ use Rattle.std.proofs.Common.{ℕ, zero, suc, ◌+◌, ◌-◌, ◌<◌, ◌≤�
 use Rattle.std.specs.Prelude.{◌==◌, nat_lt, nat_le, bytes_eq}
 use Rattle.std.specs.List.{flat_map, range_with_len, list_all, list_any, AllByRecursion}
 use Rattle.std.proofs.lemmas.Bool.{cases_Bool, and_parts, and_from, not-true, or_left, or_right, or_cases, eq-eqb, eqb-true, lt-ltb, ltb-true, le-leb, leb-true, true≢false}
-use Rattle.std.proofs.lemmas.List.{get_or_append_left}
-use Rattle.std.proofs.Math.Seq.{get_or-append_seam}
+use Rattle.std.proofs.lemmas.List.{get_or_append_left, get_or_push}
 use Rattle.std.proofs.lemmas.List.Folds.{list_any-append}
 use Rattle.std.proofs.lemmas.Slice.Eq.{bytes_eq-Decides}
 use Rattle.label.specs.Labels.{on, others, is_distinct}
 use Rattle.label.proofs.Counting.{distinct-push, others-on, range-distinct, range-on, range-on_within, others-distinct}
+use Rattle.label.proofs.Counts.{among}
 use Rattle.label.specs.Space.{begins_with}
-use Rattle.book.proofs.ConditionLemmas.{among}
 use Rattle.book.proofs.LabelLemmas.{twice}
 use Rattle.label.proofs.Places.{all-append}
 
@@ -77,15 +76,12 @@ kept_length n (suc k) w =
     (λ j on. weaker (λ z. length z.0 ≡ length (w ++ j ∷ []) + k) (λ z. length z.0 ≡ length w + suc k) (places_from n k (w ++ j ∷ []))
     (λ z e. omega (arith, length-append w (j ∷ []))) (kept_length n k (w ++ j ∷ [])))
 
-last_of : (w : List ℕ) (j : ℕ) → get_or (w ++ j ∷ []) (length w) 0 ≡ j
-last_of w j = get_or-append_seam w j [] 0
-
 differ_from : (n k : ℕ) (w : List ℕ) → AllDiffer (places_from n k w)
 differ_from n zero w = differ_flat (λ p. (w, p) ∷ []) (λ z. z.1) (others n w) (others-distinct n w) (λ p. (refl, tt)) (λ p. (tt, tt))
 differ_from n (suc k) w =
     differ_flat (λ j. places_from n k (w ++ j ∷ [])) (λ z. get_or z.0 (length w) 0) (others n w) (others-distinct n w)
     (λ j. weaker (λ z. get_or z.0 (length w) 0 ≡ get_or (w ++ j ∷ []) (length w) 0) (λ z. get_or z.0 (length w) 0 ≡ j) (places_from n k (w ++ j ∷ []))
-    (λ z e. e ∙ last_of w j) (kept_front n k (w ++ j ∷ []) (length w) (omega (arith, length-append w (j ∷ [])))))
+    (λ z e. e ∙ get_or_push w j 0 (length w) refl) (kept_front n k (w ++ j ∷ []) (length w) (omega (arith, length-append w (j ∷ [])))))
     (λ j. differ_from n k (w ++ j ∷ []))
 
 -- no place of a form stands twice

@@ -10,4 +10,3 @@ pub mod Explained
 pub mod Forms
 pub mod Consistency
 pub mod Telling
-pub mod Lists

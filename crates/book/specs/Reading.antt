@@ -1,6 +1,5 @@
 -- Words of the reader alone.
-use Rattle.std.specs.Prelude.{ℕ, ◌+◌, ◌==◌, ◌&&◌, not, nat_lt, nat_le, if◌then◌else◌, List, [], ◌∷◌, ◌++◌, length, Option, Some, None, Result, Ok, Err}
-use Rattle.std.proofs.Common.{Bor}
+use Rattle.std.specs.Prelude.{ℕ, ◌==◌, ◌&&◌, not, nat_lt, nat_le, if◌then◌else◌, List, [], ◌∷◌, ◌++◌, length, Option, Some, None, Result, Ok, Err}
 use Rattle.text.specs.Options.{◌>>=◌}
 use Rattle.text.specs.Stop.{space, dot}
 use Rattle.text.specs.Parts.{pieces}
@@ -10,21 +9,6 @@ use Rattle.book.specs.declared.fault.Fault.{Fault}
 use Rattle.book.specs.declared.fault.Fault.TheVariants.{Line, Place}
 use Rattle.book.specs.Table.{MessageTable}
 use Rattle.book.specs.Grammar.{numbers_of, tell_parts, order_in}
-
--- the pieces that are left
-abbrev pub left : Option (Bor (List ℕ)) → List (List ℕ)
-left None = []
-left (Some rest) = pieces dot rest.now
-
--- the words that are left
-abbrev pub words_left : Option (Bor (List ℕ)) → List (List ℕ)
-words_left None = []
-words_left (Some rest) = pieces space rest.now
-
--- how much is left of the text
-abbrev pub left_len : Option (Bor (List ℕ)) → ℕ
-left_len None = 0
-left_len (Some rest) = length rest.now + 1
 
 -- the label that goes on with these generals, if each is a general, new to it, and there are rounds for them
 unfoldable pub prolonged_label : ℕ → ℕ → List ℕ → List ℕ → Option (List ℕ)

@@ -1,9 +1,9 @@
 //! The parts of a message table's lines.
-ghost use Rattle.std.specs.Prelude.{◌≡◌, ◌≤◌, ◌<◌, ◌^◌, ◌↔◌, IsTrue, IfSome, option_map, is_some};
-ghost use Rattle.text.specs.Stop.{space};
-ghost use Rattle.text.specs.Parts.{pieces};
+ghost use Rattle.std.specs.Prelude.{◌≡◌, ◌≤◌, ◌<◌, ◌^◌, IfSome, option_map, is_some};
+ghost use Rattle.text.specs.Stop.{space, dot};
+ghost use Rattle.text.specs.Parts.{pieces, left};
 ghost use Rattle.book.specs.Grammar.{head_parts, head_of, rule_named, rule_parts, tell_parts, numbers_of, order_in};
-ghost use Rattle.book.specs.Reading.{left, shape_of, words_left};
+ghost use Rattle.book.specs.Reading.{shape_of};
 
 use combine::Rule;
 use text::{Stop, decimal, piece};
@@ -58,7 +58,7 @@ fn cut_head(line: &[u8]) -> Option<(&[u8], &[u8], &[u8], Rule)>
 /// The rule of ` rule NAME`, the majority where nothing is left of the line.
 #[tactic(auto, using(crate::proofs::PartLemmas::rule_too_long))]
 fn rule(rest: Option<&[u8]>) -> Option<Rule>
-    ensures { result ≡ rule_parts (words_left rest.entry) }
+    ensures { result ≡ rule_parts (left space rest.entry) }
 {
     let Some(rest) = rest else {
         return Some(Rule::Majority);
@@ -115,7 +115,7 @@ fn cut_tell(line: &[u8]) -> Option<(&[u8], &[u8], &[u8])>
 
 /// Whether what is left of a label are decimal numbers, joined by dots.
 pub fn are_numbers(rest: Option<&[u8]>) -> bool
-    ensures { result ≡ is_some (numbers_of (left rest.entry)) }
+    ensures { result ≡ is_some (numbers_of (left dot rest.entry)) }
 {
     let mut part = rest;
     while let Some(numbers) = part {

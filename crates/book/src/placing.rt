@@ -1,10 +1,12 @@
 //! The labels of messages, read from a line.
 ghost use Rattle.std.specs.Prelude.{◌≡◌, ◌≤◌, ◌<◌, ◌+◌, ◌&&◌, not, nat_le, nat_lt, length, Err, None};
 ghost use Rattle.std.specs.Bool.{OnTrue};
+ghost use Rattle.text.specs.Stop.{dot};
+ghost use Rattle.text.specs.Parts.{left};
 ghost use Rattle.label.specs.Labels.{on};
 ghost use Rattle.book.specs.Table.{AreNumbersWithin};
 ghost use Rattle.book.specs.Grammar.{numbers_of};
-ghost use Rattle.book.specs.Reading.{left, numbers_or, prolonged_label, label_read};
+ghost use Rattle.book.specs.Reading.{numbers_or, prolonged_label, label_read};
 
 use crate::fault::Fault;
 use crate::parts::{DOT, are_numbers};
@@ -39,7 +41,7 @@ pub fn label_in(table: &Table, part: &[u8]) -> Result<Label, Fault>
 #[tactic(auto, unfolding(crate::specs::Reading::prolonged_label))]
 fn prolonged(table: &Table, label: Label, rest: Option<&[u8]>) -> Result<Label, Fault>
     requires { length label ≤ table.now.bound + 1 }
-    ensures { result ≡ numbers_or (prolonged_label table.now.generals table.now.bound label) (numbers_of (left rest.entry)) }
+    ensures { result ≡ numbers_or (prolonged_label table.now.generals table.now.bound label) (numbers_of (left dot rest.entry)) }
 {
     let Some(rest) = rest else {
         return Ok(label);
@@ -57,7 +59,7 @@ fn prolonged(table: &Table, label: Label, rest: Option<&[u8]>) -> Result<Label, 
 
 /// The fault of a line whose label ends here: there is no such place, where what is left are numbers.
 fn no_label(rest: Option<&[u8]>) -> Fault
-    ensures { Err result ≡ numbers_or (λ ns. None) (numbers_of (left rest.entry)) }
+    ensures { Err result ≡ numbers_or (λ ns. None) (numbers_of (left dot rest.entry)) }
 {
     if are_numbers(rest) {
         Fault::Place

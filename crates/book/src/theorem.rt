@@ -2,8 +2,7 @@
 ghost use Rattle.book.specs.Consistency.{ConditionsMean};
 ghost use Rattle.book.specs.Forms.{FormsAreRead};
 ghost use Rattle.book.specs.Laws.{ToldTablesAreWhole};
-ghost use Rattle.book.specs.Lists.{ListsMean};
-ghost use Rattle.book.specs.Theorem.{AgreementHolds};
+ghost use Rattle.book.specs.Theorem.{AgreementHolds, ListsMean};
 
 /// Whatever the traitors say, loyal lieutenants decide alike, and on the order of a loyal commander (TOPLAS 1982, Theorem 1).
 pub fn agreement()

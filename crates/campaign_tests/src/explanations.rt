@@ -67,7 +67,17 @@ const EXPLAINED: &[(&str, &str)] = &[
     // V7: computed
     (
         "mul r1, 2\nmov r0, 0\nexit\n",
-        "\n0 mul r1, 2 ; r1 context 0\n0 mul r1, 2: r1 context 0: of a pointer only a copy is made, or the 64-bit sum or difference with a number",
+        "\n0 mul r1, 2 ; r1 context 0\n0 mul r1, 2: r1 context 0: of a pointer only a copy of 64 bits is made, or, in its own register, the 64-bit sum or difference with a number",
+    ),
+    // V7: a sum in another register than the pointer's
+    (
+        "mov r2, 16\nadd r2, r1\nldw r0, [r2+0]\nexit\n",
+        "\n0 mov r2, 16\n1 add r2, r1 ; r2 16 ; r1 context 0\n1 add r2, r1: r1 context 0: of a pointer only a copy of 64 bits is made, or, in its own register, the 64-bit sum or difference with a number",
+    ),
+    // V7: a copy of 32 bits
+    (
+        "mov.w r2, r1\nmov r0, 0\nexit\n",
+        "\n0 mov.w r2, r1 ; r1 context 0\n0 mov.w r2, r1: r1 context 0: of a pointer only a copy of 64 bits is made, or, in its own register, the 64-bit sum or difference with a number",
     ),
     // V7: no base
     (

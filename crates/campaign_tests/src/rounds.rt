@@ -1,53 +1,14 @@
 //! Contexts, loyal generals' letters and what letters tell.
-ghost use Rattle.std.specs.Prelude.{◌≡◌, ◌<◌, ◌≤◌, IsTrue, IfOk};
-ghost use Rattle.round.specs.Scenario.{shape_of};
-ghost use Rattle.round.specs.Told.{AreDue, AreLettersOf, AreRoundsOf};
+ghost use Rattle.std.specs.Prelude.{◌≡◌, ◌<◌, IsTrue};
+ghost use Rattle.round.specs.Told.{AreDue};
 
 use crate::scenarios::{FOUR, SWAYED, played, with_traitor};
 use label::Label;
-use round::{Letter, Round, Scenario, context_for, deliver, loyal_letter};
+use round::{Letter, Round, Scenario, are_rounds_of, context_for, deliver, loyal_letter};
 use std::alloc::Global;
 use std::process::Abort;
 use std::test::Fail;
 use tree::Tree;
-
-/// Whether the letter is of this round of the campaign.
-fn is_of_round(scenario: &Scenario, round: u32, letter: &Letter) -> bool
-    ensures { IsTrue result → ((letter.now.round ≡ round) × (letter.now.outbox.relay.shape ≡ shape_of scenario.now letter.now.general round)) }
-{
-    let shape = letter.outbox.shape();
-    letter.round == round
-        && shape.generals == u32::from(scenario.generals())
-        && shape.commander == u32::from(scenario.commander())
-        && shape.general == letter.general
-        && shape.round == round
-}
-
-/// Whether the letters are of this round of the campaign.
-fn are_of_round(scenario: &Scenario, round: u32, letters: &[Letter]) -> bool
-    ensures { IsTrue result → AreLettersOf scenario.now round letters.now }
-{
-    for letter in letters {
-        if !is_of_round(scenario, round, letter) {
-            return false;
-        }
-    }
-    true
-}
-
-/// Whether the letters of each round are of that round of the campaign.
-fn are_rounds_of(scenario: &Scenario, rounds: &[Round]) -> bool
-    ensures { IsTrue result → AreRoundsOf scenario.now rounds.now }
-{
-    let mut number = 0;
-    for round in rounds {
-        if number == u32::MAX || !are_of_round(scenario, number + 1, round.letters()) {
-            return false;
-        }
-        number += 1;
-    }
-    true
-}
 
 /// The context of a general behind these rounds.
 fn context(

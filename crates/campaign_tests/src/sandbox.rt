@@ -128,6 +128,14 @@ const NUMBER_AS_POINTER: &str = "; V7: a number is no address.
         exit
 ";
 
+const POINTER_ADDED: &str =
+    "; V7: of a number and a pointer, the sum would stand in the number's register.
+        mov r2, 16
+        add r2, r1
+        ldw r0, [r2+0]
+        exit
+";
+
 const POINTER_COMPARED: &str = "; V7: pointers are not compared.
         mov r0, 0
         jeq r1, 0, out
@@ -255,6 +263,7 @@ const REFUSED: &[(&str, &str)] = &[
     (FRAME_WRITE, "V6 unit 0"),
     (FAR_POINTER, "V7 unit 0"),
     (NUMBER_AS_POINTER, "V7 unit 1"),
+    (POINTER_ADDED, "V7 unit 1"),
     (POINTER_COMPARED, "V7 unit 1"),
     (LOW_HALF_TESTED, "V7 unit 5"),
     (SIGNED_HALF_TESTED, "V7 unit 5"),

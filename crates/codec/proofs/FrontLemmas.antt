@@ -30,7 +30,7 @@ length-spelling (i.Arithmetic w o dst (Register src)) = refl
 length-spelling (i.Negate w dst) = refl
 length-spelling (i.SignExtend w part dst src) = refl
 length-spelling (i.Swap order size dst) = refl
-length-spelling (i.LoadNumber dst number) = refl
+length-spelling (i.LoadImmediate dst number) = refl
 length-spelling (i.Jump distance) = refl
 length-spelling (i.LongJump distance) = refl
 length-spelling (i.Branch w c dst (Immediate n) distance) = refl
@@ -48,7 +48,7 @@ units_few (i.Arithmetic w o dst operand) = (omega arith, omega arith)
 units_few (i.Negate w dst) = (omega arith, omega arith)
 units_few (i.SignExtend w part dst src) = (omega arith, omega arith)
 units_few (i.Swap order size dst) = (omega arith, omega arith)
-units_few (i.LoadNumber dst number) = (omega arith, omega arith)
+units_few (i.LoadImmediate dst number) = (omega arith, omega arith)
 units_few (i.Jump distance) = (omega arith, omega arith)
 units_few (i.LongJump distance) = (omega arith, omega arith)
 units_few (i.Branch w c dst operand distance) = (omega arith, omega arith)
@@ -72,7 +72,7 @@ small_offset op.Mod = omega arith
 small_offset op.SignedMod = omega arith
 small_offset op.Xor = omega arith
 small_offset op.Move = omega arith
-small_offset op.ShiftSigned = omega arith
+small_offset op.ArithmeticShiftRight = omega arith
 
 small_part : (part : Narrow) → 8 * part_bytes part < 2 ^ 16
 small_part narrow.Byte = omega arith
@@ -100,7 +100,7 @@ spelling_fits (i.Arithmetic w o dst (Register src)) p = (unit _ p.0 p.1 (small_o
 spelling_fits (i.Negate w dst) p = (unit _ p (omega arith) (omega arith) (omega arith), tt)
 spelling_fits (i.SignExtend w part dst src) p = (unit _ p.1 p.2 (small_part part) (omega arith), tt)
 spelling_fits (i.Swap order size dst) p = (unit _ p (omega arith) (omega arith) (small_swap size), tt)
-spelling_fits (i.LoadNumber dst number) p =
+spelling_fits (i.LoadImmediate dst number) p =
     let low : number % 2 ^ 32 < 2 ^ 32 = omega arith in
     let high : number / 2 ^ 32 < 2 ^ 32 = omega (arith, p.1) in
     (unit _ p.0 (omega arith) (omega arith) low, (unit _ (omega arith) (omega arith) (omega arith) high, tt))

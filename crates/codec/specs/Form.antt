@@ -28,7 +28,7 @@ operation_of n =
     if n == 0x6 then Some op.ShiftLeft else
     if n == 0x7 then Some op.ShiftRight else
     if n == 0xa then Some op.Xor else
-    if n == 0xc then Some op.ShiftSigned else
+    if n == 0xc then Some op.ArithmeticShiftRight else
     None
 
 abbrev pub division_of : ℕ → Option Division
@@ -44,7 +44,7 @@ condition_of n =
     if n == 0x2 then Some c.Above else
     if n == 0x3 then Some c.AtLeast else
     if n == 0x4 then Some c.AnyBit else
-    if n == 0x5 then Some c.Different else
+    if n == 0x5 then Some c.NotEqual else
     if n == 0x6 then Some c.SignedAbove else
     if n == 0x7 then Some c.SignedAtLeast else
     if n == 0xa then Some c.Below else
@@ -56,7 +56,7 @@ condition_of n =
 -- class LD (section 5.4, and the packet instructions of section 5.5, which are left out)
 abbrev pub wide_form : ℕ → Form
 wide_form n =
-    if n == 0x18 then forms.LoadNumber else
+    if n == 0x18 then forms.LoadImmediate else
     if n == 0x20 || n == 0x28 || n == 0x30 || n == 0x40 || n == 0x48 || n == 0x50 then forms.LeftOut else
     forms.Unknown
 
@@ -175,7 +175,7 @@ IsOpcode (forms.DivideRegister width division) n = n ≡ operation_code (divided
 IsOpcode (forms.MoveRegister width) n = n ≡ 0xb8 + alu_class width
 IsOpcode (forms.Negate width) n = n ≡ 0x80 + alu_class width
 IsOpcode (forms.Swap order) n = n ≡ swap_code order
-IsOpcode forms.LoadNumber n = n ≡ 0x18
+IsOpcode forms.LoadImmediate n = n ≡ 0x18
 IsOpcode forms.Jump n = n ≡ 0x05
 IsOpcode forms.LongJump n = n ≡ 0x06
 IsOpcode (forms.BranchImmediate width condition) n = n ≡ condition_code condition + jump_class width

@@ -3,6 +3,7 @@ use Rattle.std.specs.Prelude.{ℕ, ◌≡◌, ◌≢◌, ◌≤◌, ◌<◌, ◌
 use Rattle.std.specs.List.{AllByRecursion}
 use Rattle.insn.specs.declared.insn.Insn.{Insn}
 use Rattle.insn.specs.Insn.{IsInsn}
+use Rattle.insn.specs.Program.{most_units}
 use Rattle.codec.specs.declared.fault.Fault.{Fault}
 use Rattle.codec.specs.declared.fault.Fault.TheVariants as faults
 use Rattle.codec.specs.declared.fault.CodecError.{CodecError}
@@ -15,7 +16,7 @@ pub record SpellsProgram (bytes : List ℕ) (program : List Insn) : Type 0 where
   pub spelled : bytes ≡ program_bytes program
   pub well_formed : AllByRecursion IsInsn program
   pub some : 0 < length bytes
-  pub bound : length bytes ≤ 8 * 4096
+  pub bound : length bytes ≤ 8 * most_units
 
 -- the first units are well-formed instructions, and the next has this fault
 pub record IsFaultAt (bytes : List ℕ) (fault : Fault) (unit : ℕ) (before : List Insn) : Type 0 where
@@ -27,8 +28,8 @@ pub record IsFaultAt (bytes : List ℕ) (fault : Fault) (unit : ℕ) (before : L
 -- the first fault and its unit: the length, then how many units, then the instructions from the front
 pub record IsFirstFault (bytes : List ℕ) (fault : Fault) (unit : ℕ) : Type 0 where
   pub by_length : length bytes % 8 ≢ 0 → (fault ≡ faults.Length) × (unit ≡ length bytes / 8)
-  pub by_count : length bytes % 8 ≡ 0 → (length bytes ≡ 0) ⊎ (8 * 4096 < length bytes) → (fault ≡ faults.Count) × (unit ≡ 0)
-  pub by_instruction : length bytes % 8 ≡ 0 → 0 < length bytes → length bytes ≤ 8 * 4096 →
+  pub by_count : length bytes % 8 ≡ 0 → (length bytes ≡ 0) ⊎ (8 * most_units < length bytes) → (fault ≡ faults.Count) × (unit ≡ 0)
+  pub by_instruction : length bytes % 8 ≡ 0 → 0 < length bytes → length bytes ≤ 8 * most_units →
       (before : List Insn) × IsFaultAt bytes fault unit before
 
 -- an error names the first fault, unless memory ran out

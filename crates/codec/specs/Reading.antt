@@ -56,7 +56,7 @@ checks_of (forms.Negate width) f behind =
     (is_past f.dst, faults.Register) ∷ (is_set f.src, faults.Reserved) ∷ (is_set f.offset, faults.Reserved) ∷ (is_set f.imm, faults.Reserved) ∷ []
 checks_of (forms.Swap order) f behind =
     (is_past f.dst, faults.Register) ∷ (is_no_swap f.imm, faults.Operand) ∷ (is_set f.src, faults.Reserved) ∷ (is_set f.offset, faults.Reserved) ∷ []
-checks_of forms.LoadNumber f behind =
+checks_of forms.LoadImmediate f behind =
     (is_past f.dst, faults.Register) ∷ (is_set f.src, faults.LeftOut) ∷ (is_set f.offset, faults.Reserved) ∷
     (nat_lt (length behind) 8, faults.WideCut) ∷ (is_reserved_set (fields_of behind), faults.Reserved) ∷ []
 checks_of forms.Jump f behind =

@@ -14,7 +14,7 @@ use Rattle.word.specs.declared.ByteOrder.{ByteOrder}
 use Rattle.word.specs.declared.ByteOrder.TheVariants.{Little, Big, Reversed}
 use Rattle.word.specs.Arithmetic.{swapped_bytes}
 use Rattle.insn.specs.declared.insn.Insn.{Insn}
-use Rattle.insn.specs.declared.insn.Insn.TheVariants.{Arithmetic, Negate, SignExtend, Swap, LoadNumber, Jump, LongJump, Branch, Load, LoadSigned, Store, Call, Exit}
+use Rattle.insn.specs.declared.insn.Insn.TheVariants.{Arithmetic, Negate, SignExtend, Swap, LoadImmediate, Jump, LongJump, Branch, Load, LoadSigned, Store, Call, Exit}
 use Rattle.insn.specs.declared.insn.Operand.TheVariants.{Register, Immediate}
 use Rattle.insn.specs.declared.insn.Size.{Size}
 use Rattle.insn.specs.declared.insn.Size.TheVariants as size
@@ -49,7 +49,7 @@ operation_code op.Mod = 0x90
 operation_code op.SignedMod = 0x90
 operation_code op.Xor = 0xa0
 operation_code op.Move = 0xb0
-operation_code op.ShiftSigned = 0xc0
+operation_code op.ArithmeticShiftRight = 0xc0
 
 -- signed division and modulo have the offset 1 (section 4.1)
 abbrev pub operation_offset : Operation → ℕ
@@ -63,7 +63,7 @@ condition_code c.Equal = 0x10
 condition_code c.Above = 0x20
 condition_code c.AtLeast = 0x30
 condition_code c.AnyBit = 0x40
-condition_code c.Different = 0x50
+condition_code c.NotEqual = 0x50
 condition_code c.SignedAbove = 0x60
 condition_code c.SignedAtLeast = 0x70
 condition_code c.Below = 0xa0
@@ -96,7 +96,7 @@ spelling (Arithmetic w o dst (Register src)) = fields (operation_code o + 8 + al
 spelling (Negate w dst) = fields (0x80 + alu_class w) dst 0 0 0 ∷ []
 spelling (SignExtend w part dst src) = fields (0xb8 + alu_class w) dst src (8 * part_bytes part) 0 ∷ []
 spelling (Swap order bytes dst) = fields (swap_code order) dst 0 0 (8 * swapped_bytes bytes) ∷ []
-spelling (LoadNumber dst number) = fields 0x18 dst 0 0 (number % 2 ^ 32) ∷ fields 0 0 0 0 (number / 2 ^ 32) ∷ []
+spelling (LoadImmediate dst number) = fields 0x18 dst 0 0 (number % 2 ^ 32) ∷ fields 0 0 0 0 (number / 2 ^ 32) ∷ []
 spelling (Jump distance) = fields 0x05 0 0 (cast_unsigned w16 distance) 0 ∷ []
 spelling (LongJump distance) = fields 0x06 0 0 0 (cast_unsigned w32 distance) ∷ []
 spelling (Branch w o dst (Immediate n) distance) = fields (condition_code o + jump_class w) dst 0 (cast_unsigned w16 distance) (cast_unsigned w32 n) ∷ []

@@ -31,7 +31,7 @@ fn meaning(fields: Fields, behind: &[u8]) -> Result<Insn, Fault>
         Form::MoveRegister(width) => arithmetic::move_register(width, fields),
         Form::Negate(width) => arithmetic::negate(width, fields),
         Form::Swap(order) => arithmetic::swap(order, fields),
-        Form::LoadNumber => memory::load_number(fields, behind),
+        Form::LoadImmediate => memory::load_immediate(fields, behind),
         Form::Jump => jump::near(fields),
         Form::LongJump => jump::long(fields),
         Form::BranchImmediate(width, condition) => jump::branch_immediate(width, condition, fields),
@@ -72,7 +72,7 @@ fn instructions(alloc: Global, bytes: &[u8], units: usize) -> Result<Vec<Insn>, 
     while unit < units {
         match instruction(&bytes[8 * unit..]) {
             // The same as the next arm; without it the checker does not find the types within `Insn`.
-            Ok(wide @ Insn::LoadNumber { .. }) => {
+            Ok(wide @ Insn::LoadImmediate { .. }) => {
                 instructions.push(wide)?;
                 unit += 2;
             }

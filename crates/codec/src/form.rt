@@ -22,7 +22,7 @@ pub enum Form {
     MoveRegister(Width),
     Negate(Width),
     Swap(ByteOrder),
-    LoadNumber,
+    LoadImmediate,
     Jump,
     LongJump,
     BranchImmediate(Width, Condition),
@@ -51,7 +51,7 @@ fn operation_at(code: u8) -> Option<Operation>
         0x6 => Some(Operation::ShiftLeft),
         0x7 => Some(Operation::ShiftRight),
         0xa => Some(Operation::Xor),
-        0xc => Some(Operation::ShiftSigned),
+        0xc => Some(Operation::ArithmeticShiftRight),
         _ => None,
     }
 }
@@ -76,7 +76,7 @@ fn condition_at(code: u8) -> Option<Condition>
         0x2 => Some(Condition::Above),
         0x3 => Some(Condition::AtLeast),
         0x4 => Some(Condition::AnyBit),
-        0x5 => Some(Condition::Different),
+        0x5 => Some(Condition::NotEqual),
         0x6 => Some(Condition::SignedAbove),
         0x7 => Some(Condition::SignedAtLeast),
         0xa => Some(Condition::Below),
@@ -92,7 +92,7 @@ fn wide(opcode: u8) -> Form
     ensures { result ≡ wide_form opcode }
 {
     match opcode {
-        0x18 => Form::LoadNumber,
+        0x18 => Form::LoadImmediate,
         0x20 | 0x28 | 0x30 | 0x40 | 0x48 | 0x50 => Form::LeftOut,
         _ => Form::Unknown,
     }

@@ -85,10 +85,10 @@ pub fn store_register(size: Size, fields: Fields) -> Result<Insn, Fault>
 }
 
 /// The wide instruction, whose second half stands behind the fields (section 3.2).
-pub fn load_number(fields: Fields, behind: &[u8]) -> Result<Insn, Fault>
+pub fn load_immediate(fields: Fields, behind: &[u8]) -> Result<Insn, Fault>
     requires opcode { fields.opcode ≡ 0x18 }
     ensures found { IfOk result (λ i. IsInsn i × (8 ≤ length behind.now) × (spelling i ≡ fields ∷ fields_of behind.now ∷ [])) }
-    ensures fault { IfErr result (λ e. first_fault (checks_of forms.LoadNumber fields behind.now) ≡ Some e) }
+    ensures fault { IfErr result (λ e. first_fault (checks_of forms.LoadImmediate fields behind.now) ≡ Some e) }
 {
     let dst = used(fields.dst)?;
     if fields.src != 0 {
@@ -104,7 +104,7 @@ pub fn load_number(fields: Fields, behind: &[u8]) -> Result<Insn, Fault>
     if second.opcode != 0 || second.dst != 0 || second.src != 0 || second.offset != 0 {
         return Err(Fault::Reserved);
     }
-    Ok(Insn::LoadNumber {
+    Ok(Insn::LoadImmediate {
         dst,
         number: (second.imm as u64) << 32 | fields.imm as u64,
     })

@@ -48,7 +48,7 @@ fn operation_bits(operation: Operation) -> u8
         Operation::SignedMod => 0x90,
         Operation::Xor => 0xa0,
         Operation::Move => 0xb0,
-        Operation::ShiftSigned => 0xc0,
+        Operation::ArithmeticShiftRight => 0xc0,
     }
 }
 
@@ -72,7 +72,7 @@ fn condition_bits(condition: Condition) -> u8
         Condition::Above => 0x20,
         Condition::AtLeast => 0x30,
         Condition::AnyBit => 0x40,
-        Condition::Different => 0x50,
+        Condition::NotEqual => 0x50,
         Condition::SignedAbove => 0x60,
         Condition::SignedAtLeast => 0x70,
         Condition::Below => 0xa0,
@@ -252,7 +252,7 @@ pub fn units(insn: &Insn) -> (Fields, Option<Fields>)
     ensures second { IfSome result.1 (λ f. (f.dst ≤ 10) × (f.src ≤ 10)) }
 {
     let first = match insn {
-        Insn::LoadNumber { dst, number } => {
+        Insn::LoadImmediate { dst, number } => {
             let low = Fields {
                 opcode: 0x18,
                 dst: dst.number(),

@@ -1,20 +1,15 @@
 -- A list of what was told, with one's own order at its place among it.
-use Rattle.std.proofs.Common.{ℕ, zero, suc, ◌+◌, ◌≤◌, ◌≡◌, Bool, cond, List, [], ◌∷◌, ◌++◌, map, length, take, drop, take-append-drop, length-append, refl, sym, ap, ◌∙◌, arith, Option}
+use Rattle.std.proofs.Common.{ℕ, ◌+◌, ◌≤◌, ◌≡◌, Bool, cond, List, [], ◌∷◌, ◌++◌, map, length, take, drop, take-append-drop, length-append, refl, sym, ap, ◌∙◌, arith, Option}
 use Rattle.std.specs.Prelude.{insert, count_by, ◌==◌}
-use Rattle.std.proofs.lemmas.List.{take-map, take_all}
+use Rattle.std.proofs.lemmas.List.{take-map, take_all, drop-map}
 use Rattle.std.proofs.lemmas.List.Sums.{sum_by-cons, sum_by-append}
 use Rattle.combine.specs.Rule.{is_most}
 use Rattle.combine.specs.Told.{order_or_retreat}
 
-drop_map : {A B : Type 0} (g : A → B) (n : ℕ) (xs : List A) → drop n (map g xs) ≡ map g (drop n xs)
-drop_map g zero xs = refl
-drop_map g (suc n) [] = refl
-drop_map g (suc n) (x ∷ xs) = drop_map g n xs
-
 -- both parts, with the own order between them
 pub joined : {A : Type 0} (g : A → ℕ) (cs ys : List A) (place own i : ℕ) (orders : List ℕ) → orders ≡ map g (take place cs) ++ own ∷ map g (take i ys) → ys ≡ drop place cs → length ys ≤ i → orders ≡ insert (map g cs) place own
 joined g cs ys place own i orders e ey l =
-    rw (e, take_all i ys l, ey, take-map g place cs, drop_map g place cs) refl
+    rw (e, take_all i ys l, ey, take-map g place cs, drop-map g place cs) refl
 
 -- the own order counts wherever it stands
 counted : (p : ℕ → Bool) (xs : List ℕ) (place own : ℕ) → count_by p (insert xs place own) ≡ count_by p (own ∷ xs)

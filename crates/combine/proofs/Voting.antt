@@ -1,7 +1,8 @@
 -- The vote of Boyer and Moore: what a candidate and its lead say of the list so far.
-use Rattle.std.proofs.Common.{ℕ, ◌+◌, ◌-◌, ◌*◌, ◌<◌, ◌≤◌, ◌≡◌, ◌≢◌, Bool, true, false, cond, List, [], ◌∷◌, ◌++◌, length, refl, sym, ap, ◌∙◌, arith, inl, inr, Some, None, length-append, ◌⊎◌}
+use Rattle.std.proofs.Common.{ℕ, ◌+◌, ◌-◌, ◌*◌, ◌<◌, ◌≤◌, ◌≡◌, ◌≢◌, Bool, true, false, cond, List, [], ◌∷◌, ◌++◌, length, refl, sym, ap, ◌∙◌, arith, inl, inr, Some, None, ◌⊎◌}
 use Rattle.std.specs.Prelude.{count_by, find, ◌==◌}
 use Rattle.std.proofs.lemmas.Bool.{cases_Bool, cases_eq, cond-true, cond-false, eq-eqb, ne_eqb, ltb-true, true≢false}
+use Rattle.std.proofs.lemmas.List.{length_push}
 use Rattle.std.proofs.lemmas.List.Sums.{sum_by-append}
 use Rattle.combine.specs.Rule.{majority, is_most, NoMajorityIsRetreat}
 use Rattle.combine.specs.Laws.{majority_is_rule}
@@ -18,9 +19,6 @@ count-same v x xs e = let one : cond {A = ℕ} (x == v) 1 0 ≡ 1 = cond-true (x
 count-other : (v x : ℕ) (xs : List ℕ) → x ≢ v → count_by (λ y. y == v) (xs ++ x ∷ []) ≡ count_by (λ y. y == v) xs
 count-other v x xs ne = let none : cond {A = ℕ} (x == v) 1 0 ≡ 0 = cond-false (x == v) 1 0 (ne_eqb x v ne) in omega (arith, sum_by-append (λ y. cond (y == v) 1 0) xs (x ∷ []))
 
-long : (x : ℕ) (xs : List ℕ) → length (xs ++ x ∷ []) ≡ length xs + 1
-long x xs = omega (arith, length-append xs (x ∷ []))
-
 pub leads-none : (candidate : ℕ) → Leads [] candidate 0
 leads-none candidate = record { others = λ v ne. omega arith; own = omega arith; small = omega arith }
 
@@ -31,26 +29,26 @@ pub leads-new : (xs : List ℕ) (candidate lead x : ℕ) → Leads xs candidate 
 leads-new xs candidate lead x l z =
     let l0 : Leads xs candidate 0 = rw z at l in
     record {
-      others = λ v ne. let h = few xs candidate v l0 in let n = long x xs in let c = count-other v x xs (λ e. ne (sym e)) in omega arith;
-      own = let h = few xs candidate x l0 in let n = long x xs in let c = count-same x x xs refl in omega arith;
-      small = let n = long x xs in omega arith;
+      others = λ v ne. let h = few xs candidate v l0 in let n = length_push xs x in let c = count-other v x xs (λ e. ne (sym e)) in omega arith;
+      own = let h = few xs candidate x l0 in let n = length_push xs x in let c = count-same x x xs refl in omega arith;
+      small = let n = length_push xs x in omega arith;
     }
 
 pub leads-same : (xs : List ℕ) (candidate lead x : ℕ) → Leads xs candidate lead → x ≡ candidate → Leads (xs ++ x ∷ []) candidate (lead + 1)
 leads-same xs candidate lead x l e =
     record {
-      others = λ v ne. let h = l.others v ne in let n = long x xs in let c = count-other v x xs (λ f. ne (sym f ∙ e)) in omega arith;
-      own = let h = l.own in let n = long x xs in let c = count-same candidate x xs e in omega arith;
-      small = let h = l.small in let n = long x xs in omega arith;
+      others = λ v ne. let h = l.others v ne in let n = length_push xs x in let c = count-other v x xs (λ f. ne (sym f ∙ e)) in omega arith;
+      own = let h = l.own in let n = length_push xs x in let c = count-same candidate x xs e in omega arith;
+      small = let h = l.small in let n = length_push xs x in omega arith;
     }
 
 pub leads-other : (xs : List ℕ) (candidate lead x : ℕ) → Leads xs candidate lead → x ≢ candidate → lead ≢ 0 → Leads (xs ++ x ∷ []) candidate (lead - 1)
 leads-other xs candidate lead x l ne some =
     record {
-      others = λ v apart. let h = l.others v apart in let n = long x xs in
+      others = λ v apart. let h = l.others v apart in let n = length_push xs x in
           elim (cases_eq x v) [ inl same ↦ (let c = count-same v x xs same in omega arith) | inr other ↦ (let c = count-other v x xs other in omega arith) ];
-      own = let h = l.own in let n = long x xs in let c = count-other candidate x xs ne in omega arith;
-      small = let h = l.small in let n = long x xs in omega arith;
+      own = let h = l.own in let n = length_push xs x in let c = count-other candidate x xs ne in omega arith;
+      small = let h = l.small in let n = length_push xs x in omega arith;
     }
 
 pub leads-only : (xs : List ℕ) (candidate lead v : ℕ) → Leads xs candidate lead → length xs < 2 * count_by (λ x. x == v) xs → candidate ≡ v

@@ -7,7 +7,7 @@ use clap::{Arg, ArgAction, Command};
 use std::alloc::{AllocError, Global};
 
 /// What `--version` says: the version, and the line of the toolchain that proves this one (`rt version`).
-const VERSION: &str = "1.0.0, proved with rattle-kit-13f logic dac8208d650f15bf";
+const VERSION: &str = "1.0.0, proved with Rattle, logic dac8208d650f15bf";
 
 const BYTECODE: &str = "The program, as raw bytecode";
 

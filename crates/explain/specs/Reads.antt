@@ -1,4 +1,4 @@
--- The registers that an instruction reads (RFC 9669, section 4 and 5; of a call those that its helper takes).
+-- The registers that an instruction reads (RFC 9669, sections 4 and 5; of a call those that its helper takes).
 use Rattle.std.specs.Prelude.{ℕ, List, [], ◌∷◌, Option, Some, None}
 use Rattle.word.specs.declared.Operation.{Operation}
 use Rattle.word.specs.declared.Operation.TheVariants.{Move}

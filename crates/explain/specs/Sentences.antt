@@ -52,7 +52,7 @@ misuse_text (misuse.Unset r) = codes "r" ++ decimal r ++ codes " is read, and ma
 misuse_text misuse.Frame = codes "r10 is written, which marks the end of the stack"
 misuse_text (misuse.Far r region span) = would_text r ++ codes " into " ++ place_text region span ++ codes ", past " ++ limit_text span.high
 misuse_text (misuse.EitherSign r value) = named_text r value ++ codes ": a number that moves a pointer is read as signed, and this one may be above or below 0"
-misuse_text (misuse.Computed r value) = named_text r value ++ codes ": of a pointer only a copy is made, or the 64-bit sum or difference with a number"
+misuse_text (misuse.Computed r value) = named_text r value ++ codes ": of a pointer only a copy of 64 bits is made, or, in its own register, the 64-bit sum or difference with a number"
 misuse_text (misuse.Stored r value base at) =
     named_text r value ++ codes ", stored at " ++ named_text base at ++ codes ": a pointer is stored as 8 bytes, with one offset, at one address"
 misuse_text (misuse.NoBase r value) = named_text r value ++ codes ": memory is reached by a pointer only"

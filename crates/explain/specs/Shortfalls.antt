@@ -1,7 +1,7 @@
 -- What an instruction misses where it is refused, from what is known there (own).
-use Rattle.std.specs.Prelude.{ℕ, ℤ, pos, negsuc, zero, suc, ◌+◌, ◌*◌, ◌^◌, ◌-◌, ◌+ℤ◌, ◌-ℤ◌, ◌||◌, ◌&&◌, nat_lt, nat_le, int_le, Bool, true, false, if◌then◌else◌, List, [], ◌∷◌, Option, Some, None, option_map, option_and_then}
+use Rattle.std.specs.Prelude.{ℕ, ℤ, pos, negsuc, zero, suc, ◌+◌, ◌*◌, ◌^◌, ◌-◌, ◌+ℤ◌, ◌-ℤ◌, ◌&&◌, nat_lt, nat_le, int_le, Bool, true, false, if◌then◌else◌, List, [], ◌∷◌, Option, Some, None, option_map, option_and_then}
 use Rattle.std.specs.Option.{option_or}
-use Rattle.std.specs.Int.{w64, cast_signed, cast_unsigned}
+use Rattle.semantics.specs.Limits.{stack_size}
 use Rattle.word.specs.declared.Width.{Width}
 use Rattle.word.specs.declared.Width.TheVariants.{W64}
 use Rattle.word.specs.declared.Operation.{Operation}
@@ -9,24 +9,24 @@ use Rattle.word.specs.declared.Operation.TheVariants.{Add, Sub}
 use Rattle.insn.specs.declared.insn.Insn.{Insn}
 use Rattle.insn.specs.declared.insn.Insn.TheVariants.{Arithmetic, Load, LoadSigned, Store, Call}
 use Rattle.insn.specs.declared.insn.Operand.{Operand}
-use Rattle.insn.specs.declared.insn.Operand.TheVariants.{Register, Immediate}
 use Rattle.insn.specs.Insn.{bytes_of, part_bytes}
 use Rattle.semantics.specs.declared.value.Region.{Region}
 use Rattle.semantics.specs.declared.value.Region.TheVariants.{Stack}
 use Rattle.semantics.specs.declared.request.Helper.{Helper}
 use Rattle.semantics.specs.declared.request.Helper.TheVariants.{BoardCopy, SendRow}
 use Rattle.semantics.specs.Call.{helper_of}
-use Rattle.absval.specs.NumberSets.{single, greatest}
+use Rattle.absval.specs.NumberSets.{greatest}
 use Rattle.absval.specs.declared.number_set.NumberSet.{NumberSet}
 use Rattle.absval.specs.declared.value.Offsets.{Offsets}
 use Rattle.absval.specs.declared.value.AbsVal.{AbsVal}
 use Rattle.absval.specs.declared.value.AbsVal.TheVariants.{Unset, Number, Pointer}
 use Rattle.absval.specs.declared.windows.Window.{Window}
+use Rattle.absval.specs.Table.{in_a_row}
 use Rattle.absval.specs.Windows.{window_known}
 use Rattle.absmem.specs.Known.{Known, byte_at}
 use Rattle.helper.specs.declared.argument.Argument.{Argument}
 use Rattle.helper.specs.Table.{bound_of, arguments_of}
-use Rattle.verify.specs.Registers.{known_at}
+use Rattle.verify.specs.Registers.{known_at, operand_known}
 use Rattle.verify.specs.declared.state.AbsState.{AbsState}
 use Rattle.verify.specs.declared.reason.Reason.{Reason}
 use Rattle.verify.specs.declared.reason.Reason.TheVariants as reason
@@ -69,11 +69,6 @@ first_pointer registers _ = None
 
 -- ---- pointers that are moved
 
--- numbers read as signed, where they are in a row
-abbrev pub signed_row : ℕ × ℕ → Option Span
-signed_row p =
-    if nat_lt p.1 (2 ^ 63) || nat_le (2 ^ 63) p.0 then Some (record { low = cast_signed w64 p.0; high = cast_signed w64 p.1 }) else None
-
 -- whether an operation lowers a pointer, where it moves one
 abbrev pub lowers : Width → Operation → Option Bool
 lowers W64 Add = Some false
@@ -85,25 +80,21 @@ abbrev pub clamped : ℤ → ℤ
 clamped z =
     if int_le z (pos (2 ^ 63 - 1)) then (if int_le (negsuc (2 ^ 63 - 1)) z then z else negsuc (2 ^ 63 - 1)) else pos (2 ^ 63 - 1)
 
-abbrev pub moved : Bool → Offsets → Span → Span
-moved false o by = record { low = clamped (o.0 +ℤ by.low); high = clamped (o.1 +ℤ by.high) }
-moved true o by = record { low = clamped (o.0 -ℤ by.high); high = clamped (o.1 -ℤ by.low) }
+abbrev pub moved : Bool → Offsets → ℤ × ℤ → Span
+moved false o by = record { low = clamped (o.0 +ℤ by.0); high = clamped (o.1 +ℤ by.1) }
+moved true o by = record { low = clamped (o.0 -ℤ by.1); high = clamped (o.1 -ℤ by.0) }
 
 abbrev pub either_sign : Option ℕ → NumberSet → Option Sentence
 either_sign None n = None
 either_sign (Some r) n = Some (sentence.Register (misuse.EitherSign r (Number n)))
 
-abbrev pub far : Bool → ℕ → Region → Offsets → Operand → NumberSet → Option Span → Option Sentence
+abbrev pub far : Bool → ℕ → Region → Offsets → Operand → NumberSet → Option (ℤ × ℤ) → Option Sentence
 far down dst region o operand n None = either_sign (of_operand operand) n
 far down dst region o operand n (Some by) = Some (sentence.Register (misuse.Far dst region (moved down o by)))
 
-abbrev pub operand_at : List AbsVal → Operand → AbsVal
-operand_at registers (Register r) = known_at registers r
-operand_at registers (Immediate n) = Number (single (cast_unsigned w64 n))
-
 -- a pointer and a number, of which a sum or difference is made
 abbrev pub sum_misuse : Option Bool → ℕ → Operand → AbsVal → AbsVal → Option Sentence
-sum_misuse (Some down) dst operand (Pointer region o) (Number n) = far down dst region o operand n (signed_row n.range)
+sum_misuse (Some down) dst operand (Pointer region o) (Number n) = far down dst region o operand n (in_a_row n.range)
 sum_misuse _ dst operand a b = None
 
 -- ---- pointers that are used as they may not be
@@ -121,7 +112,7 @@ store_misuse registers base source _ = no_base registers base
 
 abbrev pub pointer_misuse : Insn → List AbsVal → Option Sentence
 pointer_misuse (Arithmetic w operation dst operand) registers =
-    option_or (sum_misuse (lowers w operation) dst operand (known_at registers dst) (operand_at registers operand))
+    option_or (sum_misuse (lowers w operation) dst operand (known_at registers dst) (operand_known registers operand))
     (first_pointer registers (read_by (Arithmetic w operation dst operand)))
 pointer_misuse (Load size dst base offset) registers = no_base registers base
 pointer_misuse (LoadSigned part dst base offset) registers = no_base registers base
@@ -167,7 +158,7 @@ empty_in known (Some w) = first_empty known.bytes w.place w.size
 
 abbrev pub empty_cell : Known → Reach → AbsVal → Option Sentence
 empty_cell known reach (Pointer Stack o) =
-    option_map (λ k. sentence.Memory (access.Empty reach.base (touched o reach) (pos k -ℤ pos 512)))
+    option_map (λ k. sentence.Memory (access.Empty reach.base (touched o reach) (pos k -ℤ pos stack_size)))
     (empty_in known (window_known Stack o.0 o.1 reach.distance reach.size))
 empty_cell known reach _ = None
 

@@ -3,41 +3,35 @@ ghost use Rattle.std.specs.Prelude.{◌≡◌, ◌≤◌, ◌<◌, ◌++◌, len
 ghost use Rattle.insn.specs.Program.{slots_of};
 ghost use Rattle.explain.specs.Explained.{read_text, reads_text, known_text, place_text, unit_line, line_if, known_lines, target_of, sentence_of, sentence_line, known_by, refused_line, explained};
 
-use crate::reach::known_at;
 use crate::reads::{Registers, read_by};
 use crate::sentence::{Sentence, Structure};
 use crate::shortfall::shortfall;
 use crate::values::Known;
-use absval::AbsVal;
 use asm::put_instruction;
 use insn::{Insn, Program, Reg};
 use std::alloc::{AllocError, Global};
 use verify::{AbsState, Reason, VerifyError, known_at_units};
 
 /// Adds a register that is read, and what is known of it.
-fn put_read(
-    out: &mut String,
-    registers: &[AbsVal; 11],
-    register: Option<Reg>,
-) -> Result<(), AllocError>
-    ensures { OnOk result (string_bytes out.new ≡ string_bytes out.old ++ read_text registers.now register) }
+fn put_read(out: &mut String, state: &AbsState, register: Option<Reg>) -> Result<(), AllocError>
+    ensures { OnOk result (string_bytes out.new ≡ string_bytes out.old ++ read_text state.now.registers register) }
 {
     let Some(r) = register else {
         return Ok(());
     };
-    let known = Known(known_at(registers, r));
+    let known = Known(state.known(r));
     let r = r.number();
     write!(out, " ; r{r} {known}")
 }
 
 /// Adds the registers that are read.
-fn put_reads(out: &mut String, registers: &[AbsVal; 11], read: Registers) -> Result<(), AllocError>
-    ensures { OnOk result (string_bytes out.new ≡ string_bytes out.old ++ reads_text registers.now read) }
+fn put_reads(out: &mut String, state: &AbsState, read: Registers) -> Result<(), AllocError>
+    ensures { OnOk result (string_bytes out.new ≡ string_bytes out.old ++ reads_text state.now.registers read) }
 {
     let [first, second, third] = read;
-    put_read(out, registers, first)?;
-    put_read(out, registers, second)?;
-    put_read(out, registers, third)
+    put_read(out, state, first)?;
+    put_read(out, state, second)?;
+    put_read(out, state, third)
 }
 
 /// Adds what is known where an instruction stands.
@@ -46,7 +40,7 @@ fn put_known(out: &mut String, insn: &Insn, state: Option<&AbsState>) -> Result<
 {
     match state {
         None => out.push_str(" ; no way leads here"),
-        Some(state) => put_reads(out, &state.registers, read_by(insn)),
+        Some(state) => put_reads(out, state, read_by(insn)),
     }
 }
 

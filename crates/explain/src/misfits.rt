@@ -1,16 +1,15 @@
 //! Calls that are refused.
 ghost use Rattle.std.specs.Prelude.{◌≡◌, ◌≤◌, option_map, ◌+◌, Some};
 ghost use Rattle.insn.specs.declared.insn.Insn.{Insn};
-ghost use Rattle.verify.specs.Registers.{known_at};
 ghost use Rattle.helper.specs.Table.{bound_of, arguments_of};
 ghost use Rattle.explain.specs.Shortfalls.{misfit_of, misfit_at, past_board, arguments_misfit, call_misfit, no_helper};
 
-use crate::reach::known_at;
 use crate::reads::numbered;
 use crate::sentence::{Misfit, Sentence};
 use absval::{AbsVal, NumberSet};
 use helper::Argument;
 use insn::{Insn, Reg};
+use verify::AbsState;
 
 /// A number that is to be at most so great.
 fn above(r: Reg, numbers: NumberSet, most: u64) -> Option<Sentence>
@@ -36,11 +35,11 @@ fn misfit_of(r: Reg, argument: Argument, value: AbsVal) -> Option<Sentence>
 }
 
 /// The same of an argument, where the helper takes one there.
-fn misfit_at(registers: &[AbsVal; 11], r: Reg, argument: Option<Argument>) -> Option<Sentence>
-    ensures { result ≡ misfit_at registers.now r argument }
+fn misfit_at(state: &AbsState, r: Reg, argument: Option<Argument>) -> Option<Sentence>
+    ensures { result ≡ misfit_at state.now.registers r argument }
 {
     let argument = argument?;
-    misfit_of(r, argument, known_at(registers, r))
+    misfit_of(r, argument, state.known(r))
 }
 
 /// Slot and count together.
@@ -61,32 +60,32 @@ fn past_board(slots: AbsVal, counts: AbsVal) -> Option<Sentence>
 }
 
 /// The arguments in their order, then slot and count together.
-fn arguments_misfit(registers: &[AbsVal; 11], arguments: [Option<Argument>; 3]) -> Option<Sentence>
-    ensures { result ≡ arguments_misfit registers.now arguments }
+fn arguments_misfit(state: &AbsState, arguments: [Option<Argument>; 3]) -> Option<Sentence>
+    ensures { result ≡ arguments_misfit state.now.registers arguments }
 {
     let [first, second, third] = arguments;
-    if let Some(sentence) = misfit_at(registers, numbered(1), first) {
+    if let Some(sentence) = misfit_at(state, numbered(1), first) {
         return Some(sentence);
     }
-    if let Some(sentence) = misfit_at(registers, numbered(2), second) {
+    if let Some(sentence) = misfit_at(state, numbered(2), second) {
         return Some(sentence);
     }
-    if let Some(sentence) = misfit_at(registers, numbered(3), third) {
+    if let Some(sentence) = misfit_at(state, numbered(3), third) {
         return Some(sentence);
     }
-    let slots = known_at(registers, numbered(1));
-    past_board(slots, known_at(registers, numbered(3)))
+    let slots = state.known(numbered(1));
+    past_board(slots, state.known(numbered(3)))
 }
 
 /// What a call asks that may not be.
-pub(crate) fn call_misfit(insn: &Insn, registers: &[AbsVal; 11]) -> Option<Sentence>
-    ensures { result ≡ call_misfit insn.now registers.now }
+pub(crate) fn call_misfit(insn: &Insn, state: &AbsState) -> Option<Sentence>
+    ensures { result ≡ call_misfit insn.now state.now.registers }
 {
     let Insn::Call { helper: number } = insn else {
         return None;
     };
     let helper = helper::helper_of(*number)?;
-    arguments_misfit(registers, helper::arguments(helper))
+    arguments_misfit(state, helper::arguments(helper))
 }
 
 /// The number of a call that no helper has.

@@ -1,27 +1,15 @@
 //! Pointers that numbers move too far.
 ghost use Rattle.std.specs.Prelude.{◌≡◌, ◌+ℤ◌, ◌-ℤ◌};
-ghost use Rattle.explain.specs.Shortfalls.{signed_row, lowers, clamped, moved, either_sign, far, operand_at, sum_misuse};
+ghost use Rattle.absval.specs.Table.{in_a_row};
+ghost use Rattle.explain.specs.Shortfalls.{lowers, clamped, moved, either_sign, far, sum_misuse};
 
-use crate::reach::known_at;
 use crate::reads::of_operand;
 use crate::sentence::{Misuse, Sentence};
-use crate::values::{Span, between, signed};
+use crate::values::{Span, between};
 use absval::{AbsVal, NumberSet, Offsets};
 use insn::{Operand, Reg};
-use range::Range;
 use semantics::Region;
 use word::{Operation, Width};
-
-/// Numbers read as signed, where they are in a row.
-fn signed_row(range: Range) -> Option<Span>
-    ensures { result ≡ signed_row range }
-{
-    if range.hi < 0x8000_0000_0000_0000 || range.lo >= 0x8000_0000_0000_0000 {
-        Some(signed(range))
-    } else {
-        None
-    }
-}
 
 /// Whether an operation lowers a pointer, where it moves one.
 fn lowers(width: Width, operation: Operation) -> Option<bool>
@@ -61,16 +49,16 @@ fn lowered(offset: i32, by: i64) -> i64
     clamped(i128::from(offset) - i128::from(by))
 }
 
-/// Where offsets lead, moved by numbers.
-fn moved(down: bool, offsets: Offsets, by: Span) -> Span
-    ensures { result ≡ moved down offsets by }
+/// Where offsets lead, moved by numbers from the least to the greatest.
+fn moved(down: bool, offsets: Offsets, least: i64, greatest: i64) -> Span
+    ensures { result ≡ moved down offsets (least, greatest) }
 {
     if down {
-        let low = lowered(offsets.low, by.high);
-        between(low, lowered(offsets.high, by.low))
+        let low = lowered(offsets.low, greatest);
+        between(low, lowered(offsets.high, least))
     } else {
-        let low = raised(offsets.low, by.low);
-        between(low, raised(offsets.high, by.high))
+        let low = raised(offsets.low, least);
+        between(low, raised(offsets.high, greatest))
     }
 }
 
@@ -80,18 +68,6 @@ fn either_sign(register: Option<Reg>, numbers: NumberSet) -> Option<Sentence>
 {
     let r = register?;
     Some(Sentence::Register(Misuse::EitherSign(r, AbsVal::Number(numbers))))
-}
-
-/// What is known of an operand.
-pub(crate) fn operand_at(registers: &[AbsVal; 11], operand: Operand) -> AbsVal
-    ensures { result ≡ operand_at registers.now operand }
-{
-    match operand {
-        Operand::Register(r) => known_at(registers, r),
-        Operand::Immediate(number) => {
-            AbsVal::Number(NumberSet::exactly(i64::from(number).cast_unsigned()))
-        }
-    }
 }
 
 /// A pointer in a register that numbers move.
@@ -105,12 +81,12 @@ struct Start {
 
 /// The pointer is moved by the operand, whose numbers are these.
 fn far(pointer: Start, operand: Operand, numbers: NumberSet) -> Option<Sentence>
-    ensures { result ≡ far pointer.down pointer.dst pointer.region pointer.offsets operand numbers (signed_row numbers.range) }
+    ensures { result ≡ far pointer.down pointer.dst pointer.region pointer.offsets operand numbers (in_a_row numbers.range) }
 {
-    let Some(by) = signed_row(numbers.range()) else {
+    let Some((least, greatest)) = numbers.as_signed() else {
         return either_sign(of_operand(operand), numbers);
     };
-    let span = moved(pointer.down, pointer.offsets, by);
+    let span = moved(pointer.down, pointer.offsets, least, greatest);
     Some(Sentence::Register(Misuse::Far(pointer.dst, pointer.region, span)))
 }
 

@@ -1,15 +1,14 @@
 //! What an instruction may touch of memory.
-ghost use Rattle.std.specs.Prelude.{◌≡◌, ◌≤◌, ◌-◌, ◌≤ℤ◌, ◌+ℤ◌, ◌^◌, pos, negsuc, IfSome};
-ghost use Rattle.insn.specs.Insn.{bytes_of, part_bytes};
+ghost use Rattle.std.specs.Prelude.{◌≡◌, ◌≤◌, ◌-◌, ◌+ℤ◌, pos, IfSome};
 ghost use Rattle.semantics.specs.Call.{helper_of};
-ghost use Rattle.verify.specs.Registers.{known_at};
 ghost use Rattle.explain.specs.Shortfalls.{counted, call_reach, reach_of, touched};
 
 use crate::reads::numbered;
 use crate::values::{Span, between};
 use absval::{AbsVal, Offsets};
 use helper::Helper;
-use insn::{Insn, Reg, Size};
+use insn::{Insn, Reg, bytes_of_part};
+use verify::AbsState;
 use word::Narrow;
 
 /// Through which register, how far from it and how many bytes are accessed.
@@ -18,36 +17,6 @@ pub(crate) struct Reach {
     pub base: Reg,
     pub distance: i16,
     pub size: usize,
-}
-
-/// What is known of a register.
-pub(crate) fn known_at(registers: &[AbsVal; 11], r: Reg) -> AbsVal
-    ensures { result ≡ known_at registers.now r }
-{
-    registers[r.number() as usize]
-}
-
-fn bytes(size: Size) -> usize
-    ensures bytes { result ≡ bytes_of size }
-    ensures few { result ≤ 8 }
-{
-    match size {
-        Size::Byte => 1,
-        Size::Half => 2,
-        Size::Word => 4,
-        Size::Double => 8,
-    }
-}
-
-fn bytes_of_part(part: Narrow) -> usize
-    ensures bytes { result ≡ part_bytes part }
-    ensures few { result ≤ 8 }
-{
-    match part {
-        Narrow::Byte => 1,
-        Narrow::Half => 2,
-        Narrow::Word => 4,
-    }
 }
 
 /// So many bytes for each of a count, from r2 on.
@@ -82,8 +51,8 @@ fn call_reach(number: i32, count: AbsVal) -> Option<Reach>
 }
 
 /// What an instruction reaches of memory.
-pub(crate) fn reach_of(insn: &Insn, registers: &[AbsVal; 11]) -> Option<Reach>
-    ensures reach { result ≡ reach_of insn.now registers.now }
+pub(crate) fn reach_of(insn: &Insn, state: &AbsState) -> Option<Reach>
+    ensures reach { result ≡ reach_of insn.now state.now.registers }
     ensures few { IfSome result (λ reach. reach.size ≤ 512) }
 {
     match insn {
@@ -101,7 +70,7 @@ pub(crate) fn reach_of(insn: &Insn, registers: &[AbsVal; 11]) -> Option<Reach>
         } => Some(Reach {
             base: *base,
             distance: *offset,
-            size: bytes(*size),
+            size: size.bytes(),
         }),
         Insn::LoadSigned {
             part,
@@ -113,7 +82,7 @@ pub(crate) fn reach_of(insn: &Insn, registers: &[AbsVal; 11]) -> Option<Reach>
             distance: *offset,
             size: bytes_of_part(*part),
         }),
-        Insn::Call { helper } => call_reach(*helper, known_at(registers, numbered(3))),
+        Insn::Call { helper } => call_reach(*helper, state.known(numbered(3))),
         _ => None,
     }
 }
@@ -125,13 +94,12 @@ fn first_touched(offset: i32, distance: i16) -> i64
     i64::from(offset) + i64::from(distance)
 }
 
-/// The last of so many bytes; of none the place itself.
-fn last_touched(first: i64, size: usize) -> i64
-    requires size { size ≤ 512 }
-    requires low { negsuc (2 ^ 40) ≤ℤ first }
-    requires high { first ≤ℤ pos (2 ^ 40) }
-    ensures { result ≡ first +ℤ pos (size - 1) }
+/// The last of so many bytes from there on that may be touched; of none the place itself.
+fn last_touched(offset: i32, distance: i16, size: usize) -> i64
+    requires { size ≤ 512 }
+    ensures { result ≡ (offset +ℤ distance) +ℤ pos (size - 1) }
 {
+    let first = first_touched(offset, distance);
     if size == 0 {
         return first;
     }
@@ -144,6 +112,5 @@ pub(crate) fn touched(offsets: Offsets, reach: &Reach) -> Span
     ensures { result ≡ touched offsets reach.now }
 {
     let low = first_touched(offsets.low, reach.distance);
-    let high = first_touched(offsets.high, reach.distance);
-    between(low, last_touched(high, reach.size))
+    between(low, last_touched(offsets.high, reach.distance, reach.size))
 }

@@ -86,6 +86,8 @@ pub(crate) fn read_by(insn: &Insn) -> Registers
         Insn::Store { base, source, .. } => [Some(*base), of_operand(*source), None],
         Insn::Call { helper } => of_call(*helper),
         Insn::Exit => [Some(numbered(0)), None, None],
-        Insn::LoadNumber { .. } | Insn::Jump { .. } | Insn::LongJump { .. } => [None, None, None],
+        Insn::LoadImmediate { .. } | Insn::Jump { .. } | Insn::LongJump { .. } => [
+            None, None, None,
+        ],
     }
 }

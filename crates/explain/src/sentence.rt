@@ -224,7 +224,7 @@ impl fmt::Display for Misuse {
                 let named = Named(r, value);
                 write!(
                     f,
-                    "{named}: of a pointer only a copy is made, or the 64-bit sum or difference with a number"
+                    "{named}: of a pointer only a copy of 64 bits is made, or, in its own register, the 64-bit sum or difference with a number"
                 )
             }
             Misuse::Stored(r, value, base, at) => {

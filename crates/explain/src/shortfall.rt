@@ -5,7 +5,7 @@ ghost use Rattle.explain.specs.Shortfalls.{shortfall, reached, outside, empty_ce
 use crate::accesses::{context_written, empty_cell, outside};
 use crate::misfits::{call_misfit, no_helper};
 use crate::misuse::{first_unset, pointer_misuse};
-use crate::reach::{known_at, reach_of};
+use crate::reach::reach_of;
 use crate::reads::{numbered, read_by};
 use crate::sentence::{Misuse, Sentence};
 use insn::Insn;
@@ -15,24 +15,24 @@ use verify::{AbsState, Reason};
 fn outside_of(insn: &Insn, state: &AbsState) -> Option<Sentence>
     ensures { result ≡ reached outside insn.now state.now.registers }
 {
-    let reach = reach_of(insn, &state.registers)?;
-    outside(reach, known_at(&state.registers, reach.base))
+    let reach = reach_of(insn, state)?;
+    outside(reach, state.known(reach.base))
 }
 
 /// A load of a cell that may hold no byte.
 fn empty_of(insn: &Insn, state: &AbsState) -> Option<Sentence>
     ensures { result ≡ reached (empty_cell state.now.stack) insn.now state.now.registers }
 {
-    let reach = reach_of(insn, &state.registers)?;
-    empty_cell(&state.stack, reach, known_at(&state.registers, reach.base))
+    let reach = reach_of(insn, state)?;
+    empty_cell(&state.stack, reach, state.known(reach.base))
 }
 
 /// A store to the context.
 fn written_of(insn: &Insn, state: &AbsState) -> Option<Sentence>
     ensures { result ≡ reached context_written insn.now state.now.registers }
 {
-    let reach = reach_of(insn, &state.registers)?;
-    context_written(reach, known_at(&state.registers, reach.base))
+    let reach = reach_of(insn, state)?;
+    context_written(reach, state.known(reach.base))
 }
 
 /// What an instruction misses, by the reason of its fault and what is known there.
@@ -40,16 +40,16 @@ pub(crate) fn shortfall(reason: Reason, insn: &Insn, state: &AbsState) -> Option
     ensures { result ≡ shortfall reason insn.now state.now }
 {
     match reason {
-        Reason::Unset => first_unset(&state.registers, read_by(insn)),
+        Reason::Unset => first_unset(state, read_by(insn)),
         Reason::FrameWrite => Some(Sentence::Register(Misuse::Frame)),
-        Reason::PointerUse => pointer_misuse(insn, &state.registers),
+        Reason::PointerUse => pointer_misuse(insn, state),
         Reason::Bounds => outside_of(insn, state),
         Reason::StackUnset => empty_of(insn, state),
         Reason::ContextWrite => written_of(insn, state),
         Reason::Helper => no_helper(insn),
-        Reason::Argument => call_misfit(insn, &state.registers),
+        Reason::Argument => call_misfit(insn, state),
         Reason::ExitPointer => {
-            let value = known_at(&state.registers, numbered(0));
+            let value = state.known(numbered(0));
             Some(Sentence::Register(Misuse::Exit(value)))
         }
         _ => None,

@@ -69,7 +69,7 @@ fn is_any(range: Range) -> bool
 }
 
 /// The range as signed numbers.
-pub(crate) fn signed(range: Range) -> Span
+fn signed(range: Range) -> Span
     ensures { result ≡ record { low = cast_signed w64 range.0; high = cast_signed w64 range.1 } }
 {
     Span {

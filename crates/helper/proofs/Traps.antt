@@ -23,17 +23,17 @@ or_else-assoc : (a b c : Option Cause) → or_else (or_else a b) c ≡ or_else a
 or_else-assoc None b c = refl
 or_else-assoc (Some cause) b c = refl
 
-asked_trap : (s : State) (r : Result Request Cause) → trap_of (asked s r) ≡ refusal r
-asked_trap s (Ok request) = refl
-asked_trap s (Err cause) = refl
+asked_refusal : (s : State) (r : Result Request Cause) → trap_of (asked s r) ≡ refusal r
+asked_refusal s (Ok request) = refl
+asked_refusal s (Err cause) = refl
 
-sent_trap : (relay : Relay) (s : State) (r0 : ℕ → ℕ) (r : Result Choice Cause) → trap_of (sent relay s r0 r) ≡ refusal r
-sent_trap relay s r0 (Ok choice) = refl
-sent_trap relay s r0 (Err cause) = refl
+sent_refusal : (relay : Relay) (s : State) (r0 : ℕ → ℕ) (r : Result Choice Cause) → trap_of (sent relay s r0 r) ≡ refusal r
+sent_refusal relay s r0 (Ok choice) = refl
+sent_refusal relay s r0 (Err cause) = refl
 
-attempted_trap : (relay : Relay) (s : State) (r : Result Entry Cause) → trap_of (attempted relay s r) ≡ refusal r
-attempted_trap relay s (Ok entry) = refl
-attempted_trap relay s (Err cause) = refl
+attempted_refusal : (relay : Relay) (s : State) (r : Result Entry Cause) → trap_of (attempted relay s r) ≡ refusal r
+attempted_refusal relay s (Ok entry) = refl
+attempted_refusal relay s (Err cause) = refl
 
 -- a chain refuses where its first part does, and else where the rest does
 chain : {A B : Type 0} (r : Result A Cause) (f : A → Result B Cause) (rest : Option Cause) → ((a : A) → r ≡ Ok a → refusal (f a) ≡ rest) → refusal (given r f) ≡ or_else (refusal r) rest
@@ -176,14 +176,14 @@ pass_traps s =
     ∙ both (refusal (argument s 1 384)) (refusal (argument s 2 8192)) None
 
 pub calls_trap : CallsTrapByTable
-calls_trap BoardGet context relay s = asked_trap s _ ∙ one s 64 Get
-calls_trap BoardSwap context relay s = asked_trap s _ ∙ swap_traps s Swap
-calls_trap BoardAdd context relay s = asked_trap s _ ∙ swap_traps s Add
-calls_trap BoardCas context relay s = asked_trap s _ ∙ cas_traps s
-calls_trap BoardCopy context relay s = asked_trap s _ ∙ copy_traps context s
-calls_trap Send context relay s = sent_trap relay s (λ set. 1 - set) (place_in s) ∙ place_traps s
-calls_trap SendRow context relay s = sent_trap relay s (λ set. set) (row_in context s) ∙ row_traps context s
-calls_trap Sway context relay s = sent_trap relay s (λ set. set) (sway_in s) ∙ sway_traps s
-calls_trap Honest context relay s = sent_trap relay s (λ set. set) _ ∙ one s 13 (as_taken context)
-calls_trap SignOrder context relay s = attempted_trap relay s (sign_in s) ∙ sign_traps s
-calls_trap PassOn context relay s = attempted_trap relay s (pass_in s) ∙ pass_traps s
+calls_trap BoardGet context relay s = asked_refusal s _ ∙ one s 64 Get
+calls_trap BoardSwap context relay s = asked_refusal s _ ∙ swap_traps s Swap
+calls_trap BoardAdd context relay s = asked_refusal s _ ∙ swap_traps s Add
+calls_trap BoardCas context relay s = asked_refusal s _ ∙ cas_traps s
+calls_trap BoardCopy context relay s = asked_refusal s _ ∙ copy_traps context s
+calls_trap Send context relay s = sent_refusal relay s (λ set. 1 - set) (place_in s) ∙ place_traps s
+calls_trap SendRow context relay s = sent_refusal relay s (λ set. set) (row_in context s) ∙ row_traps context s
+calls_trap Sway context relay s = sent_refusal relay s (λ set. set) (sway_in s) ∙ sway_traps s
+calls_trap Honest context relay s = sent_refusal relay s (λ set. set) _ ∙ one s 13 (as_taken context)
+calls_trap SignOrder context relay s = attempted_refusal relay s (sign_in s) ∙ sign_traps s
+calls_trap PassOn context relay s = attempted_refusal relay s (pass_in s) ∙ pass_traps s

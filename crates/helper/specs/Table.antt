@@ -1,6 +1,6 @@
 -- What the helpers take.
 use Rattle.std.specs.Prelude.{ℕ, ◌+◌, ◌^◌, ◌≡◌, List, [], ◌∷◌, Option, Some, None, Result, Ok, Err}
-use Rattle.semantics.specs.Limits.{board_words, most_generals, most_labels}
+use Rattle.semantics.specs.Limits.{board_words, most_generals, most_held, most_labels, receiver_sets}
 use Rattle.semantics.specs.Relay.{Relay}
 use Rattle.semantics.specs.declared.value.Value.{Value}
 use Rattle.semantics.specs.declared.request.Helper.{Helper}
@@ -18,8 +18,8 @@ bound_of Label = Some most_labels
 bound_of Receiver = Some most_generals
 bound_of Words = Some (board_words + 1)
 bound_of Orders = Some (most_generals + 1)
-bound_of Held = Some 384
-bound_of Receivers = Some 8192
+bound_of Held = Some most_held
+bound_of Receivers = Some receiver_sets
 bound_of StackPointer = None
 bound_of ReadablePointer = None
 

@@ -46,7 +46,7 @@ pub enum Insn {
         dst: Reg,
     },
     /// dst becomes the number.
-    LoadNumber {
+    LoadImmediate {
         dst: Reg,
         number: u64,
     },
@@ -120,7 +120,7 @@ impl Insn {
         ensures few { result ≤ 2 }
     {
         match self {
-            Insn::LoadNumber { .. } => 2,
+            Insn::LoadImmediate { .. } => 2,
             _ => 1,
         }
     }

@@ -4,10 +4,12 @@
 mod code;
 mod insn;
 mod program;
+mod recalling;
 mod reg;
-mod well;
+mod size;
 
 pub use code::Code;
 pub use insn::{Insn, Operand, Size};
 pub use program::{Program, code_at};
 pub use reg::Reg;
+pub use size::bytes_of_part;

@@ -9,7 +9,7 @@ use Rattle.std.proofs.lemmas.Bool.{and_parts, and_from, eqb-true, eq-eqb, ltb-tr
 use Rattle.label.specs.Labels.{on, others, is_distinct}
 use Rattle.label.specs.Oral.{AllBelow, BeginsWith, IsLabel}
 use Rattle.label.proofs.Places.{count_is_product, first_label, IsOneOf, all-at, labels-are, few_children, children_stand}
-use Rattle.label.proofs.Ranks.{children}
+use Rattle.label.proofs.Ranks.{children, others-at}
 use Rattle.label.proofs.Counting.{others-on}
 use Rattle.label.proofs.Bounds.{labels-few, most-fits}
 use Rattle.label.specs.declared.space.Space.{Space}
@@ -136,6 +136,10 @@ pub on-get : (xs : List ℕ) (t j : ℕ) → slice_get xs t ≡ Some j → on xs
 on-get [] t j e = cc
 on-get (x ∷ xs) zero j e = or_left (x == j) (on xs j) (eq-eqb x j cc)
 on-get (x ∷ xs) (suc t) j e = or_right (x == j) (on xs j) (on-get xs t j e)
+
+-- who stands among the others
+pub among : (n : ℕ) (w : List ℕ) (p : ℕ) → p < n → on w p ≡ false → on (others n w) p ≡ true
+among n w p l off = on-get (others n w) (length (others p w)) p (others-at n w p l off)
 
 -- a further general is new to the label
 pub general-fits : (n p : ℕ) (w : List ℕ) (t j : ℕ) → slice_get (others n (p ∷ w)) t ≡ Some j → (j < n) × (on w j ≡ false)

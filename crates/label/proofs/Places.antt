@@ -2,7 +2,7 @@
 use Rattle.std.proofs.Common.{ℕ, zero, suc, ◌+◌, ◌-◌, ◌*◌, ◌<◌, ◌≡◌, ◌≢◌, true, false, not, ◌||◌, List, [], ◌∷◌, ◌++◌, map, length, refl, sym, ap, ◌∙◌, arith, inl, inr, Some, None, Option, length-append, subst}
 use Rattle.std.specs.Prelude.{◌==◌, flat_map, slice_get, option_map}
 use Rattle.std.specs.List.{AllByRecursion}
-use Rattle.std.proofs.lemmas.List.{length-map}
+use Rattle.std.proofs.lemmas.List.{length-map, same_from_push}
 use Rattle.std.proofs.lemmas.Option.{slice_get_within, slice_get-map}
 use Rattle.std.proofs.lemmas.Bool.{cond-true, and_from, or_parts, or_from, or_left, or_right, eq-eqb, ne_eqb, not_from_false, eqb-false, cases_lt}
 use Rattle.label.specs.Labels.{on, is_distinct, others, lacks, labels}
@@ -113,20 +113,6 @@ mapped : (f : ℕ → List ℕ) (o : Option ℕ) (y : List ℕ) → option_map f
 mapped f None y e = cc
 mapped f (Some j) y e = (j, refl, cc)
 
--- lists that end alike
-pub snoc_same : (xs ys : List ℕ) (a b : ℕ) → xs ++ a ∷ [] ≡ ys ++ b ∷ [] → (xs ≡ ys) × (a ≡ b)
-snoc_same [] [] a b e = (refl, cc)
-snoc_same [] (y ∷ []) a b e = cc
-snoc_same [] (y ∷ z ∷ ys) a b e = cc
-snoc_same (x ∷ []) [] a b e = cc
-snoc_same (x ∷ z ∷ xs) [] a b e = cc
-snoc_same (x ∷ xs) (y ∷ ys) a b e =
-    let rest : xs ++ a ∷ [] ≡ ys ++ b ∷ [] = cc in
-    let same = snoc_same xs ys a b rest in
-    let first : x ≡ y = cc in
-    let tails : xs ≡ ys = same.0 in
-    (cc, same.1)
-
 one_only : (x : List ℕ) (i : ℕ) (w : List ℕ) → slice_get (x ∷ []) i ≡ Some w → i ≡ 0
 one_only x zero w e = refl
 one_only x (suc i) w e = cc
@@ -155,7 +141,7 @@ places_differ n c p zero inside within ne i i' w e e' =
 places_differ n c p (suc k) inside within ne i i' w e e' =
     let a : Born n c p k i w = born n c p k inside within ne i w e in
     let b : Born n c p k i' w = born n c p k inside within ne i' w e' in
-    let same = snoc_same a.parent b.parent a.j b.j (a.is ∙ sym b.is) in
+    let same = same_from_push a.parent b.parent a.j b.j (a.is ∙ sym b.is) in
     let qs : a.q ≡ b.q = places_differ n c p k inside within ne a.q b.q a.parent a.stands (b.stands ∙ ap Some (sym same.0)) in
     a.place ∙ (ap (λ q. q * (n - 2 - k) + length (others a.j (p ∷ a.parent))) qs
     ∙ (ap (λ j. b.q * (n - 2 - k) + length (others j (p ∷ a.parent))) same.1

@@ -27,10 +27,11 @@ order_of (Some v) = v
 abbrev pub Messages : Type 0
 Messages = List ℕ → ℕ → Option ℕ
 
+-- the order that a receiver takes of a label
 abbrev pub taken : Messages → List ℕ → ℕ → ℕ
 taken M w p = order_of (M w p)
 
--- what a general relays of a label: of the empty one the commander has his order
+-- what a general took of a label: of the empty one his order (the commander alone relays it)
 abbrev pub heard : Messages → ℕ → List ℕ → ℕ → ℕ
 heard M order [] g = order
 heard M order (x ∷ xs) g = taken M (x ∷ xs) g
@@ -40,7 +41,7 @@ unfoldable pub om : (List ℕ → ℕ) → ℕ → Messages → ℕ → List ℕ
 om f n M zero w p = taken M w p
 om f n M (suc k) w p = f (map (λ j. cond (j == p) (taken M w p) (om f n M k (w ++ j ∷ []) p)) (others n w))
 
--- a general tells each receiver what it took
+-- a general tells each receiver what he took
 abbrev pub IsFaithful : ℕ → ℕ → ℕ → ℕ → Messages → ℕ → Type 0
 IsFaithful n c m order M g =
     (u : List ℕ) (p : ℕ) → IsLabel n c (u ++ g ∷ []) → length u ≤ m → p < n → on (u ++ g ∷ []) p ≡ false

@@ -3,7 +3,7 @@ use Rattle.std.specs.Prelude.{ℕ, ◌-◌, ◌<◌, ◌≤◌, ◌==◌, if◌t
 use Rattle.label.specs.declared.shape.Shape.{Shape}
 use Rattle.label.specs.Labels.{labels, others}
 
--- the limits of a relay: a general of 1 to 13, in one of the rounds 1 to 5
+-- the limits of a relay: one of at most 13 generals, numbered from 0, in one of the rounds 1 to 5
 pub record IsShape (s : Shape) : Type 0 where
   pub few : s.generals ≤ 13
   pub commander : s.commander < s.generals

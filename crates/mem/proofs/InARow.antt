@@ -12,9 +12,9 @@ use Rattle.semantics.specs.declared.value.Value.{Value}
 use Rattle.semantics.specs.declared.value.Cell.{Cell}
 use Rattle.semantics.specs.declared.value.Cell.TheVariants.{Empty, Byte, Piece}
 use Rattle.semantics.specs.State.{Cause, given}
-use Rattle.semantics.specs.Memory.{region_cells, bytes_in, overwritten, stack_place, with_words}
+use Rattle.semantics.specs.Memory.{region_cells, bytes_in, overwritten, stack_place, with_words, room_of}
 use Rattle.semantics.specs.Call.{orders_of}
-use Rattle.mem.specs.Places.{place_at, part_at, room_of}
+use Rattle.mem.specs.Places.{place_at, part_at}
 use Rattle.mem.specs.Reading.{number_in}
 use Rattle.mem.specs.Rows.{row_at}
 use Rattle.mem.proofs.Parts.{take-split}

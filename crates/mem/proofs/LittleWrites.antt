@@ -1,16 +1,9 @@
 -- Numbers written into bytes.
 use Rattle.std.proofs.Common.{◌≡◌, ℕ, ◌+◌, ◌-◌, ◌/◌, ◌%◌, ◌<◌, ◌≤◌, List, [], ◌∷◌, ◌++◌, length, take, drop, set, refl, ap, ◌∙◌, arith, append-nil}
-use Rattle.std.proofs.lemmas.List.{take_all, drop-drop, length-drop, set_split}
+use Rattle.std.proofs.lemmas.List.{take_all, drop_all, drop-drop, length-drop, set_split}
 use borrow.Rule.Slice.PartMut.{put_mid, mid_of}
 use Rattle.word.specs.Bytes.{little_bytes}
 use Rattle.mem.specs.Layout.{replaced}
-
-drop_all : (n : ℕ) (xs : List ℕ) → length xs ≤ n → drop n xs ≡ []
-drop_all n xs h = none (drop n xs) (omega (arith, length-drop n xs))
-  where
-    none : (l : List ℕ) → length l ≡ 0 → l ≡ []
-    none [] e = refl
-    none (x ∷ l) e = absurd (omega arith)
 
 -- the rest from a place on
 rest_is : (xs : List ℕ) (place : ℕ) → length xs ≡ 512 → place ≤ 512 → mid_of place (512 - place) xs ≡ drop place xs

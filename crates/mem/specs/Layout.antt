@@ -2,6 +2,7 @@
 -- A piece has its pointer's offset at the place of the first piece: whoever writes there overwrites every piece of that pointer.
 use Rattle.std.specs.Prelude.{ℕ, zero, suc, ◌+◌, ◌-◌, ◌%◌, ◌≡◌, nat_lt, if◌then◌else◌, List, [], ◌∷◌, ◌++◌, take, drop, length, slice_index}
 use Rattle.std.specs.Int.{w32, cast_signed}
+use Rattle.semantics.specs.Limits.{stack_size}
 use Rattle.semantics.specs.declared.value.Region.{Region}
 use Rattle.semantics.specs.declared.value.Region.TheVariants.{Stack, Context}
 use Rattle.semantics.specs.declared.value.Cell.{Cell}
@@ -30,9 +31,9 @@ cells_from kinds bytes offsets place zero = []
 cells_from kinds bytes offsets place (suc n) = cell_at kinds bytes offsets place ∷ cells_from kinds bytes offsets (suc place) n
 
 pub record HasRoom (kinds bytes offsets : List ℕ) : Type 0 where
-  pub kinds_room : length kinds ≡ 512
-  pub bytes_room : length bytes ≡ 512
-  pub offsets_room : length offsets ≡ 512
+  pub kinds_room : length kinds ≡ stack_size
+  pub bytes_room : length bytes ≡ stack_size
+  pub offsets_room : length offsets ≡ stack_size
 
 -- the kinds of the pieces of a pointer, as one number
 abbrev pub pieces : Region → ℕ

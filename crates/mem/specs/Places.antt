@@ -1,17 +1,11 @@
 -- Where windows lie.
 use Rattle.std.specs.Prelude.{ℕ, ℤ, ◌+ℤ◌, List, take, drop, Result, Ok, Err}
 use Rattle.semantics.specs.declared.value.Region.{Region}
-use Rattle.semantics.specs.declared.value.Region.TheVariants.{Stack, Context}
 use Rattle.semantics.specs.declared.value.Value.{Value}
 use Rattle.semantics.specs.declared.value.Value.TheVariants.{Unset, Number, Pointer}
 use Rattle.semantics.specs.declared.value.Cell.{Cell}
 use Rattle.semantics.specs.State.{Cause, UnsetRegister, PointerUse, given}
 use Rattle.semantics.specs.Memory.{window, region_cells}
-
--- how many bytes a region has
-abbrev pub room_of : Region → ℕ
-room_of Stack = 512
-room_of Context = 4096
 
 -- the region and place of a window at a pointer and a distance
 abbrev pub place_at : Value → ℤ → ℕ → Result (Region × ℕ) Cause

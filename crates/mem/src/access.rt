@@ -1,8 +1,8 @@
 ghost use Rattle.std.specs.Prelude.{◌≡◌, ◌+◌, ◌≤◌, Ok, Err, OnOk, IfErr, IsOk};
 ghost use Rattle.insn.specs.Insn.{bytes_of, part_bytes};
-ghost use Rattle.semantics.specs.Memory.{loaded, loaded_signed, stored, value_in};
+ghost use Rattle.semantics.specs.Memory.{loaded, loaded_signed, stored, value_in, room_of};
 ghost use Rattle.mem.specs.Answers.{IsAnswer, cause_of};
-ghost use Rattle.mem.specs.Places.{part_at, room_of};
+ghost use Rattle.mem.specs.Places.{part_at};
 ghost use Rattle.mem.specs.Reading.{number_in};
 
 use crate::context::Context;

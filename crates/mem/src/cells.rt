@@ -26,7 +26,7 @@ fn byte_at(stack: &Stack, place: usize) -> Option<u8>
     requires { place + 1 ≤ 512 }
     ensures { Reads stack.now place 1 result }
 {
-    stack.tell();
+    stack.recall();
     match stack.cell(place) {
         Cell::Byte(byte) => Some(byte),
         _ => None,
@@ -38,7 +38,7 @@ fn half_at(stack: &Stack, place: usize) -> Option<u16>
     requires { place + 2 ≤ 512 }
     ensures { Reads stack.now place 2 result }
 {
-    stack.tell();
+    stack.recall();
     let low = byte_at(stack, place)?;
     let high = byte_at(stack, place + 1)?;
     Some(u16::from(low) + 256 * u16::from(high))
@@ -49,7 +49,7 @@ pub fn word_at(stack: &Stack, place: usize) -> Option<u32>
     requires { place + 4 ≤ 512 }
     ensures { Reads stack.now place 4 result }
 {
-    stack.tell();
+    stack.recall();
     let low = half_at(stack, place)?;
     let high = half_at(stack, place + 2)?;
     Some(u32::from(low) + 0x1_0000 * u32::from(high))
@@ -60,7 +60,7 @@ fn double_at(stack: &Stack, place: usize) -> Option<u64>
     requires { place + 8 ≤ 512 }
     ensures { Reads stack.now place 8 result }
 {
-    stack.tell();
+    stack.recall();
     let low = word_at(stack, place)?;
     let high = word_at(stack, place + 4)?;
     Some(u64::from(low) + 0x1_0000_0000 * u64::from(high))
@@ -91,7 +91,7 @@ pub fn are_pieces(stack: &Stack, place: usize, region: Region, offset: i32) -> b
     requires { place + 8 ≤ 512 }
     ensures { result ≡ are_pieces region offset 0 (take 8 (drop place stack.now)) }
 {
-    stack.tell();
+    stack.recall();
     for i in 0..8usize {
         if !is_piece(stack.cell(place + i), i as u8, region, offset) {
             return false;

@@ -1,8 +1,8 @@
 //! Numbers in a row at a pointer.
 ghost use Rattle.std.specs.Prelude.{◌≡◌, ◌+◌, ◌-◌, ◌*◌, ◌≤◌, take, drop, replicate, length, Ok, Err, IfOk, IfErr};
-ghost use Rattle.semantics.specs.Memory.{with_words};
+ghost use Rattle.semantics.specs.Memory.{with_words, room_of};
 ghost use Rattle.mem.specs.Answers.{IsAnswer, cause_of};
-ghost use Rattle.mem.specs.Places.{part_at, room_of};
+ghost use Rattle.mem.specs.Places.{part_at};
 ghost use Rattle.mem.specs.Reading.{number_in};
 ghost use Rattle.mem.specs.Rows.{row_at};
 
@@ -25,7 +25,7 @@ pub fn load_row(
     ensures rest { IfOk result (λ row. drop count row ≡ replicate (13 - count) 0) }
     ensures refused { IfErr result (λ f. row_at context.now stack.now base count ≡ Err (cause_of f)) }
 {
-    stack.tell();
+    stack.recall();
     let _bytes = context.bytes();
     let (region, place) = part_at(base, 0, 4 * count)?;
     let mut row = [0; 13];
@@ -56,7 +56,7 @@ pub fn store_words(stack: &mut Stack, base: Value, words: &[u64])
     requires { length words.now ≤ 64 }
     ensures { stack.new ≡ with_words stack.old base words.now }
 {
-    stack.tell();
+    stack.recall();
     let Ok(place) = stack_part(base, 0, 8 * words.len()) else {
         return;
     };

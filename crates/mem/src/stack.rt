@@ -67,7 +67,7 @@ impl Stack {
     }
 
     /// It has all its cells.
-    pub(crate) fn tell(&self)
+    pub(crate) fn recall(&self)
         ensures { length self.now ≡ 512 }
     {
         let _ = &self.kinds;
@@ -95,7 +95,7 @@ impl Stack {
         requires { place + bytes_of size ≤ 512 }
         ensures { IsAnswer (value_in (take (bytes_of size) (drop place self.now))) result }
     {
-        self.tell();
+        self.recall();
         match self.cell(place) {
             Cell::Empty => Err(MemoryFault::NoBytes),
             Cell::Byte(_) => Ok(Value::Number(self.number(place, size)?)),

@@ -1,26 +1,15 @@
 //! Where windows lie.
 ghost use Rattle.std.specs.Prelude.{◌≡◌, ◌+◌, ◌+ℤ◌, ◌≤◌, IfOk, IsOk, Ok};
 ghost use Rattle.insn.specs.Insn.{bytes_of};
-ghost use Rattle.semantics.specs.Memory.{inside, window, stack_place};
+ghost use Rattle.semantics.specs.Memory.{inside, window, stack_place, room_of};
 ghost use Rattle.mem.specs.Answers.{IsAnswer};
-ghost use Rattle.mem.specs.Places.{place_at, room_of};
+ghost use Rattle.mem.specs.Places.{place_at};
 
+use crate::context::Context;
 use crate::fault::MemoryFault;
+use crate::stack::Stack;
 use insn::Size;
 use semantics::{Region, Value};
-
-/// How many bytes are read or written.
-fn bytes_of(size: Size) -> usize
-    ensures same { result ≡ bytes_of size }
-    ensures few { result ≤ 8 }
-{
-    match size {
-        Size::Byte => 1,
-        Size::Half => 2,
-        Size::Word => 4,
-        Size::Double => 8,
-    }
-}
 
 /// The place of a window in a room of so many bytes.
 fn inside(room: usize, size: usize, place: i64) -> Result<usize, MemoryFault>
@@ -47,8 +36,8 @@ fn window(region: Region, offset: i32, distance: i16, size: usize) -> Result<usi
 {
     let offset = i64::from(offset) + i64::from(distance);
     match region {
-        Region::Stack => inside(512, size, offset + 512),
-        Region::Context => inside(4096, size, offset),
+        Region::Stack => inside(Stack::CELLS, size, offset + Stack::CELLS as i64),
+        Region::Context => inside(Context::BYTES, size, offset),
     }
 }
 
@@ -73,7 +62,7 @@ pub fn place_at(base: Value, distance: i16, size: Size) -> Result<(Region, usize
     ensures answer { IsAnswer (place_at base distance (bytes_of size)) result }
     ensures fits { IfOk result (λ p. p.1 + bytes_of size ≤ room_of p.0) }
 {
-    part_at(base, distance, bytes_of(size))
+    part_at(base, distance, size.bytes())
 }
 
 /// The place of a window of so many bytes that is written.
@@ -95,7 +84,7 @@ pub fn stack_place(base: Value, distance: i16, size: Size) -> Result<usize, Memo
     ensures answer { IsAnswer (stack_place base distance (bytes_of size)) result }
     ensures fits { IfOk result (λ p. p + bytes_of size ≤ 512) }
 {
-    stack_part(base, distance, bytes_of(size))
+    stack_part(base, distance, size.bytes())
 }
 
 /// The place of a window that is known to lie in a room of so many bytes.
@@ -119,7 +108,7 @@ pub fn known_place(region: Region, offset: i64, distance: i16, size: Size) -> us
 {
     let offset = offset + i64::from(distance);
     match region {
-        Region::Stack => known_inside(512, size, offset + 512),
-        Region::Context => known_inside(4096, size, offset),
+        Region::Stack => known_inside(Stack::CELLS, size, offset + Stack::CELLS as i64),
+        Region::Context => known_inside(Context::BYTES, size, offset),
     }
 }

@@ -1,8 +1,6 @@
 -- The labels of a length, walked from the commander's on.
 use Rattle.std.proofs.Common.{ℕ, zero, suc, ◌+◌, ◌-◌, ◌≤◌, ◌≡◌, ◌≢◌, Bool, true, false, not, cond, ◌||◌, ◌&&◌, List, [], ◌∷◌, ◌++◌, map, length, take, refl, sym, ap, ◌∙◌, arith}
 use Rattle.std.specs.Prelude.{◌==◌, filter, flat_map}
-use Rattle.std.proofs.Math.Bool.{or_comm}
-use Rattle.std.proofs.lemmas.Bool.Decides.{nat_tests}
 use Rattle.std.proofs.lemmas.List.{append-nil, take_all}
 use Rattle.std.proofs.lemmas.List.Concat.{flat_map_single}
 use Rattle.std.proofs.lemmas.List.Folds.{flat_map-map}
@@ -12,14 +10,11 @@ use Rattle.label.specs.declared.shape.Shape.{Shape}
 use Rattle.label.specs.Labels.{on, others, generals, labels}
 use Rattle.label.specs.Relay.{receivers}
 use Rattle.label.proofs.Counting.{on-push}
+use Rattle.label.proofs.Below.{turned}
 use Rattle.label.proofs.Ranks.{children, labels-next, eqb_sym}
 use Rattle.label.proofs.Places.{first_label}
 use Rattle.outbox.specs.Rows.{RowOrders, row_for}
 use Rattle.outbox.specs.Receivers.{struck, rows_under}
-
--- the receiver stands before the label or behind it
-pub others_before : (n p : ℕ) (w : List ℕ) → others n (p ∷ w) ≡ others n (w ++ p ∷ [])
-others_before n p w = filter_agree (λ x. not (on (p ∷ w) x)) (λ x. not (on (w ++ p ∷ []) x)) (λ x. ap not (or_comm (p == x) (on w x) ∙ sym (on-push w p x))) (generals n)
 
 -- a general who stands twice
 pub others_twice : (n p : ℕ) → others n (p ∷ p ∷ []) ≡ others n (p ∷ [])
@@ -61,7 +56,7 @@ map_same f g h (j ∷ js) = rw (h j, map_same f g h js) refl
 under_next : (s : Shape) (k : ℕ) (w : List ℕ) → rows_under (suc k) (receivers s w) ≡ deep s k (children s.generals s.general w)
 under_next s k w =
     map_same (λ j. rows_under k (struck j (receivers s w))) (λ j. rows_under k (receivers s (w ++ j ∷ []))) (λ j. ap (rows_under k) (struck_more w j s.general (generals s.generals))) (receivers s w)
-    ∙ (ap (flat_map (λ j. rows_under k (receivers s (w ++ j ∷ [])))) (sym (others_before s.generals s.general w))
+    ∙ (ap (flat_map (λ j. rows_under k (receivers s (w ++ j ∷ [])))) (sym (turned s.generals w s.general))
     ∙ sym (flat_map-map (λ v. rows_under k (receivers s v)) (λ j. w ++ j ∷ []) (others s.generals (s.general ∷ w))))
 
 deep_next : (s : Shape) (k : ℕ) (ws : List (List ℕ)) → deep s (suc k) ws ≡ deep s k (flat_map (children s.generals s.general) ws)

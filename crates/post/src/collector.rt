@@ -17,7 +17,7 @@ impl Model for Collector {
     ghost Value = { CollectorSeen };
 
     ghost view = { λ c. record {
-      post = c.pass.table_id;
+      table = c.pass.table_id;
       taken = c.pass.me.0.client.letters;
       generals = c.pass.me.0.client.made;
     } };

@@ -29,7 +29,7 @@ impl Model for Post {
 
     ghost Value = { PostSeen };
 
-    ghost view = { λ p. record { post = p.queue.table.shared.table_id; capacity = ruled_capacity p.queue } };
+    ghost view = { λ p. record { table = p.queue.table.shared.table_id; capacity = ruled_capacity p.queue } };
 }
 
 impl Post {
@@ -46,8 +46,8 @@ impl Post {
         requires { 0 < capacity }
         ensures post { IfOk result (λ r. r.0.capacity ≡ capacity) }
         ensures count { IfOk result (λ r. length r.1.items ≡ generals) }
-        ensures posters { IfOk result (λ r. (g : ℕ) (d : PosterSeen) → g < generals → slice_index_or r.1.items g d ≡ poster_seen r.0.post g []) }
-        ensures collector { IfOk result (λ r. r.2 ≡ collector_seen r.0.post [] generals) }
+        ensures posters { IfOk result (λ r. (g : ℕ) (d : PosterSeen) → g < generals → slice_index_or r.1.items g d ≡ poster_seen r.0.table g []) }
+        ensures collector { IfOk result (λ r. r.2 ≡ collector_seen r.0.table [] generals) }
     {
         let (queue, mut pass) = Queue::ruled(alloc, capacity)?;
         let mut posters = Vec::with_capacity(alloc, usize::from(generals))?;
@@ -65,9 +65,9 @@ impl Post {
         poster: Poster,
         letter: Letter,
     ) -> (Poster, Result<(), Letter>)
-        requires post { poster.post ≡ self.now.post }
+        requires post { poster.table ≡ self.now.table }
         requires general { letter.general ≡ poster.general }
-        ensures post { result.0.post ≡ poster.post }
+        ensures post { result.0.table ≡ poster.table }
         ensures general { result.0.general ≡ poster.general }
         ensures posted { MatchResult result.1
             (λ _. result.0.posted ≡ poster.posted ++ letter ∷ [])
@@ -80,8 +80,8 @@ impl Post {
 
     /// Takes the oldest letter, where there is one.
     pub fn take<R: Wait>(&self, rt: &R, collector: Collector) -> (Collector, Option<Letter>)
-        requires post { collector.post ≡ self.now.post }
-        ensures post { result.0.post ≡ collector.post }
+        requires post { collector.table ≡ self.now.table }
+        ensures post { result.0.table ≡ collector.table }
         ensures generals { result.0.generals ≡ collector.generals }
         ensures taken { MatchOption result.1
             (result.0.taken ≡ collector.taken)
@@ -104,8 +104,8 @@ impl Post {
         posters: Vec<Poster>,
         collector: Collector,
     ) -> Result<Vec<Letter>, AllocError>
-        requires posters { All (λ p. p.post ≡ self.post) posters.items }
-        requires collector { collector.post ≡ self.post }
+        requires posters { All (λ p. p.table ≡ self.table) posters.items }
+        requires collector { collector.table ≡ self.table }
         ensures left { IfOk result (λ left. AreDelivered (collector.taken ++ left.items) (map (λ p. posted p.general p.posted) posters.items)) }
         ensures lost { IfErr result (λ _. (queued : List LetterSeen) × AreDelivered (collector.taken ++ queued) (map (λ p. posted p.general p.posted) posters.items)) }
     {
@@ -127,7 +127,7 @@ fn all_back(
     requires pass { IsPassOf queue.now pass }
     requires takes { (view pass).takes ≡ true }
     requires back { (view pass).back ≡ [] }
-    requires posters { All (λ p. p.post ≡ queue.now.table.shared.table_id) posters.items }
+    requires posters { All (λ p. p.table ≡ queue.now.table.shared.table_id) posters.items }
     ensures pass { IsPassOf queue.now result }
     ensures takes { (view result).takes ≡ true }
     ensures taken { (view result).letters ≡ (view pass).letters }

@@ -17,7 +17,7 @@ impl Model for Poster {
     ghost Value = { PosterSeen };
 
     ghost view = { λ p. record {
-      post = p.pass.table_id;
+      table = p.pass.table_id;
       general = p.pass.me.0.client.general;
       posted = p.pass.me.0.client.letters;
     } };

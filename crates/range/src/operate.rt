@@ -1,7 +1,7 @@
 //! The table of operations.
 
 ghost use Rattle.std.specs.Prelude.{◌≡◌, ◌<◌, ◌^◌, ℕ};
-ghost use Rattle.word.specs.Arithmetic.{bits_of, operated, arithmetic};
+ghost use Rattle.word.specs.Arithmetic.{bits_of, arithmetic};
 ghost use Rattle.range.specs.Interval.{IsIn};
 ghost use Rattle.range.specs.Table.{table, row};
 
@@ -43,8 +43,6 @@ fn by_row(width: Width, operation: Operation, a: Range, b: Range) -> Range
     requires left { a.1 < 2 ^ bits_of width }
     requires right { b.1 < 2 ^ bits_of width }
     ensures exact { result ≡ row width operation a.0 a.1 b.0 b.1 }
-    ensures holds { (x y : ℕ) → IsIn a.0 a.1 x → IsIn b.0 b.1 y
-        → IsIn result.0 result.1 (operated width operation x y) }
     ensures below { result.1 < 2 ^ bits_of width }
 {
     match operation {
@@ -61,6 +59,6 @@ fn by_row(width: Width, operation: Operation, a: Range, b: Range) -> Range
         Operation::SignedMod => quotients::remain_signed(width, a, b),
         Operation::Xor => bitwise::xor(a, b),
         Operation::Move => b,
-        Operation::ShiftSigned => shifts::shift_signed(width, a, b),
+        Operation::ArithmeticShiftRight => shifts::shift_signed(width, a, b),
     }
 }

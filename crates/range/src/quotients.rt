@@ -1,19 +1,16 @@
 //! Quotients and remainders of ranges of one width.
 
-ghost use Rattle.std.specs.Prelude.{◌≡◌, ◌≤◌, ◌<◌, ◌^◌, ℕ};
-ghost use Rattle.word.specs.Arithmetic.{bits_of, operated};
-ghost use Rattle.range.specs.Interval.{IsIn};
+ghost use Rattle.std.specs.Prelude.{◌≡◌, ◌≤◌, ◌<◌, ◌^◌};
+ghost use Rattle.word.specs.Arithmetic.{bits_of};
 ghost use Rattle.range.specs.Table.{quotients, remainders, signed_quotients, signed_remainders};
 
 use crate::range::Range;
 use crate::used::{least_negative, of_width};
-use word::{Operation, Width};
+use word::Width;
 
 /// The range of the quotients, 0 where the divisor is.
 pub(crate) fn divide(width: Width, a: Range, b: Range) -> Range
     ensures exact { result ≡ quotients a.0 a.1 b.0 b.1 }
-    ensures holds { (x y : ℕ) → IsIn a.0 a.1 x → IsIn b.0 b.1 y
-        → IsIn result.0 result.1 (operated width Operation.Div x y) }
     ensures below { result.1 ≤ a.1 }
 {
     let _ = width;
@@ -32,8 +29,6 @@ pub(crate) fn divide(width: Width, a: Range, b: Range) -> Range
 /// The range of what is left, the first number where the divisor is 0.
 pub(crate) fn remain(width: Width, a: Range, b: Range) -> Range
     ensures exact { result ≡ remainders a.0 a.1 b.0 b.1 }
-    ensures holds { (x y : ℕ) → IsIn a.0 a.1 x → IsIn b.0 b.1 y
-        → IsIn result.0 result.1 (operated width Operation.Mod x y) }
     ensures below { result.1 ≤ a.1 }
 {
     let _ = width;
@@ -57,8 +52,6 @@ pub(crate) fn divide_signed(width: Width, a: Range, b: Range) -> Range
     requires left { a.1 < 2 ^ bits_of width }
     requires right { b.1 < 2 ^ bits_of width }
     ensures exact { result ≡ signed_quotients width a.0 a.1 b.0 b.1 }
-    ensures holds { (x y : ℕ) → IsIn a.0 a.1 x → IsIn b.0 b.1 y
-        → IsIn result.0 result.1 (operated width Operation.SignedDiv x y) }
     ensures below { result.1 < 2 ^ bits_of width }
 {
     let limit = least_negative(width);
@@ -73,8 +66,6 @@ pub(crate) fn remain_signed(width: Width, a: Range, b: Range) -> Range
     requires left { a.1 < 2 ^ bits_of width }
     requires right { b.1 < 2 ^ bits_of width }
     ensures exact { result ≡ signed_remainders width a.0 a.1 b.0 b.1 }
-    ensures holds { (x y : ℕ) → IsIn a.0 a.1 x → IsIn b.0 b.1 y
-        → IsIn result.0 result.1 (operated width Operation.SignedMod x y) }
     ensures below { result.1 < 2 ^ bits_of width }
 {
     let limit = least_negative(width);

@@ -1,20 +1,17 @@
 //! Shifts of ranges of one width.
 
-ghost use Rattle.std.specs.Prelude.{◌≡◌, ◌≤◌, ◌<◌, ◌^◌, ℕ};
-ghost use Rattle.word.specs.Arithmetic.{bits_of, operated};
-ghost use Rattle.range.specs.Interval.{IsIn};
+ghost use Rattle.std.specs.Prelude.{◌≡◌, ◌≤◌, ◌<◌, ◌^◌};
+ghost use Rattle.word.specs.Arithmetic.{bits_of};
 ghost use Rattle.range.specs.Table.{left_shifts, right_shifts, signed_shifts};
 
 use crate::range::Range;
 use crate::used::{bit_count, greatest, least_negative, of_width};
-use word::{Operation, Width};
+use word::Width;
 
 /// The range of the numbers shifted left.
 pub(crate) fn shift_left(width: Width, a: Range, b: Range) -> Range
     requires left { a.1 < 2 ^ bits_of width }
     ensures exact { result ≡ left_shifts width a.0 a.1 b.0 b.1 }
-    ensures holds { (x y : ℕ) → IsIn a.0 a.1 x → IsIn b.0 b.1 y
-        → IsIn result.0 result.1 (operated width Operation.ShiftLeft x y) }
     ensures below { result.1 < 2 ^ bits_of width }
 {
     if b.lo != b.hi {
@@ -33,8 +30,6 @@ pub(crate) fn shift_left(width: Width, a: Range, b: Range) -> Range
 /// The range of the numbers shifted right.
 pub(crate) fn shift_right(width: Width, a: Range, b: Range) -> Range
     ensures exact { result ≡ right_shifts width a.0 a.1 b.0 b.1 }
-    ensures holds { (x y : ℕ) → IsIn a.0 a.1 x → IsIn b.0 b.1 y
-        → IsIn result.0 result.1 (operated width Operation.ShiftRight x y) }
     ensures below { result.1 ≤ a.1 }
 {
     if b.lo != b.hi {
@@ -51,8 +46,6 @@ pub(crate) fn shift_right(width: Width, a: Range, b: Range) -> Range
 pub(crate) fn shift_signed(width: Width, a: Range, b: Range) -> Range
     requires left { a.1 < 2 ^ bits_of width }
     ensures exact { result ≡ signed_shifts width a.0 a.1 b.0 b.1 }
-    ensures holds { (x y : ℕ) → IsIn a.0 a.1 x → IsIn b.0 b.1 y
-        → IsIn result.0 result.1 (operated width Operation.ShiftSigned x y) }
     ensures below { result.1 < 2 ^ bits_of width }
 {
     if a.hi < least_negative(width) {

@@ -1,21 +1,18 @@
 //! Sums, differences and products of ranges of one width.
 
-ghost use Rattle.std.specs.Prelude.{◌≡◌, ◌<◌, ◌^◌, ℕ};
-ghost use Rattle.word.specs.Arithmetic.{bits_of, operated};
-ghost use Rattle.range.specs.Interval.{IsIn};
+ghost use Rattle.std.specs.Prelude.{◌≡◌, ◌<◌, ◌^◌};
+ghost use Rattle.word.specs.Arithmetic.{bits_of};
 ghost use Rattle.range.specs.Table.{sums, differences, products};
 
 use crate::range::Range;
 use crate::used::{greatest, of_width};
-use word::{Operation, Width};
+use word::Width;
 
 /// The range of the wrapping sums.
 pub(crate) fn add(width: Width, a: Range, b: Range) -> Range
     requires left { a.1 < 2 ^ bits_of width }
     requires right { b.1 < 2 ^ bits_of width }
     ensures exact { result ≡ sums width a.0 a.1 b.0 b.1 }
-    ensures holds { (x y : ℕ) → IsIn a.0 a.1 x → IsIn b.0 b.1 y
-        → IsIn result.0 result.1 (operated width Operation.Add x y) }
     ensures below { result.1 < 2 ^ bits_of width }
 {
     let top = greatest(width);
@@ -39,8 +36,6 @@ pub(crate) fn subtract(width: Width, a: Range, b: Range) -> Range
     requires left { a.1 < 2 ^ bits_of width }
     requires right { b.1 < 2 ^ bits_of width }
     ensures exact { result ≡ differences width a.0 a.1 b.0 b.1 }
-    ensures holds { (x y : ℕ) → IsIn a.0 a.1 x → IsIn b.0 b.1 y
-        → IsIn result.0 result.1 (operated width Operation.Sub x y) }
     ensures below { result.1 < 2 ^ bits_of width }
 {
     if a.lo >= b.hi {
@@ -64,8 +59,6 @@ pub(crate) fn multiply(width: Width, a: Range, b: Range) -> Range
     requires left { a.1 < 2 ^ bits_of width }
     requires right { b.1 < 2 ^ bits_of width }
     ensures exact { result ≡ products width a.0 a.1 b.0 b.1 }
-    ensures holds { (x y : ℕ) → IsIn a.0 a.1 x → IsIn b.0 b.1 y
-        → IsIn result.0 result.1 (operated width Operation.Mul x y) }
     ensures below { result.1 < 2 ^ bits_of width }
 {
     let Some(hi) = a.hi.checked_mul(b.hi) else {

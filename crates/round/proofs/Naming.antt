@@ -9,8 +9,8 @@ use Rattle.outbox.specs.Rows.{RowOrders, order_in}
 use Rattle.outbox.proofs.RowLemmas.{others-few}
 use Rattle.tree.specs.LieutenantTree.{LieutenantTree, IsCampaign}
 use Rattle.round.specs.Letters.{Letter}
-use Rattle.round.specs.Told.{told_now}
-use Rattle.round.specs.Delivery.{AreTellersOf, IsWalk, past}
+use Rattle.round.specs.Told.{lieutenant_at, told_now}
+use Rattle.round.specs.Delivery.{AreTellersOf, IsWalk}
 use Rattle.round.specs.declared.front.Front.{Front}
 use Rattle.round.proofs.Striking.{different, named, struck_before, struck_others, struck_past}
 use Rattle.round.proofs.Lists.{some_at}
@@ -70,19 +70,19 @@ module _ (t : LieutenantTree) (row : List Letter) (places : List ℕ) (k : ℕ) 
       omega arith
 
   -- what the one at a place tells, where the lieutenant is passed over
-  pub tells_past : f.size + 1 ≡ k → (first width place : ℕ) → width ≡ t.generals - k → first ≡ slice_index f.ranks t.general * width → place < width → (value : Option ℕ) → ((r : Bor RowOrders) → slice_get rows (past own place) ≡ Some r → value ≡ order_in t.general r.now) →
+  pub tells_past : f.size + 1 ≡ k → (first width place : ℕ) → width ≡ t.generals - k → first ≡ slice_index f.ranks t.general * width → place < width → (value : Option ℕ) → ((r : Bor RowOrders) → slice_get rows (lieutenant_at own place) ≡ Some r → value ≡ order_in t.general r.now) →
       (w : List ℕ) → slice_get (labels t.generals t.commander t.general k) (first + place) ≡ Some w → value ≡ told_now row w t.general
   tells_past last first width place ew ef lt value is w there = ⊎_elim
       (λ (q : nat_lt place own ≡ true).
       let before : place < own = ltb-true place own q in
-      let here : past own place ≡ place = ap (λ (b : Bool). if b then place else place + 1) q in
+      let here : lieutenant_at own place ≡ place = ap (λ (b : Bool). if b then place else place + 1) q in
       let who = teller_before place before in
       let few : place < a.count = let l = a.within in omega arith in
       tell_child t row places k f walk last c first width place (get_or a.generals place 0) ew ef who.within who.away who.stands value
       (let row = some_at rows place (let f = a.all.few in let l = a.all.wide in let m = c.few in omega arith) in is row.0 (ap (λ (i : ℕ). slice_get rows i) here ∙ row.1) ∙ a.all.rows place t.general row.0 few row.1) w there)
       (λ (q : nat_lt place own ≡ false).
       let behind : own ≤ place = ltb-false place own q in
-      let here : past own place ≡ place + 1 = ap (λ (b : Bool). if b then place else place + 1) q in
+      let here : lieutenant_at own place ≡ place + 1 = ap (λ (b : Bool). if b then place else place + 1) q in
       let few : place + 1 < a.count = let all = all_tell in omega arith in
       let who = teller_past place behind few in
       tell_child t row places k f walk last c first width place (get_or a.generals (place + 1) 0) ew ef who.within who.away who.stands value

@@ -6,6 +6,7 @@ use Rattle.std.proofs.lemmas.Bool.Decides.{eqb_tells, nat_tests}
 use Rattle.std.proofs.lemmas.Option.{slice_get_within, slice_get-get_or}
 use Rattle.label.specs.Labels.{on, others, generals}
 use Rattle.label.proofs.Counting.{others-on}
+use Rattle.label.proofs.Counts.{on-get}
 use Rattle.label.proofs.Ranks.{others-more_no, others-more_yes, eqb_sym}
 use Rattle.outbox.specs.Receivers.{struck}
 use Rattle.std.proofs.Math.Seq.{take-length}
@@ -123,15 +124,6 @@ take_twice zero (suc i) xs le = absurd (omega arith)
 take_twice (suc k) (suc i) [] le = refl
 take_twice (suc k) (suc i) (x ∷ xs) le = ap (λ zs. x ∷ zs) (take_twice k i xs (omega arith))
 
-pub on_get : (i x : ℕ) (xs : List ℕ) → slice_get xs i ≡ Some x → on xs x ≡ true
-on_get i x [] e = cc
-on_get zero x (y ∷ xs) e = let same : y ≡ x = cc in rw (eq-eqb y x same) refl
-on_get (suc i) x (y ∷ xs) e = rw (on_get i x xs e) (or_true (y == x))
-  where
-    or_true : (b : Bool) → (b || true) ≡ true
-    or_true true = refl
-    or_true false = refl
-
 -- who stands at a place
 pub record IsNamed (n p x i : ℕ) (w names : List ℕ) : Type 0 where
   pub within : x < n
@@ -142,7 +134,7 @@ pub named : (n p x i count : ℕ) (w names : List ℕ) → take count names ≡ 
 named n p x i count w names all lt room at =
     let there : slice_get names i ≡ Some x = slice_get-get_or names i 0 room ∙ ap Some (sym at) in
     let here : slice_get (others n w) i ≡ Some x = sym (ap (λ xs. slice_get xs i) all) ∙ (take_get count i names lt ∙ there) in
-    let parts = others-on n w x (on_get i x (others n w) here) in
+    let parts = others-on n w x (on-get (others n w) i x here) in
     record {
       within = parts.0;
       off = parts.1;
@@ -155,7 +147,7 @@ ascend n i j count w names all less lt room =
     let last : slice_get (others n w) j ≡ Some (get_or names j 0) = sym (ap (λ xs. slice_get xs j) all) ∙ (take_get count j names lt ∙ slice_get-get_or names j 0 room) in
     let below : take j names ≡ others (get_or names j 0) w = sym (take_twice count j names (omega arith)) ∙ (ap (take j) all ∙ take_others n j (get_or names j 0) w last) in
     let first : slice_get (others (get_or names j 0) w) i ≡ Some (get_or names i 0) = sym (ap (λ xs. slice_get xs i) below) ∙ (take_get j i names less ∙ slice_get-get_or names i 0 (omega arith)) in
-    (others-on (get_or names j 0) w (get_or names i 0) (on_get i (get_or names i 0) (others (get_or names j 0) w) first)).0
+    (others-on (get_or names j 0) w (get_or names i 0) (on-get (others (get_or names j 0) w) i (get_or names i 0) first)).0
 
 pub different : (n i j count : ℕ) (w names : List ℕ) → take count names ≡ others n w → i ≢ j → i < count → j < count → count ≤ length names → get_or names i 0 ≢ get_or names j 0
 different n i j count w names all ne li lj room e = elim (cases_Bool (nat_lt i j)) [

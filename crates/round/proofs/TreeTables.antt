@@ -13,7 +13,8 @@ use Rattle.round.specs.Letters.{Letter}
 use Rattle.round.specs.Delivery.{AreApart, AreEach, AreTellers, AreTellersOf, IsDueIn, FillsFromTo, IsRoute, IsToldUnder, AreTreeIndices, IsWalk, Tellers, first_under, past_under}
 use Rattle.round.specs.declared.front.Front.{Front}
 use Rattle.round.proofs.Lists.{some_same, get_set, get_unset}
-use Rattle.round.proofs.Striking.{named, on_get, take_get, take_others, take_twice}
+use Rattle.label.proofs.Counts.{on-get}
+use Rattle.round.proofs.Striking.{named, take_get, take_others, take_twice}
 use Rattle.round.proofs.Together.{IsToldUpTo, own_front, own_tellers, own_walk, same_up}
 use Rattle.std.proofs.Math.Bool.{or-true}
 
@@ -218,7 +219,7 @@ module _ (n : ℕ) (row : List Letter) (places : List ℕ) (k : ℕ) (f : Front)
 
 -- past all who are off the label
 in_others : (n p : ℕ) (w : List ℕ) → p < n → on w p ≡ false → on (others n w) p ≡ true
-in_others n p w lt off = on_get (length (others p w)) p (others n w) (others_here n w (length (others p w)) p lt off refl)
+in_others n p w lt off = on-get (others n w) (length (others p w)) p (others_here n w (length (others p w)) p lt off refl)
 
 not_in_others : (n p : ℕ) (w : List ℕ) → on w p ≡ true → on (others n w) p ≡ false
 not_in_others n p w there = ⊎_elim

@@ -138,11 +138,6 @@ taken_within program context relay answers limit m s new Limit h few le = by h.t
     by zero e = (let z = leads_counts program context relay h.taken s new.state h.leads in omega arith)
     by (suc n) e = (let z = h.exactly (omega arith) in omega arith)
 
--- one step more lies within a patience that was not reached
-pub within_one : (p : Option ℕ) (n m : ℕ) → is_reached p n ≡ false → m ≡ n + 1 → IsWithin p m
-within_one None n m free counted = tt
-within_one (Some p) n m free counted = (let l = leb-false p n free in omega arith)
-
 not_yet : (p : Option ℕ) (limit n : ℕ) → is_reached p n ≡ false → lesser p limit ≤ n → limit ≤ n
 not_yet None limit n free le = le
 not_yet (Some p) limit n free le = (let l = leb-false p n free in omega arith)

@@ -1,5 +1,6 @@
 -- What a general is told as a round begins, and what a loyal general tells then (own; TOPLAS 1982, algorithm OM).
 use Rattle.std.specs.Prelude.{ℕ, suc, ◌-◌, ◌+◌, ◌*◌, ◌<◌, ◌≡◌, ◌^◌, true, List, [], ◌∷◌, ◌++◌, length, take, map, flat_map, replicate, slice_get, slice_range, Some, None}
+use Rattle.semantics.specs.Limits.{context_size}
 use Rattle.word.specs.Bytes.{little_bytes, little_number}
 use Rattle.label.specs.declared.shape.Shape.{Shape}
 use Rattle.label.specs.Relay.{relay}
@@ -10,13 +11,13 @@ use Rattle.outbox.specs.Contents.{Contents}
 use Rattle.round.specs.Scenario.{Scenario, shape_of}
 use Rattle.round.specs.Letters.{Letter, messages, telling}
 
--- what a general took of a label in these rounds: the order that its last general told him of the rest; the commander his own order
+-- what a general took of a label in these rounds: the order that its last general told him of the rest; of the empty label the scenario's order, which the commander alone relays, loyal or not
 abbrev pub took : Scenario → List (List Letter) → ℕ → List ℕ → ℕ
 took s before g u = heard (messages before) s.order u g
 
 -- a context: 4,096 bytes, in them 32-bit numbers from the front, then zeros
 unfoldable pub context_bytes : List ℕ → List ℕ
-context_bytes numbers = take 4096 (flat_map (little_bytes 4) numbers ++ replicate 4096 0)
+context_bytes numbers = take context_size (flat_map (little_bytes 4) numbers ++ replicate context_size 0)
 
 -- the numbers of a context: eight of the relay and its campaign, and the value taken for each label relayed
 abbrev pub context_numbers : Shape → ℕ → List ℕ → List ℕ

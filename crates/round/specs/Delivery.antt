@@ -110,10 +110,6 @@ pub record AreTellersOf (letters : List Letter) (t : LieutenantTree) (f : Front)
   pub within : i < count
   pub own : slice_index generals i ≡ t.general
 
--- the indices of a list, where one is passed over
-abbrev pub past : ℕ → ℕ → ℕ
-past own index = if nat_lt index own then index else index + 1
-
 -- what was told of the labels that begin with this one: nothing where the tree's lieutenant stands on it
 pub record IsToldUnder (letters : List Letter) (k : ℕ) (f : Front) (t u : LieutenantTree) : Type 0 where
   pub on : slice_index_or f.on t.general false ≡ true → u ≡ t

@@ -43,7 +43,7 @@ abbrev pub told_by : Option Letter → List ℕ → ℕ → Option ℕ
 told_by None u p = None
 told_by (Some l) u p = tells l.outbox u p
 
--- who told whom what in these rounds: the last general of a label told it by his letter of the round of its length
+-- who told whom what in these rounds: the last general of a label told it by his letter of the round of its length; of the empty label it means nothing, and nothing asks for it
 unfoldable pub messages : List (List Letter) → Messages
 messages closed w p =
     let last = length w - 1 in

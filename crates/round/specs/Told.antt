@@ -19,7 +19,7 @@ pub record IsTreeOf (s : Scenario) (before : List (List Letter)) (g : ℕ) (t : 
 abbrev pub told_now : List Letter → List ℕ → ℕ → Option ℕ
 told_now letters w p = let last = length w - 1 in told_by (letter_of letters (slice_index w last)) (take last w) p
 
--- the round of these letters
+-- the round of these letters, by the first of them; 0 where there are none
 abbrev pub round_of : List Letter → ℕ
 round_of [] = 0
 round_of (l ∷ letters) = l.round

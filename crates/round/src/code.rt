@@ -61,8 +61,8 @@ fn same_insn(insn: &Insn, other: &Insn) -> bool
             } => order == x_order && size == x_size && dst == x_dst,
             _ => false,
         },
-        Insn::LoadNumber { dst, number } => match other {
-            Insn::LoadNumber {
+        Insn::LoadImmediate { dst, number } => match other {
+            Insn::LoadImmediate {
                 dst: x_dst,
                 number: x_number,
             } => dst == x_dst && number == x_number,

@@ -6,6 +6,7 @@ ghost use Rattle.round.specs.Contexts.{context_bytes, context_numbers};
 
 use byteorder::{ByteOrder, LittleEndian};
 use label::Shape;
+use mem::Context;
 
 /// Writes the context of a relay in a campaign with this bound, in place of what the vector held, which has room for it:
 /// the values taken for its labels, in the order of their ranks, nothing as RETREAT. It takes no memory. Labels are 990 at
@@ -30,7 +31,7 @@ pub(crate) fn write_context(bytes: &mut Vec<u8>, shape: Shape, bound: u8, values
     ];
     spell(bytes, &header);
     fill(bytes, values);
-    let Ok(()) = bytes.resize(4096, 0) else {
+    let Ok(()) = bytes.resize(Context::BYTES, 0) else {
         unreachable!()
     };
 }
@@ -57,12 +58,12 @@ fn fill(bytes: &mut Vec<u8>, values: &[Option<u32>])
     ensures capacity { vec_capacity bytes.old ≤ vec_capacity bytes.new }
 {
     for value in values {
-        put(bytes, order_or_retreat(value));
+        put(bytes, order_of(value));
     }
 }
 
 /// The order, RETREAT where there is none.
-fn order_or_retreat(value: &Option<u32>) -> u32
+fn order_of(value: &Option<u32>) -> u32
     ensures { result ≡ order_of value.now }
 {
     match *value {

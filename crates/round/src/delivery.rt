@@ -64,7 +64,7 @@ pub(crate) fn deliver_to_all(letters: &[Letter], generals: u8, commander: u8, tr
     );
 }
 
-/// Fills in what the commander's letter tells of the first label.
+/// Fills in what the commander's letter tells of the label on which the commander stands alone.
 fn fill_first(letters: &[Letter], indices: &[usize; 13], commander: u8, trees: &mut [Tree])
     requires round { round_of letters.now ≡ 1 }
     requires indices { AreLetterIndices letters.now indices.now }

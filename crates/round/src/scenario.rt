@@ -2,8 +2,7 @@ ghost use Rattle.std.specs.Prelude.{◌≡◌, ◌<◌, ◌≤◌, ◌+◌, leng
 ghost use Rattle.round.specs.Scenario.{IsScenario, IsPatience, program_of, is_traitor, shape_of};
 
 use crate::recalling::recall_sound;
-use crate::seat::Seat;
-use crate::seats::copied;
+use crate::seat::{Seat, copied};
 use board::recall_board;
 use combine::Rule;
 use label::Shape;

@@ -4,7 +4,7 @@ ghost use Rattle.std.specs.Arc.{arc_value};
 ghost use Rattle.semantics.specs.Run.{IsSound};
 
 use crate::code::same_code;
-use std::alloc::AllocError;
+use std::alloc::{AllocError, Global};
 use std::marker::Model;
 use std::sync::Arc;
 use verify::Verified;
@@ -79,4 +79,15 @@ impl Seat {
             },
         }
     }
+}
+
+/// The same programs.
+pub(crate) fn copied(alloc: Global, seats: &[Seat]) -> Result<Vec<Seat>, AllocError>
+    ensures { IfOk result (λ copy. copy.items ≡ seats.now) }
+{
+    let mut copy = Vec::with_capacity(alloc, seats.len())?;
+    for seat in seats {
+        copy.push(seat.copy()?)?;
+    }
+    Ok(copy)
 }

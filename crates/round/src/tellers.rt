@@ -3,7 +3,8 @@ ghost use Rattle.std.specs.Prelude.{◌≡◌, ◌<◌, ◌≤◌, ◌+◌, [], 
 ghost use Rattle.std.specs.Borrow.{Bor};
 ghost use Rattle.outbox.specs.Rows.{RowOrders, order_in, order_of_row};
 ghost use Rattle.round.specs.Letters.{Letter as LetterSeen, letter_of};
-ghost use Rattle.round.specs.Delivery.{AreLetterIndices, AreTellers, AreTellersOf, FillsFromTo, IsWalk, first_under, order_in_letter, past, past_under};
+ghost use Rattle.round.specs.Delivery.{AreLetterIndices, AreTellers, AreTellersOf, FillsFromTo, IsWalk, first_under, order_in_letter, past_under};
+ghost use Rattle.round.specs.Told.{lieutenant_at};
 
 use crate::front::Front;
 use crate::letter::Letter;
@@ -65,7 +66,7 @@ pub(crate) fn fill_children(own: usize, rows: &[&Row], size: u8, tree: &mut Tree
 /// What the row at this index tells a receiver, where the row of number `own` is passed over.
 fn order_past(rows: &[&Row], own: usize, index: usize, receiver: u8) -> Option<u32>
     requires { index + 1 < length rows.now }
-    ensures { (row : Bor RowOrders) → slice_get rows.now (past own index) ≡ Some row → result ≡ order_in receiver row.now }
+    ensures { (row : Bor RowOrders) → slice_get rows.now (lieutenant_at own index) ≡ Some row → result ≡ order_in receiver row.now }
 {
     let number = if index < own { index } else { index + 1 };
     rows[number].order(u32::from(receiver))

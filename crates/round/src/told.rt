@@ -8,6 +8,7 @@ use crate::delivery::deliver_to_all;
 use crate::letter::Letter;
 use crate::round::Round;
 use crate::scenario::Scenario;
+use mem::Context;
 use std::alloc::{AllocError, Global};
 use std::marker::Model;
 use tree::Tree;
@@ -131,7 +132,7 @@ impl Told {
         ensures context { IfOk result (λ bytes. (before : List (List LetterSeen)) → WasTold scenario.now before self.now → bytes.items ≡ context_of scenario.now (take rounds before) general) }
         ensures words { OnOk result ((before : List (List LetterSeen)) → WasTold scenario.now before self.now → AreWords scenario.now (take rounds before) general) }
     {
-        let mut bytes = Vec::with_capacity(alloc, 4096)?;
+        let mut bytes = Vec::with_capacity(alloc, Context::BYTES)?;
         self.write_context_after(scenario, general, rounds, &mut bytes);
         Ok(bytes)
     }

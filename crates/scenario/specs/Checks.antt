@@ -1,9 +1,10 @@
 -- The checks of a scenario's keys, in order: the value, or the first fault (own; TOML 1.0 for the text).
-use Rattle.std.specs.Prelude.{ℕ, suc, ℤ, pos, negsuc, Bool, ◌+◌, ◌-◌, min, nat_lt, nat_le, ◌&&◌, cond, if◌then◌else◌, List, slice_set, replicate, Option, Some, None, Result, Ok, Err, codes, bytes_eq}
+use Rattle.std.specs.Prelude.{ℕ, suc, ℤ, pos, negsuc, Bool, ◌+◌, ◌-◌, ◌<◌, ◌≤◌, min, nat_lt, nat_le, ◌&&◌, cond, if◌then◌else◌, List, slice_set, replicate, Option, Some, None, Result, Ok, Err, codes, bytes_eq}
 use Rattle.std.specs.Option.{ok_or}
 use Rattle.toml.specs.Data.{Data, Items, Members, no_items, item, no_members, member, get_member, as_integer, as_str, as_array}
 use Rattle.combine.specs.declared.chosen.Rule.{Rule}
 use Rattle.combine.specs.declared.chosen.Rule.TheVariants.{Majority, Median}
+use Rattle.round.specs.Scenario.{IsPatience}
 use Rattle.scenario.specs.declared.place.Name.TheVariants as names
 use Rattle.scenario.specs.declared.place.Place.{Place}
 use Rattle.scenario.specs.declared.place.Place.TheVariants as places
@@ -119,6 +120,14 @@ pub record Head : Type 0 where
   pub board : List ℕ
   pub patience : Option ℕ
   pub rule : Rule
+
+-- 2 to 13 generals, a bound of at most 4 and at most all generals but 2, the commander a general, a patience of 1 to 4,096 steps
+pub record IsHeadWithin (generals bound commander : ℕ) (patience : Option ℕ) : Type 0 where
+  pub few : generals ≤ 13
+  pub rounds : bound ≤ 4
+  pub enough : bound + 2 ≤ generals
+  pub leads : commander < generals
+  pub waits : IsPatience patience
 
 -- all but the traitors
 unfoldable pub head : Members → Result Head Flaw

@@ -3,6 +3,5 @@ pub mod Flaws
 pub mod Checks
 pub mod Tables
 pub mod Told
-pub mod Limits
 pub mod Seen
 pub mod Telling

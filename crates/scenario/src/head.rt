@@ -15,8 +15,7 @@ pub struct Head {
 }
 
 impl Model for Head {
-    ghost use Rattle.scenario.specs.Checks.{Head as Numbers};
-    ghost use Rattle.scenario.specs.Limits.{IsHeadWithin};
+    ghost use Rattle.scenario.specs.Checks.{Head as Numbers, IsHeadWithin};
 
     ghost Value = { Numbers };
 

@@ -1,4 +1,4 @@
--- Rows, computed: each right side is what the reference program's machine reaches. Written by a generator.
+-- Rows, computed: each right side is where the program's run stands after so many steps. Written by a generator.
 use Rattle.std.specs.Prelude.{pos, negsuc, ◌≡◌, [], ◌∷◌, ◌++◌, true, false, Some, None, replicate, refl}
 use Rattle.word.specs.declared.Width.TheVariants.{W32, W64}
 use Rattle.word.specs.declared.Operation.TheVariants as op
@@ -41,7 +41,7 @@ unfolding labels step onwards
 jump_to_next = refl
 
 -- jump_into_wide; the verifier: refused V3 unit 0
-jump_into_wide : after (i.Jump (pos 1) ∷ i.LoadNumber 0 1 ∷ i.Exit ∷ []) ((4 ∷ 0 ∷ 0 ∷ 0 ∷ 1 ∷ 0 ∷ 0 ∷ 0 ∷ 3 ∷ 0 ∷ 0 ∷ 0 ∷ 0 ∷ 0 ∷ 0 ∷ 0 ∷ 1 ∷ 0 ∷ 0 ∷ 0 ∷ 0 ∷ 0 ∷ 0 ∷ 0 ∷ 3 ∷ []) ++ replicate 4071 0) (oral (record { generals = 4; commander = 0; general = 3; round = 1 })) ([]) 2 ≡ Trapped NoInstruction
+jump_into_wide : after (i.Jump (pos 1) ∷ i.LoadImmediate 0 1 ∷ i.Exit ∷ []) ((4 ∷ 0 ∷ 0 ∷ 0 ∷ 1 ∷ 0 ∷ 0 ∷ 0 ∷ 3 ∷ 0 ∷ 0 ∷ 0 ∷ 0 ∷ 0 ∷ 0 ∷ 0 ∷ 1 ∷ 0 ∷ 0 ∷ 0 ∷ 0 ∷ 0 ∷ 0 ∷ 0 ∷ 3 ∷ []) ++ replicate 4071 0) (oral (record { generals = 4; commander = 0; general = 3; round = 1 })) ([]) 2 ≡ Trapped NoInstruction
 unfolding labels step onwards
 jump_into_wide = refl
 
@@ -61,7 +61,7 @@ unfolding labels step onwards
 divided_by_zero_64 = refl
 
 -- modulo_zero_64; the verifier: accepted
-modulo_zero_64 : after (i.LoadNumber 0 4294967301 ∷ i.Arithmetic W64 op.Mod 0 (Immediate (pos 0)) ∷ i.Exit ∷ []) ((4 ∷ 0 ∷ 0 ∷ 0 ∷ 1 ∷ 0 ∷ 0 ∷ 0 ∷ 3 ∷ 0 ∷ 0 ∷ 0 ∷ 0 ∷ 0 ∷ 0 ∷ 0 ∷ 1 ∷ 0 ∷ 0 ∷ 0 ∷ 0 ∷ 0 ∷ 0 ∷ 0 ∷ 3 ∷ []) ++ replicate 4071 0) (oral (record { generals = 4; commander = 0; general = 3; round = 1 })) ([]) 3 ≡ Exited 4294967301 (record { unit = 3; registers = ((Number 4294967301) ∷ (Pointer Context (pos 0)) ∷ (Unset) ∷ (Unset) ∷ (Unset) ∷ (Unset) ∷ (Unset) ∷ (Unset) ∷ (Unset) ∷ (Unset) ∷ (Pointer Stack (pos 0)) ∷ []); cells = (replicate 512 (Empty)); outbox = ([]); entries = []; steps = 3 })
+modulo_zero_64 : after (i.LoadImmediate 0 4294967301 ∷ i.Arithmetic W64 op.Mod 0 (Immediate (pos 0)) ∷ i.Exit ∷ []) ((4 ∷ 0 ∷ 0 ∷ 0 ∷ 1 ∷ 0 ∷ 0 ∷ 0 ∷ 3 ∷ 0 ∷ 0 ∷ 0 ∷ 0 ∷ 0 ∷ 0 ∷ 0 ∷ 1 ∷ 0 ∷ 0 ∷ 0 ∷ 0 ∷ 0 ∷ 0 ∷ 0 ∷ 3 ∷ []) ++ replicate 4071 0) (oral (record { generals = 4; commander = 0; general = 3; round = 1 })) ([]) 3 ≡ Exited 4294967301 (record { unit = 3; registers = ((Number 4294967301) ∷ (Pointer Context (pos 0)) ∷ (Unset) ∷ (Unset) ∷ (Unset) ∷ (Unset) ∷ (Unset) ∷ (Unset) ∷ (Unset) ∷ (Unset) ∷ (Pointer Stack (pos 0)) ∷ []); cells = (replicate 512 (Empty)); outbox = ([]); entries = []; steps = 3 })
 unfolding labels step onwards
 modulo_zero_64 = refl
 
@@ -71,22 +71,22 @@ unfolding labels step onwards
 divided_by_zero_32 = refl
 
 -- least_divided_by_minus_one_64; the verifier: accepted
-least_divided_by_minus_one_64 : after (i.LoadNumber 0 9223372036854775808 ∷ i.Arithmetic W64 op.SignedDiv 0 (Immediate (negsuc 0)) ∷ i.Exit ∷ []) ((4 ∷ 0 ∷ 0 ∷ 0 ∷ 1 ∷ 0 ∷ 0 ∷ 0 ∷ 3 ∷ 0 ∷ 0 ∷ 0 ∷ 0 ∷ 0 ∷ 0 ∷ 0 ∷ 1 ∷ 0 ∷ 0 ∷ 0 ∷ 0 ∷ 0 ∷ 0 ∷ 0 ∷ 3 ∷ []) ++ replicate 4071 0) (oral (record { generals = 4; commander = 0; general = 3; round = 1 })) ([]) 3 ≡ Exited 9223372036854775808 (record { unit = 3; registers = ((Number 9223372036854775808) ∷ (Pointer Context (pos 0)) ∷ (Unset) ∷ (Unset) ∷ (Unset) ∷ (Unset) ∷ (Unset) ∷ (Unset) ∷ (Unset) ∷ (Unset) ∷ (Pointer Stack (pos 0)) ∷ []); cells = (replicate 512 (Empty)); outbox = ([]); entries = []; steps = 3 })
+least_divided_by_minus_one_64 : after (i.LoadImmediate 0 9223372036854775808 ∷ i.Arithmetic W64 op.SignedDiv 0 (Immediate (negsuc 0)) ∷ i.Exit ∷ []) ((4 ∷ 0 ∷ 0 ∷ 0 ∷ 1 ∷ 0 ∷ 0 ∷ 0 ∷ 3 ∷ 0 ∷ 0 ∷ 0 ∷ 0 ∷ 0 ∷ 0 ∷ 0 ∷ 1 ∷ 0 ∷ 0 ∷ 0 ∷ 0 ∷ 0 ∷ 0 ∷ 0 ∷ 3 ∷ []) ++ replicate 4071 0) (oral (record { generals = 4; commander = 0; general = 3; round = 1 })) ([]) 3 ≡ Exited 9223372036854775808 (record { unit = 3; registers = ((Number 9223372036854775808) ∷ (Pointer Context (pos 0)) ∷ (Unset) ∷ (Unset) ∷ (Unset) ∷ (Unset) ∷ (Unset) ∷ (Unset) ∷ (Unset) ∷ (Unset) ∷ (Pointer Stack (pos 0)) ∷ []); cells = (replicate 512 (Empty)); outbox = ([]); entries = []; steps = 3 })
 unfolding labels step onwards
 least_divided_by_minus_one_64 = refl
 
 -- least_modulo_minus_one_64; the verifier: accepted
-least_modulo_minus_one_64 : after (i.LoadNumber 0 9223372036854775808 ∷ i.Arithmetic W64 op.SignedMod 0 (Immediate (negsuc 0)) ∷ i.Exit ∷ []) ((4 ∷ 0 ∷ 0 ∷ 0 ∷ 1 ∷ 0 ∷ 0 ∷ 0 ∷ 3 ∷ 0 ∷ 0 ∷ 0 ∷ 0 ∷ 0 ∷ 0 ∷ 0 ∷ 1 ∷ 0 ∷ 0 ∷ 0 ∷ 0 ∷ 0 ∷ 0 ∷ 0 ∷ 3 ∷ []) ++ replicate 4071 0) (oral (record { generals = 4; commander = 0; general = 3; round = 1 })) ([]) 3 ≡ Exited 0 (record { unit = 3; registers = ((Number 0) ∷ (Pointer Context (pos 0)) ∷ (Unset) ∷ (Unset) ∷ (Unset) ∷ (Unset) ∷ (Unset) ∷ (Unset) ∷ (Unset) ∷ (Unset) ∷ (Pointer Stack (pos 0)) ∷ []); cells = (replicate 512 (Empty)); outbox = ([]); entries = []; steps = 3 })
+least_modulo_minus_one_64 : after (i.LoadImmediate 0 9223372036854775808 ∷ i.Arithmetic W64 op.SignedMod 0 (Immediate (negsuc 0)) ∷ i.Exit ∷ []) ((4 ∷ 0 ∷ 0 ∷ 0 ∷ 1 ∷ 0 ∷ 0 ∷ 0 ∷ 3 ∷ 0 ∷ 0 ∷ 0 ∷ 0 ∷ 0 ∷ 0 ∷ 0 ∷ 1 ∷ 0 ∷ 0 ∷ 0 ∷ 0 ∷ 0 ∷ 0 ∷ 0 ∷ 3 ∷ []) ++ replicate 4071 0) (oral (record { generals = 4; commander = 0; general = 3; round = 1 })) ([]) 3 ≡ Exited 0 (record { unit = 3; registers = ((Number 0) ∷ (Pointer Context (pos 0)) ∷ (Unset) ∷ (Unset) ∷ (Unset) ∷ (Unset) ∷ (Unset) ∷ (Unset) ∷ (Unset) ∷ (Unset) ∷ (Pointer Stack (pos 0)) ∷ []); cells = (replicate 512 (Empty)); outbox = ([]); entries = []; steps = 3 })
 unfolding labels step onwards
 least_modulo_minus_one_64 = refl
 
 -- least_divided_by_minus_one_32; the verifier: accepted
-least_divided_by_minus_one_32 : after (i.LoadNumber 0 2147483648 ∷ i.Arithmetic W32 op.SignedDiv 0 (Immediate (negsuc 0)) ∷ i.Exit ∷ []) ((4 ∷ 0 ∷ 0 ∷ 0 ∷ 1 ∷ 0 ∷ 0 ∷ 0 ∷ 3 ∷ 0 ∷ 0 ∷ 0 ∷ 0 ∷ 0 ∷ 0 ∷ 0 ∷ 1 ∷ 0 ∷ 0 ∷ 0 ∷ 0 ∷ 0 ∷ 0 ∷ 0 ∷ 3 ∷ []) ++ replicate 4071 0) (oral (record { generals = 4; commander = 0; general = 3; round = 1 })) ([]) 3 ≡ Exited 2147483648 (record { unit = 3; registers = ((Number 2147483648) ∷ (Pointer Context (pos 0)) ∷ (Unset) ∷ (Unset) ∷ (Unset) ∷ (Unset) ∷ (Unset) ∷ (Unset) ∷ (Unset) ∷ (Unset) ∷ (Pointer Stack (pos 0)) ∷ []); cells = (replicate 512 (Empty)); outbox = ([]); entries = []; steps = 3 })
+least_divided_by_minus_one_32 : after (i.LoadImmediate 0 2147483648 ∷ i.Arithmetic W32 op.SignedDiv 0 (Immediate (negsuc 0)) ∷ i.Exit ∷ []) ((4 ∷ 0 ∷ 0 ∷ 0 ∷ 1 ∷ 0 ∷ 0 ∷ 0 ∷ 3 ∷ 0 ∷ 0 ∷ 0 ∷ 0 ∷ 0 ∷ 0 ∷ 0 ∷ 1 ∷ 0 ∷ 0 ∷ 0 ∷ 0 ∷ 0 ∷ 0 ∷ 0 ∷ 3 ∷ []) ++ replicate 4071 0) (oral (record { generals = 4; commander = 0; general = 3; round = 1 })) ([]) 3 ≡ Exited 2147483648 (record { unit = 3; registers = ((Number 2147483648) ∷ (Pointer Context (pos 0)) ∷ (Unset) ∷ (Unset) ∷ (Unset) ∷ (Unset) ∷ (Unset) ∷ (Unset) ∷ (Unset) ∷ (Unset) ∷ (Pointer Stack (pos 0)) ∷ []); cells = (replicate 512 (Empty)); outbox = ([]); entries = []; steps = 3 })
 unfolding labels step onwards
 least_divided_by_minus_one_32 = refl
 
 -- least_modulo_minus_one_32; the verifier: accepted
-least_modulo_minus_one_32 : after (i.LoadNumber 0 2147483648 ∷ i.Arithmetic W32 op.SignedMod 0 (Immediate (negsuc 0)) ∷ i.Exit ∷ []) ((4 ∷ 0 ∷ 0 ∷ 0 ∷ 1 ∷ 0 ∷ 0 ∷ 0 ∷ 3 ∷ 0 ∷ 0 ∷ 0 ∷ 0 ∷ 0 ∷ 0 ∷ 0 ∷ 1 ∷ 0 ∷ 0 ∷ 0 ∷ 0 ∷ 0 ∷ 0 ∷ 0 ∷ 3 ∷ []) ++ replicate 4071 0) (oral (record { generals = 4; commander = 0; general = 3; round = 1 })) ([]) 3 ≡ Exited 0 (record { unit = 3; registers = ((Number 0) ∷ (Pointer Context (pos 0)) ∷ (Unset) ∷ (Unset) ∷ (Unset) ∷ (Unset) ∷ (Unset) ∷ (Unset) ∷ (Unset) ∷ (Unset) ∷ (Pointer Stack (pos 0)) ∷ []); cells = (replicate 512 (Empty)); outbox = ([]); entries = []; steps = 3 })
+least_modulo_minus_one_32 : after (i.LoadImmediate 0 2147483648 ∷ i.Arithmetic W32 op.SignedMod 0 (Immediate (negsuc 0)) ∷ i.Exit ∷ []) ((4 ∷ 0 ∷ 0 ∷ 0 ∷ 1 ∷ 0 ∷ 0 ∷ 0 ∷ 3 ∷ 0 ∷ 0 ∷ 0 ∷ 0 ∷ 0 ∷ 0 ∷ 0 ∷ 1 ∷ 0 ∷ 0 ∷ 0 ∷ 0 ∷ 0 ∷ 0 ∷ 0 ∷ 3 ∷ []) ++ replicate 4071 0) (oral (record { generals = 4; commander = 0; general = 3; round = 1 })) ([]) 3 ≡ Exited 0 (record { unit = 3; registers = ((Number 0) ∷ (Pointer Context (pos 0)) ∷ (Unset) ∷ (Unset) ∷ (Unset) ∷ (Unset) ∷ (Unset) ∷ (Unset) ∷ (Unset) ∷ (Unset) ∷ (Pointer Stack (pos 0)) ∷ []); cells = (replicate 512 (Empty)); outbox = ([]); entries = []; steps = 3 })
 unfolding labels step onwards
 least_modulo_minus_one_32 = refl
 
@@ -181,7 +181,7 @@ unfolding labels step onwards
 signed_modulo = refl
 
 -- modulo_zero_cuts; the verifier: accepted
-modulo_zero_cuts : after (i.LoadNumber 0 4294967301 ∷ i.Arithmetic W32 op.Mod 0 (Immediate (pos 0)) ∷ i.Exit ∷ []) ((4 ∷ 0 ∷ 0 ∷ 0 ∷ 1 ∷ 0 ∷ 0 ∷ 0 ∷ 3 ∷ 0 ∷ 0 ∷ 0 ∷ 0 ∷ 0 ∷ 0 ∷ 0 ∷ 1 ∷ 0 ∷ 0 ∷ 0 ∷ 0 ∷ 0 ∷ 0 ∷ 0 ∷ 3 ∷ []) ++ replicate 4071 0) (oral (record { generals = 4; commander = 0; general = 3; round = 1 })) ([]) 3 ≡ Exited 5 (record { unit = 3; registers = ((Number 5) ∷ (Pointer Context (pos 0)) ∷ (Unset) ∷ (Unset) ∷ (Unset) ∷ (Unset) ∷ (Unset) ∷ (Unset) ∷ (Unset) ∷ (Unset) ∷ (Pointer Stack (pos 0)) ∷ []); cells = (replicate 512 (Empty)); outbox = ([]); entries = []; steps = 3 })
+modulo_zero_cuts : after (i.LoadImmediate 0 4294967301 ∷ i.Arithmetic W32 op.Mod 0 (Immediate (pos 0)) ∷ i.Exit ∷ []) ((4 ∷ 0 ∷ 0 ∷ 0 ∷ 1 ∷ 0 ∷ 0 ∷ 0 ∷ 3 ∷ 0 ∷ 0 ∷ 0 ∷ 0 ∷ 0 ∷ 0 ∷ 0 ∷ 1 ∷ 0 ∷ 0 ∷ 0 ∷ 0 ∷ 0 ∷ 0 ∷ 0 ∷ 3 ∷ []) ++ replicate 4071 0) (oral (record { generals = 4; commander = 0; general = 3; round = 1 })) ([]) 3 ≡ Exited 5 (record { unit = 3; registers = ((Number 5) ∷ (Pointer Context (pos 0)) ∷ (Unset) ∷ (Unset) ∷ (Unset) ∷ (Unset) ∷ (Unset) ∷ (Unset) ∷ (Unset) ∷ (Unset) ∷ (Pointer Stack (pos 0)) ∷ []); cells = (replicate 512 (Empty)); outbox = ([]); entries = []; steps = 3 })
 unfolding labels step onwards
 modulo_zero_cuts = refl
 
@@ -191,7 +191,7 @@ unfolding labels step onwards
 shift_by_65 = refl
 
 -- two_bytes_big_end_first; the verifier: accepted
-two_bytes_big_end_first : after (i.LoadNumber 0 1234605616436508552 ∷ i.Swap order.Big swap.Half 0 ∷ i.Exit ∷ []) ((4 ∷ 0 ∷ 0 ∷ 0 ∷ 1 ∷ 0 ∷ 0 ∷ 0 ∷ 3 ∷ 0 ∷ 0 ∷ 0 ∷ 0 ∷ 0 ∷ 0 ∷ 0 ∷ 1 ∷ 0 ∷ 0 ∷ 0 ∷ 0 ∷ 0 ∷ 0 ∷ 0 ∷ 3 ∷ []) ++ replicate 4071 0) (oral (record { generals = 4; commander = 0; general = 3; round = 1 })) ([]) 3 ≡ Exited 34935 (record { unit = 3; registers = ((Number 34935) ∷ (Pointer Context (pos 0)) ∷ (Unset) ∷ (Unset) ∷ (Unset) ∷ (Unset) ∷ (Unset) ∷ (Unset) ∷ (Unset) ∷ (Unset) ∷ (Pointer Stack (pos 0)) ∷ []); cells = (replicate 512 (Empty)); outbox = ([]); entries = []; steps = 3 })
+two_bytes_big_end_first : after (i.LoadImmediate 0 1234605616436508552 ∷ i.Swap order.Big swap.Half 0 ∷ i.Exit ∷ []) ((4 ∷ 0 ∷ 0 ∷ 0 ∷ 1 ∷ 0 ∷ 0 ∷ 0 ∷ 3 ∷ 0 ∷ 0 ∷ 0 ∷ 0 ∷ 0 ∷ 0 ∷ 0 ∷ 1 ∷ 0 ∷ 0 ∷ 0 ∷ 0 ∷ 0 ∷ 0 ∷ 0 ∷ 3 ∷ []) ++ replicate 4071 0) (oral (record { generals = 4; commander = 0; general = 3; round = 1 })) ([]) 3 ≡ Exited 34935 (record { unit = 3; registers = ((Number 34935) ∷ (Pointer Context (pos 0)) ∷ (Unset) ∷ (Unset) ∷ (Unset) ∷ (Unset) ∷ (Unset) ∷ (Unset) ∷ (Unset) ∷ (Unset) ∷ (Pointer Stack (pos 0)) ∷ []); cells = (replicate 512 (Empty)); outbox = ([]); entries = []; steps = 3 })
 unfolding labels step onwards
 two_bytes_big_end_first = refl
 
@@ -271,7 +271,7 @@ unfolding labels step onwards
 jump_never_taken = refl
 
 -- own_send; the verifier: accepted
-own_send : after (i.Arithmetic W64 op.Move 1 (Immediate (pos 1)) ∷ i.Arithmetic W64 op.Move 2 (Immediate (pos 0)) ∷ i.LoadNumber 3 21474836487 ∷ i.Call (pos 6) ∷ i.Arithmetic W64 op.Move 6 (Register 0) ∷ i.Arithmetic W64 op.Move 1 (Immediate (pos 1)) ∷ i.Arithmetic W64 op.Move 2 (Immediate (pos 3)) ∷ i.Arithmetic W64 op.Move 3 (Immediate (pos 8)) ∷ i.Call (pos 6) ∷ i.Arithmetic W64 op.ShiftLeft 0 (Immediate (pos 1)) ∷ i.Arithmetic W64 op.Or 0 (Register 6) ∷ i.Exit ∷ []) ((5 ∷ 0 ∷ 0 ∷ 0 ∷ 2 ∷ 0 ∷ 0 ∷ 0 ∷ 1 ∷ 0 ∷ 0 ∷ 0 ∷ 2 ∷ 0 ∷ 0 ∷ 0 ∷ 3 ∷ 0 ∷ 0 ∷ 0 ∷ 3 ∷ 0 ∷ 0 ∷ 0 ∷ 2 ∷ 0 ∷ 0 ∷ 0 ∷ 0 ∷ 0 ∷ 0 ∷ 0 ∷ 4 ∷ 0 ∷ 0 ∷ 0 ∷ 5 ∷ 0 ∷ 0 ∷ 0 ∷ 6 ∷ []) ++ replicate 4055 0) (oral (record { generals = 5; commander = 2; general = 1; round = 3 })) ([]) 12 ≡ Exited 2 (record { unit = 12; registers = ((Number 2) ∷ (Unset) ∷ (Unset) ∷ (Unset) ∷ (Unset) ∷ (Unset) ∷ (Number 0) ∷ (Unset) ∷ (Unset) ∷ (Unset) ∷ (Pointer Stack (pos 0)) ∷ []); cells = (replicate 512 (Empty)); outbox = ((None ∷ None ∷ []) ∷ (Some 7 ∷ None ∷ []) ∷ (None ∷ None ∷ []) ∷ []); entries = []; steps = 12 })
+own_send : after (i.Arithmetic W64 op.Move 1 (Immediate (pos 1)) ∷ i.Arithmetic W64 op.Move 2 (Immediate (pos 0)) ∷ i.LoadImmediate 3 21474836487 ∷ i.Call (pos 6) ∷ i.Arithmetic W64 op.Move 6 (Register 0) ∷ i.Arithmetic W64 op.Move 1 (Immediate (pos 1)) ∷ i.Arithmetic W64 op.Move 2 (Immediate (pos 3)) ∷ i.Arithmetic W64 op.Move 3 (Immediate (pos 8)) ∷ i.Call (pos 6) ∷ i.Arithmetic W64 op.ShiftLeft 0 (Immediate (pos 1)) ∷ i.Arithmetic W64 op.Or 0 (Register 6) ∷ i.Exit ∷ []) ((5 ∷ 0 ∷ 0 ∷ 0 ∷ 2 ∷ 0 ∷ 0 ∷ 0 ∷ 1 ∷ 0 ∷ 0 ∷ 0 ∷ 2 ∷ 0 ∷ 0 ∷ 0 ∷ 3 ∷ 0 ∷ 0 ∷ 0 ∷ 3 ∷ 0 ∷ 0 ∷ 0 ∷ 2 ∷ 0 ∷ 0 ∷ 0 ∷ 0 ∷ 0 ∷ 0 ∷ 0 ∷ 4 ∷ 0 ∷ 0 ∷ 0 ∷ 5 ∷ 0 ∷ 0 ∷ 0 ∷ 6 ∷ []) ++ replicate 4055 0) (oral (record { generals = 5; commander = 2; general = 1; round = 3 })) ([]) 12 ≡ Exited 2 (record { unit = 12; registers = ((Number 2) ∷ (Unset) ∷ (Unset) ∷ (Unset) ∷ (Unset) ∷ (Unset) ∷ (Number 0) ∷ (Unset) ∷ (Unset) ∷ (Unset) ∷ (Pointer Stack (pos 0)) ∷ []); cells = (replicate 512 (Empty)); outbox = ((None ∷ None ∷ []) ∷ (Some 7 ∷ None ∷ []) ∷ (None ∷ None ∷ []) ∷ []); entries = []; steps = 12 })
 unfolding labels step onwards
 own_send = refl
 
@@ -391,7 +391,7 @@ unfolding labels step onwards
 signed_orally = refl
 
 -- the commander signs an order, of a word its low 32 bits, and what he signs past 8 entries is not taken
-signed_by_the_commander : after (i.LoadNumber 1 4294967303 ∷ i.Arithmetic W64 op.Move 2 (Immediate (pos 2)) ∷ i.Call (pos 10) ∷ i.Exit ∷ []) (replicate 4096 0) (signed (record { generals = 3; commander = 0; general = 0; round = 1 }) []) ([]) 4 ≡ Exited 0 (record { unit = 4; registers = ((Number 0) ∷ (Unset) ∷ (Unset) ∷ (Unset) ∷ (Unset) ∷ (Unset) ∷ (Unset) ∷ (Unset) ∷ (Unset) ∷ (Unset) ∷ (Pointer Stack (pos 0)) ∷ []); cells = (replicate 512 (Empty)); outbox = ([]); entries = (Sign 7 2 ∷ []); steps = 4 })
+signed_by_the_commander : after (i.LoadImmediate 1 4294967303 ∷ i.Arithmetic W64 op.Move 2 (Immediate (pos 2)) ∷ i.Call (pos 10) ∷ i.Exit ∷ []) (replicate 4096 0) (signed (record { generals = 3; commander = 0; general = 0; round = 1 }) []) ([]) 4 ≡ Exited 0 (record { unit = 4; registers = ((Number 0) ∷ (Unset) ∷ (Unset) ∷ (Unset) ∷ (Unset) ∷ (Unset) ∷ (Unset) ∷ (Unset) ∷ (Unset) ∷ (Unset) ∷ (Pointer Stack (pos 0)) ∷ []); cells = (replicate 512 (Empty)); outbox = ([]); entries = (Sign 7 2 ∷ []); steps = 4 })
 unfolding labels step onwards
 signed_by_the_commander = refl
 

@@ -3,7 +3,7 @@ use Rattle.std.specs.Prelude.{ℕ, ℤ, pos, ◌+◌, ◌+ℤ◌, ◌<ℤ◌, �
 use Rattle.word.specs.declared.Operation.{Operation}
 use Rattle.word.specs.declared.Operation.TheVariants.{Move}
 use Rattle.insn.specs.declared.insn.Insn.{Insn}
-use Rattle.insn.specs.declared.insn.Insn.TheVariants.{Arithmetic, Negate, SignExtend, Swap, LoadNumber, Jump, LongJump, Branch, Load, LoadSigned, Store, Call, Exit}
+use Rattle.insn.specs.declared.insn.Insn.TheVariants.{Arithmetic, Negate, SignExtend, Swap, LoadImmediate, Jump, LongJump, Branch, Load, LoadSigned, Store, Call, Exit}
 use Rattle.insn.specs.declared.insn.Operand.{Operand}
 use Rattle.insn.specs.declared.insn.Operand.TheVariants.{Register, Immediate}
 use Rattle.insn.specs.Insn.{units_of}
@@ -46,7 +46,7 @@ writes (Arithmetic width operation dst operand) = dst ∷ []
 writes (Negate width dst) = dst ∷ []
 writes (SignExtend width part dst src) = dst ∷ []
 writes (Swap order size dst) = dst ∷ []
-writes (LoadNumber dst number) = dst ∷ []
+writes (LoadImmediate dst number) = dst ∷ []
 writes _ = []
 
 -- the units that it may lead to

@@ -3,10 +3,12 @@ use Rattle.std.proofs.Common.{◌≡◌, ℕ, zero, suc, ◌<◌, Bool, true, fa
 use Rattle.std.specs.Prelude.{slice_get}
 use Rattle.std.specs.List.{list_all}
 use Rattle.std.proofs.lemmas.Bool.{cases_lt, and_parts, and_from}
+use Rattle.std.proofs.lemmas.List.{length-set}
 use Rattle.label.specs.Labels.{generals}
+use Rattle.round.proofs.Lists.{some_at}
 use Rattle.signed.specs.Campaign.{Campaign, Conduct, is_traitor}
 use Rattle.signed.specs.World.{World, Part, Acting, Silent, Posted, Event, Tick, Post, Close, Letter, owes_no_letter, begins, begun, opening, sent_in, letter_in, letter_at, round_letters, round_open, context_behind, sent, delivered, ticked, posting, closing, happen, run, IsPunctual}
-use Rattle.signed.proofs.Places.{row_at, row_length, row_past, set_cases, set_length, there_is, all_at}
+use Rattle.signed.proofs.Places.{row_at, row_length, row_past, set_cases, all_at}
 use Rattle.signed.proofs.Making.{Row, IsMade, IsMadeOf, IsFull, of_loyal, made_more, full_more}
 
 -- a traitor acts, a loyal general does not
@@ -65,7 +67,7 @@ replaced A s closed parts full g new k kind = record {
     | inl here ↦ let e : j ≡ g = here.0 in let q : part ≡ new = here.1 in rw (e, q) kind
     | inr old ↦ k.kinds j part old
   ];
-  count = λ o. set_length parts g new ∙ k.count o;
+  count = λ o. length-set parts g new ∙ k.count o;
   over = λ o. ap (λ ps. slice_set ps g new) (k.over o);
 }
 
@@ -106,7 +108,7 @@ loyal_posted A B d s closed g Posted kind h = refl
 letter_full : (A B : Type 0) (d : Conduct A B) (w : World A B) → Keeps A B w → round_open w.campaign w.closed ≡ true → list_all owes_no_letter w.parts ≡ true → (g : ℕ) → g < w.campaign.generals → is_traitor w.campaign g ≡ false
     → sent_in (letter_at d w.campaign w.closed g (slice_get w.parts g)) ≡ of_loyal w.campaign (delivered w.closed) (suc (length w.closed)) g
 letter_full A B d w k o all g gn loyal =
-    let there = there_is w.parts g (let e : length w.parts ≡ w.campaign.generals = k.count o in omega arith) in
+    let there = some_at w.parts g (let e : length w.parts ≡ w.campaign.generals = k.count o in omega arith) in
     rw there.1 (loyal_posted A B d w.campaign w.closed g there.0 (rw loyal at (k.kinds g there.0 there.1)) (all_at owes_no_letter w.parts g there.0 all there.1))
 
 closing_kept : (A B : Type 0) (d : Conduct A B) (w : World A B) → Keeps A B w → round_open w.campaign w.closed ≡ true → Keeps A B (closing d w)

@@ -8,7 +8,8 @@ use Rattle.signed.specs.Entries.{Dispatch, Entry, entered, dispatched, to_all_ot
 use Rattle.signed.specs.Campaign.{Campaign, is_traitor}
 use Rattle.signed.specs.World.{Letter, sent_in, letter_in, letter_among, sent, delivered}
 use Rattle.signed.proofs.Earlier.{AgreeBefore, held_same, loyal_same}
-use Rattle.signed.proofs.Places.{get_front, get_last}
+use Rattle.label.proofs.Ranks.{get_left}
+use Rattle.signed.proofs.Places.{get_last}
 
 -- what a traitor sends in a round, by what came to him before
 abbrev pub of_traitor : Campaign → Deliveries → ℕ → ℕ → List Entry → List Dispatch
@@ -44,7 +45,7 @@ IsFull s closed = (r g : ℕ) → r < length closed → g < s.generals → is_tr
 -- the rounds before stay as they were
 pub sent_front : (closed : List Row) (row : Row) (r g : ℕ) → r ≤ length closed → sent (closed ++ row ∷ []) r g ≡ sent closed r g
 sent_front closed row zero g l = refl
-sent_front closed row (suc r) g l = ap (λ o. sent_in (letter_among o g)) (get_front closed (row ∷ []) r (omega arith))
+sent_front closed row (suc r) g l = ap (λ o. sent_in (letter_among o g)) (get_left closed (row ∷ []) r (omega arith))
 
 pub sent_last : (closed : List Row) (row : Row) (g : ℕ) → sent (closed ++ row ∷ []) (suc (length closed)) g ≡ sent_in (letter_in (slice_get row g))
 sent_last closed row g = ap (λ o. sent_in (letter_among o g)) (get_last closed row)

@@ -9,11 +9,6 @@ use Rattle.std.proofs.lemmas.List.FromFn.{length-range_with_len}
 use Rattle.label.specs.Labels.{generals}
 use Rattle.signed.specs.Chains.{Chain, Among}
 
-pub get_front : {X : Type 0} (xs ys : List X) (i : ℕ) → i < length xs → slice_get (xs ++ ys) i ≡ slice_get xs i
-get_front [] ys i l = absurd (omega arith)
-get_front (x ∷ xs) ys zero l = refl
-get_front (x ∷ xs) ys (suc i) l = get_front xs ys i (omega arith)
-
 pub get_last : {X : Type 0} (xs : List X) (y : X) → slice_get (xs ++ y ∷ []) (length xs) ≡ Some y
 get_last [] y = refl
 get_last (x ∷ xs) y = get_last xs y
@@ -39,16 +34,6 @@ set_cases (z ∷ xs) zero x zero y h = inl (refl, sym (let e : x ≡ y = cc in e
 set_cases (z ∷ xs) zero x (suc j) y h = inr h
 set_cases (z ∷ xs) (suc i) x zero y h = inr h
 set_cases (z ∷ xs) (suc i) x (suc j) y h = elim (set_cases xs i x j y h) [ inl e ↦ inl (ap suc e.0, e.1) | inr k ↦ inr k ]
-
-pub set_length : {X : Type 0} (xs : List X) (i : ℕ) (x : X) → length (slice_set xs i x) ≡ length xs
-set_length [] i x = refl
-set_length (z ∷ xs) zero x = refl
-set_length (z ∷ xs) (suc i) x = ap suc (set_length xs i x)
-
-pub there_is : {X : Type 0} (xs : List X) (i : ℕ) → i < length xs → (x : X) × (slice_get xs i ≡ Some x)
-there_is [] i l = absurd (omega arith)
-there_is (x ∷ xs) zero l = (x, refl)
-there_is (x ∷ xs) (suc i) l = there_is xs i (omega arith)
 
 pub all_at : {X : Type 0} (t : X → Bool) (xs : List X) (i : ℕ) (x : X) → list_all t xs ≡ true → slice_get xs i ≡ Some x → t x ≡ true
 all_at t [] i x a h = absurd (let f : None ≡ Some x = h in cc)

@@ -18,7 +18,7 @@ use Rattle.signed.specs.Programs.{SignedScenario, IsSignedScenario, RunWorld, co
 use Rattle.signed.specs.Lists.{post_of, ticks_of}
 use Rattle.signed.proofs.Making.{Row}
 use Rattle.signed.proofs.Keeping.{IsKind}
-use Rattle.signed.proofs.Places.{there_is}
+use Rattle.round.proofs.Lists.{some_at}
 use Rattle.signed.proofs.Midst.{IsMove, AreMoves, InRound, turned_to, tick_is, moves_in}
 use Rattle.signed.proofs.Safe.{due}
 
@@ -141,7 +141,7 @@ module _ (s : SignedScenario) (is : IsSignedScenario s) (closed : List Row) (boa
   pub his_part : (w : RunWorld) (g : ℕ) → InRound s closed board full w → round_open s.campaign closed ≡ true → g < s.campaign.generals → (part : Part Activation) × (slice_get w.parts g ≡ Some part) × IsKind Activation (is_traitor s.campaign g) part
   his_part w g h more lt =
       let open_is : round_open w.campaign w.closed ≡ true = (λ i. round_open (h.same.campaign i) (h.same.closed_is i)) ∙ more in
-      let there = there_is w.parts g (let c = h.kept.count open_is in let n = ap (λ c. c.generals) h.same.campaign in omega arith) in
+      let there = some_at w.parts g (let c = h.kept.count open_is in let n = ap (λ c. c.generals) h.same.campaign in omega arith) in
       (there.0, there.1, (let A : Campaign → Type 0 = λ c. IsKind Activation (is_traitor c g) there.0 in subst A h.same.campaign (h.kept.kinds g there.0 there.1)))
 
   post_brings : (w : RunWorld) (g : ℕ) → InRound s closed board full w → round_open s.campaign closed ≡ true → g < s.campaign.generals → is_traitor s.campaign g ≡ false → IsDone (slice_get (run (conduct_of s) w (post_of s.campaign g)).parts g)

@@ -1,15 +1,27 @@
 -- Rows, computed: campaigns from their events to their texts, and what is no chain or does not count.
 use Rattle.std.proofs.Common.{◌≡◌, ℕ, ◌+◌, true, false, cond, arith, List, [], ◌∷◌, ◌++◌, length, refl, None, Some}
-use Rattle.std.specs.Prelude.{◌==◌, nat_le, codes, replicate}
+use Rattle.std.specs.Prelude.{◌==◌, ◌%◌, ◌^◌, nat_le, codes, replicate}
 use Rattle.std.specs.Fmt.{digits}
 use Rattle.trace.specs.Text.{Line}
-use Rattle.signed.specs.Chains.{IsChain, begin, prolong}
+use Rattle.signed.specs.Chains.{Chain, IsChain, begin, prolong}
 use Rattle.signed.specs.Accepted.{held, accepted, loyal_chains, counts, firsts, decided}
-use Rattle.signed.specs.Entries.{Entry, Sign, sign_order, pass_on, receivers_in, entered, answer_to}
+use Rattle.signed.specs.Entries.{Entry, Sign, Pass, receivers_in, is_entered, entered}
 use Rattle.signed.specs.Campaign.{Campaign, Conduct}
 use Rattle.signed.specs.World.{Event, Tick, Post, Close, opening, run, context_behind, accepted_in, delivered, refusal, NotOpen, NoGeneral}
 use Rattle.signed.specs.Chronicle.{chronicle_of, decisions}
 use Rattle.signed.specs.Text.{signed_lines, signed_text}
+
+-- what a program attempts with a value and the number of its receivers: of the value the low 32 bits are the order
+abbrev pub sign_order : ℕ → ℕ → Entry
+sign_order value bits = Sign (value % 2 ^ 32) bits
+
+-- and with the place of a chain that its general holds
+abbrev pub pass_on : ℕ → ℕ → Entry
+pass_on place bits = Pass place bits
+
+-- what the program is answered
+abbrev pub answer_to : ℕ → ℕ → List Chain → List Entry → Entry → ℕ
+answer_to c g held entries e = cond (is_entered c g held entries e) 0 1
 
 abbrev pub whole : List (List ℕ) → List ℕ
 whole [] = []

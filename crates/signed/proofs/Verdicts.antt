@@ -13,7 +13,8 @@ use Rattle.signed.specs.Accepted.{decided}
 use Rattle.signed.specs.Agreement.{IsSignedBound, SignedAgree}
 use Rattle.signed.specs.Campaign.{Campaign, Conduct, is_traitor}
 use Rattle.signed.specs.World.{World, Event, opening, run, accepted_in, IsFinished}
-use Rattle.signed.specs.Chronicle.{decisions, of_loyal, all_same, verdict_of}
+use Rattle.book.specs.Conditions.{are_alike}
+use Rattle.signed.specs.Chronicle.{decisions, of_loyal, verdict_of}
 use Rattle.signed.specs.Verdicts.{AreAlike, AreObedient, SignedVerdictsMean}
 use Rattle.signed.proofs.Keeping.{run_campaign}
 use Rattle.signed.proofs.Finishing.{agree_in}
@@ -49,13 +50,13 @@ module _ (s : Campaign) where
       (λ (x : is_traitor s g ≡ false). rw x (and_from (t d) (list_all t (of_loyal s gs ds)) (h 0 (omega arith) x) rest))
       (cases_Bool (is_traitor s g))
 
-  same_one : (xs : List ℕ) → all_same xs ≡ true → (d : ℕ) × (list_all (λ e. e == d) xs ≡ true)
+  same_one : (xs : List ℕ) → are_alike xs ≡ true → (d : ℕ) × (list_all (λ e. e == d) xs ≡ true)
   same_one [] h = (0, refl)
   same_one (d ∷ ds) h = (d, and_from (d == d) (list_all (λ e. e == d) ds) (eq-eqb d d refl) h)
 
   loyal_same : (gs ds : List ℕ) → length ds ≡ length gs
       → ((i j : ℕ) → i < length gs → is_traitor s (slice_index gs i) ≡ false → j < length gs → is_traitor s (slice_index gs j) ≡ false → slice_index ds i ≡ slice_index ds j)
-      → all_same (of_loyal s gs ds) ≡ true
+      → are_alike (of_loyal s gs ds) ≡ true
   loyal_same [] ds e h = refl
   loyal_same (g ∷ gs) [] e h = refl
   loyal_same (g ∷ gs) (d ∷ ds) e h =

@@ -1,8 +1,9 @@
 -- What is told of a signed campaign (own; TOPLAS 1982, conditions IC1 and IC2, for the verdict).
-use Rattle.std.specs.Prelude.{ℕ, ◌==◌, nat_le, cond, Bool, true, List, [], ◌∷◌, map, flat_map, count_by, Option, None, Some}
+use Rattle.std.specs.Prelude.{ℕ, ◌==◌, nat_le, cond, Bool, List, [], ◌∷◌, map, flat_map, count_by, Option, None, Some}
 use Rattle.std.specs.List.{list_all}
 use Rattle.label.specs.Labels.{generals}
 use Rattle.label.specs.Lieutenants.{lieutenants}
+use Rattle.book.specs.Conditions.{are_alike}
 use Rattle.signed.specs.Accepted.{decided}
 use Rattle.signed.specs.Campaign.{Campaign, is_traitor}
 use Rattle.signed.specs.World.{World, Letter, accepted_in}
@@ -29,15 +30,11 @@ abbrev pub of_loyal : Campaign → List ℕ → List ℕ → List ℕ
 of_loyal s (g ∷ gs) (d ∷ ds) = cond (is_traitor s g) (of_loyal s gs ds) (d ∷ of_loyal s gs ds)
 of_loyal s _ _ = []
 
-abbrev pub all_same : List ℕ → Bool
-all_same [] = true
-all_same (d ∷ ds) = list_all (λ e. e == d) ds
-
 abbrev pub verdict_of : Campaign → List ℕ → Verdict
 verdict_of s ds =
     let loyal = of_loyal s (lieutenants s.generals s.commander) ds in
     record {
-      alike = all_same loyal;
+      alike = are_alike loyal;
       obeyed = cond (is_traitor s s.commander) None (Some (list_all (λ d. d == s.order) loyal));
       bound = nat_le (count_by (is_traitor s) (generals s.generals)) s.bound;
     }

@@ -1,5 +1,5 @@
 -- What a traitor's activation enters, and the chains that it sends (own; TOPLAS 1982, section 4, assumption A4).
-use Rattle.std.specs.Prelude.{ℕ, ◌%◌, ◌^◌, ◌==◌, nat_lt, Bool, not, cond, ◌&&◌, List, [], ◌∷◌, ◌++◌, map, filter, length, slice_get, Option, None, Some, is_some}
+use Rattle.std.specs.Prelude.{ℕ, ◌==◌, nat_lt, Bool, not, cond, ◌&&◌, List, [], ◌∷◌, ◌++◌, map, filter, length, slice_get, Option, None, Some, is_some}
 use Rattle.std.specs.Int.{bit_at}
 use Rattle.label.specs.Labels.{on, generals, others}
 pub use Rattle.semantics.specs.declared.entry.Entry.{Entry}
@@ -11,14 +11,6 @@ use Rattle.signed.specs.Chains.{Chain, begin, prolong}
 pub record Dispatch : Type 0 where
   pub chain : Chain
   pub receivers : List ℕ
-
--- what a program attempts with a value and the number of its receivers: of the value the low 32 bits are the order
-abbrev pub sign_order : ℕ → ℕ → Entry
-sign_order value bits = Sign (value % 2 ^ 32) bits
-
--- and with the place of a chain that its general holds
-abbrev pub pass_on : ℕ → ℕ → Entry
-pass_on place bits = Pass place bits
 
 -- the generals whose bit is set, but for those who stand on the chain
 abbrev pub receivers_in : ℕ → ℕ → Chain → List ℕ
@@ -40,10 +32,6 @@ bits_of (Pass place bits) = bits
 -- an attempt is entered where there is such a chain, and room
 abbrev pub is_entered : ℕ → ℕ → List Chain → List Entry → Entry → Bool
 is_entered c g held entries e = is_some (chain_of c g held e) && nat_lt (length entries) most_entries
-
--- what the program is answered
-abbrev pub answer_to : ℕ → ℕ → List Chain → List Entry → Entry → ℕ
-answer_to c g held entries e = cond (is_entered c g held entries e) 0 1
 
 -- the entries once this has been attempted too
 abbrev pub entered_also : ℕ → ℕ → List Chain → List Entry → Entry → List Entry

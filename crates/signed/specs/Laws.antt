@@ -1,6 +1,7 @@
 -- What holds of every world of a signed campaign. Each statement is the contract of a function of this crate.
 use Rattle.std.specs.Prelude.{ℕ, suc, ◌≡◌, ◌*◌, ◌<◌, ◌≤◌, true, List, [], ◌∷◌, ◌++◌, map, length, slice_get, Some, None, is_some}
 use Rattle.std.specs.List.{AllByRecursion}
+use Rattle.semantics.specs.Limits.{context_size, most_held}
 use Rattle.label.specs.Labels.{on}
 use Rattle.signed.specs.Chains.{Chain, Among, IsChain, orders}
 use Rattle.signed.specs.Agreement.{IsSignedBound, SignedAgree}
@@ -50,9 +51,9 @@ pub record SignedWorldsAgree (A B : Type 0) : Type 0 where
 -- in a campaign within its limits nobody holds more chains than a place names, 0 to 383, and their numbers find room in a context of 4,096 bytes
 pub record HeldChainsAreFew (A B : Type 0) : Type 0 where
   pub held : (d : Conduct A B) (s : Campaign) (events : List Event) (g : ℕ) → s.commander < s.generals → s.generals ≤ 13 → s.bound ≤ 4 → g < s.generals →
-      length (run d (opening d s) events).closed ≤ s.bound → length (held_behind s (run d (opening d s) events).closed g) ≤ 384
+      length (run d (opening d s) events).closed ≤ s.bound → length (held_behind s (run d (opening d s) events).closed g) ≤ most_held
   pub context : (d : Conduct A B) (s : Campaign) (events : List Event) (g : ℕ) → s.commander < s.generals → s.generals ≤ 13 → s.bound ≤ 4 → g < s.generals →
-      length (run d (opening d s) events).closed ≤ s.bound → 4 * length (context_behind s (run d (opening d s) events).closed g) ≤ 4096
+      length (run d (opening d s) events).closed ≤ s.bound → 4 * length (context_behind s (run d (opening d s) events).closed g) ≤ context_size
 
 -- a refused event, and a second post, leave the world as it was
 pub record IdleEventsChangeNothing (A B : Type 0) : Type 0 where

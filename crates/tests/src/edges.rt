@@ -64,7 +64,7 @@ const EQUALITIES: &[Row] = &[
     ),
     (
         Width::W64,
-        Condition::Different,
+        Condition::NotEqual,
         true,
         (7, 9),
         (7, 7),
@@ -72,7 +72,7 @@ const EQUALITIES: &[Row] = &[
     ),
     (
         Width::W32,
-        Condition::Different,
+        Condition::NotEqual,
         false,
         (5, 9),
         (3, 0xffff_ffff),

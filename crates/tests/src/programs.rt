@@ -19,7 +19,7 @@ fn is_laid_out(program: &Program, wide: Insn, narrow: Insn) -> bool {
 #[test]
 fn a_wide_instruction_takes_two_units(rt: HostRuntime) -> Result<(), Fail> {
     let dst = Reg::new(1).ok_or("no register")?;
-    let wide = Insn::LoadNumber { dst, number: 7 };
+    let wide = Insn::LoadImmediate { dst, number: 7 };
     let narrow = Insn::Arithmetic {
         width: Width::W64,
         operation: Operation::Move,

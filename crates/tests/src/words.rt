@@ -23,7 +23,12 @@ const WIDE: &[Row] = &[
     (Operation::SignedMod, MINUS_ONE - 12, 3, MINUS_ONE),
     (Operation::ShiftLeft, 1, 65, 2),
     (Operation::ShiftRight, 8, 65, 4),
-    (Operation::ShiftSigned, MINUS_ONE - 7, 65, MINUS_ONE - 3),
+    (
+        Operation::ArithmeticShiftRight,
+        MINUS_ONE - 7,
+        65,
+        MINUS_ONE - 3,
+    ),
 ];
 
 /// Divisions and shifts of 32 bits.
@@ -33,7 +38,12 @@ const NARROW: &[Row] = &[
     (Operation::SignedDiv, 0x8000_0000, MINUS_ONE, 0x8000_0000),
     (Operation::SignedMod, 0x8000_0000, MINUS_ONE, 0),
     (Operation::ShiftLeft, 0x8000_0001, 33, 2),
-    (Operation::ShiftSigned, 0x8000_0000, 31, 0xffff_ffff),
+    (
+        Operation::ArithmeticShiftRight,
+        0x8000_0000,
+        31,
+        0xffff_ffff,
+    ),
 ];
 
 #[test]

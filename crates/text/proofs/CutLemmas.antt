@@ -6,8 +6,7 @@ use Rattle.text.specs.declared.stop.Stop.{Stop}
 use Rattle.text.specs.Stop.{is_stop, feed}
 use Rattle.text.specs.Parts.{until, before, from, pieces, lines_of}
 use Rattle.text.proofs.PartsLemmas.{pieces_is, line_first}
-use Rattle.text.proofs.BytesLemmas.{and_first, and_second}
-use Rattle.std.proofs.lemmas.Bool.{not-true}
+use Rattle.std.proofs.lemmas.Bool.{not-true, and_parts}
 use Rattle.std.proofs.Math.Seq.{take-length, drop-length}
 
 -- no stop stands in the text
@@ -17,11 +16,11 @@ Lacks stop bytes = list_all (λ c. not (is_stop stop c)) bytes ≡ true
 -- the first stop stands behind a part that has none
 pub until-append : (stop : Stop) (xs : List ℕ) (c : ℕ) (ys : List ℕ) → Lacks stop xs → is_stop stop c ≡ true → until stop (xs ++ c ∷ ys) ≡ length xs
 until-append stop [] c ys h k = rw k refl
-until-append stop (x ∷ xs) c ys h k = rw (not-true (is_stop stop x) (and_first (not (is_stop stop x)) _ h)) (ap suc (until-append stop xs c ys (and_second (not (is_stop stop x)) _ h) k))
+until-append stop (x ∷ xs) c ys h k = rw (not-true (is_stop stop x) (and_parts (not (is_stop stop x)) _ h).0) (ap suc (until-append stop xs c ys (and_parts (not (is_stop stop x)) _ h).1 k))
 
 pub until-all : (stop : Stop) (xs : List ℕ) → Lacks stop xs → until stop xs ≡ length xs
 until-all stop [] h = refl
-until-all stop (x ∷ xs) h = rw (not-true (is_stop stop x) (and_first (not (is_stop stop x)) _ h)) (ap suc (until-all stop xs (and_second (not (is_stop stop x)) _ h)))
+until-all stop (x ∷ xs) h = rw (not-true (is_stop stop x) (and_parts (not (is_stop stop x)) _ h).0) (ap suc (until-all stop xs (and_parts (not (is_stop stop x)) _ h).1))
 
 pub take_front : (xs ys : List ℕ) → take (length xs) (xs ++ ys) ≡ xs
 take_front [] ys = refl

@@ -1,13 +1,13 @@
 -- Decimals that are printed are read again, in each of their forms.
-use Rattle.std.proofs.Common.{◌≡◌, ℕ, ◌+◌, ◌/◌, ◌%◌, ◌^◌, ◌<◌, ◌≤◌, Bool, true, false, List, [], ◌∷◌, ◌++◌, Some, None, length, get_or, refl, ap, arith, inl, inr}
-use Rattle.std.specs.Prelude.{decimal, ◌==◌, ◌&&◌, if◌then◌else◌}
+use Rattle.std.proofs.Common.{◌≡◌, ℕ, ◌+◌, ◌/◌, ◌%◌, ◌^◌, ◌<◌, ◌≤◌, true, false, List, [], ◌∷◌, ◌++◌, Some, None, length, get_or, refl, ap, arith, inl, inr}
+use Rattle.std.specs.Prelude.{decimal, ◌==◌, if◌then◌else◌}
 use Rattle.std.specs.List.{list_all}
 use Rattle.std.proofs.lemmas.Fmt.{decimal_by_steps, decimal_digit, decimal_nonempty, first_decimal}
-use Rattle.std.proofs.lemmas.Bool.{cases_lt}
+use Rattle.std.proofs.lemmas.Bool.{cases_lt, and_parts, and_right}
 use Rattle.std.proofs.lemmas.Bool.Decides.{nat_tests}
 use Rattle.text.specs.Stop.{is_within}
 use Rattle.text.specs.Number.{digits_on, decimal_of, is_hex, magnitude_of}
-use Rattle.text.proofs.BytesLemmas.{all-append, and_first, and_second}
+use Rattle.text.proofs.BytesLemmas.{all-append}
 use Rattle.text.proofs.DigitLemmas.{decimal_again}
 
 -- digits alone
@@ -36,17 +36,13 @@ digits-decimal n lt = decimal_by_steps Numeral first_digit more_digits n lt
 pub digit_is_not : (c other : ℕ) → is_within 48 57 c ≡ true → 57 < other → c == other ≡ false
 digit_is_not c other h lt = grind (arith, nat_tests)
 
-and_false : (a b : Bool) → b ≡ false → a && b ≡ false
-and_false true b h = h
-and_false false b h = refl
-
 -- digits are no hex number
 pub is_hex-digits : (ds : List ℕ) → AreDigits ds → is_hex ds ≡ false
 is_hex-digits [] h = refl
-is_hex-digits (c ∷ []) h = and_false (c == 48) false refl
+is_hex-digits (c ∷ []) h = and_right (c == 48) false refl
 is_hex-digits (c ∷ d ∷ cs) h =
-    let second : is_within 48 57 d ≡ true = and_first (is_within 48 57 d) _ (and_second (is_within 48 57 c) _ h) in
-    and_false (c == 48) (d == 120) (digit_is_not d 120 second (omega arith))
+    let second : is_within 48 57 d ≡ true = (and_parts (is_within 48 57 d) _ (and_parts (is_within 48 57 c) _ h).1).0 in
+    and_right (c == 48) (d == 120) (digit_is_not d 120 second (omega arith))
 
 some_digits : (ds : List ℕ) (n : ℕ) → 0 < length ds → digits_on 10 0 ds ≡ Some n → (if length ds == 0 then None else digits_on 10 0 ds) ≡ Some n
 some_digits ds n some h =

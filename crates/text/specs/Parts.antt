@@ -1,5 +1,5 @@
 -- Parts of a text.
-use Rattle.std.specs.Prelude.{ℕ, suc, ◌≡◌, List, [], ◌∷◌, if◌then◌else◌, Option, Some, None, take, drop}
+use Rattle.std.specs.Prelude.{ℕ, suc, ◌≡◌, ◌+◌, List, [], ◌∷◌, length, if◌then◌else◌, Option, Some, None, take, drop}
 use Rattle.std.proofs.Common.{Bor}
 use Rattle.text.specs.declared.stop.Stop.{Stop}
 use Rattle.text.specs.Stop.{is_stop, feed}
@@ -25,6 +25,16 @@ onto_first c (piece ∷ pieces) = (c ∷ piece) ∷ pieces
 abbrev pub pieces : Stop → List ℕ → List (List ℕ)
 pieces stop [] = [] ∷ []
 pieces stop (c ∷ cs) = if is_stop stop c then [] ∷ pieces stop cs else onto_first c (pieces stop cs)
+
+-- the pieces that are left of a text, if a stop was met
+abbrev pub left : Stop → Option (Bor (List ℕ)) → List (List ℕ)
+left stop None = []
+left stop (Some rest) = pieces stop rest.now
+
+-- how much is left of the text: its bytes, and one for the stop
+abbrev pub left_len : Option (Bor (List ℕ)) → ℕ
+left_len None = 0
+left_len (Some rest) = length rest.now + 1
 
 -- an empty last piece is no line
 abbrev pub closed : List (List ℕ) → List (List ℕ)

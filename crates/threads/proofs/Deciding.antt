@@ -18,6 +18,7 @@ use Rattle.round.specs.Told.{IsTreeOf, ToldSeen, WasTold, lieutenant_at}
 use Rattle.world.specs.World.{each}
 use Rattle.world.specs.Chronicle.{decision, decisions}
 use Rattle.round.proofs.Lists.{some_at}
+use Rattle.world.proofs.Arranged.{snoc}
 
 one_by_one : (f : ℕ → ℕ) (n : ℕ) (g : ℕ → ℕ) → map f (each n (λ i. g i ∷ [])) ≡ each n (λ i. f (g i) ∷ [])
 one_by_one f zero g = refl
@@ -76,11 +77,6 @@ zip_long f [] [] all = refl
 zip_long f [] (d ∷ ds) all = absurd all
 zip_long f (t ∷ ts) [] all = absurd all
 zip_long f (t ∷ ts) (d ∷ ds) all = ap suc (zip_long f ts ds all.1)
-
-snoc : (xs : List ℕ) (n x : ℕ) → slice_get xs n ≡ Some x → take (suc n) xs ≡ take n xs ++ x ∷ []
-snoc [] n x e = cc
-snoc (y ∷ xs) zero x e = (let f : y ≡ x = cc in ap (λ z. z ∷ []) f)
-snoc (y ∷ xs) (suc n) x e = ap (λ ys. y ∷ ys) (snoc xs n x e)
 
 each_front : (xs : List ℕ) (f : ℕ → ℕ) → ((i x : ℕ) → slice_get xs i ≡ Some x → x ≡ f i) → (n : ℕ) → n ≤ length xs → each n (λ i. f i ∷ []) ≡ take n xs
 each_front xs f h zero le = refl

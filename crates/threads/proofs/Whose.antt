@@ -122,8 +122,8 @@ whose s before g (Some p) l h = (
 )
 
 -- the letters of an accounted round are of that round
-pub are_of_round : (s : Scenario) (before : List (List Letter)) (piece : List Access) (row : List Letter) → IsAccountedRound s before piece row → AreLettersOf s (suc (length before)) row
-are_of_round s before piece row h i l at = whose s before i (program_of s i) l (h.each i l at).0
+pub are_letters_of : (s : Scenario) (before : List (List Letter)) (piece : List Access) (row : List Letter) → IsAccountedRound s before piece row → AreLettersOf s (suc (length before)) row
+are_letters_of s before piece row h i l at = whose s before i (program_of s i) l (h.each i l at).0
 
 rounds_from : (s : Scenario) (before rows : List (List Letter)) (ledger : List Access) → AreAccounted s before ledger rows → (i : ℕ) (row : List Letter) → slice_get rows i ≡ Some row → AreLettersOf s (suc (length before + i)) row
 rounds_from s before [] ledger h i row at = cc
@@ -132,7 +132,7 @@ rounds_from s before (letters ∷ rows) ledger h zero row at =
     let e : suc (length before) ≡ suc (length before + 0) = omega arith in
     (let A : ℕ → List Letter → Type 0 = λ n ls. AreLettersOf s n ls in
     subst (λ (ls : List Letter). A (suc (length before + 0)) ls) same
-    (subst (λ (n : ℕ). A n letters) e (are_of_round s before (take (sum_by (λ l. length l.transcript) letters) ledger) letters h.0)))
+    (subst (λ (n : ℕ). A n letters) e (are_letters_of s before (take (sum_by (λ l. length l.transcript) letters) ledger) letters h.0)))
 rounds_from s before (letters ∷ rows) ledger h (suc i) row at =
     let e : suc (length (before ++ letters ∷ []) + i) ≡ suc (length before + suc i) = omega (arith, length-append before (letters ∷ [])) in
     (let A : ℕ → Type 0 = λ n. AreLettersOf s n row in subst A e (rounds_from s (before ++ letters ∷ []) rows (drop (sum_by (λ l. length l.transcript) letters) ledger) h.1 i row at))

@@ -37,8 +37,8 @@ impl<'a, G> Camp<'a, G> {
         requires { 0 < generals }
         ensures inboxes { IfOk result (λ r. length r.0.inboxes.items ≡ generals) }
         ensures count { IfOk result (λ r. length r.1.items ≡ generals) }
-        ensures posters { IfOk result (λ r. (g : ℕ) (d : PosterSeen) → g < generals → slice_index_or r.1.items g d ≡ poster_seen r.0.post.post g []) }
-        ensures collector { IfOk result (λ r. r.2.post ≡ r.0.post.post) }
+        ensures posters { IfOk result (λ r. (g : ℕ) (d : PosterSeen) → g < generals → slice_index_or r.1.items g d ≡ poster_seen r.0.post.table g []) }
+        ensures collector { IfOk result (λ r. r.2.table ≡ r.0.post.table) }
     {
         let (post, posters, collector) = Post::new(alloc, generals, usize::from(generals))?;
         let inboxes = empty_inboxes(alloc, generals)?;

@@ -48,9 +48,9 @@ fn through_residents<R: Threads + Wait + Sync, G: Gate + Sync>(
     stack: usize,
 ) -> Result<(Vec<Round>, Told), MusterError>
     requires few { length posters.items < 256 }
-    requires posters { (g : ℕ) (d : PosterSeen) → g < length posters.items → slice_index_or posters.items g d ≡ poster_seen camp.now.post.post g [] }
+    requires posters { (g : ℕ) (d : PosterSeen) → g < length posters.items → slice_index_or posters.items g d ≡ poster_seen camp.now.post.table g [] }
     requires inboxes { length posters.items ≤ length camp.now.inboxes.items }
-    requires collector { collector.post ≡ camp.now.post.post }
+    requires collector { collector.table ≡ camp.now.post.table }
     ensures rounds { IfOk result (λ r. length r.0.items ≡ suc scenario.now.bound) }
     ensures told { IfOk result (λ r. WasTold scenario.now r.0.items r.1) }
 {
@@ -60,9 +60,9 @@ fn through_residents<R: Threads + Wait + Sync, G: Gate + Sync>(
         rt,
         |scope| -> Result<(Vec<Round>, Told), MusterError>
             requires few { length posters.items < 256 }
-            requires posters { (g : ℕ) (d : PosterSeen) → g < length posters.items → slice_index_or posters.items g d ≡ poster_seen camp.now.post.post g [] }
+            requires posters { (g : ℕ) (d : PosterSeen) → g < length posters.items → slice_index_or posters.items g d ≡ poster_seen camp.now.post.table g [] }
             requires inboxes { length posters.items ≤ length camp.now.inboxes.items }
-            requires collector { collector.post ≡ camp.now.post.post }
+            requires collector { collector.table ≡ camp.now.post.table }
             ensures rounds { IfOk result (λ r. length r.0.items ≡ suc scenario.entry.now.bound) }
             ensures told { IfOk result (λ r. WasTold scenario.entry.now r.0.items r.1) }
         {
@@ -72,7 +72,7 @@ fn through_residents<R: Threads + Wait + Sync, G: Gate + Sync>(
                 let started = thread::Builder::new().stack_size(stack).spawn_scoped(
                     scope,
                     move || -> Result<(), MusterError>
-                        requires post { poster.post ≡ camp.now.post.post }
+                        requires post { poster.table ≡ camp.now.post.table }
                         requires general { poster.general ≡ resident.general }
                     { resident.stay(rt, alloc, &camp.post, poster) },
                 );
@@ -99,7 +99,7 @@ fn finish<R: Threads + Wait, G>(
     handles: Vec<JoinHandle<Result<(), MusterError>>>,
     refused: Option<MusterError>,
 ) -> Result<(Vec<Round>, Told), MusterError>
-    requires { collector.post ≡ camp.now.post.post }
+    requires { collector.table ≡ camp.now.post.table }
     ensures rounds { IfOk result (λ r. length r.0.items ≡ suc scenario.now.bound) }
     ensures told { IfOk result (λ r. WasTold scenario.now r.0.items r.1) }
 {

@@ -5,10 +5,9 @@ ghost use Rattle.round.specs.Told.{WasTold};
 
 use crate::camp::Camp;
 use crate::error::MusterError;
-use crate::rounds::are_of_round;
 use crate::task::Task;
 use post::{Collector, Post};
-use round::{Letter, Round, Scenario, Told};
+use round::{Letter, Round, Scenario, Told, are_letters_of};
 use std::alloc::{AllocError, Global};
 use std::sync::Wait;
 
@@ -25,7 +24,7 @@ pub(crate) fn conduct<R: Wait, G>(
     camp: &Camp<G>,
     mut collector: Collector,
 ) -> Result<(Vec<Round>, Told), MusterError>
-    requires { collector.post ≡ camp.now.post.post }
+    requires { collector.table ≡ camp.now.post.table }
     ensures rounds { IfOk result (λ r. length r.0.items ≡ suc scenario.now.bound) }
     ensures told { IfOk result (λ r. WasTold scenario.now r.0.items r.1) }
 {
@@ -39,7 +38,7 @@ pub(crate) fn conduct<R: Wait, G>(
         }
         let (again, letters) = take_letters(rt, alloc, &camp.post, collector)?;
         collector = again;
-        if !are_of_round(scenario, u32::from(round) + 1, letters.as_slice()) {
+        if !are_letters_of(scenario, u32::from(round) + 1, letters.as_slice()) {
             return Err(MusterError::Unaccounted);
         }
         told.deliver(scenario, letters.as_slice());
@@ -69,8 +68,8 @@ fn take_letters<R: Wait>(
     post: &Post,
     mut collector: Collector,
 ) -> Result<(Collector, Vec<Letter>), AllocError>
-    requires { collector.post ≡ post.now.post }
-    ensures { IfOk result (λ r. r.0.post ≡ post.now.post) }
+    requires { collector.table ≡ post.now.table }
+    ensures { IfOk result (λ r. r.0.table ≡ post.now.table) }
 {
     let mut letters = Vec::new(alloc);
     for _ in rt.forever() {

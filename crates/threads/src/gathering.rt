@@ -6,10 +6,9 @@ ghost use Rattle.threads.specs.declared.error.MusterError.TheVariants.{Unaccount
 
 use crate::account::are_accounted;
 use crate::error::MusterError;
-use crate::rounds::are_of_round;
 use crate::taking::arrange;
 use board::Access;
-use round::{Letter, Round, Scenario, Told};
+use round::{Letter, Round, Scenario, Told, are_letters_of};
 use std::alloc::{AllocError, Global};
 
 /// The letters by round, and in a round by general, where the ledger accounts for them: there is one for each general
@@ -57,7 +56,7 @@ fn deliver_all(
     let mut told = Told::new(alloc, scenario)?;
     for row in rows {
         let round = u32::from(told.rounds()) + 1;
-        if !are_of_round(scenario, round, row.letters()) {
+        if !are_letters_of(scenario, round, row.letters()) {
             return Ok(None);
         }
         told.deliver(scenario, row.letters());

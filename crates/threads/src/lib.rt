@@ -12,7 +12,6 @@ mod gathering;
 mod inbox;
 mod mustering;
 mod resident;
-mod rounds;
 mod shared;
 mod taking;
 mod tally;

@@ -36,7 +36,7 @@ impl<'a, G: Gate> Resident<'a, G> {
         post: &Post,
         poster: Poster,
     ) -> Result<(), MusterError>
-        requires post { poster.post ≡ post.now.post }
+        requires post { poster.table ≡ post.now.table }
         requires general { poster.general ≡ self.general }
     {
         let ended = self.do_tasks(rt, alloc, post, poster);
@@ -58,7 +58,7 @@ impl<'a, G: Gate> Resident<'a, G> {
         post: &Post,
         mut poster: Poster,
     ) -> Result<(), MusterError>
-        requires post { poster.post ≡ post.now.post }
+        requires post { poster.table ≡ post.now.table }
         requires general { poster.general ≡ self.now.general }
     {
         for _ in rt.forever() {

@@ -2,11 +2,11 @@
 use Rattle.std.proofs.Common.{◌≡◌, ℕ, zero, suc, ◌+◌, ◌<◌, ◌≤◌, List, [], ◌∷◌, ◌++◌, map, Bool, true, false, cond, refl, ap, ◌∙◌, arith, append-nil}
 use Rattle.std.specs.Prelude.{◌==◌, not, decimal, nat_lt, ◌/◌, ◌%◌}
 use Rattle.std.specs.Fmt.{digits, digits_onto, digit_glyph}
-use Rattle.std.proofs.lemmas.Bool.{ne_eqb}
+use Rattle.std.proofs.lemmas.Bool.{ne_eqb, and_from}
 use Rattle.text.specs.declared.stop.Stop.TheVariants.{Byte}
 use Rattle.text.specs.Stop.{is_stop, feed, space}
 use Rattle.text.specs.Parts.{pieces}
-use Rattle.text.proofs.BytesLemmas.{and_both, all-append}
+use Rattle.text.proofs.BytesLemmas.{all-append}
 use Rattle.text.proofs.CutLemmas.{Lacks, pieces-append, pieces-all}
 use Rattle.trace.specs.Text.{Word, Line, further, spaced, text}
 
@@ -21,7 +21,7 @@ not_stop c sep le lt = rw (ne_eqb c sep (λ e. let f = e in omega arith)) refl
 
 plain_lacks : (sep : ℕ) → sep ≤ 32 → (w : List ℕ) → IsPlain w → Lacks (Byte sep) w
 plain_lacks sep le [] p = refl
-plain_lacks sep le (c ∷ w) p = and_both (not (is_stop (Byte sep) c)) _ (not_stop c sep le p.0) (plain_lacks sep le w p.1)
+plain_lacks sep le (c ∷ w) p = and_from (not (is_stop (Byte sep) c)) _ (not_stop c sep le p.0) (plain_lacks sep le w p.1)
 
 abbrev pub ArePlain : List Word → Type 0
 ArePlain [] = Unit {0}

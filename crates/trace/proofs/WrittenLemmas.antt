@@ -5,6 +5,7 @@ use Rattle.std.proofs.Math.ListN.{set, length-set}
 use Rattle.std.proofs.lemmas.List.{take-append-drop, take_all, drop-set, drop_all, take_more, map-append}
 use Rattle.std.specs.Io.KnownBytes.{Appends, Keeps}
 use Rattle.std.proofs.KnownBytes.{Appends-nil, Appends-trans, Appends-kept}
+use Rattle.mem.proofs.Parts.{take-split}
 use Rattle.trace.specs.Sinks.{Wrote}
 use Rattle.trace.specs.Text.{Word, further}
 
@@ -57,15 +58,6 @@ drop-length zero xs le = omega arith
 drop-length (suc n) [] le = absurd (omega arith)
 drop-length (suc n) (x ∷ xs) le = let h = drop-length n xs (omega arith) in omega arith
 
-take-more : (n k : ℕ) (xs : List ℕ) → take n xs ++ take k (drop n xs) ≡ take (n + k) xs
-take-more zero k xs = ap (λ j. take j xs) (let e : k ≡ 0 + k = omega arith in e)
-take-more (suc n) k [] = nil k ∙ ap (λ j. take j []) (let e : suc (n + k) ≡ suc n + k = omega arith in e)
-  where
-    nil : (j : ℕ) → take {A = ℕ} j [] ≡ []
-    nil zero = refl
-    nil (suc j) = refl
-take-more (suc n) k (x ∷ xs) = ap (λ ys. x ∷ ys) (take-more n k xs) ∙ ap (λ j. take j (x ∷ xs)) (let e : suc (n + k) ≡ suc n + k = omega arith in e)
-
 -- the rest of a piece from a place on, as it is handed to a call
 abbrev pub behind : ℕ → List ℕ → List ℕ
 behind from piece = take (length piece - from) (drop from piece)
@@ -80,7 +72,7 @@ put_more piece from n old mid new lt le so then =
     let long = drop-length from piece (omega arith) in
     let all = behind_is piece from lt in
     let le' : n ≤ length (drop from piece) = (let A : List ℕ → Type 0 = λ t. n ≤ length t in subst A all le) in
-    ((omega arith), appends-same old new (take from piece ++ take n (behind from piece)) (take (from + n) piece) (ap (λ t. take from piece ++ take n t) all ∙ take-more from n piece) (Appends-trans old mid new (take from piece) (take n (behind from piece)) so then))
+    ((omega arith), appends-same old new (take from piece ++ take n (behind from piece)) (take (from + n) piece) (ap (λ t. take from piece ++ take n t) all ∙ sym (take-split from n piece)) (Appends-trans old mid new (take from piece) (take n (behind from piece)) so then))
 
 -- a call took none
 pub put_none : (piece : List ℕ) (from : ℕ) (old mid new : Option (List ℕ)) (f after : Bool) → Appends old mid (take from piece) → Keeps mid new → after ≡ true → f ≡ false → Wrote old f piece new after

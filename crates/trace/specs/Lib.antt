@@ -6,7 +6,6 @@ pub mod Shapes
 pub mod Audit
 pub mod Compared
 pub mod Schedules
-pub mod Left
 pub mod Sinks
 pub mod Lines
 pub mod Telling

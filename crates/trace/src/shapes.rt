@@ -2,8 +2,7 @@
 ghost use Rattle.std.specs.Prelude.{◌≡◌, ◌&&◌, ◌==◌, Some, option_map, codes, length};
 ghost use Rattle.std.specs.List.{list_all};
 ghost use Rattle.text.specs.Stop.{space, feed};
-ghost use Rattle.text.specs.Parts.{pieces};
-ghost use Rattle.trace.specs.Left.{left};
+ghost use Rattle.text.specs.Parts.{left, pieces};
 ghost use Rattle.trace.specs.Shapes.{are_places, behind, behind_shape, fits, is_access, is_copied, is_count, is_end};
 ghost use Rattle.trace.specs.Shapes.{is_head, is_number, is_place, is_shaped, is_told, is_yes_no, stands_for, unshaped_from};
 
@@ -46,7 +45,7 @@ fn stands_for(kind: &[u8], word: &[u8]) -> bool
 /// What is left of a line behind the words of a shape, where it begins with them.
 #[tactic(auto, unfolding(crate::specs::Shapes::behind_shape))]
 fn behind<'a>(shape: &[u8], line: &'a [u8]) -> Option<Option<&'a [u8]>>
-    ensures { option_map left result ≡ behind_shape shape.now (pieces space line.now) }
+    ensures { option_map (left space) result ≡ behind_shape shape.now (pieces space line.now) }
 {
     let mut kinds = Some(shape);
     let mut words = Some(line);
@@ -93,7 +92,7 @@ fn is_head(line: &[u8]) -> bool
 
 /// Whether the words that are left are numbers or dashes.
 fn are_places(words: Option<&[u8]>) -> bool
-    ensures { result ≡ list_all is_place (left words.entry) }
+    ensures { result ≡ list_all is_place (left space words.entry) }
 {
     let mut rest = words;
     while let Some(places) = rest {
@@ -129,7 +128,7 @@ fn is_told(line: &[u8]) -> bool
 
 /// Whether so many words are left, all of them numbers.
 fn is_count(count: u128, words: Option<&[u8]>) -> bool
-    ensures { result ≡ is_count (Some count) (left words.entry) }
+    ensures { result ≡ is_count (Some count) (left space words.entry) }
 {
     let mut rest = words;
     let mut met = 0;
@@ -146,7 +145,7 @@ fn is_count(count: u128, words: Option<&[u8]>) -> bool
 
 /// Whether what is left of a line tells how many words are copied, and the words.
 fn is_copied(words: Option<&[u8]>) -> bool
-    ensures { result ≡ is_copied (Some (left words.entry)) }
+    ensures { result ≡ is_copied (Some (left space words.entry)) }
 {
     let Some(words) = words else {
         return false;

@@ -2,6 +2,7 @@
 use Rattle.std.specs.Prelude.{ℕ, suc, ◌≡◌, ◌<◌, ◌≤◌, false, List, None, Some, length, map, replicate, IsSome}
 use Rattle.insn.specs.declared.insn.Insn.{Insn}
 use Rattle.label.specs.Relay.{relay}
+use Rattle.semantics.specs.Limits.{board_words}
 use Rattle.semantics.specs.Relay.{Relay, IsRelay, IsContext}
 use Rattle.semantics.specs.Run.{IsSound}
 use Rattle.semantics.specs.State.{Exit}
@@ -22,8 +23,8 @@ pub record IsGeneralsRun (program : List Insn) (context : List ℕ) (relay : Rel
   pub way : IsOnWay relay.shape.general relay.shape.round (started None program context relay) last ledger
   pub going : last.over ≡ false
   pub exit : step program context relay last.state ≡ Exit e.r0 e.state
-  pub legal : IsLegal (replicate 64 0) ledger
-  pub left : e.words ≡ words_after (replicate 64 0) ledger
+  pub legal : IsLegal (replicate board_words 0) ledger
+  pub left : e.words ≡ words_after (replicate board_words 0) ledger
 
 abbrev pub TrialsAreRuns : Type 0
 TrialsAreRuns = (program : List Insn) (context : List ℕ) (relay : Relay) (e : Ending) → trial program context relay ≡ Some e → IsGeneralsRun program context relay e

@@ -1,6 +1,7 @@
 -- One run of a program with a board of its own, which begins with zeros (own).
 use Rattle.std.specs.Prelude.{ℕ, zero, suc, List, Option, None, Some, length, replicate}
 use Rattle.insn.specs.declared.insn.Insn.{Insn}
+use Rattle.semantics.specs.Limits.{board_words}
 use Rattle.semantics.specs.Relay.{Relay}
 use Rattle.semantics.specs.State.{State, Outcome, Next, Ask, Exit, Trap, entry}
 use Rattle.semantics.specs.Outbox.{empty_outbox}
@@ -28,4 +29,4 @@ ending program context relay (suc k) words s = served (λ left t. ending program
 
 -- how it ends from its entry, within as many steps as it has instructions
 abbrev pub trial : List Insn → List ℕ → Relay → Option Ending
-trial program context relay = ending program context relay (length program) (replicate 64 0) (entry (empty_outbox relay))
+trial program context relay = ending program context relay (length program) (replicate board_words 0) (entry (empty_outbox relay))

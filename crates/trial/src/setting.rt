@@ -4,6 +4,7 @@ ghost use Rattle.trial.specs.Setting.{bench, context_in};
 
 use crate::spelling::spell;
 use label::Shape;
+use mem::Context;
 use std::alloc::{AllocError, Global};
 use std::marker::Model;
 
@@ -92,10 +93,10 @@ impl Setting {
             generals - round,
             0,
         ];
-        let mut bytes = Vec::with_capacity(alloc, 4096)?;
+        let mut bytes = Vec::with_capacity(alloc, Context::BYTES)?;
         spell(&mut bytes, &header)?;
         spell(&mut bytes, taken)?;
-        bytes.resize(4096, 0)?;
+        bytes.resize(Context::BYTES, 0)?;
         Ok(bytes)
     }
 }

@@ -1,6 +1,7 @@
 -- Arguments that are accepted are taken.
 use Rattle.std.proofs.Common.{◌≡◌, ℕ, ◌+◌, ◌<◌, ◌≤◌, List, [], ◌∷◌, Option, Some, None, Bool, true, false, refl, arith}
 use Rattle.std.specs.Prelude.{Ok, Err, not, nat_lt, if◌then◌else◌}
+use Rattle.std.specs.Option.{option_or}
 use Rattle.std.proofs.lemmas.Bool.{lt-ltb, ltb-true}
 use Rattle.semantics.specs.declared.value.Value.{Value}
 use Rattle.semantics.specs.declared.value.Value.TheVariants as value
@@ -14,12 +15,12 @@ use Rattle.helper.specs.declared.argument.Argument.{Argument}
 use Rattle.helper.specs.Table.{bound_of, arguments_of, refusal, test_of, or_else, refused}
 use Rattle.verify.specs.declared.reason.Reason.{Reason}
 use Rattle.verify.proofs.Gamma.{RegistersDescribe}
-use Rattle.verify.specs.Calls.{or_reason, reason_if, argument_reason, arguments_reason, IsBelow, IsPointer}
+use Rattle.verify.specs.Calls.{reason_if, argument_reason, arguments_reason, IsBelow, IsPointer}
 use Rattle.verify.proofs.Zips.{AllZip-at}
 use Rattle.absval.specs.declared.value.AbsVal.TheVariants.{Unset, Number, Pointer}
 use Rattle.verify.specs.Registers.{known_at}
 
-pub or_parts : (a b : Option Reason) → or_reason a b ≡ None → (a ≡ None) × (b ≡ None)
+pub or_parts : (a b : Option Reason) → option_or a b ≡ None → (a ≡ None) × (b ≡ None)
 or_parts None b e = (refl, e)
 or_parts (Some r) b e = cc
 

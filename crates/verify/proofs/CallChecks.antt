@@ -1,19 +1,17 @@
 -- Checks one after another, and what is left behind them.
 use Rattle.std.proofs.Common.{◌≡◌, ◌∙◌, List, Option, Some, None, refl, sym, ap}
 use Rattle.std.specs.Prelude.{Result, Ok, Err, IsErrAnd}
+use Rattle.std.specs.Option.{option_or}
 use Rattle.semantics.specs.declared.request.Helper.{Helper}
-use Rattle.semantics.specs.declared.request.Helper.TheVariants.{BoardCopy}
 use Rattle.helper.specs.Table.{arguments_of}
 use Rattle.helper.specs.Results.{returned_range}
 use Rattle.absval.specs.NumberSets.{within}
 use Rattle.absval.specs.declared.value.AbsVal.{AbsVal}
-use Rattle.absmem.specs.Known.{Known}
 use Rattle.verify.specs.declared.reason.Reason.{Reason}
 use Rattle.verify.specs.declared.state.AbsState.{AbsState}
-use Rattle.verify.specs.Registers.{known_at}
 use Rattle.verify.specs.Reasons.{unless, outcome}
-use Rattle.verify.specs.Calls.{answer_of, or_reason, arguments_reason, copy_reason, window_reason, helper_reason, known_behind}
-use Rattle.verify.specs.Transfer.{copied, stack_behind, called}
+use Rattle.verify.specs.Calls.{answer_of, arguments_reason, window_reason, helper_reason, known_behind}
+use Rattle.verify.specs.Transfer.{stack_behind, called}
 
 -- ---- checks one after another
 
@@ -21,11 +19,11 @@ pub passed : (r : Result (Unit {0}) Reason) (u : Unit {0}) (a : Option Reason) �
 passed r u None e f = refl
 passed r u (Some reason) e f = cc
 
-pub or_first : (a b : Option Reason) (r : Result (Unit {0}) Reason) → a ≡ None → r ≡ answer_of b → r ≡ answer_of (or_reason a b)
+pub or_first : (a b : Option Reason) (r : Result (Unit {0}) Reason) → a ≡ None → r ≡ answer_of b → r ≡ answer_of (option_or a b)
 or_first None b r e f = f
 or_first (Some reason) b r e f = cc
 
-pub or_last : (a : Option Reason) (r : Result (Unit {0}) Reason) → r ≡ answer_of a → r ≡ answer_of (or_reason a None)
+pub or_last : (a : Option Reason) (r : Result (Unit {0}) Reason) → r ≡ answer_of a → r ≡ answer_of (option_or a None)
 or_last None r e = e
 or_last (Some reason) r e = e
 
@@ -33,7 +31,7 @@ pub err_is : (r : Result (Unit {0}) Reason) (reason : Reason) → IsErrAnd r (λ
 err_is (Ok u) reason h = absurd h
 err_is (Err other) reason h = ap Err h
 
-pub or_refused : (a b : Option Reason) (r : Result (Unit {0}) Reason) (reason : Reason) → r ≡ Err reason → r ≡ answer_of a → r ≡ answer_of (or_reason a b)
+pub or_refused : (a b : Option Reason) (r : Result (Unit {0}) Reason) (reason : Reason) → r ≡ Err reason → r ≡ answer_of a → r ≡ answer_of (option_or a b)
 or_refused None b r reason e f = cc
 or_refused (Some other) b r reason e f = f
 
@@ -61,20 +59,12 @@ accepted_with (Err other) why u new wanted e h = absurd cc
 
 -- ---- calls
 
--- words are copied, or why not
-pub copy_left : (a : AbsState) (first second third : AbsVal) (r : Result (Unit {0}) Reason) (new : Known) → first ≡ known_at a.registers 1 → second ≡ known_at a.registers 2 →
-    third ≡ known_at a.registers 3 → outcome r new ≡ unless (copy_reason first second third) (copied second third a.stack) →
-    outcome r (record a { stack = new }) ≡ unless (window_reason BoardCopy a) (record a { stack = stack_behind BoardCopy a })
-copy_left a first second third r new e f g h =
-    lifted (λ (known : Known). record a { stack = known }) r (window_reason BoardCopy a) new (stack_behind BoardCopy a)
-    (h ∙ (λ i. unless (copy_reason (e i) (f i) (g i)) (copied (f i) (g i) a.stack)))
-
 -- an argument is refused
 pub arguments_refused : (helper : Helper) (a new wanted : AbsState) (r : Result (Unit {0}) Reason) (reason : Reason) → r ≡ Err reason →
     r ≡ answer_of (arguments_reason (arguments_of helper) 1 a.registers) → outcome r new ≡ unless (helper_reason (Some helper) a) wanted
 arguments_refused helper a new wanted r reason e f = by_reason (arguments_reason (arguments_of helper) 1 a.registers) f
   where
-    by_reason : (why : Option Reason) → r ≡ answer_of why → outcome r new ≡ unless (or_reason why (window_reason helper a)) wanted
+    by_reason : (why : Option Reason) → r ≡ answer_of why → outcome r new ≡ unless (option_or why (window_reason helper a)) wanted
     by_reason None g = absurd cc
     by_reason (Some other) g = ap (λ (q : Result (Unit {0}) Reason). outcome q new) g
 
@@ -83,7 +73,7 @@ pub window_refused : (helper : Helper) (a new wanted : AbsState) (r : Result (Un
     arguments_reason (arguments_of helper) 1 a.registers ≡ None → window_reason helper a ≡ Some reason → outcome r new ≡ unless (helper_reason (Some helper) a) wanted
 window_refused helper a new wanted r reason e f g =
     ap (λ (q : Result (Unit {0}) Reason). outcome q new) e
-    ∙ (λ i. unless (or_reason (sym f i) (sym g i)) wanted)
+    ∙ (λ i. unless (option_or (sym f i) (sym g i)) wanted)
 
 -- both pass
 pub call_left : (helper : Helper) (a b : AbsState) (registers : List AbsVal) → arguments_reason (arguments_of helper) 1 a.registers ≡ None → window_reason helper a ≡ None →
@@ -91,4 +81,4 @@ pub call_left : (helper : Helper) (a b : AbsState) (registers : List AbsVal) →
     Ok (record { registers = registers; stack = b.stack }) ≡ unless (helper_reason (Some helper) a) (called (Some helper) a)
 call_left helper a b registers e f g h =
     ap (λ (xs : List AbsVal). Ok (record { registers = xs; stack = b.stack })) h
-    ∙ (λ i. unless (or_reason (sym e i) (sym f i)) (record { registers = known_behind (within (returned_range helper)) (g i).registers; stack = (g i).stack }))
+    ∙ (λ i. unless (option_or (sym e i) (sym f i)) (record { registers = known_behind (within (returned_range helper)) (g i).registers; stack = (g i).stack }))

@@ -1,6 +1,6 @@
 -- The rows of calls: a call that is not refused goes on to what is left.
 use Rattle.std.proofs.Common.{◌≡◌, ◌∙◌, ℕ, zero, suc, ℤ, pos, ◌+◌, ◌*◌, ◌^◌, ◌<◌, ◌≤◌, List, [], ◌∷◌, drop, length, Bool, true, false, Option, Some, None, IfSome, refl, sym, subst, arith}
-use Rattle.std.specs.Prelude.{nat_lt}
+use Rattle.std.specs.Prelude.{nat_lt, if◌then◌else◌}
 use Rattle.std.specs.List.{AllZip}
 use Rattle.std.proofs.lemmas.Bool.{ltb-false}
 use Rattle.semantics.specs.declared.value.Region.{Region}
@@ -11,7 +11,7 @@ use Rattle.semantics.specs.declared.request.Helper.{Helper}
 use Rattle.semantics.specs.declared.request.Helper.TheVariants.{BoardGet, BoardSwap, BoardAdd, BoardCas, BoardCopy, Send, SendRow, Sway, Honest, SignOrder, PassOn}
 use Rattle.semantics.specs.Relay.{IsSetting, Relay}
 use Rattle.semantics.specs.State.{State}
-use Rattle.semantics.specs.Memory.{overwritten}
+use Rattle.semantics.specs.Memory.{overwritten, room_of}
 use Rattle.semantics.specs.Call as semantics
 use Rattle.absval.specs.declared.number_set.NumberSet.{NumberSet}
 use Rattle.absval.specs.NumberSets.{Has, within, greatest}
@@ -19,7 +19,7 @@ use Rattle.absval.specs.declared.value.Offsets.{Offsets}
 use Rattle.absval.specs.declared.value.AbsVal.{AbsVal}
 use Rattle.absval.specs.declared.windows.Window.{Window}
 use Rattle.absval.specs.Contains.{Contains, IsPointerIn}
-use Rattle.absval.specs.Windows.{room_of, window_known}
+use Rattle.absval.specs.Windows.{window_known}
 use Rattle.absmem.specs.Known.{Known}
 use Rattle.absmem.specs.Describes.{Describes as StackDescribes}
 use Rattle.helper.specs.Table.{arguments_of}
@@ -31,19 +31,21 @@ use Rattle.verify.specs.declared.reason.Reason.TheVariants as reason
 use Rattle.verify.specs.declared.state.AbsState.{AbsState}
 use Rattle.verify.proofs.Gamma.{RegistersDescribe, Describes}
 use Rattle.verify.proofs.Outcomes.{GoesOn}
-use Rattle.verify.specs.MemoryTable.{all_bytes}
-use Rattle.verify.specs.Calls.{IsBelow, IsPointer, window_from, target_reason, source_reason, copy_reason, row_reason, reason_if, arguments_reason, window_reason, helper_reason, is_certain, known_behind}
+use Rattle.verify.specs.MemoryTable.{all_bytes, write_refused}
+use Rattle.verify.specs.Calls.{IsBelow, IsPointer, window_from, source_reason, copy_reason, row_reason, reason_if, arguments_reason, window_reason, helper_reason, is_certain, known_behind}
 use Rattle.verify.proofs.CallStates.{Puts, WordsStand, CopyStands, RowStands, WindowStands}
 use Rattle.absmem.specs.Stacks.{put_bytes, spread_bytes}
 use Rattle.verify.specs.Transfer.{written, copied, stack_behind, called}
-use Rattle.absmem.specs.TableLaws.{length-table}
-use Rattle.verify.proofs.CallArguments.{or_parts, no_reason, copy_arguments, row_arguments}
+use Rattle.absmem.proofs.TableLaws.{length-table}
+use Rattle.verify.proofs.CallArguments.{or_parts, copy_arguments, row_arguments}
 use Rattle.verify.proofs.CallWindows.{orders_found, words_found, certain_place}
 use Rattle.verify.proofs.CallLemmas.{called_goes}
-use Rattle.verify.proofs.SetRows.{within_has, within_set}
+use Rattle.absval.proofs.SetRows.{within_has, within_set}
 use Rattle.verify.proofs.Meanings.{AllWell}
 use Rattle.verify.proofs.LoadRows.{bytes_there}
-use Rattle.verify.proofs.WindowRows.{IsWindow, window_is, put_described, spread_described}
+use Rattle.absval.proofs.WindowRows.{IsWindow, window_is}
+use Rattle.absmem.proofs.StackRows.{put_described, spread_described}
+use Rattle.verify.proofs.StoreRows.{written_of, there_is}
 use Rattle.absval.specs.declared.value.AbsVal.TheVariants.{Unset, Number, Pointer}
 use Rattle.verify.specs.Registers.{known_at}
 
@@ -83,14 +85,6 @@ results_fit PassOn = (omega arith, omega arith)
 
 -- ---- words that are copied
 
-abbrev Target : Region → Option Window → Type 0
-Target region o = (region ≡ Stack) × (w : Window) × (o ≡ Some w)
-
-target_of : (region : Region) (o : Option Window) → target_reason region o ≡ None → Target region o
-target_of Context o e = cc
-target_of Stack None e = cc
-target_of Stack (Some w) e = (refl, w, refl)
-
 window_there : (region : Region) (low high distance : ℤ) (n : ℕ) (w : Window) → window_known region low high distance n ≡ Some w → IsWindow region low high distance n w
 window_there region low high distance n w f = subst (λ (o : Option Window). IfSome o (IsWindow region low high distance n)) f (window_is region low high distance n)
 
@@ -125,12 +119,10 @@ not_more n m r e = by_answer (nat_lt n m) refl e
 copy_stands : (slots target counts : AbsVal) (known : Known) → length known.bytes ≡ 512 → IsBelow 64 slots → IsPointer target → IsBelow 65 counts → copy_reason slots target counts ≡ None →
     CopyStands slots target counts known (copied target counts known)
 copy_stands (Number slots) (Pointer region offsets) (Number counts) known flags b p c none cells slot v words d long at target has =
-    let parts = or_parts (reason_if (nat_lt 64 (greatest slots + greatest counts)) reason.Argument) (target_reason region (window_from region offsets (8 * greatest counts))) none in
+    let parts = or_parts (reason_if (nat_lt 64 (greatest slots + greatest counts)) reason.Argument) (write_refused region (window_from region offsets (8 * greatest counts))) none in
     let few : greatest slots + greatest counts ≤ 64 = not_more 64 (greatest slots + greatest counts) reason.Argument parts.0 in
-    let found = target_of region (window_from region offsets (8 * greatest counts)) parts.1 in
-    let there : IsWindow Stack offsets.0 offsets.1 (pos 0) (8 * greatest counts) found.1 =
-    subst (λ (r : Region). IsWindow r offsets.0 offsets.1 (pos 0) (8 * greatest counts) found.1) found.0
-    (window_there region offsets.0 offsets.1 (pos 0) (8 * greatest counts) found.1 found.2) in
+    let found = written_of region (window_from region offsets (8 * greatest counts)) parts.1 in
+    let there = there_is region offsets.0 offsets.1 (pos 0) (8 * greatest counts) found.1 found.0 found.2 in
     let stack : IsPointerIn Stack offsets.0 offsets.1 v = subst (λ (r : Region). IsPointerIn r offsets.0 offsets.1 v) found.0 target in
     let most : slot ≤ greatest slots = at.range.1 in
     let count : length words ≤ greatest counts = has.range.1 in (
@@ -150,11 +142,15 @@ copy_stands (Number s) (Pointer region offsets) (Pointer other from) known flags
 abbrev Source : Known → Region → Option Window → Type 0
 Source known region o = (w : Window) × (o ≡ Some w) × (region ≡ Stack → all_bytes known.bytes w.place w.size ≡ true)
 
+is_tested : (t : Bool) → (if t then None else Some reason.StackUnset) ≡ None → t ≡ true
+is_tested true e = refl
+is_tested false e = cc
+
 source_of : (known : Known) (region : Region) (o : Option Window) → source_reason known region o ≡ None → Source known region o
 source_of known Context None e = cc
 source_of known Stack None e = cc
 source_of known Context (Some w) e = (w, refl, λ same. absurd cc)
-source_of known Stack (Some w) e = (w, refl, λ same. no_reason (all_bytes known.bytes w.place w.size) reason.StackUnset e)
+source_of known Stack (Some w) e = (w, refl, λ same. is_tested (all_bytes known.bytes w.place w.size) e)
 
 row_stands : (source counts : AbsVal) (known : Known) → IsPointer source → IsBelow 14 counts → row_reason known source counts ≡ None → RowStands source counts known
 row_stands (Pointer region offsets) (Number counts) known p c none context cells v count ctx d long target has =

@@ -1,8 +1,8 @@
 -- Windows that calls read and write.
-use Rattle.std.proofs.Common.{◌≡◌, ◌∙◌, ℕ, zero, suc, ◌+◌, ◌*◌, ◌<◌, ◌≤◌, List, [], ◌∷◌, ◌++◌, map, length, Some, Bool, true, false, refl, sym, ap, subst, arith, ⊎_elim}
+use Rattle.std.proofs.Common.{◌≡◌, ◌∙◌, ℕ, zero, suc, ◌+◌, ◌*◌, ◌≤◌, List, [], ◌∷◌, ◌++◌, map, length, Bool, true, false, refl, sym, ap, subst, arith}
 use Rattle.std.specs.Prelude.{ℤ, pos, negsuc, ◌+ℤ◌, Result, Ok, Err, IsOk, nat_le, if◌then◌else◌, ◌&&◌, ◌==◌, flat_map, slice_range}
 use Rattle.std.specs.Ordering.{int_eq}
-use Rattle.std.proofs.lemmas.Bool.{leb-true, le-leb, and_parts, eqb-true, cases_eq}
+use Rattle.std.proofs.lemmas.Bool.{leb-true, le-leb, and_parts, eqb-true}
 use Rattle.std.proofs.lemmas.Bool.Decides.{Decides-int_eq}
 use Rattle.std.proofs.lemmas.Int.{ints}
 use Rattle.std.proofs.lemmas.List.{map-append, length-append}
@@ -15,54 +15,17 @@ use Rattle.semantics.specs.declared.value.Value.TheVariants as value
 use Rattle.semantics.specs.declared.value.Cell.{Cell}
 use Rattle.semantics.specs.declared.value.Cell.TheVariants.{Byte}
 use Rattle.semantics.specs.State.{Cause, OutOfBounds, given}
-use Rattle.semantics.specs.Memory.{inside, window, region_cells, cells_at, bytes_in, overwritten}
+use Rattle.semantics.specs.Memory.{inside, window, region_cells, cells_at, bytes_in, overwritten, room_of}
 use Rattle.semantics.specs.Run.{IsContext}
-use Rattle.absval.specs.declared.windows.Window.{Window}
 use Rattle.absval.specs.Contains.{IsPointerIn}
-use Rattle.absval.specs.Windows.{room_of, LiesIn}
-use Rattle.absmem.specs.Known.{Known, byte_at}
+use Rattle.absval.specs.Windows.{LiesIn}
+use Rattle.absmem.specs.Known.{Known}
 use Rattle.absmem.specs.Describes.{Describes as StackDescribes, AreBytes}
 use Rattle.absmem.proofs.Overwriting.{length-overwritten}
-use Rattle.verify.specs.declared.reason.Reason.TheVariants.{StackUnset}
-use Rattle.verify.specs.MemoryTable.{all_bytes}
-use Rattle.verify.specs.Calls.{answer_of, source_reason}
 use Rattle.verify.proofs.CallStates.{WordsStand}
-use Rattle.verify.proofs.Loads.{Lies, number_found, context_part}
+use Rattle.verify.proofs.Loads.{number_found, context_part}
+use Rattle.absval.proofs.WindowRows.{Lies}
 use Rattle.verify.proofs.StoreLemmas.{low_bytes, length-low}
-
--- ---- cells that are known to be bytes
-
-abbrev pub AreKnown : List Bool → ℕ → ℕ → Type 0
-AreKnown bytes place n = (k : ℕ) → place ≤ k → k < place + n → byte_at bytes k ≡ true
-
-and_true : (a b : Bool) → a ≡ true → b ≡ true → (a && b) ≡ true
-and_true true b e f = f
-and_true false b e f = cc
-
-all_known : (bytes : List Bool) (place n : ℕ) → AreKnown bytes place n → all_bytes bytes place n ≡ true
-all_known bytes place zero h = refl
-all_known bytes place (suc n) h =
-    and_true (byte_at bytes place) (all_bytes bytes (suc place) n) (h place (omega arith) (omega arith)) (all_known bytes (suc place) n (λ k l m. h k (omega arith) (omega arith)))
-
-known_all : (bytes : List Bool) (place n : ℕ) → all_bytes bytes place n ≡ true → AreKnown bytes place n
-known_all bytes place zero e k l m = absurd (omega arith)
-known_all bytes place (suc n) e k l m =
-    let parts = and_parts (byte_at bytes place) (all_bytes bytes (suc place) n) e in
-    ⊎_elim (λ same. subst (λ (j : ℕ). byte_at bytes j ≡ true) same parts.0) (λ other. let more : suc place ≤ k = omega (arith, other, l) in known_all bytes (suc place) n parts.1 k more (omega arith)) (cases_eq place k)
-
-test_fails : (t b : Bool) → b ≡ false → (t ≡ true → b ≡ true) → t ≡ false
-test_fails true b e f = let h = f refl in cc
-test_fails false b e f = refl
-
-pub bytes_refused : (known : Known) (region : Region) (w : Window) (b : Bool) → region ≡ Stack → b ≡ false → (AreKnown known.bytes w.place w.size → b ≡ true) → Err StackUnset ≡ answer_of (source_reason known region (Some w))
-bytes_refused known region w b e f g =
-    let t : all_bytes known.bytes w.place w.size ≡ false = test_fails (all_bytes known.bytes w.place w.size) b f (λ h. g (known_all known.bytes w.place w.size h)) in
-    rw (e, t) refl
-
-pub bytes_accepted : (known : Known) (region : Region) (w : Window) → region ≡ Stack → AreKnown known.bytes w.place w.size → Ok tt ≡ answer_of (source_reason known region (Some w))
-bytes_accepted known region w e h =
-    let t : all_bytes known.bytes w.place w.size ≡ true = all_known known.bytes w.place w.size h in
-    rw (e, t) refl
 
 -- ---- smaller windows
 

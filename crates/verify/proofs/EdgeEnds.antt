@@ -2,7 +2,7 @@
 use Rattle.std.proofs.Common.{◌≡◌, ℕ, ◌+◌, ◌<◌, List, Some, length, inl, refl, arith}
 use Rattle.std.specs.Prelude.{pos}
 use Rattle.insn.specs.declared.insn.Insn.{Insn}
-use Rattle.insn.specs.declared.insn.Insn.TheVariants.{Arithmetic, Negate, SignExtend, Swap, LoadNumber, Jump, LongJump, Branch, Load, LoadSigned, Store, Call, Exit}
+use Rattle.insn.specs.declared.insn.Insn.TheVariants.{Arithmetic, Negate, SignExtend, Swap, LoadImmediate, Jump, LongJump, Branch, Load, LoadSigned, Store, Call, Exit}
 use Rattle.insn.specs.Insn.{units_of}
 use Rattle.insn.specs.Program.{slots_of, instruction_at}
 use Rattle.semantics.specs.Plain.{IsIn, leads_to}
@@ -17,7 +17,7 @@ straight_edge (Arithmetic width operation dst operand) unit h = inl refl
 straight_edge (Negate width dst) unit h = inl refl
 straight_edge (SignExtend width part dst src) unit h = inl refl
 straight_edge (Swap order size dst) unit h = inl refl
-straight_edge (LoadNumber dst number) unit h = inl refl
+straight_edge (LoadImmediate dst number) unit h = inl refl
 straight_edge (Jump distance) unit h = absurd h
 straight_edge (LongJump distance) unit h = absurd h
 straight_edge (Branch width condition dst operand distance) unit h = absurd h

@@ -23,9 +23,10 @@ use Rattle.verify.specs.Registers.{known_at, refined_known, edge_by, edge_known}
 use Rattle.verify.specs.Transfer.{narrowed}
 use Rattle.verify.proofs.BranchLemmas.{decided_by, decided_used}
 use Rattle.verify.proofs.Zips.{AllZip-narrow}
-use Rattle.verify.proofs.RangeRows.{by_test}
-use Rattle.verify.proofs.SetRows.{AreSets, single_set, single_of, refined_sets, refined_have}
-use Rattle.verify.proofs.Meanings.{IsWord, IsWell, AllWell, meant_at, stands_at, all_set}
+use Rattle.range.proofs.RangeRows.{by_test}
+use Rattle.absval.proofs.SetRows.{AreSets, single_set, single_of, refined_sets, refined_have}
+use Rattle.verify.proofs.Meanings.{IsWord, AllWell, meant_at, stands_at, all_set}
+use Rattle.absval.proofs.ValueRows.{IsWell}
 use Rattle.verify.proofs.StepSound.{IsMeant}
 use Rattle.absval.specs.declared.value.AbsVal.TheVariants.{Unset, Number, Pointer}
 

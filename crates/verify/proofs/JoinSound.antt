@@ -24,10 +24,10 @@ use Rattle.verify.specs.declared.state.AbsState.{AbsState}
 use Rattle.verify.proofs.Gamma.{RegistersDescribe, Describes}
 use Rattle.verify.specs.Registers.{known_at, joined_all}
 use Rattle.verify.specs.Knowledge.{at_entry, met}
-use Rattle.absmem.specs.TableLaws.{length-table, table_at}
+use Rattle.absmem.proofs.TableLaws.{length-table, table_at}
 use Rattle.verify.proofs.Zips.{AllZip-length}
-use Rattle.verify.proofs.Meanings.{IsWell, AllWell, meant_at, stands_at}
-use Rattle.verify.proofs.ValueRows.{joined_meant, left_stands, right_stands, same_region}
+use Rattle.verify.proofs.Meanings.{AllWell, meant_at, stands_at}
+use Rattle.absval.proofs.ValueRows.{IsWell, joined_meant, left_stands, right_stands, same_region}
 use Rattle.verify.proofs.StepSound.{IsMeant}
 use Rattle.absval.specs.declared.value.AbsVal.TheVariants.{Unset}
 use Rattle.absval.specs.declared.value.AbsVal.{AbsVal}

@@ -1,16 +1,14 @@
 -- Registers that are known to hold numbers, and the checks that pass on them.
-use Rattle.std.proofs.Common.{◌≡◌, ◌⊎◌, inl, inr, ℕ, ◌<◌, List, [], ◌∷◌, ◌++◌, arith, refl, sym, Bool, true, false, Option, Some, None, eqb-true}
+use Rattle.std.proofs.Common.{◌≡◌, inl, inr, ℕ, ◌<◌, List, [], ◌∷◌, ◌++◌, arith, refl, sym, Bool, true, false, Option, Some, None, eqb-true}
 use Rattle.std.specs.Prelude.{◌==◌, if◌then◌else◌}
-use Rattle.word.specs.declared.Width.{Width}
 use Rattle.word.specs.declared.Operation.{Operation}
 use Rattle.word.specs.declared.Operation.TheVariants.{Move}
 use Rattle.insn.specs.declared.insn.Operand.{Operand}
 use Rattle.insn.specs.declared.insn.Operand.TheVariants.{Register, Immediate}
 use Rattle.insn.specs.Insn.{IsOperand}
 use Rattle.semantics.specs.Plain.{IsIn, operand_reads, first_reads}
-use Rattle.absval.specs.declared.number_set.NumberSet.{NumberSet}
-use Rattle.absval.specs.Table.{joined, computed, mapped}
 use Rattle.absval.specs.Contains.{is_number}
+use Rattle.absval.proofs.NumberRows.{AreNumbers}
 use Rattle.verify.specs.declared.reason.Reason.TheVariants as reason
 use Rattle.verify.specs.declared.reason.Reason.TheVariants.{FrameWrite}
 use Rattle.verify.specs.Registers.{known_at, operand_known, first_known}
@@ -22,21 +20,9 @@ use Rattle.absval.specs.declared.value.AbsVal.{AbsVal}
 abbrev pub number_at : List AbsVal → ℕ → Bool
 number_at known r = is_number (known_at known r)
 
-abbrev pub AreNumbers : Option AbsVal → Type 0
-AreNumbers None = ⊥
-AreNumbers (Some e) = is_number e ≡ true
-
 pub true_or_not : (b : Bool) → (b ≡ false → ⊥) → b ≡ true
 true_or_not true h = refl
 true_or_not false h = absurd (h refl)
-
--- a join of numbers is of numbers
-pub joined_numbers : (a b : AbsVal) → is_number (joined a b) ≡ false → (is_number a ≡ false) ⊎ (is_number b ≡ false)
-joined_numbers Unset b h = inl refl
-joined_numbers (Number m) Unset h = inr refl
-joined_numbers (Number m) (Number n) h = absurd cc
-joined_numbers (Number m) (Pointer region o) h = inr refl
-joined_numbers (Pointer region o) b h = inl refl
 
 -- ---- what is read is a number
 
@@ -59,19 +45,6 @@ left_in (x ∷ rs) ss r (inr h) = inr (left_in rs ss r h)
 pub right_in : (rs ss : List ℕ) (r : ℕ) → IsIn r ss → IsIn r (rs ++ ss)
 right_in [] ss r h = h
 right_in (x ∷ rs) ss r h = inr (right_in rs ss r h)
-
-pub computed_numbers : (w : Width) (operation : Operation) (a b : AbsVal) → is_number a ≡ true → is_number b ≡ true → AreNumbers (computed w operation a b)
-computed_numbers w Move (Number m) (Number n) h k = refl
-computed_numbers w operation (Number m) (Number n) h k = refl
-computed_numbers w operation Unset b h k = absurd cc
-computed_numbers w operation (Pointer region o) b h k = absurd cc
-computed_numbers w operation (Number m) Unset h k = absurd cc
-computed_numbers w operation (Number m) (Pointer region o) h k = absurd cc
-
-pub mapped_numbers : (e : AbsVal) → is_number e ≡ true → (f : NumberSet → NumberSet) → AreNumbers (mapped f e)
-mapped_numbers (Number n) h f = refl
-mapped_numbers Unset h f = absurd cc
-mapped_numbers (Pointer region o) h f = absurd cc
 
 -- ---- so the checks pass
 

@@ -33,16 +33,7 @@ pub mod KnownNumbers
 pub mod PlainEdges
 pub mod PlainRuns
 pub mod PlainJudged
-pub mod RangeRows
-pub mod SignedRows
-pub mod RangeTable
-pub mod RangeUnary
-pub mod RangeEdges
-pub mod BitRows
-pub mod SetRows
 pub mod Meanings
-pub mod ValueRows
-pub mod WindowRows
 pub mod LoadRows
 pub mod StoreRows
 pub mod CallRows

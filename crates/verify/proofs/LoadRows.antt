@@ -36,10 +36,10 @@ use Rattle.verify.specs.declared.reason.Reason.TheVariants.{StackUnset}
 use Rattle.verify.specs.Reasons.{unless}
 use Rattle.verify.specs.MemoryTable.{all_bytes, unset_in, spilled_at, spilled, pointer_or, stack_given, load_from, load_given, signed_from, signed_load_given, all_numbers}
 use Rattle.verify.proofs.Loads.{gives_number, length-part, context_part, reads_give, extended_at}
-use Rattle.verify.proofs.RangeRows.{by_test}
-use Rattle.verify.proofs.SetRows.{within_set, within_has, any_set, any_has}
-use Rattle.verify.proofs.Meanings.{IsWell}
-use Rattle.verify.proofs.WindowRows.{IsWindow, window_is}
+use Rattle.range.proofs.RangeRows.{by_test}
+use Rattle.absval.proofs.SetRows.{within_set, within_has, any_set, any_has}
+use Rattle.absval.proofs.ValueRows.{IsWell}
+use Rattle.absval.proofs.WindowRows.{IsWindow, window_is}
 use Rattle.absval.specs.declared.value.AbsVal.TheVariants.{Unset, Number, Pointer}
 use Rattle.absval.specs.declared.value.AbsVal.{AbsVal}
 

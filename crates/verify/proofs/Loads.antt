@@ -1,6 +1,6 @@
 -- What loads find.
 use Rattle.std.proofs.Common.{◌≡◌, ◌∙◌, ℕ, zero, suc, ◌+◌, ◌-◌, ◌*◌, ◌^◌, ◌<◌, ◌≤◌, List, [], ◌∷◌, map, take, drop, length, get_or, Result, Ok, Err, refl, sym, ap, subst, arith}
-use Rattle.std.specs.Prelude.{ℤ, ◌≤ℤ◌, ◌+ℤ◌, slice_range, All}
+use Rattle.std.specs.Prelude.{ℤ, ◌+ℤ◌, slice_range, All}
 use Rattle.std.proofs.Math.Nat.{pow-succ'}
 use Rattle.std.proofs.lemmas.List.{get_or-take, get_or-drop, length-take-le, length-drop}
 use Rattle.std.proofs.lemmas.List.Elements.{All-get_or}
@@ -17,11 +17,12 @@ use Rattle.semantics.specs.declared.value.Value.TheVariants as value
 use Rattle.semantics.specs.declared.value.Cell.{Cell}
 use Rattle.semantics.specs.declared.value.Cell.TheVariants.{Empty, Byte, Piece}
 use Rattle.semantics.specs.State.{Cause, given}
-use Rattle.semantics.specs.Memory.{window, region_cells, cells_at, bytes_in, value_in}
+use Rattle.semantics.specs.Memory.{window, region_cells, cells_at, bytes_in, value_in, room_of}
 use Rattle.absval.specs.declared.value.AbsVal.{AbsVal}
 use Rattle.absval.specs.Contains.{Contains, Gives, IsPointerIn}
 use Rattle.semantics.specs.Run.{IsContext}
-use Rattle.absval.specs.Windows.{room_of, LiesIn}
+use Rattle.absval.specs.Windows.{LiesIn}
+use Rattle.absval.proofs.WindowRows.{Lies}
 use Rattle.absmem.specs.Describes.{IsByte, AreBytes}
 
 -- bytes are found, and spell a number of so many
@@ -89,10 +90,6 @@ context_part context at size long all le =
       length-part (map Byte context) at size 4096 total le,
       part_bytes_of (map Byte context) at size 4096 total le (are_bytes context (λ k l. All-get_or (λ b. b < 256) context k 0 l all)),
     )
-
--- each access at these offsets lies in the window
-abbrev pub Lies : Region → ℤ → ℤ → ℤ → ℕ → ℕ → ℕ → Type 0
-Lies region low high distance first total size = (o : ℤ) → low ≤ℤ o → o ≤ℤ high → LiesIn first total size (window region (o +ℤ distance) size)
 
 -- what holds of each place in the window holds of the cells at a pointer
 pub reads_give : (r : AbsVal) (f : List Cell → Result Value Cause) (context : List ℕ) (cells : List Cell) (region : Region) (low high distance : ℤ) (first total size : ℕ) (v : Value) → IsPointerIn region low high v →

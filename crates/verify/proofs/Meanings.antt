@@ -3,7 +3,7 @@ use Rattle.std.proofs.Common.{ℕ, zero, suc, ◌^◌, ◌<◌, List, [], ◌∷
 use Rattle.std.specs.Prelude.{slice_set}
 use Rattle.std.specs.Int.{w64, cast_unsigned}
 use Rattle.word.specs.declared.Operation.{Operation}
-use Rattle.word.specs.declared.Operation.TheVariants.{Add, Sub, Mul, Div, SignedDiv, Or, And, ShiftLeft, ShiftRight, Mod, SignedMod, Xor, Move, ShiftSigned}
+use Rattle.word.specs.declared.Operation.TheVariants.{Add, Sub, Mul, Div, SignedDiv, Or, And, ShiftLeft, ShiftRight, Mod, SignedMod, Xor, Move, ArithmeticShiftRight}
 use Rattle.insn.specs.declared.insn.Operand.{Operand}
 use Rattle.insn.specs.declared.insn.Operand.TheVariants.{Register, Immediate}
 use Rattle.semantics.specs.declared.value.Value.{Value}
@@ -13,14 +13,8 @@ use Rattle.absval.specs.declared.value.AbsVal.{AbsVal}
 use Rattle.absval.specs.Contains.{Contains}
 use Rattle.verify.proofs.Gamma.{RegistersDescribe}
 use Rattle.verify.specs.Registers.{known_at, operand_known, first_known}
-use Rattle.verify.proofs.SetRows.{IsSet, single_set, single_of}
-use Rattle.absval.specs.declared.value.AbsVal.TheVariants.{Unset, Number, Pointer}
-
--- its numbers are a set
-abbrev pub IsWell : AbsVal → Type 0
-IsWell Unset = Unit {0}
-IsWell (Number numbers) = IsSet numbers
-IsWell (Pointer region offsets) = Unit {0}
+use Rattle.absval.proofs.SetRows.{single_set, single_of}
+use Rattle.absval.proofs.ValueRows.{IsWell}
 
 abbrev pub AllWell : List AbsVal → Type 0
 AllWell [] = Unit {0}
@@ -77,4 +71,4 @@ first_stands known vs ShiftRight dst z = stands_at known vs dst z
 first_stands known vs Mod dst z = stands_at known vs dst z
 first_stands known vs SignedMod dst z = stands_at known vs dst z
 first_stands known vs Xor dst z = stands_at known vs dst z
-first_stands known vs ShiftSigned dst z = stands_at known vs dst z
+first_stands known vs ArithmeticShiftRight dst z = stands_at known vs dst z

@@ -3,6 +3,7 @@ use Rattle.std.proofs.Common.{ap₂, ◌≡◌, ◌∙◌, ℕ, zero, suc, ◌+�
 use Rattle.std.specs.Prelude.{ℤ, ◌&&◌, ◌-◌, ◌↔◌, IsTrue, if◌then◌else◌}
 use Rattle.std.specs.Option.{ok_or}
 use Rattle.std.specs.Result.{result_err}
+use Rattle.std.proofs.lemmas.Bool.{and_parts}
 use Rattle.semantics.specs.declared.value.Region.{Region}
 use Rattle.semantics.specs.declared.value.Region.TheVariants.{Stack}
 use Rattle.absval.specs.declared.windows.Window.{Window}
@@ -31,10 +32,6 @@ stack_refused region r low high distance x size e f g = rw (g, f, e) (window_ref
 
 -- ---- cells that are bytes
 
-both_true : (a b : Bool) → (a && b) ≡ true → (a ≡ true) × (b ≡ true)
-both_true true b e = (refl, e)
-both_true false b e = absurd cc
-
 bytes_all : (bytes : List Bool) (place n : ℕ) → ((k : ℕ) → place ≤ k → k < place + n → byte_at bytes k ≡ true) → all_bytes bytes place n ≡ true
 bytes_all bytes place zero h = refl
 bytes_all bytes place (suc n) h =
@@ -44,10 +41,10 @@ all_each : (bytes : List Bool) (place n i : ℕ) → all_bytes bytes place n ≡
 all_each bytes place zero i e lt = absurd (omega arith)
 all_each bytes place (suc n) zero e lt =
     let same : place ≡ place + 0 = omega arith in
-    subst (λ (k : ℕ). byte_at bytes k ≡ true) same (both_true (byte_at bytes place) (all_bytes bytes (suc place) n) e).0
+    subst (λ (k : ℕ). byte_at bytes k ≡ true) same (and_parts (byte_at bytes place) (all_bytes bytes (suc place) n) e).0
 all_each bytes place (suc n) (suc i) e lt =
     let same : suc place + i ≡ place + suc i = omega arith in
-    subst (λ (k : ℕ). byte_at bytes k ≡ true) same (all_each bytes (suc place) n i (both_true (byte_at bytes place) (all_bytes bytes (suc place) n) e).1 (omega arith))
+    subst (λ (k : ℕ). byte_at bytes k ≡ true) same (all_each bytes (suc place) n i (and_parts (byte_at bytes place) (all_bytes bytes (suc place) n) e).1 (omega arith))
 
 bytes_each : (bytes : List Bool) (place n : ℕ) → all_bytes bytes place n ≡ true → (k : ℕ) → place ≤ k → k < place + n → byte_at bytes k ≡ true
 bytes_each bytes place n e k ge lt =

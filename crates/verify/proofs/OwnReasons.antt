@@ -1,10 +1,11 @@
 -- The reasons of the pass are its own: none is one of structure.
 use Rattle.std.proofs.Common.{◌≡◌, ℕ, ◌+◌, List, [], ◌∷◌, Bool, true, false, Option, Some, None, Result, subst}
 use Rattle.std.specs.Prelude.{ℤ, ◌*◌, ◌==◌, if◌then◌else◌}
+use Rattle.std.specs.Option.{option_or}
 use Rattle.std.specs.Result.{result_err}
 use Rattle.word.specs.declared.Narrow.{Narrow}
 use Rattle.insn.specs.declared.insn.Insn.{Insn}
-use Rattle.insn.specs.declared.insn.Insn.TheVariants.{Arithmetic, Negate, SignExtend, Swap, LoadNumber, Load, LoadSigned, Store, Call, Jump, LongJump, Branch, Exit}
+use Rattle.insn.specs.declared.insn.Insn.TheVariants.{Arithmetic, Negate, SignExtend, Swap, LoadImmediate, Load, LoadSigned, Store, Call, Jump, LongJump, Branch, Exit}
 use Rattle.insn.specs.declared.insn.Size.{Size}
 use Rattle.insn.specs.Insn.{bytes_of, part_bytes}
 use Rattle.semantics.specs.declared.value.Region.{Region}
@@ -27,7 +28,7 @@ use Rattle.verify.specs.Structure.{IsOwn}
 use Rattle.verify.specs.Registers.{known_at, operand_known}
 use Rattle.verify.specs.Reasons.{Check, first_reason, arithmetic_checks, made_checks, write_checks, compare_checks, exit_checks, unless}
 use Rattle.verify.specs.MemoryTable.{all_bytes, unset_in, spilled, pointer_or, load_from, load_given, all_numbers, signed_from, signed_load_given, is_storable, write_refused, store_refused, unset_or, frame_or}
-use Rattle.verify.specs.Calls.{or_reason, reason_if, argument_reason, arguments_reason, window_from, target_reason, source_reason, copy_reason, row_reason, window_reason, helper_reason}
+use Rattle.verify.specs.Calls.{reason_if, argument_reason, arguments_reason, window_from, source_reason, copy_reason, row_reason, window_reason, helper_reason}
 use Rattle.verify.specs.Instructions.{straight_reason, reason_of}
 use Rattle.absval.specs.declared.value.AbsVal.TheVariants.{Unset, Number, Pointer}
 
@@ -49,7 +50,7 @@ first_own (check ∷ checks) h = by_test check.0 (first_own checks h.1)
     by_test true next = h.0
     by_test false next = next
 
-or_own : (a b : Option Reason) → Own a → Own b → Own (or_reason a b)
+or_own : (a b : Option Reason) → Own a → Own b → Own (option_or a b)
 or_own None b h k = k
 or_own (Some reason) b h k = h
 
@@ -137,19 +138,13 @@ arguments_own (None ∷ arguments) r known = arguments_own arguments (r + 1) kno
 arguments_own (Some taken ∷ arguments) r known =
     or_own (argument_reason (bound_of taken) (known_at known r)) (arguments_reason arguments (r + 1) known) (argument_own (bound_of taken) (known_at known r)) (arguments_own arguments (r + 1) known)
 
-target_own : (region : Region) (o : Option Window) → Own (target_reason region o)
-target_own Context o = tt
-target_own Stack None = tt
-target_own Stack (Some w) = tt
-
 source_own : (known : Known) (region : Region) (o : Option Window) → Own (source_reason known region o)
 source_own known region None = tt
-source_own known Context (Some w) = tt
-source_own known Stack (Some w) = if_own _ reason.StackUnset tt
+source_own known region (Some w) = unset_own known region w
 
 copy_own : (slots target counts : AbsVal) → Own (copy_reason slots target counts)
 copy_own (Number slots) (Pointer region offsets) (Number counts) =
-    or_own _ (target_reason region (window_from region offsets (8 * greatest counts))) (if_own _ reason.Argument tt) (target_own region (window_from region offsets (8 * greatest counts)))
+    or_own _ (write_refused region (window_from region offsets (8 * greatest counts))) (if_own _ reason.Argument tt) (write_own region (window_from region offsets (8 * greatest counts)))
 copy_own slots target counts = tt
 
 row_own : (known : Known) (source counts : AbsVal) → Own (row_reason known source counts)
@@ -172,7 +167,7 @@ straight_own (Arithmetic w operation dst operand) a = first_own (arithmetic_chec
 straight_own (Negate w dst) a = first_own (made_checks dst (known_at a.registers dst) (negated_known w (known_at a.registers dst))) (tt, (tt, (tt, tt)))
 straight_own (SignExtend w part dst src) a = first_own (made_checks dst (known_at a.registers src) (extended_known w part (known_at a.registers src))) (tt, (tt, (tt, tt)))
 straight_own (Swap order size dst) a = first_own (made_checks dst (known_at a.registers dst) (swapped_known order size (known_at a.registers dst))) (tt, (tt, (tt, tt)))
-straight_own (LoadNumber dst number) a = first_own (write_checks dst) (tt, tt)
+straight_own (LoadImmediate dst number) a = first_own (write_checks dst) (tt, tt)
 straight_own (Load size dst base offset) a =
     set_own (known_at a.registers base) _ (frame_own dst _ (load_own a.stack size (known_at a.registers base) offset))
 straight_own (LoadSigned part dst base offset) a =

@@ -4,7 +4,7 @@ use Rattle.std.specs.Prelude.{◌+ℤ◌}
 use Rattle.std.proofs.lemmas.Bool.{cases_eq, cases_lt}
 use Rattle.std.proofs.Math.ListN.{get_or-eq_default}
 use Rattle.insn.specs.declared.insn.Insn.{Insn}
-use Rattle.insn.specs.declared.insn.Insn.TheVariants.{Arithmetic, Negate, SignExtend, Swap, LoadNumber, Load, LoadSigned, Store, Call, Jump, LongJump, Branch, Exit}
+use Rattle.insn.specs.declared.insn.Insn.TheVariants.{Arithmetic, Negate, SignExtend, Swap, LoadImmediate, Load, LoadSigned, Store, Call, Jump, LongJump, Branch, Exit}
 use Rattle.insn.specs.Insn.{units_of, IsInsn}
 use Rattle.semantics.specs.declared.value.Value.{Value}
 use Rattle.semantics.specs.declared.value.Value.TheVariants as value
@@ -23,7 +23,7 @@ use Rattle.verify.specs.Registers.{known_at, operand_known}
 use Rattle.verify.specs.Reasons.{first_reason, compare_checks, exit_checks}
 use Rattle.verify.proofs.Outcomes.{DescribesAt, GoesOn}
 use Rattle.verify.specs.Instructions.{IsStraight, reason_of}
-use Rattle.verify.specs.Transfer.{Edge, follows, narrowed, edge_to, edges}
+use Rattle.verify.specs.Transfer.{Edge, transfer, narrowed, edge_to, edges}
 use Rattle.verify.specs.Judgement.{KnownSoFar, reached_at, joined_with, along, along_all}
 use Rattle.verify.proofs.Meanings.{stands_at, operand_stands}
 use Rattle.verify.proofs.StepSound.{IsMeant, is_word, straight_goes, follows_meant}
@@ -149,7 +149,7 @@ edges_meant (Arithmetic w operation dst operand) unit a insn m = (follows_meant 
 edges_meant (Negate w dst) unit a insn m = (follows_meant (Negate w dst) a insn m, tt)
 edges_meant (SignExtend w part dst src) unit a insn m = (follows_meant (SignExtend w part dst src) a insn m, tt)
 edges_meant (Swap order size dst) unit a insn m = (follows_meant (Swap order size dst) a insn m, tt)
-edges_meant (LoadNumber dst number) unit a insn m = (follows_meant (LoadNumber dst number) a insn m, tt)
+edges_meant (LoadImmediate dst number) unit a insn m = (follows_meant (LoadImmediate dst number) a insn m, tt)
 edges_meant (Load size dst base offset) unit a insn m = (follows_meant (Load size dst base offset) a insn m, tt)
 edges_meant (LoadSigned part dst base offset) unit a insn m = (follows_meant (LoadSigned part dst base offset) a insn m, tt)
 edges_meant (Store size base offset source) unit a insn m = (follows_meant (Store size base offset source) a insn m, tt)
@@ -159,17 +159,17 @@ edges_meant (Call number) unit a insn m = (follows_meant (Call number) a insn m,
 abbrev pub Follow : Insn → ℕ → AbsState → Outcome → Type 0
 Follow i unit a o = LeadsTo (λ t. IsIn (pos t.unit) (leads_to i unit) × Leads (edges i unit a) t.unit t) o
 
-straight_stands : (i : Insn) (unit : ℕ) (a : AbsState) (s t : State) → s.unit ≡ unit → DescribesAt (follows i a) (s.unit + units_of i) t →
-    (pos t.unit ≡ pos (unit + units_of i)) × (pos (unit + units_of i) ≡ pos t.unit) × Describes (follows i a) t
+straight_stands : (i : Insn) (unit : ℕ) (a : AbsState) (s t : State) → s.unit ≡ unit → DescribesAt (transfer i a) (s.unit + units_of i) t →
+    (pos t.unit ≡ pos (unit + units_of i)) × (pos (unit + units_of i) ≡ pos t.unit) × Describes (transfer i a) t
 straight_stands i unit a s t e stands =
     let to : t.unit ≡ unit + units_of i = stands.0 ∙ ap (λ (n : ℕ). n + units_of i) e in
     (ap pos to, ap pos (sym to), stands.1)
 
 -- what goes on behind itself
 abbrev Behind : Insn → ℕ → AbsState → Outcome → Type 0
-Behind i unit a o = LeadsTo (λ t. (pos t.unit ≡ pos (unit + units_of i)) × (pos (unit + units_of i) ≡ pos t.unit) × Describes (follows i a) t) o
+Behind i unit a o = LeadsTo (λ t. (pos t.unit ≡ pos (unit + units_of i)) × (pos (unit + units_of i) ≡ pos t.unit) × Describes (transfer i a) t) o
 
-goes_behind : (i : Insn) (unit : ℕ) (a : AbsState) (s : State) (o : Outcome) → s.unit ≡ unit → GoesOn (follows i a) (s.unit + units_of i) o → Behind i unit a o
+goes_behind : (i : Insn) (unit : ℕ) (a : AbsState) (s : State) (o : Outcome) → s.unit ≡ unit → GoesOn (transfer i a) (s.unit + units_of i) o → Behind i unit a o
 goes_behind i unit a s (Next t) e goes = straight_stands i unit a s t e goes
 goes_behind i unit a s (Ask request t) e goes = λ answer fit. straight_stands i unit a s _ e (goes answer fit)
 goes_behind i unit a s (Exited r0 t) e goes = absurd goes
@@ -268,8 +268,8 @@ straight_follows : (i : Insn) (unit : ℕ) (a : AbsState) (context : List ℕ) (
 straight_follows i unit a context relay s straight insn m none setting e d =
     goes_behind i unit a s (executed context relay i s) e (straight_goes i a straight insn m none context relay s setting d)
 
-one_edge : (i : Insn) (unit : ℕ) (a : AbsState) (t : State) → (pos t.unit ≡ pos (unit + units_of i)) × (pos (unit + units_of i) ≡ pos t.unit) × Describes (follows i a) t →
-    IsIn (pos t.unit) (pos (unit + units_of i) ∷ []) × Leads ((pos (unit + units_of i), follows i a) ∷ []) t.unit t
+one_edge : (i : Insn) (unit : ℕ) (a : AbsState) (t : State) → (pos t.unit ≡ pos (unit + units_of i)) × (pos (unit + units_of i) ≡ pos t.unit) × Describes (transfer i a) t →
+    IsIn (pos t.unit) (pos (unit + units_of i) ∷ []) × Leads ((pos (unit + units_of i), transfer i a) ∷ []) t.unit t
 one_edge i unit a t h = (inl h.0, inl (h.1, h.2))
 
 pub executed_follows : (i : Insn) (unit : ℕ) (a : AbsState) (context : List ℕ) (relay : Relay) (s : State) → IsInsn i → IsMeant a → reason_of i a ≡ None → Lands i unit → IsSetting context relay → s.unit ≡ unit →
@@ -298,8 +298,8 @@ executed_follows (SignExtend w part dst src) unit a context relay s insn m none 
     weaker _ _ _ (one_edge (SignExtend w part dst src) unit a) (straight_follows (SignExtend w part dst src) unit a context relay s tt insn m none setting e d)
 executed_follows (Swap order size dst) unit a context relay s insn m none lands setting e d =
     weaker _ _ _ (one_edge (Swap order size dst) unit a) (straight_follows (Swap order size dst) unit a context relay s tt insn m none setting e d)
-executed_follows (LoadNumber dst number) unit a context relay s insn m none lands setting e d =
-    weaker _ _ _ (one_edge (LoadNumber dst number) unit a) (straight_follows (LoadNumber dst number) unit a context relay s tt insn m none setting e d)
+executed_follows (LoadImmediate dst number) unit a context relay s insn m none lands setting e d =
+    weaker _ _ _ (one_edge (LoadImmediate dst number) unit a) (straight_follows (LoadImmediate dst number) unit a context relay s tt insn m none setting e d)
 executed_follows (Load size dst base offset) unit a context relay s insn m none lands setting e d =
     weaker _ _ _ (one_edge (Load size dst base offset) unit a) (straight_follows (Load size dst base offset) unit a context relay s tt insn m none setting e d)
 executed_follows (LoadSigned part dst base offset) unit a context relay s insn m none lands setting e d =

@@ -17,7 +17,8 @@ use Rattle.verify.specs.declared.state.AbsState.{AbsState}
 use Rattle.verify.specs.Registers.{known_at, operand_known, refined_known, edge_known}
 use Rattle.verify.specs.Transfer.{assigned, Edge, edge_to}
 use Rattle.verify.proofs.Zips.{at_set}
-use Rattle.verify.proofs.KnownNumbers.{number_at, AreNumbers}
+use Rattle.verify.proofs.KnownNumbers.{number_at}
+use Rattle.absval.proofs.NumberRows.{AreNumbers}
 use Rattle.absval.specs.declared.value.AbsVal.TheVariants.{Unset, Number, Pointer}
 use Rattle.absval.specs.declared.value.AbsVal.{AbsVal}
 

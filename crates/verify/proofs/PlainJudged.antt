@@ -20,10 +20,11 @@ use Rattle.verify.specs.Transfer.{Edge, edges}
 use Rattle.verify.specs.Judgement.{KnownSoFar, reached_at, joined_with, along, along_all, settled, passed_at, passed_on, passed_to, first_of, judged}
 use Rattle.verify.proofs.Edges.{start_inside}
 use Rattle.verify.proofs.PlainWalk.{structure_of_plain}
-use Rattle.absmem.specs.TableLaws.{length-table, table_at}
+use Rattle.absmem.proofs.TableLaws.{length-table, table_at}
 use Rattle.verify.proofs.Taken.{taken_some}
 use Rattle.verify.proofs.Zips.{at_set}
-use Rattle.verify.proofs.KnownNumbers.{number_at, true_or_not, joined_numbers}
+use Rattle.verify.proofs.KnownNumbers.{number_at, true_or_not}
+use Rattle.absval.proofs.NumberRows.{joined_numbers}
 use Rattle.verify.proofs.PlainEdges.{EdgesFine}
 use Rattle.verify.proofs.PlainRuns.{instruction_runs}
 use Rattle.absval.specs.declared.value.AbsVal.TheVariants.{Unset}

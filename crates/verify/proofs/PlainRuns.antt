@@ -2,7 +2,7 @@
 use Rattle.std.proofs.Common.{◌≡◌, inl, inr, ℕ, ◌+◌, ◌<◌, [], ◌∷◌, length, arith, refl, sym, true, false, Some, None}
 use Rattle.std.specs.Prelude.{pos, ◌+ℤ◌}
 use Rattle.insn.specs.declared.insn.Insn.{Insn}
-use Rattle.insn.specs.declared.insn.Insn.TheVariants.{Arithmetic, Negate, SignExtend, Swap, LoadNumber, Load, LoadSigned, Store, Call, Jump, LongJump, Branch, Exit}
+use Rattle.insn.specs.declared.insn.Insn.TheVariants.{Arithmetic, Negate, SignExtend, Swap, LoadImmediate, Load, LoadSigned, Store, Call, Jump, LongJump, Branch, Exit}
 use Rattle.insn.specs.Insn.{IsInsn}
 use Rattle.semantics.specs.Plain.{IsIn, IsOfNumbers, operand_reads, first_reads, reads, writes}
 use Rattle.absval.specs.NumberSets.{single, negations, extensions, swaps}
@@ -12,7 +12,8 @@ use Rattle.verify.specs.declared.state.AbsState.{AbsState}
 use Rattle.verify.specs.Registers.{known_at, operand_known, first_known, edge_known}
 use Rattle.verify.specs.Instructions.{reason_of}
 use Rattle.verify.specs.Transfer.{narrowed, edge_to, edges}
-use Rattle.verify.proofs.KnownNumbers.{AllKnown, operand_numbers, first_numbers, left_in, right_in, computed_numbers, mapped_numbers, made_none, arithmetic_none, write_none, compare_none, exit_none}
+use Rattle.verify.proofs.KnownNumbers.{AllKnown, operand_numbers, first_numbers, left_in, right_in, made_none, arithmetic_none, write_none, compare_none, exit_none}
+use Rattle.absval.proofs.NumberRows.{computed_numbers, mapped_numbers}
 use Rattle.verify.proofs.PlainEdges.{EdgesFine, assigned_edge, same_edge, edge_narrows, branch_edge, both_edges}
 use Rattle.absval.specs.declared.value.AbsVal.TheVariants.{Number}
 
@@ -54,10 +55,10 @@ instruction_runs (Swap order width dst) unit a plain frame well all size =
       made_none dst (known_at a.registers dst) (swapped_known order width (known_at a.registers dst)) (all dst lt (inl refl)) (λ e. frame (inl (sym e))) (made (swaps order width)),
       (assigned_edge (Swap order width dst) unit (unit + 1) a dst (swapped_known order width (known_at a.registers dst)) size lt (made (swaps order width)) (inl refl) (λ r h. only_one r dst h), tt),
     )
-instruction_runs (LoadNumber dst number) unit a plain frame well all size =
+instruction_runs (LoadImmediate dst number) unit a plain frame well all size =
     let lt : dst < 11 = omega (arith, well.0) in (
       write_none dst (λ e. frame (inl (sym e))),
-      (assigned_edge (LoadNumber dst number) unit (unit + 2) a dst (Some (Number (single number))) size lt refl (inl refl) (λ r h. only_one r dst h), tt),
+      (assigned_edge (LoadImmediate dst number) unit (unit + 2) a dst (Some (Number (single number))) size lt refl (inl refl) (λ r h. only_one r dst h), tt),
     )
 instruction_runs (Jump distance) unit a plain frame well all size =
     (refl, (same_edge (Jump distance) unit (pos (unit + 1) +ℤ distance) a size (inl refl) (λ r h. h), tt))

@@ -2,7 +2,7 @@
 use Rattle.std.proofs.Common.{◌≡◌, ℕ, ◌+◌, inl, inr, List, [], ◌∷◌, None, refl, ap, arith}
 use Rattle.std.specs.Prelude.{pos, ◌+ℤ◌}
 use Rattle.insn.specs.declared.insn.Insn.{Insn}
-use Rattle.insn.specs.declared.insn.Insn.TheVariants.{Arithmetic, Negate, SignExtend, Swap, LoadNumber, Jump, LongJump, Branch, Load, LoadSigned, Store, Call, Exit}
+use Rattle.insn.specs.declared.insn.Insn.TheVariants.{Arithmetic, Negate, SignExtend, Swap, LoadImmediate, Jump, LongJump, Branch, Load, LoadSigned, Store, Call, Exit}
 use Rattle.insn.specs.Insn.{units_of}
 use Rattle.insn.specs.Program.{instruction_at}
 use Rattle.semantics.specs.Plain.{EndsWithExit, IsPlain}
@@ -17,7 +17,7 @@ jumps_clear program unit (Arithmetic width operation dst operand) forward = refl
 jumps_clear program unit (Negate width dst) forward = refl
 jumps_clear program unit (SignExtend width part dst src) forward = refl
 jumps_clear program unit (Swap order size dst) forward = refl
-jumps_clear program unit (LoadNumber dst number) forward = refl
+jumps_clear program unit (LoadImmediate dst number) forward = refl
 jumps_clear program unit (Jump distance) forward = target_clear program unit (pos (unit + 1) +ℤ distance) (forward (pos (unit + 1) +ℤ distance) (inl refl))
 jumps_clear program unit (LongJump distance) forward = target_clear program unit (pos (unit + 1) +ℤ distance) (forward (pos (unit + 1) +ℤ distance) (inl refl))
 jumps_clear program unit (Branch width condition dst operand distance) forward =

@@ -1,7 +1,7 @@
 -- Where instructions start, and how many start from a unit on.
 use Rattle.std.proofs.Common.{◌≡◌, ℕ, zero, suc, ◌+◌, ◌-◌, ◌<◌, ◌≤◌, ◌⊎◌, inl, inr, ⊎_elim, List, [], ◌∷◌, ◌++◌, Some, None, refl, sym, ap, ◌∙◌, length, replicate, slice_get, arith}
 use Rattle.insn.specs.declared.insn.Insn.{Insn}
-use Rattle.insn.specs.declared.insn.Insn.TheVariants.{Arithmetic, Negate, SignExtend, Swap, LoadNumber, Jump, LongJump, Branch, Load, LoadSigned, Store, Call, Exit}
+use Rattle.insn.specs.declared.insn.Insn.TheVariants.{Arithmetic, Negate, SignExtend, Swap, LoadImmediate, Jump, LongJump, Branch, Load, LoadSigned, Store, Call, Exit}
 use Rattle.insn.specs.Insn.{units_of}
 use Rattle.insn.specs.Program.{slots_of, joined, instruction_at}
 
@@ -11,7 +11,7 @@ units_cases (Arithmetic width operation dst operand) = inl refl
 units_cases (Negate width dst) = inl refl
 units_cases (SignExtend width part dst src) = inl refl
 units_cases (Swap order size dst) = inl refl
-units_cases (LoadNumber dst number) = inr refl
+units_cases (LoadImmediate dst number) = inr refl
 units_cases (Jump distance) = inl refl
 units_cases (LongJump distance) = inl refl
 units_cases (Branch width condition dst operand distance) = inl refl

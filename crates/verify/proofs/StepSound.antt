@@ -4,7 +4,7 @@ use Rattle.std.specs.Prelude.{◌==◌, if◌then◌else◌, is_none, slice_set,
 use Rattle.std.specs.Int.{w32, w64, cast_unsigned}
 use Rattle.std.specs.Result.{result_ok, result_err}
 use Rattle.insn.specs.declared.insn.Insn.{Insn}
-use Rattle.insn.specs.declared.insn.Insn.TheVariants.{Arithmetic, Negate, SignExtend, Swap, LoadNumber, Load, LoadSigned, Store, Call, Jump, LongJump, Branch, Exit}
+use Rattle.insn.specs.declared.insn.Insn.TheVariants.{Arithmetic, Negate, SignExtend, Swap, LoadImmediate, Load, LoadSigned, Store, Call, Jump, LongJump, Branch, Exit}
 use Rattle.insn.specs.declared.insn.Operand.{Operand}
 use Rattle.insn.specs.declared.insn.Operand.TheVariants.{Register, Immediate}
 use Rattle.insn.specs.Insn.{bytes_of, IsInsn, IsOperand}
@@ -24,7 +24,7 @@ use Rattle.semantics.specs.declared.value.Region.{Region}
 use Rattle.semantics.specs.declared.request.Helper.{Helper}
 use Rattle.insn.specs.declared.insn.Size.{Size}
 use Rattle.std.proofs.lemmas.List.{length-drop}
-use Rattle.verify.proofs.RangeRows.{by_test}
+use Rattle.range.proofs.RangeRows.{by_test}
 use Rattle.verify.specs.declared.reason.Reason.{Reason}
 use Rattle.verify.specs.declared.reason.Reason.TheVariants as reason
 use Rattle.word.specs.Arithmetic.{negated, sign_extended, swapped}
@@ -35,13 +35,13 @@ use Rattle.verify.specs.Reasons.{first_reason, made_checks, is_unset}
 use Rattle.verify.specs.MemoryTable.{unset_or, frame_or, load_given, signed_load_given, store_refused}
 use Rattle.verify.proofs.Outcomes.{GoesOn, Follows}
 use Rattle.verify.specs.Instructions.{IsStraight, reason_of}
-use Rattle.verify.specs.Transfer.{assigned, number_stored, pointer_stored, stored, called, follows}
+use Rattle.verify.specs.Transfer.{assigned, number_stored, pointer_stored, stored, called, transfer}
 use Rattle.verify.proofs.StoreLemmas.{store_goes}
-use Rattle.absmem.specs.TableLaws.{length-table}
+use Rattle.absmem.proofs.TableLaws.{length-table}
 use Rattle.verify.proofs.Zips.{AllZip-set}
-use Rattle.verify.proofs.SetRows.{single_set, single_of}
-use Rattle.verify.proofs.Meanings.{IsWord, IsWell, AllWell, all_set, meant_at, stands_at, operand_meant, operand_stands, first_meant, first_stands}
-use Rattle.verify.proofs.ValueRows.{Makes, MeantIf, computed_makes, computed_meant, negated_makes, negated_meant, extended_makes, extended_meant, swapped_makes, swapped_meant}
+use Rattle.absval.proofs.SetRows.{single_set, single_of}
+use Rattle.verify.proofs.Meanings.{IsWord, AllWell, all_set, meant_at, stands_at, operand_meant, operand_stands, first_meant, first_stands}
+use Rattle.absval.proofs.ValueRows.{IsWell, Makes, MeantIf, computed_makes, computed_meant, negated_makes, negated_meant, extended_makes, extended_meant, swapped_makes, swapped_meant}
 use Rattle.verify.proofs.LoadRows.{load_loads, load_meant, signed_loads, signed_meant}
 use Rattle.verify.proofs.StoreRows.{store_leads}
 use Rattle.verify.proofs.CallRows.{call_goes, call_well, behind_flags}
@@ -144,7 +144,7 @@ given_meant (Err reason) h = tt
 
 -- ---- instructions
 
-pub straight_goes : (i : Insn) (a : AbsState) → IsStraight i → IsInsn i → IsMeant a → reason_of i a ≡ None → Follows a i (follows i a)
+pub straight_goes : (i : Insn) (a : AbsState) → IsStraight i → IsInsn i → IsMeant a → reason_of i a ≡ None → Follows a i (transfer i a)
 straight_goes (Arithmetic w operation dst operand) a straight insn m none context relay s setting d =
     let made : Option AbsVal = computed w operation (first_known a.registers operation dst) (operand_known a.registers operand) in
     let first = check_passed (is_unset (first_known a.registers operation dst)) reason.Unset (first_reason (made_checks dst (operand_known a.registers operand) made)) none in
@@ -166,7 +166,7 @@ straight_goes (Swap order size dst) a straight insn m none context relay s setti
     let checks = made_passed dst (known_at a.registers dst) (swapped_known order size (known_at a.registers dst)) none in
     assigned_goes a s dst 1 (swapped_known order size (known_at a.registers dst)) (semantics.mapped (swapped order size) (value_at s.registers dst)) checks.0 checks.1 d
     (swapped_makes order size (known_at a.registers dst) (value_at s.registers dst) (meant_at a.registers dst m.well) (stands_at a.registers s.registers dst d.registers))
-straight_goes (LoadNumber dst number) a straight insn m none context relay s setting d =
+straight_goes (LoadImmediate dst number) a straight insn m none context relay s setting d =
     let frame = check_passed (dst == 10) reason.FrameWrite None none in
     assigned_goes a s dst 2 (Some (Number (single number))) (Ok (value.Number number)) frame.0 refl d (single_of number insn.1)
 straight_goes (Load size dst base offset) a straight insn m none context relay s setting d =
@@ -185,7 +185,7 @@ straight_goes (Store size base offset source) a straight insn m none context rel
     let refused : store_refused size (known_at a.registers base) offset (operand_known a.registers source) ≡ None =
     set_passed (operand_known a.registers source) (store_refused size (known_at a.registers base) offset (operand_known a.registers source))
     (set_passed (known_at a.registers base) (unset_or (operand_known a.registers source) (store_refused size (known_at a.registers base) offset (operand_known a.registers source))) none) in
-    store_goes (follows (Store size base offset source) a) s (memory.stored s.cells (bytes_of size) (value_at s.registers base) offset (operand_value s.registers source)) d.registers
+    store_goes (transfer (Store size base offset source) a) s (memory.stored s.cells (bytes_of size) (value_at s.registers base) offset (operand_value s.registers source)) d.registers
     (store_leads a.stack size (known_at a.registers base) offset (operand_known a.registers source) s.cells (value_at s.registers base) (operand_value s.registers source) refused
     d.stack d.size m.flags (stands_at a.registers s.registers base d.registers) (operand_stands a.registers s.registers source (is_word source insn.2) d.registers))
 straight_goes (Call number) a straight insn m none context relay s setting d = call_goes (helper_of number) a context relay s setting d m.flags none
@@ -194,14 +194,14 @@ straight_goes (LongJump distance) a straight insn m none context relay s setting
 straight_goes (Branch w condition dst operand distance) a straight insn m none context relay s setting d = absurd straight
 straight_goes Exit a straight insn m none context relay s setting d = absurd straight
 
-pub follows_meant : (i : Insn) (a : AbsState) → IsInsn i → IsMeant a → IsMeant (follows i a)
+pub follows_meant : (i : Insn) (a : AbsState) → IsInsn i → IsMeant a → IsMeant (transfer i a)
 follows_meant (Arithmetic w operation dst operand) a insn m =
     assigned_meant a dst _ m (computed_meant w operation (first_known a.registers operation dst) (operand_known a.registers operand)
     (first_meant a.registers operation dst m.well) (operand_meant a.registers operand (is_word operand insn.1) m.well))
 follows_meant (Negate w dst) a insn m = assigned_meant a dst _ m (negated_meant w (known_at a.registers dst) (meant_at a.registers dst m.well))
 follows_meant (SignExtend w part dst src) a insn m = assigned_meant a dst _ m (extended_meant w part (known_at a.registers src) (meant_at a.registers src m.well))
 follows_meant (Swap order size dst) a insn m = assigned_meant a dst _ m (swapped_meant order size (known_at a.registers dst) (meant_at a.registers dst m.well))
-follows_meant (LoadNumber dst number) a insn m = assigned_meant a dst (Some (Number (single number))) m (single_set number insn.1)
+follows_meant (LoadImmediate dst number) a insn m = assigned_meant a dst (Some (Number (single number))) m (single_set number insn.1)
 follows_meant (Load size dst base offset) a insn m =
     assigned_meant a dst _ m (given_meant (load_given a.stack size (known_at a.registers base) offset) (load_meant a.stack size (known_at a.registers base) offset))
 follows_meant (LoadSigned part dst base offset) a insn m =

@@ -24,7 +24,7 @@ use Rattle.verify.specs.declared.state.AbsState.{AbsState}
 use Rattle.verify.proofs.Gamma.{RegistersDescribe}
 use Rattle.verify.proofs.Outcomes.{GoesOn}
 use Rattle.verify.proofs.Stores.{Leads}
-use Rattle.verify.proofs.Loads.{Lies}
+use Rattle.absval.proofs.WindowRows.{Lies}
 
 pub low_bytes : (from size n : ℕ) → AreBytes (map Byte (bytes_low_first from size n))
 low_bytes from zero n k l = absurd (omega arith)

@@ -27,21 +27,22 @@ use Rattle.absmem.specs.Stacks.{put_bytes, spread_bytes, put_pointer}
 use Rattle.verify.specs.Transfer.{number_stored, pointer_stored}
 use Rattle.verify.specs.Transfer as transfer
 use Rattle.verify.proofs.StoreLemmas.{stores_lead, bytes_lead, pieces_lead, number_lead}
-use Rattle.verify.proofs.RangeRows.{by_test}
-use Rattle.verify.proofs.WindowRows.{IsWindow, window_is, one_wide, put_described, spread_described, pointer_described}
+use Rattle.range.proofs.RangeRows.{by_test}
+use Rattle.absval.proofs.WindowRows.{IsWindow, window_is, one_wide}
+use Rattle.absmem.proofs.StackRows.{put_described, spread_described, pointer_described}
 use Rattle.absval.specs.declared.value.AbsVal.TheVariants.{Unset, Number, Pointer}
 use Rattle.absval.specs.declared.value.AbsVal.{AbsVal}
 
 -- a window that may be written lies in the stack
-abbrev Written : Region → Option Window → Type 0
+abbrev pub Written : Region → Option Window → Type 0
 Written region o = (region ≡ Stack) × (w : Window) × (o ≡ Some w)
 
-written_of : (region : Region) (o : Option Window) → write_refused region o ≡ None → Written region o
+pub written_of : (region : Region) (o : Option Window) → write_refused region o ≡ None → Written region o
 written_of Context o e = cc
 written_of Stack None e = cc
 written_of Stack (Some w) e = (refl, w, refl)
 
-there_is : (region : Region) (low high distance : ℤ) (n : ℕ) (w : Window) → region ≡ Stack → window_known region low high distance n ≡ Some w → IsWindow Stack low high distance n w
+pub there_is : (region : Region) (low high distance : ℤ) (n : ℕ) (w : Window) → region ≡ Stack → window_known region low high distance n ≡ Some w → IsWindow Stack low high distance n w
 there_is region low high distance n w e f =
     subst (λ (r : Region). IsWindow r low high distance n w) e
     (subst (λ (o : Option Window). IfSome o (IsWindow region low high distance n)) f (window_is region low high distance n))

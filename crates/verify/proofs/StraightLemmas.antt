@@ -2,27 +2,27 @@
 use Rattle.std.proofs.Common.{◌≡◌, ◌∙◌, ℕ, ◌+◌, [], ◌∷◌, refl, sym, ap, ap₂, List, Option, Ok, Err}
 use Rattle.std.specs.Prelude.{pos}
 use Rattle.insn.specs.declared.insn.Insn.{Insn}
-use Rattle.insn.specs.declared.insn.Insn.TheVariants.{Arithmetic, Negate, SignExtend, Swap, LoadNumber, Jump, LongJump, Branch, Load, LoadSigned, Store, Call, Exit}
+use Rattle.insn.specs.declared.insn.Insn.TheVariants.{Arithmetic, Negate, SignExtend, Swap, LoadImmediate, Jump, LongJump, Branch, Load, LoadSigned, Store, Call, Exit}
 use Rattle.insn.specs.Insn.{units_of}
 use Rattle.verify.specs.declared.error.VerifyError.TheVariants.{At}
 use Rattle.verify.specs.declared.reason.Reason.{Reason}
 use Rattle.verify.specs.declared.state.AbsState.{AbsState}
 use Rattle.verify.specs.Instructions.{IsStraight, straight_reason, reason_of}
 use Rattle.verify.specs.Reasons.{outcome}
-use Rattle.verify.specs.Transfer.{Edge, edges, follows, stepped}
+use Rattle.verify.specs.Transfer.{Edge, edges, transfer, stepped}
 use Rattle.verify.specs.Judgement.{KnownSoFar, along, along_all, settled, followed}
 use Rattle.verify.proofs.CallChecks.{refused_for, accepted_with}
 
 -- it has one edge, and the reason of all instructions
 abbrev OnlyOne : Insn → ℕ → AbsState → Type 0
-OnlyOne i unit a = (edges i unit a ≡ (pos (unit + units_of i), follows i a) ∷ []) × ((b : AbsState) → reason_of i b ≡ straight_reason i b)
+OnlyOne i unit a = (edges i unit a ≡ (pos (unit + units_of i), transfer i a) ∷ []) × ((b : AbsState) → reason_of i b ≡ straight_reason i b)
 
 only_one : (i : Insn) (unit : ℕ) (a : AbsState) → IsStraight i → OnlyOne i unit a
 only_one (Arithmetic w operation dst operand) unit a s = (refl, λ b. refl)
 only_one (Negate w dst) unit a s = (refl, λ b. refl)
 only_one (SignExtend w part dst src) unit a s = (refl, λ b. refl)
 only_one (Swap order size dst) unit a s = (refl, λ b. refl)
-only_one (LoadNumber dst number) unit a s = (refl, λ b. refl)
+only_one (LoadImmediate dst number) unit a s = (refl, λ b. refl)
 only_one (Jump distance) unit a s = absurd s
 only_one (LongJump distance) unit a s = absurd s
 only_one (Branch w condition dst operand distance) unit a s = absurd s
@@ -33,7 +33,7 @@ only_one (Call helper) unit a s = (refl, λ b. refl)
 only_one Exit unit a s = absurd s
 
 straight_settled : (i : Insn) (unit : ℕ) (a : AbsState) (reached : KnownSoFar) → IsStraight i →
-    followed unit i a reached ≡ settled (straight_reason i a) unit (along (pos (unit + units_of i), follows i a) reached)
+    followed unit i a reached ≡ settled (straight_reason i a) unit (along (pos (unit + units_of i), transfer i a) reached)
 straight_settled i unit a reached s =
     let one = only_one i unit a s in
     ap₂ (λ (o : Option Reason) (es : List Edge). settled o unit (along_all es reached)) (one.1 a) one.0
@@ -43,13 +43,13 @@ pub straight_stops : (i : Insn) (unit : ℕ) (a b : AbsState) (reached : KnownSo
     followed unit i a reached ≡ Err (At reason unit)
 straight_stops i unit a b reached reason s e =
     straight_settled i unit a reached s
-    ∙ ap (λ (o : Option Reason). settled o unit (along (pos (unit + units_of i), follows i a) reached)) (refused_for (Err reason) (straight_reason i a) reason b (follows i a) refl e)
+    ∙ ap (λ (o : Option Reason). settled o unit (along (pos (unit + units_of i), transfer i a) reached)) (refused_for (Err reason) (straight_reason i a) reason b (transfer i a) refl e)
 
 -- it runs, and what it leaves flows on
 pub straight_runs : (i : Insn) (unit to : ℕ) (a b : AbsState) (u : Unit {0}) (old new : KnownSoFar) → IsStraight i → outcome (Ok u) b ≡ stepped i a → to ≡ unit + units_of i →
     new ≡ along (pos to, b) old → followed unit i a old ≡ Ok new
 straight_runs i unit to a b u old new s e there h =
-    let left = accepted_with (Ok u) (straight_reason i a) u b (follows i a) refl e in
+    let left = accepted_with (Ok u) (straight_reason i a) u b (transfer i a) refl e in
     straight_settled i unit a old s
-    ∙ (ap (λ (o : Option Reason). settled o unit (along (pos (unit + units_of i), follows i a) old)) left.0
+    ∙ (ap (λ (o : Option Reason). settled o unit (along (pos (unit + units_of i), transfer i a) old)) left.0
     ∙ ap (λ (r : KnownSoFar). Ok r) (sym (h ∙ ap₂ (λ (n : ℕ) (c : AbsState). along (pos n, c) old) there left.1)))

@@ -3,7 +3,7 @@ use Rattle.std.proofs.Common.{◌≡◌, ◌∙◌, ℕ, zero, suc, ◌+◌, ◌
 use Rattle.std.proofs.lemmas.List.{ext_get_or, get_or-drop, get_or_default}
 use Rattle.absval.specs.declared.value.AbsVal.{AbsVal}
 use Rattle.absval.specs.declared.number_set.NumberSet.{NumberSet}
-use Rattle.absmem.specs.TableLaws.{table_is}
+use Rattle.absmem.proofs.TableLaws.{table_is}
 use Rattle.verify.specs.Registers.{known_at, joined_all}
 use Rattle.absval.specs.Table.{joined}
 use Rattle.verify.specs.Calls.{known_behind}

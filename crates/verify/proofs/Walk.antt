@@ -3,7 +3,7 @@ use Rattle.std.proofs.Common.{◌≡◌, ℕ, ◌+◌, ◌≤◌, ◌⊎◌, inl
 use Rattle.std.specs.Prelude.{ℤ, pos, ◌+ℤ◌, ◌<ℤ◌, IsSome}
 use Rattle.std.proofs.lemmas.Int.{ints}
 use Rattle.insn.specs.declared.insn.Insn.{Insn}
-use Rattle.insn.specs.declared.insn.Insn.TheVariants.{Arithmetic, Negate, SignExtend, Swap, LoadNumber, Jump, LongJump, Branch, Load, LoadSigned, Store, Call, Exit}
+use Rattle.insn.specs.declared.insn.Insn.TheVariants.{Arithmetic, Negate, SignExtend, Swap, LoadImmediate, Jump, LongJump, Branch, Load, LoadSigned, Store, Call, Exit}
 use Rattle.insn.specs.Insn.{units_of}
 use Rattle.insn.specs.Program.{instruction_at}
 use Rattle.insn.proofs.SlotLemmas.{units_some}
@@ -31,7 +31,7 @@ edge_of (Arithmetic width operation dst operand) unit z e = inl (one_edge z _ e,
 edge_of (Negate width dst) unit z e = inl (one_edge z _ e, refl)
 edge_of (SignExtend width part dst src) unit z e = inl (one_edge z _ e, refl)
 edge_of (Swap order size dst) unit z e = inl (one_edge z _ e, refl)
-edge_of (LoadNumber dst number) unit z e = inl (one_edge z _ e, refl)
+edge_of (LoadImmediate dst number) unit z e = inl (one_edge z _ e, refl)
 edge_of (Jump distance) unit z e = jump_edge (Jump distance) unit distance z (λ program. refl) (one_edge z _ e)
 edge_of (LongJump distance) unit z e = jump_edge (LongJump distance) unit distance z (λ program. refl) (one_edge z _ e)
 edge_of (Branch width condition dst operand distance) unit z e =

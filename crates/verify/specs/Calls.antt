@@ -1,8 +1,8 @@
 -- Calls of helpers, on what is known (own).
 use Rattle.std.specs.Prelude.{ℕ, ℤ, pos, ◌+◌, ◌*◌, ◌<◌, ◌&&◌, not, nat_lt, Bool, true, false, List, [], ◌∷◌, Option, Some, None, Result, Ok, Err, drop}
+use Rattle.std.specs.Option.{option_or}
 use Rattle.std.specs.Ordering.{int_eq}
 use Rattle.semantics.specs.declared.value.Region.{Region}
-use Rattle.semantics.specs.declared.value.Region.TheVariants.{Stack, Context}
 use Rattle.semantics.specs.declared.request.Helper.{Helper}
 use Rattle.semantics.specs.declared.request.Helper.TheVariants.{BoardCopy, SendRow}
 use Rattle.semantics.specs.Call.{helper_of}
@@ -16,7 +16,7 @@ use Rattle.absmem.specs.Known.{Known}
 use Rattle.helper.specs.declared.argument.Argument.{Argument}
 use Rattle.helper.specs.Table.{bound_of, arguments_of}
 use Rattle.verify.specs.Registers.{known_at}
-use Rattle.verify.specs.MemoryTable.{all_bytes}
+use Rattle.verify.specs.MemoryTable.{unset_in, write_refused}
 use Rattle.verify.specs.declared.reason.Reason.{Reason}
 use Rattle.verify.specs.declared.reason.Reason.TheVariants as reason
 use Rattle.verify.specs.declared.state.AbsState.{AbsState}
@@ -26,11 +26,6 @@ use Rattle.absval.specs.declared.value.AbsVal.TheVariants.{Unset, Number, Pointe
 abbrev pub answer_of : Option Reason → Result (Unit {0}) Reason
 answer_of None = Ok tt
 answer_of (Some reason) = Err reason
-
--- one reason, or else another
-abbrev pub or_reason : Option Reason → Option Reason → Option Reason
-or_reason None other = other
-or_reason (Some reason) other = Some reason
 
 -- a reason, where the test holds
 abbrev pub reason_if : Bool → Reason → Option Reason
@@ -55,7 +50,7 @@ taken_reason (Some argument) value = argument_reason (bound_of argument) value
 -- the first reason of the registers from r on
 abbrev pub arguments_reason : List (Option Argument) → ℕ → List AbsVal → Option Reason
 arguments_reason [] r known = None
-arguments_reason (argument ∷ arguments) r known = or_reason (taken_reason argument (known_at known r)) (arguments_reason arguments (r + 1) known)
+arguments_reason (argument ∷ arguments) r known = option_or (taken_reason argument (known_at known r)) (arguments_reason arguments (r + 1) known)
 
 -- it is a number below the bound
 abbrev pub IsBelow : ℕ → AbsVal → Type 0
@@ -74,22 +69,15 @@ IsPointer (Pointer region offsets) = Unit {0}
 abbrev pub window_from : Region → Offsets → ℕ → Option Window
 window_from region offsets size = window_known region offsets.0 offsets.1 (pos 0) size
 
--- words are written to the stack
-abbrev pub target_reason : Region → Option Window → Option Reason
-target_reason Context window = Some reason.ContextWrite
-target_reason Stack None = Some reason.Bounds
-target_reason Stack (Some window) = None
-
--- orders are read as bytes; those of the context are
+-- orders are read as bytes
 abbrev pub source_reason : Known → Region → Option Window → Option Reason
 source_reason known region None = Some reason.Bounds
-source_reason known Context (Some window) = None
-source_reason known Stack (Some window) = reason_if (not (all_bytes known.bytes window.place window.size)) reason.StackUnset
+source_reason known region (Some window) = unset_in known region window
 
 -- the words that are copied stand on the board, and find room on the stack
 abbrev pub copy_reason : AbsVal → AbsVal → AbsVal → Option Reason
 copy_reason (Number slots) (Pointer region offsets) (Number counts) =
-    or_reason (reason_if (nat_lt 64 (greatest slots + greatest counts)) reason.Argument) (target_reason region (window_from region offsets (8 * greatest counts)))
+    option_or (reason_if (nat_lt 64 (greatest slots + greatest counts)) reason.Argument) (write_refused region (window_from region offsets (8 * greatest counts)))
 copy_reason _ _ _ = None
 
 -- the orders that are sent are there
@@ -106,7 +94,7 @@ window_reason _ a = None
 
 abbrev pub helper_reason : Option Helper → AbsState → Option Reason
 helper_reason None a = Some reason.Helper
-helper_reason (Some helper) a = or_reason (arguments_reason (arguments_of helper) 1 a.registers) (window_reason helper a)
+helper_reason (Some helper) a = option_or (arguments_reason (arguments_of helper) 1 a.registers) (window_reason helper a)
 
 -- why a call of the number is refused: the number, then the arguments in their order, then the window
 abbrev pub call_reason : AbsState → ℤ → Option Reason

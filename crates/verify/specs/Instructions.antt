@@ -1,7 +1,7 @@
 -- Why an instruction may not run on what is known (own).
 use Rattle.std.specs.Prelude.{Option, None}
 use Rattle.insn.specs.declared.insn.Insn.{Insn}
-use Rattle.insn.specs.declared.insn.Insn.TheVariants.{Arithmetic, Negate, SignExtend, Swap, LoadNumber, Load, LoadSigned, Store, Call, Jump, LongJump, Branch, Exit}
+use Rattle.insn.specs.declared.insn.Insn.TheVariants.{Arithmetic, Negate, SignExtend, Swap, LoadImmediate, Load, LoadSigned, Store, Call, Jump, LongJump, Branch, Exit}
 use Rattle.absval.specs.Table.{negated_known, extended_known, swapped_known}
 use Rattle.verify.specs.declared.reason.Reason.{Reason}
 use Rattle.verify.specs.declared.state.AbsState.{AbsState}
@@ -23,7 +23,7 @@ straight_reason (Arithmetic w operation dst operand) a = first_reason (arithmeti
 straight_reason (Negate w dst) a = first_reason (made_checks dst (known_at a.registers dst) (negated_known w (known_at a.registers dst)))
 straight_reason (SignExtend w part dst src) a = first_reason (made_checks dst (known_at a.registers src) (extended_known w part (known_at a.registers src)))
 straight_reason (Swap order size dst) a = first_reason (made_checks dst (known_at a.registers dst) (swapped_known order size (known_at a.registers dst)))
-straight_reason (LoadNumber dst number) a = first_reason (write_checks dst)
+straight_reason (LoadImmediate dst number) a = first_reason (write_checks dst)
 straight_reason (Load size dst base offset) a = load_reason a size dst base offset
 straight_reason (LoadSigned part dst base offset) a = signed_load_reason a part dst base offset
 straight_reason (Store size base offset source) a = store_reason a size base offset source

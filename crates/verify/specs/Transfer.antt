@@ -2,7 +2,7 @@
 use Rattle.std.specs.Prelude.{ℕ, ℤ, pos, ◌+◌, ◌*◌, ◌+ℤ◌, ◌==◌, Bool, true, false, if◌then◌else◌, List, [], ◌∷◌, ◌++◌, Option, Some, None, Result, option_map, slice_set}
 use Rattle.std.specs.Result.{result_ok}
 use Rattle.insn.specs.declared.insn.Insn.{Insn}
-use Rattle.insn.specs.declared.insn.Insn.TheVariants.{Arithmetic, Negate, SignExtend, Swap, LoadNumber, Load, LoadSigned, Store, Call, Jump, LongJump, Branch, Exit}
+use Rattle.insn.specs.declared.insn.Insn.TheVariants.{Arithmetic, Negate, SignExtend, Swap, LoadImmediate, Load, LoadSigned, Store, Call, Jump, LongJump, Branch, Exit}
 use Rattle.insn.specs.declared.insn.Size.{Size}
 use Rattle.insn.specs.Insn.{bytes_of, units_of}
 use Rattle.semantics.specs.declared.value.Region.{Region}
@@ -72,23 +72,23 @@ called (Some helper) a = record { registers = known_behind (within (returned_ran
 -- ---- instructions
 
 -- what an instruction leaves that goes on behind itself
-abbrev pub follows : Insn → AbsState → AbsState
-follows (Arithmetic w operation dst operand) a =
+abbrev pub transfer : Insn → AbsState → AbsState
+transfer (Arithmetic w operation dst operand) a =
     assigned a dst (computed w operation (first_known a.registers operation dst) (operand_known a.registers operand))
-follows (Negate w dst) a = assigned a dst (negated_known w (known_at a.registers dst))
-follows (SignExtend w part dst src) a = assigned a dst (extended_known w part (known_at a.registers src))
-follows (Swap order size dst) a = assigned a dst (swapped_known order size (known_at a.registers dst))
-follows (LoadNumber dst number) a = assigned a dst (Some (Number (single number)))
-follows (Load size dst base offset) a = assigned a dst (result_ok (load_given a.stack size (known_at a.registers base) offset))
-follows (LoadSigned part dst base offset) a = assigned a dst (result_ok (signed_load_given a.stack part (known_at a.registers base) offset))
-follows (Store size base offset source) a =
+transfer (Negate w dst) a = assigned a dst (negated_known w (known_at a.registers dst))
+transfer (SignExtend w part dst src) a = assigned a dst (extended_known w part (known_at a.registers src))
+transfer (Swap order size dst) a = assigned a dst (swapped_known order size (known_at a.registers dst))
+transfer (LoadImmediate dst number) a = assigned a dst (Some (Number (single number)))
+transfer (Load size dst base offset) a = assigned a dst (result_ok (load_given a.stack size (known_at a.registers base) offset))
+transfer (LoadSigned part dst base offset) a = assigned a dst (result_ok (signed_load_given a.stack part (known_at a.registers base) offset))
+transfer (Store size base offset source) a =
     record { registers = a.registers; stack = stored size (known_at a.registers base) offset (operand_known a.registers source) a.stack }
-follows (Call number) a = called (helper_of number) a
-follows i a = a
+transfer (Call number) a = called (helper_of number) a
+transfer i a = a
 
 -- what is left by an instruction that goes on behind itself, or why it may not run
 abbrev pub stepped : Insn → AbsState → Result AbsState Reason
-stepped i a = unless (straight_reason i a) (follows i a)
+stepped i a = unless (straight_reason i a) (transfer i a)
 
 -- what a conditional jump tells where it is taken, or is not: nothing where that cannot be
 abbrev pub narrowed : Comparison → Bool → AbsState → Option AbsState
@@ -110,4 +110,4 @@ edges (Branch w condition dst operand distance) unit a =
     edge_to (pos (unit + 1)) (narrowed (record { width = w; condition = condition; dst = dst; operand = operand }) false a)
     ++ edge_to (pos (unit + 1) +ℤ distance) (narrowed (record { width = w; condition = condition; dst = dst; operand = operand }) true a)
 edges Exit unit a = []
-edges i unit a = (pos (unit + units_of i), follows i a) ∷ []
+edges i unit a = (pos (unit + units_of i), transfer i a) ∷ []

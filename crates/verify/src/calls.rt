@@ -3,17 +3,19 @@ ghost use Rattle.std.specs.Prelude.{◌≡◌, ◌+◌, ◌*◌, ◌≤◌, ◌<
 ghost use Rattle.absval.specs.NumberSets.{within, greatest};
 ghost use Rattle.semantics.specs.Call.{helper_of};
 ghost use Rattle.absval.specs.Contains.{is_number};
-ghost use Rattle.absval.specs.Windows.{room_of};
 ghost use Rattle.helper.specs.Table.{bound_of, arguments_of};
 ghost use Rattle.verify.specs.Registers.{known_at};
 ghost use Rattle.verify.specs.Reasons.{unless, outcome};
-ghost use Rattle.verify.specs.Calls.{answer_of, argument_reason, taken_reason, arguments_reason, IsBelow, IsPointer, window_from, target_reason, source_reason, copy_reason, row_reason, window_reason, call_reason, is_certain, known_behind};
+ghost use Rattle.verify.specs.Calls.{answer_of, argument_reason, taken_reason, arguments_reason, IsBelow, IsPointer, window_from, copy_reason, row_reason, window_reason, call_reason, is_certain, known_behind};
+ghost use Rattle.verify.specs.MemoryTable.{write_refused};
 ghost use Rattle.verify.specs.Transfer.{written, copied, stack_behind, called};
 
+use crate::memory::check_bytes;
 use crate::reason::Reason;
+use crate::registers::known_at;
 use crate::state::AbsState;
 use absmem::AbsStack;
-use absval::{AbsVal, NumberSet, Offsets, Window, window_of};
+use absval::{AbsVal, NumberSet, Offsets, window_of};
 use helper::{Argument, Helper};
 use range::Range;
 use semantics::Region;
@@ -52,14 +54,6 @@ fn check_taken(argument: Option<Argument>, value: AbsVal) -> Result<(), Reason>
     }
 }
 
-/// What is known of a register.
-fn known(registers: &[AbsVal; 11], r: usize) -> AbsVal
-    requires { r < 11 }
-    ensures { result ≡ known_at registers.now r }
-{
-    registers[r]
-}
-
 /// The arguments in r1, r2 and r3, in this order.
 fn check_arguments(
     registers: &[AbsVal; 11],
@@ -69,9 +63,9 @@ fn check_arguments(
 ) -> Result<(), Reason>
     ensures { result ≡ answer_of (arguments_reason (first ∷ second ∷ third ∷ []) 1 registers.now) }
 {
-    check_taken(first, known(registers, 1))?;
-    check_taken(second, known(registers, 2))?;
-    check_taken(third, known(registers, 3))
+    check_taken(first, known_at(registers, 1))?;
+    check_taken(second, known_at(registers, 2))?;
+    check_taken(third, known_at(registers, 3))
 }
 
 /// The numbers of an argument that is one.
@@ -100,13 +94,13 @@ fn pointer(value: AbsVal) -> (Region, Offsets)
 fn is_certain(offsets: Offsets, counts: NumberSet) -> bool
     ensures { result ≡ is_certain offsets counts }
 {
-    offsets.low == offsets.high && counts.is_one()
+    offsets.is_one() && counts.is_one()
 }
 
 /// Words are written at an offset of the stack, so many of 8 bytes each.
 fn write_words(stack: &mut AbsStack, offsets: Offsets, counts: NumberSet) -> Result<(), Reason>
     requires { greatest counts ≤ 64 }
-    ensures { let at = window_from Region.Stack offsets (8 * greatest counts) in outcome result stack.new ≡ unless (target_reason Region.Stack at) (written (is_certain offsets counts) at stack.old) }
+    ensures { let at = window_from Region.Stack offsets (8 * greatest counts) in outcome result stack.new ≡ unless (write_refused Region.Stack at) (written (is_certain offsets counts) at stack.old) }
 {
     let Some(window) = window_of(Region::Stack, offsets, 0, 8 * counts.greatest() as usize) else {
         return Err(Reason::Bounds);
@@ -138,22 +132,6 @@ fn copy(stack: &mut AbsStack, slots: AbsVal, target: AbsVal, counts: AbsVal) -> 
     }
 }
 
-/// The cells of the window are bytes: those of the context are.
-fn check_bytes(stack: &AbsStack, region: Region, window: Window) -> Result<(), Reason>
-    requires { window.place + window.size ≤ room_of region }
-    ensures { result ≡ answer_of (source_reason stack.now region (Some window)) }
-{
-    match region {
-        Region::Context => Ok(()),
-        Region::Stack => {
-            if !stack.has_bytes(window.place, window.size) {
-                return Err(Reason::StackUnset);
-            }
-            Ok(())
-        }
-    }
-}
-
 /// Orders are read at a pointer, up to so many of 4 bytes each.
 fn check_row(stack: &AbsStack, source: AbsVal, counts: AbsVal) -> Result<(), Reason>
     requires source { IsPointer source }
@@ -173,9 +151,9 @@ fn pass_window(state: &mut AbsState, helper: Helper) -> Result<(), Reason>
     requires { arguments_reason (arguments_of helper) 1 state.old.registers ≡ None }
     ensures { outcome result state.new ≡ unless (window_reason helper state.old) (record state.old { stack = stack_behind helper state.old }) }
 {
-    let first = known(&state.registers, 1);
-    let second = known(&state.registers, 2);
-    let third = known(&state.registers, 3);
+    let first = state.registers[1];
+    let second = state.registers[2];
+    let third = state.registers[3];
     match helper {
         Helper::BoardCopy => copy(&mut state.stack, first, second, third),
         Helper::SendRow => check_row(&state.stack, second, third),

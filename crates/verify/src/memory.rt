@@ -1,44 +1,20 @@
 //! What loads and stores do to what is known.
-ghost use Rattle.std.specs.Prelude.{◌≡◌, ◌+◌, ◌≤◌, ◌↔◌, Some, option_map, IfOk, IsTrue};
+ghost use Rattle.std.specs.Prelude.{◌≡◌, ◌+◌, ◌≤◌, Some, IfOk};
 ghost use Rattle.std.specs.Option.{ok_or};
 ghost use Rattle.std.specs.Result.{result_err};
-ghost use Rattle.insn.specs.Insn.{bytes_of, part_bytes};
-ghost use Rattle.absval.specs.Windows.{room_of, window_known};
+ghost use Rattle.insn.specs.Insn.{bytes_of};
+ghost use Rattle.semantics.specs.Memory.{room_of};
+ghost use Rattle.absval.specs.Windows.{window_known};
 ghost use Rattle.verify.specs.Reasons.{unless, outcome};
-ghost use Rattle.verify.specs.MemoryTable.{pointer_in, unset_in, spilled, stack_given, load_given, all_numbers, signed_load_given, write_refused, pointer_refused, store_refused};
+ghost use Rattle.verify.specs.MemoryTable.{pointer_in, unset_in, spilled, stack_given, load_given, signed_load_given, write_refused, pointer_refused, store_refused};
 ghost use Rattle.verify.specs.Transfer.{number_stored, pointer_stored, stored};
 
 use crate::reason::Reason;
 use absmem::AbsStack;
 use absval::{AbsVal, NumberSet, Offsets, Window, loaded, window_of};
-use insn::Size;
+use insn::{Size, bytes_of_part};
 use semantics::Region;
-use word::{Narrow, Width};
-
-/// How many bytes are loaded or stored.
-fn bytes(size: Size) -> usize
-    ensures bytes { result ≡ bytes_of size }
-    ensures few { result ≤ 8 }
-{
-    match size {
-        Size::Byte => 1,
-        Size::Half => 2,
-        Size::Word => 4,
-        Size::Double => 8,
-    }
-}
-
-/// How many bytes are loaded and extended.
-fn bytes_of_part(part: Narrow) -> usize
-    ensures bytes { result ≡ part_bytes part }
-    ensures few { result ≤ 8 }
-{
-    match part {
-        Narrow::Byte => 1,
-        Narrow::Half => 2,
-        Narrow::Word => 4,
-    }
-}
+use word::Narrow;
 
 /// The pointer that a base is.
 fn pointer_of(base: AbsVal) -> Result<(Region, Offsets), Reason>
@@ -97,22 +73,15 @@ pub fn load(stack: &AbsStack, size: Size, base: AbsVal, distance: i16) -> Result
     ensures { result ≡ load_given stack.now size base distance }
 {
     let (region, offsets) = pointer_of(base)?;
-    let window = window(region, offsets, distance, bytes(size))?;
+    let window = window(region, offsets, distance, size.bytes())?;
     match region {
         Region::Context => Ok(loaded(size)),
         Region::Stack => load_stack(stack, size, window),
     }
 }
 
-/// What extending so many loaded bytes by their sign may give: any number.
-fn extended(part: Narrow) -> AbsVal
-    ensures { result ≡ all_numbers }
-{
-    AbsVal::Number(NumberSet::any().sign_extend(Width::W64, part))
-}
-
 /// The cells of the window are bytes: those of the context are.
-fn check_bytes(stack: &AbsStack, region: Region, window: Window) -> Result<(), Reason>
+pub(crate) fn check_bytes(stack: &AbsStack, region: Region, window: Window) -> Result<(), Reason>
     requires { window.place + window.size ≤ room_of region }
     ensures { result_err result ≡ unset_in stack.now region window }
 {
@@ -139,7 +108,7 @@ pub fn load_signed(
     let (region, offsets) = pointer_of(base)?;
     let window = window(region, offsets, distance, bytes_of_part(part))?;
     check_bytes(stack, region, window)?;
-    Ok(extended(part))
+    Ok(AbsVal::Number(NumberSet::any()))
 }
 
 /// The cells of the stack that a store may touch: the context is not written.
@@ -170,20 +139,13 @@ fn store_number(
 ) -> Result<(), Reason>
     ensures { let at = window_known base.0 base.1.0 base.1.1 distance (bytes_of size) in outcome result stack.new ≡ unless (write_refused base.0 at) (number_stored (bytes_of size) at stack.old) }
 {
-    let window = stack_window(base.0, base.1, distance, bytes(size))?;
-    if window.size == bytes(size) {
+    let window = stack_window(base.0, base.1, distance, size.bytes())?;
+    if window.size == size.bytes() {
         stack.put_bytes(window.place, window.size);
     } else {
         stack.spread_bytes(window.place, window.size);
     }
     Ok(())
-}
-
-/// Whether a pointer may have one offset only.
-fn is_one(offsets: Offsets) -> bool
-    ensures { IsTrue result ↔ (offsets.0 ≡ offsets.1) }
-{
-    offsets.low == offsets.high
 }
 
 /// A pointer is stored: whole, at one address, with one offset.
@@ -194,12 +156,13 @@ fn store_pointer(
     distance: i16,
     pointer: (Region, Offsets),
 ) -> Result<(), Reason>
-    ensures { let at = window_known base.0 base.1.0 base.1.1 distance 8 in outcome result stack.new ≡ unless (pointer_refused size base.0 base.1 distance pointer.1) (pointer_stored pointer.0 pointer.1.0 at stack.old) }
+    ensures { let at = window_known base.0 base.1.0 base.1.1 distance 8 in
+        outcome result stack.new ≡ unless (pointer_refused size base.0 base.1 distance pointer.1) (pointer_stored pointer.0 pointer.1.0 at stack.old) }
 {
     let Size::Double = size else {
         return Err(Reason::PointerUse);
     };
-    if !is_one(base.1) || !is_one(pointer.1) {
+    if !base.1.is_one() || !pointer.1.is_one() {
         return Err(Reason::PointerUse);
     }
     let window = stack_window(base.0, base.1, distance, 8)?;

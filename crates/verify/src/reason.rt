@@ -16,7 +16,7 @@ pub enum Reason {
     Unset,
     /// V6: the frame pointer is written.
     FrameWrite,
-    /// V7: a pointer is used as it may not be.
+    /// V7: a pointer is used as it may not be, or a number is the base of an access.
     PointerUse,
     /// V8: an access may leave its region.
     Bounds,

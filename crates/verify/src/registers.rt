@@ -1,5 +1,5 @@
 //! What is known of the registers.
-ghost use Rattle.std.specs.Prelude.{◌≡◌, slice_set};
+ghost use Rattle.std.specs.Prelude.{◌≡◌, ◌<◌, slice_set};
 ghost use Rattle.absval.specs.Table.{joined};
 ghost use Rattle.verify.specs.Registers.{known_at, operand_known, first_known, joined_all};
 ghost use Rattle.verify.specs.Knowledge.{at_entry};
@@ -27,11 +27,19 @@ pub fn at_entry() -> AbsState
     }
 }
 
+/// What is known of the register of a number.
+pub fn known_at(registers: &[AbsVal; 11], number: usize) -> AbsVal
+    requires { number < 11 }
+    ensures { result ≡ known_at registers.now number }
+{
+    registers[number]
+}
+
 /// What is known of a register.
 pub fn read(registers: &[AbsVal; 11], r: Reg) -> AbsVal
     ensures { result ≡ known_at registers.now r }
 {
-    registers[r.number() as usize]
+    known_at(registers, r.number() as usize)
 }
 
 /// What is known of an operand.

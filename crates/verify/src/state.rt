@@ -1,9 +1,11 @@
 ghost use Rattle.std.specs.Prelude.{◌≡◌};
+ghost use Rattle.verify.specs.Registers.{known_at, operand_known};
 ghost use Rattle.verify.specs.Knowledge.{met};
 
 use crate::registers;
 use absmem::AbsStack;
 use absval::AbsVal;
+use insn::{Operand, Reg};
 
 /// What is known of a program's state: of each of its eleven registers, and of its stack.
 #[derive(Debug, Drop)]
@@ -13,6 +15,20 @@ pub struct AbsState {
 }
 
 impl AbsState {
+    /// What is known of a register.
+    pub fn known(&self, r: Reg) -> AbsVal
+        ensures { result ≡ known_at self.now.registers r }
+    {
+        registers::read(&self.registers, r)
+    }
+
+    /// What is known of an operand.
+    pub fn operand(&self, operand: Operand) -> AbsVal
+        ensures { result ≡ operand_known self.now.registers operand }
+    {
+        registers::operand(&self.registers, operand)
+    }
+
     /// The same once more.
     pub fn copy(&self) -> AbsState
         ensures { result ≡ self.now }

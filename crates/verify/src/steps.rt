@@ -116,8 +116,8 @@ fn swap(state: &mut AbsState, order: ByteOrder, size: SwapSize, dst: Reg) -> Res
     put_made(state, dst, &value, made)
 }
 
-fn load_number(state: &mut AbsState, dst: Reg, number: u64) -> Result<(), Reason>
-    ensures { outcome result state.new ≡ stepped (Insn.LoadNumber dst number) state.old }
+fn load_immediate(state: &mut AbsState, dst: Reg, number: u64) -> Result<(), Reason>
+    ensures { outcome result state.new ≡ stepped (Insn.LoadImmediate dst number) state.old }
 {
     check_writable(dst)?;
     put(state, dst, AbsVal::Number(NumberSet::exactly(number)));
@@ -188,7 +188,7 @@ pub fn straight(state: &mut AbsState, insn: &Insn) -> Result<(), Reason>
             src,
         } => sign_extend(state, *width, *part, *dst, *src),
         Insn::Swap { order, size, dst } => swap(state, *order, *size, *dst),
-        Insn::LoadNumber { dst, number } => load_number(state, *dst, *number),
+        Insn::LoadImmediate { dst, number } => load_immediate(state, *dst, *number),
         Insn::Load {
             size,
             dst,

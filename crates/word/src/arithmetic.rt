@@ -25,7 +25,7 @@ pub fn alu64(operation: Operation, a: u64, b: u64) -> u64
         Operation::SignedMod => signed_remainder64(a, b),
         Operation::Xor => a ^ b,
         Operation::Move => b,
-        Operation::ShiftSigned => shifted_signed64(a, b),
+        Operation::ArithmeticShiftRight => shifted_signed64(a, b),
     }
 }
 
@@ -55,7 +55,7 @@ fn signed_remainder64(a: u64, b: u64) -> u64
 
 /// The word shifted right, its sign coming in from above.
 fn shifted_signed64(a: u64, b: u64) -> u64
-    ensures { result ≡ operated Width.W64 Operation.ShiftSigned a b }
+    ensures { result ≡ operated Width.W64 Operation.ArithmeticShiftRight a b }
 {
     (a.cast_signed() >> (b % 64)).cast_unsigned()
 }
@@ -87,7 +87,7 @@ fn operated32(operation: Operation, a: u32, b: u32) -> u32
         Operation::SignedMod => signed_remainder32(a, b),
         Operation::Xor => a ^ b,
         Operation::Move => b,
-        Operation::ShiftSigned => shifted_signed32(a, b),
+        Operation::ArithmeticShiftRight => shifted_signed32(a, b),
     }
 }
 
@@ -117,7 +117,7 @@ fn signed_remainder32(a: u32, b: u32) -> u32
 
 /// The 32 bits shifted right, its sign coming in from above.
 fn shifted_signed32(a: u32, b: u32) -> u32
-    ensures { result ≡ operated Width.W32 Operation.ShiftSigned a b }
+    ensures { result ≡ operated Width.W32 Operation.ArithmeticShiftRight a b }
 {
     (a.cast_signed() >> (b % 32)).cast_unsigned()
 }

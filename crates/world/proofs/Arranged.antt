@@ -60,7 +60,7 @@ grid_get n t (suc i) g (first ∷ rounds) row l h at here =
     let A : ℕ → Type 0 = λ u. letter_by g u (all rounds) ≡ Some l in
     row_skip 0 t g (t + suc i) first (all rounds) h.0.1 (λ e. let f = e in omega arith) ∙ subst A (let e : suc t + i ≡ t + suc i = omega arith in e) (grid_get n (suc t) i g rounds row l h.1 at here)
 
-snoc : {A : Type 0} (xs : List A) (n : ℕ) (x : A) → slice_get xs n ≡ Some x → take (suc n) xs ≡ take n xs ++ x ∷ []
+pub snoc : {A : Type 0} (xs : List A) (n : ℕ) (x : A) → slice_get xs n ≡ Some x → take (suc n) xs ≡ take n xs ++ x ∷ []
 snoc [] n x e = cc
 snoc (y ∷ xs) zero x e = (let f : y ≡ x = cc in ap (λ z. z ∷ []) f)
 snoc (y ∷ xs) (suc n) x e = ap (λ ys. y ∷ ys) (snoc xs n x e)

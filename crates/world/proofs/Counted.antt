@@ -8,7 +8,7 @@ use Rattle.label.specs.Labels.{generals, on}
 use Rattle.label.specs.Lieutenants.{lieutenants}
 use Rattle.round.specs.Scenario.{Scenario, is_traitor}
 use Rattle.world.specs.Chronicle.{of_loyal}
-use Rattle.world.specs.Verdicts.{counted}
+use Rattle.world.specs.Chronicle.{counted}
 
 -- so many traitors stand before this general
 pub record HasCounted (s : Scenario) (g traitors : ℕ) : Type 0 where

@@ -2,6 +2,7 @@
 use Rattle.std.proofs.Common.{◌≡◌, ℕ, zero, suc, ◌+◌, ◌-◌, ◌<◌, ◌≤◌, List, [], ◌∷◌, ◌++◌, length, map, drop, get_or, Bool, true, false, refl, sym, ap, ◌∙◌, ⊎_elim, Option, Some, None, arith}
 use Rattle.std.specs.Prelude.{slice_get, slice_index_or, replicate, nat_lt, filter, OnOk}
 use Rattle.std.proofs.Common.{Result, Ok, Err, subst}
+use Rattle.std.proofs.lemmas.List.Elements.{filter-append}
 use Rattle.std.proofs.lemmas.Bool.{lt-ltb, le-ltb, cases_Bool}
 use Rattle.world.specs.declared.event.Event.{Event}
 use Rattle.world.specs.declared.event.Event.TheVariants.{Post, Close}
@@ -13,12 +14,8 @@ use Rattle.world.specs.Lists.{first_line, later_lines, event_of, post_of, ticks_
 use Rattle.world.specs.Schedules.{entries_of, lines_by}
 use Rattle.world.specs.Playing.{line_events}
 use Rattle.world.proofs.Listing.{set-here}
-use Rattle.label.specs.Oral.{IsBound, Agree}
-use Rattle.round.specs.Letters.{messages}
-use Rattle.round.specs.Scenario.{IsScenario, is_traitor}
+use Rattle.round.specs.Scenario.{IsScenario}
 use Rattle.world.specs.Agreement.{IsFinished}
-use Rattle.world.specs.Chronicle.{decision}
-use Rattle.world.proofs.Agreeing.{proved_worlds_agree}
 use Rattle.world.proofs.Lasting.{listed_complete, replayed_complete}
 use Rattle.world.proofs.Punctual.{punctual_full}
 use Rattle.world.proofs.Moves.{run-append}
@@ -35,10 +32,6 @@ post_again w g (Some Posted) e = ap (λ (p : Option Part). posting w g p) e
 pub posts_once : (n : ℕ) (w : World) (g : ℕ) → run w (replicate (suc n) (Post g)) ≡ happen w (Post g)
 posts_once zero w g = refl
 posts_once (suc n) w g = (let again : happen (happen w (Post g)) (Post g) ≡ happen w (Post g) = post_again w g (slice_get w.parts g) refl in posts_once n (happen w (Post g)) g ∙ again)
-
-filter-append : (p : ℕ → Bool) (xs ys : List ℕ) → filter p (xs ++ ys) ≡ filter p xs ++ filter p ys
-filter-append p [] ys = refl
-filter-append p (x ∷ xs) ys = ⊎_elim (λ (h : p x ≡ true). rw h (ap (λ l. x ∷ l) (filter-append p xs ys))) (λ (h : p x ≡ false). rw h (filter-append p xs ys)) (cases_Bool (p x))
 
 map-append : (f : ℕ → Event) (xs ys : List ℕ) → map f (xs ++ ys) ≡ map f xs ++ map f ys
 map-append f [] ys = refl
@@ -248,7 +241,7 @@ pub replay_next : (n i : ℕ) (names : List (List ℕ)) (line : List ℕ) (w u t
     run u (replayed_rounds u (n - (i + 1)) (drop (i + 1) names)) ≡ target
 replay_next n i names line w u target lt at is left = replay_more n i names w u target lt (is ∙ ap (λ (l : List ℕ). run (run w (names_events w l)) (wound_up w.scenario)) at) left
 
--- what is listed comes to its end, and there the loyal decide alike
+-- what is listed comes to its end
 pub listed_finished : (s : Scenario) (lines : List (List ℕ)) → IsScenario s → IsFinished (run (opening s) (listed s lines))
 listed_finished s lines is =
     let complete = listed_complete s is lines in
@@ -257,12 +250,6 @@ listed_finished s lines is =
       closed = complete.closed ∙ ap (λ (t : Scenario). suc t.bound) (sym same);
       full = punctual_full s (listed s lines) complete.punctual;
     }
-
-pub listed_agree : (s : Scenario) (lines : List (List ℕ)) (w : World) → IsScenario s → w ≡ run (opening s) (listed s lines) → IsBound s.generals s.bound (is_traitor s) →
-    Agree s.generals s.commander s.order (is_traitor s) (decision s (messages w.closed))
-listed_agree s lines w is same bound =
-    let A : World → Type 0 = λ v. Agree s.generals s.commander s.order (is_traitor s) (decision s (messages v.closed)) in
-    subst A (sym same) (proved_worlds_agree.agree s (listed s lines) is (listed_finished s lines is) bound)
 
 pub played_finished : (s : Scenario) (lines : List (List ℕ)) (w : World) → IsScenario s → w ≡ run (opening s) (listed s lines) → IsFinished w
 played_finished s lines w is same = subst (λ (v : World). IsFinished v) (sym same) (listed_finished s lines is)

@@ -2,7 +2,7 @@
 use Rattle.std.proofs.Common.{◌≡◌, ◌≢◌, ℕ, zero, suc, List, [], ◌∷◌, ◌++◌, length, true, refl, sym, ap, subst, ◌∙◌, ◌⊎◌, inl, inr, ⊎_elim, Option, Some, None, arith}
 use Rattle.std.specs.Prelude.{slice_get, slice_set}
 use Rattle.world.specs.Lists.{IsMove, AreMoves}
-use Rattle.world.proofs.Listing.{set-length}
+use Rattle.std.proofs.lemmas.List.{length-set}
 use Rattle.semantics.specs.declared.request.Request.{Request}
 use Rattle.semantics.specs.Call.{fits}
 use Rattle.board.specs.Board.{IsBoard, reply}
@@ -40,8 +40,8 @@ pub then_same : (u v w : World) → SameRound u v → SameRound v w → SameRoun
 then_same u v w a b = record { scenario = b.scenario ∙ a.scenario; closed = b.closed ∙ a.closed; opened = b.opened ∙ a.opened; full = b.full ∙ a.full; count = b.count ∙ a.count }
 
 served_same : (w : World) (g : ℕ) (o : Turn) → SameRound w (served w g o)
-served_same w g (Goes a) = record { scenario = refl; closed = refl; opened = refl; full = refl; count = set-length w.parts g (Acting a) }
-served_same w g (Asks q f) = record { scenario = refl; closed = refl; opened = refl; full = refl; count = set-length w.parts g _ }
+served_same w g (Goes a) = record { scenario = refl; closed = refl; opened = refl; full = refl; count = length-set w.parts g (Acting a) }
+served_same w g (Asks q f) = record { scenario = refl; closed = refl; opened = refl; full = refl; count = length-set w.parts g _ }
 served_same w g Ended = same_round w
 
 ticked_same : (w : World) (g : ℕ) (o : Option Part) → SameRound w (ticked w g o)
@@ -53,7 +53,7 @@ ticked_same w g (Some Posted) = same_round w
 posting_same : (w : World) (g : ℕ) (o : Option Part) → SameRound w (posting w g o)
 posting_same w g None = same_round w
 posting_same w g (Some (Acting a)) = same_round w
-posting_same w g (Some Silent) = record { scenario = refl; closed = refl; opened = refl; full = refl; count = set-length w.parts g Posted }
+posting_same w g (Some Silent) = record { scenario = refl; closed = refl; opened = refl; full = refl; count = length-set w.parts g Posted }
 posting_same w g (Some Posted) = same_round w
 
 pub move_same : (w : World) (e : Event) → IsMove e → SameRound w (happen w e)

@@ -8,12 +8,13 @@ use Rattle.combine.specs.Chosen.{combined_by, chosen_is_rule}
 use Rattle.label.specs.Labels.{generals}
 use Rattle.label.specs.Oral.{IsBound}
 use Rattle.label.specs.Lieutenants.{lieutenants, AgreeInList}
+use Rattle.book.specs.Conditions.{are_alike}
 use Rattle.book.proofs.Induction.{holds}
 use Rattle.book.proofs.Listed.{listed}
 use Rattle.round.specs.Scenario.{Scenario, is_traitor}
 use Rattle.round.specs.Letters.{messages}
 use Rattle.world.specs.World.{opening, run}
-use Rattle.world.specs.Chronicle.{decisions, of_loyal, all_same, verdict_of}
+use Rattle.world.specs.Chronicle.{decisions, of_loyal, verdict_of}
 use Rattle.world.specs.Agreement.{DecisionsAgree, AreAlike, AreObedient, VerdictsMean}
 use Rattle.world.proofs.Punctual.{run_scenario}
 use Rattle.world.proofs.Agreeing.{proved_worlds_agree}
@@ -47,13 +48,13 @@ module _ (s : Scenario) where
       (λ (x : is_traitor s g ≡ false). rw x (and_from (t d) (list_all t (of_loyal s gs ds)) (h 0 (omega arith) x) rest))
       (cases_Bool (is_traitor s g))
 
-  same_one : (xs : List ℕ) → all_same xs ≡ true → (d : ℕ) × (list_all (λ e. e == d) xs ≡ true)
+  same_one : (xs : List ℕ) → are_alike xs ≡ true → (d : ℕ) × (list_all (λ e. e == d) xs ≡ true)
   same_one [] h = (0, refl)
   same_one (d ∷ ds) h = (d, and_from (d == d) (list_all (λ e. e == d) ds) (eq-eqb d d refl) h)
 
   loyal_same : (gs ds : List ℕ) → length ds ≡ length gs
       → ((i j : ℕ) → i < length gs → is_traitor s (slice_index gs i) ≡ false → j < length gs → is_traitor s (slice_index gs j) ≡ false → slice_index ds i ≡ slice_index ds j)
-      → all_same (of_loyal s gs ds) ≡ true
+      → are_alike (of_loyal s gs ds) ≡ true
   loyal_same [] ds e h = refl
   loyal_same (g ∷ gs) [] e h = refl
   loyal_same (g ∷ gs) (d ∷ ds) e h =

@@ -1,6 +1,7 @@
 -- How code makes a close: what it takes memory for before it changes anything, the letters as far as they take any, and the next parts (own).
 -- No claim rests on this: what a close does, World.antt says.
 use Rattle.std.specs.Prelude.{ℕ, suc, ◌≡◌, nat_lt, cond, List, [], ◌∷◌, replicate, slice_get, Option, None, Some}
+use Rattle.semantics.specs.Limits.{context_size}
 use Rattle.insn.specs.declared.insn.Insn.{Insn}
 use Rattle.board.specs.Board.{Access}
 use Rattle.semantics.specs.Relay.{oral}
@@ -41,7 +42,7 @@ AreDraftsOf round drafts parts = (g : ℕ) (transcript : List Access) (a : Activ
 
 -- a context in which nothing is told
 unfoldable pub zeros : List ℕ
-zeros = replicate 4096 0
+zeros = replicate context_size 0
 
 -- how a general begins the round behind so many before he is told anything
 abbrev pub blank : Scenario → ℕ → ℕ → Option (List Insn) → Part

@@ -13,4 +13,3 @@ pub mod Refusals
 pub mod Playing
 pub mod Held
 pub mod Closing
-pub mod Verdicts

@@ -120,7 +120,7 @@ abbrev pub run : World → List Event → World
 run w [] = w
 run w (e ∷ events) = run (happen w e) events
 
--- why an event is refused: all rounds are closed, or there is no such general, or he is not of that kind
+-- that there is no such general, or he is not of that kind
 abbrev pub unfit : Event → Option Part → Option EventError
 unfit (Tick g) (Some (Acting a)) = None
 unfit (Post g) (Some Silent) = None
@@ -128,10 +128,12 @@ unfit (Post g) (Some Posted) = None
 unfit Close part = None
 unfit _ _ = Some NoGeneral
 
+-- the general of an event; of a close none, told as 0
 abbrev pub named_by : Event → ℕ
 named_by (Tick g) = g
 named_by (Post g) = g
 named_by Close = 0
 
+-- why an event is refused: all rounds are closed, or there is no such general, or he is not of that kind
 abbrev pub refusal : World → Event → Option EventError
 refusal w e = cond (round_open w.scenario w.closed) (unfit e (slice_get w.parts (named_by e))) (Some NotOpen)

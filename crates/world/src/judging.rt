@@ -2,10 +2,10 @@
 ghost use Rattle.std.specs.Prelude.{◌≡◌, ◌<◌, ◌*◌, ◌++◌, ◌==◌, ◌&&◌, length, cond, None, Some, count_by, nat_lt, nat_le, slice_get};
 ghost use Rattle.std.specs.List.{list_all};
 ghost use Rattle.label.specs.Labels.{generals};
+ghost use Rattle.book.specs.Conditions.{are_alike};
 ghost use Rattle.label.specs.Lieutenants.{lieutenants};
 ghost use Rattle.round.specs.Scenario.{is_traitor};
-ghost use Rattle.world.specs.Chronicle.{of_loyal, all_same, verdict_of};
-ghost use Rattle.world.specs.Verdicts.{counted};
+ghost use Rattle.world.specs.Chronicle.{counted, of_loyal, verdict_of};
 
 use crate::verdict::Verdict;
 use arrayvec::ArrayVec;
@@ -25,7 +25,7 @@ pub(crate) fn verdict(scenario: &Scenario, decisions: &[u32]) -> Verdict
 
 /// Whether all these decisions of loyal lieutenants are one.
 fn alike(loyal: &[u32]) -> bool
-    ensures { result ≡ all_same loyal.now }
+    ensures { result ≡ are_alike loyal.now }
 {
     match loyal.split_first() {
         Some((first, rest)) => are_all(rest, *first),

@@ -1,11 +1,8 @@
 //! Campaigns from a scenario to their end.
 ghost use Rattle.std.specs.Prelude.{◌≡◌, ◌<◌, [], IfOk, OnOk, replicate, slice_get, slice_index_or};
 ghost use Rattle.world.specs.declared.event.Event.TheVariants.{Tick, Post, Close};
-ghost use Rattle.label.specs.Oral.{Agree, IsBound};
-ghost use Rattle.round.specs.Letters.{messages};
-ghost use Rattle.round.specs.Scenario.{is_traitor, program_of};
+ghost use Rattle.round.specs.Scenario.{program_of};
 ghost use Rattle.world.specs.Agreement.{IsFinished};
-ghost use Rattle.world.specs.Chronicle.{decision};
 ghost use Rattle.world.specs.World.{each, opening, happen, run};
 ghost use Rattle.world.specs.Lists.{event_of, post_of, ticks_of, wound_up, listed, replayed, ticks_named, names_events};
 ghost use Rattle.world.specs.Schedules.{entries_of, lines_by};
@@ -197,8 +194,6 @@ impl World {
     ) -> Result<World, AllocError>
         ensures listed { IfOk result (λ world. world ≡ run (opening scenario) (listed scenario (lines_by schedule.now))) }
         ensures finished { IfOk result IsFinished }
-        ensures agree { IfOk result (λ world. IsBound scenario.generals scenario.bound (is_traitor scenario) →
-            Agree scenario.generals scenario.commander scenario.order (is_traitor scenario) (decision scenario (messages world.closed))) }
     {
         scenario.recall();
         let mut world = World::open(alloc, scenario)?;

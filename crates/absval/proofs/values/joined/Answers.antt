@@ -1,4 +1,4 @@
-use Rattle.std.proofs.Common.{arith, rules}
+use Rattle.std.proofs.Common.{rules}
 use Rattle.absval.proofs.Near.{join_near}
 use Rattle.absval.proofs.values.joined.Goals as goal
 

@@ -1,8 +1,9 @@
-use Rattle.std.proofs.Common.{pos, ◌+◌, ◌≤◌, ℤ, ◌+ℤ◌, sym, ap₂, ◌∙◌, arith}
+use Rattle.std.proofs.Common.{pos, ◌+◌, ◌≤◌, ℤ, ◌+ℤ◌, ap₂, ◌∙◌, arith}
 use Rattle.std.specs.Int.{w16, w32}
 use Rattle.std.proofs.lemmas.Int.{to_z-of_z}
-use Rattle.absval.specs.Windows.{room_of, base_of}
-use Rattle.absval.proofs.Inside.{window_lies, window_place}
+use Rattle.semantics.specs.Memory.{room_of}
+use Rattle.absval.specs.Windows.{base_of}
+use Rattle.absval.proofs.Inside.{window_lies}
 use Rattle.absval.proofs.windows.window_between.Goals as goal
 
 pub returns-clause-holds : goal.returns-clause-holds
@@ -11,13 +12,3 @@ returns-clause-holds c o ge le =
     window_lies c.args.region c.args.size c.in_ok-first.first c.in_ok-last.last c.args.low c.args.high o c.args.distance
     (c.in_ok-first.ensures.place ∙ ap₂ (λ (y z : ℤ). (y +ℤ z) +ℤ pos (base_of c.args.region)) (to_z-of_z w32 c.args.low c.ranges.low) (to_z-of_z w16 c.args.distance c.ranges.distance))
     (c.in_ok-last.ensures.place ∙ ap₂ (λ (y z : ℤ). (y +ℤ z) +ℤ pos (base_of c.args.region)) (to_z-of_z w32 c.args.high c.ranges.high) (to_z-of_z w16 c.args.distance c.ranges.distance)) ge le fits
-
-pub returns-in_err-first-clause-there : goal.returns-in_err-first-clause-there
-returns-in_err-first-clause-there c le one other =
-    let there = window_place c.args.region c.args.size (c.args.low +ℤ c.args.distance) one in
-    absurd (c.in_err-first.ensures.none there.0 there.1 (there.2 ∙ sym (ap₂ (λ (y z : ℤ). (y +ℤ z) +ℤ pos (base_of c.args.region)) (to_z-of_z w32 c.args.low c.ranges.low) (to_z-of_z w16 c.args.distance c.ranges.distance))))
-
-pub returns-in_err-last-clause-there : goal.returns-in_err-last-clause-there
-returns-in_err-last-clause-there c le one other =
-    let there = window_place c.args.region c.args.size (c.args.high +ℤ c.args.distance) other in
-    absurd (c.in_err-last.ensures.none there.0 there.1 (there.2 ∙ sym (ap₂ (λ (y z : ℤ). (y +ℤ z) +ℤ pos (base_of c.args.region)) (to_z-of_z w32 c.args.high c.ranges.high) (to_z-of_z w16 c.args.distance c.ranges.distance))))

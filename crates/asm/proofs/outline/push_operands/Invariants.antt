@@ -1,7 +1,6 @@
 use Rattle.std.proofs.Common.{◌≡◌, map}
 use Rattle.text.specs.Stop.{comma}
-use Rattle.text.specs.Parts.{pieces}
-use Rattle.asm.specs.Keeping.{left, left_len}
+use Rattle.text.specs.Parts.{pieces, left, left_len}
 use Rattle.asm.specs.Line.{tokens_on}
 use Rattle.asm.proofs.outline.push_operands.Given as goal
 

@@ -1,4 +1,4 @@
-use Rattle.book.specs.Reading.{left_len}
+use Rattle.text.specs.Parts.{left_len}
 use Rattle.book.proofs.placing.+prolonged.Given as goal
 
 abbrev pub decreases-prolonged : goal.decreases-prolonged

@@ -3,11 +3,11 @@ use Rattle.std.proofs.lemmas.Grind.{common_steps}
 use Rattle.codec.proofs.ProgramLemmas.{read_more, first_fault_here}
 use Rattle.codec.proofs.decoder.instructions.Goals as goal
 
-pub loop-unit-preserved-in-Ok-LoadNumber : goal.loop-unit-preserved-in-Ok-LoadNumber
-loop-unit-preserved-in-Ok-LoadNumber c =
-    read_more c.args.bytes.now c.loop-unit.instructions.items c.push.new.self.items c.loop-unit.unit (c.loop-unit.unit + 2) c.args.units c.in-Ok-LoadNumber.wide _
-    c.requires.whole c.loop-unit.invariant refl c.in-Ok-LoadNumber.ensures.well_formed c.in-Ok-LoadNumber.ensures.inside c.in-Ok-LoadNumber.ensures.found
-    c.in_ok-push-in-Ok-LoadNumber.ensures.items (grind (arith, common_steps))
+pub loop-unit-preserved-in-Ok-LoadImmediate : goal.loop-unit-preserved-in-Ok-LoadImmediate
+loop-unit-preserved-in-Ok-LoadImmediate c =
+    read_more c.args.bytes.now c.loop-unit.instructions.items c.push.new.self.items c.loop-unit.unit (c.loop-unit.unit + 2) c.args.units c.in-Ok-LoadImmediate.wide _
+    c.requires.whole c.loop-unit.invariant refl c.in-Ok-LoadImmediate.ensures.well_formed c.in-Ok-LoadImmediate.ensures.inside c.in-Ok-LoadImmediate.ensures.found
+    c.in_ok-push-in-Ok-LoadImmediate.ensures.items (grind (arith, common_steps))
 
 pub loop-unit-preserved : goal.loop-unit-preserved
 loop-unit-preserved c =

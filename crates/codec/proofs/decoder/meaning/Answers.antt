@@ -44,11 +44,11 @@ returns-in-Swap-clause-found c = one_unit c.swap.result c.args.fields c.args.beh
 pub returns-in-Swap-clause-fault : goal.returns-in-Swap-clause-fault
 returns-in-Swap-clause-fault c = form_fault (forms.Swap c.in-Swap.order) c.form_at.result c.swap.result c.args.fields c.args.behind.now c.in-Swap.is c.form_at.ensures.form (c.swap.ensures.fault c.args.behind.now)
 
-pub returns-in-LoadNumber-clause-found : goal.returns-in-LoadNumber-clause-found
-returns-in-LoadNumber-clause-found c = two_units c.load_number.result c.args.fields c.args.behind.now c.load_number.ensures.found
+pub returns-in-LoadImmediate-clause-found : goal.returns-in-LoadImmediate-clause-found
+returns-in-LoadImmediate-clause-found c = two_units c.load_immediate.result c.args.fields c.args.behind.now c.load_immediate.ensures.found
 
-pub returns-in-LoadNumber-clause-fault : goal.returns-in-LoadNumber-clause-fault
-returns-in-LoadNumber-clause-fault c = form_fault forms.LoadNumber c.form_at.result c.load_number.result c.args.fields c.args.behind.now c.in-LoadNumber.is c.form_at.ensures.form c.load_number.ensures.fault
+pub returns-in-LoadImmediate-clause-fault : goal.returns-in-LoadImmediate-clause-fault
+returns-in-LoadImmediate-clause-fault c = form_fault forms.LoadImmediate c.form_at.result c.load_immediate.result c.args.fields c.args.behind.now c.in-LoadImmediate.is c.form_at.ensures.form c.load_immediate.ensures.fault
 
 pub returns-in-Jump-clause-found : goal.returns-in-Jump-clause-found
 returns-in-Jump-clause-found c = one_unit c.near.result c.args.fields c.args.behind.now c.near.ensures.found

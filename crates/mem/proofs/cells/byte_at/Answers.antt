@@ -5,4 +5,4 @@ use Rattle.mem.proofs.cells.byte_at.Goals as goal
 
 pub returns-in_default : goal.returns-in_default
 returns-in_default c =
-    byte_none c.args.stack.now c.args.place c.cell.result (omega (arith, c.requires, c.tell.ensures)) c.cell.ensures c.in_default.not-Byte
+    byte_none c.args.stack.now c.args.place c.cell.result (omega (arith, c.requires, c.recall.ensures)) c.cell.ensures c.in_default.not-Byte

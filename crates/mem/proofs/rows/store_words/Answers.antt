@@ -9,7 +9,7 @@ loop-i-init c = sym (none_written c.args.stack.now c.in-Ok.place)
 pub loop-i-preserved : goal.loop-i-preserved
 loop-i-preserved c =
     c.put_number.ensures
-    ∙ word_written c.args.stack.now c.loop-i.stack c.in-Ok.place c.loop-i.i c.args.words.now c.tell.ensures c.in-Ok.ensures.fits c.loop-i-test.true c.loop-i.invariant
+    ∙ word_written c.args.stack.now c.loop-i.stack c.in-Ok.place c.loop-i.i c.args.words.now c.recall.ensures c.in-Ok.ensures.fits c.loop-i-test.true c.loop-i.invariant
 
 pub returns : goal.returns
 returns c =

@@ -10,7 +10,7 @@ invariant-loop-poster l = record {
   takes : (view l.pass).takes ≡ true;
   letters : (view l.pass).letters ≡ (view l.fn.pass).letters;
   back : map (λ p. posted p.general p.posted) l.fn.posters.items ≡ map (λ p. posted p.general p.posted) l.posters.items ++ (view l.pass).back;
-  posts : All (λ p. p.post ≡ l.queue.table.shared.table_id) l.posters.items;
+  posts : All (λ p. p.table ≡ l.queue.table.shared.table_id) l.posters.items;
 }
 
 abbrev pub decreases-loop-poster : goal.decreases-loop-poster

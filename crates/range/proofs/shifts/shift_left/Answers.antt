@@ -1,7 +1,6 @@
-use Rattle.std.proofs.Common.{ℕ, ap, ◌≤◌, ◌≡◌, ◌^◌, ◌%◌, arith, ◌∙◌, sym}
+use Rattle.std.proofs.Common.{ℕ, ap, ◌≡◌, ◌^◌, ◌%◌, arith, ◌∙◌, sym}
 use Rattle.std.proofs.lemmas.Nat.{pow_pos}
-use Rattle.word.specs.Arithmetic.{bits_of}
-use Rattle.range.proofs.Growth.{shifted_over, shifted_within, passes, stays}
+use Rattle.range.proofs.Growth.{shifted_over, passes}
 use Rattle.range.proofs.shifts.shift_left.Goals as goal
 
 pub returns-then-a-greatest-clause-exact : goal.returns-then-a-greatest-clause-exact
@@ -13,16 +12,3 @@ returns-then-a-greatest-clause-exact c =
     let h = passes c.a.inside.hi c.greatest.result (2 ^ (c.b.inside.lo % c.bit_count.result)) (pow_pos _) (omega arith) in
     let g = rw c.bit_count.ensures at h in
     c.of_width-then-a-greatest.ensures.exact ∙ sym (shifted_over c.args.width c.args.a.0 c.args.a.1 c.args.b.0 c.args.b.1 (rw (← ah, ← bl) (omega arith)))
-
-pub returns-clause-holds : goal.returns-clause-holds
-returns-clause-holds c = λ x y p q.
-    let ah : c.a.inside.hi ≡ c.args.a.1 = ap (λ (v : ℕ × ℕ). v.1) c.a.view_is in
-    let al : c.a.inside.lo ≡ c.args.a.0 = ap (λ (v : ℕ × ℕ). v.0) c.a.view_is in
-    let bh : c.b.inside.hi ≡ c.args.b.1 = ap (λ (v : ℕ × ℕ). v.1) c.b.view_is in
-    let bl : c.b.inside.lo ≡ c.args.b.0 = ap (λ (v : ℕ × ℕ). v.0) c.b.view_is in
-    let e : y ≡ c.b.inside.lo = omega arith in
-    let least : c.a.inside.lo ≤ x = omega arith in
-    let most : x ≤ c.a.inside.hi = omega arith in
-    let h = stays c.a.inside.hi c.greatest.result (2 ^ (c.b.inside.lo % c.bit_count.result)) (pow_pos _) (omega arith) in
-    let g = rw c.bit_count.ensures at h in
-    rw (e, c.bit_count.ensures) (shifted_within c.a.inside.lo x c.a.inside.hi (2 ^ (c.b.inside.lo % bits_of c.args.width)) (2 ^ bits_of c.args.width) least most (omega arith) (omega arith))

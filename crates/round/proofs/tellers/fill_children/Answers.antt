@@ -4,7 +4,7 @@ use Rattle.std.specs.Prelude.{slice_get, slice_index}
 use Rattle.std.specs.Borrow.{Bor}
 use Rattle.std.proofs.lemmas.Option.{slice_get_within}
 use Rattle.outbox.specs.Rows.{RowOrders, order_in}
-use Rattle.round.specs.Delivery.{past}
+use Rattle.round.specs.Told.{lieutenant_at}
 use Rattle.round.proofs.Delivering.{told_each}
 use Rattle.round.proofs.Naming.{tells_past}
 use Rattle.round.proofs.Walking.{children_fit, row_fits, told_ends, under_one, suc_times}
@@ -41,7 +41,7 @@ returns c row places walk a =
     (λ place v w there stands.
     let inside : place < length run.0 = slice_get_within run.0 place v there in
     let within : place < width = omega arith in
-    let answer : (r : Bor RowOrders) → slice_get c.args.rows.now (past c.args.own place) ≡ Some r → v ≡ order_in c.space-space.result.general r.now = (λ r at. let p = run.1.each place v there in search rules) in
+    let answer : (r : Bor RowOrders) → slice_get c.args.rows.now (lieutenant_at c.args.own place) ≡ Some r → v ≡ order_in c.space-space.result.general r.now = (λ r at. let p = run.1.each place v there in search rules) in
     tells_past t row places c.args.size f walk sp.kind c.args.own c.args.rows.now a last start width place ew ef within v
     (λ r at. answer r at ∙ ap (λ (g : ℕ). order_in g r.now) sp.general) w stands)
     (omega arith) run.2 in

@@ -6,5 +6,5 @@ abbrev pub invariant-loop-round : goal.invariant-loop-round
 invariant-loop-round g l = record {
   told : WasTold l.scenario l.rows.items l.told;
   long : length l.rows.items ≡ l.round;
-  post : l.collector.post ≡ l.camp.post.post;
+  post : l.collector.table ≡ l.camp.post.table;
 }

@@ -6,8 +6,8 @@ use Rattle.round.specs.Letters.{Letter}
 use Rattle.round.specs.Told.{AreLettersOf}
 use Rattle.threads.proofs.gathering.deliver_all.Goals as goal
 
-pub returns-then-not-are_of_round : goal.returns-then-not-are_of_round
-returns-then-not-are_of_round c are =
+pub returns-then-not-are_letters_of : goal.returns-then-not-are_letters_of
+returns-then-not-are_letters_of c are =
     let s = c.args.scenario.now in
     let i = c.loop-row.row-index in
     let row : List Letter = c.row-item.result in
@@ -16,5 +16,5 @@ returns-then-not-are_of_round c are =
     let long : length (take i c.args.rows.now) ≡ i = length-take-le i c.args.rows.now (omega arith) in
     let e : suc i ≡ c.from-round.result + 1 = (let a = c.loop-row.invariant.rounds in let b = c.rounds.ensures in let d = c.from-round.ensures in omega arith) in
     let mine : AreLettersOf s (c.from-round.result + 1) row = (let A : ℕ → Type 0 = λ n. AreLettersOf s n row in subst A e (are i row at)) in
-    let none = c.if-not-are_of_round.ensures.1 (subst (λ (ls : List Letter). AreLettersOf s (c.from-round.result + 1) ls) (sym c.letters.ensures) mine) in
+    let none = c.if-not-are_letters_of.ensures.1 (subst (λ (ls : List Letter). AreLettersOf s (c.from-round.result + 1) ls) (sym c.letters.ensures) mine) in
     cc

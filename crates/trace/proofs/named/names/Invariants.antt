@@ -1,9 +1,8 @@
 use Rattle.std.proofs.Common.{◌≡◌, ◌<◌, ◌++◌, length, map}
 use Rattle.text.specs.Stop.{space, feed}
-use Rattle.text.specs.Parts.{pieces}
+use Rattle.text.specs.Parts.{left_len, pieces}
 use Rattle.world.specs.Playing.{lists_in}
 use Rattle.trace.specs.Names.{named}
-use Rattle.trace.specs.Left.{left_len}
 use Rattle.trace.specs.Marks.{all_names, behind, lines_left}
 use Rattle.trace.proofs.named.names.Given as goal
 

@@ -1,7 +1,6 @@
 use Rattle.std.proofs.Common.{◌≡◌, ◌+◌, ◌≤◌, length}
 use Rattle.text.specs.Stop.{feed}
-use Rattle.text.specs.Parts.{pieces}
-use Rattle.trace.specs.Left.{left_len}
+use Rattle.text.specs.Parts.{left_len, pieces}
 use Rattle.trace.specs.Marks.{lines_left}
 use Rattle.trace.specs.Shapes.{unshaped_from}
 use Rattle.trace.proofs.shapes.unshaped.Given as goal

@@ -2,4 +2,4 @@ use Rattle.std.proofs.Common.{◌≡◌}
 use Rattle.threads.proofs.resident.Resident.do_tasks.Given as goal
 
 abbrev pub invariant-loop : goal.invariant-loop
-invariant-loop g l = (l.poster.post ≡ l.post.post) × (l.poster.general ≡ l.self.general)
+invariant-loop g l = (l.poster.table ≡ l.post.table) × (l.poster.general ≡ l.self.general)

@@ -2,22 +2,13 @@
 use Rattle.std.proofs.Common.{rules, ◌≡◌, ◌+◌, ◌-◌, ℕ, zero, suc, List, [], ◌∷◌, ◌++◌, length, take, drop, None, Option, refl, sym, ap, ◌∙◌, append_assoc, length-drop, arith}
 use Rattle.std.proofs.lemmas.List.{append-nil, take_all}
 use Rattle.std.specs.Prelude.{option_to_list}
+use Rattle.mem.proofs.Parts.{take-split}
 use Rattle.trace.specs.Compared.{taken}
 use Rattle.trace.proofs.comparing.ComparisonSink.put.Goals as goal
 
-take_none : (n : ℕ) → take {A = ℕ} n [] ≡ []
-take_none zero = refl
-take_none (suc n) = refl
-
-take_both : (k n m : ℕ) (xs : List ℕ) → m ≡ k + n → take m xs ≡ take k xs ++ take n (drop k xs)
-take_both zero n m xs e = (let same : m ≡ n = omega arith in ap (λ (j : ℕ). take j xs) same)
-take_both (suc k) n zero xs e = absurd (omega arith)
-take_both (suc k) n (suc m) [] e = sym (take_none n)
-take_both (suc k) n (suc m) (x ∷ xs) e = ap (λ (l : List ℕ). x ∷ l) (take_both k n m xs (omega arith))
-
 taken_more : (text piece : List ℕ) (same n : ℕ) (other : Option ℕ) → other ≡ None → take n (drop same text) ≡ take n piece → taken text (same + n) other ≡ taken text same other ++ take n piece
 taken_more text piece same n other none alike =
-    let more : take (same + n) text ≡ take same text ++ take n piece = take_both same n (same + n) text refl ∙ ap (λ (l : List ℕ). take same text ++ l) alike in
+    let more : take (same + n) text ≡ take same text ++ take n piece = take-split same n text ∙ ap (λ (l : List ℕ). take same text ++ l) alike in
     let whole : take (same + n) text ++ option_to_list other ≡ take (same + n) text = ap (λ (o : Option ℕ). take (same + n) text ++ option_to_list o) none ∙ append-nil (take (same + n) text) in
     let front : take same text ++ option_to_list other ≡ take same text = ap (λ (o : Option ℕ). take same text ++ option_to_list o) none ∙ append-nil (take same text) in
     whole ∙ (more ∙ ap (λ (l : List ℕ). l ++ take n piece) (sym front))

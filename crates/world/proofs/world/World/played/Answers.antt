@@ -4,7 +4,7 @@ use Rattle.world.specs.World.{opening, run}
 use Rattle.std.proofs.Common.{◌≡◌, drop}
 use Rattle.world.specs.Lists.{listed}
 use Rattle.world.specs.Schedules.{lines_by}
-use Rattle.world.proofs.Listed.{play_next, play_last, played_finished, listed_agree}
+use Rattle.world.proofs.Listed.{play_next, play_last, played_finished}
 use Rattle.world.proofs.world.World.played.Goals as goal
 
 pub loop-round-preserved : goal.loop-round-preserved
@@ -19,10 +19,3 @@ returns-clause-finished c =
     let same : c.loop-round.world ≡ run (opening c.args.scenario) (listed c.args.scenario lines) =
     play_last c.args.scenario (c.from-rounds.result + 1) c.loop-round.round (lines_by (drop c.loop-round.round c.args.schedule.now)) c.loop-round.world _ c.loop-round-test.false c.loop-round.invariant.left in
     played_finished c.args.scenario lines c.loop-round.world c.recall.ensures same
-
-pub returns-clause-agree : goal.returns-clause-agree
-returns-clause-agree c =
-    let lines = lines_by c.args.schedule.now in
-    let same : c.loop-round.world ≡ run (opening c.args.scenario) (listed c.args.scenario lines) =
-    play_last c.args.scenario (c.from-rounds.result + 1) c.loop-round.round (lines_by (drop c.loop-round.round c.args.schedule.now)) c.loop-round.world _ c.loop-round-test.false c.loop-round.invariant.left in
-    listed_agree c.args.scenario lines c.loop-round.world c.recall.ensures same

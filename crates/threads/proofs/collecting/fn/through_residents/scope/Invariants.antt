@@ -6,7 +6,7 @@ abbrev pub invariant-loop-poster : goal.invariant-loop-poster
 invariant-loop-poster g l = record {
   few : length l.posters.items < 256;
   inboxes : length l.posters.items ≤ length l.camp.now.inboxes.items;
-  each : (g : ℕ) (d : PosterSeen) → g < length l.posters.items → slice_index_or l.posters.items g d ≡ poster_seen l.camp.now.post.post g [];
+  each : (g : ℕ) (d : PosterSeen) → g < length l.posters.items → slice_index_or l.posters.items g d ≡ poster_seen l.camp.now.post.table g [];
 }
 
 abbrev pub decreases-loop-poster : goal.decreases-loop-poster
