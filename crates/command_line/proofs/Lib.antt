@@ -5,7 +5,6 @@ pub mod CallLemmas
 pub mod FileLemmas
 pub mod FlagRules
 pub mod FlaggedLemmas
-pub mod GeneralsLemmas
 pub mod LevelLemmas
 pub mod MetLemmas
 pub mod NameLemmas

@@ -1,7 +1,7 @@
 -- What an instruction misses where it is refused, from what is known there (own).
 use Rattle.std.specs.Prelude.{ℕ, ℤ, pos, negsuc, zero, suc, ◌+◌, ◌*◌, ◌^◌, ◌-◌, ◌+ℤ◌, ◌-ℤ◌, ◌&&◌, nat_lt, nat_le, int_le, Bool, true, false, if◌then◌else◌, List, [], ◌∷◌, Option, Some, None, option_map, option_and_then}
 use Rattle.std.specs.Option.{option_or}
-use Rattle.semantics.specs.Limits.{stack_size}
+use Rattle.semantics.specs.Limits.{board_words, stack_size}
 use Rattle.word.specs.declared.Width.{Width}
 use Rattle.word.specs.declared.Width.TheVariants.{W64}
 use Rattle.word.specs.declared.Operation.{Operation}
@@ -9,6 +9,8 @@ use Rattle.word.specs.declared.Operation.TheVariants.{Add, Sub}
 use Rattle.insn.specs.declared.insn.Insn.{Insn}
 use Rattle.insn.specs.declared.insn.Insn.TheVariants.{Arithmetic, Load, LoadSigned, Store, Call}
 use Rattle.insn.specs.declared.insn.Operand.{Operand}
+use Rattle.insn.specs.declared.insn.Size.{Size}
+use Rattle.insn.specs.declared.insn.Size.TheVariants.{Word, Double}
 use Rattle.insn.specs.Insn.{bytes_of, part_bytes}
 use Rattle.semantics.specs.declared.value.Region.{Region}
 use Rattle.semantics.specs.declared.value.Region.TheVariants.{Stack}
@@ -121,14 +123,14 @@ pointer_misuse i registers = first_pointer registers (read_by i)
 
 -- ---- accesses
 
--- a call's window, from r2 on: so many bytes for each word or order
-abbrev pub counted : ℕ → AbsVal → Option Reach
-counted size (Number n) = if nat_le (greatest n) 64 then Some (record { base = 2; distance = pos 0; size = size * greatest n }) else None
+-- a call's window, from r2 on: a word of the board or an order for each of the count
+abbrev pub counted : Size → AbsVal → Option Reach
+counted size (Number n) = if nat_le (greatest n) board_words then Some (record { base = 2; distance = pos 0; size = bytes_of size * greatest n }) else None
 counted size _ = None
 
 abbrev pub call_reach : Option Helper → AbsVal → Option Reach
-call_reach (Some BoardCopy) count = counted 8 count
-call_reach (Some SendRow) count = counted 4 count
+call_reach (Some BoardCopy) count = counted Double count
+call_reach (Some SendRow) count = counted Word count
 call_reach _ count = None
 
 -- through which register, from where on and how many bytes are accessed
@@ -181,7 +183,7 @@ misfit_at registers r (Some argument) = misfit_of r (bound_of argument) (known_a
 -- slot and count together
 abbrev pub past_board : AbsVal → AbsVal → Option Sentence
 past_board (Number slots) (Number counts) =
-    if nat_le (greatest slots) 64 && nat_le (greatest counts) 64 then Some (sentence.Call (misfit.Board (greatest slots + greatest counts))) else None
+    if nat_le (greatest slots) board_words && nat_le (greatest counts) board_words then Some (sentence.Call (misfit.Board (greatest slots + greatest counts))) else None
 past_board _ _ = None
 
 abbrev pub arguments_misfit : List AbsVal → List (Option Argument) → Option Sentence

@@ -7,7 +7,7 @@ ghost use Rattle.explain.specs.Shortfalls.{misfit_of, misfit_at, past_board, arg
 use crate::reads::numbered;
 use crate::sentence::{Misfit, Sentence};
 use absval::{AbsVal, NumberSet};
-use helper::Argument;
+use helper::{Argument, BOARD_WORDS};
 use insn::{Insn, Reg};
 use verify::AbsState;
 
@@ -52,7 +52,7 @@ fn past_board(slots: AbsVal, counts: AbsVal) -> Option<Sentence>
     let AbsVal::Number(counts) = counts else {
         return None;
     };
-    if slots.greatest() > 64 || counts.greatest() > 64 {
+    if slots.greatest() > BOARD_WORDS || counts.greatest() > BOARD_WORDS {
         return None;
     }
     let sum = slots.greatest() + counts.greatest();

@@ -6,8 +6,8 @@ ghost use Rattle.explain.specs.Shortfalls.{counted, call_reach, reach_of, touche
 use crate::reads::numbered;
 use crate::values::{Span, between};
 use absval::{AbsVal, Offsets};
-use helper::Helper;
-use insn::{Insn, Reg, bytes_of_part};
+use helper::{BOARD_WORDS, Helper};
+use insn::{Insn, Reg, Size, bytes_of_part};
 use verify::AbsState;
 use word::Narrow;
 
@@ -19,22 +19,21 @@ pub(crate) struct Reach {
     pub size: usize,
 }
 
-/// So many bytes for each of a count, from r2 on.
-fn counted(size: usize, count: AbsVal) -> Option<Reach>
-    requires { size ≤ 8 }
+/// A word or an order for each of a count, from r2 on.
+fn counted(size: Size, count: AbsVal) -> Option<Reach>
     ensures reach { result ≡ counted size count }
     ensures few { IfSome result (λ reach. reach.size ≤ 512) }
 {
     let AbsVal::Number(numbers) = count else {
         return None;
     };
-    if numbers.greatest() > 64 {
+    if numbers.greatest() > BOARD_WORDS {
         return None;
     }
     Some(Reach {
         base: numbered(2),
         distance: 0,
-        size: size * numbers.greatest() as usize,
+        size: size.bytes() * numbers.greatest() as usize,
     })
 }
 
@@ -44,8 +43,8 @@ fn call_reach(number: i32, count: AbsVal) -> Option<Reach>
     ensures few { IfSome result (λ reach. reach.size ≤ 512) }
 {
     match helper::helper_of(number) {
-        Some(Helper::BoardCopy) => counted(8, count),
-        Some(Helper::SendRow) => counted(4, count),
+        Some(Helper::BoardCopy) => counted(Size::Double, count),
+        Some(Helper::SendRow) => counted(Size::Word, count),
         _ => None,
     }
 }

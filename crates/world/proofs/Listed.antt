@@ -2,6 +2,7 @@
 use Rattle.std.proofs.Common.{◌≡◌, ℕ, zero, suc, ◌+◌, ◌-◌, ◌<◌, ◌≤◌, List, [], ◌∷◌, ◌++◌, length, map, drop, get_or, Bool, true, false, refl, sym, ap, ◌∙◌, ⊎_elim, Option, Some, None, arith}
 use Rattle.std.specs.Prelude.{slice_get, slice_index_or, replicate, nat_lt, filter, OnOk}
 use Rattle.std.proofs.Common.{Result, Ok, Err, subst}
+use Rattle.std.proofs.lemmas.List.{map-append}
 use Rattle.std.proofs.lemmas.List.Elements.{filter-append}
 use Rattle.std.proofs.lemmas.Bool.{lt-ltb, le-ltb, cases_Bool}
 use Rattle.world.specs.declared.event.Event.{Event}
@@ -32,10 +33,6 @@ post_again w g (Some Posted) e = ap (λ (p : Option Part). posting w g p) e
 pub posts_once : (n : ℕ) (w : World) (g : ℕ) → run w (replicate (suc n) (Post g)) ≡ happen w (Post g)
 posts_once zero w g = refl
 posts_once (suc n) w g = (let again : happen (happen w (Post g)) (Post g) ≡ happen w (Post g) = post_again w g (slice_get w.parts g) refl in posts_once n (happen w (Post g)) g ∙ again)
-
-map-append : (f : ℕ → Event) (xs ys : List ℕ) → map f (xs ++ ys) ≡ map f xs ++ map f ys
-map-append f [] ys = refl
-map-append f (x ∷ xs) ys = ap (λ l. f x ∷ l) (map-append f xs ys)
 
 -- the entries of one general, and those behind them
 pub line_step : (s : Scenario) (w v : World) (r : Repeat) (rest : List Repeat) → v ≡ run w (line_events s (replicate r.times r.general)) →
