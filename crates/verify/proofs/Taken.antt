@@ -48,12 +48,3 @@ length-passed_at unit (Some i) None reached next e = let same : reached ≡ next
 length-passed_at unit (Some i) (Some a) reached next e =
     settled_length (reason_of i a) unit (along_all (edges i unit a) (slice_set reached unit None)) next e
     ∙ (length-along_all (edges i unit a) (slice_set reached unit None) ∙ length-set reached unit None)
-
--- ---- edges
-
--- an edge of a conditional jump is followed with what it tells
-pub edge_is : (unit : ℕ) (o : Option (List AbsVal)) (a b : AbsState) (old new : KnownSoFar) → true ≡ is_some o → b.registers ≡ unwrap_or o a.registers → b.stack ≡ a.stack →
-    new ≡ along (pos unit, b) old → new ≡ along_all (edge_to (pos unit) (option_map (λ known. record { registers = known; stack = a.stack }) o)) old
-edge_is unit None a b old new e registers stack h = absurd cc
-edge_is unit (Some known) a b old new e registers stack h =
-    h ∙ ap₂ (λ (xs : List AbsVal) (s : Known). along (pos unit, record { registers = xs; stack = s }) old) registers stack

@@ -1,14 +1,23 @@
 //! What a conditional jump tells of the registers that it compares.
-ghost use Rattle.std.specs.Prelude.{◌≡◌, unwrap_or, is_some};
+ghost use Rattle.std.specs.Prelude.{◌≡◌, unwrap_or, is_some, if◌then◌else◌, Some, None, true, false};
 ghost use Rattle.std.specs.Int.{w64, cast_unsigned};
 ghost use Rattle.word.specs.Arithmetic.{taken as used};
-ghost use Rattle.verify.specs.Registers.{refined_known, number_edge, register_edge, edge_known};
+ghost use Rattle.verify.specs.Registers.{known_at, refined_known, number_edge, register_edge};
+ghost use Rattle.verify.specs.Transfer.{narrowed};
 
 use crate::comparison::Comparison;
 use crate::registers::{read, write};
+use crate::state::AbsState;
 use absval::{AbsVal, NumberSet};
 use insn::{Operand, Reg};
 use word::{Condition, Width};
+
+/// Which edges of a conditional jump may be taken.
+#[derive(Clone, Copy, Debug)]
+pub struct Followed {
+    pub taken: bool,
+    pub not_taken: bool,
+}
 
 /// What is left of two values where a condition on them goes one way; None where no two of theirs do so.
 #[inline(always)]
@@ -43,19 +52,21 @@ fn used_number(width: Width, number: i32) -> u64
 }
 
 /// The same of a register and a number.
+#[inline(always)]
 fn refine_by_number(
     registers: &mut [AbsVal; 11],
     compared: (Width, Condition),
     taken: bool,
     dst: Reg,
+    first: &AbsVal,
     number: i32,
 ) -> bool
+    requires { first.now ≡ known_at registers.old dst }
     ensures followed { result ≡ is_some (number_edge compared.0 compared.1 taken registers.old dst (cast_unsigned w64 number)) }
     ensures left { registers.new ≡ unwrap_or (number_edge compared.0 compared.1 taken registers.old dst (cast_unsigned w64 number)) registers.old }
 {
-    let first = read(registers, dst);
     let second = AbsVal::Number(NumberSet::exactly(used_number(compared.0, number)));
-    let Some((first, _)) = refine_values(compared.0, compared.1, taken, first, second) else {
+    let Some((first, _)) = refine_values(compared.0, compared.1, taken, *first, second) else {
         return false;
     };
     write(registers, dst, first);
@@ -63,22 +74,24 @@ fn refine_by_number(
 }
 
 /// The same of two registers: one register tells nothing of itself.
+#[inline(always)]
 fn refine_registers(
     registers: &mut [AbsVal; 11],
     compared: (Width, Condition),
     taken: bool,
     dst: Reg,
+    first: &AbsVal,
     src: Reg,
 ) -> bool
+    requires { first.now ≡ known_at registers.old dst }
     ensures followed { result ≡ is_some (register_edge compared.0 compared.1 taken registers.old dst src) }
     ensures left { registers.new ≡ unwrap_or (register_edge compared.0 compared.1 taken registers.old dst src) registers.old }
 {
     if dst.number() == src.number() {
         return true;
     }
-    let first = read(registers, dst);
     let second = read(registers, src);
-    let Some((first, second)) = refine_values(compared.0, compared.1, taken, first, second) else {
+    let Some((first, second)) = refine_values(compared.0, compared.1, taken, *first, second) else {
         return false;
     };
     write(registers, dst, first);
@@ -86,16 +99,24 @@ fn refine_registers(
     true
 }
 
-/// Narrows the registers to what they may hold on an edge of the jump, and answers whether it may be taken at all.
-pub fn refine(registers: &mut [AbsVal; 11], compared: &Comparison, taken: bool) -> bool
-    ensures followed { result ≡ is_some (edge_known compared.now taken registers.old) }
-    ensures left { registers.new ≡ unwrap_or (edge_known compared.now taken registers.old) registers.old }
+/// Narrows the registers to what they may hold on both edges of the jump, from one state twice, and answers which of the edges may be
+/// taken at all.
+pub fn refine(state: &mut AbsState, other: &mut AbsState, compared: &Comparison) -> Followed
+    requires { other.old ≡ state.old }
+    ensures taken { (if result.taken then Some state.new else None) ≡ narrowed compared.now true state.old }
+    ensures not_taken { (if result.not_taken then Some other.new else None) ≡ narrowed compared.now false state.old }
 {
     let how = (compared.width, compared.condition);
+    let dst = compared.dst;
+    let first = read(&state.registers, dst);
     match compared.operand {
-        Operand::Register(src) => refine_registers(registers, how, taken, compared.dst, src),
-        Operand::Immediate(number) => {
-            refine_by_number(registers, how, taken, compared.dst, number)
-        }
+        Operand::Register(src) => Followed {
+            taken: refine_registers(&mut state.registers, how, true, dst, &first, src),
+            not_taken: refine_registers(&mut other.registers, how, false, dst, &first, src),
+        },
+        Operand::Immediate(number) => Followed {
+            taken: refine_by_number(&mut state.registers, how, true, dst, &first, number),
+            not_taken: refine_by_number(&mut other.registers, how, false, dst, &first, number),
+        },
     }
 }

@@ -1,8 +1,8 @@
 //! The forward pass.
-ghost use Rattle.std.specs.Prelude.{◌≡◌, ◌<◌, ◌+◌, pos, ◌<ℤ◌, ◌+ℤ◌, length, IfOk, Ok, option_map};
+ghost use Rattle.std.specs.Prelude.{◌≡◌, ◌<◌, ◌+◌, pos, ◌<ℤ◌, ◌+ℤ◌, length, IfOk, Ok, option_map, if◌then◌else◌, Some, None};
 ghost use Rattle.std.specs.Result.{result_err};
 ghost use Rattle.verify.specs.Instructions.{IsStraight, reason_of};
-ghost use Rattle.verify.specs.Transfer.{narrowed, edge_to};
+ghost use Rattle.verify.specs.Transfer.{edge_to};
 ghost use Rattle.verify.specs.Judgement.{KnownSoFar, reached_at, along, along_all, followed, passed_at, passed_to};
 ghost use Rattle.verify.specs.Passes.{Does, Answers};
 ghost use Rattle.insn.specs.Program.{slots_of, instruction_at};
@@ -48,18 +48,12 @@ fn pass_jump(unit: usize, distance: i32, state: Box<AbsState>, pending: &mut Pen
     flow(pending, forward_target(unit, distance), state);
 }
 
-/// An edge of a conditional jump: it is followed where it may be taken.
-fn pass_edge(
-    unit: usize,
-    compared: &Comparison,
-    taken: bool,
-    mut state: Box<AbsState>,
-    pending: &mut Pending,
-)
+/// An edge of a conditional jump: what is known there flows on where it may be taken.
+fn pass_edge(unit: usize, followed: bool, state: Box<AbsState>, pending: &mut Pending)
     requires { unit < length pending.old.items }
-    ensures { pending.new.items ≡ along_all (edge_to (pos unit) (narrowed compared.now taken state.value)) pending.old.items }
+    ensures { pending.new.items ≡ along_all (edge_to (pos unit) (if followed then Some state.value else None)) pending.old.items }
 {
-    if branches::refine(&mut state.registers, compared, taken) {
+    if followed {
         flow(pending, unit, state);
     }
 }
@@ -70,7 +64,7 @@ fn pass_branch(
     unit: usize,
     compared: &Comparison,
     distance: i16,
-    state: Box<AbsState>,
+    mut state: Box<AbsState>,
     pending: &mut Pending,
 ) -> Result<(), VerifyError>
     requires bound { unit < 4096 }
@@ -81,12 +75,13 @@ fn pass_branch(
     if let Err(reason) = steps::compare(&state, compared) {
         return Err(VerifyError::At(reason, unit));
     }
-    let Ok(other) = second(alloc, pending, &state) else {
+    let Ok(mut other) = second(alloc, pending, &state) else {
         return Err(VerifyError::Memory);
     };
-    pass_edge(unit + 1, compared, false, other, pending);
+    let followed = branches::refine(&mut state, &mut other, compared);
+    pass_edge(unit + 1, followed.not_taken, other, pending);
     let target = forward_target(unit, i32::from(distance));
-    pass_edge(target, compared, true, state, pending);
+    pass_edge(target, followed.taken, state, pending);
     Ok(())
 }
 

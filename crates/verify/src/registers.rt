@@ -1,5 +1,5 @@
 //! What is known of the registers.
-ghost use Rattle.std.specs.Prelude.{◌≡◌, ◌<◌, slice_set};
+ghost use Rattle.std.specs.Prelude.{◌≡◌, ◌<◌, slice_set, IsTrue};
 ghost use Rattle.absval.specs.Table.{joined};
 ghost use Rattle.verify.specs.Registers.{known_at, operand_known, first_known, joined_all};
 ghost use Rattle.verify.specs.Knowledge.{at_entry};
@@ -78,13 +78,26 @@ pub fn join(registers: &mut [AbsVal; 11], other: &[AbsVal; 11])
     }
 }
 
-/// The same of one register: where nothing is known of it, it stays, and the other is not looked at.
+/// The same of one register: where nothing is known of it, it stays, and the other is not looked at; numbers are
+/// joined where they stand, and a pointer that both are is not written.
 fn join_one(register: &mut AbsVal, other: &AbsVal)
     ensures { register.new ≡ joined register.old other.now }
 {
-    match register {
-        AbsVal::Unset => {}
+    match (&mut *register, other) {
+        (AbsVal::Unset, _) => {}
+        (AbsVal::Number(numbers), AbsVal::Number(others)) => *numbers = numbers.join(*others),
+        (AbsVal::Pointer(region, offsets), _) if is_pointer(other, *region, *offsets) => {}
         _ => *register = absval::join(*register, *other),
+    }
+}
+
+/// Whether a value is this pointer.
+fn is_pointer(value: &AbsVal, region: Region, offsets: Offsets) -> bool
+    ensures { IsTrue result → value.now ≡ AbsVal.Pointer region offsets }
+{
+    match value {
+        AbsVal::Pointer(other, others) => *other == region && *others == offsets,
+        AbsVal::Unset | AbsVal::Number(_) => false,
     }
 }
 

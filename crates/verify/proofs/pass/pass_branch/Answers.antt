@@ -1,7 +1,8 @@
-use Rattle.std.proofs.Common.{◌≡◌, ◌+◌, ◌<◌, inl, inr, refl, subst, length, ap, ◌∙◌, w16, w32, ℤ, pos, ◌+ℤ◌, false}
+use Rattle.std.proofs.Common.{◌≡◌, ◌+◌, ◌<◌, inl, inr, refl, sym, subst, length, ap, ◌∙◌, w16, w32, ℤ, pos, ◌+ℤ◌, Option, Some, None}
+use Rattle.std.specs.Prelude.{if◌then◌else◌}
 use Rattle.std.proofs.lemmas.Int.{to_z-of_z}
+use Rattle.verify.specs.declared.state.AbsState.{AbsState}
 use Rattle.verify.specs.Judgement.{KnownSoFar}
-use Rattle.verify.specs.Transfer.{narrowed}
 use Rattle.verify.proofs.Taken.{length-edge}
 use Rattle.verify.proofs.pass.pass_branch.Goals as goal
 
@@ -19,5 +20,5 @@ pass_edge-requires-2 c =
     let inside : c.forward_target-target.result < length c.args.pending.now.items = c.requires.edges c.forward_target-target.result (inr (inl to)) in
     let room : length c.second.new.pending.items ≡ length c.args.pending.now.items = ap (λ (pending : KnownSoFar). length pending) c.in-Ok.ensures.rest in
     let same : length c.pass_edge.new.pending.items ≡ length c.second.new.pending.items =
-    length-edge (pos (c.args.unit + 1)) (narrowed c.args.compared.now false c.in-Ok.other.value) c.second.new.pending.items c.pass_edge.new.pending.items c.pass_edge.ensures in
+    length-edge (pos (c.args.unit + 1)) _ c.second.new.pending.items c.pass_edge.new.pending.items c.pass_edge.ensures in
     rw (same, room) inside
