@@ -1,9 +1,7 @@
 -- What is known at a unit is taken out: there nothing is known then, elsewhere what was.
-use Rattle.std.proofs.Common.{◌≡◌, ◌∙◌, ℕ, zero, suc, List, [], ◌∷◌, length, refl, sym, ap, ap₂, subst, true, Option, Some, None, Ok, length-set}
-use Rattle.std.specs.Prelude.{ℤ, pos, negsuc, is_some, unwrap_or, option_map, slice_set, IfSome}
+use Rattle.std.proofs.Common.{◌≡◌, ◌∙◌, ℕ, zero, suc, List, [], ◌∷◌, length, refl, sym, ap, subst, Option, Some, None, Ok, length-set}
+use Rattle.std.specs.Prelude.{ℤ, pos, negsuc, slice_set, IfSome}
 use Rattle.insn.specs.declared.insn.Insn.{Insn}
-use Rattle.absval.specs.declared.value.AbsVal.{AbsVal}
-use Rattle.absmem.specs.Known.{Known}
 use Rattle.verify.specs.declared.reason.Reason.{Reason}
 use Rattle.verify.specs.declared.state.AbsState.{AbsState}
 use Rattle.verify.specs.Instructions.{reason_of}

@@ -1,7 +1,5 @@
-use Rattle.std.proofs.Common.{◌≡◌, ◌+◌, ◌<◌, inl, inr, refl, sym, subst, length, ap, ◌∙◌, w16, w32, ℤ, pos, ◌+ℤ◌, Option, Some, None}
-use Rattle.std.specs.Prelude.{if◌then◌else◌}
+use Rattle.std.proofs.Common.{◌≡◌, ◌+◌, ◌<◌, inl, inr, refl, subst, length, ap, ◌∙◌, w16, w32, ℤ, pos, ◌+ℤ◌}
 use Rattle.std.proofs.lemmas.Int.{to_z-of_z}
-use Rattle.verify.specs.declared.state.AbsState.{AbsState}
 use Rattle.verify.specs.Judgement.{KnownSoFar}
 use Rattle.verify.proofs.Taken.{length-edge}
 use Rattle.verify.proofs.pass.pass_branch.Goals as goal
