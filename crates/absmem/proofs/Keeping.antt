@@ -160,7 +160,7 @@ is_byte_and true true c h = h
 is_byte_and true false c h = tt
 is_byte_and false t c h = tt
 
-is_byte_and_right : (s t : Bool) (c : Cell) → IsByteIf t c → IsByteIf (s && t) c
+pub is_byte_and_right : (s t : Bool) (c : Cell) → IsByteIf t c → IsByteIf (s && t) c
 is_byte_and_right true t c h = h
 is_byte_and_right false t c h = tt
 

@@ -23,7 +23,8 @@ use Rattle.range.proofs.RangeRows.{Holds, by_test}
 use Rattle.range.proofs.RangeTable.{table_holds, low_holds}
 use Rattle.range.proofs.RangeUnary.{negations_hold, extensions_hold, swaps_hold}
 use Rattle.range.proofs.RangeEdges.{Left, refined_holds, refined_left}
-use Rattle.bits.proofs.BitRows.{AreBits, single_bits, single_has, unknown_bits, unknown_has, used_bits, used_has, joined_bits, left_has, right_has, table_bits, table_has}
+use Rattle.bits.proofs.Laws.{unknown_has}
+use Rattle.bits.proofs.BitRows.{AreBits, single_bits, single_has, unknown_bits, used_bits, used_has, joined_bits, left_has, right_has, table_bits, table_has}
 use Rattle.std.proofs.lemmas.Bool.{and_parts}
 
 -- an interval of words, and known bits

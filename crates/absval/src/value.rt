@@ -78,7 +78,7 @@ impl Offsets {
 /// What is known of a value.
 #[derive(Clone, Copy, Debug, PartialEq, Eq)]
 pub enum AbsVal {
-    /// Nothing: it may be unset.
+    /// Nothing: it may be unset, a number or a pointer.
     Unset,
     /// It is a number of the set.
     Number(NumberSet),

@@ -8,7 +8,7 @@ use Rattle.word.specs.declared.Operation.{Operation}
 use Rattle.word.specs.declared.Operation.TheVariants.{Add, Sub, Mul, Div, SignedDiv, Or, And, ShiftLeft, ShiftRight, Mod, SignedMod, Xor, Move, ArithmeticShiftRight}
 use Rattle.word.specs.Arithmetic.{bits_of, taken, operated, arithmetic}
 use Rattle.bits.specs.Known.{HasBits, less, single, unknown, used, joined, joined_mask, common, either, differing, row, table}
-use Rattle.bits.proofs.Laws.{less_lt, less_apart, and_holds, or_holds, xor_holds, joined_lt, joined_left, joined_right, cut_holds, cut_apart, unknown_at}
+use Rattle.bits.proofs.Laws.{less_lt, less_apart, and_holds, or_holds, xor_holds, joined_lt, joined_left, joined_right, cut_holds, cut_apart, unknown_has}
 
 -- a mask and a value of words, with no bit in both
 pub record AreBits (b : ℕ × ℕ) : Type 0 where
@@ -28,9 +28,6 @@ ones_below W64 = omega arith
 
 pub unknown_bits : (w : Width) → AreBits (unknown w)
 unknown_bits w = record { mask = ones_below w; value = omega arith; apart = let le : bit_and (2 ^ bits_of w - 1) 0 ≤ 0 = and_le_r (2 ^ bits_of w - 1) 0 in omega arith }
-
-pub unknown_has : (w : Width) (x : ℕ) → x < 2 ^ bits_of w → HasBits (unknown w) x
-unknown_has w x h = unknown_at w w x refl h
 
 pub used_bits : (w : Width) (b : ℕ × ℕ) → AreBits b → AreBits (used w b)
 used_bits W64 b h = h

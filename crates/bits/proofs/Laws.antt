@@ -133,12 +133,12 @@ unknown_holds k x le h l = record {
   one : (n : ℕ) → n ≡ 1 → n ≡ 0 → ⊥
   one n p q = omega arith
 
-unknown_of : (w : Width) (x : ℕ) → x < 2 ^ bits_of w → HasBits (unknown w) x
-unknown_of W32 x h = unknown_holds 32 x (omega arith) h (omega arith)
-unknown_of W64 x h = unknown_holds 64 x (omega arith) h h
+pub unknown_has : (w : Width) (x : ℕ) → x < 2 ^ bits_of w → HasBits (unknown w) x
+unknown_has W32 x h = unknown_holds 32 x (omega arith) h (omega arith)
+unknown_has W64 x h = unknown_holds 64 x (omega arith) h h
 
 pub unknown_at : (v w : Width) (x : ℕ) → v ≡ w → x < 2 ^ bits_of v → HasBits (unknown w) x
-unknown_at v w x e h = unknown_of w x (subst (λ (u : Width). x < 2 ^ bits_of u) e h)
+unknown_at v w x e h = unknown_has w x (subst (λ (u : Width). x < 2 ^ bits_of u) e h)
 
 -- a word of these bits is the value beside some bits of the mask
 pub masked_same : (m v x : ℕ) → HasBits (m, v) x → bit_or x m ≡ bit_or v m

@@ -1,4 +1,5 @@
--- What the laws of this crate's contracts say: the agreement theorem (TOPLAS 1982, Theorem 1), over the rule of combination, the campaign and the messages; and what the lists of an explanation mean (algorithm OM(m)).
+-- What the laws of this crate's contracts say: the agreement theorem (TOPLAS 1982, Theorem 1), over the rule of combination, the campaign and the messages;
+-- and what the lists of an explanation mean (algorithm OM(m)).
 use Rattle.std.specs.Prelude.{ℕ, suc, ◌*◌, ◌<◌, ◌≤◌, ◌≡◌, ◌==◌, ◌↔◌, Bool, false, List, [], ◌∷◌, length, find, count_by, None, Some}
 use Rattle.combine.specs.Chosen.{combined_by}
 use Rattle.combine.specs.Rule.{IsMajorityRule, is_most}

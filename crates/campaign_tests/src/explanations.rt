@@ -47,7 +47,7 @@ const EXPLAINED: &[(&str, &str)] = &[
     // V5
     (
         "mov r0, r3\nexit\n",
-        "\n0 mov r0, r3 ; r3 perhaps unset\n0 mov r0, r3: r3 is read, and may be unset",
+        "\n0 mov r0, r3 ; r3 perhaps unset\n0 mov r0, r3: r3 is read, and may be unset, or of different kinds on different ways",
     ),
     // V6
     (

@@ -499,7 +499,7 @@ fn programs_are_explained(rt: HostRuntime) -> Result<(), Fail> {
 const EXPLAINED_CODES: &[(&str, &str)] = &[
     (
         "9500000000000000",
-        "refused V5 unit 0\n0 exit ; r0 perhaps unset\n0 exit: r0 is read, and may be unset\n",
+        "refused V5 unit 0\n0 exit ; r0 perhaps unset\n0 exit: r0 is read, and may be unset, or of different kinds on different ways\n",
     ),
     (
         "72010000010000009500000000000000",
@@ -535,7 +535,7 @@ const EXPLAINED_TRIALS: &[(&str, &[u8], u8, &str)] = &[
         "exit\n",
         b"",
         1,
-        "refused V5 unit 0\n0 exit ; r0 perhaps unset\n0 exit: r0 is read, and may be unset\n",
+        "refused V5 unit 0\n0 exit ; r0 perhaps unset\n0 exit: r0 is read, and may be unset, or of different kinds on different ways\n",
     ),
 ];
 

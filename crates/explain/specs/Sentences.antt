@@ -48,7 +48,7 @@ limit_text high = if int_le high (pos 65536) then codes "-65536" else codes "655
 
 -- how a register is used
 abbrev pub misuse_text : Misuse → List ℕ
-misuse_text (misuse.Unset r) = codes "r" ++ decimal r ++ codes " is read, and may be unset"
+misuse_text (misuse.Unset r) = codes "r" ++ decimal r ++ codes " is read, and may be unset, or of different kinds on different ways"
 misuse_text misuse.Frame = codes "r10 is written, which marks the end of the stack"
 misuse_text (misuse.Far r region span) = would_text r ++ codes " into " ++ place_text region span ++ codes ", past " ++ limit_text span.high
 misuse_text (misuse.EitherSign r value) = named_text r value ++ codes ": a number that moves a pointer is read as signed, and this one may be above or below 0"

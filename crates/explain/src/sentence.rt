@@ -33,7 +33,7 @@ pub enum Structure {
 /// A register that is used as it may not be, with what is known of it.
 #[derive(Clone, Copy, Debug, PartialEq, Eq)]
 pub enum Misuse {
-    /// It may be unset.
+    /// Nothing is known of it: it may be unset, or of different kinds on different ways.
     Unset(Reg),
     /// r10 is written.
     Frame,
@@ -204,7 +204,7 @@ impl fmt::Display for Misuse {
         match *self {
             Misuse::Unset(r) => {
                 let r = r.number();
-                write!(f, "r{r} is read, and may be unset")
+                write!(f, "r{r} is read, and may be unset, or of different kinds on different ways")
             }
             Misuse::Frame => f.write_str("r10 is written, which marks the end of the stack"),
             Misuse::Far(r, region, span) => {

@@ -10,6 +10,12 @@ pub const MOST_GENERALS: u64 = 13;
 /// The labels that a context has room for.
 pub const MOST_LABELS: u64 = 1016;
 
+/// The chains of a signed campaign that a general may hold.
+pub const MOST_HELD: u64 = 384;
+
+/// The sets of generals, a bit of a word for each.
+pub const RECEIVER_SETS: u64 = 8192;
+
 /// What a helper takes in a register.
 #[derive(Clone, Copy, Debug, PartialEq, Eq)]
 pub enum Argument {
@@ -47,8 +53,8 @@ impl Argument {
             Argument::Receiver => Some(MOST_GENERALS - 1),
             Argument::Words => Some(BOARD_WORDS),
             Argument::Orders => Some(MOST_GENERALS),
-            Argument::Held => Some(383),
-            Argument::Receivers => Some(8191),
+            Argument::Held => Some(MOST_HELD - 1),
+            Argument::Receivers => Some(RECEIVER_SETS - 1),
             Argument::StackPointer | Argument::ReadablePointer => None,
         }
     }

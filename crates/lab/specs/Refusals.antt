@@ -76,10 +76,10 @@ RefusesBytes bytes (codec.At fault unit) = IsFirstFault bytes fault unit
 RefusesBytes bytes codec.Memory = ⊥
 
 -- the verifier refuses the program, by this first fault
-abbrev pub RefusesRun : List Insn → Refusal → Type 0
-RefusesRun program (Verifier fault) = judged program ≡ Some fault
-RefusesRun program Memory = Unit {0}
-RefusesRun program _ = ⊥
+abbrev pub RefusesProgram : List Insn → Refusal → Type 0
+RefusesProgram program (Verifier fault) = judged program ≡ Some fault
+RefusesProgram program Memory = Unit {0}
+RefusesProgram program _ = ⊥
 
 -- the bytes spell no program, or the verifier refuses the program that they spell
 abbrev pub RefusesCheck : List ℕ → Refusal → Type 0

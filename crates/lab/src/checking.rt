@@ -6,7 +6,7 @@ ghost use Rattle.verify.specs.Judgement.{judged};
 ghost use Rattle.lab.specs.Answers.{IsRun};
 ghost use Rattle.lab.specs.Hints.{HasProgram};
 ghost use Rattle.lab.specs.Lines.{checked_lines};
-ghost use Rattle.lab.specs.Refusals.{RefusesCheck, RefusesCheckAssembly, RefusesCheckIn, RefusesRun};
+ghost use Rattle.lab.specs.Refusals.{RefusesCheck, RefusesCheckAssembly, RefusesCheckIn, RefusesProgram};
 
 use crate::refusal::Refusal;
 use crate::texts::as_text;
@@ -40,7 +40,8 @@ pub fn check(
     notation: Notation,
     bytes: &[u8],
 ) -> Result<(Verified, Checked), Refusal>
-    ensures checked { IfOk result (λ c. HasProgram notation bytes.now c.0 × IsRun c.0 c.1) }
+    ensures program { IfOk result (λ c. HasProgram notation bytes.now c.0) }
+    ensures run { IfOk result (λ c. IsRun c.0 c.1) }
     ensures refused { IfErr result (RefusesCheckIn notation bytes.now) }
 {
     let verified = accepted_in(alloc, notation, bytes)?;
@@ -54,7 +55,9 @@ pub(crate) fn accepted_in(
     notation: Notation,
     bytes: &[u8],
 ) -> Result<Verified, Refusal>
-    ensures accepted { IfOk result (λ program. HasProgram notation bytes.now program × (judged program ≡ None) × IsSound program) }
+    ensures program { IfOk result (λ program. HasProgram notation bytes.now program) }
+    ensures accepted { IfOk result (λ program. judged program ≡ None) }
+    ensures sound { IfOk result (λ program. IsSound program) }
     ensures refused { IfErr result (RefusesCheckIn notation bytes.now) }
 {
     match notation {
@@ -69,7 +72,9 @@ pub(crate) fn accepted_in(
 ///
 /// What the codec or the verifier refuses, or want of memory.
 pub fn accepted(alloc: Global, bytes: &[u8]) -> Result<Verified, Refusal>
-    ensures spelt { IfOk result (λ program. SpellsProgram bytes.now program × (judged program ≡ None) × IsSound program) }
+    ensures spelt { IfOk result (λ program. SpellsProgram bytes.now program) }
+    ensures accepted { IfOk result (λ program. judged program ≡ None) }
+    ensures sound { IfOk result (λ program. IsSound program) }
     ensures refused { IfErr result (RefusesCheck bytes.now) }
 {
     let program = decode(alloc, bytes)?;
@@ -82,7 +87,9 @@ pub fn accepted(alloc: Global, bytes: &[u8]) -> Result<Verified, Refusal>
 ///
 /// What the assembler or the verifier refuses, or want of memory.
 pub fn accepted_text(alloc: Global, text: &str) -> Result<Verified, Refusal>
-    ensures said { IfOk result (λ program. (program_of text.now ≡ Some program) × (judged program ≡ None) × IsSound program) }
+    ensures said { IfOk result (λ program. program_of text.now ≡ Some program) }
+    ensures accepted { IfOk result (λ program. judged program ≡ None) }
+    ensures sound { IfOk result (λ program. IsSound program) }
     ensures refused { IfErr result (RefusesCheckAssembly text.now) }
 {
     let program = assemble(alloc, text)?;
@@ -91,8 +98,10 @@ pub fn accepted_text(alloc: Global, text: &str) -> Result<Verified, Refusal>
 
 /// Verifies a program.
 fn accepted_program(alloc: Global, program: Program) -> Result<Verified, Refusal>
-    ensures accepted { IfOk result (λ verified. (verified ≡ program) × (judged verified ≡ None) × IsSound verified) }
-    ensures refused { IfErr result (RefusesRun program) }
+    ensures same { IfOk result (λ verified. verified ≡ program) }
+    ensures accepted { IfOk result (λ verified. judged verified ≡ None) }
+    ensures sound { IfOk result (λ verified. IsSound verified) }
+    ensures refused { IfErr result (RefusesProgram program) }
 {
     match verify(alloc, program) {
         Ok(verified) => Ok(verified),

@@ -1,15 +1,13 @@
 //! Calls of helpers. A case in which the machine would trap is ruled out by the caller.
 ghost use Rattle.std.specs.Prelude.{◌≡◌, ◌<◌, ◌+◌, ◌-◌, ◌^◌, IsOk, Ok};
-ghost use Rattle.semantics.specs.State.{Next, given};
-ghost use Rattle.semantics.specs.Call.{helper_of, called, slot_in, word_in, argument, order_in, pointer_in, copy_of, orders_at, sign_in, pass_in, returned, sent, attempted};
-ghost use Rattle.semantics.specs.Limits.{board_words, most_generals, most_labels};
-ghost use Rattle.semantics.specs.Outbox.{at_place, along_row, at_receiver, as_taken};
+ghost use Rattle.semantics.specs.State.{Next};
+ghost use Rattle.semantics.specs.Call.{helper_of, called, slot_in, get_in, swap_in, add_in, cas_in, copy_in, send_in, send_row_in, sway_in, honest_in, sign_in, pass_in, returned, sent, attempted};
 ghost use Rattle.machine.specs.Turn.{Turns, Asks, IsFree};
 
 use crate::activation::Activation;
 use crate::arguments::{argument, order, pointer, word};
 use crate::flow::Flow;
-use helper::{BOARD_WORDS, MOST_GENERALS, MOST_LABELS, helper_of};
+use helper::{BOARD_WORDS, MOST_GENERALS, MOST_HELD, MOST_LABELS, RECEIVER_SETS, helper_of};
 use mem::{Context, load_row};
 use semantics::{Helper, Request, Slot, Span};
 
@@ -73,8 +71,8 @@ impl Activation {
 
     /// What board_get asks.
     fn get(&self) -> Request
-        requires { IsOk (given (slot_in self.now.state) (λ slot. Ok (Request.Get slot))) }
-        ensures { given (slot_in self.now.state) (λ slot. Ok (Request.Get slot)) ≡ Ok result }
+        requires { IsOk (get_in self.now.state) }
+        ensures { get_in self.now.state ≡ Ok result }
     {
         let slot = self.slot();
         Request::Get { slot }
@@ -82,8 +80,8 @@ impl Activation {
 
     /// What board_swap asks.
     fn swap(&self) -> Request
-        requires { IsOk (given (slot_in self.now.state) (λ slot. given (word_in self.now.state 2) (λ value. Ok (Request.Swap slot value)))) }
-        ensures { given (slot_in self.now.state) (λ slot. given (word_in self.now.state 2) (λ value. Ok (Request.Swap slot value))) ≡ Ok result }
+        requires { IsOk (swap_in self.now.state) }
+        ensures { swap_in self.now.state ≡ Ok result }
     {
         let slot = self.slot();
         let value = word(self.registers.at(2));
@@ -92,8 +90,8 @@ impl Activation {
 
     /// What board_add asks.
     fn add(&self) -> Request
-        requires { IsOk (given (slot_in self.now.state) (λ slot. given (word_in self.now.state 2) (λ value. Ok (Request.Add slot value)))) }
-        ensures { given (slot_in self.now.state) (λ slot. given (word_in self.now.state 2) (λ value. Ok (Request.Add slot value))) ≡ Ok result }
+        requires { IsOk (add_in self.now.state) }
+        ensures { add_in self.now.state ≡ Ok result }
     {
         let slot = self.slot();
         let value = word(self.registers.at(2));
@@ -102,8 +100,8 @@ impl Activation {
 
     /// What board_cas asks.
     fn cas(&self) -> Request
-        requires { IsOk (given (slot_in self.now.state) (λ slot. given (word_in self.now.state 2) (λ expected. given (word_in self.now.state 3) (λ new. Ok (Request.Cas slot expected new))))) }
-        ensures { given (slot_in self.now.state) (λ slot. given (word_in self.now.state 2) (λ expected. given (word_in self.now.state 3) (λ new. Ok (Request.Cas slot expected new)))) ≡ Ok result }
+        requires { IsOk (cas_in self.now.state) }
+        ensures { cas_in self.now.state ≡ Ok result }
     {
         let slot = self.slot();
         let expected = word(self.registers.at(2));
@@ -117,10 +115,8 @@ impl Activation {
 
     /// What board_copy asks.
     fn copy(&self) -> Request
-        requires { IsOk (given (slot_in self.now.state) (λ slot. given (pointer_in self.now.state 2) (λ to.
-            given (argument self.now.state 3 (board_words + 1)) (λ count. copy_of slot to count)))) }
-        ensures { given (slot_in self.now.state) (λ slot. given (pointer_in self.now.state 2) (λ to.
-            given (argument self.now.state 3 (board_words + 1)) (λ count. copy_of slot to count))) ≡ Ok result }
+        requires { IsOk (copy_in self.now.state) }
+        ensures { copy_in self.now.state ≡ Ok result }
     {
         let slot = argument(self.registers.at(1), BOARD_WORDS);
         let _to = pointer(self.registers.at(2));
@@ -144,53 +140,47 @@ impl Activation {
 
     /// An order for one receiver of a label.
     fn send(&mut self) -> Flow
-        requires free { IsOk (given (argument self.old.state 1 most_labels) (λ label. given (argument self.old.state 2 most_generals) (λ receiver.
-            given (order_in self.old.state 3) (λ order. Ok (at_place label receiver order))))) }
+        requires free { IsOk (send_in self.old.state) }
         requires inside { self.old.state.unit < 4096 }
         requires room { self.old.state.steps + 1 < 2 ^ 32 }
         ensures flow { result ≡ Flow.Onward }
-        ensures next { sent self.old.relay self.old.state (λ set. 1 - set) (given (argument self.old.state 1 most_labels) (λ label. given (argument self.old.state 2 most_generals) (λ receiver.
-            given (order_in self.old.state 3) (λ order. Ok (at_place label receiver order))))) ≡ Next self.new.state }
+        ensures next { sent self.old.relay self.old.state (λ set. 1 - set) (send_in self.old.state) ≡ Next self.new.state }
         ensures relay { self.new.relay ≡ self.old.relay }
     {
-        let label = argument(self.registers.at(1), MOST_LABELS) as u32;
+        let rank = argument(self.registers.at(1), MOST_LABELS) as u32;
         let receiver = argument(self.registers.at(2), MOST_GENERALS) as u32;
         let order = order(self.registers.at(3));
         semantics::few_places_are_set();
-        let there = self.outbox.put(label, receiver, order);
+        let there = self.outbox.put(rank, receiver, order);
         self.go_on(if there { 0 } else { 1 })
     }
 
     /// Orders for the receivers of a label.
     fn send_row(&mut self, context: &Context) -> Flow
-        requires free { IsOk (given (argument self.old.state 1 most_labels) (λ label. given (pointer_in self.old.state 2) (λ from. given (argument self.old.state 3 (most_generals + 1)) (λ count.
-            given (orders_at context.now self.old.state from count) (λ orders. Ok (along_row label orders)))))) }
+        requires free { IsOk (send_row_in context.now self.old.state) }
         requires inside { self.old.state.unit < 4096 }
         requires room { self.old.state.steps + 1 < 2 ^ 32 }
         ensures flow { result ≡ Flow.Onward }
-        ensures next { sent self.old.relay self.old.state (λ set. set)
-            (given (argument self.old.state 1 most_labels) (λ label. given (pointer_in self.old.state 2) (λ from. given (argument self.old.state 3 (most_generals + 1)) (λ count.
-            given (orders_at context.now self.old.state from count) (λ orders. Ok (along_row label orders)))))) ≡ Next self.new.state }
+        ensures next { sent self.old.relay self.old.state (λ set. set) (send_row_in context.now self.old.state) ≡ Next self.new.state }
         ensures relay { self.new.relay ≡ self.old.relay }
     {
-        let label = argument(self.registers.at(1), MOST_LABELS) as u32;
+        let rank = argument(self.registers.at(1), MOST_LABELS) as u32;
         let from = pointer(self.registers.at(2));
         let count = argument(self.registers.at(3), MOST_GENERALS + 1) as usize;
         let Ok(orders) = load_row(&self.stack, context, from, count) else {
             unreachable!()
         };
-        let set = self.outbox.put_row(label, &orders[..count]);
+        let set = self.outbox.put_row(rank, &orders[..count]);
         self.go_on(u64::from(set))
     }
 
     /// One order for a receiver, at every label.
     fn sway(&mut self) -> Flow
-        requires free { IsOk (given (argument self.old.state 1 most_generals) (λ receiver. given (order_in self.old.state 2) (λ order. Ok (at_receiver receiver order)))) }
+        requires free { IsOk (sway_in self.old.state) }
         requires inside { self.old.state.unit < 4096 }
         requires room { self.old.state.steps + 1 < 2 ^ 32 }
         ensures flow { result ≡ Flow.Onward }
-        ensures next { sent self.old.relay self.old.state (λ set. set)
-            (given (argument self.old.state 1 most_generals) (λ receiver. given (order_in self.old.state 2) (λ order. Ok (at_receiver receiver order)))) ≡ Next self.new.state }
+        ensures next { sent self.old.relay self.old.state (λ set. set) (sway_in self.old.state) ≡ Next self.new.state }
         ensures relay { self.new.relay ≡ self.old.relay }
     {
         let receiver = argument(self.registers.at(1), MOST_GENERALS) as u32;
@@ -201,11 +191,11 @@ impl Activation {
 
     /// For a receiver the values that the general took.
     fn honest(&mut self, context: &Context) -> Flow
-        requires free { IsOk (given (argument self.old.state 1 most_generals) (λ receiver. Ok (as_taken context.now receiver))) }
+        requires free { IsOk (honest_in context.now self.old.state) }
         requires inside { self.old.state.unit < 4096 }
         requires room { self.old.state.steps + 1 < 2 ^ 32 }
         ensures flow { result ≡ Flow.Onward }
-        ensures next { sent self.old.relay self.old.state (λ set. set) (given (argument self.old.state 1 most_generals) (λ receiver. Ok (as_taken context.now receiver))) ≡ Next self.new.state }
+        ensures next { sent self.old.relay self.old.state (λ set. set) (honest_in context.now self.old.state) ≡ Next self.new.state }
         ensures relay { self.new.relay ≡ self.old.relay }
     {
         let receiver = argument(self.registers.at(1), MOST_GENERALS) as u32;
@@ -223,7 +213,7 @@ impl Activation {
         ensures relay { self.new.relay ≡ self.old.relay }
     {
         let order = order(self.registers.at(1));
-        let receivers = argument(self.registers.at(2), 8192) as u16;
+        let receivers = argument(self.registers.at(2), RECEIVER_SETS) as u16;
         let taken = self.outbox.sign(order, receivers);
         self.go_on(if taken { 0 } else { 1 })
     }
@@ -237,8 +227,8 @@ impl Activation {
         ensures next { attempted self.old.relay self.old.state (pass_in self.old.state) ≡ Next self.new.state }
         ensures relay { self.new.relay ≡ self.old.relay }
     {
-        let held = argument(self.registers.at(1), 384) as u16;
-        let receivers = argument(self.registers.at(2), 8192) as u16;
+        let held = argument(self.registers.at(1), MOST_HELD) as u16;
+        let receivers = argument(self.registers.at(2), RECEIVER_SETS) as u16;
         let taken = self.outbox.pass(held, receivers);
         self.go_on(if taken { 0 } else { 1 })
     }

@@ -119,18 +119,18 @@ impl Outbox {
     }
 
     /// Puts an order for a receiver of a label, by its rank, in place of an earlier one: whether there is such a place.
-    pub fn put(&mut self, rank: u32, receiver: u32, value: u32) -> bool
+    pub fn put(&mut self, rank: u32, receiver: u32, order: u32) -> bool
         ensures relay { self.new.relay ≡ self.old.relay }
         ensures entries { self.new.entries ≡ self.old.entries }
-        ensures rows { self.new.rows ≡ written self.old.relay (at_place rank receiver value) self.old.rows }
-        ensures there { IsTrue result ↔ (0 < places_set self.old.relay (at_place rank receiver value)) }
-        ensures found { IsTrue result → order_at self.new.relay self.new.rows rank receiver ≡ Some value }
+        ensures rows { self.new.rows ≡ written self.old.relay (at_place rank receiver order) self.old.rows }
+        ensures there { IsTrue result ↔ (0 < places_set self.old.relay (at_place rank receiver order)) }
+        ensures found { IsTrue result → order_at self.new.relay self.new.rows rank receiver ≡ Some order }
     {
         let rank = rank as usize;
         if rank >= self.rows.len() {
             return false;
         }
-        self.rows[rank].put(receiver, value)
+        self.rows[rank].put(receiver, order)
     }
 
     /// Puts orders for the receivers of a label, by its rank, ascending, as many as there are: how many were put.
@@ -148,15 +148,15 @@ impl Outbox {
     }
 
     /// Puts one order for a receiver at every label: how many were put.
-    pub fn sway(&mut self, receiver: u32, value: u32) -> u32
+    pub fn sway(&mut self, receiver: u32, order: u32) -> u32
         ensures relay { self.new.relay ≡ self.old.relay }
         ensures entries { self.new.entries ≡ self.old.entries }
-        ensures rows { self.new.rows ≡ written self.old.relay (at_receiver receiver value) self.old.rows }
-        ensures count { result ≡ places_set self.old.relay (at_receiver receiver value) }
+        ensures rows { self.new.rows ≡ written self.old.relay (at_receiver receiver order) self.old.rows }
+        ensures count { result ≡ places_set self.old.relay (at_receiver receiver order) }
     {
         let mut set = 0;
         for rank in 0..self.rows.len() {
-            if self.rows[rank].put(receiver, value) {
+            if self.rows[rank].put(receiver, order) {
                 set += 1;
             }
         }
@@ -217,7 +217,7 @@ impl Outbox {
         Some(&self.rows[rank])
     }
 
-    /// How many labels it has a row for, at most 990.
+    /// How many labels it has a row for: at most 11 * 10 * 9, those of 13 generals in round 5.
     pub fn labels(&self) -> u32
         ensures rows { result ≡ length self.now.rows }
         ensures relayed { result ≡ length (relayed self.now.relay) }

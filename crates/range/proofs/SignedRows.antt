@@ -12,15 +12,12 @@ use Rattle.word.specs.declared.Width.TheVariants.{W32, W64}
 use Rattle.word.specs.Arithmetic.{bits_of, signed, unsigned}
 use Rattle.range.specs.Interval.{IsIn}
 use Rattle.range.specs.Table.{sign_limit, signed_quotients, signed_remainders, signed_shifts}
+use Rattle.range.proofs.Extending.{unsigned_pos}
 use Rattle.range.proofs.RangeRows.{Holds, by_test, whole_holds, quotients_hold, remainders_hold, right_shifts_hold}
 
 pub signed_small : (w : Width) (a : ℕ) → a < sign_limit w → signed w a ≡ pos a
 signed_small W32 a h = to_z_pos w32 a h
 signed_small W64 a h = to_z_pos w64 a h
-
-unsigned_pos : (w : Width) (n : ℕ) → unsigned w (pos n) ≡ n
-unsigned_pos W32 n = refl
-unsigned_pos W64 n = refl
 
 pub unsigned_below : (w : Width) (z : ℤ) → mag z < 2 ^ bits_of w → unsigned w z < 2 ^ bits_of w
 unsigned_below W32 (pos n) h = h

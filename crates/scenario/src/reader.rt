@@ -48,7 +48,7 @@ fn rule(value: Option<&Value>) -> Result<Rule, ScenarioError>
 }
 
 /// The greatest bound that so many generals may have.
-fn most_traitors(generals: u8) -> u8
+fn greatest_bound(generals: u8) -> u8
     ensures { result ≡ min 4 (generals - 2) }
 {
     generals.saturating_sub(2).min(4)
@@ -61,7 +61,7 @@ fn head(alloc: Global, table: &Table) -> Result<Head, ScenarioError>
 {
     top_is_known(alloc, table)?;
     let generals = number(Place::Key(Name::Generals), 2, 13, at(table, Name::Generals))? as u8;
-    let most = u32::from(most_traitors(generals));
+    let most = u32::from(greatest_bound(generals));
     let bound = number(Place::Key(Name::Bound), 0, most, at(table, Name::Bound))? as u8;
     let place = Place::Key(Name::Commander);
     let commander = general(place, Fault::Range, generals, at(table, Name::Commander))?;

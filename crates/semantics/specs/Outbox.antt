@@ -39,13 +39,13 @@ written r choice outbox =
 abbrev pub places_set : Relay → Choice → ℕ
 places_set r choice = sum_by (λ row. count_by (λ place. is_some (choice place)) row) (places r)
 
--- send: the place of one label and receiver
+-- send: the place of the label of one rank, and one receiver
 abbrev pub at_place : ℕ → ℕ → ℕ → Choice
-at_place label receiver order place = if (place.rank == label) && (place.receiver == receiver) then Some order else None
+at_place rank receiver order place = if (place.rank == rank) && (place.receiver == receiver) then Some order else None
 
 -- send_row: the label's receivers in ascending order, as many as there are orders
 abbrev pub along_row : ℕ → List ℕ → Choice
-along_row label orders place = if place.rank == label then slice_get orders place.number else None
+along_row rank orders place = if place.rank == rank then slice_get orders place.number else None
 
 -- sway: the receiver's place in every label
 abbrev pub at_receiver : ℕ → ℕ → Choice

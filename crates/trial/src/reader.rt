@@ -17,7 +17,7 @@ use std::alloc::Global;
 use toml::Table;
 
 /// The greatest bound that so many generals may have.
-fn most_traitors(generals: u32) -> u32
+fn greatest_bound(generals: u32) -> u32
     ensures { result ≡ min 4 (generals - 2) }
 {
     generals.saturating_sub(2).min(4)
@@ -30,7 +30,7 @@ fn setting(alloc: Global, table: &Table) -> Result<Setting, SettingError>
 {
     keys_are_known(alloc, table)?;
     let generals = number(Place::Key(Name::Generals), 2, 13, at(table, Name::Generals))?;
-    let most = most_traitors(generals);
+    let most = greatest_bound(generals);
     let bound = number(Place::Key(Name::Bound), 0, most, at(table, Name::Bound))?;
     let commander = general(
         Place::Key(Name::Commander),

@@ -15,6 +15,7 @@ use Rattle.semantics.specs.State.{State, Outbox, entry, value_at}
 use Rattle.semantics.specs.Memory.{is_same_region}
 use Rattle.absval.specs.Contains.{Contains}
 use Rattle.absval.specs.Table.{joined}
+use Rattle.absmem.proofs.Keeping.{is_byte_and_right}
 use Rattle.absmem.specs.declared.spill.Spill.{Spill}
 use Rattle.absmem.specs.declared.spill.Spill.TheVariants.{Free, Whole}
 use Rattle.absmem.specs.Known.{byte_at, spill_at, joined_spill}
@@ -61,10 +62,6 @@ eleven a s m d = sym (AllZip-length Contains a.registers s.registers d.registers
 and_first : (s t : Bool) → s ≡ false → (s && t) ≡ false
 and_first true t e = cc
 and_first false t e = refl
-
-byte_right : (s t : Bool) (c : Cell) → IsByteIf t c → IsByteIf (s && t) c
-byte_right true t c h = h
-byte_right false t c h = tt
 
 stands_right : (cells : List Cell) (b : ℕ) (one other : Spill) → StandsAt cells b other → StandsAt cells b (joined_spill one other)
 stands_right cells b Free other h = tt
@@ -123,7 +120,7 @@ met_right a b s m n d = record {
       (right_stands (known_at a.registers k) (known_at b.registers k) (value_at s.registers k) (meant_at a.registers k m.well) (meant_at b.registers k n.well)
       (stands_at b.registers s.registers k d.registers)));
   stack = record {
-    bytes = λ k. subst (λ (t : Bool). IsByteIf t (cell_at s.cells k)) (sym (met_bytes a b k m.flags)) (byte_right (byte_at a.stack.bytes k) (byte_at b.stack.bytes k) (cell_at s.cells k) (d.stack.bytes k));
+    bytes = λ k. subst (λ (t : Bool). IsByteIf t (cell_at s.cells k)) (sym (met_bytes a b k m.flags)) (is_byte_and_right (byte_at a.stack.bytes k) (byte_at b.stack.bytes k) (cell_at s.cells k) (d.stack.bytes k));
     spills = λ i lt. subst (λ (p : Spill). StandsAt s.cells i p) (sym (met_spills a b i lt)) (stands_right s.cells i (spill_at a.stack.spills i) (spill_at b.stack.spills i) (d.stack.spills i lt));
   };
   size = d.size;

@@ -2,6 +2,7 @@
 use Rattle.std.specs.Prelude.{ℕ, ℤ, pos, ◌+◌, ◌*◌, ◌<◌, ◌&&◌, not, nat_lt, Bool, true, false, List, [], ◌∷◌, Option, Some, None, Result, Ok, Err, drop}
 use Rattle.std.specs.Option.{option_or}
 use Rattle.std.specs.Ordering.{int_eq}
+use Rattle.semantics.specs.Limits.{board_words}
 use Rattle.semantics.specs.declared.value.Region.{Region}
 use Rattle.semantics.specs.declared.request.Helper.{Helper}
 use Rattle.semantics.specs.declared.request.Helper.TheVariants.{BoardCopy, SendRow}
@@ -77,7 +78,7 @@ source_reason known region (Some window) = unset_in known region window
 -- the words that are copied stand on the board, and find room on the stack
 abbrev pub copy_reason : AbsVal → AbsVal → AbsVal → Option Reason
 copy_reason (Number slots) (Pointer region offsets) (Number counts) =
-    option_or (reason_if (nat_lt 64 (greatest slots + greatest counts)) reason.Argument) (write_refused region (window_from region offsets (8 * greatest counts)))
+    option_or (reason_if (nat_lt board_words (greatest slots + greatest counts)) reason.Argument) (write_refused region (window_from region offsets (8 * greatest counts)))
 copy_reason _ _ _ = None
 
 -- the orders that are sent are there

@@ -24,7 +24,7 @@ abbrev pub operand_known : List AbsVal → Operand → AbsVal
 operand_known known (Register r) = known_at known r
 operand_known known (Immediate n) = immediate_known n
 
--- of what an operation reads of dst: MOV reads nothing there
+-- what is known of what an operation reads of dst: MOV reads nothing there
 abbrev pub first_known : List AbsVal → Operation → ℕ → AbsVal
 first_known known Move dst = Number (single 0)
 first_known known _ dst = known_at known dst

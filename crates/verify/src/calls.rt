@@ -1,6 +1,7 @@
 //! What a call of a helper does to what is known.
 ghost use Rattle.std.specs.Prelude.{◌≡◌, ◌+◌, ◌*◌, ◌≤◌, ◌<◌, true, [], ◌∷◌, None, Some};
 ghost use Rattle.absval.specs.NumberSets.{within, greatest};
+ghost use Rattle.semantics.specs.Limits.{board_words, most_generals};
 ghost use Rattle.semantics.specs.Call.{helper_of};
 ghost use Rattle.absval.specs.Contains.{is_number};
 ghost use Rattle.helper.specs.Table.{bound_of, arguments_of};
@@ -16,7 +17,7 @@ use crate::registers::known_at;
 use crate::state::AbsState;
 use absmem::AbsStack;
 use absval::{AbsVal, NumberSet, Offsets, window_of};
-use helper::{Argument, Helper};
+use helper::{Argument, BOARD_WORDS, Helper};
 use range::Range;
 use semantics::Region;
 
@@ -99,7 +100,7 @@ fn is_certain(offsets: Offsets, counts: NumberSet) -> bool
 
 /// Words are written at an offset of the stack, so many of 8 bytes each.
 fn write_words(stack: &mut AbsStack, offsets: Offsets, counts: NumberSet) -> Result<(), Reason>
-    requires { greatest counts ≤ 64 }
+    requires { greatest counts ≤ board_words }
     ensures { let at = window_from Region.Stack offsets (8 * greatest counts) in outcome result stack.new ≡ unless (write_refused Region.Stack at) (written (is_certain offsets counts) at stack.old) }
 {
     let Some(window) = window_of(Region::Stack, offsets, 0, 8 * counts.greatest() as usize) else {
@@ -115,15 +116,15 @@ fn write_words(stack: &mut AbsStack, offsets: Offsets, counts: NumberSet) -> Res
 
 /// Words of the board are copied to a pointer: up to so many, from one of the slots on.
 fn copy(stack: &mut AbsStack, slots: AbsVal, target: AbsVal, counts: AbsVal) -> Result<(), Reason>
-    requires slots { IsBelow 64 slots }
+    requires slots { IsBelow board_words slots }
     requires target { IsPointer target }
-    requires counts { IsBelow 65 counts }
+    requires counts { IsBelow (board_words + 1) counts }
     ensures { outcome result stack.new ≡ unless (copy_reason slots target counts) (copied target counts stack.old) }
 {
     let slots = number(slots);
     let (region, offsets) = pointer(target);
     let counts = number(counts);
-    if slots.greatest() + counts.greatest() > 64 {
+    if slots.greatest() + counts.greatest() > BOARD_WORDS {
         return Err(Reason::Argument);
     }
     match region {
@@ -135,7 +136,7 @@ fn copy(stack: &mut AbsStack, slots: AbsVal, target: AbsVal, counts: AbsVal) -> 
 /// Orders are read at a pointer, up to so many of 4 bytes each.
 fn check_row(stack: &AbsStack, source: AbsVal, counts: AbsVal) -> Result<(), Reason>
     requires source { IsPointer source }
-    requires counts { IsBelow 14 counts }
+    requires counts { IsBelow (most_generals + 1) counts }
     ensures { result ≡ answer_of (row_reason stack.now source counts) }
 {
     let (region, offsets) = pointer(source);

@@ -12,7 +12,7 @@ pub enum Reason {
     JumpInWide,
     /// V4: the last instruction is not the exit.
     LastNotExit,
-    /// V5: a register is read that may be unset.
+    /// V5: a register is read of which nothing is known: it may be unset, or of different kinds on different ways.
     Unset,
     /// V6: the frame pointer is written.
     FrameWrite,

@@ -70,6 +70,7 @@ fn put_made(
     Ok(())
 }
 
+/// An operation on dst and an operand, whose result dst takes.
 fn arithmetic(
     state: &mut AbsState,
     width: Width,
@@ -86,6 +87,7 @@ fn arithmetic(
     put_made(state, dst, &second, made)
 }
 
+/// The negation of dst.
 fn negate(state: &mut AbsState, width: Width, dst: Reg) -> Result<(), Reason>
     ensures { outcome result state.new ≡ stepped (Insn.Negate width dst) state.old }
 {
@@ -94,6 +96,7 @@ fn negate(state: &mut AbsState, width: Width, dst: Reg) -> Result<(), Reason>
     put_made(state, dst, &value, made)
 }
 
+/// The low bytes of src, extended by their sign.
 fn sign_extend(
     state: &mut AbsState,
     width: Width,
@@ -108,6 +111,7 @@ fn sign_extend(
     put_made(state, dst, &value, made)
 }
 
+/// The low bytes of dst, put in an order.
 fn swap(state: &mut AbsState, order: ByteOrder, size: SwapSize, dst: Reg) -> Result<(), Reason>
     ensures { outcome result state.new ≡ stepped (Insn.Swap order size dst) state.old }
 {
@@ -116,6 +120,7 @@ fn swap(state: &mut AbsState, order: ByteOrder, size: SwapSize, dst: Reg) -> Res
     put_made(state, dst, &value, made)
 }
 
+/// An immediate number of 64 bits.
 fn load_immediate(state: &mut AbsState, dst: Reg, number: u64) -> Result<(), Reason>
     ensures { outcome result state.new ≡ stepped (Insn.LoadImmediate dst number) state.old }
 {
@@ -124,6 +129,7 @@ fn load_immediate(state: &mut AbsState, dst: Reg, number: u64) -> Result<(), Rea
     Ok(())
 }
 
+/// A load of a number, or of a pointer that is kept on the stack.
 fn load(state: &mut AbsState, size: Size, dst: Reg, base: Reg, offset: i16) -> Result<(), Reason>
     ensures { outcome result state.new ≡ stepped (Insn.Load size dst base offset) state.old }
 {
@@ -135,6 +141,7 @@ fn load(state: &mut AbsState, size: Size, dst: Reg, base: Reg, offset: i16) -> R
     Ok(())
 }
 
+/// A load of a number that is extended by its sign.
 fn load_signed(
     state: &mut AbsState,
     part: Narrow,
@@ -152,6 +159,7 @@ fn load_signed(
     Ok(())
 }
 
+/// A store of a number or of a pointer.
 fn store(
     state: &mut AbsState,
     size: Size,

@@ -8,7 +8,7 @@ use Rattle.outbox.proofs.orders.Outbox.sway.Goals as goal
 use Rattle.outbox.proofs.orders.Outbox.sway.Goals.{then-put, else-put}
 
 pub invariant_of-self : goal.invariant_of-self
-invariant_of-self c = sweep_stands (relay_of c.self.inside.shape c.self.inside.signing) (relay_of c.loop-rank.self-inside.shape c.loop-rank.self-inside.signing) c.args.receiver (λ k. c.args.value) c.loop-rank.rank c.self.inside.rows.items c.loop-rank.self-inside.rows.items c.self.invariant (same_relay c.loop-rank.invariant.shape c.loop-rank.invariant.signing) c.loop-rank.invariant.rows
+invariant_of-self c = sweep_stands (relay_of c.self.inside.shape c.self.inside.signing) (relay_of c.loop-rank.self-inside.shape c.loop-rank.self-inside.signing) c.args.receiver (λ k. c.args.order) c.loop-rank.rank c.self.inside.rows.items c.loop-rank.self-inside.rows.items c.self.invariant (same_relay c.loop-rank.invariant.shape c.loop-rank.invariant.signing) c.loop-rank.invariant.rows
 
 pub overflow_add-set : goal.overflow_add-set
 overflow_add-set c =
@@ -22,21 +22,21 @@ loop-rank-preserved c =
     record {
       shape = c.loop-rank.invariant.shape;
       signing = c.loop-rank.invariant.signing;
-      rows = sweep_step c.args.receiver (λ k. c.args.value) c.loop-rank.rank c.self.inside.rows.items c.loop-rank.self-inside.rows.items c.index_mut.result.now c.put.new.self c.loop-rank.invariant.rows inside c.index_mut.ensures.value c.put.ensures.row;
+      rows = sweep_step c.args.receiver (λ k. c.args.order) c.loop-rank.rank c.self.inside.rows.items c.loop-rank.self-inside.rows.items c.index_mut.result.now c.put.new.self c.loop-rank.invariant.rows inside c.index_mut.ensures.value c.put.ensures.row;
       set =
           (elim c.if-put.branch [
             | then-put w ↦ w.set-is ∙ ap (λ b. c.loop-rank.set + cond {A = ℕ} b 1 0) (sym w.if-put.true)
             | else-put w ↦ (w.set-is ∙ omega arith) ∙ ap (λ b. c.loop-rank.set + cond {A = ℕ} b 1 0) (sym w.if-put.false)
           ])
-          ∙ count_step c.args.receiver (λ k. c.args.value) c.loop-rank.rank c.loop-rank.set c.self.inside.rows.items c.loop-rank.self-inside.rows.items c.index_mut.result.now c.put.result c.loop-rank.invariant.rows inside c.index_mut.ensures.value c.put.ensures.there c.loop-rank.invariant.set;
+          ∙ count_step c.args.receiver (λ k. c.args.order) c.loop-rank.rank c.loop-rank.set c.self.inside.rows.items c.loop-rank.self-inside.rows.items c.index_mut.result.now c.put.result c.loop-rank.invariant.rows inside c.index_mut.ensures.value c.put.ensures.there c.loop-rank.invariant.set;
     }
 
 pub returns-clause-rows : goal.returns-clause-rows
 returns-clause-rows c =
     let all : c.loop-rank.rank ≡ length c.self.inside.rows.items = omega arith in
-    sweep_written (at_receiver c.args.receiver c.args.value) c.args.self.now (relay_of c.self.inside.shape c.self.inside.signing) (entries_of c.self.inside.signing) c.args.receiver (λ k. c.args.value) c.loop-rank.rank c.self.inside.rows.items c.loop-rank.self-inside.rows.items (λ k b n. refl) c.self.view_is c.self.invariant all c.loop-rank.invariant.rows
+    sweep_written (at_receiver c.args.receiver c.args.order) c.args.self.now (relay_of c.self.inside.shape c.self.inside.signing) (entries_of c.self.inside.signing) c.args.receiver (λ k. c.args.order) c.loop-rank.rank c.self.inside.rows.items c.loop-rank.self-inside.rows.items (λ k b n. refl) c.self.view_is c.self.invariant all c.loop-rank.invariant.rows
 
 pub returns-clause-count : goal.returns-clause-count
 returns-clause-count c =
     let all : c.loop-rank.rank ≡ length c.self.inside.rows.items = omega arith in
-    sweep_counted (at_receiver c.args.receiver c.args.value) c.args.self.now (relay_of c.self.inside.shape c.self.inside.signing) (entries_of c.self.inside.signing) c.args.receiver (λ k. c.args.value) c.loop-rank.rank c.loop-rank.set c.self.inside.rows.items (λ k b n. refl) c.self.view_is c.self.invariant all c.loop-rank.invariant.set
+    sweep_counted (at_receiver c.args.receiver c.args.order) c.args.self.now (relay_of c.self.inside.shape c.self.inside.signing) (entries_of c.self.inside.signing) c.args.receiver (λ k. c.args.order) c.loop-rank.rank c.loop-rank.set c.self.inside.rows.items (λ k b n. refl) c.self.view_is c.self.invariant all c.loop-rank.invariant.set
