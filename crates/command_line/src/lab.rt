@@ -170,7 +170,7 @@ fn with_file_command<'a>(
     lab.subcommand(Command::new(alloc, name).about(about).arg(file)?)
 }
 
-/// A file that has to be there.
+/// An argument that has to be there.
 fn required_argument<'a>(alloc: Global, id: &'a str, name: &'a str, help: &'a str) -> Arg<'a>
     ensures rule { rule_of result ≡ required_rule id.entry.now }
     ensures local { result.global ≡ false }
