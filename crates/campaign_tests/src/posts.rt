@@ -40,9 +40,9 @@ fn numbered(alloc: Global, general: u32, number: u32) -> Result<Letter, Fail>
 
 /// A post of three generals with room for two letters, the posters of generals 1 and 2, and the collector.
 fn post_of_three(alloc: Global) -> Result<(Post, Poster, Poster, Collector), Fail>
-    ensures first { IfOk result (λ r. (r.1.post ≡ r.0.post) × (r.1.general ≡ 1)) }
-    ensures second { IfOk result (λ r. (r.2.post ≡ r.0.post) × (r.2.general ≡ 2)) }
-    ensures collector { IfOk result (λ r. r.3.post ≡ r.0.post) }
+    ensures first { IfOk result (λ r. (r.1.table ≡ r.0.table) × (r.1.general ≡ 1)) }
+    ensures second { IfOk result (λ r. (r.2.table ≡ r.0.table) × (r.2.general ≡ 2)) }
+    ensures collector { IfOk result (λ r. r.3.table ≡ r.0.table) }
 {
     let (post, mut posters, collector) = Post::new(alloc, 3, 2)?;
     let second = posters.pop().ok_or("a poster")?;
@@ -52,9 +52,9 @@ fn post_of_three(alloc: Global) -> Result<(Post, Poster, Poster, Collector), Fai
 
 /// There is room for the letter.
 fn goes_in<R: Wait + Abort>(rt: &R, post: &Post, poster: Poster, letter: Letter) -> Poster
-    requires post { poster.post ≡ post.now.post }
+    requires post { poster.table ≡ post.now.table }
     requires general { letter.general ≡ poster.general }
-    ensures post { result.post ≡ poster.post }
+    ensures post { result.table ≡ poster.table }
     ensures general { result.general ≡ poster.general }
 {
     let (poster, sent) = post.post(rt, poster, letter);
@@ -70,9 +70,9 @@ fn comes_back<R: Wait + Abort>(
     poster: Poster,
     letter: Letter,
 ) -> Result<Poster, Fail>
-    requires post { poster.post ≡ post.now.post }
+    requires post { poster.table ≡ post.now.table }
     requires general { letter.general ≡ poster.general }
-    ensures post { IfOk result (λ poster'. poster'.post ≡ poster.post) }
+    ensures post { IfOk result (λ poster'. poster'.table ≡ poster.table) }
     ensures general { IfOk result (λ poster'. poster'.general ≡ poster.general) }
 {
     let same = letter.copy(alloc)?;
@@ -88,8 +88,8 @@ fn comes_next<R: Wait + Abort>(
     collector: Collector,
     expected: Option<Letter>,
 ) -> Collector
-    requires { collector.post ≡ post.now.post }
-    ensures { result.post ≡ collector.post }
+    requires { collector.table ≡ post.now.table }
+    ensures { result.table ≡ collector.table }
 {
     let (collector, taken) = post.take(rt, collector);
     match (&taken, &expected) {
@@ -108,10 +108,10 @@ fn exchange<R: Wait + Abort>(
     second: Poster,
     collector: Collector,
 ) -> Result<(Poster, Poster, Collector), Fail>
-    requires first { (first.post ≡ post.now.post) × (first.general ≡ 1) }
-    requires second { (second.post ≡ post.now.post) × (second.general ≡ 2) }
-    requires collector { collector.post ≡ post.now.post }
-    ensures { IfOk result (λ r. (r.0.post ≡ post.now.post) × (r.1.post ≡ post.now.post) × (r.2.post ≡ post.now.post)) }
+    requires first { (first.table ≡ post.now.table) × (first.general ≡ 1) }
+    requires second { (second.table ≡ post.now.table) × (second.general ≡ 2) }
+    requires collector { collector.table ≡ post.now.table }
+    ensures { IfOk result (λ r. (r.0.table ≡ post.now.table) × (r.1.table ≡ post.now.table) × (r.2.table ≡ post.now.table)) }
 {
     let first = goes_in(rt, post, first, numbered(alloc, 1, 1)?);
     let second = goes_in(rt, post, second, numbered(alloc, 2, 1)?);
@@ -130,9 +130,9 @@ fn leaves<R: Wait + Abort>(
     collector: Collector,
     expected: &[Letter],
 ) -> Result<(), Fail>
-    requires first { posters.0.post ≡ post.post }
-    requires second { posters.1.post ≡ post.post }
-    requires collector { collector.post ≡ post.post }
+    requires first { posters.0.table ≡ post.table }
+    requires second { posters.1.table ≡ post.table }
+    requires collector { collector.table ≡ post.table }
 {
     let posters = Vec::from_array(alloc, [posters.0, posters.1])?;
     let left = post.settle(rt, posters, collector)?;
@@ -185,9 +185,9 @@ fn repeated(alloc: Global, originals: &[Letter]) -> Result<Vec<Letter>, Fail> {
 
 /// Posts a letter, as soon as there is room.
 fn send<R: Wait>(rt: &R, post: &Post, mut poster: Poster, mut letter: Letter) -> Poster
-    requires post { poster.post ≡ post.now.post }
+    requires post { poster.table ≡ post.now.table }
     requires general { letter.general ≡ poster.general }
-    ensures post { result.post ≡ poster.post }
+    ensures post { result.table ≡ poster.table }
     ensures general { result.general ≡ poster.general }
 {
     for _ in rt.forever() {
@@ -211,7 +211,7 @@ fn send_all<R: Wait>(
     letters: Vec<Letter>,
     ended: &AtomicU32,
 ) -> bool
-    requires post { poster.post ≡ post.now.post }
+    requires post { poster.table ≡ post.now.table }
     requires general { poster.general ≡ general }
 {
     let mut own = true;
@@ -235,7 +235,7 @@ fn receive<R: Wait>(
     expected: &[Vec<Letter>; 2],
     ended: &AtomicU32,
 ) -> bool
-    requires { collector.post ≡ post.now.post }
+    requires { collector.table ≡ post.now.table }
 {
     let mut next = [0; 2];
     let mut in_order = true;
@@ -274,9 +274,9 @@ fn come_in_order<R: Threads + Wait + Sync>(
     sent: (Vec<Letter>, Vec<Letter>),
     expected: &[Vec<Letter>; 2],
 ) -> bool
-    requires first { (posters.0.post ≡ post.now.post) × (posters.0.general ≡ 0) }
-    requires second { (posters.1.post ≡ post.now.post) × (posters.1.general ≡ 1) }
-    requires collector { collector.post ≡ post.now.post }
+    requires first { (posters.0.table ≡ post.now.table) × (posters.0.general ≡ 0) }
+    requires second { (posters.1.table ≡ post.now.table) × (posters.1.general ≡ 1) }
+    requires collector { collector.table ≡ post.now.table }
 {
     let (first, second) = posters;
     let (firsts, seconds) = sent;
@@ -285,21 +285,21 @@ fn come_in_order<R: Threads + Wait + Sync>(
     let (sent, received) = thread::join(
         rt,
         move || -> bool
-            requires { (first.post ≡ post.now.post) × (first.general ≡ 0) × (second.post ≡ post.now.post) × (second.general ≡ 1) }
+            requires { (first.table ≡ post.now.table) × (first.general ≡ 0) × (second.table ≡ post.now.table) × (second.general ≡ 1) }
         {
             let (one, other) = thread::join(
                 rt,
                 move || -> bool
-                    requires { (first.post ≡ post.now.post) × (first.general ≡ 0) }
+                    requires { (first.table ≡ post.now.table) × (first.general ≡ 0) }
                 { send_all(rt, post, first, 0, firsts, count) },
                 move || -> bool
-                    requires { (second.post ≡ post.now.post) × (second.general ≡ 1) }
+                    requires { (second.table ≡ post.now.table) × (second.general ≡ 1) }
                 { send_all(rt, post, second, 1, seconds, count) },
             );
             one && other
         },
         move || -> bool
-            requires { collector.post ≡ post.now.post }
+            requires { collector.table ≡ post.now.table }
         { receive(rt, post, collector, expected, count) },
     );
     sent && received

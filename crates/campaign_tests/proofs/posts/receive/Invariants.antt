@@ -2,4 +2,4 @@ use Rattle.std.proofs.Common.{◌≡◌}
 use Rattle.campaign_tests.proofs.posts.receive.Given as goal
 
 abbrev pub invariant-loop : goal.invariant-loop
-invariant-loop g l = l.collector.post ≡ l.post.post
+invariant-loop g l = l.collector.table ≡ l.post.table
