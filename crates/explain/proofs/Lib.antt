@@ -1,2 +1,9 @@
 pub mod UnitLemmas
 pub mod SurveyLemmas
+pub mod RegistersTold
+pub mod ReachesTold
+pub mod MemoryTold
+pub mod CallsTold
+pub mod InstructionsTold
+pub mod StructureTold
+pub mod RefusalsTold

@@ -3,3 +3,4 @@ pub mod Reads
 pub mod Sentences
 pub mod Shortfalls
 pub mod Explained
+pub mod Laws

@@ -2,6 +2,7 @@
 #![tactic(auto)]
 
 mod accesses;
+mod laws;
 mod lines;
 mod misfits;
 mod misuse;
@@ -12,6 +13,7 @@ mod sentence;
 mod shortfall;
 mod values;
 
+pub use laws::refusals_are_told;
 pub use lines::explanation;
 pub use sentence::{Access, Misfit, Misuse, Sentence, Structure};
 pub use values::{Known, Span};
