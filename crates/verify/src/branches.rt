@@ -99,8 +99,8 @@ fn refine_registers(
     true
 }
 
-/// Narrows the registers to what they may hold on both edges of the jump, from one state twice, and answers which of the edges may be
-/// taken at all.
+/// Narrows two copies of one state to what may hold where the jump is taken, and where it is not, and answers which
+/// of these edges may be taken at all.
 pub fn refine(state: &mut AbsState, other: &mut AbsState, compared: &Comparison) -> Followed
     requires { other.old ≡ state.old }
     ensures taken { (if result.taken then Some state.new else None) ≡ narrowed compared.now true state.old }
