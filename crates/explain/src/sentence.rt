@@ -204,7 +204,10 @@ impl fmt::Display for Misuse {
         match *self {
             Misuse::Unset(r) => {
                 let r = r.number();
-                write!(f, "r{r} is read, and may be unset, or of different kinds on different ways")
+                write!(
+                    f,
+                    "r{r} is read, and may be unset, or of different kinds on different ways"
+                )
             }
             Misuse::Frame => f.write_str("r10 is written, which marks the end of the stack"),
             Misuse::Far(r, region, span) => {
