@@ -5,9 +5,16 @@
 # It offers what `byzlab --help` and the help of each subcommand list (./documented compares them), and files otherwise.
 
 _byzlab() {
-    local word=${COMP_WORDS[COMP_CWORD]} commands="check asm dis book table muster play audit help" offered
-    case $COMP_CWORD:${COMP_WORDS[1]-}:$word in
-    1:*) offered="$commands -h --help -V --version" ;;
+    local words=("${COMP_WORDS[@]}") at=$COMP_CWORD script="prove --try" offered
+    local commands="check asm dis book table muster play audit help"
+    # (behind --try stand the same words; it and prove are the script's)
+    if [ "$at" -gt 1 ] && [ "${words[1]}" = --try ]; then
+        words=("${words[0]}" "${words[@]:2}") at=$((at - 1)) script=
+    fi
+    local word=${words[at]}
+    case $at:${words[1]-}:$word in
+    1:*) offered="$commands $script -h --help -V --version" ;;
+    *:prove:-*) offered="-h --help" ;;
     2:help:*) offered=$commands ;;
     *:help:*) offered= ;;
     *:play:-*) offered="--schedule -h --help" ;;
