@@ -102,12 +102,10 @@ pub struct Item {
 impl Item {
     /// The item of a line, without a text.
     pub fn of(alloc: Global, key: Key, value: &str) -> Result<Item, AllocError> {
-        Ok(
-            Item {
-                key,
-                value: String::from_str(alloc, value)?,
-                block: Vec::new(alloc),
-            },
-        )
+        Ok(Item {
+            key,
+            value: String::from_str(alloc, value)?,
+            block: Vec::new(alloc),
+        })
     }
 }

@@ -39,7 +39,11 @@ fn text_end<'a>(pattern: &'a [u8], text: &'a [u8]) -> End<'a> {
         text = after;
         pattern = behind;
     }
-    if text.is_empty() { End::Here } else { End::Elsewhere }
+    if text.is_empty() {
+        End::Here
+    } else {
+        End::Elsewhere
+    }
 }
 
 /// What is behind this byte.
@@ -59,7 +63,11 @@ fn behind_number(text: &[u8]) -> Option<&[u8]> {
         }
         rest = behind;
     }
-    if rest.len() < text.len() { Some(rest) } else { None }
+    if rest.len() < text.len() {
+        Some(rest)
+    } else {
+        None
+    }
 }
 
 /// Whether some end of the text is like the pattern, which stands behind a star.

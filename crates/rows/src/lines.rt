@@ -9,7 +9,11 @@ pub fn lines(alloc: Global, text: &[u8]) -> Result<Vec<&[u8]>, AllocError> {
     while !rest.is_empty() {
         let length = length_of_line(rest);
         lines.push(&rest[..length])?;
-        rest = if length < rest.len() { &rest[length + 1..] } else { &[] };
+        rest = if length < rest.len() {
+            &rest[length + 1..]
+        } else {
+            &[]
+        };
     }
     Ok(lines)
 }

@@ -5,7 +5,7 @@ use crate::reading::rows;
 use crate::row::{Call, Row};
 use crate::shelf::{Content, Shelf};
 use crate::shelving::shelf;
-use crate::telling::told;
+use crate::telling::answered;
 use anyhow::{Result, bail};
 use std::fs;
 use std::rt::Files;
@@ -71,7 +71,7 @@ fn called<R: Files + Threads + Wait + Sync + AllocGlobal>(
             _ => {}
         }
     }
-    let told = told(rt, words.as_slice(), shelf, call.has(Key::Full))?;
+    let told = answered(rt, words.as_slice(), shelf, call.has(Key::Full))?;
     let difference = difference(rt, call, shelf, &told)?;
     if let Some(name) = call.value(Key::Keep) {
         shelf.put(alloc, name, Content::Bytes(told.out))?;

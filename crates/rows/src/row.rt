@@ -22,13 +22,11 @@ pub struct Call {
 impl Row {
     /// A row of this name, without files and calls.
     pub fn named(alloc: Global, name: &str) -> Result<Row, AllocError> {
-        Ok(
-            Row {
-                name: String::from_str(alloc, name)?,
-                files: Vec::new(alloc),
-                calls: Vec::new(alloc),
-            },
-        )
+        Ok(Row {
+            name: String::from_str(alloc, name)?,
+            files: Vec::new(alloc),
+            calls: Vec::new(alloc),
+        })
     }
 
     /// Takes the item in: it belongs to the last call, or to the files where there is none yet.

@@ -60,10 +60,12 @@ impl Shelf {
     /// The bytes of the last file.
     pub fn last(&mut self) -> Option<&mut Vec<u8>> {
         match self.files.last_mut() {
-            Some(Named {
-                content: Content::Bytes(bytes),
-                ..
-            }) => Some(bytes),
+            Some(
+                Named {
+                    content: Content::Bytes(bytes),
+                    ..
+                },
+            ) => Some(bytes),
             _ => None,
         }
     }

@@ -40,12 +40,7 @@ fn shelve<R: Files + AllocGlobal>(rt: &R, shelf: &mut Shelf, item: &Item) -> Res
 }
 
 /// Puts a file: a copy of another where the value says `NAME = OTHER`, and the text otherwise.
-fn put<R: Files + AllocGlobal>(
-    rt: &R,
-    shelf: &mut Shelf,
-    value: &str,
-    block: &[u8],
-) -> Result<()> {
+fn put<R: Files + AllocGlobal>(rt: &R, shelf: &mut Shelf, value: &str, block: &[u8]) -> Result<()> {
     let alloc = rt.alloc();
     let (name, bytes) = match value.split_once(" = ") {
         Some((name, other)) => (name, copied(rt, shelf, other)?),
@@ -73,7 +68,12 @@ fn change(alloc: Global, bytes: &mut Vec<u8>, item: &Item) -> Result<()> {
             };
             bytes.extend_from_slice(more.as_slice())?;
         }
-        Key::Line => *bytes = with_line(alloc, bytes.as_slice(), number(value)?, item.block.as_slice())?,
+        Key::Line => *bytes = with_line(
+            alloc,
+            bytes.as_slice(),
+            number(value)?,
+            item.block.as_slice(),
+        )?,
         Key::Cut => bytes.truncate(number(value)?),
         _ => {
             let _ = bytes.pop();

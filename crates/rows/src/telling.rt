@@ -27,7 +27,7 @@ impl Told {
 }
 
 /// What the program answers to these words with these files. A file that it writes is put with them.
-pub fn told<R: Threads + Wait + Sync + AllocGlobal>(
+pub fn answered<R: Threads + Wait + Sync + AllocGlobal>(
     rt: &R,
     words: &[&str],
     shelf: &mut Shelf,
@@ -55,13 +55,11 @@ fn refused(alloc: Global, error: TaskError) -> Result<Told> {
             if error.use_stderr() {
                 return Ok(Told::fault(alloc, 2, text));
             }
-            Ok(
-                Told {
-                    out: text.into_bytes(),
-                    err: Vec::new(alloc),
-                    status: 0,
-                },
-            )
+            Ok(Told {
+                out: text.into_bytes(),
+                err: Vec::new(alloc),
+                status: 0,
+            })
         }
         TaskError::Memory => bail!("out of memory"),
         error => Ok(Told::fault(alloc, 2, format!(in alloc; "{error}\n")?)),
@@ -123,11 +121,9 @@ fn written(alloc: Global, task: &Task, shelf: &mut Shelf, told: Told) -> Result<
     if !out.is_empty() {
         shelf.put(alloc, name, Content::Bytes(out))?;
     }
-    Ok(
-        Told {
-            out: Vec::new(alloc),
-            err,
-            status,
-        },
-    )
+    Ok(Told {
+        out: Vec::new(alloc),
+        err,
+        status,
+    })
 }
