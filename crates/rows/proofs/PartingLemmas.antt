@@ -3,8 +3,8 @@ use Rattle.std.proofs.Common.{◌≡◌, ◌↔◌, ℕ, suc, ◌-◌, ◌<◌, 
 use Rattle.std.specs.Prelude.{◌==◌, if◌then◌else◌}
 use Rattle.std.proofs.lemmas.Bool.{eqb-true, eq-eqb}
 use Rattle.std.proofs.lemmas.List.{length-drop}
-use Rattle.campaigns.specs.declared.comparing.Outcome.TheVariants.{AsStored}
-use Rattle.campaigns.specs.Comparing.{parting, outcome_by}
+use Rattle.rows.specs.declared.comparing.Outcome.TheVariants.{AsStored}
+use Rattle.rows.specs.Comparing.{parting, outcome_by}
 
 both : (c d : ℕ) (cs ds : List ℕ) → c ≡ d → cs ≡ ds → c ∷ cs ≡ d ∷ ds
 both c d cs ds e f = rw (e, f) refl

@@ -1,7 +1,7 @@
 -- Where two texts part (own).
 use Rattle.std.specs.Prelude.{ℕ, suc, ◌==◌, List, [], ◌∷◌, if◌then◌else◌, Option, Some, None}
-use Rattle.campaigns.specs.declared.comparing.Outcome.{Outcome}
-use Rattle.campaigns.specs.declared.comparing.Outcome.TheVariants.{AsStored, Differs}
+use Rattle.rows.specs.declared.comparing.Outcome.{Outcome}
+use Rattle.rows.specs.declared.comparing.Outcome.TheVariants.{AsStored, Differs}
 
 -- the line in which two texts first differ, if they do; the given one is their first
 abbrev pub parting : ℕ → List ℕ → List ℕ → Option ℕ

@@ -1,7 +1,7 @@
 //! Whether a text is the stored one.
 ghost use Rattle.std.specs.Prelude.{◌≡◌, ◌↔◌};
-ghost use Rattle.campaigns.specs.declared.comparing.Outcome.TheVariants.{AsStored};
-ghost use Rattle.campaigns.specs.Comparing.{parting, outcome_by};
+ghost use Rattle.rows.specs.declared.comparing.Outcome.TheVariants.{AsStored};
+ghost use Rattle.rows.specs.Comparing.{parting, outcome_by};
 
 use std::fmt;
 

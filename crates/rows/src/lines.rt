@@ -1,4 +1,6 @@
 //! Lines of an answer.
+ghost use Rattle.std.specs.Prelude.{◌≤◌, length};
+
 use crate::likeness::is_like;
 use std::alloc::{AllocError, Global};
 
