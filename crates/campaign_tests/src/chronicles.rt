@@ -1,6 +1,6 @@
-//! Texts of scenarios and schedules: what refusals print, and that texts that are cut or changed are answered.
+//! Texts of scenarios and schedules: how faults are printed, and that texts that are cut or changed are answered.
 
-use crate::scenarios::{COLLUSION, FOUR};
+use crate::scenarios::COLLUSION;
 use scenario::{ScenarioError, read};
 use std::alloc::{AllocError, Global};
 use std::process::Abort;
@@ -14,139 +14,6 @@ const SCHEDULE: &str = "4*15 0*2
 1*1 2 3
 4*15
 ";
-
-/// What is answered to a scenario's text: the first fault as it is printed, or that there is none.
-fn answer(alloc: Global, text: &str) -> Result<String, AllocError> {
-    match read(alloc, text) {
-        Ok(_) => String::from_str(alloc, "accepted"),
-        Err(error) => error.to_string(alloc),
-    }
-}
-
-/// Heads, and their first fault.
-const HEADS: &[(&str, &str)] = &[
-    ("generals", "S1"),
-    ("generals = 99999999999999999999", "S1"),
-    ("generals = 4\nzeal = 1\narms = 1", "S2 arms"),
-    ("", "S2 generals"),
-    ("generals = 4\nbound = 1\ncommander = 0", "S2 order"),
-    ("generals = \"4\"", "S3 generals"),
-    ("generals = 14", "S4 generals"),
-    ("generals = 4\nbound = 3", "S4 bound"),
-    ("generals = 4\nbound = 1\ncommander = -1", "S4 commander"),
-    ("generals = 4\nbound = 1\ncommander = 4", "S5 commander"),
-    (
-        "generals = 4\nbound = 1\ncommander = 0\norder = 4294967296",
-        "S4 order",
-    ),
-];
-
-#[test]
-fn heads_are_refused(rt: HostRuntime) -> Result<(), Fail> {
-    let alloc = rt.alloc();
-    for &(text, expected) in HEADS {
-        assert_eq!(rt; answer(alloc, text)?.as_str(), expected, "{text}");
-    }
-    Ok(())
-}
-
-/// What stands behind the head, and the first fault.
-const CONDITIONS: &[(&str, &str)] = &[
-    ("", "accepted"),
-    ("board = 1", "S3 board"),
-    ("board = [0, -1, \"x\"]", "S3 board[2]"),
-    ("board = [0, -1]", "S4 board[1]"),
-    ("patience = \"3\"", "S3 patience"),
-    ("patience = 0", "S4 patience"),
-    ("patience = 4097", "S4 patience"),
-    ("rule = 1", "S3 rule"),
-    ("rule = \"mean\"", "S4 rule"),
-    ("traitor = 1", "S3 traitor"),
-    ("traitor = [1]", "S3 traitor[0]"),
-    ("[[traitor]]", "S2 traitor[0].general"),
-    ("[[traitor]]\ngeneral = 4", "S5 traitor[0].general"),
-    ("[[traitor]]\ngeneral = 3", "S2 traitor[0].asm"),
-    ("[[traitor]]\ngenius = 3", "S2 traitor[0].genius"),
-    (
-        "[[traitor]]\ngeneral = 3\nasm = \"mov r0, 0\\nexit\"\n[[traitor]]\ngeneral = 3\n",
-        "S6 traitor[1].general",
-    ),
-];
-
-#[test]
-fn conditions_and_tables_are_refused(rt: HostRuntime) -> Result<(), Fail> {
-    let alloc = rt.alloc();
-    for &(rest, expected) in CONDITIONS {
-        let text = format!(in alloc; "{FOUR}{rest}")?;
-        assert_eq!(rt; answer(alloc, text.as_str())?.as_str(), expected, "{rest}");
-    }
-    Ok(())
-}
-
-/// Programs of a traitor, and the first fault.
-const SOURCES: &[(&str, &str)] = &[
-    ("asm = \"foo\"", "S7 traitor 3 A2 line 1"),
-    (
-        "asm = \"mov r0, 0\\nja nowhere\\nexit\"",
-        "S7 traitor 3 A4 line 2",
-    ),
-    ("code = \"b7\"", "S7 traitor 3 C1 unit 0"),
-    ("code = \"\"", "S7 traitor 3 C8 unit 0"),
-    ("code = \"xy\"", "S7 traitor 3 hex"),
-    ("code = \"b7000\"", "S7 traitor 3 hex"),
-    ("asm = \"exit\"", "S8 traitor 3 V5 unit 0"),
-    ("code = \"9500000000000000\"", "S8 traitor 3 V5 unit 0"),
-    ("code = \"b7000000000000009500000000000000\"", "accepted"),
-    ("asm = \"mov r0, 0\\nexit\"", "accepted"),
-    ("asm = 7", "S3 traitor[0].asm"),
-    ("code = 7", "S3 traitor[0].code"),
-];
-
-#[test]
-fn programs_are_refused(rt: HostRuntime) -> Result<(), Fail> {
-    let alloc = rt.alloc();
-    for &(source, expected) in SOURCES {
-        let text = format!(in alloc; "{FOUR}[[traitor]]\ngeneral = 3\n{source}")?;
-        assert_eq!(rt;
-            answer(alloc, text.as_str())?.as_str(),
-            expected,
-            "{source}"
-        );
-    }
-    assert_eq!(rt;
-        ScenarioError::Memory.to_string(alloc)?.as_str(),
-        "out of memory"
-    );
-    Ok(())
-}
-
-/// Schedules, and the line at fault.
-const FAULTY_SCHEDULES: &[(&str, u64)] = &[
-    ("13", 1),
-    ("0\n3*0", 2),
-    ("0\n\n3*4097\n", 3),
-    ("0  1", 1),
-    ("01", 1),
-    ("1*2*3", 1),
-    ("0\n0\n0\n0\n0\n0", 6),
-    ("0\n0\nx\n0\n0\n0", 3),
-];
-
-/// Schedules that are accepted.
-const SCHEDULES: &[&str] = &["", "\n\n\n\n\n", SCHEDULE, "0*4096 12*1\n"];
-
-#[test]
-fn schedules_are_refused(rt: HostRuntime) -> Result<(), Fail> {
-    let alloc = rt.alloc();
-    for &(text, line) in FAULTY_SCHEDULES {
-        let fault = read_schedule(alloc, text).err();
-        assert!(rt; fault == Some(TraceError::At(Fault::Line, line)), "{text}");
-    }
-    for text in SCHEDULES {
-        assert!(rt; read_schedule(alloc, text).is_ok(), "{text}");
-    }
-    Ok(())
-}
 
 /// Faults, and how they are printed.
 const PRINTED_FAULTS: &[(TraceError, &str)] = &[
@@ -163,6 +30,10 @@ fn faults_of_texts_are_printed(rt: HostRuntime) -> Result<(), Fail> {
     for &(fault, expected) in PRINTED_FAULTS {
         assert_eq!(rt; fault.to_string(alloc)?.as_str(), expected);
     }
+    assert_eq!(rt;
+        ScenarioError::Memory.to_string(alloc)?.as_str(),
+        "out of memory"
+    );
     Ok(())
 }
 

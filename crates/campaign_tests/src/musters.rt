@@ -1,7 +1,7 @@
 //! Campaigns whose generals act in threads.
 
-use crate::campaigns::{AGREED, NUMBERED, NUMBERING, TWO, TWO_LOYAL, finishes};
-use crate::scenarios::{FOUR, FOUR_RETREAT, SWAYED, SWAYED_CHRONICLE, THREE, idle, told};
+use crate::campaigns::AGREED;
+use crate::scenarios::FOUR;
 use crate::threaded::{ADDER, SEVEN, campaign, colluders, replays, text, word};
 use board::Access;
 use round::Scenario;
@@ -18,49 +18,6 @@ const SWAYING: &str = "mov r1, 1
 mov r2, 0
 call sway
 mov r1, 2
-mov r2, 0
-call sway
-exit
-";
-
-/// Tells 1, 2 and 3 the orders 1, 2 and 3.
-const THREE_ORDERS: &str = "mov r1, 1
-mov r2, 1
-call sway
-mov r1, 2
-mov r2, 2
-call sway
-mov r1, 3
-mov r2, 3
-call sway
-exit
-";
-
-/// Tells 1, 2 and 3 the orders 1, 0 and 1.
-const SPLIT_ORDERS: &str = "mov r1, 1
-mov r2, 1
-call sway
-mov r1, 2
-mov r2, 0
-call sway
-mov r1, 3
-mov r2, 1
-call sway
-exit
-";
-
-/// Tells 1 and 2 the orders 1 and 0, and 3 nothing.
-const NOTHING_TO_THIRD: &str = "mov r1, 1
-mov r2, 1
-call sway
-mov r1, 2
-mov r2, 0
-call sway
-exit
-";
-
-/// Tells 1 the order 0.
-const CONTRARY: &str = "mov r1, 1
 mov r2, 0
 call sway
 exit
@@ -84,76 +41,6 @@ fn mustered<R: Threads + Wait + Abort + Sync>(
     let told = text(alloc, &muster(rt, alloc, scenario, &Open)?)?;
     assert!(rt; told.as_slice() == played.as_slice());
     Ok(told)
-}
-
-/// Campaigns, and their chronicles.
-const CHRONICLES: &[(&str, &str)] = &[
-    (SWAYED, SWAYED_CHRONICLE),
-    (TWO_LOYAL, TWO),
-    (NUMBERING, NUMBERED),
-];
-
-#[test]
-fn musters_have_their_chronicles(rt: HostRuntime) -> Result<(), Fail> {
-    let alloc = rt.alloc();
-    for &(campaign, expected) in CHRONICLES {
-        let told = mustered(&rt, alloc, told(alloc, campaign)?)?;
-        assert_eq!(rt; told.as_slice(), expected.as_bytes());
-    }
-    Ok(())
-}
-
-/// The keys of a campaign, its traitor and his program, and how its text ends.
-const ENDS: &[(&str, (u8, &str), &str)] = &[
-    // under a traitor who commands
-    (
-        FOUR_RETREAT,
-        (0, SPLIT_ORDERS),
-        "decision 1 1\ndecision 2 1\ndecision 3 1\nverdict alike yes obeyed - bound yes\n",
-    ),
-    (
-        FOUR_RETREAT,
-        (0, NOTHING_TO_THIRD),
-        "decision 1 0\ndecision 2 0\ndecision 3 0\nverdict alike yes obeyed - bound yes\n",
-    ),
-    (
-        FOUR_RETREAT,
-        (0, THREE_ORDERS),
-        "decision 1 0\ndecision 2 0\ndecision 3 0\nverdict alike yes obeyed - bound yes\n",
-    ),
-    // three generals do not agree
-    (
-        THREE,
-        (2, CONTRARY),
-        "verdict alike yes obeyed no bound no\n",
-    ),
-    (
-        "rule = \"median\"\ngenerals = 3\nbound = 1\ncommander = 0\norder = 1\n",
-        (2, CONTRARY),
-        "verdict alike yes obeyed yes bound no\n",
-    ),
-    // impatience cuts a traitor off
-    (
-        "patience = 3\ngenerals = 4\nbound = 1\ncommander = 0\norder = 1\n",
-        (3, SWAYING),
-        "letter 3 steps 3
-row 0 0 -
-decision 1 1
-decision 2 1
-decision 3 traitor 1
-verdict alike yes obeyed yes bound yes
-",
-    ),
-];
-
-#[test]
-fn musters_end_in_their_verdicts(rt: HostRuntime) -> Result<(), Fail> {
-    let alloc = rt.alloc();
-    for &(keys, traitor, end) in ENDS {
-        let told = mustered(&rt, alloc, campaign(alloc, keys, &[traitor])?)?;
-        assert!(rt; told.as_slice().ends_with(end.as_bytes()), "{end}");
-    }
-    Ok(())
 }
 
 /// Whether the replies of the accesses ascend from this one on, and two are in each round.
@@ -202,16 +89,6 @@ fn two_colluders_in_any_order(rt: HostRuntime) -> Result<(), Fail> {
         let keys = format!(in alloc; "{keys}{SEVEN}")?;
         collude(&rt, alloc, keys.as_str(), first, accesses)?;
     }
-    Ok(())
-}
-
-#[test]
-fn thirteen_generals_and_four_idle_traitors(rt: HostRuntime) -> Result<(), Fail> {
-    let alloc = rt.alloc();
-    let scenario = told(alloc, idle(alloc)?.as_str())?;
-    let chronicle = muster(&rt, alloc, scenario.copy(alloc)?, &Open)?;
-    finishes(&rt, &chronicle);
-    let _told = mustered(&rt, alloc, scenario)?;
     Ok(())
 }
 

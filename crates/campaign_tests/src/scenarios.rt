@@ -19,9 +19,6 @@ pub const FOUR_RETREAT: &str = "generals = 4\nbound = 1\ncommander = 0\norder = 
 /// Three generals, bound 1, whose commander 0 has order 1.
 pub const THREE: &str = "generals = 3\nbound = 1\ncommander = 0\norder = 1\n";
 
-/// Thirteen generals, bound 4, whose commander 0 has order 1.
-pub const THIRTEEN: &str = "generals = 13\nbound = 4\ncommander = 0\norder = 1\n";
-
 /// Four generals, of whom 3 tells 1 and 2 to retreat, though the order is to attack.
 pub(crate) const SWAYED: &str = "generals = 4
 bound = 1
@@ -158,22 +155,6 @@ pub(crate) fn with_traitor(
 ) -> Result<String, Fail> {
     let traitor = Traitor { general, orders };
     Ok(format!(in alloc; "{head}{traitor}")?)
-}
-
-/// The text of a campaign in which 9 to 12 take 4,096 steps and tell nothing.
-pub(crate) fn idle(alloc: Global) -> Result<String, Fail> {
-    let mut program = String::new(alloc);
-    for _ in 0..4095 {
-        program.push_str("mov r0, 0\n")?;
-    }
-    let mut text = String::from_str(alloc, THIRTEEN)?;
-    for general in 9..13u8 {
-        let table = format!(in alloc;
-            "[[traitor]]\ngeneral = {general}\nasm = '''\n{program}exit\n'''\n"
-        )?;
-        text.push_str(table.as_str())?;
-    }
-    Ok(text)
 }
 
 /// The campaign that a text tells.

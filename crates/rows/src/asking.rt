@@ -1,0 +1,160 @@
+//! What an answer is asked, and the first difference.
+use crate::comparing::{Outcome, compare};
+use crate::item::{Item, Key};
+use crate::likeness::is_like;
+use crate::lines::{accesses, last, number_like};
+use crate::row::Call;
+use crate::shelf::Shelf;
+use crate::shelving::{copied, number};
+use crate::telling::Told;
+use anyhow::Result;
+use std::alloc::Global;
+use std::rt::Files;
+
+/// The first difference between the answer and what the call's items ask, if there is one. Where nothing is asked of the status it is to
+/// be 0, and where nothing is asked of standard output or of standard error it is to be empty.
+pub fn difference<R: Files + AllocGlobal>(
+    rt: &R,
+    call: &Call,
+    shelf: &Shelf,
+    told: &Told,
+) -> Result<Option<String>> {
+    let alloc = rt.alloc();
+    if let Some(difference) = unasked(alloc, call, told)? {
+        return Ok(Some(difference));
+    }
+    for item in &call.items {
+        if let Some(difference) = asked(rt, item, shelf, told)? {
+            return Ok(Some(difference));
+        }
+    }
+    Ok(None)
+}
+
+/// The keys that ask of standard output.
+const OF_OUTPUT: [Key; 8] = [
+    Key::Out,
+    Key::Like,
+    Key::Last,
+    Key::Has,
+    Key::Lacks,
+    Key::Times,
+    Key::Accesses,
+    Key::Keep,
+];
+
+/// Whether the call asks of standard output.
+fn asks_output(call: &Call) -> bool {
+    for key in OF_OUTPUT {
+        if call.has(key) {
+            return true;
+        }
+    }
+    false
+}
+
+/// The first difference in what the call does not ask.
+fn unasked(alloc: Global, call: &Call, told: &Told) -> Result<Option<String>> {
+    if !call.has(Key::Status) && told.status != 0 {
+        return is_status(alloc, 0, told);
+    }
+    if !call.has(Key::Err) && !call.has(Key::Tells) {
+        if let Some(difference) = whole(alloc, "standard error", &told.err, &[])? {
+            return Ok(Some(difference));
+        }
+    }
+    if asks_output(call) {
+        return Ok(None);
+    }
+    whole(alloc, "standard output", &told.out, &[])
+}
+
+/// The difference in what the item asks, if there is one.
+fn asked<R: Files + AllocGlobal>(
+    rt: &R,
+    item: &Item,
+    shelf: &Shelf,
+    told: &Told,
+) -> Result<Option<String>> {
+    let alloc = rt.alloc();
+    match item.key {
+        Key::Status => is_status(alloc, number(item.value.as_str())?, told),
+        Key::Out => {
+            let expected = expected(rt, item, shelf)?;
+            whole(alloc, "standard output", &told.out, expected.as_slice())
+        }
+        Key::Err => whole(alloc, "standard error", &told.err, item.block.as_slice()),
+        Key::Like => alike(alloc, "standard output", &told.out, item.block.as_slice()),
+        Key::Tells => alike(alloc, "standard error", &told.err, item.block.as_slice()),
+        Key::Last => {
+            let line = last(alloc, told.out.as_slice())?;
+            alike(alloc, "the last line", &line, item.value.as_bytes())
+        }
+        Key::Has | Key::Lacks | Key::Times => counted(alloc, item, told),
+        Key::Accesses => {
+            let found = accesses(alloc, told.out.as_slice(), number(item.value.as_str())?)?;
+            whole(alloc, "the accesses", &found, item.block.as_slice())
+        }
+        _ => Ok(None),
+    }
+}
+
+/// The text that standard output is to be: a file's where the item says `= NAME`, and otherwise the one below it.
+fn expected<R: Files + AllocGlobal>(rt: &R, item: &Item, shelf: &Shelf) -> Result<Vec<u8>> {
+    match item.value.as_str().strip_prefix("= ") {
+        Some(name) => copied(rt, shelf, name),
+        None => Ok(item.block.as_slice().to_vec(rt.alloc())?),
+    }
+}
+
+/// The difference in the exit status.
+fn is_status(alloc: Global, status: usize, told: &Told) -> Result<Option<String>> {
+    let got = usize::from(told.status);
+    if got == status {
+        return Ok(None);
+    }
+    let err = String::from_utf8_lossy(alloc, told.err.as_slice())?;
+    Ok(Some(format!(in alloc; "status {got}, not {status}: {err}")?))
+}
+
+/// The difference between a text and the whole that it is to be.
+fn whole(alloc: Global, what: &str, got: &Vec<u8>, expected: &[u8]) -> Result<Option<String>> {
+    match compare(got.as_slice(), expected) {
+        Outcome::AsStored => Ok(None),
+        Outcome::Differs(line) => {
+            let got = String::from_utf8_lossy(alloc, got.as_slice())?;
+            let got = got.lines().nth(line - 1).unwrap_or("");
+            Ok(Some(format!(in alloc; "{what} differs at line {line}: {got}")?))
+        }
+    }
+}
+
+/// The difference between a text and what it is to be like.
+fn alike(alloc: Global, what: &str, got: &Vec<u8>, pattern: &[u8]) -> Result<Option<String>> {
+    if is_like(pattern, got.as_slice()) {
+        return Ok(None);
+    }
+    let got = String::from_utf8_lossy(alloc, got.as_slice())?;
+    Ok(Some(format!(in alloc; "{what} is otherwise: {got}")?))
+}
+
+/// The difference in how many lines are like the item's.
+fn counted(alloc: Global, item: &Item, told: &Told) -> Result<Option<String>> {
+    let value = item.value.as_str();
+    let (times, pattern) = match item.key {
+        Key::Times => match value.split_once(' ') {
+            Some((times, pattern)) => (number(times)?, pattern),
+            None => (number(value)?, ""),
+        },
+        _ => (0, value),
+    };
+    let found = number_like(alloc, told.out.as_slice(), pattern.as_bytes())?;
+    let is_right = match item.key {
+        Key::Has => found > 0,
+        _ => found == times,
+    };
+    if is_right {
+        return Ok(None);
+    }
+    Ok(Some(format!(in alloc; "{found} lines like: {pattern}")?))
+}

@@ -1,0 +1,56 @@
+//! Whether a text is the stored one.
+ghost use Rattle.std.specs.Prelude.{◌≡◌, ◌↔◌};
+ghost use Rattle.rows.specs.declared.comparing.Outcome.TheVariants.{AsStored};
+ghost use Rattle.rows.specs.Comparing.{parting, outcome_by};
+
+use std::fmt;
+
+/// What the comparison of a text with the stored one gives.
+#[derive(Clone, Copy, Debug, PartialEq, Eq)]
+pub enum Outcome {
+    /// They are the same.
+    AsStored,
+    /// This line, counted from 1, is the first in which they differ.
+    Differs(usize),
+}
+
+impl fmt::Display for Outcome {
+    fn fmt<W: fmt::Write>(&self, f: &mut fmt::Formatter<W>) -> fmt::Result {
+        match *self {
+            Outcome::AsStored => write!(f, "as stored"),
+            Outcome::Differs(line) => write!(f, "differs at line {line}"),
+        }
+    }
+}
+
+/// The first line in which two texts differ, if they do.
+fn differing_line(told: &[u8], stored: &[u8]) -> Option<usize>
+    ensures { result ≡ parting 1 told.now stored.now }
+{
+    let mut line = 1;
+    let mut rest = stored;
+    for byte in told {
+        let [next, behind @ ..] = rest else {
+            return Some(line);
+        };
+        if *next != *byte {
+            return Some(line);
+        }
+        if *byte == b'\n' {
+            line += 1;
+        }
+        rest = behind;
+    }
+    if rest.is_empty() { None } else { Some(line) }
+}
+
+/// What the comparison of these texts gives.
+pub fn compare(told: &[u8], stored: &[u8]) -> Outcome
+    ensures line { result ≡ outcome_by (parting 1 told.now stored.now) }
+    ensures same { result ≡ AsStored ↔ told.now ≡ stored.now }
+{
+    match differing_line(told, stored) {
+        None => Outcome::AsStored,
+        Some(line) => Outcome::Differs(line),
+    }
+}

@@ -1,0 +1,26 @@
+//! `rows`, which asks the laboratory what the rows of the tables in data/ ask, by the same calls that the program makes, and says which
+//! rows are answered otherwise. `rows NAME..` takes the tables of these names; docs/ROWS.md says how one is written.
+#![tactic(auto)]
+
+mod asking;
+mod comparing;
+mod item;
+mod likeness;
+mod lines;
+mod reading;
+mod report;
+mod row;
+mod shelf;
+mod shelving;
+mod telling;
+
+use anyhow::Result;
+use std::env;
+
+fn main(rt: HostRuntime) -> Result<()> {
+    let names: Vec<String> = env::args(&rt)?.skip(1).collect(rt.alloc())?;
+    for name in &names {
+        report::report(&rt, name.as_str())?;
+    }
+    Ok(())
+}

@@ -1,0 +1,103 @@
+//! What is printed of a table.
+use crate::asking::difference;
+use crate::item::Key;
+use crate::reading::rows;
+use crate::row::{Call, Row};
+use crate::shelf::{Content, Shelf};
+use crate::shelving::shelf;
+use crate::telling::answered;
+use anyhow::{Result, bail};
+use std::fs;
+use std::rt::Files;
+use std::sync::Wait;
+use std::thread::Threads;
+
+/// Asks what the rows of the table ask, and prints each that is answered otherwise, with its first difference, and how many they are.
+pub fn report<R: Print + Files + Threads + Wait + Sync + AllocGlobal>(
+    rt: &R,
+    table: &str,
+) -> Result<()> {
+    let alloc = rt.alloc();
+    let file = format!(in alloc; "{table}.rows")?;
+    let text = fs::read_to_string(rt, file.as_str())?;
+    let rows = rows(alloc, text.as_str())?;
+    let mut wrong = 0usize;
+    for row in &rows {
+        if let Some(difference) = differing(rt, row)? {
+            let name = row.name.as_str();
+            println!(rt; "{table}: {name}: {difference}")?;
+            wrong = wrong.saturating_add(1);
+        }
+    }
+    let number = rows.len();
+    println!(rt; "{table}: {number} rows, {wrong} wrong")?;
+    Ok(())
+}
+
+/// The first difference in the answers to a row's calls.
+fn differing<R: Files + Threads + Wait + Sync + AllocGlobal>(
+    rt: &R,
+    row: &Row,
+) -> Result<Option<String>> {
+    let mut shelf = shelf(rt, row.files.as_slice())?;
+    for call in &row.calls {
+        let difference = match call.value(Key::Beginnings) {
+            None => called(rt, call, &mut shelf)?,
+            Some(name) => beginnings(rt, call, &mut shelf, name)?,
+        };
+        if difference.is_some() {
+            return Ok(difference);
+        }
+    }
+    Ok(None)
+}
+
+/// Makes a call; the difference in its answer.
+fn called<R: Files + Threads + Wait + Sync + AllocGlobal>(
+    rt: &R,
+    call: &Call,
+    shelf: &mut Shelf,
+) -> Result<Option<String>> {
+    let alloc = rt.alloc();
+    let mut words: Vec<&str> = Vec::new(alloc);
+    for item in &call.items {
+        match item.key {
+            Key::Words => {
+                for word in item.value.as_str().split_whitespace() {
+                    words.push(word)?;
+                }
+            }
+            Key::Word => words.push(item.value.as_str())?,
+            _ => {}
+        }
+    }
+    let told = answered(rt, words.as_slice(), shelf, call.has(Key::Full))?;
+    let difference = difference(rt, call, shelf, &told)?;
+    if let Some(name) = call.value(Key::Keep) {
+        shelf.put(alloc, name, Content::Bytes(told.out))?;
+    }
+    Ok(difference)
+}
+
+/// Makes the call with each beginning of the file, but the file itself; the difference in the first answer that has one.
+fn beginnings<R: Files + Threads + Wait + Sync + AllocGlobal>(
+    rt: &R,
+    call: &Call,
+    shelf: &mut Shelf,
+    name: &str,
+) -> Result<Option<String>> {
+    let alloc = rt.alloc();
+    let Some(whole) = shelf.bytes(name) else {
+        bail!("{name}: there is no such file");
+    };
+    let whole = whole.to_vec(alloc)?;
+    for length in 0..whole.len() {
+        let beginning = whole[..length].to_vec(alloc)?;
+        shelf.put(alloc, name, Content::Bytes(beginning))?;
+        if let Some(difference) = called(rt, call, shelf)? {
+            return Ok(Some(format!(in alloc; "{length} bytes of {name}: {difference}")?));
+        }
+        shelf.drop_last();
+    }
+    Ok(None)
+}

@@ -1,0 +1,112 @@
+//! Puts the files of a row on its shelf.
+use crate::item::{Item, Key};
+use crate::shelf::{Content, Shelf};
+use anyhow::{Result, bail};
+use std::alloc::Global;
+use std::fs;
+use std::rt::Files;
+
+/// The files of these items.
+///
+/// # Errors
+///
+/// An item that makes no file, or a file of data/ that cannot be read.
+pub fn shelf<R: Files + AllocGlobal>(rt: &R, items: &[Item]) -> Result<Shelf> {
+    let mut shelf = Shelf::new(rt.alloc());
+    for item in items {
+        shelve(rt, &mut shelf, item)?;
+    }
+    Ok(shelf)
+}
+
+/// Does what the item says of the files.
+fn shelve<R: Files + AllocGlobal>(rt: &R, shelf: &mut Shelf, item: &Item) -> Result<()> {
+    let alloc = rt.alloc();
+    let value = item.value.as_str();
+    match item.key {
+        Key::File => put(rt, shelf, value, item.block.as_slice()),
+        Key::Unreadable => {
+            shelf.put(alloc, value, Content::Unreadable)?;
+            Ok(())
+        }
+        Key::Hex | Key::Line | Key::Cut | Key::Unended => {
+            let Some(bytes) = shelf.last() else {
+                bail!("{value}: there is no file yet");
+            };
+            change(alloc, bytes, item)
+        }
+        _ => bail!("{value}: words come first"),
+    }
+}
+
+/// Puts a file: a copy of another where the value says `NAME = OTHER`, and the text otherwise.
+fn put<R: Files + AllocGlobal>(rt: &R, shelf: &mut Shelf, value: &str, block: &[u8]) -> Result<()> {
+    let alloc = rt.alloc();
+    let (name, bytes) = match value.split_once(" = ") {
+        Some((name, other)) => (name, copied(rt, shelf, other)?),
+        None => (value, block.to_vec(alloc)?),
+    };
+    shelf.put(alloc, name, Content::Bytes(bytes))?;
+    Ok(())
+}
+
+/// The bytes of a file of the row, or of data/ where it has none of this name.
+pub fn copied<R: Files + AllocGlobal>(rt: &R, shelf: &Shelf, name: &str) -> Result<Vec<u8>> {
+    match shelf.bytes(name) {
+        Some(bytes) => Ok(bytes.to_vec(rt.alloc())?),
+        None => Ok(fs::read(rt, name)?),
+    }
+}
+
+/// Changes the last file as the item says.
+fn change(alloc: Global, bytes: &mut Vec<u8>, item: &Item) -> Result<()> {
+    let value = item.value.as_str();
+    match item.key {
+        Key::Hex => {
+            let Ok(more) = hex::decode(alloc, value) else {
+                bail!("{value}: no hex");
+            };
+            bytes.extend_from_slice(more.as_slice())?;
+        }
+        Key::Line => *bytes = with_line(
+            alloc,
+            bytes.as_slice(),
+            number(value)?,
+            item.block.as_slice(),
+        )?,
+        Key::Cut => bytes.truncate(number(value)?),
+        _ => {
+            let _ = bytes.pop();
+        }
+    }
+    Ok(())
+}
+
+/// The number that the word says.
+pub fn number(word: &str) -> Result<usize> {
+    match word.parse::<usize>() {
+        Ok(number) => Ok(number),
+        Err(_) => bail!("{word}: no number"),
+    }
+}
+
+/// The text with other lines in place of one, counted from 1.
+fn with_line(alloc: Global, text: &[u8], number: usize, lines: &[u8]) -> Result<Vec<u8>> {
+    let mut changed = Vec::new(alloc);
+    let mut line = 1;
+    if number == line {
+        changed.extend_from_slice(lines)?;
+    }
+    for byte in text {
+        if line != number {
+            changed.push(*byte)?;
+        }
+        if *byte == b'\n' {
+            line += 1;
+            if line == number {
+                changed.extend_from_slice(lines)?;
+            }
+        }
+    }
+    Ok(changed)
+}

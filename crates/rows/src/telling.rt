@@ -1,0 +1,129 @@
+//! What a call answers.
+use crate::shelf::{Content, Input, Output, Shelf};
+use anyhow::{Result, bail};
+use command_line::{Task, TaskError, task};
+use lab::{FileName, serve};
+use std::alloc::{AllocError, Global};
+use std::sync::Wait;
+use std::thread::Threads;
+
+/// What a call prints, what it tells of a fault, and its exit status.
+#[derive(Drop)]
+pub struct Told {
+    pub out: Vec<u8>,
+    pub err: Vec<u8>,
+    pub status: u8,
+}
+
+impl Told {
+    /// A fault: this is all that is told.
+    fn fault(alloc: Global, status: u8, text: String) -> Told {
+        Told {
+            out: Vec::new(alloc),
+            err: text.into_bytes(),
+            status,
+        }
+    }
+}
+
+/// What the program answers to these words with these files. A file that it writes is put with them.
+pub fn answered<R: Threads + Wait + Sync + AllocGlobal>(
+    rt: &R,
+    words: &[&str],
+    shelf: &mut Shelf,
+    is_full: bool,
+) -> Result<Told> {
+    let alloc = rt.alloc();
+    let task = match task(alloc, words) {
+        Ok(task) => task,
+        Err(error) => return refused(alloc, error),
+    };
+    let output = if is_full {
+        Output::Full
+    } else {
+        Output::Kept(Vec::new(alloc))
+    };
+    let told = opened(rt, &task, shelf, output)?;
+    written(alloc, &task, shelf, told)
+}
+
+/// What is told of words that name no task.
+fn refused(alloc: Global, error: TaskError) -> Result<Told> {
+    match error {
+        TaskError::Words(error) => {
+            let text = format!(in alloc; "{error}")?;
+            if error.use_stderr() {
+                return Ok(Told::fault(alloc, 2, text));
+            }
+            Ok(Told {
+                out: text.into_bytes(),
+                err: Vec::new(alloc),
+                status: 0,
+            })
+        }
+        TaskError::Memory => bail!("out of memory"),
+        error => Ok(Told::fault(alloc, 2, format!(in alloc; "{error}\n")?)),
+    }
+}
+
+/// Opens the task's files, and does it.
+fn opened<R: Threads + Wait + Sync + AllocGlobal>(
+    rt: &R,
+    task: &Task,
+    shelf: &Shelf,
+    output: Output,
+) -> Result<Told, AllocError> {
+    let first = match task.file() {
+        None => Input::Bytes(&[]),
+        Some(name) => match shelf.find(name) {
+            Some(content) => content.input(),
+            None => return unopened(rt.alloc(), name),
+        },
+    };
+    let second = match task.second() {
+        None => None,
+        Some(name) => match shelf.find(name) {
+            Some(content) => Some(content.input()),
+            None => return unopened(rt.alloc(), name),
+        },
+    };
+    Ok(served(rt, task, first, second, output))
+}
+
+/// What is told of a file that does not open.
+fn unopened(alloc: Global, name: &str) -> Result<Told, AllocError> {
+    let name = FileName(name);
+    Ok(Told::fault(alloc, 1, format!(in alloc; "fault read {name}\n")?))
+}
+
+/// Does the task.
+fn served<R: Threads + Wait + Sync + AllocGlobal>(
+    rt: &R,
+    task: &Task,
+    first: Input,
+    second: Option<Input>,
+    mut output: Output,
+) -> Told {
+    let alloc = rt.alloc();
+    let mut err = Vec::new(alloc);
+    let status = serve(rt, alloc, task, first, second, &mut output, &mut err);
+    let out = output.into_bytes(alloc);
+    Told { out, err, status }
+}
+
+/// Puts what was written to a file with the files: nothing of it is on standard output, and where nothing was written no file is made.
+fn written(alloc: Global, task: &Task, shelf: &mut Shelf, told: Told) -> Result<Told> {
+    let name = match task.target() {
+        None | Some("-") => return Ok(told),
+        Some(name) => name,
+    };
+    let Told { out, err, status } = told;
+    if !out.is_empty() {
+        shelf.put(alloc, name, Content::Bytes(out))?;
+    }
+    Ok(Told {
+        out: Vec::new(alloc),
+        err,
+        status,
+    })
+}
