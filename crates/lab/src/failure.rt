@@ -2,7 +2,7 @@ ghost use Rattle.std.specs.Prelude.{◌≡◌};
 ghost use Rattle.lab.specs.Faults.{fault_of, fault_of_bytes, status_of};
 
 use crate::hint::Hint;
-use crate::name::FileName;
+use streams::FileName;
 use crate::refusal::Refusal;
 use std::fmt;
 
