@@ -8,9 +8,9 @@ ghost use Rattle.lab.specs.Refusals.{RefusesScenario, RefusesSchedule, RefusesTe
 
 use crate::refusal::Refusal;
 use crate::texts::as_text;
-use streams::may_begin_text;
 use round::Scenario;
 use std::alloc::{AllocError, Global};
+use streams::may_begin_text;
 use trace::{Fault, Latch, MOST_SCHEDULE_BYTES, TraceError, read_schedule, write_chronicle};
 use world::{Chronicle, Schedule, play};
 

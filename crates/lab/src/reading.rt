@@ -9,13 +9,12 @@ ghost use Rattle.streams.specs.Reading.{AreBytes};
 
 use crate::failure::Failure;
 use crate::refusal::Refusal;
-use streams::Source;
-use streams::Within;
 use codec::{CodecError, Fault as CodecFault};
 use command_line::{Notation, Task};
 use insn::Program;
 use std::alloc::Global;
 use std::io::{self, ErrorKind};
+use streams::{Source, Within};
 use trace::MOST_SCHEDULE_BYTES;
 
 /// The most bytes of a program.

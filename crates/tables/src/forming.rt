@@ -32,12 +32,12 @@ pub fn formed(
     let Some(commander) = decimal(commander.as_bytes()) else {
         return Err(TableError::At(Fault::Line, 1));
     };
-    form(
+    Ok(form(
         alloc,
         narrowed(generals),
         narrowed(bound),
         narrowed(commander),
-    )
+    )?)
 }
 
 /// The number, and in place of one past 64 bits the largest of 64: both are out of every limit.
