@@ -13,7 +13,7 @@ use Rattle.lab.specs.declared.hint.Hint.{Hint}
 use Rattle.lab.specs.Hints.{hint_behind}
 use Rattle.lab.specs.Telling.{refusal_text}
 use Rattle.lab.specs.Faults.{fault_text, status_of, Undoes, Prevents, Stops}
-use Rattle.lab.specs.Names.{shown}
+use Rattle.streams.specs.Names.{shown}
 use Rattle.lab.specs.Serving.{Files, IsFault, IsRefused, IsRefusedLater, IsTaken, IsTurnedDown, NoHint, Tells, TellsName, TellsRefusal, first_name, second_name}
 
 -- a write that failed, or what it wrote

@@ -13,7 +13,8 @@ use Rattle.lab.specs.Answers.{ComesTo, GoesOn, IsTriedBy, Prints}
 use Rattle.lab.specs.Hints.{explained_in}
 use Rattle.lab.specs.Campaigns.{IsAudited, IsMustered}
 use Rattle.lab.specs.Faults.{Prevents, Stops}
-use Rattle.lab.specs.Serving.{AreBytes, AreSecond, AreSecondBytes, Files, IsAnswer, IsAuditOf, IsPlayedBy, IsRefusedLater, IsScheduleOf, IsTrialOf, NoHint, first_name, second_name}
+use Rattle.lab.specs.Serving.{AreSecond, AreSecondBytes, Files, IsAnswer, IsAuditOf, IsPlayedBy, IsRefusedLater, IsScheduleOf, IsTrialOf, NoHint, first_name, second_name}
+use Rattle.streams.specs.Reading.{AreBytes}
 use Rattle.lab.specs.declared.failure.Failure.{Failure}
 use Rattle.lab.specs.declared.first_answer.FirstAnswer.{FirstAnswer}
 use Rattle.lab.specs.declared.first_answer.FirstAnswer.TheVariants as answer

@@ -10,7 +10,8 @@ use Rattle.command_line.specs.declared.tasks.Task.TheVariants as task
 use Rattle.lab.specs.Faults.{Prevents, Stops, StopsFirst, fault_of_bytes}
 use Rattle.lab.specs.Hints.{IsHint, IsWhy, asked_of, explained_in, seems_behind}
 use Rattle.lab.specs.Refusals.{Refuses, RefusesCheckIn, RefusesNotation}
-use Rattle.lab.specs.Serving.{AreBytes, Files, IsRefused, first_name}
+use Rattle.lab.specs.Serving.{Files, IsRefused, first_name}
+use Rattle.streams.specs.Reading.{AreBytes}
 use Rattle.lab.specs.declared.failure.Failure.{Failure}
 use Rattle.lab.specs.declared.failure.Failure.TheVariants.{Read, Text, Refused, Write, Memory as FaultMemory}
 use Rattle.lab.specs.declared.hint.Hint.{Hint}

@@ -1,10 +1,7 @@
 pub mod CampaignLemmas
-pub mod CutTexts
 pub mod FaultLemmas
 pub mod FilesLemmas
-pub mod LineLemmas
 pub mod ReadLemmas
 pub mod RefusalLemmas
 pub mod ScheduleLemmas
 pub mod FirstLemmas
-pub mod FormLemmas

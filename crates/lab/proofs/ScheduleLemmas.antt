@@ -10,9 +10,10 @@ use Rattle.trace.specs.Schedules.{schedule_told}
 use Rattle.trace.specs.declared.fault.Fault.TheVariants.{Line}
 use Rattle.trace.specs.declared.fault.TraceError.TheVariants.{At}
 use Rattle.lab.specs.Faults.{Stops, fault_of}
-use Rattle.lab.specs.Reading.{BeginsSo, IsFront}
+use Rattle.streams.specs.Reading.{BeginsSo, IsFront}
 use Rattle.lab.specs.Refusals.{RefusesSchedule, RefusesText}
-use Rattle.lab.specs.Serving.{AreBytes, IsScheduleOf, IsScheduleRefused, NoHint}
+use Rattle.lab.specs.Serving.{IsScheduleOf, IsScheduleRefused, NoHint}
+use Rattle.streams.specs.Reading.{AreBytes}
 use Rattle.lab.specs.declared.failure.Failure.{Failure}
 use Rattle.lab.specs.declared.refusal.Refusal.{Refusal}
 use Rattle.lab.specs.declared.refusal.Refusal.TheVariants as refusal

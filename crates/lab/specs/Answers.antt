@@ -6,27 +6,21 @@ use Rattle.semantics.specs.Relay.{oral}
 use Rattle.semantics.specs.Run.{IsSound}
 use Rattle.codec.specs.Program.{SpellsProgram}
 use Rattle.codec.specs.Spelling.{program_bytes}
-use Rattle.combine.specs.declared.chosen.Rule.{Rule}
 use Rattle.asm.specs.Program.{program_of}
 use Rattle.asm.specs.Printing.{text_of, unit_lines}
-use Rattle.book.specs.Decisions.{decisions_of, TableAgrees}
-use Rattle.book.specs.Explained.{explained}
-use Rattle.book.specs.Forms.{form_text}
-use Rattle.book.specs.Grammar.{is_within, table_told}
-use Rattle.book.specs.Table.{MessageTable}
 use Rattle.command_line.specs.declared.tasks.Notation.{Notation}
 use Rattle.command_line.specs.declared.tasks.Spelling.TheVariants.{Hex, Raw}
 use Rattle.command_line.specs.declared.tasks.Task.{Task}
 use Rattle.command_line.specs.declared.tasks.Task.TheVariants.{Check, Assemble, Disassemble, DisassembleUnits, Book, ExplainDecisions, Form, Play, Muster, Audit}
 use Rattle.scenario.specs.Told.{Tells}
+use Rattle.tables.specs.Answers.{DecidesTable, ExplainsTable, IsFormOf}
 use Rattle.verify.specs.Judgement.{judged}
 use Rattle.trial.specs.Setting.{Setting, bench, context_in}
 use Rattle.trial.specs.Told.{IsTried, Tells as TellsSetting}
 use Rattle.trial.specs.Trial.{Ending, trial}
 use Rattle.lab.specs.Hints.{HasProgram, behind_lines}
 use Rattle.lab.specs.Campaigns.{Audits, Musters, Plays}
-use Rattle.lab.specs.Numbers.{numbers_in}
-use Rattle.lab.specs.Lines.{checked_lines, decision_lines, hex_line}
+use Rattle.lab.specs.Lines.{checked_lines, hex_line}
 use Rattle.lab.specs.declared.checking.Checked.{Checked}
 use Rattle.lab.specs.declared.first_answer.FirstAnswer.{FirstAnswer}
 use Rattle.lab.specs.declared.first_answer.FirstAnswer.TheVariants as answer
@@ -78,23 +72,6 @@ Disassembles bytes text =
 abbrev pub DisassemblesUnits : List ℕ → List ℕ → Type 0
 DisassemblesUnits bytes text =
     (program : List Insn) × SpellsProgram bytes program × (text ≡ unit_lines 0 program)
-
--- the text tells a table, and this is how its decisions come about, where these generals are named as traitors
-abbrev pub ExplainsTable : List ℕ → List ℕ → List ℕ → Type 0
-ExplainsTable text traitors lines =
-    (table : MessageTable) × (table_told text ≡ Ok table) × (lines ≡ explained table traitors)
-
--- the words are numbers within the limits of a campaign, and this is its table to fill in
-abbrev pub IsFormOf : List ℕ → List ℕ → List ℕ → List ℕ → Type 0
-IsFormOf n m c text =
-    (head : ℕ × ℕ × ℕ × Rule) × (numbers_in n m c ≡ Some head) × (is_within head.0 head.1 head.2 ≡ true)
-    × (text ≡ form_text head.0 head.1 head.2)
-
--- the text tells a table, and these are its decisions, which agree where the bound holds
-abbrev pub DecidesTable : List ℕ → List ℕ → Type 0
-DecidesTable text lines =
-    (table : MessageTable) × (table_told text ≡ Ok table) × (lines ≡ decision_lines table)
-    × TableAgrees table (decisions_of table)
 
 -- the task prints this text on files of these bytes
 abbrev pub Prints : Task → List ℕ → Option (List ℕ) → List ℕ → Type 0

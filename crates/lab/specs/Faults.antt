@@ -9,10 +9,11 @@ use Rattle.lab.specs.declared.refusal.Refusal.TheVariants as refusal
 use Rattle.lab.specs.declared.failure.Failure.{Failure}
 use Rattle.lab.specs.declared.hint.Hint.{Hint}
 use Rattle.lab.specs.declared.failure.Failure.TheVariants.{Read, Text, Refused, Write, Memory}
-use Rattle.lab.specs.Names.{shown}
+use Rattle.streams.specs.Names.{shown}
 use Rattle.lab.specs.Hints.{hint_behind, seems_behind}
 use Rattle.lab.specs.Telling.{refusal_text}
-use Rattle.lab.specs.Serving.{AreBytes, Files, HasAnswer, IsRefused, IsRefusedLater, IsTaken, NoHint, first_name, second_name}
+use Rattle.lab.specs.Serving.{Files, HasAnswer, IsRefused, IsRefusedLater, IsTaken, NoHint, first_name, second_name}
+use Rattle.streams.specs.Reading.{AreBytes}
 
 -- the fault of a file with this name
 abbrev pub fault_of : Refusal → Bor (List ℕ) → Failure

@@ -3,8 +3,6 @@ pub mod Campaigns
 pub mod Faults
 pub mod Hints
 pub mod Lines
-pub mod Names
-pub mod Numbers
 pub mod Reading
 pub mod Refusals
 pub mod Seeming

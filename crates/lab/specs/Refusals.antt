@@ -33,7 +33,7 @@ use Rattle.command_line.specs.declared.tasks.Notation.{Notation}
 use Rattle.command_line.specs.declared.tasks.Notation.TheVariants as notation
 use Rattle.command_line.specs.declared.tasks.Task.{Task}
 use Rattle.command_line.specs.declared.tasks.Task.TheVariants.{Check, Assemble, Disassemble, DisassembleUnits, Book, ExplainDecisions, Form, Play, Muster, Audit}
-use Rattle.lab.specs.Numbers.{numbers_in}
+use Rattle.tables.specs.Numbers.{numbers_in}
 use Rattle.lab.specs.declared.refusal.Refusal.{Refusal}
 use Rattle.lab.specs.declared.refusal.Refusal.TheVariants.{Codec, Verifier, Assembly, Table, Scenario, Setting, Trace, Threads, NotText, Memory}
 

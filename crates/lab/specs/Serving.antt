@@ -12,7 +12,8 @@ use Rattle.lab.specs.declared.first_answer.FirstAnswer.{FirstAnswer}
 use Rattle.lab.specs.declared.first_answer.FirstAnswer.TheVariants as answer
 use Rattle.lab.specs.Answers.{GoesOn, IsTriedBy, Prints}
 use Rattle.lab.specs.Campaigns.{IsAudited, IsPlayed, IsSchedule}
-use Rattle.lab.specs.Names.{shown}
+use Rattle.streams.specs.Names.{shown}
+use Rattle.streams.specs.Reading.{AreBytes}
 use Rattle.lab.specs.Hints.{behind_lines, hint_behind, IsHint}
 use Rattle.lab.specs.declared.hint.Hint.{Hint}
 use Rattle.lab.specs.Telling.{refusal_text}
@@ -32,10 +33,6 @@ first_name task = unwrap_or (file_of task) []
 
 abbrev pub second_name : Task → List ℕ
 second_name task = unwrap_or (second_of task) []
-
--- the bytes are the file's
-abbrev pub AreBytes : Option (List ℕ) → List ℕ → Type 0
-AreBytes known bytes = IfSome known (λ all. bytes ≡ all)
 
 -- the bytes are the second file's, and there are none where there is no such file
 abbrev pub AreSecond : Option (Option (List ℕ)) → Option (List ℕ) → Type 0

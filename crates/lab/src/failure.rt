@@ -2,9 +2,9 @@ ghost use Rattle.std.specs.Prelude.{◌≡◌};
 ghost use Rattle.lab.specs.Faults.{fault_of, fault_of_bytes, status_of};
 
 use crate::hint::Hint;
-use crate::name::FileName;
 use crate::refusal::Refusal;
 use std::fmt;
+use streams::FileName;
 
 /// Why a task was not done.
 #[derive(Debug, Drop)]

@@ -3,13 +3,14 @@ ghost use Rattle.scenario.specs.Told.{Tells};
 ghost use Rattle.trace.specs.Schedules.{schedule_told};
 ghost use Rattle.trace.specs.Text.{chronicle_text};
 ghost use Rattle.lab.specs.Campaigns.{IsPlayed};
-ghost use Rattle.lab.specs.Reading.{IsFront};
+ghost use Rattle.streams.specs.Reading.{IsFront};
 ghost use Rattle.lab.specs.Refusals.{RefusesScenario, RefusesSchedule, RefusesText};
 
 use crate::refusal::Refusal;
-use crate::texts::{as_text, may_begin_text};
+use crate::texts::as_text;
 use round::Scenario;
 use std::alloc::{AllocError, Global};
+use streams::may_begin_text;
 use trace::{Fault, Latch, MOST_SCHEDULE_BYTES, TraceError, read_schedule, write_chronicle};
 use world::{Chronicle, Schedule, play};
 

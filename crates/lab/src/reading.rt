@@ -1,19 +1,20 @@
 //! A task's files are read here, no further than their bytes can matter.
 ghost use Rattle.std.specs.Prelude.{◌≡◌, ◌<◌, ◌*◌, ℕ, List, length, IfOk, IfErr, IsSomeAnd, option_map};
 ghost use Rattle.lab.specs.Faults.{Stops};
-ghost use Rattle.lab.specs.Reading.{IsFront, IsTooLong};
+ghost use Rattle.lab.specs.Reading.{IsTooLong};
+ghost use Rattle.streams.specs.Reading.{IsFront};
 ghost use Rattle.lab.specs.Refusals.{RefusesBytes};
-ghost use Rattle.lab.specs.Serving.{AreBytes, AreSecondBytes, IsRefused, first_name};
+ghost use Rattle.lab.specs.Serving.{AreSecondBytes, IsRefused, first_name};
+ghost use Rattle.streams.specs.Reading.{AreBytes};
 
 use crate::failure::Failure;
 use crate::refusal::Refusal;
-use crate::streams::Source;
-use crate::within::Within;
 use codec::{CodecError, Fault as CodecFault};
 use command_line::{Notation, Task};
 use insn::Program;
 use std::alloc::Global;
 use std::io::{self, ErrorKind};
+use streams::{Source, Within};
 use trace::MOST_SCHEDULE_BYTES;
 
 /// The most bytes of a program.

@@ -11,13 +11,13 @@ use crate::first_answer::FirstAnswer;
 use crate::mustering::mustered;
 use crate::playing::{played, schedule_of};
 use crate::reading::{read_first, read_schedule, read_second};
-use crate::streams::{Output, Source};
 use crate::trying::tried_by;
 use command_line::Task;
 use round::Scenario;
 use std::alloc::Global;
 use std::sync::Wait;
 use std::thread::Threads;
+use streams::{Output, Source};
 use verify::Verified;
 use world::Schedule;
 

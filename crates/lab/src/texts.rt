@@ -1,6 +1,5 @@
-ghost use Rattle.std.specs.Prelude.{◌≡◌, ◌<◌, ◌≤◌, ◌⊎◌, ◌++◌, ℕ, List, IfOk, IfErr, IsFalse};
+ghost use Rattle.std.specs.Prelude.{◌≡◌, IfOk, IfErr};
 ghost use Rattle.std.specs.Str.{IsUtf8};
-ghost use Rattle.lab.specs.Reading.{IsStart};
 ghost use Rattle.lab.specs.declared.refusal.Refusal.TheVariants.{NotText};
 
 use crate::refusal::Refusal;
@@ -14,30 +13,4 @@ pub(crate) fn as_text(bytes: &[u8]) -> Result<&str, Refusal>
         Ok(text) => Ok(text),
         Err(_) => Err(Refusal::NotText),
     }
-}
-
-/// Whether bytes behind which others stand may begin a text: up to their last character, which may be cut, they must be one.
-pub(crate) fn may_begin_text(front: &[u8]) -> bool
-    ensures { IsFalse result → (rest : List ℕ) → IsUtf8 (front.now ++ rest) → ⊥ }
-{
-    str::from_utf8(&front[..last_start(front)]).is_ok()
-}
-
-/// The last place behind the first at which no further byte of a character stands; 0 where there is none.
-fn last_start(bytes: &[u8]) -> usize
-    ensures { IsStart bytes.now result }
-{
-    for place in (1..bytes.len()).rev() {
-        if !is_further(bytes[place]) {
-            return place;
-        }
-    }
-    0
-}
-
-/// Whether a byte is one of a character behind its first.
-fn is_further(byte: u8) -> bool
-    ensures { IsFalse result → (byte < 128) ⊎ (192 ≤ byte) }
-{
-    128 <= byte && byte < 192
 }

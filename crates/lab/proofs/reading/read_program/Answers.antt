@@ -1,5 +1,5 @@
-use Rattle.lab.specs.Reading.{IsWithin}
-use Rattle.lab.specs.declared.within.Within.TheVariants.{Longer}
+use Rattle.streams.specs.Reading.{IsWithin}
+use Rattle.streams.specs.declared.within.Within.TheVariants.{Longer}
 use Rattle.lab.proofs.ReadLemmas.{refused_long}
 use Rattle.lab.proofs.reading.read_program.Goals as goal
 

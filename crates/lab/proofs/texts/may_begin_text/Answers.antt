@@ -1,7 +1,0 @@
-use Rattle.lab.proofs.CutTexts.{no_text, refused}
-use Rattle.lab.proofs.texts.may_begin_text.Goals as goal
-
-pub returns : goal.returns
-returns c is rest =
-    no_text c.args.front.now rest c.last_start.result c.last_start.ensures
-    (refused _ _ _ c.from_utf8.result c.is_ok.result c.is_ok.ensures.value is c.from_utf8.ensures.cases)

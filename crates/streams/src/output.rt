@@ -1,0 +1,52 @@
+//! Where a task's texts go: every writer is an `Output`. Its contracts can say that a call failed,
+//! which those of `Write` cannot.
+
+use std::fmt::Display;
+use std::io::{self, Write};
+
+/// A stream to write to.
+pub trait Output {
+    ghost use Rattle.std.specs.Prelude.{◌≡◌, ℕ, List, Option, IfSome, OnOk, OnErr};
+    ghost use Rattle.std.specs.Fmt.{with_newline};
+    ghost use Rattle.std.specs.Io.KnownBytes.{Appends};
+
+    // What it holds, where that is known.
+    ghost contents: { Self → Option (List ℕ) };
+
+    // What a write that failed shows.
+    ghost fails: { Self → Type 0 };
+
+    /// Writes the whole text, and flushes.
+    ///
+    /// # Errors
+    ///
+    /// A write that failed.
+    fn put(&mut self, text: &[u8]) -> io::Result<()>
+        ensures put { OnOk result (Appends (contents self.old) (contents self.new) text.now) }
+        ensures failed { OnErr result (fails self.old) };
+
+    /// Writes a line.
+    ///
+    /// # Errors
+    ///
+    /// A write that failed.
+    fn tell<D: Display + Drop>(&mut self, line: D) -> io::Result<()>
+        ensures told { OnOk result (IfSome (with_newline (D.output line))
+            (Appends (contents self.old) (contents self.new))) }
+        ensures failed { OnErr result (fails self.old) };
+}
+
+impl<W: Write> Output for W {
+    ghost contents = { λ writer. W.contents writer };
+
+    ghost fails = { λ _. Unit {0} };
+
+    fn put(&mut self, text: &[u8]) -> io::Result<()> {
+        self.write_all(text)?;
+        self.flush()
+    }
+
+    fn tell<D: Display + Drop>(&mut self, line: D) -> io::Result<()> {
+        writeln!(self, "{line}")
+    }
+}

@@ -1,0 +1,11 @@
+use Rattle.std.proofs.Common.{◌≡◌, ◌∷◌, [], length}
+use Rattle.std.specs.List.{flat_map}
+use Rattle.std.specs.String.{string_bytes}
+use Rattle.label.specs.Labels.{others}
+use Rattle.book.specs.Decisions.{decision_of}
+use Rattle.tables.specs.Lines.{decision_line}
+use Rattle.tables.proofs.deciding.decisions_text.Given as goal
+
+-- the lines of the lieutenants so far, and how many they are
+abbrev pub invariant-loop-general : goal.invariant-loop-general
+invariant-loop-general l = record { lines : string_bytes l.lines ≡ flat_map (λ general. decision_line general (decision_of l.table general)) (others l.general (l.table.commander ∷ [])); place : l.place ≡ length (others l.general (l.table.commander ∷ [])) }

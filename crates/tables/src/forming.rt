@@ -1,0 +1,48 @@
+ghost use Rattle.std.specs.Prelude.{◌≡◌, ◌≢◌, IfOk, IfErr, Err, min, string_bytes};
+ghost use Rattle.book.specs.Grammar.{opened};
+ghost use Rattle.book.specs.declared.fault.TableError.TheVariants.{Memory};
+ghost use Rattle.tables.specs.Answers.{IsFormOf};
+ghost use Rattle.tables.specs.Numbers.{numbers_in};
+
+use book::{Fault, TableError, form};
+use std::alloc::Global;
+use text::decimal;
+
+/// The message table to fill in, of a campaign with these numbers.
+///
+/// # Errors
+///
+/// What the first line of a table is refused for that has them, or want of memory.
+#[tactic(auto, unfolding(crate::specs::Numbers::numbers_in))]
+pub fn formed(
+    alloc: Global,
+    generals: &str,
+    bound: &str,
+    commander: &str,
+) -> Result<String, TableError>
+    ensures formed { IfOk result (λ text. IsFormOf generals.now bound.now commander.now (string_bytes text)) }
+    ensures refused { IfErr result (λ e. e ≢ Memory → opened (numbers_in generals.now bound.now commander.now) ≡ Err e) }
+{
+    let Some(generals) = decimal(generals.as_bytes()) else {
+        return Err(TableError::At(Fault::Line, 1));
+    };
+    let Some(bound) = decimal(bound.as_bytes()) else {
+        return Err(TableError::At(Fault::Line, 1));
+    };
+    let Some(commander) = decimal(commander.as_bytes()) else {
+        return Err(TableError::At(Fault::Line, 1));
+    };
+    Ok(form(
+        alloc,
+        narrowed(generals),
+        narrowed(bound),
+        narrowed(commander),
+    )?)
+}
+
+/// The number, and in place of one past 64 bits the largest of 64: both are out of every limit.
+fn narrowed(number: u128) -> u64
+    ensures { result ≡ min number 18446744073709551615 }
+{
+    number.min(u128::from(u64::MAX)) as u64
+}
