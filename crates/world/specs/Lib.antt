@@ -1,6 +1,8 @@
 pub mod Part
+pub mod Kind
 pub mod World
 pub mod Reached
+pub mod KindLists
 pub mod Lists
 pub mod Schedules
 pub mod Accounted
