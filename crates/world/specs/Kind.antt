@@ -4,7 +4,7 @@ use Rattle.std.specs.List.{list_all}
 use Rattle.insn.specs.declared.insn.Insn.{Insn}
 use Rattle.board.specs.Board.{Access, reply, next}
 use Rattle.semantics.specs.Relay.{Relay}
-use Rattle.outbox.specs.Contents.{Contents}
+use Rattle.semantics.specs.declared.entry.Entry.{Entry}
 use Rattle.round.specs.Scenario.{Scenario, program_of}
 use Rattle.round.specs.Letters.{Letter}
 use Rattle.round.specs.Contexts.{faithful_letter_with}
@@ -15,11 +15,13 @@ use Rattle.world.specs.declared.event.EventError.{EventError}
 use Rattle.world.specs.declared.event.EventError.TheVariants.{NotOpen, NoGeneral}
 use Rattle.world.specs.Part.{Part, Acting, Silent, Posted, owes_no_letter}
 
--- a kind of campaign: of a general in the round behind these, what he is told, to whom he relays what, and, where he is loyal, the rows of his outbox
+-- a kind of campaign: of a general in the round behind these, what he is told, to whom he relays what,
+-- and what is in his outbox where he is loyal
 pub record Kind : Type 0 where
   pub context : Scenario → List (List Letter) → ℕ → List ℕ
   pub relay : Scenario → List (List Letter) → ℕ → Relay
   pub rows : Scenario → List (List Letter) → ℕ → List (List (Option ℕ))
+  pub entries : Scenario → List (List Letter) → ℕ → List Entry
 
 -- the letters of the closed rounds, the board's words and ledger, where the open round's entries begin in it,
 -- by general the parts of the open round, and whether in each closed round all loyal generals had posted
@@ -78,10 +80,11 @@ traitor_letter_with K s before g program transcript steps a = record {
   exited = a.over;
 }
 
--- a loyal general's letter in the round behind these: he enters nothing
+-- a loyal general's letter in the round behind these: he runs nothing
 abbrev pub loyal_letter : Kind → Scenario → List (List Letter) → ℕ → Letter
 loyal_letter K s before g =
-    faithful_letter_with g (suc (length before)) (K.context s before g) (record { relay = K.relay s before g; rows = K.rows s before g; entries = [] })
+    faithful_letter_with g (suc (length before)) (K.context s before g)
+    (record { relay = K.relay s before g; rows = K.rows s before g; entries = K.entries s before g })
 
 -- a general's letter as he stands, or none
 abbrev pub letters_at : Kind → World → ℕ → Option Part → List Letter

@@ -5,6 +5,7 @@ pub mod Reached
 pub mod KindLists
 pub mod Lists
 pub mod Schedules
+pub mod KindAccounted
 pub mod Accounted
 pub mod Chronicle
 pub mod Agreement

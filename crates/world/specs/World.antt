@@ -1,5 +1,5 @@
 -- The world of an oral campaign: a world of that kind (own).
-use Rattle.std.specs.Prelude.{ℕ, suc, Bool, List, length, Option}
+use Rattle.std.specs.Prelude.{ℕ, suc, Bool, List, [], length, Option}
 use Rattle.insn.specs.declared.insn.Insn.{Insn}
 use Rattle.board.specs.Board.{Access}
 use Rattle.semantics.specs.Relay.{oral}
@@ -19,6 +19,7 @@ oral_kind = record {
   context = context_of;
   relay = λ s before g. oral (shape_of s g (suc (length before)));
   rows = λ s before g. (telling (shape_of s g (suc (length before))) (took s before g)).rows;
+  entries = λ s before g. [];
 }
 
 abbrev pub begins : Scenario → List (List Letter) → ℕ → Option (List Insn) → Part
