@@ -23,18 +23,19 @@ abbrev pub passing_program : SignedScenario
 passing_program = record { campaign = passing; program = λ g. calling 11 0 2 ++ Exit ∷ []; board = replicate 64 0 }
 
 passing_told : told (chronicle_of (played passing_program (listed passing_program []))) ≡ (
-    (
-        (0, (None, (1, (0 ∷ [], 1 ∷ 2 ∷ [])) ∷ []))
-        ∷ (1, (None, []))
-        ∷ (2, (Some 4, []))
-        ∷ [])
-    ∷ (
-        (0, (None, []))
-        ∷ (1, (None, (1, (0 ∷ 1 ∷ [], 2 ∷ [])) ∷ []))
-        ∷ (2, (Some 4, (1, (0 ∷ 2 ∷ [], 1 ∷ [])) ∷ []))
-        ∷ [])
-    ∷ [],
-    (1 ∷ 1 ∷ [], record { alike = true; obeyed = Some true; bound = true }))
+  (
+      (0, (None, (1, (0 ∷ [], 1 ∷ 2 ∷ [])) ∷ []))
+      ∷ (1, (None, []))
+      ∷ (2, (Some 4, []))
+      ∷ [])
+      ∷ (
+      (0, (None, []))
+      ∷ (1, (None, (1, (0 ∷ 1 ∷ [], 2 ∷ [])) ∷ []))
+      ∷ (2, (Some 4, (1, (0 ∷ 2 ∷ [], 1 ∷ [])) ∷ []))
+      ∷ [])
+      ∷ [],
+  (1 ∷ 1 ∷ [], record { alike = true; obeyed = Some true; bound = true }),
+)
 unfolding decisions held accepted loyal_chains step
 passing_told = refl
 
@@ -43,18 +44,19 @@ abbrev pub torn_program : SignedScenario
 torn_program = record { campaign = torn; program = λ g. calling 10 1 2 ++ (calling 10 0 4 ++ Exit ∷ []); board = replicate 64 0 }
 
 torn_program_told : told (chronicle_of (played torn_program (replayed torn_program []))) ≡ (
-    (
-        (0, (Some 7, (1, (0 ∷ [], 1 ∷ [])) ∷ (0, (0 ∷ [], 2 ∷ [])) ∷ []))
-        ∷ (1, (None, []))
-        ∷ (2, (None, []))
-        ∷ [])
-    ∷ (
-        (0, (Some 7, (1, (0 ∷ [], 1 ∷ [])) ∷ (0, (0 ∷ [], 2 ∷ [])) ∷ []))
-        ∷ (1, (None, (1, (0 ∷ 1 ∷ [], 2 ∷ [])) ∷ []))
-        ∷ (2, (None, (0, (0 ∷ 2 ∷ [], 1 ∷ [])) ∷ []))
-        ∷ [])
-    ∷ [],
-    (0 ∷ 0 ∷ [], record { alike = true; obeyed = None; bound = true }))
+  (
+      (0, (Some 7, (1, (0 ∷ [], 1 ∷ [])) ∷ (0, (0 ∷ [], 2 ∷ [])) ∷ []))
+      ∷ (1, (None, []))
+      ∷ (2, (None, []))
+      ∷ [])
+      ∷ (
+      (0, (Some 7, (1, (0 ∷ [], 1 ∷ [])) ∷ (0, (0 ∷ [], 2 ∷ [])) ∷ []))
+      ∷ (1, (None, (1, (0 ∷ 1 ∷ [], 2 ∷ [])) ∷ []))
+      ∷ (2, (None, (0, (0 ∷ 2 ∷ [], 1 ∷ [])) ∷ []))
+      ∷ [])
+      ∷ [],
+  (0 ∷ 0 ∷ [], record { alike = true; obeyed = None; bound = true }),
+)
 unfolding decisions held accepted loyal_chains step
 torn_program_told = refl
 
@@ -71,18 +73,18 @@ pair_program = record {
 }
 
 pair_told : told (chronicle_of (played pair_program (replayed pair_program ((2 ∷ 0 ∷ 2 ∷ []) ∷ [])))) ≡ (
-    (
-        (0, (Some 7, (1, (0 ∷ [], 1 ∷ 2 ∷ [])) ∷ []))
-        ∷ (1, (None, []))
-        ∷ (2, (Some 10, []))
-        ∷ [])
-    ∷ (
-        (0, (Some 7, (1, (0 ∷ [], 1 ∷ 2 ∷ [])) ∷ []))
-        ∷ (1, (None, (1, (0 ∷ 1 ∷ [], 2 ∷ [])) ∷ []))
-        ∷ (2, (Some 10, (1, (0 ∷ 2 ∷ [], 1 ∷ [])) ∷ []))
-        ∷ [])
-    ∷ [],
-    (1 ∷ 1 ∷ [], record { alike = true; obeyed = None; bound = false }))
+  (
+      (0, (Some 7, (1, (0 ∷ [], 1 ∷ 2 ∷ [])) ∷ []))
+      ∷ (1, (None, []))
+      ∷ (2, (Some 10, []))
+      ∷ [])
+      ∷ (
+      (0, (Some 7, (1, (0 ∷ [], 1 ∷ 2 ∷ [])) ∷ []))
+      ∷ (1, (None, (1, (0 ∷ 1 ∷ [], 2 ∷ [])) ∷ []))
+      ∷ (2, (Some 10, (1, (0 ∷ 2 ∷ [], 1 ∷ [])) ∷ []))
+      ∷ [])
+      ∷ [],
+  (1 ∷ 1 ∷ [], record { alike = true; obeyed = None; bound = false }),
+)
 unfolding decisions held accepted loyal_chains step
 pair_told = refl
-

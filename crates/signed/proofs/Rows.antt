@@ -52,18 +52,19 @@ abbrev pub passing_round : List Event
 passing_round = Post 0 ∷ Post 1 ∷ Tick 2 ∷ Tick 2 ∷ Tick 2 ∷ Tick 2 ∷ Close ∷ []
 
 passed_told : told (chronicle_of (run passer (opening passer passing) (passing_round ++ passing_round))) ≡ (
-    (
-        (0, (None, (1, (0 ∷ [], 1 ∷ 2 ∷ [])) ∷ []))
-        ∷ (1, (None, []))
-        ∷ (2, (Some 4, []))
-        ∷ [])
-    ∷ (
-        (0, (None, []))
-        ∷ (1, (None, (1, (0 ∷ 1 ∷ [], 2 ∷ [])) ∷ []))
-        ∷ (2, (Some 4, (1, (0 ∷ 2 ∷ [], 1 ∷ [])) ∷ []))
-        ∷ [])
-    ∷ [],
-    (1 ∷ 1 ∷ [], record { alike = true; obeyed = Some true; bound = true }))
+  (
+      (0, (None, (1, (0 ∷ [], 1 ∷ 2 ∷ [])) ∷ []))
+      ∷ (1, (None, []))
+      ∷ (2, (Some 4, []))
+      ∷ [])
+      ∷ (
+      (0, (None, []))
+      ∷ (1, (None, (1, (0 ∷ 1 ∷ [], 2 ∷ [])) ∷ []))
+      ∷ (2, (Some 4, (1, (0 ∷ 2 ∷ [], 1 ∷ [])) ∷ []))
+      ∷ [])
+      ∷ [],
+  (1 ∷ 1 ∷ [], record { alike = true; obeyed = Some true; bound = true }),
+)
 unfolding decisions held accepted loyal_chains
 passed_told = refl
 
@@ -83,18 +84,19 @@ abbrev pub torn_round : List Event
 torn_round = Post 1 ∷ Post 2 ∷ Tick 0 ∷ Tick 0 ∷ Tick 0 ∷ Tick 0 ∷ Tick 0 ∷ Tick 0 ∷ Tick 0 ∷ Close ∷ []
 
 torn_told : told (chronicle_of (run signer (opening signer torn) (torn_round ++ torn_round))) ≡ (
-    (
-        (0, (Some 7, (1, (0 ∷ [], 1 ∷ [])) ∷ (0, (0 ∷ [], 2 ∷ [])) ∷ []))
-        ∷ (1, (None, []))
-        ∷ (2, (None, []))
-        ∷ [])
-    ∷ (
-        (0, (Some 7, (1, (0 ∷ [], 1 ∷ [])) ∷ (0, (0 ∷ [], 2 ∷ [])) ∷ []))
-        ∷ (1, (None, (1, (0 ∷ 1 ∷ [], 2 ∷ [])) ∷ []))
-        ∷ (2, (None, (0, (0 ∷ 2 ∷ [], 1 ∷ [])) ∷ []))
-        ∷ [])
-    ∷ [],
-    (0 ∷ 0 ∷ [], record { alike = true; obeyed = None; bound = true }))
+  (
+      (0, (Some 7, (1, (0 ∷ [], 1 ∷ [])) ∷ (0, (0 ∷ [], 2 ∷ [])) ∷ []))
+      ∷ (1, (None, []))
+      ∷ (2, (None, []))
+      ∷ [])
+      ∷ (
+      (0, (Some 7, (1, (0 ∷ [], 1 ∷ [])) ∷ (0, (0 ∷ [], 2 ∷ [])) ∷ []))
+      ∷ (1, (None, (1, (0 ∷ 1 ∷ [], 2 ∷ [])) ∷ []))
+      ∷ (2, (None, (0, (0 ∷ 2 ∷ [], 1 ∷ [])) ∷ []))
+      ∷ [])
+      ∷ [],
+  (0 ∷ 0 ∷ [], record { alike = true; obeyed = None; bound = true }),
+)
 unfolding decisions held accepted loyal_chains
 torn_told = refl
 
@@ -189,26 +191,27 @@ abbrev pub late_round : List Event
 late_round = Tick 3 ∷ Post 1 ∷ Tick 0 ∷ Post 2 ∷ Tick 0 ∷ Tick 3 ∷ Tick 3 ∷ Close ∷ []
 
 late_told : told (chronicle_of (run late_conduct (opening late_conduct late) (late_round ++ (late_round ++ late_round)))) ≡ (
-    (
-        (0, (Some 2, (7, (0 ∷ [], 3 ∷ [])) ∷ []))
-        ∷ (1, (None, []))
-        ∷ (2, (None, []))
-        ∷ (3, (Some 2, []))
-        ∷ [])
-    ∷ (
-        (0, (Some 2, (7, (0 ∷ [], 3 ∷ [])) ∷ []))
-        ∷ (1, (None, []))
-        ∷ (2, (None, []))
-        ∷ (3, (Some 2, (7, (0 ∷ 3 ∷ [], 1 ∷ 2 ∷ [])) ∷ []))
-        ∷ [])
-    ∷ (
-        (0, (Some 2, (7, (0 ∷ [], 3 ∷ [])) ∷ []))
-        ∷ (1, (None, (7, (0 ∷ 3 ∷ 1 ∷ [], 2 ∷ [])) ∷ []))
-        ∷ (2, (None, (7, (0 ∷ 3 ∷ 2 ∷ [], 1 ∷ [])) ∷ []))
-        ∷ (3, (Some 2, (7, (0 ∷ 3 ∷ [], 1 ∷ 2 ∷ [])) ∷ []))
-        ∷ [])
-    ∷ [],
-    (7 ∷ 7 ∷ 7 ∷ [], record { alike = true; obeyed = None; bound = true }))
+  (
+      (0, (Some 2, (7, (0 ∷ [], 3 ∷ [])) ∷ []))
+      ∷ (1, (None, []))
+      ∷ (2, (None, []))
+      ∷ (3, (Some 2, []))
+      ∷ [])
+      ∷ (
+      (0, (Some 2, (7, (0 ∷ [], 3 ∷ [])) ∷ []))
+      ∷ (1, (None, []))
+      ∷ (2, (None, []))
+      ∷ (3, (Some 2, (7, (0 ∷ 3 ∷ [], 1 ∷ 2 ∷ [])) ∷ []))
+      ∷ [])
+      ∷ (
+      (0, (Some 2, (7, (0 ∷ [], 3 ∷ [])) ∷ []))
+      ∷ (1, (None, (7, (0 ∷ 3 ∷ 1 ∷ [], 2 ∷ [])) ∷ []))
+      ∷ (2, (None, (7, (0 ∷ 3 ∷ 2 ∷ [], 1 ∷ [])) ∷ []))
+      ∷ (3, (Some 2, (7, (0 ∷ 3 ∷ [], 1 ∷ 2 ∷ [])) ∷ []))
+      ∷ [])
+      ∷ [],
+  (7 ∷ 7 ∷ 7 ∷ [], record { alike = true; obeyed = None; bound = true }),
+)
 unfolding decisions held accepted loyal_chains
 late_told = refl
 
@@ -234,26 +237,27 @@ abbrev pub twice_round : List Event
 twice_round = Post 1 ∷ Post 2 ∷ Tick 0 ∷ Tick 3 ∷ Close ∷ []
 
 twice_told : told (chronicle_of (run twice_conduct (opening twice_conduct twice) (twice_round ++ (twice_round ++ twice_round)))) ≡ (
-    (
-        (0, (Some 1, (7, (0 ∷ [], 3 ∷ [])) ∷ []))
-        ∷ (1, (None, []))
-        ∷ (2, (None, []))
-        ∷ (3, (Some 1, []))
-        ∷ [])
-    ∷ (
-        (0, (Some 1, []))
-        ∷ (1, (None, []))
-        ∷ (2, (None, []))
-        ∷ (3, (Some 1, (7, (0 ∷ 3 ∷ [], [])) ∷ []))
-        ∷ [])
-    ∷ (
-        (0, (Some 1, []))
-        ∷ (1, (None, []))
-        ∷ (2, (None, []))
-        ∷ (3, (Some 1, []))
-        ∷ [])
-    ∷ [],
-    (0 ∷ 0 ∷ 7 ∷ [], record { alike = true; obeyed = None; bound = true }))
+  (
+      (0, (Some 1, (7, (0 ∷ [], 3 ∷ [])) ∷ []))
+      ∷ (1, (None, []))
+      ∷ (2, (None, []))
+      ∷ (3, (Some 1, []))
+      ∷ [])
+      ∷ (
+      (0, (Some 1, []))
+      ∷ (1, (None, []))
+      ∷ (2, (None, []))
+      ∷ (3, (Some 1, (7, (0 ∷ 3 ∷ [], [])) ∷ []))
+      ∷ [])
+      ∷ (
+      (0, (Some 1, []))
+      ∷ (1, (None, []))
+      ∷ (2, (None, []))
+      ∷ (3, (Some 1, []))
+      ∷ [])
+      ∷ [],
+  (0 ∷ 0 ∷ 7 ∷ [], record { alike = true; obeyed = None; bound = true }),
+)
 unfolding decisions held accepted loyal_chains
 twice_told = refl
 

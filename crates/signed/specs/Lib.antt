@@ -8,6 +8,9 @@ pub mod World
 pub mod Laws
 pub mod Chronicle
 pub mod Signers
+pub mod Loyal
+pub mod Sent
+pub mod Kind
 pub mod Verdicts
 pub mod Programs
 pub mod Lists
