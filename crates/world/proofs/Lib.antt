@@ -1,4 +1,5 @@
 pub mod Listing
+pub mod Campaigns
 pub mod Kept
 pub mod Moves
 pub mod Faithful
@@ -25,6 +26,7 @@ pub mod Refusing
 pub mod Example
 pub mod Replies
 pub mod Standing
+pub mod Legal
 pub mod Verdicts
 pub mod Ticking
 pub mod Listed
