@@ -80,5 +80,5 @@ letter_is s before g is within le small =
 pub proved_loyal_letters_follow : LoyalLettersFollow
 proved_loyal_letters_follow = record {
   letter = letter_is;
-  kept = λ context is. record { context = is; own = (refl, refl); shape = refl; kind = λ spoken. refl; run = (refl, refl, refl, refl) };
+  kept = λ context is. record { context = is; own = (refl, refl); shape = refl; kind = λ spoken. refl; run = (refl, refl, refl, refl, λ spoken. refl) };
 }

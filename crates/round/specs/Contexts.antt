@@ -6,6 +6,7 @@ use Rattle.label.specs.declared.shape.Shape.{Shape}
 use Rattle.label.specs.Relay.{relay}
 use Rattle.label.specs.Oral.{heard}
 use Rattle.semantics.specs.Relay.{Relay, oral}
+use Rattle.semantics.specs.State.{Outbox}
 use Rattle.semantics.specs.Outbox.{places, taken_value}
 use Rattle.outbox.specs.Contents.{Contents}
 use Rattle.round.specs.Scenario.{Scenario, shape_of}
@@ -69,9 +70,13 @@ relay_told g round context = oral (shape_told g round context)
 abbrev pub tells_oral : List ℕ → Type 0
 tells_oral context = number_told context at_kind ≡ 0
 
+-- at each place of a relay the value that the context has for its label; a signed relay has no place
+abbrev pub rows_told : Relay → List ℕ → Outbox
+rows_told relay context = map (λ row. map (λ place. Some (taken_value context place.rank)) row) (places relay)
+
 -- the outbox that tells each receiver of each label the value that the context has
 abbrev pub outbox_told : Shape → List ℕ → Contents
-outbox_told shape context = record { relay = oral shape; rows = map (λ row. map (λ place. Some (taken_value context place.rank)) row) (places (oral shape)); entries = [] }
+outbox_told shape context = record { relay = oral shape; rows = rows_told (oral shape) context; entries = [] }
 
 -- a loyal general's letter, with this outbox: he runs nothing
 abbrev pub faithful_letter_with : ℕ → ℕ → List ℕ → Contents → Letter

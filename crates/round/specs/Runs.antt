@@ -5,7 +5,7 @@ use Rattle.semantics.specs.Relay.{IsContext, Oral}
 use Rattle.semantics.specs.Call.{fits}
 use Rattle.board.specs.Board.{Access}
 use Rattle.round.specs.Letters.{Letter}
-use Rattle.round.specs.Contexts.{IsToldTo, shape_told, outbox_told, tells_oral}
+use Rattle.round.specs.Contexts.{IsToldTo, shape_told, rows_told, tells_oral}
 use Rattle.round.specs.Activation.{Activation, started, Turn, Goes, Asks, Ended, turn}
 
 -- one turn, which the next of these accesses serves where it asks, and then what is said of the rest
@@ -30,9 +30,12 @@ abbrev pub IsWithin : Option ℕ → ℕ → Type 0
 IsWithin None steps = Unit {0}
 IsWithin (Some patience) steps = steps ≤ patience
 
--- a loyal general runs nothing and tells what his context has; a traitor's program, run on its context for so many steps with these accesses, whose replies fit, has come to this outbox
+-- a loyal general runs nothing, and at each place of his outbox stands what his context has; where that tells that orders are oral, nothing is entered.
+-- A traitor's program, run on its context for so many steps with these accesses, whose replies fit, has come to this outbox
 abbrev pub IsRunOf : Letter → Option (List Insn) → Type 0
-IsRunOf l None = (l.transcript ≡ []) × (l.steps ≡ 0) × (l.outbox ≡ outbox_told l.outbox.relay.shape l.context) × (l.exited ≡ true)
+IsRunOf l None =
+    (l.transcript ≡ []) × (l.steps ≡ 0) × (l.outbox.rows ≡ rows_told l.outbox.relay l.context) × (l.exited ≡ true)
+    × (tells_oral l.context → l.outbox.entries ≡ [])
 IsRunOf l (Some program) =
     AreFitting l.transcript × (end : Activation) × Runs l.steps (started None program l.context l.outbox.relay) l.transcript end
     × (l.outbox.rows ≡ end.state.outbox) × (l.exited ≡ end.over) × (l.outbox.entries ≡ end.state.entries)

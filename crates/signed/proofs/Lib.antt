@@ -29,6 +29,7 @@ pub mod Replayed
 pub mod ProgramRows
 pub mod Exits
 pub mod Signing
+pub mod Passing
 pub mod Sending
 pub mod Deciding
 pub mod Example

@@ -2,6 +2,7 @@ pub mod Chains
 pub mod Accepted
 pub mod Agreement
 pub mod Entries
+pub mod Loyal
 pub mod Contexts
 pub mod Campaign
 pub mod World

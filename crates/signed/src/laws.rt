@@ -9,6 +9,7 @@ ghost use Rattle.signed.specs.Laws.{
   IdleEventsChangeNothing,
   SignedWorldsAgree,
 };
+ghost use Rattle.signed.specs.Loyal.{LoyalEntriesAreSent};
 ghost use Rattle.signed.specs.Plays.{SignedActivationsAreSafe, SignedEntriesAreSent, SignedLedgersDecide, SignedListsAreComplete, SignedRunsAreReplays};
 ghost use Rattle.signed.specs.Verdicts.{SignedVerdictsMean};
 
@@ -50,6 +51,11 @@ pub fn signed_verdicts_mean<A, B>()
 /// Entries that can be sent, at most eight, are all entered: so what a program has entered may stand for what it has attempted.
 pub fn entries_are_entered()
     ensures { EntriesAreEntered }
+{}
+
+/// What a loyal general enters sends, to all others, just the chains that he has to sign.
+pub fn loyal_entries_are_sent()
+    ensures { LoyalEntriesAreSent }
 {}
 
 /// Where traitors run programs, whatever happens, no activation traps or takes more steps than its program has instructions, and an ended one stays as it is.

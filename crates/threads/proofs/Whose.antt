@@ -9,7 +9,7 @@ use Rattle.round.specs.Contexts.{tells_oral}
 use Rattle.round.proofs.Loyal.{oral_is_told}
 use Rattle.round.specs.Scenario.{Scenario, IsScenario, program_of, shape_of}
 use Rattle.round.specs.Letters.{Letter}
-use Rattle.round.specs.Contexts.{AreWords, context_of, shape_told, outbox_told, faithful_letter}
+use Rattle.round.specs.Contexts.{AreWords, context_of, shape_told, rows_told, outbox_told, faithful_letter}
 use Rattle.round.specs.Activation.{started}
 use Rattle.round.specs.Runs.{Runs, IsWithin, IsRunOf, IsLetter}
 use Rattle.round.specs.Told.{AreLettersOf, AreRoundsOf}
@@ -51,15 +51,23 @@ module _ (s : Scenario) (before : List (List Letter)) (g : ℕ) (l : Letter) (is
   shape : l.outbox.relay.shape ≡ shape_of s g (suc (length before))
   shape = kept.shape ∙ ((λ i. shape_told (own i) (of_round i) (told i)) ∙ shape_is_told s before g (suc (length before)) is)
 
+  spoken : tells_oral l.context
+  spoken = subst (λ (c : List ℕ). tells_oral c) (sym told) (oral_is_told s before g is)
+
   relay : l.outbox.relay ≡ oral (shape_of s g (suc (length before)))
   relay =
-      let kind = kept.kind (subst (λ (c : List ℕ). tells_oral c) (sym told) (oral_is_told s before g is)) in
+      let kind = kept.kind spoken in
       (λ i. record { shape = shape i; kind = kind i })
 
   loyal : AreWords s before g → l.program ≡ None → IsRunOf l None → l ≡ faithful_letter s before g
   loyal small none run =
+      let same = kept.shape ∙ (λ i. shape_told (own i) (of_round i) (told i)) in
+      let kind = kept.kind spoken in
+      let is_oral : l.outbox.relay ≡ oral (shape_told g (suc (length before)) (context_of s before g)) = (λ i. record { shape = same i; kind = kind i }) in
+      let rows = run.2 ∙ (λ i. rows_told (is_oral i) (told i)) in
+      let entries = run.4 spoken in
       let outbox : l.outbox ≡ outbox_told (shape_told g (suc (length before)) (context_of s before g)) (context_of s before g) =
-      run.2 ∙ (λ i. outbox_told ((kept.shape ∙ (λ j. shape_told (own j) (of_round j) (told j))) i) (told i)) in
+      (λ i. record { relay = is_oral i; rows = rows i; entries = entries i }) in
       (λ i. record {
         general = own i;
         round = of_round i;
