@@ -1,12 +1,13 @@
 -- What of an object does not lie within the file, or within what it is a part of: the first, in this order.
-use Rattle.std.specs.Prelude.{ℕ, ◌+◌, ◌/◌, List, length, Bool, not, ◌==◌, ◌&&◌, ◌||◌, nat_lt, nat_le, if◌then◌else◌, Option, Some, None}
+use Rattle.std.specs.Prelude.{ℕ, ◌+◌, ◌/◌, List, length, Bool, not, ◌==◌, ◌&&◌, ◌||◌, nat_lt, nat_le, if◌then◌else◌}
+use Rattle.std.specs.Prelude.{Option, Some, None}
 use Rattle.elf.specs.declared.section.Section.{Section}
 use Rattle.elf.specs.declared.symbol.Symbol.{Symbol}
 use Rattle.elf.specs.declared.fault.Damage.{Damage}
 use Rattle.elf.specs.declared.fault.Damage.TheVariants as damages
 use Rattle.elf.specs.First.{first_some, or_else}
-use Rattle.elf.specs.Section.{section_count, section_table, is_table_whole, section_at, section_bytes, is_relocations}
-use Rattle.elf.specs.Symbol.{symbols_section, symbol_at, is_function}
+use Rattle.elf.specs.Section.{section_at, section_bytes, is_relocations}
+use Rattle.elf.specs.Symbol.{symbol_at, is_function}
 use Rattle.elf.specs.Relocation.{relocation_size, relocation_at}
 
 -- a section without bytes in the file (SHT_NULL, SHT_NOBITS), or one whose bytes are there
@@ -35,11 +36,11 @@ relocation_damage section symbols size relocations index =
 abbrev pub relocations_damage : List ℕ → List ℕ → ℕ → ℕ → ℕ → Option Damage
 relocations_damage object table home symbols index =
     if is_relocations (section_at index table) then
-      (if (section_at index table).link == home then
-        first_some
-          (relocation_damage index symbols (relocation_size (section_at index table)) (section_bytes object (section_at index table)))
-          (length (section_bytes object (section_at index table)) / relocation_size (section_at index table))
-      else Some (damages.Relocations index))
+    (if (section_at index table).link == home then
+    first_some
+    (relocation_damage index symbols (relocation_size (section_at index table)) (section_bytes object (section_at index table)))
+    (length (section_bytes object (section_at index table)) / relocation_size (section_at index table))
+    else Some (damages.Relocations index))
     else None
 
 -- the sections, then the functions among the symbols, then the relocations

@@ -1,5 +1,5 @@
 -- The code that an object has for an entry, or the first fault.
-use Rattle.std.specs.Prelude.{ℕ, ◌+◌, ◌/◌, List, length, Bool, not, if◌then◌else◌, Option, Some, None, Result, Ok, Err}
+use Rattle.std.specs.Prelude.{ℕ, ◌+◌, ◌/◌, List, length, not, if◌then◌else◌, Option, Some, None, Result, Ok, Err}
 use Rattle.std.proofs.Common.{Bor}
 use Rattle.elf.specs.declared.symbol.Symbol.{Symbol}
 use Rattle.elf.specs.declared.fault.Damage.{Damage}
@@ -13,7 +13,8 @@ use Rattle.elf.specs.Symbol.{symbols_section, symbol_at, entry_here}
 use Rattle.elf.specs.Relocation.{relocations_fault, call_fault}
 use Rattle.elf.specs.Damage.{tables_damage}
 
--- the parts of an object that are looked at: the headers of its sections, how many there are, which of them has the symbols, these, and their strings
+-- the parts of an object that are looked at: the headers of its sections, how many there are, which of them has the
+-- symbols, these, and their strings
 pub record Parts : Type 0 where
   pub table : List ℕ
   pub count : ℕ

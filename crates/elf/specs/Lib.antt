@@ -6,3 +6,4 @@ pub mod Relocation
 pub mod Damage
 pub mod Entry
 pub mod Telling
+pub mod Sentences

@@ -1,6 +1,8 @@
 -- Relocations (System V ABI, "Relocation": Elf64_Rel, Elf64_Rela): which symbol a place of a section names.
--- In code for BPF these are R_BPF_64_64, the 64 bits of an lddw, and R_BPF_64_32, the number of a call (LLVM, "BPF Relocation Types").
-use Rattle.std.specs.Prelude.{ℕ, ◌+◌, ◌*◌, ◌/◌, ◌-◌, List, length, Bool, ◌==◌, ◌&&◌, nat_lt, nat_le, if◌then◌else◌, Option, Some, None}
+-- In code for BPF these are R_BPF_64_64, the 64 bits of an lddw, and R_BPF_64_32, the number of a call (LLVM, "BPF
+-- Relocation Types").
+use Rattle.std.specs.Prelude.{ℕ, ◌+◌, ◌*◌, ◌/◌, ◌-◌, List, length, Bool, ◌==◌, ◌&&◌, nat_lt, nat_le, if◌then◌else◌}
+use Rattle.std.specs.Prelude.{Option, Some, None}
 use Rattle.elf.specs.declared.section.Section.{Section}
 use Rattle.elf.specs.declared.symbol.Symbol.{Symbol}
 use Rattle.elf.specs.declared.relocation.Relocation.{Relocation}
@@ -26,7 +28,8 @@ relocation_at size index relocations = record {
 abbrev pub is_within : Relocation → Symbol → Bool
 is_within relocation function = nat_le function.value relocation.place && nat_lt relocation.place (function.value + function.size)
 
--- what is wrong with a place of the function's code that names the symbol: a machine without calls of functions leaves its function, and data is not there at all
+-- what is wrong with a place of the function's code that names the symbol: a machine without calls of functions
+-- leaves its function, and data is not there at all
 abbrev pub named_at : List ℕ → Symbol → ℕ → Fault
 named_at table symbol unit = if is_code (section_at symbol.section table) then Leaves unit else Names unit
 
@@ -42,8 +45,8 @@ abbrev pub relocations_fault : List ℕ → List ℕ → List ℕ → Symbol →
 relocations_fault object table symbols function index =
     if is_relocations (section_at index table) && ((section_at index table).info == function.section)
     then first_some
-      (relocation_fault table symbols function (relocation_size (section_at index table)) (section_bytes object (section_at index table)))
-      (length (section_bytes object (section_at index table)) / relocation_size (section_at index table))
+    (relocation_fault table symbols function (relocation_size (section_at index table)) (section_bytes object (section_at index table)))
+    (length (section_bytes object (section_at index table)) / relocation_size (section_at index table))
     else None
 
 -- a unit that calls a function of the program: opcode 0x85 with src 1 (RFC 9669, section 4.3.2)

@@ -1,4 +1,5 @@
--- The header and the sections of an object, as far as they are looked at (System V ABI, "ELF Header" and "Sections": Elf64_Ehdr, Elf64_Shdr).
+-- The header and the sections of an object, as far as they are looked at (System V ABI, "ELF Header" and "Sections":
+-- Elf64_Ehdr, Elf64_Shdr).
 use Rattle.std.specs.Prelude.{ℕ, ◌+◌, ◌*◌, ◌/◌, ◌%◌, List, length, Bool, ◌==◌, ◌&&◌, ◌||◌, nat_le}
 use Rattle.elf.specs.declared.section.Section.{Section}
 use Rattle.elf.specs.Number.{number_at, window}

@@ -1,3 +1,6 @@
+ghost use Rattle.std.specs.Prelude.{◌≡◌};
+ghost use Rattle.elf.specs.Sentences.{sentence_of};
+
 use std::error::Error;
 use std::fmt;
 
@@ -66,3 +69,34 @@ impl fmt::Display for Fault {
 }
 
 impl Error for Fault {}
+
+/// The sentence that says what a fault means, and what helps.
+pub fn sentence(fault: Fault) -> &'static str
+    ensures { result.now ≡ sentence_of fault }
+{
+    match fault {
+        Fault::NoObject => {
+            "this is no relocatable ELF object of 64 bits, little-endian, for BPF (machine 247)"
+        }
+        Fault::Damaged(Damage::Sections) => {
+            "the header is cut off, or those of the sections are not within the file"
+        }
+        Fault::Damaged(Damage::Section(_)) => {
+            "the bytes of this section are not within the file"
+        }
+        Fault::Damaged(Damage::Symbol(_)) => {
+            "the name of this function is not among the strings, or its code not within its section"
+        }
+        Fault::Damaged(Damage::Relocations(_)) => {
+            "the relocations of this section name a symbol that is not there"
+        }
+        Fault::NoFunction => { "there is no function of this name, or no global function at all" }
+        Fault::Several => { "there are several functions: name the one that is the program" }
+        Fault::Names(_) => {
+            "the entry names data or a function that is not here: arrays belong on the stack, helpers are called by number"
+        }
+        Fault::Leaves(_) => {
+            "the entry calls or names another function: make that one `static inline`, so that one is left"
+        }
+    }
+}

@@ -91,12 +91,7 @@ fn first_entry(
 }
 
 /// The one function that fits.
-fn choose(
-    table: &[u8],
-    symbols: &[u8],
-    strings: &[u8],
-    name: Option<&[u8]>,
-) -> Result<usize, Fault>
+fn choose(table: &[u8], symbols: &[u8], strings: &[u8], name: Option<&[u8]>) -> Result<usize, Fault>
     ensures chosen { result ≡ chosen table.now symbols.now strings.now name.entry }
     ensures bound { IfOk result (λ index. index < length symbols.now / 24) }
 {

@@ -2,7 +2,6 @@
 #![tactic(auto)]
 
 mod damage;
-
 mod fault;
 mod finding;
 mod number;
@@ -10,6 +9,6 @@ mod relocation;
 mod section;
 mod symbol;
 
+pub use fault::{Damage, Fault, sentence};
 pub use finding::{entry, function};
-pub use fault::{Damage, Fault};
 pub use symbol::Symbol;

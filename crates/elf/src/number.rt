@@ -15,7 +15,11 @@ fn has(bytes: &[u8], place: usize, size: usize) -> bool
 pub fn byte_at(bytes: &[u8], place: usize) -> u8
     ensures { result ≡ number_at 1 place bytes.now }
 {
-    if has(bytes, place, 1) { bytes[place] } else { 0 }
+    if has(bytes, place, 1) {
+        bytes[place]
+    } else {
+        0
+    }
 }
 
 /// The number in two bytes at a place, the lowest first; 0 where they are not there.

@@ -26,7 +26,11 @@ pub fn count_sections(object: &[u8]) -> usize
 pub fn read_table(object: &[u8]) -> &[u8]
     ensures { result.now ≡ section_table object.now }
 {
-    window(object, double_at(object, 40), 64 * u64::from(half_at(object, 60)))
+    window(
+        object,
+        double_at(object, 40),
+        64 * u64::from(half_at(object, 60)),
+    )
 }
 
 /// Whether the header and those of the sections are there.

@@ -76,7 +76,11 @@ impl Symbol {
 fn rest(bytes: &[u8], place: usize) -> &[u8]
     ensures { result.now ≡ drop place bytes.now }
 {
-    if place <= bytes.len() { &bytes[place..] } else { &[] }
+    if place <= bytes.len() {
+        &bytes[place..]
+    } else {
+        &[]
+    }
 }
 
 /// Whether the bytes begin with a name and a zero.
