@@ -1,0 +1,16 @@
+use Rattle.std.proofs.Common.{arith}
+use Rattle.elf.proofs.FirstLemmas.{nothing_yet, nothing_more, found_first, nothing_left}
+use Rattle.elf.specs.Damage.{section_damage}
+use Rattle.elf.proofs.damage.first_section.Goals as goal
+
+pub loop-index-init : goal.loop-index-init
+loop-index-init c = nothing_yet (section_damage c.args.object.now c.args.table.now)
+
+pub loop-index-preserved : goal.loop-index-preserved
+loop-index-preserved c = nothing_more (section_damage c.args.object.now c.args.table.now) c.loop-index.index c.loop-index.invariant c.in-None.ensures
+
+pub returns-in-Some : goal.returns-in-Some
+returns-in-Some c = found_first (section_damage c.args.object.now c.args.table.now) c.args.count c.loop-index.index c.in-Some.damage (omega arith) c.loop-index.invariant c.in-Some.ensures
+
+pub returns : goal.returns
+returns c = nothing_left (section_damage c.args.object.now c.args.table.now) c.args.count c.loop-index.index (omega arith) c.loop-index.invariant

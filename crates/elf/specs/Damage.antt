@@ -1,0 +1,51 @@
+-- What of an object does not lie within the file, or within what it is a part of: the first, in this order.
+use Rattle.std.specs.Prelude.{ℕ, ◌+◌, ◌/◌, List, length, Bool, not, ◌==◌, ◌&&◌, ◌||◌, nat_lt, nat_le, if◌then◌else◌}
+use Rattle.std.specs.Prelude.{Option, Some, None}
+use Rattle.elf.specs.declared.section.Section.{Section}
+use Rattle.elf.specs.declared.symbol.Symbol.{Symbol}
+use Rattle.elf.specs.declared.fault.Damage.{Damage}
+use Rattle.elf.specs.declared.fault.Damage.TheVariants as damages
+use Rattle.elf.specs.First.{first_some, or_else}
+use Rattle.elf.specs.Section.{section_at, section_bytes, is_relocations}
+use Rattle.elf.specs.Symbol.{symbol_at, is_function}
+use Rattle.elf.specs.Relocation.{relocation_size, relocation_at}
+
+-- a section without bytes in the file (SHT_NULL, SHT_NOBITS), or one whose bytes are there
+abbrev pub is_section_whole : List ℕ → Section → Bool
+is_section_whole object section = (section.kind == 0) || (section.kind == 8) || nat_le (section.start + section.size) (length object)
+
+abbrev pub section_damage : List ℕ → List ℕ → ℕ → Option Damage
+section_damage object table index = if is_section_whole object (section_at index table) then None else Some (damages.Section index)
+
+-- its name begins within the strings, and its code lies within its section
+abbrev pub is_symbol_whole : List ℕ → List ℕ → Symbol → Bool
+is_symbol_whole table strings symbol =
+    nat_lt symbol.name (length strings) && nat_le (symbol.value + symbol.size) (section_at symbol.section table).size
+
+-- of symbols only the functions are looked at
+abbrev pub symbol_damage : List ℕ → List ℕ → List ℕ → ℕ → Option Damage
+symbol_damage table symbols strings index =
+    if is_function table (symbol_at index symbols) && not (is_symbol_whole table strings (symbol_at index symbols)) then Some (damages.Symbol index) else None
+
+-- the relocation names a symbol that is there
+abbrev pub relocation_damage : ℕ → ℕ → ℕ → List ℕ → ℕ → Option Damage
+relocation_damage section symbols size relocations index =
+    if nat_lt (relocation_at size index relocations).symbol symbols then None else Some (damages.Relocations section)
+
+-- a table of relocations names the table of symbols, and each of its relocations one of so many symbols
+abbrev pub relocations_damage : List ℕ → List ℕ → ℕ → ℕ → ℕ → Option Damage
+relocations_damage object table home symbols index =
+    if is_relocations (section_at index table) then
+    (if (section_at index table).link == home then
+    first_some
+    (relocation_damage index symbols (relocation_size (section_at index table)) (section_bytes object (section_at index table)))
+    (length (section_bytes object (section_at index table)) / relocation_size (section_at index table))
+    else Some (damages.Relocations index))
+    else None
+
+-- the sections, then the functions among the symbols, then the relocations
+abbrev pub tables_damage : List ℕ → List ℕ → ℕ → ℕ → List ℕ → List ℕ → Option Damage
+tables_damage object table count home symbols strings =
+    or_else (first_some (section_damage object table) count)
+    (or_else (first_some (symbol_damage table symbols strings) (length symbols / 24))
+    (first_some (relocations_damage object table home (length symbols / 24)) count))

@@ -1,0 +1,57 @@
+-- Relocations (System V ABI, "Relocation": Elf64_Rel, Elf64_Rela): which symbol a place of a section names.
+-- In code for BPF these are R_BPF_64_64, the 64 bits of an lddw, and R_BPF_64_32, the number of a call (LLVM, "BPF
+-- Relocation Types").
+use Rattle.std.specs.Prelude.{ℕ, ◌+◌, ◌*◌, ◌/◌, ◌-◌, List, length, Bool, ◌==◌, ◌&&◌, nat_lt, nat_le, if◌then◌else◌}
+use Rattle.std.specs.Prelude.{Option, Some, None}
+use Rattle.elf.specs.declared.section.Section.{Section}
+use Rattle.elf.specs.declared.symbol.Symbol.{Symbol}
+use Rattle.elf.specs.declared.relocation.Relocation.{Relocation}
+use Rattle.elf.specs.declared.fault.Fault.{Fault}
+use Rattle.elf.specs.declared.fault.Fault.TheVariants.{Names, Leaves}
+use Rattle.elf.specs.Number.{number_at}
+use Rattle.elf.specs.First.{first_some}
+use Rattle.elf.specs.Section.{section_at, section_bytes, is_code, is_relocations}
+use Rattle.elf.specs.Symbol.{symbol_at}
+
+-- the size of a relocation: SHT_REL has 16 bytes, SHT_RELA 24
+abbrev pub relocation_size : Section → ℕ
+relocation_size section = if section.kind == 9 then 16 else 24
+
+-- r_offset, and the symbol in the upper half of r_info
+abbrev pub relocation_at : ℕ → ℕ → List ℕ → Relocation
+relocation_at size index relocations = record {
+  place = number_at 8 (size * index) relocations;
+  symbol = number_at 4 (size * index + 12) relocations;
+}
+
+-- it changes the function's code
+abbrev pub is_within : Relocation → Symbol → Bool
+is_within relocation function = nat_le function.value relocation.place && nat_lt relocation.place (function.value + function.size)
+
+-- what is wrong with a place of the function's code that names the symbol: a machine without calls of functions
+-- leaves its function, and data is not there at all
+abbrev pub named_at : List ℕ → Symbol → ℕ → Fault
+named_at table symbol unit = if is_code (section_at symbol.section table) then Leaves unit else Names unit
+
+-- the fault of a relocation, if it changes the function's code
+abbrev pub relocation_fault : List ℕ → List ℕ → Symbol → ℕ → List ℕ → ℕ → Option Fault
+relocation_fault table symbols function size relocations index =
+    if is_within (relocation_at size index relocations) function
+    then Some (named_at table (symbol_at (relocation_at size index relocations).symbol symbols) (((relocation_at size index relocations).place - function.value) / 8))
+    else None
+
+-- the first fault of a section's relocations, if they change the function's section
+abbrev pub relocations_fault : List ℕ → List ℕ → List ℕ → Symbol → ℕ → Option Fault
+relocations_fault object table symbols function index =
+    if is_relocations (section_at index table) && ((section_at index table).info == function.section)
+    then first_some
+    (relocation_fault table symbols function (relocation_size (section_at index table)) (section_bytes object (section_at index table)))
+    (length (section_bytes object (section_at index table)) / relocation_size (section_at index table))
+    else None
+
+-- a unit that calls a function of the program: opcode 0x85 with src 1 (RFC 9669, section 4.3.2)
+abbrev pub is_call : List ℕ → ℕ → Bool
+is_call code unit = (number_at 1 (8 * unit) code == 133) && (number_at 1 (8 * unit + 1) code / 16 == 1)
+
+abbrev pub call_fault : List ℕ → ℕ → Option Fault
+call_fault code unit = if is_call code unit then Some (Leaves unit) else None

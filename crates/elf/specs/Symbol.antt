@@ -1,0 +1,50 @@
+-- The symbols of an object, as far as they are looked at (System V ABI, "Symbol Table": Elf64_Sym).
+use Rattle.std.specs.Prelude.{ℕ, ◌+◌, ◌*◌, ◌/◌, ◌%◌, List, length, take, drop, slice_index, Bool, ◌==◌, ◌&&◌}
+use Rattle.std.specs.Prelude.{◌||◌, nat_lt, nat_le, if◌then◌else◌, Option, Some, None, unwrap_or}
+use Rattle.std.specs.Str.{bytes_eq}
+use Rattle.std.proofs.Common.{Bor}
+use Rattle.elf.specs.declared.symbol.Symbol.{Symbol}
+use Rattle.elf.specs.Number.{number_at}
+use Rattle.elf.specs.First.{first_some}
+use Rattle.elf.specs.Section.{section_at, is_code}
+
+-- the number of the section, if it is a table of symbols (SHT_SYMTAB)
+abbrev pub symbols_here : List ℕ → ℕ → Option ℕ
+symbols_here table index = if (section_at index table).kind == 2 then Some index else None
+
+-- the first table of symbols, by its section; the count of the sections where there is none
+abbrev pub symbols_section : List ℕ → ℕ → ℕ
+symbols_section table count = unwrap_or (first_some (symbols_here table) count) count
+
+-- st_name, st_info, st_shndx, st_value and st_size; zeros past the table
+abbrev pub symbol_at : ℕ → List ℕ → Symbol
+symbol_at index symbols = record {
+  name = number_at 4 (24 * index) symbols;
+  info = number_at 1 (24 * index + 4) symbols;
+  section = number_at 2 (24 * index + 6) symbols;
+  value = number_at 8 (24 * index + 8) symbols;
+  size = number_at 8 (24 * index + 16) symbols;
+}
+
+-- STT_FUNC, in a section of code
+abbrev pub is_function : List ℕ → Symbol → Bool
+is_function table symbol = (symbol.info % 16 == 2) && is_code (section_at symbol.section table)
+
+-- STB_GLOBAL or STB_WEAK
+abbrev pub is_global : Symbol → Bool
+is_global symbol = (symbol.info / 16 == 1) || (symbol.info / 16 == 2)
+
+-- the bytes begin with the name and a zero
+abbrev pub begins_with_name : List ℕ → List ℕ → Bool
+begins_with_name bytes name =
+    nat_lt (length name) (length bytes) && bytes_eq (take (length name) bytes) name && (slice_index bytes (length name) == 0)
+
+-- the symbol has this name among the strings; where none is asked, it is global
+abbrev pub fits : List ℕ → Symbol → Option (Bor (List ℕ)) → Bool
+fits strings symbol None = is_global symbol
+fits strings symbol (Some name) = begins_with_name (drop symbol.name strings) name.now
+
+-- the number of the symbol, from a least one on, if it is a function that fits
+abbrev pub entry_here : List ℕ → List ℕ → List ℕ → Option (Bor (List ℕ)) → ℕ → ℕ → Option ℕ
+entry_here table symbols strings name least index =
+    if nat_le least index && is_function table (symbol_at index symbols) && fits strings (symbol_at index symbols) name then Some index else None

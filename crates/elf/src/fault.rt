@@ -1,0 +1,102 @@
+ghost use Rattle.std.specs.Prelude.{◌≡◌};
+ghost use Rattle.elf.specs.Sentences.{sentence_of};
+
+use std::error::Error;
+use std::fmt;
+
+/// What of an object does not lie within the file, or within what it is a part of.
+#[derive(Clone, Copy, Debug, PartialEq, Eq, Drop)]
+pub enum Damage {
+    /// The header, or the table of the sections.
+    Sections,
+    /// This section.
+    Section(usize),
+    /// This symbol, which is a function: its name, or its code.
+    Symbol(usize),
+    /// The symbols of a relocation of this section.
+    Relocations(usize),
+}
+
+/// Why an object has no code to be run.
+#[derive(Clone, Copy, Debug, PartialEq, Eq, Drop)]
+pub enum Fault {
+    /// O1: no relocatable ELF object of 64 bits, little-endian, for BPF.
+    NoObject,
+    /// O2: an offset or a size leads out of the file.
+    Damaged(Damage),
+    /// O3: no function of this name, or no global one.
+    NoFunction,
+    /// O4: several functions, and none is named.
+    Several,
+    /// O5: the unit names data, or a function that is not in the object.
+    Names(usize),
+    /// O6: the unit calls or names a function of the object.
+    Leaves(usize),
+}
+
+impl fmt::Display for Damage {
+    ghost use Rattle.std.specs.Prelude.{Some};
+    ghost use Rattle.elf.specs.Telling.{place_of};
+
+    ghost output = { λ damage. Some (place_of damage) };
+
+    fn fmt<W: fmt::Write>(&self, f: &mut fmt::Formatter<W>) -> fmt::Result {
+        match self {
+            Damage::Sections => f.write_str("sections"),
+            Damage::Section(index) => write!(f, "section {index}"),
+            Damage::Symbol(index) => write!(f, "symbol {index}"),
+            Damage::Relocations(index) => write!(f, "relocations {index}"),
+        }
+    }
+}
+
+impl fmt::Display for Fault {
+    ghost use Rattle.std.specs.Prelude.{Some};
+    ghost use Rattle.elf.specs.Telling.{told};
+
+    ghost output = { λ fault. Some (told fault) };
+
+    fn fmt<W: fmt::Write>(&self, f: &mut fmt::Formatter<W>) -> fmt::Result {
+        match self {
+            Fault::NoObject => f.write_str("O1"),
+            Fault::Damaged(damage) => write!(f, "O2 {damage}"),
+            Fault::NoFunction => f.write_str("O3"),
+            Fault::Several => f.write_str("O4"),
+            Fault::Names(unit) => write!(f, "O5 unit {unit}"),
+            Fault::Leaves(unit) => write!(f, "O6 unit {unit}"),
+        }
+    }
+}
+
+impl Error for Fault {}
+
+/// The sentence that says what a fault means, and what helps.
+pub fn sentence(fault: Fault) -> &'static str
+    ensures { result.now ≡ sentence_of fault }
+{
+    match fault {
+        Fault::NoObject => {
+            "this is no relocatable ELF object of 64 bits, little-endian, for BPF (machine 247)"
+        }
+        Fault::Damaged(Damage::Sections) => {
+            "the header is cut off, or those of the sections are not within the file"
+        }
+        Fault::Damaged(Damage::Section(_)) => {
+            "the bytes of this section are not within the file"
+        }
+        Fault::Damaged(Damage::Symbol(_)) => {
+            "the name of this function is not among the strings, or its code not within its section"
+        }
+        Fault::Damaged(Damage::Relocations(_)) => {
+            "the relocations of this section name a symbol that is not there"
+        }
+        Fault::NoFunction => { "there is no function of this name, or no global function at all" }
+        Fault::Several => { "there are several functions: name the one that is the program" }
+        Fault::Names(_) => {
+            "the entry names data or a function that is not here: arrays belong on the stack, helpers are called by number"
+        }
+        Fault::Leaves(_) => {
+            "the entry calls or names another function: make that one `static inline`, so that one is left"
+        }
+    }
+}

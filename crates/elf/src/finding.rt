@@ -1,0 +1,178 @@
+ghost use Rattle.std.specs.Prelude.{◌≡◌, ◌<◌, ◌≤◌, ◌+◌, ◌*◌, ◌/◌, ◌^◌, length, Ok, Err, IfSome, IfOk, MatchResult};
+ghost use Rattle.elf.specs.First.{first_some};
+ghost use Rattle.elf.specs.Section.{section_table};
+ghost use Rattle.elf.specs.Symbol.{entry_here};
+ghost use Rattle.elf.specs.Entry.{object_fault, entry_from, chosen, code_in, function_fault, symbols_in, strings_in, function_of, entry_of, found_in, parts_of};
+
+use crate::damage::first_damage;
+use crate::fault::{Damage, Fault};
+use crate::number::window;
+use crate::relocation::{first_call, first_named};
+use crate::section::{Section, count_sections, has_table, is_for_bpf, read_table};
+use crate::symbol::{Symbol, find_symbols};
+
+/// The table of symbols.
+fn symbols_of<'a>(object: &'a [u8], table: &[u8], home: usize) -> &'a [u8]
+    requires { home < 2 ^ 32 }
+    ensures { result.now ≡ symbols_in object.now table.now home }
+{
+    Section::read(table, home).bytes(object)
+}
+
+/// The strings that the table of symbols links.
+fn strings_of<'a>(object: &'a [u8], table: &[u8], home: usize) -> &'a [u8]
+    requires { home < 2 ^ 32 }
+    ensures { result.now ≡ strings_in object.now table.now home }
+{
+    let link = Section::read(table, home).link as usize;
+    Section::read(table, link).bytes(object)
+}
+
+/// What is wrong with an object, whatever is asked of it.
+fn fault_of(object: &[u8]) -> Option<Fault>
+    ensures { result ≡ object_fault object.now }
+{
+    if !is_for_bpf(object) {
+        return Some(Fault::NoObject);
+    }
+    if !has_table(object) {
+        return Some(Fault::Damaged(Damage::Sections));
+    }
+    let table = read_table(object);
+    let count = count_sections(object);
+    let home = find_symbols(table, count);
+    let symbols = symbols_of(object, table, home);
+    let strings = strings_of(object, table, home);
+    match first_damage(object, table, count, home, symbols, strings) {
+        Some(damage) => Some(Fault::Damaged(damage)),
+        None => None,
+    }
+}
+
+/// The number of a symbol, from a least one on, if it is a function that fits.
+fn entry_at(
+    table: &[u8],
+    symbols: &[u8],
+    strings: &[u8],
+    name: Option<&[u8]>,
+    least: usize,
+    index: usize,
+) -> Option<usize>
+    requires { 24 * index + 24 < 2 ^ 64 }
+    ensures here { result ≡ entry_here table.now symbols.now strings.now name.entry least index }
+    ensures same { IfSome result (λ found. found ≡ index) }
+{
+    let symbol = Symbol::read(symbols, index);
+    if least <= index && symbol.is_code(table) && symbol.answers(strings, name) {
+        Some(index)
+    } else {
+        None
+    }
+}
+
+/// The first function from a least number on that fits.
+fn first_entry(
+    table: &[u8],
+    symbols: &[u8],
+    strings: &[u8],
+    name: Option<&[u8]>,
+    least: usize,
+) -> Option<usize>
+    ensures first { result ≡ entry_from table.now symbols.now strings.now name.entry least }
+    ensures bound { IfSome result (λ index. index < length symbols.now / 24) }
+{
+    for index in 0..symbols.len() / 24 {
+        match entry_at(table, symbols, strings, name, least, index) {
+            Some(found) => return Some(found),
+            None => {}
+        }
+    }
+    None
+}
+
+/// The one function that fits.
+fn choose(table: &[u8], symbols: &[u8], strings: &[u8], name: Option<&[u8]>) -> Result<usize, Fault>
+    ensures chosen { result ≡ chosen table.now symbols.now strings.now name.entry }
+    ensures bound { IfOk result (λ index. index < length symbols.now / 24) }
+{
+    let Some(index) = first_entry(table, symbols, strings, name, 0) else {
+        return Err(Fault::NoFunction);
+    };
+    match first_entry(table, symbols, strings, name, index + 1) {
+        None => Ok(index),
+        Some(_) => Err(Fault::Several),
+    }
+}
+
+/// The code of a function.
+fn code_of<'a>(object: &'a [u8], table: &[u8], function: Symbol) -> &'a [u8]
+    ensures { result.now ≡ code_in object.now table.now function }
+{
+    window(
+        function.home(table).bytes(object),
+        function.value,
+        function.size,
+    )
+}
+
+/// What is wrong with a function's code.
+fn fault_in(
+    object: &[u8],
+    table: &[u8],
+    count: usize,
+    symbols: &[u8],
+    function: Symbol,
+) -> Option<Fault>
+    requires { count < 2 ^ 32 }
+    ensures { result ≡ function_fault object.now table.now count symbols.now function }
+{
+    match first_named(object, table, count, symbols, function) {
+        Some(fault) => return Some(fault),
+        None => {}
+    }
+    first_call(code_of(object, table, function))
+}
+
+/// The entry of a whole object.
+fn find_entry(object: &[u8], name: Option<&[u8]>) -> Result<Symbol, Fault>
+    ensures { result ≡ found_in object.now (parts_of object.now) name.entry }
+{
+    let table = read_table(object);
+    let count = count_sections(object);
+    let home = find_symbols(table, count);
+    let symbols = symbols_of(object, table, home);
+    let strings = strings_of(object, table, home);
+    let index = choose(table, symbols, strings, name)?;
+    let function = Symbol::read(symbols, index);
+    match fault_in(object, table, count, symbols, function) {
+        None => Ok(function),
+        Some(fault) => Err(fault),
+    }
+}
+
+/// The function that is the entry: the one of this name, or the only global one.
+///
+/// # Errors
+///
+/// The first fault: no object, what is damaged of it, no such function or several, the first relocation of its code,
+/// the first call of a function of the object.
+pub fn function(object: &[u8], name: Option<&[u8]>) -> Result<Symbol, Fault>
+    ensures { result ≡ function_of object.now name.entry }
+{
+    match fault_of(object) {
+        Some(fault) => Err(fault),
+        None => find_entry(object, name),
+    }
+}
+
+/// The code of the entry, a part of the object: the function of this name, or the only global one.
+///
+/// # Errors
+///
+/// The first fault, as of [`function`].
+pub fn entry<'a>(object: &'a [u8], name: Option<&[u8]>) -> Result<&'a [u8], Fault>
+    ensures { MatchResult result (λ code. entry_of object.now name.entry ≡ Ok code.now) (λ fault. entry_of object.now name.entry ≡ Err fault) }
+{
+    let function = function(object, name)?;
+    Ok(code_of(object, read_table(object), function))
+}

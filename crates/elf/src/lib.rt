@@ -1,0 +1,14 @@
+//! ELF objects for BPF: the code of one function, or the first fault (System V ABI, "Object Files"; LLVM's BPF relocations).
+#![tactic(auto)]
+
+mod damage;
+mod fault;
+mod finding;
+mod number;
+mod relocation;
+mod section;
+mod symbol;
+
+pub use fault::{Damage, Fault, sentence};
+pub use finding::{entry, function};
+pub use symbol::Symbol;

@@ -1,0 +1,179 @@
+ghost use Rattle.std.specs.Prelude.{◌≡◌, ◌<◌, ◌≤◌, ◌+◌, ◌*◌, ◌/◌, ◌^◌, length};
+ghost use Rattle.elf.specs.First.{first_some};
+ghost use Rattle.elf.specs.Relocation.{named_at, relocation_fault, relocations_fault, is_call, call_fault};
+
+use crate::fault::Fault;
+use crate::number::{byte_at, double_at, word_at};
+use crate::section::Section;
+use crate::symbol::Symbol;
+
+/// A place of a section that names a symbol (Elf64_Rel, Elf64_Rela).
+#[derive(Clone, Copy)]
+pub struct Relocation {
+    /// r_offset: the place in its section.
+    pub place: u64,
+    /// The upper half of r_info: the symbol.
+    pub symbol: u32,
+}
+
+impl Relocation {
+    ghost use Rattle.std.specs.Prelude.{◌≡◌, ◌<◌, ◌≤◌, ◌+◌, ◌*◌, ◌^◌};
+    ghost use Rattle.elf.specs.Relocation.{relocation_size, relocation_at, is_within};
+
+    /// How many bytes each relocation of a section has.
+    pub fn size(section: Section) -> usize
+        ensures { result ≡ relocation_size section }
+    {
+        if section.kind == 9 { 16 } else { 24 }
+    }
+
+    /// The relocation of this number; zeros past the table.
+    pub fn read(relocations: &[u8], size: usize, index: usize) -> Relocation
+        requires { size * index + 16 < 2 ^ 64 }
+        ensures { result ≡ relocation_at size index relocations.now }
+    {
+        let place = size * index;
+        Relocation {
+            place: double_at(relocations, place),
+            symbol: word_at(relocations, place + 12),
+        }
+    }
+
+    /// Whether it changes the function's code.
+    fn is_in(self, function: Symbol) -> bool
+        ensures { result ≡ is_within self function }
+    {
+        function.value <= self.place && self.place - function.value < function.size
+    }
+}
+
+/// What is wrong with a unit of the function's code that names the symbol.
+fn fault_of(table: &[u8], symbol: Symbol, unit: usize) -> Fault
+    ensures { result ≡ named_at table.now symbol unit }
+{
+    if symbol.home(table).holds_code() {
+        Fault::Leaves(unit)
+    } else {
+        Fault::Names(unit)
+    }
+}
+
+/// The fault of a relocation, if it changes the function's code.
+fn fault_at(
+    table: &[u8],
+    symbols: &[u8],
+    function: Symbol,
+    size: usize,
+    relocations: &[u8],
+    index: usize,
+) -> Option<Fault>
+    requires { size * index + 16 < 2 ^ 64 }
+    ensures { result ≡ relocation_fault table.now symbols.now function size relocations.now index }
+{
+    let relocation = Relocation::read(relocations, size, index);
+    if relocation.is_in(function) {
+        let symbol = Symbol::read(symbols, relocation.symbol as usize);
+        let unit = (relocation.place - function.value) / 8;
+        Some(fault_of(table, symbol, unit as usize))
+    } else {
+        None
+    }
+}
+
+/// The first fault of these relocations.
+fn first_fault(
+    table: &[u8],
+    symbols: &[u8],
+    function: Symbol,
+    size: usize,
+    relocations: &[u8],
+) -> Option<Fault>
+    requires { 16 ≤ size }
+    ensures { result ≡ first_some (relocation_fault table.now symbols.now function size relocations.now) (length relocations.now / size) }
+{
+    for index in 0..relocations.len() / size {
+        match fault_at(table, symbols, function, size, relocations, index) {
+            Some(fault) => return Some(fault),
+            None => {}
+        }
+    }
+    None
+}
+
+/// The first fault of a section's relocations, if they change the function's section.
+fn section_fault(
+    object: &[u8],
+    table: &[u8],
+    symbols: &[u8],
+    function: Symbol,
+    index: usize,
+) -> Option<Fault>
+    requires { index < 2 ^ 32 }
+    ensures { result ≡ relocations_fault object.now table.now symbols.now function index }
+{
+    let section = Section::read(table, index);
+    if section.holds_relocations() && section.info == u32::from(function.section) {
+        first_fault(
+            table,
+            symbols,
+            function,
+            Relocation::size(section),
+            section.bytes(object),
+        )
+    } else {
+        None
+    }
+}
+
+/// The first fault of the relocations that change the function's code.
+pub fn first_named(
+    object: &[u8],
+    table: &[u8],
+    count: usize,
+    symbols: &[u8],
+    function: Symbol,
+) -> Option<Fault>
+    requires { count < 2 ^ 32 }
+    ensures { result ≡ first_some (relocations_fault object.now table.now symbols.now function) count }
+{
+    for index in 0..count {
+        match section_fault(object, table, symbols, function, index) {
+            Some(fault) => return Some(fault),
+            None => {}
+        }
+    }
+    None
+}
+
+/// Whether a unit calls a function of the program.
+fn calls(code: &[u8], unit: usize) -> bool
+    requires { 8 * unit + 8 < 2 ^ 64 }
+    ensures { result ≡ is_call code.now unit }
+{
+    byte_at(code, 8 * unit) == 0x85 && byte_at(code, 8 * unit + 1) / 16 == 1
+}
+
+/// What is wrong with a unit that calls a function of the program.
+fn fault_of_call(code: &[u8], unit: usize) -> Option<Fault>
+    requires { 8 * unit + 8 < 2 ^ 64 }
+    ensures { result ≡ call_fault code.now unit }
+{
+    if calls(code, unit) {
+        Some(Fault::Leaves(unit))
+    } else {
+        None
+    }
+}
+
+/// The first unit that calls a function of the program.
+pub fn first_call(code: &[u8]) -> Option<Fault>
+    ensures { result ≡ first_some (call_fault code.now) (length code.now / 8) }
+{
+    for unit in 0..code.len() / 8 {
+        match fault_of_call(code, unit) {
+            Some(fault) => return Some(fault),
+            None => {}
+        }
+    }
+    None
+}

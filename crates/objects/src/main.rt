@@ -1,0 +1,41 @@
+//! `objects OBJECT NAME..`: the code of an object's only global function, and of its functions of these names, in hex, or the
+//! first fault of each.
+#![tactic(auto)]
+
+use anyhow::{Result, bail};
+use std::env;
+use std::fs;
+
+fn main(rt: HostRuntime) -> Result<()> {
+    let words: Vec<String> = env::args(&rt)?.skip(1).collect(rt.alloc())?;
+    let [file, names @ ..] = words.as_slice() else {
+        bail!("an object is wanted");
+    };
+    let object = fs::read(&rt, file.as_str())?;
+    tell(&rt, "", elf::entry(object.as_slice(), None))?;
+    for name in names {
+        let name = name.as_str();
+        tell(
+            &rt,
+            name,
+            elf::entry(object.as_slice(), Some(name.as_bytes())),
+        )?;
+    }
+    Ok(())
+}
+
+/// Prints a function's name, and its code in hex or the fault.
+fn tell<R: Print + AllocGlobal>(
+    rt: &R,
+    name: &str,
+    entry: Result<&[u8], elf::Fault>,
+) -> Result<()> {
+    match entry {
+        Ok(code) => {
+            let code = hex::encode(rt.alloc(), code)?;
+            println!(rt; "{name}: {code}")?;
+        }
+        Err(fault) => println!(rt; "{name}: refused {fault}")?,
+    }
+    Ok(())
+}

@@ -1,0 +1,11 @@
+/* The mask stands before the test, as wide as the numbers that are meant: a signed test tells of numbers below 2^63. */
+#include "byzlab.h"
+
+u64 signed_limit(const struct context *context)
+{
+    long long place = board_get(0) & 0xffffffff;
+
+    if (place > 15)
+        return 0;
+    return context->taken[place];
+}

@@ -1,0 +1,9 @@
+/* The upper four bits as an unsigned number are 0 to 15; `^ 8` is what `+ 8` does to the sign. */
+#include "byzlab.h"
+
+u64 signed_shift(const struct context *context)
+{
+    u64 word = board_get(0);
+
+    return context->taken[(word >> 60) ^ 8];
+}

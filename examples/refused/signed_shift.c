@@ -1,0 +1,9 @@
+/* A shift of a signed type copies the sign: -8 to 7, of which nothing is known. */
+#include "byzlab.h"
+
+u64 signed_shift(const struct context *context)
+{
+    long long word = board_get(0);
+
+    return context->taken[(word >> 60) + 8];
+}

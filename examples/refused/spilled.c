@@ -1,0 +1,13 @@
+/* The index is kept in the stack behind its guard: a load gives any number of its size. */
+#include "byzlab.h"
+
+u64 spilled(const struct context *context)
+{
+    volatile u64 kept;
+    u64 place = board_get(0);
+
+    if (place > 15)
+        return 0;
+    kept = place;
+    return context->taken[kept];
+}
