@@ -5,18 +5,20 @@ use Rattle.toml.specs.Data.{get_member, get_item}
 use Rattle.toml.specs.Parse.{parse_document}
 use Rattle.toml.proofs.OnLiterals.{toml_on_literals}
 use Rattle.combine.specs.declared.chosen.Rule.TheVariants.{Majority, Median}
+use Rattle.scenario.specs.declared.messages.Messages.TheVariants.{Oral, Signed}
+use Rattle.scenario.specs.declared.messages.Kinds.TheVariants.{OralAlone, Both}
 use Rattle.scenario.specs.declared.place.Name.TheVariants as names
 use Rattle.scenario.specs.declared.place.Place.{Place}
 use Rattle.scenario.specs.declared.place.Place.TheVariants as places
 use Rattle.scenario.specs.declared.fault.Fault.{Fault}
 use Rattle.scenario.specs.declared.fault.Fault.TheVariants as faults
 use Rattle.scenario.specs.Flaws.{Flaw, unknown, faulty, ◌>>=◌}
-use Rattle.scenario.specs.Checks.{Head, head, number, optional_number, general, rule, board, board_words, over, word, tables}
+use Rattle.scenario.specs.Checks.{Head, head, number, optional_number, general, rule, messages, board, board_words, over, word, tables}
 use Rattle.scenario.specs.Tables.{Table, Assembly, source, table_in, table}
 
 -- a text of these lines, checked up to its tables
 checked : List (List ℕ) → Option (Result Head Flaw)
-checked lines = option_map head (parse_document (flat_map (λ l. l ++ 10 ∷ []) lines))
+checked lines = option_map (head Both) (parse_document (flat_map (λ l. l ++ 10 ∷ []) lines))
 
 -- a fault at a place
 stops : Fault → Place → Option (Result Head Flaw)
@@ -24,92 +26,122 @@ stops fault place = Some (Err (faulty fault place))
 
 -- numbers out of their ranges, and what is missing
 too_many : checked (codes "generals = 14" ∷ []) ≡ stops faults.Range (places.Key names.Generals)
-unfolding checked stops toml_on_literals head number optional_number general rule board board_words over word
+unfolding checked stops toml_on_literals head number optional_number general rule messages board board_words over word
 too_many = refl
 
 bound_of_four : checked (codes "generals = 4" ∷ codes "bound = 3" ∷ []) ≡ stops faults.Range (places.Key names.Bound)
-unfolding checked stops toml_on_literals head number optional_number general rule board board_words over word
+unfolding checked stops toml_on_literals head number optional_number general rule messages board board_words over word
 bound_of_four = refl
 
 -- a commander below 0 is out of range, one past the last is no general
 below_the_first : checked (codes "generals = 4" ∷ codes "bound = 1" ∷ codes "commander = -1" ∷ []) ≡ stops faults.Range (places.Key names.Commander)
-unfolding checked stops toml_on_literals head number optional_number general rule board board_words over word
+unfolding checked stops toml_on_literals head number optional_number general rule messages board board_words over word
 below_the_first = refl
 
 past_the_last : checked (codes "generals = 4" ∷ codes "bound = 1" ∷ codes "commander = 4" ∷ []) ≡ stops faults.General (places.Key names.Commander)
-unfolding checked stops toml_on_literals head number optional_number general rule board board_words over word
+unfolding checked stops toml_on_literals head number optional_number general rule messages board board_words over word
 past_the_last = refl
 
 no_order : checked (codes "generals = 4" ∷ codes "bound = 1" ∷ codes "commander = 0" ∷ []) ≡ stops faults.Key (places.Key names.Order)
-unfolding checked stops toml_on_literals head number optional_number general rule board board_words over word
+unfolding checked stops toml_on_literals head number optional_number general rule messages board board_words over word
 no_order = refl
 
 order_too_great : checked (codes "generals = 4" ∷ codes "bound = 1" ∷ codes "commander = 0" ∷ codes "order = 4294967296" ∷ []) ≡ stops faults.Range (places.Key names.Order)
-unfolding checked stops toml_on_literals head number optional_number general rule board board_words over word
+unfolding checked stops toml_on_literals head number optional_number general rule messages board board_words over word
 order_too_great = refl
 
 order_of_text : checked (codes "generals = 4" ∷ codes "bound = 1" ∷ codes "commander = 0" ∷ codes "order = \"1\"" ∷ []) ≡ stops faults.Kind (places.Key names.Order)
-unfolding checked stops toml_on_literals head number optional_number general rule board board_words over word
+unfolding checked stops toml_on_literals head number optional_number general rule messages board board_words over word
 order_of_text = refl
 
 -- an unknown key comes first, the least of several by bytes
 least_key : checked (codes "zeta = 1" ∷ codes "alpha = 2" ∷ codes "generals = 14" ∷ []) ≡ Some (Err (unknown None (codes "alpha")))
-unfolding checked stops toml_on_literals head number optional_number general rule board board_words over word
+unfolding checked stops toml_on_literals head number optional_number general rule messages board board_words over word
 least_key = refl
 
 -- all kinds of a board come before any range, and its length between them
 kinds_first : checked (codes "generals = 4" ∷ codes "bound = 1" ∷ codes "commander = 0" ∷ codes "order = 1" ∷ codes "board = [1, -1, \"x\"]" ∷ []) ≡ stops faults.Kind (places.Word 2)
-unfolding checked stops toml_on_literals head number optional_number general rule board board_words over word
+unfolding checked stops toml_on_literals head number optional_number general rule messages board board_words over word
 kinds_first = refl
 
 least_word : checked (codes "generals = 4" ∷ codes "bound = 1" ∷ codes "commander = 0" ∷ codes "order = 1" ∷ codes "board = [1, -1, -2]" ∷ []) ≡ stops faults.Range (places.Word 1)
-unfolding checked stops toml_on_literals head number optional_number general rule board board_words over word
+unfolding checked stops toml_on_literals head number optional_number general rule messages board board_words over word
 least_word = refl
 
 too_long : checked (codes "generals = 4" ∷ codes "bound = 1" ∷ codes "commander = 0" ∷ codes "order = 1" ∷ codes "board = [-1, -1, -1, -1, -1, -1, -1, -1, -1, -1, -1, -1, -1, -1, -1, -1, -1, -1, -1, -1, -1, -1, -1, -1, -1, -1, -1, -1, -1, -1, -1, -1, -1, -1, -1, -1, -1, -1, -1, -1, -1, -1, -1, -1, -1, -1, -1, -1, -1, -1, -1, -1, -1, -1, -1, -1, -1, -1, -1, -1, -1, -1, -1, -1, -1]" ∷ [])
     ≡ stops faults.Range (places.Key names.Board)
-unfolding checked stops toml_on_literals head number optional_number general rule board board_words over word
+unfolding checked stops toml_on_literals head number optional_number general rule messages board board_words over word
 too_long = refl
 
 no_list : checked (codes "generals = 4" ∷ codes "bound = 1" ∷ codes "commander = 0" ∷ codes "order = 1" ∷ codes "board = 7" ∷ []) ≡ stops faults.Kind (places.Key names.Board)
-unfolding checked stops toml_on_literals head number optional_number general rule board board_words over word
+unfolding checked stops toml_on_literals head number optional_number general rule messages board board_words over word
 no_list = refl
 
 -- patience and rule
 no_patience : checked (codes "generals = 4" ∷ codes "bound = 1" ∷ codes "commander = 0" ∷ codes "order = 1" ∷ codes "patience = 0" ∷ []) ≡ stops faults.Range (places.Key names.Patience)
-unfolding checked stops toml_on_literals head number optional_number general rule board board_words over word
+unfolding checked stops toml_on_literals head number optional_number general rule messages board board_words over word
 no_patience = refl
 
 too_patient : checked (codes "generals = 4" ∷ codes "bound = 1" ∷ codes "commander = 0" ∷ codes "order = 1" ∷ codes "patience = 4097" ∷ []) ≡ stops faults.Range (places.Key names.Patience)
-unfolding checked stops toml_on_literals head number optional_number general rule board board_words over word
+unfolding checked stops toml_on_literals head number optional_number general rule messages board board_words over word
 too_patient = refl
 
 patience_of_text : checked (codes "generals = 4" ∷ codes "bound = 1" ∷ codes "commander = 0" ∷ codes "order = 1" ∷ codes "patience = \"3\"" ∷ []) ≡ stops faults.Kind (places.Key names.Patience)
-unfolding checked stops toml_on_literals head number optional_number general rule board board_words over word
+unfolding checked stops toml_on_literals head number optional_number general rule messages board board_words over word
 patience_of_text = refl
 
 mean : checked (codes "generals = 4" ∷ codes "bound = 1" ∷ codes "commander = 0" ∷ codes "order = 1" ∷ codes "rule = \"mean\"" ∷ []) ≡ stops faults.Range (places.Key names.Rule)
-unfolding checked stops toml_on_literals head number optional_number general rule board board_words over word
+unfolding checked stops toml_on_literals head number optional_number general rule messages board board_words over word
 mean = refl
 
 rule_of_number : checked (codes "generals = 4" ∷ codes "bound = 1" ∷ codes "commander = 0" ∷ codes "order = 1" ∷ codes "rule = 1" ∷ []) ≡ stops faults.Kind (places.Key names.Rule)
-unfolding checked stops toml_on_literals head number optional_number general rule board board_words over word
+unfolding checked stops toml_on_literals head number optional_number general rule messages board board_words over word
 rule_of_number = refl
 
 patience_before_rule : checked (codes "generals = 4" ∷ codes "bound = 1" ∷ codes "commander = 0" ∷ codes "order = 1" ∷ codes "rule = \"mean\"" ∷ codes "patience = 0" ∷ [])
     ≡ stops faults.Range (places.Key names.Patience)
-unfolding checked stops toml_on_literals head number optional_number general rule board board_words over word
+unfolding checked stops toml_on_literals head number optional_number general rule messages board board_words over word
 patience_before_rule = refl
+
+-- how orders are sent, behind the rule
+by_carrier : checked (codes "generals = 4" ∷ codes "bound = 1" ∷ codes "commander = 0" ∷ codes "order = 1" ∷ codes "messages = \"carrier\"" ∷ []) ≡ stops faults.Range (places.Key names.Messages)
+unfolding checked stops toml_on_literals head number optional_number general rule messages board board_words over word
+by_carrier = refl
+
+messages_of_number : checked (codes "generals = 4" ∷ codes "bound = 1" ∷ codes "commander = 0" ∷ codes "order = 1" ∷ codes "messages = 1" ∷ []) ≡ stops faults.Kind (places.Key names.Messages)
+unfolding checked stops toml_on_literals head number optional_number general rule messages board board_words over word
+messages_of_number = refl
+
+rule_before_messages : checked (codes "generals = 4" ∷ codes "bound = 1" ∷ codes "commander = 0" ∷ codes "order = 1" ∷ codes "messages = 1" ∷ codes "rule = \"mean\"" ∷ []) ≡ stops faults.Range (places.Key names.Rule)
+unfolding checked stops toml_on_literals head number optional_number general rule messages board board_words over word
+rule_before_messages = refl
+
+-- a signed campaign has no rule, and a reader of oral ones stops before that
+signed_with_rule : checked (codes "generals = 4" ∷ codes "bound = 1" ∷ codes "commander = 0" ∷ codes "order = 1" ∷ codes "messages = \"signed\"" ∷ codes "rule = \"majority\"" ∷ []) ≡ stops faults.Key (places.Key names.Rule)
+unfolding checked stops toml_on_literals head number optional_number general rule messages board board_words over word
+signed_with_rule = refl
+
+checked_as_oral : List (List ℕ) → Option (Result Head Flaw)
+checked_as_oral lines = option_map (head OralAlone) (parse_document (flat_map (λ l. l ++ 10 ∷ []) lines))
+
+signed_is_refused : checked_as_oral (codes "generals = 4" ∷ codes "bound = 1" ∷ codes "commander = 0" ∷ codes "order = 1" ∷ codes "messages = \"signed\"" ∷ codes "rule = \"majority\"" ∷ []) ≡ stops faults.Range (places.Key names.Messages)
+unfolding checked_as_oral stops toml_on_literals head number optional_number general rule messages board board_words over word
+signed_is_refused = refl
+
+signed : checked (codes "generals = 3" ∷ codes "bound = 1" ∷ codes "commander = 0" ∷ codes "order = 1" ∷ codes "messages = \"signed\"" ∷ [])
+    ≡ Some (Ok (record { generals = 3; bound = 1; commander = 0; order = 1; board = replicate 64 0; patience = None; rule = Majority; messages = Signed }))
+unfolding checked stops toml_on_literals head number optional_number general rule messages board board_words over word
+signed = refl
 
 -- what a text without faults gives
 whole : checked (codes "generals = 4" ∷ codes "bound = 1" ∷ codes "commander = 0" ∷ codes "order = 1" ∷ codes "board = [7, 8]" ∷ codes "patience = 3" ∷ codes "rule = \"median\"" ∷ [])
-    ≡ Some (Ok (record { generals = 4; bound = 1; commander = 0; order = 1; board = 7 ∷ 8 ∷ replicate 62 0; patience = Some 3; rule = Median }))
-unfolding checked stops toml_on_literals head number optional_number general rule board board_words over word
+    ≡ Some (Ok (record { generals = 4; bound = 1; commander = 0; order = 1; board = 7 ∷ 8 ∷ replicate 62 0; patience = Some 3; rule = Median; messages = Oral }))
+unfolding checked stops toml_on_literals head number optional_number general rule messages board board_words over word
 whole = refl
 
 plain : checked (codes "generals = 4" ∷ codes "bound = 1" ∷ codes "commander = 0" ∷ codes "order = 1" ∷ [])
-    ≡ Some (Ok (record { generals = 4; bound = 1; commander = 0; order = 1; board = replicate 64 0; patience = None; rule = Majority }))
-unfolding checked stops toml_on_literals head number optional_number general rule board board_words over word
+    ≡ Some (Ok (record { generals = 4; bound = 1; commander = 0; order = 1; board = replicate 64 0; patience = None; rule = Majority; messages = Oral }))
+unfolding checked stops toml_on_literals head number optional_number general rule messages board board_words over word
 plain = refl
 
 -- the table of this number, where general 3 of 4 is seated

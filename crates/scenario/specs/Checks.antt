@@ -5,6 +5,10 @@ use Rattle.toml.specs.Data.{Data, Items, Members, no_items, item, no_members, me
 use Rattle.combine.specs.declared.chosen.Rule.{Rule}
 use Rattle.combine.specs.declared.chosen.Rule.TheVariants.{Majority, Median}
 use Rattle.round.specs.Scenario.{IsPatience}
+use Rattle.scenario.specs.declared.messages.Messages.{Messages}
+use Rattle.scenario.specs.declared.messages.Messages.TheVariants.{Oral, Signed}
+use Rattle.scenario.specs.declared.messages.Kinds.{Kinds}
+use Rattle.scenario.specs.declared.messages.Kinds.TheVariants.{OralAlone, Both}
 use Rattle.scenario.specs.declared.place.Name.TheVariants as names
 use Rattle.scenario.specs.declared.place.Place.{Place}
 use Rattle.scenario.specs.declared.place.Place.TheVariants as places
@@ -111,7 +115,29 @@ rule (Some d) = do
   t ← ok_or (as_str d) (faulty faults.Kind (places.Key names.Rule))
   rule_by_name t
 
--- a campaign's numbers and rule
+-- how orders are sent, as a text names it to a reader of these kinds
+abbrev pub messages_by_name : Kinds → List ℕ → Result Messages Flaw
+messages_by_name OralAlone t =
+    if bytes_eq t (codes "oral") then Ok Oral
+    else Err (faulty faults.Range (places.Key names.Messages))
+messages_by_name Both t =
+    if bytes_eq t (codes "oral") then Ok Oral
+    else if bytes_eq t (codes "signed") then Ok Signed
+    else Err (faulty faults.Range (places.Key names.Messages))
+
+-- how orders are sent, orally where there is no key
+unfoldable pub messages : Kinds → Option Data → Result Messages Flaw
+messages kinds None = Ok Oral
+messages kinds (Some d) = do
+  t ← ok_or (as_str d) (faulty faults.Kind (places.Key names.Messages))
+  messages_by_name kinds t
+
+-- a signed campaign combines nothing, and names no rule
+abbrev pub fitting : Messages → Option Data → Result (Unit {0}) Flaw
+fitting Signed (Some rule) = Err (faulty faults.Key (places.Key names.Rule))
+fitting _ _ = Ok tt
+
+-- a campaign's numbers and rule, and how orders are sent
 pub record Head : Type 0 where
   pub generals : ℕ
   pub bound : ℕ
@@ -120,6 +146,7 @@ pub record Head : Type 0 where
   pub board : List ℕ
   pub patience : Option ℕ
   pub rule : Rule
+  pub messages : Messages
 
 -- 2 to 13 generals, a bound of at most 4 and at most all generals but 2, the commander a general, a patience of 1 to 4,096 steps
 pub record IsHeadWithin (generals bound commander : ℕ) (patience : Option ℕ) : Type 0 where
@@ -129,9 +156,9 @@ pub record IsHeadWithin (generals bound commander : ℕ) (patience : Option ℕ)
   pub leads : commander < generals
   pub waits : IsPatience patience
 
--- all but the traitors
-unfoldable pub head : Members → Result Head Flaw
-head ms = do
+-- all but the traitors, for a reader of these kinds
+unfoldable pub head : Kinds → Members → Result Head Flaw
+head kinds ms = do
   none ← known None (first_unknown is_top_key ms)
   n ← number (places.Key names.Generals) 2 13 (get_member (codes "generals") ms)
   m ← number (places.Key names.Bound) 0 (min 4 (n - 2)) (get_member (codes "bound") ms)
@@ -140,7 +167,9 @@ head ms = do
   b ← board (get_member (codes "board") ms)
   p ← optional_number (places.Key names.Patience) 1 4096 (get_member (codes "patience") ms)
   r ← rule (get_member (codes "rule") ms)
-  Ok (record { generals = n; bound = m; commander = c; order = o; board = b; patience = p; rule = r })
+  w ← messages kinds (get_member (codes "messages") ms)
+  fits ← fitting w (get_member (codes "rule") ms)
+  Ok (record { generals = n; bound = m; commander = c; order = o; board = b; patience = p; rule = r; messages = w })
 
 -- the traitors' tables, not yet looked at
 unfoldable pub tables : Option Data → Result Items Flaw

@@ -2,7 +2,7 @@
 use Rattle.std.specs.Prelude.{ℕ, Bool, ◌||◌, List, codes}
 use Rattle.std.specs.Str.{bytes_eq}
 use Rattle.scenario.specs.declared.place.Name.{Name}
-use Rattle.scenario.specs.declared.place.Name.TheVariants.{Generals, Bound, Commander, Order, Board, Patience, Rule, Traitor, General, Asm, Code}
+use Rattle.scenario.specs.declared.place.Name.TheVariants.{Generals, Bound, Commander, Order, Board, Patience, Rule, Messages, Traitor, General, Asm, Code}
 
 abbrev pub text_of : Name → List ℕ
 text_of Generals = codes "generals"
@@ -12,6 +12,7 @@ text_of Order = codes "order"
 text_of Board = codes "board"
 text_of Patience = codes "patience"
 text_of Rule = codes "rule"
+text_of Messages = codes "messages"
 text_of Traitor = codes "traitor"
 text_of General = codes "general"
 text_of Asm = codes "asm"
@@ -26,8 +27,9 @@ is_top_key k =
     bytes_eq k (codes "order") || (
     bytes_eq k (codes "board") || (
     bytes_eq k (codes "patience") || (
-    bytes_eq k (codes "rule") ||
-    bytes_eq k (codes "traitor")))))))
+    bytes_eq k (codes "rule") || (
+    bytes_eq k (codes "messages") ||
+    bytes_eq k (codes "traitor"))))))))
 
 abbrev pub is_entry_key : List ℕ → Bool
 is_entry_key k = bytes_eq k (codes "general") || (bytes_eq k (codes "asm") || bytes_eq k (codes "code"))

@@ -10,6 +10,11 @@ use Rattle.codec.specs.Program.{SpellsProgram, IsFirstFault}
 use Rattle.verify.specs.Judgement.{judged}
 use Rattle.verify.specs.declared.error.VerifyError.TheVariants as verifier
 use Rattle.round.specs.Scenario.{Scenario}
+use Rattle.scenario.specs.declared.messages.Messages.{Messages}
+use Rattle.scenario.specs.declared.messages.Messages.TheVariants as messages
+use Rattle.scenario.specs.declared.messages.Kinds.TheVariants.{OralAlone, Both}
+use Rattle.scenario.specs.declared.messages.Campaign.{Campaign}
+use Rattle.scenario.specs.declared.messages.Campaign.TheVariants.{Oral, Signed}
 use Rattle.scenario.specs.declared.fault.ProgramFault.{ProgramFault}
 use Rattle.scenario.specs.declared.fault.ProgramFault.TheVariants as faults
 use Rattle.scenario.specs.declared.fault.ScenarioError.{ScenarioError}
@@ -56,29 +61,51 @@ Answers made n i seats (item d ds) r =
 abbrev pub scenario_of : Head → Seats → Scenario
 scenario_of h seats = record { generals = h.generals; bound = h.bound; commander = h.commander; order = h.order; board = h.board; programs = seats; patience = h.patience; rule = h.rule }
 
+-- a scenario whose orders are sent so
+abbrev pub campaign_by : Messages → Scenario → Campaign
+campaign_by messages.Oral s = Oral s
+campaign_by messages.Signed s = Signed s
+
+-- the campaign of its numbers and seats
+abbrev pub campaign_of : Head → Seats → Campaign
+campaign_of h seats = campaign_by h.messages (scenario_of h seats)
+
 -- nobody is seated yet
 abbrev pub unseated : Head → Seats
 unseated h = replicate h.generals None
 
 -- behind a good head, what the traitors' tables give
-abbrev pub Begun : Head → Result Items Flaw → Result Scenario ScenarioError → Type 0
-Begun h (Ok ds) r = Answers (scenario_of h) h.generals 0 (unseated h) ds r
-Begun h (Err flaw) (Ok s) = ⊥
-Begun h (Err flaw) (Err e) = Fails {Y = Items} e (Err flaw)
+abbrev pub Begun : {X : Type 0} → (Head → Seats → X) → Head → Result Items Flaw → Result X ScenarioError → Type 0
+Begun made h (Ok ds) r = Answers (made h) h.generals 0 (unseated h) ds r
+Begun made h (Err flaw) (Ok x) = ⊥
+Begun made h (Err flaw) (Err e) = Fails {Y = Items} e (Err flaw)
 
 -- what a text gives whose head is this, or has this fault
-abbrev pub Headed : Result Head Flaw → Members → Result Scenario ScenarioError → Type 0
-Headed (Ok h) ms r = Begun h (tables (get_member (codes "traitor") ms)) r
-Headed (Err flaw) ms (Ok s) = ⊥
-Headed (Err flaw) ms (Err e) = Fails {Y = Head} e (Err flaw)
+abbrev pub Headed : {X : Type 0} → (Head → Seats → X) → Result Head Flaw → Members → Result X ScenarioError → Type 0
+Headed made (Ok h) ms r = Begun made h (tables (get_member (codes "traitor") ms)) r
+Headed made (Err flaw) ms (Ok x) = ⊥
+Headed made (Err flaw) ms (Err e) = Fails {Y = Head} e (Err flaw)
 
--- the answer to a text: the scenario that its table tells, or the first fault, in the table's order; no other answer but want of memory
+-- the answer to a text: what is made of the head and the seats that its table tells, or the first fault, in the table's
+-- order; no other answer but want of memory
+abbrev pub Answered : {X : Type 0} → (Head → Seats → X) → (Members → Result Head Flaw) → Option Members → Result X ScenarioError → Type 0
+Answered made head_of None (Err errors.Toml) = Unit {0}
+Answered made head_of None (Err errors.Memory) = Unit {0}
+Answered made head_of None _ = ⊥
+Answered made head_of (Some ms) r = Headed made (head_of ms) ms r
+
+-- the answer to a text of an oral campaign: its scenario, or the first fault
 abbrev pub Reads : Option Members → Result Scenario ScenarioError → Type 0
-Reads None (Err errors.Toml) = Unit {0}
-Reads None (Err errors.Memory) = Unit {0}
-Reads None _ = ⊥
-Reads (Some ms) r = Headed (head ms) ms r
+Reads parsed r = Answered scenario_of (head OralAlone) parsed r
+
+-- the answer to a text of an oral or a signed campaign
+abbrev pub ReadsAny : Option Members → Result Campaign ScenarioError → Type 0
+ReadsAny parsed r = Answered campaign_of (head Both) parsed r
 
 -- the text tells the scenario
 abbrev pub Tells : List ℕ → Scenario → Type 0
 Tells text s = Reads (parse_document text) (Ok s)
+
+-- the text tells the campaign, be it oral or signed
+abbrev pub TellsAny : List ℕ → Campaign → Type 0
+TellsAny text c = ReadsAny (parse_document text) (Ok c)

@@ -1,4 +1,5 @@
 //! A campaign as a text tells it, before its traitors.
+use crate::messages::Messages;
 use combine::Rule;
 use std::marker::Model;
 
@@ -12,6 +13,7 @@ pub struct Head {
     pub board: [u64; 64],
     pub patience: Option<u32>,
     pub rule: Rule,
+    pub messages: Messages,
 }
 
 impl Model for Head {
@@ -19,7 +21,7 @@ impl Model for Head {
 
     ghost Value = { Numbers };
 
-    ghost view = { λ h. record { generals = h.generals; bound = h.bound; commander = h.commander; order = h.order; board = h.board; patience = h.patience; rule = h.rule } };
+    ghost view = { λ h. record { generals = h.generals; bound = h.bound; commander = h.commander; order = h.order; board = h.board; patience = h.patience; rule = h.rule; messages = h.messages } };
 
     ghost invariant = { λ h. IsHeadWithin h.generals h.bound h.commander h.patience };
 }

@@ -23,6 +23,7 @@ pub fn is_top_key(key: &str) -> bool
         || key == "board"
         || key == "patience"
         || key == "rule"
+        || key == "messages"
         || key == "traitor"
 }
 

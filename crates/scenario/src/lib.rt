@@ -4,6 +4,7 @@
 mod fault;
 mod head;
 mod keys;
+mod messages;
 mod place;
 mod programs;
 mod reader;
@@ -11,5 +12,6 @@ mod tables;
 mod words;
 
 pub use fault::{Fault, ProgramFault, ScenarioError};
+pub use messages::{Campaign, Messages};
 pub use place::{Name, Place};
-pub use reader::read;
+pub use reader::{read, read_any};

@@ -3,13 +3,14 @@ ghost use Rattle.std.specs.Prelude.{◌≡◌, ◌-◌, ◌≤◌, min, length, 
 ghost use Rattle.toml.specs.Parse.{parse_document};
 ghost use Rattle.toml.specs.View.{view, table_view, items_view};
 ghost use Rattle.scenario.specs.Flaws.{Gives};
-ghost use Rattle.scenario.specs.Checks.{head, rule_by_name, rule, tables};
-ghost use Rattle.scenario.specs.Told.{Answers, scenario_of, unseated, Reads};
+ghost use Rattle.scenario.specs.Checks.{head, rule_by_name, rule, messages_by_name, messages, fitting, tables};
+ghost use Rattle.scenario.specs.Told.{Answers, scenario_of, campaign_by, unseated, Reads, ReadsAny};
 ghost use Rattle.scenario.specs.declared.fault.ScenarioError.TheVariants.{Memory};
 
 use crate::fault::{Fault, ScenarioError};
 use crate::head::Head;
 use crate::keys::{at, elements, general, number, optional_number, top_is_known};
+use crate::messages::{Campaign, Kinds, Messages};
 use crate::place::{Name, Place};
 use crate::tables::traitor;
 use crate::words::board;
@@ -47,6 +48,45 @@ fn rule(value: Option<&Value>) -> Result<Rule, ScenarioError>
     }
 }
 
+/// How orders are sent, as a text names it.
+fn messages_by_name(kinds: Kinds, text: &str) -> Result<Messages, ScenarioError>
+    ensures { Gives (λ m. m) result (messages_by_name kinds text.now) }
+{
+    match kinds {
+        Kinds::OralAlone | Kinds::Both if text == "oral" => Ok(Messages::Oral),
+        Kinds::Both if text == "signed" => Ok(Messages::Signed),
+        Kinds::OralAlone | Kinds::Both => {
+            Err(ScenarioError::At(Fault::Range, Place::Key(Name::Messages)))
+        }
+    }
+}
+
+/// How orders are sent, orally where there is no key.
+#[tactic(auto, unfolding(crate::specs::Checks::messages))]
+fn messages(kinds: Kinds, value: Option<&Value>) -> Result<Messages, ScenarioError>
+    ensures { Gives (λ m. m) result (messages kinds (option_map (λ v. view v.now) value.entry)) }
+{
+    let Some(value) = value else {
+        return Ok(Messages::Oral);
+    };
+    match value.as_str() {
+        Some(text) => messages_by_name(kinds, text),
+        None => Err(ScenarioError::At(Fault::Kind, Place::Key(Name::Messages))),
+    }
+}
+
+/// A signed campaign has no rule.
+fn fitting(messages: Messages, rule: Option<&Value>) -> Result<(), ScenarioError>
+    ensures { Gives (λ _. tt) result (fitting messages (option_map (λ v. view v.now) rule.entry)) }
+{
+    match (messages, rule) {
+        (Messages::Signed, Some(_)) => {
+            Err(ScenarioError::At(Fault::Key, Place::Key(Name::Rule)))
+        }
+        (Messages::Signed, None) | (Messages::Oral, _) => Ok(()),
+    }
+}
+
 /// The greatest bound that so many generals may have.
 fn greatest_bound(generals: u8) -> u8
     ensures { result ≡ min 4 (generals - 2) }
@@ -54,10 +94,10 @@ fn greatest_bound(generals: u8) -> u8
     generals.saturating_sub(2).min(4)
 }
 
-/// All but the traitors.
+/// All but the traitors, for a reader of these kinds.
 #[tactic(auto, unfolding(crate::specs::Checks::head))]
-fn head(alloc: Global, table: &Table) -> Result<Head, ScenarioError>
-    ensures { Gives (λ h. h) result (head (table_view table.now)) }
+fn head(alloc: Global, table: &Table, kinds: Kinds) -> Result<Head, ScenarioError>
+    ensures { Gives (λ h. h) result (head kinds (table_view table.now)) }
 {
     top_is_known(alloc, table)?;
     let generals = number(Place::Key(Name::Generals), 2, 13, at(table, Name::Generals))? as u8;
@@ -74,6 +114,8 @@ fn head(alloc: Global, table: &Table) -> Result<Head, ScenarioError>
         at(table, Name::Patience),
     )?;
     let rule = rule(at(table, Name::Rule))?;
+    let messages = messages(kinds, at(table, Name::Messages))?;
+    fitting(messages, at(table, Name::Rule))?;
     Ok(Head {
         generals,
         bound,
@@ -82,6 +124,7 @@ fn head(alloc: Global, table: &Table) -> Result<Head, ScenarioError>
         board,
         patience,
         rule,
+        messages,
     })
 }
 
@@ -126,6 +169,7 @@ fn seated(alloc: Global, head: Head, values: &[Value]) -> Result<Scenario, Scena
         board,
         patience,
         rule,
+        messages: _,
     } = head;
     let mut seats = unseated(alloc, generals)?;
     for index in 0..values.len() {
@@ -138,22 +182,63 @@ fn seated(alloc: Global, head: Head, values: &[Value]) -> Result<Scenario, Scena
 }
 
 /// The scenario of a table.
-fn campaign(alloc: Global, table: &Table) -> Result<Scenario, ScenarioError>
+fn scenario(alloc: Global, table: &Table) -> Result<Scenario, ScenarioError>
     ensures { Reads (Some (table_view table.now)) result }
 {
-    let head = head(alloc, table)?;
+    let head = head(alloc, table, Kinds::OralAlone)?;
     let values = tables(at(table, Name::Traitor))?;
     seated(alloc, head, values)
 }
 
-/// The scenario that a text tells.
+/// The campaign of a scenario whose orders are sent so.
+fn campaign_by(messages: Messages, scenario: Scenario) -> Campaign
+    ensures { result ≡ campaign_by messages scenario }
+{
+    match messages {
+        Messages::Oral => Campaign::Oral(scenario),
+        Messages::Signed => Campaign::Signed(scenario),
+    }
+}
+
+/// The campaign of a table.
+fn campaign(alloc: Global, table: &Table) -> Result<Campaign, ScenarioError>
+    ensures { ReadsAny (Some (table_view table.now)) result }
+{
+    let head = head(alloc, table, Kinds::Both)?;
+    let messages = head.messages;
+    let values = tables(at(table, Name::Traitor))?;
+    let scenario = seated(alloc, head, values)?;
+    Ok(campaign_by(messages, scenario))
+}
+
+/// The scenario that the text of an oral campaign tells.
 ///
 /// # Errors
 ///
 /// The first fault, with its place: that the text is no TOML, then an unknown key at the top (the least by bytes), then
-/// `generals`, `bound`, `commander`, `order`, `board`, `patience`, `rule`, the list `traitor`, and its tables in order.
+/// `generals`, `bound`, `commander`, `order`, `board`, `patience`, `rule`, `messages` (a signed campaign is refused there: S4),
+/// the list `traitor`, and its tables in order.
 pub fn read(alloc: Global, text: &str) -> Result<Scenario, ScenarioError>
     ensures { Reads (parse_document text.now) result }
+{
+    match toml::table_from_str(alloc, text) {
+        Ok(table) => scenario(alloc, &table),
+        Err(error) => {
+            if error.is_memory() {
+                return Err(ScenarioError::Memory);
+            }
+            Err(ScenarioError::Toml)
+        }
+    }
+}
+
+/// The campaign that a text tells, be it oral or signed.
+///
+/// # Errors
+///
+/// The first fault, with its place, in the order of `read`; behind `messages` that a signed campaign has a key `rule` (S2).
+pub fn read_any(alloc: Global, text: &str) -> Result<Campaign, ScenarioError>
+    ensures { ReadsAny (parse_document text.now) result }
 {
     match toml::table_from_str(alloc, text) {
         Ok(table) => campaign(alloc, &table),
