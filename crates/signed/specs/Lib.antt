@@ -9,7 +9,6 @@ pub mod World
 pub mod Laws
 pub mod Chronicle
 pub mod Signers
-pub mod Loyal
 pub mod Sent
 pub mod Kind
 pub mod Verdicts
