@@ -1,10 +1,9 @@
 //! `objects OBJECT NAME..`: the code of an object's only global function, and of its functions of these names, in hex, or the
-//! first fault of each.
+//! first fault of each. data/several.o is what clang makes of the second program of checks/objects.
 #![tactic(auto)]
 
 use anyhow::{Result, bail};
-use std::env;
-use std::fs;
+use std::{env, fs};
 
 fn main(rt: HostRuntime) -> Result<()> {
     let words: Vec<String> = env::args(&rt)?.skip(1).collect(rt.alloc())?;
