@@ -19,7 +19,7 @@ fn are_found(pieces: &[&[u8]], text: &[u8]) -> bool {
     }
 }
 
-/// Whether these pieces stand somewhere in the text one behind the other, and behind them the last, where the text ends.
+/// Whether these pieces stand somewhere in the text one behind the other, and then the last, where the text ends.
 fn are_behind(middle: &[&[u8]], last: &[u8], text: &[u8]) -> bool {
     let mut rest = text;
     for piece in middle {
