@@ -11,8 +11,8 @@ use anyhow::Result;
 use std::alloc::Global;
 use std::rt::Files;
 
-/// The first difference between the answer and what the call's items ask, if there is one. Where nothing is asked of the
-/// status it is to be 0, and where nothing is asked of standard output or of standard error it is to be empty.
+/// The first difference between the answer and what the call's items ask, if there is one. Where nothing is asked of
+/// the status it is to be 0, and where nothing is asked of standard output or of standard error it is to be empty.
 pub fn difference<R: Files + AllocGlobal>(
     rt: &R,
     call: &Call,
