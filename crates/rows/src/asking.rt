@@ -11,8 +11,8 @@ use anyhow::Result;
 use std::alloc::Global;
 use std::rt::Files;
 
-/// The first difference between the answer and what the call's items ask, if there is one. Where nothing is asked of the status it is to
-/// be 0, and where nothing is asked of standard output or of standard error it is to be empty.
+/// The first difference between the answer and what the call's items ask, if there is one. Where nothing is asked of
+/// the status it is to be 0, and where nothing is asked of standard output or of standard error it is to be empty.
 pub fn difference<R: Files + AllocGlobal>(
     rt: &R,
     call: &Call,
@@ -123,7 +123,7 @@ fn whole(alloc: Global, what: &str, got: &Vec<u8>, expected: &[u8]) -> Result<Op
         Outcome::AsStored => Ok(None),
         Outcome::Differs(line) => {
             let got = String::from_utf8_lossy(alloc, got.as_slice())?;
-            let got = got.lines().nth(line - 1).unwrap_or("");
+            let got = got.lines().nth(line.saturating_sub(1)).unwrap_or("");
             Ok(Some(format!(in alloc; "{what} differs at line {line}: {got}")?))
         }
     }
@@ -131,7 +131,7 @@ fn whole(alloc: Global, what: &str, got: &Vec<u8>, expected: &[u8]) -> Result<Op
 
 /// The difference between a text and what it is to be like.
 fn alike(alloc: Global, what: &str, got: &Vec<u8>, pattern: &[u8]) -> Result<Option<String>> {
-    if is_like(pattern, got.as_slice()) {
+    if is_like(alloc, pattern, got.as_slice())? {
         return Ok(None);
     }
     let got = String::from_utf8_lossy(alloc, got.as_slice())?;

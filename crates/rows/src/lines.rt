@@ -1,41 +1,26 @@
 //! Lines of an answer.
-ghost use Rattle.std.specs.Prelude.{◌≤◌, length};
-
 use crate::likeness::is_like;
 use std::alloc::{AllocError, Global};
 
 /// The lines of a text, without their line feeds.
 pub fn lines(alloc: Global, text: &[u8]) -> Result<Vec<&[u8]>, AllocError> {
-    let mut lines = Vec::new(alloc);
-    let mut rest = text;
-    while !rest.is_empty() {
-        let length = length_of_line(rest);
-        lines.push(&rest[..length])?;
-        rest = if length < rest.len() {
-            &rest[length + 1..]
-        } else {
-            &[]
-        };
+    let mut lines: Vec<&[u8]> = text.split(|byte| *byte == b'\n').collect(alloc)?;
+    let is_ended = match lines.last() {
+        Some(behind) => behind.is_empty(),
+        None => false,
+    };
+    if is_ended {
+        let _ = lines.pop();
     }
     Ok(lines)
 }
 
-/// How many bytes stand before the first line feed.
-fn length_of_line(text: &[u8]) -> usize
-    ensures { result ≤ length text.now }
-{
-    match text.iter().position(|byte| *byte == b'\n') {
-        Some(place) => place,
-        None => text.len(),
-    }
-}
-
 /// How many of the text's lines are like this.
 pub fn number_like(alloc: Global, text: &[u8], pattern: &[u8]) -> Result<usize, AllocError> {
-    let mut number = 0;
+    let mut number = 0usize;
     for line in &lines(alloc, text)? {
-        if is_like(pattern, *line) {
-            number += 1;
+        if is_like(alloc, pattern, *line)? {
+            number = number.saturating_add(1);
         }
     }
     Ok(number)

@@ -11,9 +11,11 @@ use std::alloc::Global;
 /// A line that has no shape, by its number.
 pub fn rows(alloc: Global, text: &str) -> Result<Vec<Row>> {
     let mut rows = Vec::new(alloc);
-    for (place, line) in text.lines().enumerate() {
+    let mut number = 0usize;
+    for line in text.lines() {
+        number = number.saturating_add(1);
         if !is_taken(alloc, &mut rows, line)? {
-            bail!("line {} of the table has no shape: {line}", place + 1);
+            bail!("line {number} of the table has no shape: {line}");
         }
     }
     Ok(rows)

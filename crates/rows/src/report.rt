@@ -12,7 +12,8 @@ use std::rt::Files;
 use std::sync::Wait;
 use std::thread::Threads;
 
-/// Asks what the rows of the table ask, and prints each that is answered otherwise, with its first difference, and how many they are.
+/// Asks what the rows of the table ask, and prints each that is answered otherwise, with its first difference, and how
+/// many they are.
 pub fn report<R: Print + Files + Threads + Wait + Sync + AllocGlobal>(
     rt: &R,
     table: &str,
@@ -79,7 +80,7 @@ fn called<R: Files + Threads + Wait + Sync + AllocGlobal>(
     Ok(difference)
 }
 
-/// Makes the call with each beginning of the file, but the file itself; the difference in the first answer that has one.
+/// Makes the call with each beginning of the file but the whole; the difference in the first answer that has one.
 fn beginnings<R: Files + Threads + Wait + Sync + AllocGlobal>(
     rt: &R,
     call: &Call,

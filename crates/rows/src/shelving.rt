@@ -93,7 +93,7 @@ pub fn number(word: &str) -> Result<usize> {
 /// The text with other lines in place of one, counted from 1.
 fn with_line(alloc: Global, text: &[u8], number: usize, lines: &[u8]) -> Result<Vec<u8>> {
     let mut changed = Vec::new(alloc);
-    let mut line = 1;
+    let mut line = 1usize;
     if number == line {
         changed.extend_from_slice(lines)?;
     }
@@ -102,7 +102,7 @@ fn with_line(alloc: Global, text: &[u8], number: usize, lines: &[u8]) -> Result<
             changed.push(*byte)?;
         }
         if *byte == b'\n' {
-            line += 1;
+            line = line.saturating_add(1);
             if line == number {
                 changed.extend_from_slice(lines)?;
             }

@@ -111,7 +111,8 @@ fn served<R: Threads + Wait + Sync + AllocGlobal>(
     Told { out, err, status }
 }
 
-/// Puts what was written to a file with the files: nothing of it is on standard output, and where nothing was written no file is made.
+/// Puts what was written to a file with the files: nothing of it is on standard output, and where nothing was written
+/// no file is made.
 fn written(alloc: Global, task: &Task, shelf: &mut Shelf, told: Told) -> Result<Told> {
     let name = match task.target() {
         None | Some("-") => return Ok(told),
