@@ -1,5 +1,6 @@
 /* This project's library. */
 #include "engine.h"
+#ifdef WITH_BYZLAB
 #include <byzlab_sandbox.h>
 #include <stdlib.h>
 #include <string.h>
@@ -29,5 +30,13 @@ static uint64_t run(void *loaded, const struct program *program, unsigned times)
     if (byzlab_run_many(program->bytes, program->length, contexts, (size_t)times * CONTEXT, &fault, outcomes, times)) abort();
     return outcomes[times - 1].r0;
 }
+#else
+static const char *absent(void) { return "no --library, and no checks/library"; }
+#define begin 0
+#define end 0
+#define load 0
+#define unload 0
+#define run 0
+#endif
 
 const struct engine byzlab_engine = {"byzlab", absent, begin, end, load, unload, run};

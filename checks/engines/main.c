@@ -1,10 +1,10 @@
 /*
  * Asks each engine for its verdict, its r0, and its times. checks/compare calls it.
  *
- *     engines verdicts FILE SECONDS     each question in a process of its own, which may die
+ *     engines verdicts FILE SECONDS    in processes that may die
  *     engines times FILE ROUNDS        in this process, the engines in turn in each round
  *
- * FILE: 4,096 bytes of context, then of each program a mask of engines (one bit each, in the order below), and its bytes and
+ * FILE: 4,096 bytes of context, then of each program a mask of engines (one bit each, in the order below; the highest: ask it in a process of its own), and its bytes and
  * those of its classic filter, each behind their length; all numbers have 32 bits.
  *
  * A line for each answer: the program's number, the engine, and
@@ -20,6 +20,7 @@
 #include <string.h>
 #include <sys/mman.h>
 #include <sys/resource.h>
+#include <sys/time.h>
 #include <sys/wait.h>
 #include <time.h>
 #include <unistd.h>
@@ -56,41 +57,85 @@ static uint8_t *read_block(FILE *file, size_t *length) {
 
 /* ---- verdicts */
 
+enum stage { UNASKED, LOADING, REFUSED, RUNNING, ENDED };
+
 struct answer {
-    int stage; /* 0 loading, 1 refused, 2 running, 3 ended */
+    enum stage stage;
     uint64_t r0;
 };
 
-static void ask(const struct engine *engine, const struct program *program, struct answer *answer) {
-    engine->begin(program);
-    void *loaded = engine->load(program);
-    answer->stage = loaded ? 2 : 1;
-    if (!loaded) return;
-    answer->r0 = engine->run(loaded, program, 1);
-    answer->stage = 3;
+struct question {
+    uint32_t mask;
+    struct program program;
+};
+
+/* In the mask: the program is asked in a process of its own. (Others share one till one of them ends it.) */
+#define ALONE (1u << 31)
+
+static void limit_to(unsigned seconds) {
+    struct itimerval timer = {{0, 0}, {seconds, 0}};
+    setitimer(ITIMER_PROF, &timer, NULL);
 }
 
-static void verdict(unsigned number, const struct engine *engine, const struct program *program, unsigned seconds) {
-    struct answer *answer = mmap(NULL, sizeof *answer, PROT_READ | PROT_WRITE, MAP_SHARED | MAP_ANONYMOUS, -1, 0);
-    if (answer == MAP_FAILED) fails("mmap");
-    int status;
+static void ask(const struct engine *engine, const struct program *program, struct answer *answer) {
+    answer->stage = LOADING;
+    engine->begin(program);
+    void *loaded = engine->load(program);
+    answer->stage = loaded ? RUNNING : REFUSED;
+    if (loaded) {
+        answer->r0 = engine->run(loaded, program, 1);
+        answer->stage = ENDED;
+        engine->unload(loaded);
+    }
+    engine->end();
+}
+
+/* Asks from one question up to another in a process; gives its status, and where it stood at the end. */
+static unsigned asked(const struct engine *engine, const struct question *questions, unsigned bit, unsigned from, unsigned to,
+                      const uint8_t *kept, unsigned seconds, struct answer *answers, int *status) {
     pid_t child = fork();
     if (child < 0) fails("fork");
     if (child == 0) {
-        struct rlimit none = {0, 0}, most = {seconds, seconds + 1};
+        struct rlimit none = {0, 0};
         setrlimit(RLIMIT_CORE, &none);
-        setrlimit(RLIMIT_CPU, &most);
-        ask(engine, program, answer);
+        for (; from < to; from++) {
+            if (!(questions[from].mask >> bit & 1)) continue;
+            limit_to(seconds);
+            memcpy(questions[from].program.context, kept, CONTEXT);
+            ask(engine, &questions[from].program, answers + from);
+        }
         _exit(0);
     }
-    if (waitpid(child, &status, 0) != child) fails("waitpid");
-    const char *when = answer->stage == 2 ? "running" : "loading";
-    if (WIFSIGNALED(status) && (WTERMSIG(status) == SIGXCPU || WTERMSIG(status) == SIGKILL)) printf("%u %s late %s\n", number, engine->name, when);
+    if (waitpid(child, status, 0) != child) fails("waitpid");
+    while (from < to && *status && (answers[from].stage == UNASKED || answers[from].stage == REFUSED || answers[from].stage == ENDED)) from++;
+    return *status ? from : to;
+}
+
+static void tell(unsigned number, const struct engine *engine, const struct answer *answer, int status) {
+    const char *when = answer->stage == RUNNING ? "running" : "loading";
+    if (answer->stage == REFUSED) printf("%u %s refused\n", number, engine->name);
+    else if (answer->stage == ENDED) printf("%u %s accepted %" PRIx64 "\n", number, engine->name, answer->r0);
+    else if (WIFSIGNALED(status) && WTERMSIG(status) == SIGPROF) printf("%u %s late %s\n", number, engine->name, when);
     else if (WIFSIGNALED(status)) printf("%u %s died %s %s\n", number, engine->name, sigabbrev_np(WTERMSIG(status)), when);
-    else if (answer->stage == 1) printf("%u %s refused\n", number, engine->name);
-    else if (answer->stage == 3) printf("%u %s accepted %" PRIx64 "\n", number, engine->name, answer->r0);
     else printf("%u %s died status %s\n", number, engine->name, when);
-    munmap(answer, sizeof *answer);
+}
+
+static void verdicts(const struct engine *engine, unsigned bit, const struct question *questions, unsigned count, const uint8_t *kept, unsigned seconds) {
+    size_t size = (count + 1) * sizeof(struct answer);
+    struct answer *answers = mmap(NULL, size, PROT_READ | PROT_WRITE, MAP_SHARED | MAP_ANONYMOUS, -1, 0);
+    if (answers == MAP_FAILED) fails("mmap");
+    for (unsigned from = 0; from < count;) {
+        unsigned to = from + 1;
+        int status = 0;
+        if (!(questions[from].mask & ALONE))
+            while (to < count && !(questions[to].mask & ALONE)) to++;
+        unsigned at = asked(engine, questions, bit, from, to, kept, seconds, answers, &status);
+        for (unsigned number = from; number < at; number++)
+            if (questions[number].mask >> bit & 1) tell(number, engine, answers + number, 0);
+        if (at < to) tell(at, engine, answers + at, status), at++;
+        from = at;
+    }
+    munmap(answers, size);
 }
 
 /* ---- times */
@@ -160,33 +205,37 @@ static void timed(unsigned number, uint32_t mask, const struct program *program,
     }
 }
 
+/* Reads the next question; 0 where there is none. */
+static int next(FILE *file, struct question *question) {
+    if (fread(&question->mask, 4, 1, file) != 1) return 0;
+    question->program.bytes = read_block(file, &question->program.length);
+    question->program.classic = read_block(file, &question->program.classic_length);
+    return 1;
+}
+
 int main(int count, char **words) {
     if (count != 4) return fprintf(stderr, "engines verdicts|times FILE NUMBER\n"), 2;
     FILE *file = fopen(words[2], "rb");
-    struct program program;
-    uint32_t mask;
-    unsigned limit = (unsigned)atoi(words[3]);
+    unsigned limit = (unsigned)atoi(words[3]), asked_for = 0, room = 0;
     int is_timed = !strcmp(words[1], "times");
-    uint8_t *kept = malloc(CONTEXT);
-    setvbuf(stdout, NULL, _IOLBF, 0);
+    uint8_t *kept = malloc(CONTEXT), *context = guarded();
+    struct question *questions = NULL;
     if (!file || !kept || fread(kept, 1, CONTEXT, file) != CONTEXT) fails(words[2]);
-    if (limit > ROUNDS) limit = ROUNDS;
-    program.context = guarded();
-    const char *why[ENGINES];
-    for (unsigned e = 0; e < ENGINES; e++) why[e] = engines[e]->absent();
-    for (unsigned e = 0; e < ENGINES; e++)
-        if (why[e]) printf("- %s absent %s\n", engines[e]->name, why[e]);
-    for (unsigned number = 0; fread(&mask, 4, 1, file) == 1; number++) {
-        program.bytes = read_block(file, &program.length);
-        program.classic = read_block(file, &program.classic_length);
-        memcpy(program.context, kept, CONTEXT);
-        for (unsigned e = 0; e < ENGINES; e++)
-            if (why[e]) mask &= ~(1u << e);
-        if (is_timed) timed(number, mask, &program, limit);
-        for (unsigned e = 0; !is_timed && e < ENGINES; e++)
-            if (mask >> e & 1) verdict(number, engines[e], &program, limit);
-        free((void *)program.bytes);
-        free((void *)program.classic);
+    if (is_timed && limit > ROUNDS) limit = ROUNDS;
+    for (;; asked_for++) {
+        if (asked_for == room) questions = realloc(questions, (room = 2 * room + 64) * sizeof *questions);
+        if (!questions) fails("malloc");
+        if (!next(file, questions + asked_for)) break;
+        questions[asked_for].program.context = context;
     }
+    setvbuf(stdout, NULL, _IOLBF, 0);
+    memcpy(context, kept, CONTEXT);
+    for (unsigned e = 0; e < ENGINES; e++) {
+        const char *why = engines[e]->absent();
+        if (why) printf("- %s absent %s\n", engines[e]->name, why);
+        for (unsigned i = 0; why && i < asked_for; i++) questions[i].mask &= ~(1u << e);
+        if (!is_timed && !why) verdicts(engines[e], e, questions, asked_for, kept, limit);
+    }
+    for (unsigned i = 0; is_timed && i < asked_for; i++) timed(i, questions[i].mask, &questions[i].program, limit);
     return 0;
 }
