@@ -33,7 +33,7 @@ static const struct engine *const engines[] = {
 /* How long one measured stretch lasts at least, in nanoseconds. */
 #define STRETCH 100000.0
 /* How long all rounds of one engine and one program may take, in nanoseconds; three rounds are taken in any case. */
-#define ALLOWANCE 300e6
+#define ALLOWANCE 150e6
 
 static int fails(const char *what) {
     perror(what);
