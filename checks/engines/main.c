@@ -32,8 +32,8 @@ static const struct engine *const engines[] = {
 #define ROUNDS 64
 /* How long one measured stretch lasts at least, in nanoseconds. */
 #define STRETCH 100000.0
-/* How long all rounds of one engine and one program may take, in nanoseconds; three rounds are taken in any case. */
-#define ALLOWANCE 150e6
+/* How long all rounds of one engine and one program may take by the wall's clock; three rounds are taken in any case. */
+#define ALLOWANCE 250e6
 
 static int fails(const char *what) {
     perror(what);
@@ -140,11 +140,13 @@ static void verdicts(const struct engine *engine, unsigned bit, const struct que
 
 /* ---- times */
 
-static double now(void) {
+static double clocked(clockid_t clock) {
     struct timespec t;
-    clock_gettime(CLOCK_THREAD_CPUTIME_ID, &t);
+    clock_gettime(clock, &t);
     return (double)t.tv_sec * 1e9 + (double)t.tv_nsec;
 }
+
+static double now(void) { return clocked(CLOCK_THREAD_CPUTIME_ID); }
 
 static double loads(const struct engine *engine, const struct program *program, unsigned times) {
     double begun = now();
@@ -185,12 +187,12 @@ static void timed(unsigned number, uint32_t mask, const struct program *program,
         for (unsigned e = 0; e < ENGINES; e++) {
             if (!(mask >> e & 1) || (round >= 3 && spent[e] > ALLOWANCE)) continue;
             engines[e]->begin(program);
-            double begun = now();
+            double begun = clocked(CLOCK_MONOTONIC);
             load[e][round] = loads(engines[e], program, load_times[e]);
             void *loaded = engines[e]->load(program);
             run[e][round] = runs(engines[e], loaded, program, run_times[e]);
             engines[e]->unload(loaded);
-            spent[e] += now() - begun;
+            spent[e] += clocked(CLOCK_MONOTONIC) - begun;
             taken[e]++;
             engines[e]->end();
         }
