@@ -1,6 +1,8 @@
 pub mod Part
 pub mod Kind
 pub mod World
+pub mod KindHeld
+pub mod Held
 pub mod Reached
 pub mod KindLists
 pub mod Lists
@@ -14,5 +16,4 @@ pub mod Safety
 pub mod Replay
 pub mod Refusals
 pub mod Playing
-pub mod Held
 pub mod Closing
