@@ -24,7 +24,7 @@ use Rattle.world.proofs.Standing.{parts_are_placed, activations_are_runs}
 use Rattle.world.proofs.Rounds.{run_kept, opening_kept}
 use Rattle.world.proofs.Listing.{set-here}
 use Rattle.world.proofs.Moves.{run-append}
-use Rattle.world.proofs.Campaigns.{AreCampaigns, TellRelays}
+use Rattle.world.specs.Campaigns.{AreCampaigns, TellRelays}
 
 pub set-same : {A : Type 0} (xs : List A) (i : ℕ) (x : A) → slice_get xs i ≡ Some x → slice_set xs i x ≡ xs
 set-same [] i x e = refl

@@ -22,7 +22,7 @@ use Rattle.world.proofs.Punctual.{punctual_full}
 use Rattle.world.proofs.Moves.{run-append}
 use Rattle.world.proofs.Punctual.{run_scenario}
 use Rattle.std.proofs.lemmas.Option.{slice_get-get_or}
-use Rattle.world.proofs.Campaigns.{AreCampaigns, TellRelays}
+use Rattle.world.specs.Campaigns.{AreCampaigns}
 
 -- entries of a general are his events, and of a number that is none nothing
 pub line_of : (s : Scenario) (g n : ℕ) → g < s.generals → line_events s (replicate n g) ≡ replicate n (event_of g (program_of s g))
@@ -240,7 +240,7 @@ module _ (K : Kind) where
       run K u (replayed_rounds K u (n - (i + 1)) (drop (i + 1) names)) ≡ target
   replay_next n i names line w u target lt at is left = replay_more n i names w u target lt (is ∙ ap (λ (l : List ℕ). run K (run K w (names_events K w l)) (wound_up w.scenario)) at) left
 
-module _ (K : Kind) (good : AreCampaigns K) (tell : TellRelays K) where
+module _ (K : Kind) (good : AreCampaigns K) where
   -- what is listed comes to its end
   pub listed_finished : (s : Scenario) (lines : List (List ℕ)) → IsScenario s → IsFinished (run K (opening K s) (listed s lines))
   listed_finished s lines is =

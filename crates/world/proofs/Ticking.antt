@@ -26,7 +26,7 @@ use Rattle.world.specs.Playing.{IsStill, program_length}
 use Rattle.round.proofs.Going.{turn_within, over_ended, ended_over}
 use Rattle.round.proofs.Stepping.{runs_steps, turn_counts, CountsTurn}
 use Rattle.world.proofs.Due.{IsDue, due_few, due_lasts}
-use Rattle.world.proofs.Campaigns.{AreCampaigns, TellRelays}
+use Rattle.world.specs.Campaigns.{AreCampaigns}
 
 -- turns without an access leave it due
 due_by : (s : Scenario) (g n : ℕ) (a b : Activation) → IsDue s g a → (o : Turn) → turn a ≡ o → ((c : Activation) → IsDue s g c → Runs n c [] b → IsDue s g b) → Onward (Runs n) o [] b → IsDue s g b
@@ -143,7 +143,7 @@ module _ (K : Kind) where
   named_by s w v g most taken t (Some Silent) at is far ahead = absurd (let f : None ≡ Some most = is in cc)
   named_by s w v g most taken t (Some Posted) at is far ahead = absurd (let f : None ≡ Some most = is in cc)
 
-module _ (K : Kind) (good : AreCampaigns K) (tell : TellRelays K) where
+module _ (K : Kind) (good : AreCampaigns K) where
   pub named_turn : {A E : Type 0} (result : Result A E) (s : Scenario) (closed : List (List Letter)) (k : RecordedBoard) (opened : ℕ) (ps ps' : List Part) (full : Bool) (w v u : World) (g most taken : ℕ) → IsScenario s → IsHeld K s closed k opened ps full →
       world_of s closed k opened ps full ≡ w → ps' ≡ ps → Some most ≡ program_length (slice_get ps' g) → AheadTo most taken w.parts g (slice_get w.parts g) v.parts → v ≡ run K w (replicate taken (Tick g)) → OnOk result (u ≡ happen K v (Tick g)) →
       OnOk result (u ≡ run K w (ticks_named g (slice_get w.parts g)))

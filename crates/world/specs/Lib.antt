@@ -4,6 +4,7 @@ pub mod World
 pub mod KindHeld
 pub mod Held
 pub mod Reached
+pub mod Campaigns
 pub mod KindLists
 pub mod Lists
 pub mod Schedules

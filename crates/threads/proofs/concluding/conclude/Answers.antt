@@ -6,7 +6,7 @@ use Rattle.world.specs.Chronicle.{Chronicle, decisions, chronicle_of}
 use Rattle.world.specs.Replay.{replay_of}
 use Rattle.world.specs.Safety.{IsShort}
 use Rattle.world.specs.World.{oral_kind}
-use Rattle.world.proofs.Campaigns.{oral_campaigns, oral_relays}
+use Rattle.world.proofs.Campaigns.{oral_campaigns}
 use Rattle.world.proofs.Lasting.{replayed_complete}
 use Rattle.world.proofs.Listed.{replayed_finished}
 use Rattle.world.proofs.Outcomes.{finished_agree, finished_verdict, finished_well}
@@ -38,14 +38,14 @@ returns-clause-decisions c =
 pub returns-clause-agree : goal.returns-clause-agree
 returns-clause-agree c =
     let s = c.args.scenario in let names = names_in 1 c.of.result.accesses (suc s.bound) in
-    finished_agree s (replayed s names) c.of.result c.recall.ensures (replayed_finished oral_kind oral_campaigns oral_relays s names (replay_of s c.of.result.accesses) c.recall.ensures refl) (returns-clause-replay c)
+    finished_agree s (replayed s names) c.of.result c.recall.ensures (replayed_finished oral_kind oral_campaigns s names (replay_of s c.of.result.accesses) c.recall.ensures refl) (returns-clause-replay c)
 
 pub returns-clause-verdict : goal.returns-clause-verdict
 returns-clause-verdict c =
     let s = c.args.scenario in let names = names_in 1 c.of.result.accesses (suc s.bound) in
-    finished_verdict s (replayed s names) c.of.result c.recall.ensures (replayed_finished oral_kind oral_campaigns oral_relays s names (replay_of s c.of.result.accesses) c.recall.ensures refl) (returns-clause-replay c)
+    finished_verdict s (replayed s names) c.of.result c.recall.ensures (replayed_finished oral_kind oral_campaigns s names (replay_of s c.of.result.accesses) c.recall.ensures refl) (returns-clause-replay c)
 
 pub returns-clause-well : goal.returns-clause-well
 returns-clause-well c =
     let s = c.args.scenario in let names = names_in 1 c.of.result.accesses (suc s.bound) in
-    finished_well s (replayed s names) c.of.result c.recall.ensures (replayed_finished oral_kind oral_campaigns oral_relays s names (replay_of s c.of.result.accesses) c.recall.ensures refl) (returns-clause-replay c)
+    finished_well s (replayed s names) c.of.result c.recall.ensures (replayed_finished oral_kind oral_campaigns s names (replay_of s c.of.result.accesses) c.recall.ensures refl) (returns-clause-replay c)

@@ -6,7 +6,7 @@ use Rattle.world.specs.Lists.{listed}
 use Rattle.world.specs.Schedules.{lines_by}
 use Rattle.world.proofs.Listed.{play_next, play_last, played_finished}
 use Rattle.world.proofs.world.World.played.Goals as goal
-use Rattle.world.proofs.Campaigns.{oral_campaigns, oral_relays}
+use Rattle.world.proofs.Campaigns.{oral_campaigns}
 
 pub loop-round-preserved : goal.loop-round-preserved
 loop-round-preserved c =
@@ -19,4 +19,4 @@ returns-clause-finished c =
     let lines = lines_by c.args.schedule.now in
     let same : c.loop-round.world ≡ run (opening c.args.scenario) (listed c.args.scenario lines) =
     play_last oral_kind c.args.scenario (c.from-rounds.result + 1) c.loop-round.round (lines_by (drop c.loop-round.round c.args.schedule.now)) c.loop-round.world _ c.loop-round-test.false c.loop-round.invariant.left in
-    played_finished oral_kind oral_campaigns oral_relays c.args.scenario lines c.loop-round.world c.recall.ensures same
+    played_finished oral_kind oral_campaigns c.args.scenario lines c.loop-round.world c.recall.ensures same

@@ -5,7 +5,7 @@ use Rattle.world.specs.Lists.{replayed}
 use Rattle.world.specs.Playing.{lists_in}
 use Rattle.world.proofs.Listed.{replay_first, replay_next, replay_last, replayed_finished}
 use Rattle.world.proofs.world.World.replayed.Goals as goal
-use Rattle.world.proofs.Campaigns.{oral_campaigns, oral_relays}
+use Rattle.world.proofs.Campaigns.{oral_campaigns}
 
 pub loop-round-init : goal.loop-round-init
 loop-round-init c =
@@ -23,4 +23,4 @@ returns-clause-finished c =
     let names = lists_in c.args.names.now in
     let same : c.loop-round.world ≡ run (opening c.args.scenario) (replayed c.args.scenario names) =
     replay_last oral_kind (c.from-rounds.result + 1) c.loop-round.round (drop c.loop-round.round names) c.loop-round.world _ c.loop-round-test.false c.loop-round.invariant in
-    replayed_finished oral_kind oral_campaigns oral_relays c.args.scenario names c.loop-round.world c.recall.ensures same
+    replayed_finished oral_kind oral_campaigns c.args.scenario names c.loop-round.world c.recall.ensures same
