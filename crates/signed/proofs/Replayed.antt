@@ -13,7 +13,6 @@ use Rattle.signed.specs.World.{Part, Acting, Silent, Posted, Event, Tick, Post, 
 use Rattle.signed.specs.Chronicle.{chronicle_of}
 use Rattle.signed.specs.Programs.{SignedScenario, IsSignedScenario, RunWorld, conduct_of, opened, played}
 use Rattle.signed.specs.Lists.{HasEnded, EndsInTime, IsComplete, names_events, wound_up, replayed_rounds}
-use Rattle.signed.specs.Told.{text_of}
 use Rattle.signed.specs.Plays.{replay_of, SignedRunsAreReplays}
 use Rattle.signed.proofs.Making.{Row}
 use Rattle.signed.proofs.Keeping.{Keeps}
@@ -135,7 +134,6 @@ pub proved_replays : SignedRunsAreReplays
 proved_replays = record {
   worlds = worlds;
   chronicles = λ s es is c. ap chronicle_of (sym (worlds s es is c));
-  texts = λ s es is c. ap text_of (sym (worlds s es is c));
   legal = λ s es is. (ledger_is s (played s es) (midway s es is)).legal;
   traitors = λ s es is. traitors_all s.campaign (played s es).board.ledger (ledger_is s (played s es) (midway s es is)).traitors;
 }

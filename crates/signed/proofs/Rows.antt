@@ -1,15 +1,12 @@
--- Rows, computed: campaigns from their events to their texts, and what is no chain or does not count.
-use Rattle.std.proofs.Common.{◌≡◌, ℕ, ◌+◌, true, false, cond, arith, List, [], ◌∷◌, ◌++◌, length, refl, None, Some}
-use Rattle.std.specs.Prelude.{◌==◌, ◌%◌, ◌^◌, nat_le, codes, replicate}
-use Rattle.std.specs.Fmt.{digits}
-use Rattle.trace.specs.Text.{Line}
+-- Rows, computed: campaigns from their events to their chronicles, and what is no chain or does not count.
+use Rattle.std.proofs.Common.{◌≡◌, ℕ, ◌+◌, true, false, cond, arith, List, [], ◌∷◌, ◌++◌, length, refl, Option, None, Some}
+use Rattle.std.specs.Prelude.{◌==◌, ◌%◌, ◌^◌, nat_le, replicate, map}
 use Rattle.signed.specs.Chains.{Chain, IsChain, begin, prolong}
 use Rattle.signed.specs.Accepted.{held, accepted, loyal_chains, counts, firsts, decided}
 use Rattle.signed.specs.Entries.{Entry, Sign, Pass, receivers_in, is_entered, entered}
 use Rattle.signed.specs.Campaign.{Campaign, Conduct}
-use Rattle.signed.specs.World.{Event, Tick, Post, Close, opening, run, context_behind, accepted_in, delivered, refusal, NotOpen, NoGeneral}
-use Rattle.signed.specs.Chronicle.{chronicle_of, decisions}
-use Rattle.signed.specs.Text.{signed_lines, signed_text}
+use Rattle.signed.specs.World.{Letter, Event, Tick, Post, Close, opening, run, context_behind, accepted_in, delivered, refusal, NotOpen, NoGeneral}
+use Rattle.signed.specs.Chronicle.{Chronicle, Verdict, chronicle_of, decisions}
 
 -- what a program attempts with a value and the number of its receivers: of the value the low 32 bits are the order
 abbrev pub sign_order : ℕ → ℕ → Entry
@@ -23,9 +20,16 @@ pass_on place bits = Pass place bits
 abbrev pub answer_to : ℕ → ℕ → List Chain → List Entry → Entry → ℕ
 answer_to c g held entries e = cond (is_entered c g held entries e) 0 1
 
-abbrev pub whole : List (List ℕ) → List ℕ
-whole [] = []
-whole (l ∷ ls) = l ++ 10 ∷ whole ls
+-- a letter in short: its general, the steps of a traitor, and of each chain the order, the signers and the receivers
+abbrev pub Short : Type 0
+Short = ℕ × (Option ℕ × List (ℕ × (List ℕ × List ℕ)))
+
+abbrev pub short : Letter → Short
+short l = (l.general, (l.steps, map (λ x. (x.chain.order, (x.chain.signers, x.receivers))) l.sent))
+
+-- a chronicle in short: its letters by round, the decisions and the verdict
+abbrev pub told : Chronicle → List (List Short) × (List ℕ × Verdict)
+told c = (map (map short) c.letters, (c.decisions, c.verdict))
 
 -- an activation of so many steps, which attempts this once it has taken some; the board is not used
 abbrev pub scripted : ℕ → (ℕ → List Entry) → Conduct ℕ ℕ
@@ -37,9 +41,6 @@ scripted last attempts = record {
   steps = λ a. a;
 }
 
-abbrev pub none_told : ℕ → List Line
-none_told round = []
-
 -- three generals and one traitor, the lieutenant 2, who passes on to 1 the first chain that he holds
 abbrev pub passing : Campaign
 passing = record { generals = 3; bound = 1; commander = 0; order = 1; traitors = 2 ∷ []; patience = None }
@@ -50,26 +51,22 @@ passer = scripted 4 (λ a. cond (nat_le 3 a) (pass_on 0 2 ∷ []) [])
 abbrev pub passing_round : List Event
 passing_round = Post 0 ∷ Post 1 ∷ Tick 2 ∷ Tick 2 ∷ Tick 2 ∷ Tick 2 ∷ Close ∷ []
 
-passed_text : signed_text none_told (chronicle_of (run passer (opening passer passing) (passing_round ++ passing_round))) ≡ whole (
-    codes "chronicle 3"
-    ∷ codes "signed generals 3 bound 1 commander 0 order 1 patience -"
-    ∷ codes "round 1"
-    ∷ codes "letter 0 loyal"
-    ∷ codes "chain 1 0 to 1.2"
-    ∷ codes "letter 1 loyal"
-    ∷ codes "letter 2 steps 4"
-    ∷ codes "round 2"
-    ∷ codes "letter 0 loyal"
-    ∷ codes "letter 1 loyal"
-    ∷ codes "chain 1 0.1 to 2"
-    ∷ codes "letter 2 steps 4"
-    ∷ codes "chain 1 0.2 to 1"
-    ∷ codes "decision 1 1"
-    ∷ codes "decision 2 traitor 1"
-    ∷ codes "verdict alike yes obeyed yes bound yes"
-    ∷ [])
-unfolding signed_text signed_lines decisions held accepted loyal_chains digits
-passed_text = refl
+passed_told : told (chronicle_of (run passer (opening passer passing) (passing_round ++ passing_round))) ≡ (
+  (
+      (0, (None, (1, (0 ∷ [], 1 ∷ 2 ∷ [])) ∷ []))
+      ∷ (1, (None, []))
+      ∷ (2, (Some 4, []))
+      ∷ [])
+      ∷ (
+      (0, (None, []))
+      ∷ (1, (None, (1, (0 ∷ 1 ∷ [], 2 ∷ [])) ∷ []))
+      ∷ (2, (Some 4, (1, (0 ∷ 2 ∷ [], 1 ∷ [])) ∷ []))
+      ∷ [])
+      ∷ [],
+  (1 ∷ 1 ∷ [], record { alike = true; obeyed = Some true; bound = true }),
+)
+unfolding decisions held accepted loyal_chains
+passed_told = refl
 
 -- in the second round the traitor is told that he holds the commander's chain
 passed_context : context_behind passing (run passer (opening passer passing) passing_round).closed 2 ≡ 3 ∷ 1 ∷ 2 ∷ 0 ∷ 2 ∷ 1 ∷ 2 ∷ 1 ∷ 1 ∷ 1 ∷ []
@@ -78,7 +75,7 @@ passed_context = refl
 
 -- the same generals, the commander a traitor, who signs the order 1 for general 1 and the order 0 for general 2, in both rounds
 abbrev pub torn : Campaign
-torn = record { generals = 3; bound = 1; commander = 0; order = 1; traitors = 0 ∷ []; patience = None }
+torn = record { generals = 3; bound = 1; commander = 0; order = 0; traitors = 0 ∷ []; patience = None }
 
 abbrev pub signer : Conduct ℕ ℕ
 signer = scripted 7 (λ a. cond (nat_le 6 a) (sign_order 1 2 ∷ sign_order 0 4 ∷ []) (cond (nat_le 3 a) (sign_order 1 2 ∷ []) []))
@@ -86,29 +83,22 @@ signer = scripted 7 (λ a. cond (nat_le 6 a) (sign_order 1 2 ∷ sign_order 0 4 
 abbrev pub torn_round : List Event
 torn_round = Post 1 ∷ Post 2 ∷ Tick 0 ∷ Tick 0 ∷ Tick 0 ∷ Tick 0 ∷ Tick 0 ∷ Tick 0 ∷ Tick 0 ∷ Close ∷ []
 
-torn_text : signed_text none_told (chronicle_of (run signer (opening signer torn) (torn_round ++ torn_round))) ≡ whole (
-    codes "chronicle 3"
-    ∷ codes "signed generals 3 bound 1 commander 0 order 1 patience -"
-    ∷ codes "round 1"
-    ∷ codes "letter 0 steps 7"
-    ∷ codes "chain 1 0 to 1"
-    ∷ codes "chain 0 0 to 2"
-    ∷ codes "letter 1 loyal"
-    ∷ codes "letter 2 loyal"
-    ∷ codes "round 2"
-    ∷ codes "letter 0 steps 7"
-    ∷ codes "chain 1 0 to 1"
-    ∷ codes "chain 0 0 to 2"
-    ∷ codes "letter 1 loyal"
-    ∷ codes "chain 1 0.1 to 2"
-    ∷ codes "letter 2 loyal"
-    ∷ codes "chain 0 0.2 to 1"
-    ∷ codes "decision 1 0"
-    ∷ codes "decision 2 0"
-    ∷ codes "verdict alike yes obeyed - bound yes"
-    ∷ [])
-unfolding signed_text signed_lines decisions held accepted loyal_chains digits
-torn_text = refl
+torn_told : told (chronicle_of (run signer (opening signer torn) (torn_round ++ torn_round))) ≡ (
+  (
+      (0, (Some 7, (1, (0 ∷ [], 1 ∷ [])) ∷ (0, (0 ∷ [], 2 ∷ [])) ∷ []))
+      ∷ (1, (None, []))
+      ∷ (2, (None, []))
+      ∷ [])
+      ∷ (
+      (0, (Some 7, (1, (0 ∷ [], 1 ∷ [])) ∷ (0, (0 ∷ [], 2 ∷ [])) ∷ []))
+      ∷ (1, (None, (1, (0 ∷ 1 ∷ [], 2 ∷ [])) ∷ []))
+      ∷ (2, (None, (0, (0 ∷ 2 ∷ [], 1 ∷ [])) ∷ []))
+      ∷ [])
+      ∷ [],
+  (0 ∷ 0 ∷ [], record { alike = true; obeyed = None; bound = true }),
+)
+unfolding decisions held accepted loyal_chains
+torn_told = refl
 
 -- what the commander signed in the second round came, and did not count
 torn_accepted : accepted_in (run signer (opening signer torn) (torn_round ++ torn_round)) 1 ≡ 1 ∷ 0 ∷ []
@@ -200,38 +190,30 @@ late_conduct = record {
 abbrev pub late_round : List Event
 late_round = Tick 3 ∷ Post 1 ∷ Tick 0 ∷ Post 2 ∷ Tick 0 ∷ Tick 3 ∷ Tick 3 ∷ Close ∷ []
 
-late_text : signed_text none_told (chronicle_of (run late_conduct (opening late_conduct late) (late_round ++ (late_round ++ late_round)))) ≡ whole (
-    codes "chronicle 3"
-    ∷ codes "signed generals 4 bound 2 commander 0 order 1 patience 2"
-    ∷ codes "round 1"
-    ∷ codes "letter 0 steps 2"
-    ∷ codes "chain 7 0 to 3"
-    ∷ codes "letter 1 loyal"
-    ∷ codes "letter 2 loyal"
-    ∷ codes "letter 3 steps 2"
-    ∷ codes "round 2"
-    ∷ codes "letter 0 steps 2"
-    ∷ codes "chain 7 0 to 3"
-    ∷ codes "letter 1 loyal"
-    ∷ codes "letter 2 loyal"
-    ∷ codes "letter 3 steps 2"
-    ∷ codes "chain 7 0.3 to 1.2"
-    ∷ codes "round 3"
-    ∷ codes "letter 0 steps 2"
-    ∷ codes "chain 7 0 to 3"
-    ∷ codes "letter 1 loyal"
-    ∷ codes "chain 7 0.3.1 to 2"
-    ∷ codes "letter 2 loyal"
-    ∷ codes "chain 7 0.3.2 to 1"
-    ∷ codes "letter 3 steps 2"
-    ∷ codes "chain 7 0.3 to 1.2"
-    ∷ codes "decision 1 7"
-    ∷ codes "decision 2 7"
-    ∷ codes "decision 3 traitor 7"
-    ∷ codes "verdict alike yes obeyed - bound yes"
-    ∷ [])
-unfolding signed_text signed_lines decisions held accepted loyal_chains digits
-late_text = refl
+late_told : told (chronicle_of (run late_conduct (opening late_conduct late) (late_round ++ (late_round ++ late_round)))) ≡ (
+  (
+      (0, (Some 2, (7, (0 ∷ [], 3 ∷ [])) ∷ []))
+      ∷ (1, (None, []))
+      ∷ (2, (None, []))
+      ∷ (3, (Some 2, []))
+      ∷ [])
+      ∷ (
+      (0, (Some 2, (7, (0 ∷ [], 3 ∷ [])) ∷ []))
+      ∷ (1, (None, []))
+      ∷ (2, (None, []))
+      ∷ (3, (Some 2, (7, (0 ∷ 3 ∷ [], 1 ∷ 2 ∷ [])) ∷ []))
+      ∷ [])
+      ∷ (
+      (0, (Some 2, (7, (0 ∷ [], 3 ∷ [])) ∷ []))
+      ∷ (1, (None, (7, (0 ∷ 3 ∷ 1 ∷ [], 2 ∷ [])) ∷ []))
+      ∷ (2, (None, (7, (0 ∷ 3 ∷ 2 ∷ [], 1 ∷ [])) ∷ []))
+      ∷ (3, (Some 2, (7, (0 ∷ 3 ∷ [], 1 ∷ 2 ∷ [])) ∷ []))
+      ∷ [])
+      ∷ [],
+  (7 ∷ 7 ∷ 7 ∷ [], record { alike = true; obeyed = None; bound = true }),
+)
+unfolding decisions held accepted loyal_chains
+late_told = refl
 
 -- four generals, two traitors: the commander signs 7 for the traitor 3 alone; 3 prolongs that chain for himself, who stands on it and is dropped, and so cannot prolong it again
 -- for 1 alone in the last round. If one signature counted twice, general 1 would accept 7 then, and general 2 would not
@@ -254,33 +236,30 @@ twice_conduct = record {
 abbrev pub twice_round : List Event
 twice_round = Post 1 ∷ Post 2 ∷ Tick 0 ∷ Tick 3 ∷ Close ∷ []
 
-twice_text : signed_text none_told (chronicle_of (run twice_conduct (opening twice_conduct twice) (twice_round ++ (twice_round ++ twice_round)))) ≡ whole (
-    codes "chronicle 3"
-    ∷ codes "signed generals 4 bound 2 commander 0 order 1 patience 1"
-    ∷ codes "round 1"
-    ∷ codes "letter 0 steps 1"
-    ∷ codes "chain 7 0 to 3"
-    ∷ codes "letter 1 loyal"
-    ∷ codes "letter 2 loyal"
-    ∷ codes "letter 3 steps 1"
-    ∷ codes "round 2"
-    ∷ codes "letter 0 steps 1"
-    ∷ codes "letter 1 loyal"
-    ∷ codes "letter 2 loyal"
-    ∷ codes "letter 3 steps 1"
-    ∷ codes "chain 7 0.3 to -"
-    ∷ codes "round 3"
-    ∷ codes "letter 0 steps 1"
-    ∷ codes "letter 1 loyal"
-    ∷ codes "letter 2 loyal"
-    ∷ codes "letter 3 steps 1"
-    ∷ codes "decision 1 0"
-    ∷ codes "decision 2 0"
-    ∷ codes "decision 3 traitor 7"
-    ∷ codes "verdict alike yes obeyed - bound yes"
-    ∷ [])
-unfolding signed_text signed_lines decisions held accepted loyal_chains digits
-twice_text = refl
+twice_told : told (chronicle_of (run twice_conduct (opening twice_conduct twice) (twice_round ++ (twice_round ++ twice_round)))) ≡ (
+  (
+      (0, (Some 1, (7, (0 ∷ [], 3 ∷ [])) ∷ []))
+      ∷ (1, (None, []))
+      ∷ (2, (None, []))
+      ∷ (3, (Some 1, []))
+      ∷ [])
+      ∷ (
+      (0, (Some 1, []))
+      ∷ (1, (None, []))
+      ∷ (2, (None, []))
+      ∷ (3, (Some 1, (7, (0 ∷ 3 ∷ [], [])) ∷ []))
+      ∷ [])
+      ∷ (
+      (0, (Some 1, []))
+      ∷ (1, (None, []))
+      ∷ (2, (None, []))
+      ∷ (3, (Some 1, []))
+      ∷ [])
+      ∷ [],
+  (0 ∷ 0 ∷ 7 ∷ [], record { alike = true; obeyed = None; bound = true }),
+)
+unfolding decisions held accepted loyal_chains
+twice_told = refl
 
 -- whoever has not posted is absent, and a post after the close is refused
 absent : delivered (run passer (opening passer passing) (Tick 2 ∷ Close ∷ [])).closed 1 0 1 ≡ []

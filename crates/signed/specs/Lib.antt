@@ -8,10 +8,11 @@ pub mod Campaign
 pub mod World
 pub mod Laws
 pub mod Chronicle
-pub mod Text
 pub mod Signers
+pub mod Loyal
+pub mod Sent
+pub mod Kind
 pub mod Verdicts
 pub mod Programs
 pub mod Lists
-pub mod Told
 pub mod Plays

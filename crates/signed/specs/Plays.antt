@@ -16,7 +16,6 @@ use Rattle.signed.specs.World.{Letter, Acting, Event, Tick, happen, sent_in, let
 use Rattle.signed.specs.Chronicle.{chronicle_of}
 use Rattle.signed.specs.Programs.{SignedScenario, IsSignedScenario, RunWorld, shape_in, conduct_of, after, played}
 use Rattle.signed.specs.Lists.{AreMoves, IsRipe, IsComplete, listed, replayed}
-use Rattle.signed.specs.Told.{text_of}
 
 -- the activation is that of a traitor in the round behind these, which is one of the campaign: what he runs, what he is told, whom he relays to, and his patience
 pub record IsPlaced (s : SignedScenario) (w : RunWorld) (g : ℕ) (a : Activation) : Type 0 where
@@ -71,14 +70,12 @@ SignedLedgersDecide = (s : SignedScenario) (before events others : List Event) �
 abbrev pub replay_of : SignedScenario → List Access → RunWorld
 replay_of s ledger = played s (replayed s (names_in 1 ledger (suc s.campaign.bound)))
 
--- a complete run is the replay of its own accesses, and so its chronicle and the text of it are those of the replay;
+-- a complete run is the replay of its own accesses, and so its chronicle is that of the replay;
 -- its ledger is legal from the board's opening words on, and has accesses of the campaign's traitors alone
 pub record SignedRunsAreReplays : Type 0 where
   pub worlds : (s : SignedScenario) (events : List Event) → IsSignedScenario s → IsComplete s events → replay_of s (played s events).board.ledger ≡ played s events
   pub chronicles : (s : SignedScenario) (events : List Event) → IsSignedScenario s → IsComplete s events →
       chronicle_of (played s events) ≡ chronicle_of (replay_of s (played s events).board.ledger)
-  pub texts : (s : SignedScenario) (events : List Event) → IsSignedScenario s → IsComplete s events →
-      text_of (played s events) ≡ text_of (replay_of s (played s events).board.ledger)
   pub legal : (s : SignedScenario) (events : List Event) → IsSignedScenario s → IsLegal s.board (played s events).board.ledger
   pub traitors : (s : SignedScenario) (events : List Event) → IsSignedScenario s →
       All (λ a. (a.general < s.campaign.generals) × (is_traitor s.campaign a.general ≡ true)) (played s events).board.ledger

@@ -78,7 +78,7 @@ pub fn signed_ledgers_decide()
     ensures { SignedLedgersDecide }
 {}
 
-/// A complete run is the replay of its own accesses, and so is its text; they are legal and traitors' alone.
+/// A complete run is the replay of its own accesses; they are legal and traitors' alone.
 pub fn signed_runs_are_replays()
     ensures { SignedRunsAreReplays }
 {}

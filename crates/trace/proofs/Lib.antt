@@ -27,3 +27,5 @@ mod SevenGenerals
 mod CutOff
 mod Medians
 mod ScheduleTexts
+mod SignedRows
+mod SignedProgramRows

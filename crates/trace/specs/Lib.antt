@@ -9,3 +9,6 @@ pub mod Schedules
 pub mod Sinks
 pub mod Lines
 pub mod Telling
+pub mod SignedText
+pub mod SignedTold
+pub mod SignedLaws

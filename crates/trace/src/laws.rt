@@ -1,5 +1,6 @@
 //! Laws of a chronicle's text: each function does nothing, and its contract is the law.
 ghost use Rattle.trace.specs.Laws.{NamesAreTold, SoundTextsAreRuns};
+ghost use Rattle.trace.specs.SignedLaws.{SignedTextsAreReplays};
 
 /// The names that a chronicle's text tells are those of its accesses, round by round.
 pub fn names_are_told()
@@ -9,4 +10,9 @@ pub fn names_are_told()
 /// The texts that an audit finds sound, by a replay of the accesses that they tell, are exactly the texts of complete runs.
 pub fn sound_texts_are_runs()
     ensures { SoundTextsAreRuns }
+{}
+
+/// The text of a complete run of a signed campaign is that of the replay of its own accesses.
+pub fn signed_texts_are_replays()
+    ensures { SignedTextsAreReplays }
 {}

@@ -23,7 +23,7 @@ mod writing;
 pub use auditing::check;
 pub use chronicling::{write_chronicle, write_verdict};
 pub use fault::{Fault, TraceError};
-pub use laws::{names_are_told, sound_texts_are_runs};
+pub use laws::{names_are_told, signed_texts_are_replays, sound_texts_are_runs};
 pub use scheduling::{MOST_SCHEDULE_BYTES, read_schedule};
 pub use sink::{Latch, Sink};
 pub use version::{Version, version_by};

@@ -9,8 +9,8 @@ use Rattle.insn.specs.declared.insn.Insn.{Insn}
 use Rattle.board.specs.Board.{Access}
 use Rattle.round.specs.Scenario.{Scenario, program_of}
 use Rattle.round.specs.Letters.{Letter}
-use Rattle.world.specs.World.{each}
-use Rattle.world.specs.Accounted.{IsLetterOf, AreAccounted, letter_by, letters_by, rounds_of, IsAccounted}
+use Rattle.world.specs.Kind.{Kind, each}
+use Rattle.world.specs.KindAccounted.{IsLetterOf, AreAccounted, letter_by, letters_by, rounds_of, IsAccounted}
 use Rattle.world.proofs.Accounting.{accounted_count}
 use Rattle.round.proofs.Lists.{some_at}
 
@@ -95,23 +95,24 @@ row_from t k (x ∷ row) h = (
   row_from t (suc k) row (λ i l at. (let e = (h (suc i) l at).0 in omega arith, (h (suc i) l at).1)),
 )
 
-whose : (s : Scenario) (before : List (List Letter)) (g : ℕ) (o : Option (List Insn)) (l : Letter) → IsLetterOf s before g o l → (l.general ≡ g) × (l.round ≡ suc (length before))
-whose s before g None l e = (ap (λ (x : Letter). x.general) e, ap (λ (x : Letter). x.round) e)
-whose s before g (Some p) l h = (ap (λ (x : Letter). x.general) h.2, ap (λ (x : Letter). x.round) h.2)
+module _ (K : Kind) where
+  whose : (s : Scenario) (before : List (List Letter)) (g : ℕ) (o : Option (List Insn)) (l : Letter) → IsLetterOf K s before g o l → (l.general ≡ g) × (l.round ≡ suc (length before))
+  whose s before g None l e = (ap (λ (x : Letter). x.general) e, ap (λ (x : Letter). x.round) e)
+  whose s before g (Some p) l h = (ap (λ (x : Letter). x.general) h.2, ap (λ (x : Letter). x.round) h.2)
 
-grid_from : (s : Scenario) (rounds before : List (List Letter)) (ledger : List Access) → AreAccounted s before ledger rounds → IsGridFrom s.generals (suc (length before)) rounds
-grid_from s [] before ledger h = tt
-grid_from s (row ∷ rounds) before ledger h = (
-  (h.0.count, row_from (suc (length before)) 0 row (λ i l at. let w = whose s before i (program_of s i) l (h.0.each i l at).0 in (let e = w.0 in omega arith, w.1))),
-  (let A : ℕ → Type 0 = λ t. IsGridFrom s.generals (suc t) rounds in
-      subst A (let l = length-append before (row ∷ []) in let e : length (before ++ row ∷ []) ≡ suc (length before) = omega arith in e)
-      (grid_from s rounds (before ++ row ∷ []) (drop (sum_by (λ l. length l.transcript) row) ledger) h.1)),
-)
+  grid_from : (s : Scenario) (rounds before : List (List Letter)) (ledger : List Access) → AreAccounted K s before ledger rounds → IsGridFrom s.generals (suc (length before)) rounds
+  grid_from s [] before ledger h = tt
+  grid_from s (row ∷ rounds) before ledger h = (
+    (h.0.count, row_from (suc (length before)) 0 row (λ i l at. let w = whose s before i (program_of s i) l (h.0.each i l at).0 in (let e = w.0 in omega arith, w.1))),
+    (let A : ℕ → Type 0 = λ t. IsGridFrom s.generals (suc t) rounds in
+        subst A (let l = length-append before (row ∷ []) in let e : length (before ++ row ∷ []) ≡ suc (length before) = omega arith in e)
+        (grid_from s rounds (before ++ row ∷ []) (drop (sum_by (λ l. length l.transcript) row) ledger) h.1)),
+  )
 
-pub all_accounted : (s : Scenario) (ledger : List Access) (rounds : List (List Letter)) → AreAccounted s [] ledger rounds → IsAccounted s ledger (all rounds)
-all_accounted s ledger rounds h =
-    let grid : IsGridFrom s.generals 1 rounds = grid_from s rounds [] ledger h in
-    let count : length rounds ≡ suc s.bound = (let c = accounted_count s rounds [] ledger h in omega arith) in
-    let same : rounds_of s (all rounds) ≡ rounds =
-    each_front rounds (λ r. letters_by s.generals (suc r) (all rounds) ∷ []) (λ r row at. ap (λ x. x ∷ []) (row_is s.generals r rounds row grid at)) (suc s.bound) (omega arith) ∙ take_all (suc s.bound) rounds (omega arith) in
-    (grid_count s.generals 1 rounds grid ∙ ap (λ n. n * s.generals) count, (let A : List (List Letter) → Type 0 = λ r. AreAccounted s [] ledger r in subst A (sym same) h))
+  pub all_accounted : (s : Scenario) (ledger : List Access) (rounds : List (List Letter)) → AreAccounted K s [] ledger rounds → IsAccounted K s ledger (all rounds)
+  all_accounted s ledger rounds h =
+      let grid : IsGridFrom s.generals 1 rounds = grid_from s rounds [] ledger h in
+      let count : length rounds ≡ suc s.bound = (let c = accounted_count K s rounds [] ledger h in omega arith) in
+      let same : rounds_of s (all rounds) ≡ rounds =
+      each_front rounds (λ r. letters_by s.generals (suc r) (all rounds) ∷ []) (λ r row at. ap (λ x. x ∷ []) (row_is s.generals r rounds row grid at)) (suc s.bound) (omega arith) ∙ take_all (suc s.bound) rounds (omega arith) in
+      (grid_count s.generals 1 rounds grid ∙ ap (λ n. n * s.generals) count, (let A : List (List Letter) → Type 0 = λ r. AreAccounted K s [] ledger r in subst A (sym same) h))

@@ -12,8 +12,8 @@ use Rattle.world.specs.declared.event.Event.TheVariants.{Tick, Post, Close}
 use Rattle.round.specs.Scenario.{Scenario, program_of}
 use Rattle.round.specs.Activation.{Activation, Turn, Goes, Asks, Ended, turn, has_ended}
 use Rattle.world.specs.Part.{Part, Acting, Silent, Posted, owes_no_letter}
-use Rattle.world.specs.World.{World, happen, run, each, ticked, served, posting}
-use Rattle.world.specs.Lists.{Throughout, AtClose, OwesNoLetter, HasEnded, post_of, ticks_of, IsMove, AreMoves, IsRipe}
+use Rattle.world.specs.Kind.{Kind, World, happen, run, each, ticked, served, posting}
+use Rattle.world.specs.KindLists.{Throughout, AtClose, OwesNoLetter, HasEnded, post_of, ticks_of, IsMove, AreMoves, IsRipe}
 use Rattle.world.proofs.Kept.{Fits, IsKept}
 use Rattle.world.proofs.Listing.{set-here}
 use Rattle.world.proofs.Moves.{moves-append, moves_same, moves_board, run-append, AllParts, IsLasting, moves_keep}
@@ -21,18 +21,10 @@ use Rattle.round.proofs.Going.{turn_within, IsGoing, TurnsTo, turn_safe, going_z
 use Rattle.world.proofs.Rounds.{run_kept}
 use Rattle.world.proofs.Due.{IsDue, Due, due_lasts}
 
-pub throughout-append : (Q : World → Event → Type 0) (es fs : List Event) (w : World) → Throughout Q w es → Throughout Q (run w es) fs → Throughout Q w (es ++ fs)
-throughout-append Q [] fs w a b = b
-throughout-append Q (e ∷ es) fs w a b = (a.0, throughout-append Q es fs (happen w e) a.1 b)
-
 move_at : (Q : Part → Type 0) (w : World) (e : Event) → IsMove e → AtClose Q w e
 move_at Q w (Tick g) i = tt
 move_at Q w (Post g) i = tt
 move_at Q w Close i = absurd i
-
-pub moves_throughout : (Q : Part → Type 0) (es : List Event) (w : World) → AreMoves es → Throughout (AtClose Q) w es
-moves_throughout Q [] w i = tt
-moves_throughout Q (e ∷ es) w i = (move_at Q w e i.0, moves_throughout Q es (happen w e) i.1)
 
 -- it is over after at most so many turns
 unfoldable pub Within : ℕ → Activation → Type 0
@@ -71,30 +63,6 @@ ended_lasts n = record {
 posted_lasts : (n : ℕ) → IsLasting (λ g part. g < n → OwesNoLetter part)
 posted_lasts n = record { goes = λ g a b h e lt. refl; asks = λ g a q f r h e fit lt. refl; posts = λ g h lt. refl }
 
--- ticks bring an activation to its end
-Arrives : ℕ → World → ℕ → Type 0
-Arrives k v g = (b : Activation) × (slice_get (run v (replicate k (Tick g))).parts g ≡ Some (Acting b)) × (has_ended b ≡ true)
-
-tick_end : (k : ℕ) (w : World) (g : ℕ) (a : Activation) → slice_get w.parts g ≡ Some (Acting a) → IsBoard w.words
-    → ((v : World) (b : Activation) → slice_get v.parts g ≡ Some (Acting b) → IsBoard v.words → Within k b → Arrives k v g)
-    → (o : Turn) → turn a ≡ o → WithinAfter k o → Arrives k (served w g o) g
-tick_end k w g a at board again (Goes b) e h = again (served w g (Goes b)) b (set-here w.parts g (Acting b) (Acting a) at) board h
-tick_end k w g a at board again (Asks q f) e h =
-    let within = turn_within a q f e in
-    again (served w g (Asks q f)) (f (reply w.words q)) (set-here w.parts g (Acting (f (reply w.words q))) (Acting a) at) (next_board w.words q board within) (h (reply w.words q) (reply_fits w.words q board within))
-tick_end k w g a at board again Ended e h = again w a at board (over_within k a (ended_over a e))
-
-ticks_end : (k : ℕ) (w : World) (g : ℕ) (a : Activation) → slice_get w.parts g ≡ Some (Acting a) → IsBoard w.words → Within k a → Arrives k w g
-unfolding Arrives Within
-ticks_end zero w g a at board h = (a, at, by h.0 h.1 h.2)
-  where
-    by : (n : ℕ) → n ≤ 0 → IsGoing n a → has_ended a ≡ true
-    by zero le going = going_zero a going
-    by (suc n) le going = absurd (omega arith)
-ticks_end (suc k) w g a at board h =
-    let A : Option Part → Type 0 = λ o. Arrives k (ticked w g o) g in
-    subst A (sym at) (tick_end k w g a at board (λ v b. ticks_end k v g b) (turn a) refl (turn_left k a h))
-
 pub ticks_are_moves : (k g : ℕ) → AreMoves (replicate k (Tick g))
 ticks_are_moves zero g = tt
 ticks_are_moves (suc k) g = (tt, ticks_are_moves k g)
@@ -131,28 +99,6 @@ fits_lasts s = record { goes = λ g a b q e. fits_go' (program_of s g) a b q; as
     fits_post' None f = tt
     fits_post' (Some p) f = absurd f
 
--- a property that each general's own events bring about, and that lasts
-brought : (Q : Part → Type 0) (s : Scenario) (f : ℕ → List Event) → ((n : ℕ) → IsLasting (λ g part. g < n → Q part)) → ((g : ℕ) → AreMoves (f g))
-    → ((g : ℕ) (w : World) (part : Part) → IsBoard w.words → Due s g part → Fits (program_of s g) part → slice_get w.parts g ≡ Some part → (part' : Part) → slice_get (run w (f g)).parts g ≡ Some part' → Q part')
-    → (n : ℕ) (w : World) → IsBoard w.words → AllParts (Due s) w.parts → AllParts (FitsIn s) w.parts
-    → AllParts (λ g part. g < n → Q part) (run w (each n f)).parts
-unfolding FitsIn
-brought Q s f lasts moves brings zero w board due fits g part e lt = absurd (omega arith)
-brought Q s f lasts moves brings (suc n) w board due fits g part e lt =
-    let first = each n f in
-    let w' = run w first in
-    let before = each_moves n f moves in
-    let e' : slice_get (run w' (f n)).parts g ≡ Some part = ap (λ v. slice_get v.parts g) (sym (run-append first (f n) w)) ∙ e in
-    ⊎_elim
-    (λ (x : (g == n ≡ true) × (g ≡ n)).
-    let there : slice_get (run w' (f n)).parts n ≡ Some part = (let A : ℕ → Type 0 = λ j. slice_get (run w' (f n)).parts j ≡ Some part in subst A x.1 e') in
-    let same = moves_same (f n) w' (moves n) in
-    let old = part_within w'.parts n (let l = slice_get_within (run w' (f n)).parts n part there in let c = same.count in omega arith) in
-    brings n w' old.0 (moves_board first w before board) (moves_keep (Due s) (due_lasts s) first w before board due n old.0 old.1) (moves_keep (FitsIn s) (fits_lasts s) first w before board fits n old.0 old.1) old.1 part there)
-    (λ (x : (g == n ≡ false) × (g ≢ n)).
-    moves_keep (λ g part. g < n → Q part) (lasts n) (f n) w' (moves n) (moves_board first w before board) (brought Q s f lasts moves brings n w board due fits) g part e' (let ne = x.1 in omega arith))
-    (eqb_tells g n)
-
 -- all post, then all end
 unfoldable pub posts : Scenario → List Event
 posts s = each s.generals (λ g. post_of g (program_of s g))
@@ -160,37 +106,11 @@ posts s = each s.generals (λ g. post_of g (program_of s g))
 unfoldable pub ends : Scenario → List Event
 ends s = each s.generals (λ g. ticks_of g (program_of s g))
 
-post_brings : (s : Scenario) (g : ℕ) (w : World) (part : Part) → (o : Option (List Insn)) → Fits o part → slice_get w.parts g ≡ Some part → (part' : Part) → slice_get (run w (post_of g o)).parts g ≡ Some part' → OwesNoLetter part'
-post_brings s g w (Acting a) None fits at part' e = absurd fits
-post_brings s g w Silent None fits at part' e =
-    let A : Option Part → Type 0 = λ o. slice_get (posting w g o).parts g ≡ Some part' in
-    let f : slice_get (slice_set w.parts g Posted) g ≡ Some part' = subst A at e in
-    let h : Some Posted ≡ Some part' = sym (set-here w.parts g Posted Silent at) ∙ f in
-    let i : Posted ≡ part' = cc in ap owes_no_letter (sym i)
-post_brings s g w Posted None fits at part' e =
-    let A : Option Part → Type 0 = λ o. slice_get (posting w g o).parts g ≡ Some part' in
-    let f : slice_get w.parts g ≡ Some part' = subst A at e in
-    let i : Posted ≡ part' = (let h = sym at ∙ f in cc) in ap owes_no_letter (sym i)
-post_brings s g w (Acting a) (Some p) fits at part' e = let i : Acting a ≡ part' = (let h = sym at ∙ e in cc) in ap owes_no_letter (sym i)
-post_brings s g w Silent (Some p) fits at part' e = absurd fits
-post_brings s g w Posted (Some p) fits at part' e = absurd fits
-
 pub due_within : (s : Scenario) (g : ℕ) (p : List Insn) (a : Activation) → program_of s g ≡ Some p → IsDue s g a → Within (length p) a
 unfolding Within
 due_within s g p a is d =
     let same : a.program ≡ p = (let e = sym d.program ∙ is in cc) in
     (d.left, (let e = ap length same in let w = d.within in omega arith), d.going)
-
-tick_brings : (s : Scenario) (g : ℕ) (w : World) (part : Part) → (o : Option (List Insn)) → program_of s g ≡ o → IsBoard w.words → Due s g part → Fits o part → slice_get w.parts g ≡ Some part → (part' : Part) → slice_get (run w (ticks_of g o)).parts g ≡ Some part' → HasEnded part'
-unfolding Arrives
-tick_brings s g w (Acting a) None is board due fits at part' e = absurd fits
-tick_brings s g w Silent None is board due fits at part' e = let i : Silent ≡ part' = (let h = sym at ∙ e in cc) in (let A : Part → Type 0 = λ p. HasEnded p in subst A i tt)
-tick_brings s g w Posted None is board due fits at part' e = let i : Posted ≡ part' = (let h = sym at ∙ e in cc) in (let A : Part → Type 0 = λ p. HasEnded p in subst A i tt)
-tick_brings s g w (Acting a) (Some p) is board due fits at part' e =
-    let c = ticks_end (length p) w g a at board (due_within s g p a is due) in
-    let i : Acting c.0 ≡ part' = (let h = sym c.1 ∙ e in cc) in (let A : Part → Type 0 = λ p. HasEnded p in subst A i c.2)
-tick_brings s g w Silent (Some p) is board due fits at part' e = absurd fits
-tick_brings s g w Posted (Some p) is board due fits at part' e = absurd fits
 
 pub posts_moves : (s : Scenario) → AreMoves (posts s)
 unfolding posts
@@ -200,19 +120,100 @@ pub ends_moves : (s : Scenario) → AreMoves (ends s)
 unfolding ends
 ends_moves s = each_moves s.generals (λ g. ticks_of g (program_of s g)) (λ g. ticks_of_moves g (program_of s g))
 
--- behind all posts and ticks the world is ripe
-pub ripens : (s : Scenario) (w : World) → w.scenario ≡ s → IsKept w → AllParts (Due s) w.parts → IsRipe (run (run w (posts s)) (ends s))
-unfolding posts ends FitsIn
-ripens s w is k due =
-    let fits : AllParts (FitsIn s) w.parts = (let A : Scenario → Type 0 = λ t. AllParts (FitsIn t) w.parts in subst A is (λ g part e. (k.parts g part e).1)) in
-    let w1 = run w (posts s) in
-    let k1 = run_kept (posts s) w k in
-    let k2 = run_kept (ends s) w1 k1 in
-    let same1 = moves_same (posts s) w (posts_moves s) in
-    let same2 = moves_same (ends s) w1 (ends_moves s) in
-    let below : (g : ℕ) (part : Part) → slice_get (run w1 (ends s)).parts g ≡ Some part → g < s.generals = (λ g part e. (let A : Scenario → Type 0 = λ t. g < t.generals in subst A (same2.scenario ∙ same1.scenario ∙ is) (k2.parts g part e).0)) in
-    let p1 = brought OwesNoLetter s (λ g. post_of g (program_of s g)) posted_lasts (λ g. post_of_moves g (program_of s g)) (λ g v part board d f at part' e. post_brings s g v part (program_of s g) f at part' e) s.generals w k.board due fits in
-    let p2 = moves_keep (λ g part. g < s.generals → OwesNoLetter part) (posted_lasts s.generals) (ends s) w1 (ends_moves s) k1.board p1 in
-    let e2 = brought HasEnded s (λ g. ticks_of g (program_of s g)) ended_lasts (λ g. ticks_of_moves g (program_of s g)) (λ g v part board d f at part' e. tick_brings s g v part (program_of s g) refl board d f at part' e) s.generals w1 k1.board
-    (moves_keep (Due s) (due_lasts s) (posts s) w (posts_moves s) k.board due) (moves_keep (FitsIn s) (fits_lasts s) (posts s) w (posts_moves s) k.board fits) in
-    record { posted_all = λ g part e. p2 g part e (below g part e); ended_all = λ g part e. e2 g part e (below g part e) }
+module _ (K : Kind) where
+  pub throughout-append : (Q : World → Event → Type 0) (es fs : List Event) (w : World) → Throughout K Q w es → Throughout K Q (run K w es) fs → Throughout K Q w (es ++ fs)
+  throughout-append Q [] fs w a b = b
+  throughout-append Q (e ∷ es) fs w a b = (a.0, throughout-append Q es fs (happen K w e) a.1 b)
+
+  pub moves_throughout : (Q : Part → Type 0) (es : List Event) (w : World) → AreMoves es → Throughout K (AtClose Q) w es
+  moves_throughout Q [] w i = tt
+  moves_throughout Q (e ∷ es) w i = (move_at Q w e i.0, moves_throughout Q es (happen K w e) i.1)
+
+  -- ticks bring an activation to its end
+  Arrives : ℕ → World → ℕ → Type 0
+  Arrives k v g = (b : Activation) × (slice_get (run K v (replicate k (Tick g))).parts g ≡ Some (Acting b)) × (has_ended b ≡ true)
+
+  tick_end : (k : ℕ) (w : World) (g : ℕ) (a : Activation) → slice_get w.parts g ≡ Some (Acting a) → IsBoard w.words
+      → ((v : World) (b : Activation) → slice_get v.parts g ≡ Some (Acting b) → IsBoard v.words → Within k b → Arrives k v g)
+      → (o : Turn) → turn a ≡ o → WithinAfter k o → Arrives k (served w g o) g
+  tick_end k w g a at board again (Goes b) e h = again (served w g (Goes b)) b (set-here w.parts g (Acting b) (Acting a) at) board h
+  tick_end k w g a at board again (Asks q f) e h =
+      let within = turn_within a q f e in
+      again (served w g (Asks q f)) (f (reply w.words q)) (set-here w.parts g (Acting (f (reply w.words q))) (Acting a) at) (next_board w.words q board within) (h (reply w.words q) (reply_fits w.words q board within))
+  tick_end k w g a at board again Ended e h = again w a at board (over_within k a (ended_over a e))
+
+  ticks_end : (k : ℕ) (w : World) (g : ℕ) (a : Activation) → slice_get w.parts g ≡ Some (Acting a) → IsBoard w.words → Within k a → Arrives k w g
+  unfolding Arrives Within
+  ticks_end zero w g a at board h = (a, at, by h.0 h.1 h.2)
+    where
+      by : (n : ℕ) → n ≤ 0 → IsGoing n a → has_ended a ≡ true
+      by zero le going = going_zero a going
+      by (suc n) le going = absurd (omega arith)
+  ticks_end (suc k) w g a at board h =
+      let A : Option Part → Type 0 = λ o. Arrives k (ticked w g o) g in
+      subst A (sym at) (tick_end k w g a at board (λ v b. ticks_end k v g b) (turn a) refl (turn_left k a h))
+
+  -- a property that each general's own events bring about, and that lasts
+  brought : (Q : Part → Type 0) (s : Scenario) (f : ℕ → List Event) → ((n : ℕ) → IsLasting (λ g part. g < n → Q part)) → ((g : ℕ) → AreMoves (f g))
+      → ((g : ℕ) (w : World) (part : Part) → IsBoard w.words → Due s g part → Fits (program_of s g) part → slice_get w.parts g ≡ Some part → (part' : Part) → slice_get (run K w (f g)).parts g ≡ Some part' → Q part')
+      → (n : ℕ) (w : World) → IsBoard w.words → AllParts (Due s) w.parts → AllParts (FitsIn s) w.parts
+      → AllParts (λ g part. g < n → Q part) (run K w (each n f)).parts
+  unfolding FitsIn
+  brought Q s f lasts moves brings zero w board due fits g part e lt = absurd (omega arith)
+  brought Q s f lasts moves brings (suc n) w board due fits g part e lt =
+      let first = each n f in
+      let w' = run K w first in
+      let before = each_moves n f moves in
+      let e' : slice_get (run K w' (f n)).parts g ≡ Some part = ap (λ v. slice_get v.parts g) (sym (run-append K first (f n) w)) ∙ e in
+      ⊎_elim
+      (λ (x : (g == n ≡ true) × (g ≡ n)).
+      let there : slice_get (run K w' (f n)).parts n ≡ Some part = (let A : ℕ → Type 0 = λ j. slice_get (run K w' (f n)).parts j ≡ Some part in subst A x.1 e') in
+      let same = moves_same K (f n) w' (moves n) in
+      let old = part_within w'.parts n (let l = slice_get_within (run K w' (f n)).parts n part there in let c = same.count in omega arith) in
+      brings n w' old.0 (moves_board K first w before board) (moves_keep K (Due s) (due_lasts s) first w before board due n old.0 old.1) (moves_keep K (FitsIn s) (fits_lasts s) first w before board fits n old.0 old.1) old.1 part there)
+      (λ (x : (g == n ≡ false) × (g ≢ n)).
+      moves_keep K (λ g part. g < n → Q part) (lasts n) (f n) w' (moves n) (moves_board K first w before board) (brought Q s f lasts moves brings n w board due fits) g part e' (let ne = x.1 in omega arith))
+      (eqb_tells g n)
+
+  post_brings : (s : Scenario) (g : ℕ) (w : World) (part : Part) → (o : Option (List Insn)) → Fits o part → slice_get w.parts g ≡ Some part → (part' : Part) → slice_get (run K w (post_of g o)).parts g ≡ Some part' → OwesNoLetter part'
+  post_brings s g w (Acting a) None fits at part' e = absurd fits
+  post_brings s g w Silent None fits at part' e =
+      let A : Option Part → Type 0 = λ o. slice_get (posting w g o).parts g ≡ Some part' in
+      let f : slice_get (slice_set w.parts g Posted) g ≡ Some part' = subst A at e in
+      let h : Some Posted ≡ Some part' = sym (set-here w.parts g Posted Silent at) ∙ f in
+      let i : Posted ≡ part' = cc in ap owes_no_letter (sym i)
+  post_brings s g w Posted None fits at part' e =
+      let A : Option Part → Type 0 = λ o. slice_get (posting w g o).parts g ≡ Some part' in
+      let f : slice_get w.parts g ≡ Some part' = subst A at e in
+      let i : Posted ≡ part' = (let h = sym at ∙ f in cc) in ap owes_no_letter (sym i)
+  post_brings s g w (Acting a) (Some p) fits at part' e = let i : Acting a ≡ part' = (let h = sym at ∙ e in cc) in ap owes_no_letter (sym i)
+  post_brings s g w Silent (Some p) fits at part' e = absurd fits
+  post_brings s g w Posted (Some p) fits at part' e = absurd fits
+
+  tick_brings : (s : Scenario) (g : ℕ) (w : World) (part : Part) → (o : Option (List Insn)) → program_of s g ≡ o → IsBoard w.words → Due s g part → Fits o part → slice_get w.parts g ≡ Some part → (part' : Part) → slice_get (run K w (ticks_of g o)).parts g ≡ Some part' → HasEnded part'
+  unfolding Arrives
+  tick_brings s g w (Acting a) None is board due fits at part' e = absurd fits
+  tick_brings s g w Silent None is board due fits at part' e = let i : Silent ≡ part' = (let h = sym at ∙ e in cc) in (let A : Part → Type 0 = λ p. HasEnded p in subst A i tt)
+  tick_brings s g w Posted None is board due fits at part' e = let i : Posted ≡ part' = (let h = sym at ∙ e in cc) in (let A : Part → Type 0 = λ p. HasEnded p in subst A i tt)
+  tick_brings s g w (Acting a) (Some p) is board due fits at part' e =
+      let c = ticks_end (length p) w g a at board (due_within s g p a is due) in
+      let i : Acting c.0 ≡ part' = (let h = sym c.1 ∙ e in cc) in (let A : Part → Type 0 = λ p. HasEnded p in subst A i c.2)
+  tick_brings s g w Silent (Some p) is board due fits at part' e = absurd fits
+  tick_brings s g w Posted (Some p) is board due fits at part' e = absurd fits
+
+  -- behind all posts and ticks the world is ripe
+  pub ripens : (s : Scenario) (w : World) → w.scenario ≡ s → IsKept K w → AllParts (Due s) w.parts → IsRipe (run K (run K w (posts s)) (ends s))
+  unfolding posts ends FitsIn
+  ripens s w is k due =
+      let fits : AllParts (FitsIn s) w.parts = (let A : Scenario → Type 0 = λ t. AllParts (FitsIn t) w.parts in subst A is (λ g part e. (k.parts g part e).1)) in
+      let w1 = run K w (posts s) in
+      let k1 = run_kept K (posts s) w k in
+      let k2 = run_kept K (ends s) w1 k1 in
+      let same1 = moves_same K (posts s) w (posts_moves s) in
+      let same2 = moves_same K (ends s) w1 (ends_moves s) in
+      let below : (g : ℕ) (part : Part) → slice_get (run K w1 (ends s)).parts g ≡ Some part → g < s.generals = (λ g part e. (let A : Scenario → Type 0 = λ t. g < t.generals in subst A (same2.scenario ∙ same1.scenario ∙ is) (k2.parts g part e).0)) in
+      let p1 = brought OwesNoLetter s (λ g. post_of g (program_of s g)) posted_lasts (λ g. post_of_moves g (program_of s g)) (λ g v part board d f at part' e. post_brings s g v part (program_of s g) f at part' e) s.generals w k.board due fits in
+      let p2 = moves_keep K (λ g part. g < s.generals → OwesNoLetter part) (posted_lasts s.generals) (ends s) w1 (ends_moves s) k1.board p1 in
+      let e2 = brought HasEnded s (λ g. ticks_of g (program_of s g)) ended_lasts (λ g. ticks_of_moves g (program_of s g)) (λ g v part board d f at part' e. tick_brings s g v part (program_of s g) refl board d f at part' e) s.generals w1 k1.board
+      (moves_keep K (Due s) (due_lasts s) (posts s) w (posts_moves s) k.board due) (moves_keep K (FitsIn s) (fits_lasts s) (posts s) w (posts_moves s) k.board fits) in
+      record { posted_all = λ g part e. p2 g part e (below g part e); ended_all = λ g part e. e2 g part e (below g part e) }

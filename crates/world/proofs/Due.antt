@@ -4,17 +4,15 @@ use Rattle.insn.specs.declared.insn.Insn.{Insn}
 use Rattle.semantics.specs.declared.request.Request.{Request}
 use Rattle.semantics.specs.Call.{fits}
 use Rattle.semantics.proofs.SafetyLaws.{safe_of_sound}
-use Rattle.semantics.specs.Relay.{oral}
-use Rattle.round.specs.Scenario.{Scenario, IsScenario, program_of, shape_of}
+use Rattle.round.specs.Scenario.{Scenario, program_of}
 use Rattle.round.specs.Letters.{Letter}
-use Rattle.round.specs.Contexts.{context_of}
 use Rattle.round.specs.Activation.{Activation, Turn, Goes, Asks, Ended, turn}
 use Rattle.world.specs.Part.{Part, Acting, Silent, Posted}
-use Rattle.world.specs.World.{begins, each}
+use Rattle.world.specs.Kind.{Kind, begins, each}
 use Rattle.world.proofs.Listing.{each-get_only}
 use Rattle.world.proofs.Moves.{AllParts, IsLasting}
-use Rattle.round.proofs.Contexts.{context_is, shape_is}
 use Rattle.round.proofs.Going.{IsGoing, IsAfter, TurnsTo, turn_safe, going_zero, over_ended}
+use Rattle.world.proofs.Campaigns.{IsCampaign}
 
 -- it runs its general's program, has some steps left at most, and is safe for these
 pub record IsDue (s : Scenario) (g : ℕ) (a : Activation) : Type 0 where
@@ -58,18 +56,19 @@ due_asks s g a q f r d e fit = by d.left d.within d.going
 pub due_lasts : (s : Scenario) → IsLasting (Due s)
 due_lasts s = record { goes = due_goes s; asks = due_asks s; posts = λ g h. tt }
 
-due_begins : (s : Scenario) (closed : List (List Letter)) (g : ℕ) → IsScenario s → g < s.generals → length closed ≤ s.bound → (o : Option (List Insn)) → program_of s g ≡ o → Due s g (begins s closed g o)
-due_begins s closed g is lt le None e = tt
-due_begins s closed g is lt le (Some p) e = record {
-  program = e;
-  left = length p;
-  within = omega arith;
-  going = λ on. safe_of_sound p (context_of s closed g) (oral (shape_of s g (suc (length closed)))) (is.sound g p e) (context_is s closed g) (shape_is s g (length closed) is lt le);
-}
+module _ (K : Kind) where
+  due_begins : (s : Scenario) (closed : List (List Letter)) (g : ℕ) → IsCampaign K s → g < s.generals → length closed ≤ s.bound → (o : Option (List Insn)) → program_of s g ≡ o → Due s g (begins K s closed g o)
+  due_begins s closed g is lt le None e = tt
+  due_begins s closed g is lt le (Some p) e = record {
+    program = e;
+    left = length p;
+    within = omega arith;
+    going = λ on. safe_of_sound p (K.context s closed g) (K.relay s closed g) (is.scenario.sound g p e) (is.context closed g lt le) (is.relay closed g lt le);
+  }
 
--- all activations of a round that begins are due
-pub due_parts : (s : Scenario) (closed : List (List Letter)) (b : Bool) → IsScenario s → (b ≡ true → length closed ≤ s.bound) → AllParts (Due s) (cond b (each s.generals (λ g. begins s closed g (program_of s g) ∷ [])) [])
-due_parts s closed true is le g part e =
-    let h = each-get_only s.generals (λ g. begins s closed g (program_of s g)) g part e in
-    (let A : Part → Type 0 = λ p. Due s g p in subst A (sym h.1) (due_begins s closed g is h.0 (le refl) (program_of s g) refl))
-due_parts s closed false is le g part e = cc
+  -- all activations of a round that begins are due
+  pub due_parts : (s : Scenario) (closed : List (List Letter)) (b : Bool) → IsCampaign K s → (b ≡ true → length closed ≤ s.bound) → AllParts (Due s) (cond b (each s.generals (λ g. begins K s closed g (program_of s g) ∷ [])) [])
+  due_parts s closed true is le g part e =
+      let h = each-get_only s.generals (λ g. begins K s closed g (program_of s g)) g part e in
+      (let A : Part → Type 0 = λ p. Due s g p in subst A (sym h.1) (due_begins s closed g is h.0 (le refl) (program_of s g) refl))
+  due_parts s closed false is le g part e = cc

@@ -11,9 +11,9 @@ use Rattle.round.specs.Scenario.{Scenario}
 use Rattle.round.specs.Letters.{Letter}
 use Rattle.round.specs.Activation.{Activation, Turn, Goes, Asks, Ended, turn, has_ended}
 use Rattle.world.specs.Part.{Part, Acting, Silent, Posted}
-use Rattle.world.specs.World.{World, accesses_of, served, ticked, posting, happen, run}
+use Rattle.world.specs.Kind.{Kind, World, accesses_of, served, ticked, posting, happen, run}
 use Rattle.round.specs.Runs.{Onward, Runs}
-use Rattle.world.specs.Lists.{ticks_named, names_events, IsMove, AreMoves}
+use Rattle.world.specs.KindLists.{ticks_named, names_events, IsMove, AreMoves}
 use Rattle.world.proofs.Moves.{moves_same, moves_board, move_board, moves_keep, move_keeps, run-append, AllParts, IsLasting}
 use Rattle.round.proofs.Going.{over_ended}
 use Rattle.world.proofs.Due.{Due, due_lasts}
@@ -46,125 +46,126 @@ of_first g x piece e = rw (eq-eqb x.general g e) refl
 pub of_next : (g : ℕ) (x : Access) (piece : List Access) → x.general ≢ g → accesses_of g (x ∷ piece) ≡ accesses_of g piece
 of_next g x piece ne = rw (ne_eqb x.general g ne) refl
 
-module _ (E : ℕ → Activation → Type 0) where
-  -- served by its part of the piece, an activation comes to an end that is E's
-  pub record Way (piece : List Access) (h : ℕ) (a : Activation) : Type 0 where
-    pub k : ℕ
-    pub end : Activation
-    pub runs : Runs k a (accesses_of h piece) end
-    pub over : has_ended end ≡ true
-    pub is : E h end
+module _ (K : Kind) where
+  module _ (E : ℕ → Activation → Type 0) where
+    -- served by its part of the piece, an activation comes to an end that is E's
+    pub record Way (piece : List Access) (h : ℕ) (a : Activation) : Type 0 where
+      pub k : ℕ
+      pub end : Activation
+      pub runs : Runs k a (accesses_of h piece) end
+      pub over : has_ended end ≡ true
+      pub is : E h end
 
-  abbrev pub Ways : List Access → ℕ → Part → Type 0
-  Ways piece h (Acting a) = Way piece h a
-  Ways piece h Silent = Unit {0}
-  Ways piece h Posted = Unit {0}
+    abbrev pub Ways : List Access → ℕ → Part → Type 0
+    Ways piece h (Acting a) = Way piece h a
+    Ways piece h Silent = Unit {0}
+    Ways piece h Posted = Unit {0}
 
-  way_other : (x : Access) (piece : List Access) (h : ℕ) (part : Part) → x.general ≢ h → Ways (x ∷ piece) h part → Ways piece h part
-  way_other x piece h (Acting a) ne w = record { k = w.k; end = w.end; runs = (let A : List Access → Type 0 = λ t. Runs w.k a t w.end in subst A (of_next h x piece ne) w.runs); over = w.over; is = w.is }
-  way_other x piece h Silent ne w = tt
-  way_other x piece h Posted ne w = tt
+    way_other : (x : Access) (piece : List Access) (h : ℕ) (part : Part) → x.general ≢ h → Ways (x ∷ piece) h part → Ways piece h part
+    way_other x piece h (Acting a) ne w = record { k = w.k; end = w.end; runs = (let A : List Access → Type 0 = λ t. Runs w.k a t w.end in subst A (of_next h x piece ne) w.runs); over = w.over; is = w.is }
+    way_other x piece h Silent ne w = tt
+    way_other x piece h Posted ne w = tt
 
-  pub record Followed (w : World) (piece : List Access) (v : World) : Type 0 where
-    pub ledger : v.ledger ≡ w.ledger ++ piece
-    pub words : v.words ≡ words_after w.words piece
-    pub ways : AllParts (Ways []) v.parts
+    pub record Followed (w : World) (piece : List Access) (v : World) : Type 0 where
+      pub ledger : v.ledger ≡ w.ledger ++ piece
+      pub words : v.words ≡ words_after w.words piece
+      pub ways : AllParts (Ways []) v.parts
 
-  -- the named generals make the accesses of the piece
-  pub follow : (s : Scenario) (piece : List Access) (w : World) → IsBoard w.words → AllParts (Due s) w.parts → IsLegal w.words piece → AreOf (suc (length w.closed)) piece → Act w.parts piece
-      → AllParts (Ways piece) w.parts → Followed w piece (run w (names_events w (map (λ a. a.general) piece)))
-  follow s [] w board due legal in_round acts ways = record { ledger = sym (append-nil w.ledger); words = refl; ways = ways }
-  follow s (x ∷ piece) w board due legal in_round acts ways =
-      let g = x.general in
-      let a = acts.0.0 in
-      let at = acts.0.1 in
-      let way = ways g (Acting a) at in
-      let d = due g (Acting a) at in
-      let runs : Runs way.k a (x ∷ accesses_of g piece) way.end = (let A : List Access → Type 0 = λ t. Runs way.k a t way.end in subst A (of_first g x piece refl) way.runs) in
-      let ticks = ticks_named g (slice_get w.parts g) in
-      let c : Comes w (run w ticks) g x (accesses_of g piece) way.end =
-      (let A : Option Part → Type 0 = λ o. Comes w (run w (ticks_named g o)) g x (accesses_of g piece) way.end in
-      subst A (sym at) (reach (length a.program) way.k w g a x (accesses_of g piece) way.end at board refl in_round.0 legal.0 (due_within s g a.program a d.program d) runs)) in
-      let v = run w ticks in
-      let moves = named_moves g (slice_get w.parts g) in
-      let same = moves_same ticks w moves in
-      let ways' : AllParts (Ways piece) v.parts = (λ h part e. ⊎_elim
-      (λ (q : (h == g ≡ true) × (h ≡ g)).
-      let now : Some (Acting c.now) ≡ Some part = sym c.at ∙ (ap (slice_get v.parts) (sym q.1) ∙ e) in
-      let part_is : Acting c.now ≡ part = cc in
-      let A : ℕ → Part → Type 0 = λ j p. Ways piece j p in
-      subst (λ (j : ℕ). A j part) (sym q.1) (subst (λ (p : Part). A g p) part_is (record { k = c.k; end = way.end; runs = c.way; over = way.over; is = way.is })))
-      (λ (q : (h == g ≡ false) × (h ≢ g)). way_other x piece h part (λ s'. q.1 (sym s')) (ways h part (sym (c.others h q.1) ∙ e)))
-      (eqb_tells h g)) in
-      let r = follow s piece v (moves_board ticks w moves board) (moves_keep (Due s) (due_lasts s) ticks w moves board due)
-      (let A : List ℕ → Type 0 = λ ws. IsLegal ws piece in subst A (sym c.words) legal.1)
-      (let A : List (List Letter) → Type 0 = λ ls. AreOf (suc (length ls)) piece in subst A (sym same.closed) in_round.1)
-      (act_moved w.parts v.parts g c.now piece c.at c.others acts.1) ways' in
-      let there : run w (ticks ++ names_events v (map (λ b. b.general) piece)) ≡ run v (names_events v (map (λ b. b.general) piece)) = run-append ticks (names_events v (map (λ b. b.general) piece)) w in
-      let V = run v (names_events v (map (λ b. b.general) piece)) in
-      let here : Followed w (x ∷ piece) V = record {
-        ledger = r.ledger ∙ (ap (λ l. l ++ piece) c.ledger ∙ append_assoc w.ledger (x ∷ []) piece);
-        words = r.words ∙ ap (λ ws. words_after ws piece) c.words;
-        ways = r.ways;
-      } in
-      (let A : World → Type 0 = λ u. Followed w (x ∷ piece) u in subst A (sym there) here)
+    -- the named generals make the accesses of the piece
+    pub follow : (s : Scenario) (piece : List Access) (w : World) → IsBoard w.words → AllParts (Due s) w.parts → IsLegal w.words piece → AreOf (suc (length w.closed)) piece → Act w.parts piece
+        → AllParts (Ways piece) w.parts → Followed w piece (run K w (names_events K w (map (λ a. a.general) piece)))
+    follow s [] w board due legal in_round acts ways = record { ledger = sym (append-nil w.ledger); words = refl; ways = ways }
+    follow s (x ∷ piece) w board due legal in_round acts ways =
+        let g = x.general in
+        let a = acts.0.0 in
+        let at = acts.0.1 in
+        let way = ways g (Acting a) at in
+        let d = due g (Acting a) at in
+        let runs : Runs way.k a (x ∷ accesses_of g piece) way.end = (let A : List Access → Type 0 = λ t. Runs way.k a t way.end in subst A (of_first g x piece refl) way.runs) in
+        let ticks = ticks_named g (slice_get w.parts g) in
+        let c : Comes w (run K w ticks) g x (accesses_of g piece) way.end =
+        (let A : Option Part → Type 0 = λ o. Comes w (run K w (ticks_named g o)) g x (accesses_of g piece) way.end in
+        subst A (sym at) (reach K (length a.program) way.k w g a x (accesses_of g piece) way.end at board refl in_round.0 legal.0 (due_within s g a.program a d.program d) runs)) in
+        let v = run K w ticks in
+        let moves = named_moves g (slice_get w.parts g) in
+        let same = moves_same K ticks w moves in
+        let ways' : AllParts (Ways piece) v.parts = (λ h part e. ⊎_elim
+        (λ (q : (h == g ≡ true) × (h ≡ g)).
+        let now : Some (Acting c.now) ≡ Some part = sym c.at ∙ (ap (slice_get v.parts) (sym q.1) ∙ e) in
+        let part_is : Acting c.now ≡ part = cc in
+        let A : ℕ → Part → Type 0 = λ j p. Ways piece j p in
+        subst (λ (j : ℕ). A j part) (sym q.1) (subst (λ (p : Part). A g p) part_is (record { k = c.k; end = way.end; runs = c.way; over = way.over; is = way.is })))
+        (λ (q : (h == g ≡ false) × (h ≢ g)). way_other x piece h part (λ s'. q.1 (sym s')) (ways h part (sym (c.others h q.1) ∙ e)))
+        (eqb_tells h g)) in
+        let r = follow s piece v (moves_board K ticks w moves board) (moves_keep K (Due s) (due_lasts s) ticks w moves board due)
+        (let A : List ℕ → Type 0 = λ ws. IsLegal ws piece in subst A (sym c.words) legal.1)
+        (let A : List (List Letter) → Type 0 = λ ls. AreOf (suc (length ls)) piece in subst A (sym same.closed) in_round.1)
+        (act_moved w.parts v.parts g c.now piece c.at c.others acts.1) ways' in
+        let there : run K w (ticks ++ names_events K v (map (λ b. b.general) piece)) ≡ run K v (names_events K v (map (λ b. b.general) piece)) = run-append K ticks (names_events K v (map (λ b. b.general) piece)) w in
+        let V = run K v (names_events K v (map (λ b. b.general) piece)) in
+        let here : Followed w (x ∷ piece) V = record {
+          ledger = r.ledger ∙ (ap (λ l. l ++ piece) c.ledger ∙ append_assoc w.ledger (x ∷ []) piece);
+          words = r.words ∙ ap (λ ws. words_after ws piece) c.words;
+          ways = r.ways;
+        } in
+        (let A : World → Type 0 = λ u. Followed w (x ∷ piece) u in subst A (sym there) here)
 
-  -- who has no access left makes none
-  no_goes : (k : ℕ) (a b end : Activation) → has_ended end ≡ true → turn a ≡ Goes b → Runs k a [] end → (j : ℕ) × Runs j b [] end
-  no_goes zero a b end over e h = absurd (let f : Goes b ≡ Ended = sym e ∙ (ap turn h.1 ∙ over_ended end over) in cc)
-  no_goes (suc k) a b end over e h = (k, (let A : Turn → Type 0 = λ o. Onward (Runs k) o [] end in subst A e h))
+    -- who has no access left makes none
+    no_goes : (k : ℕ) (a b end : Activation) → has_ended end ≡ true → turn a ≡ Goes b → Runs k a [] end → (j : ℕ) × Runs j b [] end
+    no_goes zero a b end over e h = absurd (let f : Goes b ≡ Ended = sym e ∙ (ap turn h.1 ∙ over_ended end over) in cc)
+    no_goes (suc k) a b end over e h = (k, (let A : Turn → Type 0 = λ o. Onward (Runs k) o [] end in subst A e h))
 
-  no_asks : (k : ℕ) (a end : Activation) (q : Request) (f : List ℕ → Activation) → has_ended end ≡ true → turn a ≡ Asks q f → Runs k a [] end → ⊥
-  no_asks zero a end q f over e h = (let g : Asks q f ≡ Ended = sym e ∙ (ap turn h.1 ∙ over_ended end over) in cc)
-  no_asks (suc k) a end q f over e h = (let A : Turn → Type 0 = λ o. Onward (Runs k) o [] end in subst A e h)
+    no_asks : (k : ℕ) (a end : Activation) (q : Request) (f : List ℕ → Activation) → has_ended end ≡ true → turn a ≡ Asks q f → Runs k a [] end → ⊥
+    no_asks zero a end q f over e h = (let g : Asks q f ≡ Ended = sym e ∙ (ap turn h.1 ∙ over_ended end over) in cc)
+    no_asks (suc k) a end q f over e h = (let A : Turn → Type 0 = λ o. Onward (Runs k) o [] end in subst A e h)
 
-  way_goes : (g : ℕ) (a b : Activation) → Way [] g a → turn a ≡ Goes b → Way [] g b
-  way_goes g a b w e = (let r = no_goes w.k a b w.end w.over e w.runs in record { k = r.0; end = w.end; runs = r.1; over = w.over; is = w.is })
+    way_goes : (g : ℕ) (a b : Activation) → Way [] g a → turn a ≡ Goes b → Way [] g b
+    way_goes g a b w e = (let r = no_goes w.k a b w.end w.over e w.runs in record { k = r.0; end = w.end; runs = r.1; over = w.over; is = w.is })
 
-  pub ways_last : IsLasting (Ways [])
-  ways_last = record {
-    goes = way_goes;
-    asks = λ g a q f r w e fit. absurd (no_asks w.k a w.end q f w.over e w.runs);
-    posts = λ g h. tt;
-  }
+    pub ways_last : IsLasting (Ways [])
+    ways_last = record {
+      goes = way_goes;
+      asks = λ g a q f r w e fit. absurd (no_asks w.k a w.end q f w.over e w.runs);
+      posts = λ g h. tt;
+    }
 
-  -- so ticks and posts leave the ledger and the words
-  abbrev Still : World → World → Type 0
-  Still w v = (v.ledger ≡ w.ledger) × (v.words ≡ w.words)
+    -- so ticks and posts leave the ledger and the words
+    abbrev Still : World → World → Type 0
+    Still w v = (v.ledger ≡ w.ledger) × (v.words ≡ w.words)
 
-  served_still : (w : World) (g : ℕ) (a : Activation) → Way [] g a → (o : Turn) → turn a ≡ o → Still w (served w g o)
-  served_still w g a way (Goes b) e = (refl, refl)
-  served_still w g a way (Asks q f) e = absurd (no_asks way.k a way.end q f way.over e way.runs)
-  served_still w g a way Ended e = (refl, refl)
+    served_still : (w : World) (g : ℕ) (a : Activation) → Way [] g a → (o : Turn) → turn a ≡ o → Still w (served w g o)
+    served_still w g a way (Goes b) e = (refl, refl)
+    served_still w g a way (Asks q f) e = absurd (no_asks way.k a way.end q f way.over e way.runs)
+    served_still w g a way Ended e = (refl, refl)
 
-  ticked_still : (w : World) (g : ℕ) → AllParts (Ways []) w.parts → (o : Option Part) → slice_get w.parts g ≡ o → Still w (ticked w g o)
-  ticked_still w g ways None e = (refl, refl)
-  ticked_still w g ways (Some (Acting a)) e = served_still w g a (ways g (Acting a) e) (turn a) refl
-  ticked_still w g ways (Some Silent) e = (refl, refl)
-  ticked_still w g ways (Some Posted) e = (refl, refl)
+    ticked_still : (w : World) (g : ℕ) → AllParts (Ways []) w.parts → (o : Option Part) → slice_get w.parts g ≡ o → Still w (ticked w g o)
+    ticked_still w g ways None e = (refl, refl)
+    ticked_still w g ways (Some (Acting a)) e = served_still w g a (ways g (Acting a) e) (turn a) refl
+    ticked_still w g ways (Some Silent) e = (refl, refl)
+    ticked_still w g ways (Some Posted) e = (refl, refl)
 
-  posting_still : (w : World) (g : ℕ) (o : Option Part) → Still w (posting w g o)
-  posting_still w g None = (refl, refl)
-  posting_still w g (Some (Acting a)) = (refl, refl)
-  posting_still w g (Some Silent) = (refl, refl)
-  posting_still w g (Some Posted) = (refl, refl)
+    posting_still : (w : World) (g : ℕ) (o : Option Part) → Still w (posting w g o)
+    posting_still w g None = (refl, refl)
+    posting_still w g (Some (Acting a)) = (refl, refl)
+    posting_still w g (Some Silent) = (refl, refl)
+    posting_still w g (Some Posted) = (refl, refl)
 
-  move_still : (w : World) (e : Event) → IsMove e → AllParts (Ways []) w.parts → Still w (happen w e)
-  move_still w (Tick g) i ways = ticked_still w g ways (slice_get w.parts g) refl
-  move_still w (Post g) i ways = posting_still w g (slice_get w.parts g)
-  move_still w Close i ways = absurd i
+    move_still : (w : World) (e : Event) → IsMove e → AllParts (Ways []) w.parts → Still w (happen K w e)
+    move_still w (Tick g) i ways = ticked_still w g ways (slice_get w.parts g) refl
+    move_still w (Post g) i ways = posting_still w g (slice_get w.parts g)
+    move_still w Close i ways = absurd i
 
-  pub moves_still : (es : List Event) (w : World) → AreMoves es → IsBoard w.words → AllParts (Ways []) w.parts → (run w es).ledger ≡ w.ledger × ((run w es).words ≡ w.words)
-  moves_still [] w i board ways = (refl, refl)
-  moves_still (e ∷ es) w i board ways =
-      let one = move_still w e i.0 ways in
-      let more = moves_still es (happen w e) i.1 (move_board w e i.0 board) (move_keeps (Ways []) ways_last w e i.0 board ways) in
-      (more.0 ∙ one.0, more.1 ∙ one.1)
+    pub moves_still : (es : List Event) (w : World) → AreMoves es → IsBoard w.words → AllParts (Ways []) w.parts → (run K w es).ledger ≡ w.ledger × ((run K w es).words ≡ w.words)
+    moves_still [] w i board ways = (refl, refl)
+    moves_still (e ∷ es) w i board ways =
+        let one = move_still w e i.0 ways in
+        let more = moves_still es (happen K w e) i.1 (move_board K w e i.0 board) (move_keeps K (Ways []) ways_last w e i.0 board ways) in
+        (more.0 ∙ one.0, more.1 ∙ one.1)
 
-  -- and an activation that is over is at that end
-  pub way_ended : (g : ℕ) (a : Activation) → has_ended a ≡ true → Way [] g a → E g a
-  way_ended g a over w = by w.k w.runs
-    where
-      by : (k : ℕ) → Runs k a [] w.end → E g a
-      by zero h = (let A : Activation → Type 0 = λ b. E g b in subst A (sym h.1) w.is)
-      by (suc k) h = absurd (let A : Turn → Type 0 = λ o. Onward (Runs k) o [] w.end in subst A (over_ended a over) h)
+    -- and an activation that is over is at that end
+    pub way_ended : (g : ℕ) (a : Activation) → has_ended a ≡ true → Way [] g a → E g a
+    way_ended g a over w = by w.k w.runs
+      where
+        by : (k : ℕ) → Runs k a [] w.end → E g a
+        by zero h = (let A : Activation → Type 0 = λ b. E g b in subst A (sym h.1) w.is)
+        by (suc k) h = absurd (let A : Turn → Type 0 = λ o. Onward (Runs k) o [] w.end in subst A (over_ended a over) h)

@@ -15,11 +15,12 @@ use Rattle.round.specs.Told.{ToldSeen, WasTold, AreLettersOf}
 use Rattle.round.proofs.Contexts.{shape_is}
 use Rattle.round.proofs.Loyal.{shape_is_told, own_is_told, letter_is}
 use Rattle.world.specs.Part.{Part, Acting, Silent, Posted}
-use Rattle.world.specs.World.{World, each}
+use Rattle.world.specs.World.{oral_kind, World, each}
 use Rattle.world.specs.Reached.{IsHeld}
 use Rattle.world.specs.Held.{letter_held, letters_held}
 use Rattle.world.specs.Safety.{IsPlaced}
-use Rattle.world.proofs.Standing.{proved_parts_are_placed}
+use Rattle.world.proofs.Standing.{parts_are_placed}
+use Rattle.world.proofs.Campaigns.{oral_campaigns}
 
 all_one : {A : Type 0} (P : A → Type 0) (x : A) → P x → All P (x ∷ [])
 all_one P x h zero d lt = h
@@ -33,7 +34,7 @@ each_all P (suc n) f h = All-append P (each n f) (f n) (each_all P n f h) (h n)
 abbrev IsOfRound : Scenario → ℕ → Letter → Type 0
 IsOfRound s round l = (l.round ≡ round) × (l.outbox.relay.shape ≡ shape_of s l.general round)
 
-written_round : (s : Scenario) (closed : List (List Letter)) (accesses : List Access) (g : ℕ) (o : Option Part) → ((a : Activation) → o ≡ Some (Acting a) → IsPlaced s closed g a) →
+written_round : (s : Scenario) (closed : List (List Letter)) (accesses : List Access) (g : ℕ) (o : Option Part) → ((a : Activation) → o ≡ Some (Acting a) → IsPlaced oral_kind s closed g a) →
     All (IsOfRound s (suc (length closed))) (letter_held s closed accesses g o)
 written_round s closed accesses g None h = All-nil (IsOfRound s (suc (length closed)))
 written_round s closed accesses g (Some (Acting a)) h = all_one (IsOfRound s (suc (length closed))) _ (refl, ap (λ (r : Relay). r.shape) (h a refl).relay)
@@ -44,8 +45,8 @@ written_round s closed accesses g (Some Posted) h = all_one (IsOfRound s (suc (l
 pub row_told : (s : Scenario) (closed : List (List Letter)) (k : RecordedBoard) (opened : ℕ) (ps : List Part) (full : Bool) (told : ToldSeen) (row : List Letter) → IsScenario s → IsHeld s closed k opened ps full → WasTold s closed told →
     row ≡ letters_held s closed (drop opened k.ledger) ps → AreLettersOf s (suc told.rounds) row
 row_told s closed k opened ps full told row is h was same i l at =
-    let Q : World → Type 0 = λ v. (g : ℕ) (a : Activation) → slice_get v.parts g ≡ Some (Acting a) → IsPlaced s v.closed g a in
-    let placed = subst Q h.reached.1 (λ g a e. proved_parts_are_placed s h.reached.0 g a is e) in
+    let Q : World → Type 0 = λ v. (g : ℕ) (a : Activation) → slice_get v.parts g ≡ Some (Acting a) → IsPlaced oral_kind s v.closed g a in
+    let placed = subst Q h.reached.1 (λ g a e. parts_are_placed oral_kind oral_campaigns s h.reached.0 g a is e) in
     let all = each_all (IsOfRound s (suc (length closed))) s.generals (λ g. letter_held s closed (drop opened k.ledger) g (slice_get ps g)) (λ g. written_round s closed (drop opened k.ledger) g (slice_get ps g) (λ a e. placed g a e)) in
     let here : slice_get (letters_held s closed (drop opened k.ledger) ps) i ≡ Some l = ap (λ (r : List Letter). slice_get r i) (sym same) ∙ at in
     let within = slice_get_within (letters_held s closed (drop opened k.ledger) ps) i l here in

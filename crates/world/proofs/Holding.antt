@@ -13,17 +13,18 @@ use Rattle.round.proofs.Stepping.{runs_steps}
 use Rattle.world.specs.declared.event.Event.{Event}
 use Rattle.world.specs.declared.event.Event.TheVariants.{Tick, Post, Close}
 use Rattle.world.specs.Part.{Part, Acting, Silent, Posted, owes_no_letter}
-use Rattle.world.specs.World.{World, each, opening, served, ticked, posting, closing, happen, run, round_open, letters_at, round_letters, accesses_of}
+use Rattle.world.specs.World.{oral_kind, World, each, opening, served, ticked, posting, closing, happen, run, round_open, letters_at, round_letters, accesses_of}
 use Rattle.world.specs.Reached.{world_of, IsHeld}
 use Rattle.board.specs.Board.{Access}
 use Rattle.world.specs.Held.{ticked_of, posted_of, AheadTo, letter_held, letters_held, beginnings, AreLetters}
 use Rattle.round.specs.Running.{letter_left}
 use Rattle.world.specs.Safety.{IsPlaced, HasRun}
 use Rattle.round.proofs.Ends.{proved_patience_is_kept}
-use Rattle.world.proofs.Standing.{proved_parts_are_placed, proved_activations_are_runs}
+use Rattle.world.proofs.Standing.{parts_are_placed, activations_are_runs}
 use Rattle.world.proofs.Rounds.{run_kept, opening_kept}
 use Rattle.world.proofs.Listing.{set-here}
 use Rattle.world.proofs.Moves.{run-append}
+use Rattle.world.proofs.Campaigns.{oral_campaigns, oral_relays}
 
 pub set-same : {A : Type 0} (xs : List A) (i : ℕ) (x : A) → slice_get xs i ≡ Some x → slice_set xs i x ≡ xs
 set-same [] i x e = refl
@@ -100,7 +101,7 @@ module _ (s : Scenario) (closed : List (List Letter)) (k : RecordedBoard) (opene
   pub held_on : (closed' : List (List Letter)) (k' : RecordedBoard) (opened' : ℕ) (ps' : List Part) (full' : Bool) (events : List Event) → IsHeld s closed k opened ps full →
       world_of s closed' k' opened' ps' full' ≡ run (world_of s closed k opened ps full) events → k'.opening ≡ k.opening → IsHeld s closed' k' opened' ps' full'
   held_on closed' k' opened' ps' full' events h is same = record {
-    reached = (h.reached.0 ++ events, run-append h.reached.0 events (opening s) ∙ (ap (λ (w : World). run w events) h.reached.1 ∙ sym is));
+    reached = (h.reached.0 ++ events, run-append oral_kind h.reached.0 events (opening s) ∙ (ap (λ (w : World). run w events) h.reached.1 ∙ sym is));
     opening = same ∙ h.opening;
   }
 
@@ -187,18 +188,18 @@ pub held_letters : (s : Scenario) (closed : List (List Letter)) (k : RecordedBoa
     AreLetters (suc (length closed)) accesses ps
 held_letters s closed k opened ps full accesses is h same g a at =
     let w = world_of s closed k opened ps full in
-    let Q : World → Type 0 = λ v. slice_get v.parts g ≡ Some (Acting a) → IsPlaced s v.closed g a × HasRun v g a in
-    let both : IsPlaced s closed g a × HasRun w g a = subst Q h.reached.1 (λ e. (proved_parts_are_placed s h.reached.0 g a is e, proved_activations_are_runs.parts s h.reached.0 g a is e)) at in
+    let Q : World → Type 0 = λ v. slice_get v.parts g ≡ Some (Acting a) → IsPlaced oral_kind s v.closed g a × HasRun v g a in
+    let both : IsPlaced oral_kind s closed g a × HasRun w g a = subst Q h.reached.1 (λ e. (parts_are_placed oral_kind oral_campaigns s h.reached.0 g a is e, (activations_are_runs oral_kind oral_campaigns oral_relays).parts s h.reached.0 g a is e)) at in
     let p = both.0 in
     let l = letter_left g (suc (length closed)) (accesses_of g (drop opened k.ledger)) a in
     let is_run : IsRunOf l (Some a.program) = (both.1.0, record a { patience = None }, proved_patience_is_kept.without a.patience a.program a.context a.relay a.state.steps (accesses_of g (drop opened k.ledger)) a both.1.1, refl, refl, refl) in
     let lies : IsWithin a.patience a.state.steps = proved_patience_is_kept.within a.patience a.program a.context a.relay a.state.steps (accesses_of g (drop opened k.ledger)) a both.1.1 in
     let within : IsWithin s.patience a.state.steps = subst (λ (q : Option ℕ). IsWithin q a.state.steps) p.patience lies in
-    let letter : IsLetter l = proved_activations_are_runs.kept s closed l a.program is (record { general = p.general; rounds = p.rounds; round = refl; context = p.context; relay = p.relay; program = sym p.program; made = is_run; within = within }) refl in
+    let letter : IsLetter l = (activations_are_runs oral_kind oral_campaigns oral_relays).kept s closed l a.program is (record { general = p.general; rounds = p.rounds; round = refl; context = p.context; relay = p.relay; program = sym p.program; made = is_run; within = within }) refl in
     subst (λ (acc : List Access). IsLetter (letter_left g (suc (length closed)) (accesses_of g acc) a)) (sym same) letter
 
 -- so the row is that of the world
-same_letter : (w : World) (g : ℕ) (o : Option Part) → ((a : Activation) → o ≡ Some (Acting a) → IsPlaced w.scenario w.closed g a) → letter_held w.scenario w.closed (drop w.opened w.ledger) g o ≡ letters_at w g o
+same_letter : (w : World) (g : ℕ) (o : Option Part) → ((a : Activation) → o ≡ Some (Acting a) → IsPlaced oral_kind w.scenario w.closed g a) → letter_held w.scenario w.closed (drop w.opened w.ledger) g o ≡ letters_at w g o
 same_letter w g None h = refl
 same_letter w g (Some (Acting a)) h =
     let p = h a refl in
@@ -223,8 +224,8 @@ module _ (s : Scenario) (closed : List (List Letter)) (k : RecordedBoard) (opene
   same_row : IsScenario s → IsHeld s closed k opened ps full → letters_held s closed (drop opened k.ledger) ps ≡ round_letters (world_of s closed k opened ps full)
   same_row is h =
       let w = world_of s closed k opened ps full in
-      let Q : World → Type 0 = λ v. (g : ℕ) (a : Activation) → slice_get v.parts g ≡ Some (Acting a) → IsPlaced s v.closed g a in
-      let placed = subst Q h.reached.1 (λ g a e. proved_parts_are_placed s h.reached.0 g a is e) in
+      let Q : World → Type 0 = λ v. (g : ℕ) (a : Activation) → slice_get v.parts g ≡ Some (Acting a) → IsPlaced oral_kind s v.closed g a in
+      let placed = subst Q h.reached.1 (λ g a e. parts_are_placed oral_kind oral_campaigns s h.reached.0 g a is e) in
       each-same s.generals (λ g. letter_held s closed (drop opened k.ledger) g (slice_get ps g)) (λ g. letters_at w g (slice_get ps g))
       (λ g. same_letter w g (slice_get ps g) (λ a e. placed g a e))
 
@@ -245,7 +246,7 @@ same_rows s c c' a a' p p' e f h = (λ i. letters_held s (e i) (f i) (h i))
 pub held_few : (s : Scenario) (closed : List (List Letter)) (k : RecordedBoard) (opened : ℕ) (ps : List Part) (full : Bool) → IsScenario s → IsHeld s closed k opened ps full → length closed ≤ suc s.bound
 held_few s closed k opened ps full is h =
     let Q : World → Type 0 = λ v. length v.closed ≤ suc v.scenario.bound in
-    subst Q h.reached.1 (run_kept h.reached.0 (opening s) (opening_kept s is.board)).closed
+    subst Q h.reached.1 (run_kept oral_kind h.reached.0 (opening s) (opening_kept oral_kind s is.board)).closed
 
 pub runs_for : (s : Scenario) (closed : List (List Letter)) (k : RecordedBoard) (opened : ℕ) (ps : List Part) (full : Bool) (closed' : List (List Letter)) (accesses : List Access) (ps' : List Part) → IsScenario s → IsHeld s closed k opened ps full →
     closed' ≡ closed → accesses ≡ drop opened k.ledger → ps' ≡ ps → AreLetters (suc (length closed')) accesses ps'

@@ -4,9 +4,8 @@ use Rattle.insn.specs.declared.insn.Insn.{Insn}
 use Rattle.board.specs.Board.{IsBoard}
 use Rattle.round.specs.Scenario.{Scenario, program_of}
 use Rattle.round.specs.Letters.{Letter, letter_of}
-use Rattle.round.specs.Contexts.{faithful_letter}
 use Rattle.world.specs.Part.{Part, Acting, Silent, Posted}
-use Rattle.world.specs.World.{World}
+use Rattle.world.specs.Kind.{Kind, loyal_letter, World}
 
 -- a traitor acts, a loyal general does not
 abbrev pub Fits : Option (List Insn) → Part → Type 0
@@ -17,14 +16,15 @@ Fits (Some program) (Acting a) = Unit {0}
 Fits (Some program) Silent = ⊥
 Fits (Some program) Posted = ⊥
 
--- in each closed round the general's letter is the loyal one
-abbrev pub Tells : Scenario → List (List Letter) → ℕ → Type 0
-Tells s closed g = (k : ℕ) → k < length closed → letter_of (slice_index_or closed k []) g ≡ Some (faithful_letter s (take k closed) g)
+module _ (K : Kind) where
+  -- in each closed round the general's letter is the loyal one
+  abbrev pub Tells : Scenario → List (List Letter) → ℕ → Type 0
+  Tells s closed g = (k : ℕ) → k < length closed → letter_of (slice_index_or closed k []) g ≡ Some (loyal_letter K s (take k closed) g)
 
--- the invariant of a world
-pub record IsKept (w : World) : Type 0 where
-  pub parts : (g : ℕ) (part : Part) → slice_get w.parts g ≡ Some part → (g < w.scenario.generals) × Fits (program_of w.scenario g) part
-  pub open_parts : length w.closed < suc w.scenario.bound → length w.parts ≡ w.scenario.generals
-  pub board : IsBoard w.words
-  pub closed : length w.closed ≤ suc w.scenario.bound
-  pub told : w.full ≡ true → (g : ℕ) → g < w.scenario.generals → program_of w.scenario g ≡ None → Tells w.scenario w.closed g
+  -- the invariant of a world
+  pub record IsKept (w : World) : Type 0 where
+    pub parts : (g : ℕ) (part : Part) → slice_get w.parts g ≡ Some part → (g < w.scenario.generals) × Fits (program_of w.scenario g) part
+    pub open_parts : length w.closed < suc w.scenario.bound → length w.parts ≡ w.scenario.generals
+    pub board : IsBoard w.words
+    pub closed : length w.closed ≤ suc w.scenario.bound
+    pub told : w.full ≡ true → (g : ℕ) → g < w.scenario.generals → program_of w.scenario g ≡ None → Tells w.scenario w.closed g

@@ -1,4 +1,5 @@
 pub mod Listing
+pub mod Campaigns
 pub mod Kept
 pub mod Moves
 pub mod Faithful

@@ -10,7 +10,7 @@ use Rattle.world.specs.declared.event.Event.TheVariants.{Post, Close}
 use Rattle.world.specs.declared.schedule.Repeat.{Repeat}
 use Rattle.round.specs.Scenario.{Scenario, program_of}
 use Rattle.world.specs.Part.{Part, Acting, Silent, Posted}
-use Rattle.world.specs.World.{World, each, opening, posting, happen, run}
+use Rattle.world.specs.World.{oral_kind, World, each, opening, posting, happen, run}
 use Rattle.world.specs.Lists.{first_line, later_lines, event_of, post_of, ticks_of, wound_up, listed_rounds, listed, ticks_named, names_events, replayed_rounds, replayed}
 use Rattle.world.specs.Schedules.{entries_of, lines_by}
 use Rattle.world.specs.Playing.{line_events}
@@ -22,6 +22,7 @@ use Rattle.world.proofs.Punctual.{punctual_full}
 use Rattle.world.proofs.Moves.{run-append}
 use Rattle.world.proofs.Punctual.{run_scenario}
 use Rattle.std.proofs.lemmas.Option.{slice_get-get_or}
+use Rattle.world.proofs.Campaigns.{oral_campaigns}
 
 -- a second post changes nothing
 post_again : (w : World) (g : ℕ) (o : Option Part) → slice_get w.parts g ≡ o → happen (posting w g o) (Post g) ≡ posting w g o
@@ -42,7 +43,7 @@ line_step s w v r rest is =
     let p : ℕ → Bool = λ g. nat_lt g s.generals in
     let one = replicate r.times r.general in
     ap (run w) (ap (map f) (filter-append p one (entries_of rest)) ∙ map-append f (filter p one) (filter p (entries_of rest)))
-    ∙ (run-append (line_events s one) (line_events s (entries_of rest)) w ∙ ap (λ (x : World). run x (line_events s (entries_of rest))) (sym is))
+    ∙ (run-append oral_kind (line_events s one) (line_events s (entries_of rest)) w ∙ ap (λ (x : World). run x (line_events s (entries_of rest))) (sym is))
 
 -- entries of a general are his events, and of a number that is none nothing
 pub line_of : (s : Scenario) (g n : ℕ) → g < s.generals → line_events s (replicate n g) ≡ replicate n (event_of g (program_of s g))
@@ -72,10 +73,10 @@ pub listed_step : (s : Scenario) (k i : ℕ) (schedule : List (List Repeat)) (w 
 listed_step s k i schedule w v u line wound =
     let es = line_events s (first_line (lines_by (drop i schedule))) in
     let rest = listed_rounds s k (later_lines (lines_by (drop i schedule))) in
-    run-append es (wound_up s ++ rest) w
+    run-append oral_kind es (wound_up s ++ rest) w
     ∙ (ap (λ (l : List ℕ). run (run w (line_events s l)) (wound_up s ++ rest)) (line_first schedule i)
     ∙ (ap (λ (x : World). run x (wound_up s ++ rest)) (sym line)
-    ∙ (run-append (wound_up s) rest v
+    ∙ (run-append oral_kind (wound_up s) rest v
     ∙ (ap (λ (x : World). run x rest) (sym wound)
     ∙ ap (λ (l : List (List ℕ)). run u (listed_rounds s k l)) (line_later schedule i)))))
 
@@ -96,7 +97,7 @@ names_later (line ∷ lines) (suc i) = names_later lines i
 pub names_step : (w v : World) (g : ℕ) (names : List ℕ) → v ≡ run w (ticks_named g (slice_get w.parts g)) → run w (names_events w (g ∷ names)) ≡ run v (names_events v names)
 names_step w v g names is =
     let ticks = ticks_named g (slice_get w.parts g) in
-    run-append ticks (names_events (run w ticks) names) w ∙ ap (λ (x : World). run x (names_events x names)) (sym is)
+    run-append oral_kind ticks (names_events (run w ticks) names) w ∙ ap (λ (x : World). run x (names_events x names)) (sym is)
 
 -- one replayed round
 pub replayed_step : (k i : ℕ) (names : List (List ℕ)) (w v u : World) → v ≡ run w (names_events w (slice_index_or names i [])) → u ≡ run v (wound_up w.scenario) →
@@ -105,10 +106,10 @@ replayed_step k i names w v u named wound =
     let ns = names_events w (first_line (drop i names)) in
     let es = ns ++ wound_up w.scenario in
     let there : run w es ≡ u =
-    run-append ns (wound_up w.scenario) w
+    run-append oral_kind ns (wound_up w.scenario) w
     ∙ (ap (λ (l : List ℕ). run (run w (names_events w l)) (wound_up w.scenario)) (names_first names i)
     ∙ (ap (λ (x : World). run x (wound_up w.scenario)) (sym named) ∙ sym wound)) in
-    run-append es (replayed_rounds (run w es) k (later_lines (drop i names))) w
+    run-append oral_kind es (replayed_rounds (run w es) k (later_lines (drop i names))) w
     ∙ (ap (λ (x : World). run x (replayed_rounds x k (later_lines (drop i names)))) there
     ∙ ap (λ (l : List (List ℕ)). run u (replayed_rounds u k l)) (names_later names i))
 
@@ -116,7 +117,7 @@ replayed_step k i names w v u named wound =
 pub each_step : (n : ℕ) (f : ℕ → List Event) (w v u : World) → v ≡ run w (each n f) → u ≡ run v (f n) → u ≡ run w (each (n + 1) f)
 each_step n f w v u is more =
     let m : suc n ≡ n + 1 = omega arith in
-    more ∙ (ap (λ (x : World). run x (f n)) is ∙ (sym (run-append (each n f) (f n) w) ∙ ap (λ (k : ℕ). run w (each k f)) m))
+    more ∙ (ap (λ (x : World). run x (f n)) is ∙ (sym (run-append oral_kind (each n f) (f n) w) ∙ ap (λ (k : ℕ). run w (each k f)) m))
 
 -- posts, ticks and the close
 pub wound_is : (s : Scenario) (w v u t : World) → v ≡ run w (each s.generals (λ g. post_of g (program_of s g))) → u ≡ run v (each s.generals (λ g. ticks_of g (program_of s g))) → t ≡ happen u Close →
@@ -126,7 +127,7 @@ wound_is s w v u t posts ticks close =
     let ts = each s.generals (λ g. ticks_of g (program_of s g)) in
     close ∙ (ap (λ (x : World). happen x Close) ticks
     ∙ (ap (λ (x : World). happen (run x ts) Close) posts
-    ∙ (sym (run-append ts (Close ∷ []) (run w ps)) ∙ sym (run-append ps (ts ++ Close ∷ []) w))))
+    ∙ (sym (run-append oral_kind ts (Close ∷ []) (run w ps)) ∙ sym (run-append oral_kind ps (ts ++ Close ∷ []) w))))
 
 pub drop_at : {A : Type 0} (xs : List A) (i : ℕ) (x : A) → slice_get xs i ≡ Some x → drop i xs ≡ x ∷ drop (suc i) xs
 drop_at [] i x e = absurd (let f : None ≡ Some x = e in cc)
@@ -139,7 +140,7 @@ pub line_more : (s : Scenario) (w v u : World) (rs : List Repeat) (i : ℕ) (r :
 line_more s w v u rs i r at is same left =
     let is' : v ≡ run w (line_events s (replicate r.times r.general)) = is ∙ ap (λ (t : Scenario). run w (line_events t (replicate r.times r.general))) same in
     let m : suc i ≡ i + 1 = omega arith in (
-      ap (λ (x : World). x.scenario) is' ∙ (run_scenario (line_events s (replicate r.times r.general)) w ∙ same),
+      ap (λ (x : World). x.scenario) is' ∙ (run_scenario oral_kind (line_events s (replicate r.times r.general)) w ∙ same),
       ap (λ (k : ℕ). run v (line_events s (entries_of (drop k rs)))) (sym m)
           ∙ (sym (line_step s w v r (drop (suc i) rs) is')
           ∙ (ap (λ (l : List Repeat). run w (line_events s (entries_of l))) (sym (drop_at rs i r at)) ∙ left)),
@@ -156,24 +157,24 @@ names_more w v u names i g h at same is left =
 -- one general more
 pub each_more : (f : Scenario → ℕ → List Event) (n : ℕ) (w v u : World) → v ≡ run w (each n (f w.scenario)) → u ≡ run v (f v.scenario n) → u ≡ run w (each (n + 1) (f w.scenario))
 each_more f n w v u is more =
-    let same : v.scenario ≡ w.scenario = ap (λ (x : World). x.scenario) is ∙ run_scenario (each n (f w.scenario)) w in
+    let same : v.scenario ≡ w.scenario = ap (λ (x : World). x.scenario) is ∙ run_scenario oral_kind (each n (f w.scenario)) w in
     each_step n (f w.scenario) w v u is (more ∙ ap (λ (t : Scenario). run v (f t n)) same)
 
 pub each_inside : (es : List Event) (n m : ℕ) (w v : World) → v ≡ run w es → n < m → m ≡ w.scenario.generals → n < v.scenario.generals
 each_inside es n m w v is lt same =
-    let t : v.scenario.generals ≡ w.scenario.generals = ap (λ (x : World). x.scenario.generals) is ∙ ap (λ (x : Scenario). x.generals) (run_scenario es w) in
+    let t : v.scenario.generals ≡ w.scenario.generals = ap (λ (x : World). x.scenario.generals) is ∙ ap (λ (x : Scenario). x.generals) (run_scenario oral_kind es w) in
     omega arith
 
 -- posts, ends and the close, one behind the other
 pub wound_by : (w v u t : World) → v ≡ run w (each w.scenario.generals (λ g. post_of g (program_of w.scenario g))) → u ≡ run v (each v.scenario.generals (λ g. ticks_of g (program_of v.scenario g))) → t ≡ happen u Close →
     t ≡ run w (wound_up w.scenario)
 wound_by w v u t posts ticks close =
-    let same : v.scenario ≡ w.scenario = ap (λ (x : World). x.scenario) posts ∙ run_scenario (each w.scenario.generals (λ g. post_of g (program_of w.scenario g))) w in
+    let same : v.scenario ≡ w.scenario = ap (λ (x : World). x.scenario) posts ∙ run_scenario oral_kind (each w.scenario.generals (λ g. post_of g (program_of w.scenario g))) w in
     wound_is w.scenario w v u t posts (ticks ∙ ap (λ (s : Scenario). run v (each s.generals (λ g. ticks_of g (program_of s g)))) same) close
 
 pub then_wound : (es : List Event) (w v u : World) → v ≡ run w es → u ≡ run v (wound_up v.scenario) → u ≡ run (run w es) (wound_up w.scenario)
 then_wound es w v u is wound =
-    let same : v.scenario ≡ w.scenario = ap (λ (x : World). x.scenario) is ∙ run_scenario es w in
+    let same : v.scenario ≡ w.scenario = ap (λ (x : World). x.scenario) is ∙ run_scenario oral_kind es w in
     wound ∙ ((λ i. run v (wound_up (same i))) ∙ ap (λ (x : World). run x (wound_up w.scenario)) is)
 
 -- round by round
@@ -192,7 +193,7 @@ play_more s n i schedule w u target lt same is left =
     let is' : u ≡ run v (wound_up s) = is ∙ (λ j. run (run w (line_events (same j) line)) (wound_up (same j))) in
     let more : n - i ≡ suc (n - (i + 1)) = omega arith in
     let next : suc i ≡ i + 1 = omega arith in
-    let scenario : u.scenario ≡ s = ap (λ (x : World). x.scenario) is' ∙ (run_scenario (wound_up s) v ∙ (run_scenario (line_events s line) w ∙ same)) in (
+    let scenario : u.scenario ≡ s = ap (λ (x : World). x.scenario) is' ∙ (run_scenario oral_kind (wound_up s) v ∙ (run_scenario oral_kind (line_events s line) w ∙ same)) in (
       scenario,
       ap (λ (k : ℕ). run u (listed_rounds s (n - (i + 1)) (lines_by (drop k schedule)))) (sym next)
           ∙ (sym (listed_step s (n - (i + 1)) i schedule w v u refl is')
@@ -241,11 +242,11 @@ replay_next n i names line w u target lt at is left = replay_more n i names w u 
 -- what is listed comes to its end
 pub listed_finished : (s : Scenario) (lines : List (List ℕ)) → IsScenario s → IsFinished (run (opening s) (listed s lines))
 listed_finished s lines is =
-    let complete = listed_complete s is lines in
-    let same = run_scenario (listed s lines) (opening s) in
+    let complete = listed_complete oral_kind s (oral_campaigns s is) lines in
+    let same = run_scenario oral_kind (listed s lines) (opening s) in
     record {
       closed = complete.closed ∙ ap (λ (t : Scenario). suc t.bound) (sym same);
-      full = punctual_full s (listed s lines) complete.punctual;
+      full = punctual_full oral_kind s (listed s lines) complete.punctual;
     }
 
 pub played_finished : (s : Scenario) (lines : List (List ℕ)) (w : World) → IsScenario s → w ≡ run (opening s) (listed s lines) → IsFinished w
@@ -254,9 +255,9 @@ played_finished s lines w is same = subst (λ (v : World). IsFinished v) (sym sa
 -- so does what is replayed
 pub replayed_finished : (s : Scenario) (names : List (List ℕ)) (w : World) → IsScenario s → w ≡ run (opening s) (replayed s names) → IsFinished w
 replayed_finished s names w is same =
-    let complete = replayed_complete s is names in
-    let scenario = run_scenario (replayed s names) (opening s) in
+    let complete = replayed_complete oral_kind s (oral_campaigns s is) names in
+    let scenario = run_scenario oral_kind (replayed s names) (opening s) in
     subst (λ (v : World). IsFinished v) (sym same) (record {
       closed = complete.closed ∙ ap (λ (t : Scenario). suc t.bound) (sym scenario);
-      full = punctual_full s (replayed s names) complete.punctual;
+      full = punctual_full oral_kind s (replayed s names) complete.punctual;
     })

@@ -10,16 +10,14 @@ use Rattle.label.proofs.Ranks.{get_left, get_right}
 use Rattle.board.specs.Board.{Access, reply}
 use Rattle.world.specs.declared.event.Event.{Event}
 use Rattle.world.specs.declared.event.Event.TheVariants.{Tick, Post, Close}
-use Rattle.semantics.specs.Relay.{oral}
-use Rattle.round.specs.Scenario.{Scenario, program_of, is_traitor, shape_of}
+use Rattle.round.specs.Scenario.{Scenario, program_of, is_traitor}
 use Rattle.round.specs.Letters.{Letter}
-use Rattle.round.specs.Contexts.{context_of, faithful_letter}
 use Rattle.round.specs.Activation.{Activation, Turn, Goes, Asks, Ended, turn, started, is_reached}
 use Rattle.world.specs.Part.{Part, Acting, Silent, Posted}
-use Rattle.world.specs.World.{World, each, round_open, begins, begun, accesses_of, letters_at, round_letters, served, ticked, posting, happen}
+use Rattle.world.specs.Kind.{Kind, loyal_letter, World, each, round_open, begins, begun, accesses_of, letters_at, round_letters, served, ticked, posting, happen}
 use Rattle.round.specs.Runs.{Runs}
-use Rattle.world.specs.Accounted.{IsLetterOf, IsAccountedRound}
-use Rattle.world.specs.Lists.{IsMove, IsRipe}
+use Rattle.world.specs.KindAccounted.{IsLetterOf, IsAccountedRound}
+use Rattle.world.specs.KindLists.{IsMove, IsRipe}
 use Rattle.world.proofs.Kept.{Fits, IsKept}
 use Rattle.world.proofs.Listing.{each-get_only}
 use Rattle.world.proofs.Due.{IsDue}
@@ -53,45 +51,6 @@ made_none : (s : Scenario) (r g : ℕ) (piece : List Access) → AreMade s r pie
 made_none s r g [] h loyal = refl
 made_none s r g (x ∷ piece) h loyal =
     rw (ne_eqb x.general g (λ e. true≢false (sym h.0.2 ∙ (ap (is_traitor s) e ∙ loyal)))) (made_none s r g piece h.1 loyal)
-
--- what the open round has added to the ledger
-pub record Added (s : Scenario) (first w : World) : Type 0 where
-  pub piece : List Access
-  pub ledger : w.ledger ≡ first.ledger ++ piece
-  pub made : AreMade s (suc (length first.closed)) piece
-
-pub added_first : (s : Scenario) (first : World) → Added s first first
-added_first s first = record { piece = []; ledger = sym (append-nil first.ledger); made = tt }
-
-served_added : (s : Scenario) (first w : World) (g : ℕ) (a : Activation) → w.closed ≡ first.closed → g < s.generals → IsDue s g a → Added s first w → (o : Turn) → Added s first (served w g o)
-served_added s first w g a closed lt due d (Goes b) = record { piece = d.piece; ledger = d.ledger; made = d.made }
-served_added s first w g a closed lt due d (Asks q f) =
-    let x = access g (suc (length w.closed)) q (reply w.words q) in
-    record {
-      piece = d.piece ++ x ∷ [];
-      ledger = ap (λ l. l ++ x ∷ []) d.ledger ∙ append_assoc first.ledger d.piece (x ∷ []);
-      made = made_snoc s (suc (length first.closed)) d.piece x d.made lt (ap (λ c. suc (length c)) closed) (ap is_some due.program);
-    }
-served_added s first w g a closed lt due d Ended = d
-
-ticked_added : (s : Scenario) (first w : World) (g : ℕ) → w.closed ≡ first.closed → IsOnTime s w → Added s first w → (o : Option Part) → slice_get w.parts g ≡ o → Added s first (ticked w g o)
-ticked_added s first w g closed t d None e = d
-ticked_added s first w g closed t d (Some (Acting a)) e =
-    let A : Scenario → Type 0 = λ v. g < v.generals in
-    served_added s first w g a closed (subst A t.scenario (t.kept.parts g (Acting a) e).0) (t.due g (Acting a) e) d (turn a)
-ticked_added s first w g closed t d (Some Silent) e = d
-ticked_added s first w g closed t d (Some Posted) e = d
-
-posting_added : (s : Scenario) (first w : World) (g : ℕ) → Added s first w → (o : Option Part) → Added s first (posting w g o)
-posting_added s first w g d None = d
-posting_added s first w g d (Some (Acting a)) = d
-posting_added s first w g d (Some Silent) = record { piece = d.piece; ledger = d.ledger; made = d.made }
-posting_added s first w g d (Some Posted) = d
-
-pub move_added : (s : Scenario) (first w : World) (e : Event) → IsMove e → w.closed ≡ first.closed → IsOnTime s w → Added s first w → Added s first (happen w e)
-move_added s first w (Tick g) i closed t d = ticked_added s first w g closed t d (slice_get w.parts g) refl
-move_added s first w (Post g) i closed t d = posting_added s first w g d (slice_get w.parts g)
-move_added s first w Close i closed t d = absurd i
 
 -- single letters, in order
 abbrev Singles : ℕ → (ℕ → List Letter) → Type 0
@@ -163,77 +122,117 @@ singles_sum piece (suc n) f h =
     let one : sum_by (λ l. length l.transcript) (f n) ≡ length (accesses_of n piece) = ap (sum_by (λ l. length l.transcript)) l.1 ∙ (let t : length (accesses_of n piece) ≡ length l.0.transcript = ap length l.2 in omega arith) in
     omega (arith, sum_by-append (λ l. length l.transcript) (each n f) (f n))
 
-module _ (s : Scenario) (closed : List (List Letter)) (words : List ℕ) (ledger : List Access) where
-  abbrev first : World
-  first = begun s closed words ledger true
+module _ (K : Kind) where
+  -- what the open round has added to the ledger
+  pub record Added (s : Scenario) (first w : World) : Type 0 where
+    pub piece : List Access
+    pub ledger : w.ledger ≡ first.ledger ++ piece
+    pub made : AreMade s (suc (length first.closed)) piece
 
-  -- the activation with which a traitor's part began
-  starts : (b : Bool) (g : ℕ) (a : Activation) (program : List Insn) → program_of s g ≡ Some program → slice_get (cond b (each s.generals (λ h. begins s closed h (program_of s h) ∷ [])) []) g ≡ Some (Acting a)
-      → started s.patience program (context_of s closed g) (oral (shape_of s g (suc (length closed)))) ≡ a
-  starts true g a program is e =
-      let h = each-get_only s.generals (λ j. begins s closed j (program_of s j)) g (Acting a) e in
-      let f : Acting a ≡ begins s closed g (Some program) = h.1 ∙ ap (begins s closed g) is in cc
-  starts false g a program is e = cc
+  pub added_first : (s : Scenario) (first : World) → Added s first first
+  added_first s first = record { piece = []; ledger = sym (append-nil first.ledger); made = tt }
 
-  -- a general's letter, in a ripe world
-  letter_made : (w : World) (piece : List Access) → w.scenario ≡ s → w.closed ≡ closed → drop w.opened w.ledger ≡ piece → AreMade s (suc (length closed)) piece → IsRipe w
-      → ((g : ℕ) (a : Activation) → slice_get w.parts g ≡ Some (Acting a) → Came (begun s closed words ledger true) piece g a)
-      → (g : ℕ) (part : Part) → slice_get w.parts g ≡ Some part → (o : Option (List Insn)) → program_of s g ≡ o → Fits o part
-      → (l : Letter) × (letters_at w g (Some part) ≡ l ∷ []) × IsLetterOf s closed g o l × (accesses_of g piece ≡ l.transcript)
-  letter_made w piece sc cl op made ripe came g (Acting a) at None is fits = absurd fits
-  letter_made w piece sc cl op made ripe came g (Acting a) at (Some program) is fits =
-      let c = came g a at in
-      let from = starts (round_open s closed) g c.1 program is c.2 in
-      let runs : Runs c.0 (started s.patience program (context_of s closed g) (oral (shape_of s g (suc (length closed))))) (accesses_of g piece) a = (let A : Activation → Type 0 = λ b. Runs c.0 b (accesses_of g piece) a in subst A (sym from) c.3) in
-      let steps = runs_steps c.0 (started s.patience program (context_of s closed g) (oral (shape_of s g (suc (length closed))))) (accesses_of g piece) a runs in
-      let k : c.0 ≡ a.state.steps = omega arith in
-      let kept : Kept s.patience a = runs_kept s.patience c.0 (started s.patience program (context_of s closed g) (oral (shape_of s g (suc (length closed))))) (accesses_of g piece) a (refl, within_none s.patience) runs in
-      let l : Letter = record { general = g; round = suc (length closed); context = context_of s closed g; program = Some program; transcript = accesses_of g piece; steps = a.state.steps; outbox = record { relay = oral (shape_of s g (suc (length closed))); rows = a.state.outbox; entries = a.state.entries }; exited = a.over } in
-      let program_is : program_of w.scenario g ≡ Some program = ap (λ (v : Scenario). program_of v g) sc ∙ is in (
-        l,
-        (λ i. record { general = g; round = suc (length (cl i)); context = context_of (sc i) (cl i) g; program = program_is i; transcript = accesses_of g (op i); steps = a.state.steps; outbox = record { relay = oral (shape_of (sc i) g (suc (length (cl i)))); rows = a.state.outbox; entries = a.state.entries }; exited = a.over } ∷ []),
-        (
-          under None a,
-          (let A : ℕ → Type 0 = λ n. Runs n (started None program (context_of s closed g) (oral (shape_of s g (suc (length closed))))) (accesses_of g piece) (under None a) in
-              subst A k (runs_under None c.0 (started s.patience program (context_of s closed g) (oral (shape_of s g (suc (length closed))))) (accesses_of g piece) a tt runs)),
+  served_added : (s : Scenario) (first w : World) (g : ℕ) (a : Activation) → w.closed ≡ first.closed → g < s.generals → IsDue s g a → Added s first w → (o : Turn) → Added s first (served w g o)
+  served_added s first w g a closed lt due d (Goes b) = record { piece = d.piece; ledger = d.ledger; made = d.made }
+  served_added s first w g a closed lt due d (Asks q f) =
+      let x = access g (suc (length w.closed)) q (reply w.words q) in
+      record {
+        piece = d.piece ++ x ∷ [];
+        ledger = ap (λ l. l ++ x ∷ []) d.ledger ∙ append_assoc first.ledger d.piece (x ∷ []);
+        made = made_snoc s (suc (length first.closed)) d.piece x d.made lt (ap (λ c. suc (length c)) closed) (ap is_some due.program);
+      }
+  served_added s first w g a closed lt due d Ended = d
+
+  ticked_added : (s : Scenario) (first w : World) (g : ℕ) → w.closed ≡ first.closed → IsOnTime K s w → Added s first w → (o : Option Part) → slice_get w.parts g ≡ o → Added s first (ticked w g o)
+  ticked_added s first w g closed t d None e = d
+  ticked_added s first w g closed t d (Some (Acting a)) e =
+      let A : Scenario → Type 0 = λ v. g < v.generals in
+      served_added s first w g a closed (subst A t.scenario (t.kept.parts g (Acting a) e).0) (t.due g (Acting a) e) d (turn a)
+  ticked_added s first w g closed t d (Some Silent) e = d
+  ticked_added s first w g closed t d (Some Posted) e = d
+
+  posting_added : (s : Scenario) (first w : World) (g : ℕ) → Added s first w → (o : Option Part) → Added s first (posting w g o)
+  posting_added s first w g d None = d
+  posting_added s first w g d (Some (Acting a)) = d
+  posting_added s first w g d (Some Silent) = record { piece = d.piece; ledger = d.ledger; made = d.made }
+  posting_added s first w g d (Some Posted) = d
+
+  pub move_added : (s : Scenario) (first w : World) (e : Event) → IsMove e → w.closed ≡ first.closed → IsOnTime K s w → Added s first w → Added s first (happen K w e)
+  move_added s first w (Tick g) i closed t d = ticked_added s first w g closed t d (slice_get w.parts g) refl
+  move_added s first w (Post g) i closed t d = posting_added s first w g d (slice_get w.parts g)
+  move_added s first w Close i closed t d = absurd i
+
+  module _ (s : Scenario) (closed : List (List Letter)) (words : List ℕ) (ledger : List Access) where
+    abbrev first : World
+    first = begun K s closed words ledger true
+
+    -- the activation with which a traitor's part began
+    starts : (b : Bool) (g : ℕ) (a : Activation) (program : List Insn) → program_of s g ≡ Some program → slice_get (cond b (each s.generals (λ h. begins K s closed h (program_of s h) ∷ [])) []) g ≡ Some (Acting a)
+        → started s.patience program (K.context s closed g) (K.relay s closed g) ≡ a
+    starts true g a program is e =
+        let h = each-get_only s.generals (λ j. begins K s closed j (program_of s j)) g (Acting a) e in
+        let f : Acting a ≡ begins K s closed g (Some program) = h.1 ∙ ap (begins K s closed g) is in cc
+    starts false g a program is e = cc
+
+    -- a general's letter, in a ripe world
+    letter_made : (w : World) (piece : List Access) → w.scenario ≡ s → w.closed ≡ closed → drop w.opened w.ledger ≡ piece → AreMade s (suc (length closed)) piece → IsRipe w
+        → ((g : ℕ) (a : Activation) → slice_get w.parts g ≡ Some (Acting a) → Came K (begun K s closed words ledger true) piece g a)
+        → (g : ℕ) (part : Part) → slice_get w.parts g ≡ Some part → (o : Option (List Insn)) → program_of s g ≡ o → Fits o part
+        → (l : Letter) × (letters_at K w g (Some part) ≡ l ∷ []) × IsLetterOf K s closed g o l × (accesses_of g piece ≡ l.transcript)
+    letter_made w piece sc cl op made ripe came g (Acting a) at None is fits = absurd fits
+    letter_made w piece sc cl op made ripe came g (Acting a) at (Some program) is fits =
+        let c = came g a at in
+        let from = starts (round_open s closed) g c.1 program is c.2 in
+        let runs : Runs c.0 (started s.patience program (K.context s closed g) (K.relay s closed g)) (accesses_of g piece) a = (let A : Activation → Type 0 = λ b. Runs c.0 b (accesses_of g piece) a in subst A (sym from) c.3) in
+        let steps = runs_steps c.0 (started s.patience program (K.context s closed g) (K.relay s closed g)) (accesses_of g piece) a runs in
+        let k : c.0 ≡ a.state.steps = omega arith in
+        let kept : Kept s.patience a = runs_kept s.patience c.0 (started s.patience program (K.context s closed g) (K.relay s closed g)) (accesses_of g piece) a (refl, within_none s.patience) runs in
+        let l : Letter = record { general = g; round = suc (length closed); context = K.context s closed g; program = Some program; transcript = accesses_of g piece; steps = a.state.steps; outbox = record { relay = K.relay s closed g; rows = a.state.outbox; entries = a.state.entries }; exited = a.over } in
+        let program_is : program_of w.scenario g ≡ Some program = ap (λ (v : Scenario). program_of v g) sc ∙ is in (
+          l,
+          (λ i. record { general = g; round = suc (length (cl i)); context = K.context (sc i) (cl i) g; program = program_is i; transcript = accesses_of g (op i); steps = a.state.steps; outbox = record { relay = K.relay (sc i) (cl i) g; rows = a.state.outbox; entries = a.state.entries }; exited = a.over } ∷ []),
+          (
+            under None a,
+            (let A : ℕ → Type 0 = λ n. Runs n (started None program (K.context s closed g) (K.relay s closed g)) (accesses_of g piece) (under None a) in
+                subst A k (runs_under None c.0 (started s.patience program (K.context s closed g) (K.relay s closed g)) (accesses_of g piece) a tt runs)),
+            refl,
+            kept.1,
+            (let A : Option ℕ → Type 0 = λ p. (a.over || is_reached p a.state.steps) ≡ true in subst A kept.0 (ripe.ended_all g (Acting a) at)),
+          ),
           refl,
-          kept.1,
-          (let A : Option ℕ → Type 0 = λ p. (a.over || is_reached p a.state.steps) ≡ true in subst A kept.0 (ripe.ended_all g (Acting a) at)),
-        ),
-        refl,
-      )
-  letter_made w piece sc cl op made ripe came g Silent at o is fits = absurd (let f : false ≡ true = ripe.posted_all g Silent at in cc)
-  letter_made w piece sc cl op made ripe came g Posted at None is fits =
-      (faithful_letter s closed g, (λ i. faithful_letter (sc i) (cl i) g ∷ []), refl, made_none s (suc (length closed)) g piece made (ap is_some is))
-  letter_made w piece sc cl op made ripe came g Posted at (Some program) is fits = absurd fits
+        )
+    letter_made w piece sc cl op made ripe came g Silent at o is fits = absurd (let f : false ≡ true = ripe.posted_all g Silent at in cc)
+    letter_made w piece sc cl op made ripe came g Posted at None is fits =
+        (loyal_letter K s closed g, (λ i. loyal_letter K (sc i) (cl i) g ∷ []), refl, made_none s (suc (length closed)) g piece made (ap is_some is))
+    letter_made w piece sc cl op made ripe came g Posted at (Some program) is fits = absurd fits
 
-  -- the letters of a ripe round account for what it added, and have as many accesses
-  pub record Accounts (w : World) (piece : List Access) : Type 0 where
-    pub round : IsAccountedRound s closed piece (round_letters w)
-    pub count : sum_by (λ l. length l.transcript) (round_letters w) ≡ length piece
+    -- the letters of a ripe round account for what it added, and have as many accesses
+    pub record Accounts (w : World) (piece : List Access) : Type 0 where
+      pub round : IsAccountedRound K s closed piece (round_letters K w)
+      pub count : sum_by (λ l. length l.transcript) (round_letters K w) ≡ length piece
 
-  pub round_accounts : (w : World) (piece : List Access) → w.scenario ≡ s → w.closed ≡ closed → drop w.opened w.ledger ≡ piece → AreMade s (suc (length closed)) piece → length w.parts ≡ s.generals → IsKept w → IsRipe w
-      → ((g : ℕ) (a : Activation) → slice_get w.parts g ≡ Some (Acting a) → Came (begun s closed words ledger true) piece g a) → Accounts w piece
-  round_accounts w piece sc cl op made count k ripe came =
-      let f : ℕ → List Letter = λ g. letters_at w g (slice_get w.parts g) in
-      let one : (g : ℕ) → g < s.generals → (l : Letter) × (f g ≡ l ∷ []) × IsLetterOf s closed g (program_of s g) l × (accesses_of g piece ≡ l.transcript) = (λ g lt.
-      let p = part_within w.parts g (omega arith) in
-      let A : Scenario → Type 0 = λ t. Fits (program_of t g) p.0 in
-      let r = letter_made w piece sc cl op made ripe came g p.0 p.1 (program_of s g) refl (subst A sc (k.parts g p.0 p.1).1) in
-      (r.0, ap (letters_at w g) p.1 ∙ r.1, r.2, r.3)) in
-      let singles : Singles s.generals f = (λ g lt. let r = one g lt in (r.0, r.1)) in
-      let B : ℕ → Type 0 = λ n. IsAccountedRound s closed piece (each n f) × (sum_by (λ l. length l.transcript) (each n f) ≡ length piece) in
-      let both = subst B (sym (ap (λ (t : Scenario). t.generals) sc)) (
-        record {
-          count = singles_length s.generals f singles;
-          each = λ g l at.
-              let there = singles_get s.generals f singles g l at in
-              let r = one g there.0 in
-              let same : r.0 ≡ l = (let i : r.0 ∷ [] ≡ l ∷ [] = sym r.1 ∙ there.1 in cc) in
-              let C : Letter → Type 0 = λ m. IsLetterOf s closed g (program_of s g) m × (accesses_of g piece ≡ m.transcript) in
-              subst C same (r.2, r.3);
-          entries = made_all s (suc (length closed)) piece made;
-        },
-        singles_sum piece s.generals f (λ g lt. let r = one g lt in (r.0, r.1, r.3)) ∙ total_all s.generals piece (made_below s (suc (length closed)) piece made),
-      ) in
-      record { round = both.0; count = both.1 }
+    pub round_accounts : (w : World) (piece : List Access) → w.scenario ≡ s → w.closed ≡ closed → drop w.opened w.ledger ≡ piece → AreMade s (suc (length closed)) piece → length w.parts ≡ s.generals → IsKept K w → IsRipe w
+        → ((g : ℕ) (a : Activation) → slice_get w.parts g ≡ Some (Acting a) → Came K (begun K s closed words ledger true) piece g a) → Accounts w piece
+    round_accounts w piece sc cl op made count k ripe came =
+        let f : ℕ → List Letter = λ g. letters_at K w g (slice_get w.parts g) in
+        let one : (g : ℕ) → g < s.generals → (l : Letter) × (f g ≡ l ∷ []) × IsLetterOf K s closed g (program_of s g) l × (accesses_of g piece ≡ l.transcript) = (λ g lt.
+        let p = part_within w.parts g (omega arith) in
+        let A : Scenario → Type 0 = λ t. Fits (program_of t g) p.0 in
+        let r = letter_made w piece sc cl op made ripe came g p.0 p.1 (program_of s g) refl (subst A sc (k.parts g p.0 p.1).1) in
+        (r.0, ap (letters_at K w g) p.1 ∙ r.1, r.2, r.3)) in
+        let singles : Singles s.generals f = (λ g lt. let r = one g lt in (r.0, r.1)) in
+        let B : ℕ → Type 0 = λ n. IsAccountedRound K s closed piece (each n f) × (sum_by (λ l. length l.transcript) (each n f) ≡ length piece) in
+        let both = subst B (sym (ap (λ (t : Scenario). t.generals) sc)) (
+          record {
+            count = singles_length s.generals f singles;
+            each = λ g l at.
+                let there = singles_get s.generals f singles g l at in
+                let r = one g there.0 in
+                let same : r.0 ≡ l = (let i : r.0 ∷ [] ≡ l ∷ [] = sym r.1 ∙ there.1 in cc) in
+                let C : Letter → Type 0 = λ m. IsLetterOf K s closed g (program_of s g) m × (accesses_of g piece ≡ m.transcript) in
+                subst C same (r.2, r.3);
+            entries = made_all s (suc (length closed)) piece made;
+          },
+          singles_sum piece s.generals f (λ g lt. let r = one g lt in (r.0, r.1, r.3)) ∙ total_all s.generals piece (made_below s (suc (length closed)) piece made),
+        ) in
+        record { round = both.0; count = both.1 }

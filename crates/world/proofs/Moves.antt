@@ -1,7 +1,7 @@
 -- What ticks and posts keep.
 use Rattle.std.proofs.Common.{◌≡◌, ◌≢◌, ℕ, zero, suc, List, [], ◌∷◌, ◌++◌, length, true, refl, sym, ap, subst, ◌∙◌, ◌⊎◌, inl, inr, ⊎_elim, Option, Some, None, arith}
 use Rattle.std.specs.Prelude.{slice_get, slice_set}
-use Rattle.world.specs.Lists.{IsMove, AreMoves}
+use Rattle.world.specs.KindLists.{IsMove, AreMoves}
 use Rattle.std.proofs.lemmas.List.{length-set}
 use Rattle.semantics.specs.declared.request.Request.{Request}
 use Rattle.semantics.specs.Call.{fits}
@@ -11,7 +11,7 @@ use Rattle.world.specs.declared.event.Event.{Event}
 use Rattle.world.specs.declared.event.Event.TheVariants.{Tick, Post, Close}
 use Rattle.round.specs.Activation.{Activation, Turn, Goes, Asks, Ended, turn}
 use Rattle.world.specs.Part.{Part, Acting, Silent, Posted}
-use Rattle.world.specs.World.{World, ticked, served, posting, happen, run}
+use Rattle.world.specs.Kind.{Kind, World, ticked, served, posting, happen, run}
 use Rattle.round.proofs.Going.{turn_within}
 
 pub set-cases : {A : Type 0} (xs : List A) (i j : ℕ) (v x : A) → slice_get (slice_set xs i v) j ≡ Some x → ((j ≡ i) × (x ≡ v)) ⊎ ((j ≢ i) × (slice_get xs j ≡ Some x))
@@ -56,19 +56,6 @@ posting_same w g (Some (Acting a)) = same_round w
 posting_same w g (Some Silent) = record { scenario = refl; closed = refl; opened = refl; full = refl; count = length-set w.parts g Posted }
 posting_same w g (Some Posted) = same_round w
 
-pub move_same : (w : World) (e : Event) → IsMove e → SameRound w (happen w e)
-move_same w (Tick g) i = ticked_same w g (slice_get w.parts g)
-move_same w (Post g) i = posting_same w g (slice_get w.parts g)
-move_same w Close i = absurd i
-
-pub moves_same : (es : List Event) (w : World) → AreMoves es → SameRound w (run w es)
-moves_same [] w i = same_round w
-moves_same (e ∷ es) w i = then_same w (happen w e) (run (happen w e) es) (move_same w e i.0) (moves_same es (happen w e) i.1)
-
-pub run-append : (es fs : List Event) (w : World) → run w (es ++ fs) ≡ run (run w es) fs
-run-append [] fs w = refl
-run-append (e ∷ es) fs w = run-append es fs (happen w e)
-
 served_board : (w : World) (g : ℕ) (a : Activation) (o : Turn) → turn a ≡ o → IsBoard w.words → IsBoard (served w g o).words
 served_board w g a (Goes b) e board = board
 served_board w g a (Asks q f) e board = next_board w.words q board (turn_within a q f e)
@@ -86,16 +73,6 @@ posting_board w g (Some (Acting a)) board = board
 posting_board w g (Some Silent) board = board
 posting_board w g (Some Posted) board = board
 
--- a board stays a board
-pub move_board : (w : World) (e : Event) → IsMove e → IsBoard w.words → IsBoard (happen w e).words
-move_board w (Tick g) i board = ticked_board w g (slice_get w.parts g) board
-move_board w (Post g) i board = posting_board w g (slice_get w.parts g) board
-move_board w Close i board = absurd i
-
-pub moves_board : (es : List Event) (w : World) → AreMoves es → IsBoard w.words → IsBoard (run w es).words
-moves_board [] w i board = board
-moves_board (e ∷ es) w i board = moves_board es (happen w e) i.1 (move_board w e i.0 board)
-
 -- each general's part has the property
 abbrev pub AllParts : (ℕ → Part → Type 0) → List Part → Type 0
 AllParts Q parts = (g : ℕ) (part : Part) → slice_get parts g ≡ Some part → Q g part
@@ -106,36 +83,60 @@ pub record IsLasting (Q : ℕ → Part → Type 0) : Type 0 where
   pub asks : (g : ℕ) (a : Activation) (q : Request) (f : List ℕ → Activation) (r : List ℕ) → Q g (Acting a) → turn a ≡ Asks q f → fits q r ≡ true → Q g (Acting (f r))
   pub posts : (g : ℕ) → Q g Silent → Q g Posted
 
-module _ (Q : ℕ → Part → Type 0) (kept : IsLasting Q) where
-  parts-set : (parts : List Part) (g : ℕ) (v : Part) → AllParts Q parts → Q g v → AllParts Q (slice_set parts g v)
-  parts-set parts g v all new j part e =
-      ⊎_elim (λ (h : (j ≡ g) × (part ≡ v)). (let A : ℕ → Type 0 = λ i. Q i part in let B : Part → Type 0 = λ p. Q g p in subst A (sym h.0) (subst B (sym h.1) new)))
-      (λ (h : (j ≢ g) × (slice_get parts j ≡ Some part)). all j part h.1)
-      (set-cases parts g j v part e)
+module _ (K : Kind) where
+  pub move_same : (w : World) (e : Event) → IsMove e → SameRound w (happen K w e)
+  move_same w (Tick g) i = ticked_same w g (slice_get w.parts g)
+  move_same w (Post g) i = posting_same w g (slice_get w.parts g)
+  move_same w Close i = absurd i
 
-  served_keeps : (w : World) (g : ℕ) (a : Activation) → slice_get w.parts g ≡ Some (Acting a) → IsBoard w.words → AllParts Q w.parts → (o : Turn) → turn a ≡ o → AllParts Q (served w g o).parts
-  served_keeps w g a at board all (Goes b) e = parts-set w.parts g (Acting b) all (kept.goes g a b (all g (Acting a) at) e)
-  served_keeps w g a at board all (Asks q f) e =
-      parts-set w.parts g (Acting (f (reply w.words q))) all (kept.asks g a q f (reply w.words q) (all g (Acting a) at) e (reply_fits w.words q board (turn_within a q f e)))
-  served_keeps w g a at board all Ended e = all
+  pub moves_same : (es : List Event) (w : World) → AreMoves es → SameRound w (run K w es)
+  moves_same [] w i = same_round w
+  moves_same (e ∷ es) w i = then_same w (happen K w e) (run K (happen K w e) es) (move_same w e i.0) (moves_same es (happen K w e) i.1)
 
-  ticked_keeps : (w : World) (g : ℕ) → IsBoard w.words → AllParts Q w.parts → (o : Option Part) → slice_get w.parts g ≡ o → AllParts Q (ticked w g o).parts
-  ticked_keeps w g board all None e = all
-  ticked_keeps w g board all (Some (Acting a)) e = served_keeps w g a e board all (turn a) refl
-  ticked_keeps w g board all (Some Silent) e = all
-  ticked_keeps w g board all (Some Posted) e = all
+  pub run-append : (es fs : List Event) (w : World) → run K w (es ++ fs) ≡ run K (run K w es) fs
+  run-append [] fs w = refl
+  run-append (e ∷ es) fs w = run-append es fs (happen K w e)
 
-  posting_keeps : (w : World) (g : ℕ) → AllParts Q w.parts → (o : Option Part) → slice_get w.parts g ≡ o → AllParts Q (posting w g o).parts
-  posting_keeps w g all None e = all
-  posting_keeps w g all (Some (Acting a)) e = all
-  posting_keeps w g all (Some Silent) e = parts-set w.parts g Posted all (kept.posts g (all g Silent e))
-  posting_keeps w g all (Some Posted) e = all
+  -- a board stays a board
+  pub move_board : (w : World) (e : Event) → IsMove e → IsBoard w.words → IsBoard (happen K w e).words
+  move_board w (Tick g) i board = ticked_board w g (slice_get w.parts g) board
+  move_board w (Post g) i board = posting_board w g (slice_get w.parts g) board
+  move_board w Close i board = absurd i
 
-  pub move_keeps : (w : World) (e : Event) → IsMove e → IsBoard w.words → AllParts Q w.parts → AllParts Q (happen w e).parts
-  move_keeps w (Tick g) i board all = ticked_keeps w g board all (slice_get w.parts g) refl
-  move_keeps w (Post g) i board all = posting_keeps w g all (slice_get w.parts g) refl
-  move_keeps w Close i board all = absurd i
+  pub moves_board : (es : List Event) (w : World) → AreMoves es → IsBoard w.words → IsBoard (run K w es).words
+  moves_board [] w i board = board
+  moves_board (e ∷ es) w i board = moves_board es (happen K w e) i.1 (move_board w e i.0 board)
 
-  pub moves_keep : (es : List Event) (w : World) → AreMoves es → IsBoard w.words → AllParts Q w.parts → AllParts Q (run w es).parts
-  moves_keep [] w i board all = all
-  moves_keep (e ∷ es) w i board all = moves_keep es (happen w e) i.1 (move_board w e i.0 board) (move_keeps w e i.0 board all)
+  module _ (Q : ℕ → Part → Type 0) (kept : IsLasting Q) where
+    parts-set : (parts : List Part) (g : ℕ) (v : Part) → AllParts Q parts → Q g v → AllParts Q (slice_set parts g v)
+    parts-set parts g v all new j part e =
+        ⊎_elim (λ (h : (j ≡ g) × (part ≡ v)). (let A : ℕ → Type 0 = λ i. Q i part in let B : Part → Type 0 = λ p. Q g p in subst A (sym h.0) (subst B (sym h.1) new)))
+        (λ (h : (j ≢ g) × (slice_get parts j ≡ Some part)). all j part h.1)
+        (set-cases parts g j v part e)
+
+    served_keeps : (w : World) (g : ℕ) (a : Activation) → slice_get w.parts g ≡ Some (Acting a) → IsBoard w.words → AllParts Q w.parts → (o : Turn) → turn a ≡ o → AllParts Q (served w g o).parts
+    served_keeps w g a at board all (Goes b) e = parts-set w.parts g (Acting b) all (kept.goes g a b (all g (Acting a) at) e)
+    served_keeps w g a at board all (Asks q f) e =
+        parts-set w.parts g (Acting (f (reply w.words q))) all (kept.asks g a q f (reply w.words q) (all g (Acting a) at) e (reply_fits w.words q board (turn_within a q f e)))
+    served_keeps w g a at board all Ended e = all
+
+    ticked_keeps : (w : World) (g : ℕ) → IsBoard w.words → AllParts Q w.parts → (o : Option Part) → slice_get w.parts g ≡ o → AllParts Q (ticked w g o).parts
+    ticked_keeps w g board all None e = all
+    ticked_keeps w g board all (Some (Acting a)) e = served_keeps w g a e board all (turn a) refl
+    ticked_keeps w g board all (Some Silent) e = all
+    ticked_keeps w g board all (Some Posted) e = all
+
+    posting_keeps : (w : World) (g : ℕ) → AllParts Q w.parts → (o : Option Part) → slice_get w.parts g ≡ o → AllParts Q (posting w g o).parts
+    posting_keeps w g all None e = all
+    posting_keeps w g all (Some (Acting a)) e = all
+    posting_keeps w g all (Some Silent) e = parts-set w.parts g Posted all (kept.posts g (all g Silent e))
+    posting_keeps w g all (Some Posted) e = all
+
+    pub move_keeps : (w : World) (e : Event) → IsMove e → IsBoard w.words → AllParts Q w.parts → AllParts Q (happen K w e).parts
+    move_keeps w (Tick g) i board all = ticked_keeps w g board all (slice_get w.parts g) refl
+    move_keeps w (Post g) i board all = posting_keeps w g all (slice_get w.parts g) refl
+    move_keeps w Close i board all = absurd i
+
+    pub moves_keep : (es : List Event) (w : World) → AreMoves es → IsBoard w.words → AllParts Q w.parts → AllParts Q (run K w es).parts
+    moves_keep [] w i board all = all
+    moves_keep (e ∷ es) w i board all = moves_keep es (happen K w e) i.1 (move_board w e i.0 board) (move_keeps w e i.0 board all)

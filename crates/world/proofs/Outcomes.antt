@@ -9,7 +9,7 @@ use Rattle.round.specs.Letters.{Letter, messages}
 use Rattle.world.specs.declared.event.Event.{Event}
 use Rattle.world.specs.declared.verdict.Verdict.{Verdict}
 use Rattle.world.specs.Part.{Part}
-use Rattle.world.specs.World.{World, opening, run}
+use Rattle.world.specs.World.{oral_kind, World, opening, run}
 use Rattle.world.specs.Reached.{world_of, IsHeld}
 use Rattle.world.specs.Agreement.{IsFinished}
 use Rattle.world.specs.Chronicle.{Chronicle, decisions, verdict_of, chronicle_of}
@@ -44,7 +44,7 @@ long s M = length-map (lieutenants s.generals s.commander) _
 
 module _ (s : Scenario) (events : List Event) (c : Chronicle) (is : IsScenario s) (done : IsFinished (run (opening s) events)) (same : c ≡ chronicle_of (run (opening s) events)) where
   decided : c.decisions ≡ decisions s (messages (run (opening s) events).closed)
-  decided = ap (λ (d : Chronicle). d.decisions) same ∙ ap (λ (t : Scenario). decisions t (messages (run (opening s) events).closed)) (run_scenario events (opening s))
+  decided = ap (λ (d : Chronicle). d.decisions) same ∙ ap (λ (t : Scenario). decisions t (messages (run (opening s) events).closed)) (run_scenario oral_kind events (opening s))
 
   pub finished_decisions : c.decisions ≡ decisions s (messages c.letters)
   finished_decisions = decided ∙ ap (λ (rounds : List (List Letter)). decisions s (messages rounds)) (sym (ap (λ (d : Chronicle). d.letters) same))
@@ -55,7 +55,7 @@ module _ (s : Scenario) (events : List Event) (c : Chronicle) (is : IsScenario s
   judged : c.verdict ≡ verdict_of s c.decisions
   judged =
       ap (λ (d : Chronicle). d.verdict) same
-      ∙ (ap (λ (t : Scenario). verdict_of t (decisions t (messages (run (opening s) events).closed))) (run_scenario events (opening s)) ∙ ap (verdict_of s) (sym decided))
+      ∙ (ap (λ (t : Scenario). verdict_of t (decisions t (messages (run (opening s) events).closed))) (run_scenario oral_kind events (opening s)) ∙ ap (verdict_of s) (sym decided))
 
   pub finished_verdict : IsVerdictOn s c.decisions c.verdict
   finished_verdict =

@@ -10,8 +10,8 @@ use Rattle.round.proofs.Fitting.{fitting_more}
 use Rattle.world.specs.declared.event.Event.{Event}
 use Rattle.world.specs.declared.event.Event.TheVariants.{Tick, Post, Close}
 use Rattle.world.specs.Part.{Part, Acting, Silent, Posted}
-use Rattle.world.specs.World.{World, served, ticked, posting, happen}
-use Rattle.world.specs.Lists.{IsMove}
+use Rattle.world.specs.Kind.{Kind, World, served, ticked, posting, happen}
+use Rattle.world.specs.KindLists.{IsMove}
 
 served_fitting : (w : World) (g : ℕ) (a : Activation) (o : Turn) → turn a ≡ o → IsBoard w.words → AreFitting w.ledger → AreFitting (served w g o).ledger
 served_fitting w g a (Goes b) e board h = h
@@ -31,7 +31,8 @@ posting_fitting w g (Some (Acting a)) h = h
 posting_fitting w g (Some Silent) h = h
 posting_fitting w g (Some Posted) h = h
 
-pub move_fitting : (w : World) (e : Event) → IsMove e → IsBoard w.words → AreFitting w.ledger → AreFitting (happen w e).ledger
-move_fitting w (Tick g) i board h = ticked_fitting w g (slice_get w.parts g) board h
-move_fitting w (Post g) i board h = posting_fitting w g (slice_get w.parts g) h
-move_fitting w Close i board h = absurd i
+module _ (K : Kind) where
+  pub move_fitting : (w : World) (e : Event) → IsMove e → IsBoard w.words → AreFitting w.ledger → AreFitting (happen K w e).ledger
+  move_fitting w (Tick g) i board h = ticked_fitting w g (slice_get w.parts g) board h
+  move_fitting w (Post g) i board h = posting_fitting w g (slice_get w.parts g) h
+  move_fitting w Close i board h = absurd i

@@ -1,27 +1,21 @@
--- What every run keeps, and agreement where all rounds are closed and full.
+-- What every run keeps.
 use Rattle.std.proofs.Common.{◌≡◌, ◌≢◌, ℕ, zero, suc, ◌<◌, ◌≤◌, List, [], ◌∷◌, ◌++◌, length, take, get_or, Bool, true, false, cond, refl, sym, ap, subst, ◌∙◌, ⊎_elim, Option, Some, None, arith, length-append}
-use Rattle.std.specs.Prelude.{is_some, find, slice_get, ◌==◌}
+use Rattle.std.specs.Prelude.{find, slice_get, ◌==◌}
 use Rattle.std.specs.List.{list_all}
 use Rattle.std.proofs.lemmas.Bool.{eq-eqb, ne_eqb, and_parts, ltb-true, lt-ltb, cases_Bool}
 use Rattle.std.proofs.lemmas.Bool.Decides.{eqb_tells}
-use Rattle.combine.specs.Chosen.{combined_by, chosen_is_rule}
-use Rattle.label.specs.Oral.{IsFaithful, IsBound, Agree}
-use Rattle.book.proofs.Induction.{holds}
 use Rattle.insn.specs.declared.insn.Insn.{Insn}
 use Rattle.board.specs.Board.{IsBoard}
 use Rattle.world.specs.declared.event.Event.{Event}
 use Rattle.world.specs.declared.event.Event.TheVariants.{Tick, Post, Close}
-use Rattle.round.specs.Scenario.{Scenario, program_of, is_traitor}
-use Rattle.round.specs.Letters.{Letter, letter_of, messages}
-use Rattle.round.specs.Contexts.{faithful_letter}
+use Rattle.round.specs.Scenario.{Scenario, program_of}
+use Rattle.round.specs.Letters.{Letter, letter_of}
 use Rattle.round.specs.Activation.{Activation}
 use Rattle.world.specs.Part.{Part, Acting, Silent, Posted, owes_no_letter}
-use Rattle.world.specs.World.{World, begins, opening, round_open, letters_at, round_letters, closing, happen, run, each}
-use Rattle.world.specs.Chronicle.{decision}
+use Rattle.world.specs.Kind.{Kind, loyal_letter, World, begins, opening, round_open, letters_at, round_letters, closing, happen, run, each}
 use Rattle.world.proofs.Kept.{Fits, Tells, IsKept}
 use Rattle.world.proofs.Listing.{each-find, each-get_only, each-length, all-at, take-front, take-whole, get_or-left, get_or-seam}
-use Rattle.world.proofs.Faithful.{faithful}
-use Rattle.world.specs.Lists.{IsMove}
+use Rattle.world.specs.KindLists.{IsMove}
 use Rattle.world.proofs.Moves.{move_same, AllParts, IsLasting, move_keeps, move_board}
 
 Suits : Scenario → ℕ → Part → Type 0
@@ -43,130 +37,112 @@ suits_lasts s = record {
   posts = λ g q. (q.0, fits_post (program_of s g) q.1);
 }
 
-fits_begins : (s : Scenario) (closed : List (List Letter)) (g : ℕ) (o : Option (List Insn)) → Fits o (begins s closed g o)
-fits_begins s closed g None = tt
-fits_begins s closed g (Some p) = tt
+module _ (K : Kind) where
+  fits_begins : (s : Scenario) (closed : List (List Letter)) (g : ℕ) (o : Option (List Insn)) → Fits o (begins K s closed g o)
+  fits_begins s closed g None = tt
+  fits_begins s closed g (Some p) = tt
 
-move_kept : (w : World) (e : Event) → IsMove e → IsKept w → IsKept (happen w e)
-unfolding Suits
-move_kept w e i k =
-    let v = happen w e in
-    let same = move_same w e i in
-    let parts : AllParts (Suits w.scenario) v.parts = move_keeps (Suits w.scenario) (suits_lasts w.scenario) w e i k.board k.parts in
-    record {
-      parts = (let A : Scenario → Type 0 = λ s. AllParts (Suits s) v.parts in subst A (sym same.scenario) parts);
-      open_parts = (let A : Scenario → Type 0 = λ s. length v.closed < suc s.bound → length v.parts ≡ s.generals in
-          subst A (sym same.scenario) (λ lt. same.count ∙ k.open_parts (let h = same.closed in let h' = ap length h in omega arith)));
-      closed = (let A : Scenario → Type 0 = λ s. length v.closed ≤ suc s.bound in
-          subst A (sym same.scenario) (let h = ap length same.closed in let l = k.closed in omega arith));
-      board = move_board w e i k.board;
-      told = (let A : Scenario → List (List Letter) → Type 0 = λ s ls. v.full ≡ true → (g : ℕ) → g < s.generals → program_of s g ≡ None → Tells s ls g in
-          subst (λ (s : Scenario). A s v.closed) (sym same.scenario) (subst (λ (ls : List (List Letter)). A w.scenario ls) (sym same.closed) (λ f. k.told (sym same.full ∙ f))));
-    }
+  move_kept : (w : World) (e : Event) → IsMove e → IsKept K w → IsKept K (happen K w e)
+  unfolding Suits
+  move_kept w e i k =
+      let v = happen K w e in
+      let same = move_same K w e i in
+      let parts : AllParts (Suits w.scenario) v.parts = move_keeps K (Suits w.scenario) (suits_lasts w.scenario) w e i k.board k.parts in
+      record {
+        parts = (let A : Scenario → Type 0 = λ s. AllParts (Suits s) v.parts in subst A (sym same.scenario) parts);
+        open_parts = (let A : Scenario → Type 0 = λ s. length v.closed < suc s.bound → length v.parts ≡ s.generals in
+            subst A (sym same.scenario) (λ lt. same.count ∙ k.open_parts (let h = same.closed in let h' = ap length h in omega arith)));
+        closed = (let A : Scenario → Type 0 = λ s. length v.closed ≤ suc s.bound in
+            subst A (sym same.scenario) (let h = ap length same.closed in let l = k.closed in omega arith));
+        board = move_board K w e i k.board;
+        told = (let A : Scenario → List (List Letter) → Type 0 = λ s ls. v.full ≡ true → (g : ℕ) → g < s.generals → program_of s g ≡ None → Tells K s ls g in
+            subst (λ (s : Scenario). A s v.closed) (sym same.scenario) (subst (λ (ls : List (List Letter)). A w.scenario ls) (sym same.closed) (λ f. k.told (sym same.full ∙ f))));
+      }
 
--- letters of others are not g's
-not_his : (w : World) (g j : ℕ) (o : Option Part) → j ≢ g → find (λ l. l.general == g) (letters_at w j o) ≡ None
-not_his w g j None ne = refl
-not_his w g j (Some (Acting a)) ne = rw (ne_eqb j g ne) refl
-not_his w g j (Some Silent) ne = refl
-not_his w g j (Some Posted) ne = rw (ne_eqb j g ne) refl
+  -- letters of others are not g's
+  not_his : (w : World) (g j : ℕ) (o : Option Part) → j ≢ g → find (λ l. l.general == g) (letters_at K w j o) ≡ None
+  not_his w g j None ne = refl
+  not_his w g j (Some (Acting a)) ne = rw (ne_eqb j g ne) refl
+  not_his w g j (Some Silent) ne = refl
+  not_his w g j (Some Posted) ne = rw (ne_eqb j g ne) refl
 
-his : (w : World) (g : ℕ) (o : Option (List Insn)) (part : Part) → o ≡ None → Fits o part → owes_no_letter part ≡ true
-    → find (λ l. l.general == g) (letters_at w g (Some part)) ≡ Some (faithful_letter w.scenario w.closed g)
-his w g None (Acting a) n f h = absurd f
-his w g None Silent n f h = cc
-his w g None Posted n f h = rw (eq-eqb g g refl) refl
-his w g (Some p) part n f h = cc
+  his : (w : World) (g : ℕ) (o : Option (List Insn)) (part : Part) → o ≡ None → Fits o part → owes_no_letter part ≡ true
+      → find (λ l. l.general == g) (letters_at K w g (Some part)) ≡ Some (loyal_letter K w.scenario w.closed g)
+  his w g None (Acting a) n f h = absurd f
+  his w g None Silent n f h = cc
+  his w g None Posted n f h = rw (eq-eqb g g refl) refl
+  his w g (Some p) part n f h = cc
 
-some_part : (w : World) → IsKept w → length w.closed < suc w.scenario.bound → (g : ℕ) → g < w.scenario.generals → (part : Part) × (slice_get w.parts g ≡ Some part)
-some_part w k more g lt = within w.parts g (let h = k.open_parts more in omega arith)
-  where
-    within : (ps : List Part) (g : ℕ) → g < length ps → (part : Part) × (slice_get ps g ≡ Some part)
-    within [] g lt = absurd (omega arith)
-    within (p ∷ ps) zero lt = (p, refl)
-    within (p ∷ ps) (suc g) lt = within ps g (omega arith)
+  some_part : (w : World) → IsKept K w → length w.closed < suc w.scenario.bound → (g : ℕ) → g < w.scenario.generals → (part : Part) × (slice_get w.parts g ≡ Some part)
+  some_part w k more g lt = within w.parts g (let h = k.open_parts more in omega arith)
+    where
+      within : (ps : List Part) (g : ℕ) → g < length ps → (part : Part) × (slice_get ps g ≡ Some part)
+      within [] g lt = absurd (omega arith)
+      within (p ∷ ps) zero lt = (p, refl)
+      within (p ∷ ps) (suc g) lt = within ps g (omega arith)
 
-told_now : (w : World) → IsKept w → length w.closed < suc w.scenario.bound → list_all owes_no_letter w.parts ≡ true → (g : ℕ) → g < w.scenario.generals → program_of w.scenario g ≡ None
-    → letter_of (round_letters w) g ≡ Some (faithful_letter w.scenario w.closed g)
-told_now w k more all g lt loyal =
-    let part = some_part w k more g lt in
-    each-find w.scenario.generals (λ l. l.general == g) (λ j. letters_at w j (slice_get w.parts j)) g _ lt
-    (λ j ne. not_his w g j (slice_get w.parts j) ne)
-    (ap (λ o. find (λ l. l.general == g) (letters_at w g o)) part.1
-    ∙ his w g (program_of w.scenario g) part.0 loyal (k.parts g part.0 part.1).1 (all-at owes_no_letter w.parts g part.0 all part.1))
+  told_now : (w : World) → IsKept K w → length w.closed < suc w.scenario.bound → list_all owes_no_letter w.parts ≡ true → (g : ℕ) → g < w.scenario.generals → program_of w.scenario g ≡ None
+      → letter_of (round_letters K w) g ≡ Some (loyal_letter K w.scenario w.closed g)
+  told_now w k more all g lt loyal =
+      let part = some_part w k more g lt in
+      each-find w.scenario.generals (λ l. l.general == g) (λ j. letters_at K w j (slice_get w.parts j)) g _ lt
+      (λ j ne. not_his w g j (slice_get w.parts j) ne)
+      (ap (λ o. find (λ l. l.general == g) (letters_at K w g o)) part.1
+      ∙ his w g (program_of w.scenario g) part.0 loyal (k.parts g part.0 part.1).1 (all-at owes_no_letter w.parts g part.0 all part.1))
 
-tells_more : (s : Scenario) (rounds : List (List Letter)) (ls : List Letter) (g : ℕ) → Tells s rounds g
-    → letter_of ls g ≡ Some (faithful_letter s rounds g) → Tells s (rounds ++ ls ∷ []) g
-tells_more s rounds ls g before new k lt =
-    ⊎_elim (λ (x : (k == length rounds ≡ true) × (k ≡ length rounds)).
-    (let A : ℕ → Type 0 = λ i. letter_of (get_or (rounds ++ ls ∷ []) i []) g ≡ Some (faithful_letter s (take i (rounds ++ ls ∷ [])) g) in
-    subst A (sym x.1) (rw (get_or-seam rounds ls [], take-whole rounds (ls ∷ [])) new)))
-    (λ (x : (k == length rounds ≡ false) × (k ≢ length rounds)).
-    let less : k < length rounds = (let ne = x.1 in let l = length-append rounds (ls ∷ []) in omega arith) in
-    rw (get_or-left rounds (ls ∷ []) k [] less, take-front rounds (ls ∷ []) k (omega arith)) (before k less))
-    (eqb_tells k (length rounds))
+  tells_more : (s : Scenario) (rounds : List (List Letter)) (ls : List Letter) (g : ℕ) → Tells K s rounds g
+      → letter_of ls g ≡ Some (loyal_letter K s rounds g) → Tells K s (rounds ++ ls ∷ []) g
+  tells_more s rounds ls g before new k lt =
+      ⊎_elim (λ (x : (k == length rounds ≡ true) × (k ≡ length rounds)).
+      (let A : ℕ → Type 0 = λ i. letter_of (get_or (rounds ++ ls ∷ []) i []) g ≡ Some (loyal_letter K s (take i (rounds ++ ls ∷ [])) g) in
+      subst A (sym x.1) (rw (get_or-seam rounds ls [], take-whole rounds (ls ∷ [])) new)))
+      (λ (x : (k == length rounds ≡ false) × (k ≢ length rounds)).
+      let less : k < length rounds = (let ne = x.1 in let l = length-append rounds (ls ∷ []) in omega arith) in
+      rw (get_or-left rounds (ls ∷ []) k [] less, take-front rounds (ls ∷ []) k (omega arith)) (before k less))
+      (eqb_tells k (length rounds))
 
-begun_parts : (s : Scenario) (closed : List (List Letter)) (b : Bool) → AllParts (Suits s) (cond b (each s.generals (λ g. begins s closed g (program_of s g) ∷ [])) [])
-unfolding Suits
-begun_parts s closed true g part e =
-    let h = each-get_only s.generals (λ g. begins s closed g (program_of s g)) g part e in
-    (h.0, (let A : Part → Type 0 = λ p. Fits (program_of s g) p in subst A (sym h.1) (fits_begins s closed g (program_of s g))))
-begun_parts s closed false g part e = cc
+  begun_parts : (s : Scenario) (closed : List (List Letter)) (b : Bool) → AllParts (Suits s) (cond b (each s.generals (λ g. begins K s closed g (program_of s g) ∷ [])) [])
+  unfolding Suits
+  begun_parts s closed true g part e =
+      let h = each-get_only s.generals (λ g. begins K s closed g (program_of s g)) g part e in
+      (h.0, (let A : Part → Type 0 = λ p. Fits (program_of s g) p in subst A (sym h.1) (fits_begins s closed g (program_of s g))))
+  begun_parts s closed false g part e = cc
 
-pub opening_kept : (s : Scenario) → IsBoard s.board → IsKept (opening s)
-unfolding Suits
-opening_kept s board = record {
-  parts = begun_parts s [] (round_open s []);
-  open_parts = λ lt. (let b : round_open s [] ≡ true = lt-ltb 0 (suc s.bound) (omega arith) in
-      ap (λ b. length (cond b (each s.generals (λ g. begins s [] g (program_of s g) ∷ [])) [])) b ∙ each-length s.generals (λ g. begins s [] g (program_of s g)));
-  closed = omega arith;
-  board = board;
-  told = λ f g lt loyal k l. absurd (omega arith);
-}
+  pub opening_kept : (s : Scenario) → IsBoard s.board → IsKept K (opening K s)
+  unfolding Suits
+  opening_kept s board = record {
+    parts = begun_parts s [] (round_open s []);
+    open_parts = λ lt. (let b : round_open s [] ≡ true = lt-ltb 0 (suc s.bound) (omega arith) in
+        ap (λ b. length (cond b (each s.generals (λ g. begins K s [] g (program_of s g) ∷ [])) [])) b ∙ each-length s.generals (λ g. begins K s [] g (program_of s g)));
+    closed = omega arith;
+    board = board;
+    told = λ f g lt loyal k l. absurd (omega arith);
+  }
 
-pub closing_kept : (w : World) → IsKept w → length w.closed < suc w.scenario.bound → IsKept (closing w)
-unfolding Suits
-closing_kept w k more =
-    let s = w.scenario in
-    let closed' = w.closed ++ round_letters w ∷ [] in
-    let long : length closed' ≡ suc (length w.closed) = omega (arith, length-append w.closed (round_letters w ∷ [])) in
-    record {
-      parts = begun_parts s closed' (round_open s closed');
-      open_parts = λ lt. rw (lt-ltb (length closed') (suc s.bound) lt) (each-length s.generals (λ g. begins s closed' g (program_of s g)));
-      closed = omega arith;
-      board = k.board;
-      told = λ f g lt loyal.
-          let both = and_parts w.full (list_all owes_no_letter w.parts) f in
-          tells_more s w.closed (round_letters w) g (k.told both.0 g lt loyal) (told_now w k more both.1 g lt loyal);
-    }
+  pub closing_kept : (w : World) → IsKept K w → length w.closed < suc w.scenario.bound → IsKept K (closing K w)
+  unfolding Suits
+  closing_kept w k more =
+      let s = w.scenario in
+      let closed' = w.closed ++ round_letters K w ∷ [] in
+      let long : length closed' ≡ suc (length w.closed) = omega (arith, length-append w.closed (round_letters K w ∷ [])) in
+      record {
+        parts = begun_parts s closed' (round_open s closed');
+        open_parts = λ lt. rw (lt-ltb (length closed') (suc s.bound) lt) (each-length s.generals (λ g. begins K s closed' g (program_of s g)));
+        closed = omega arith;
+        board = k.board;
+        told = λ f g lt loyal.
+            let both = and_parts w.full (list_all owes_no_letter w.parts) f in
+            tells_more s w.closed (round_letters K w) g (k.told both.0 g lt loyal) (told_now w k more both.1 g lt loyal);
+      }
 
-pub happen_kept : (w : World) (e : Event) → IsKept w → IsKept (happen w e)
-happen_kept w (Tick g) k = move_kept w (Tick g) tt k
-happen_kept w (Post g) k = move_kept w (Post g) tt k
-happen_kept w Close k =
-    ⊎_elim (λ (h : round_open w.scenario w.closed ≡ true). rw h (closing_kept w k (ltb-true (length w.closed) (suc w.scenario.bound) h)))
-    (λ (h : round_open w.scenario w.closed ≡ false). rw h k)
-    (cases_Bool (round_open w.scenario w.closed))
+  pub happen_kept : (w : World) (e : Event) → IsKept K w → IsKept K (happen K w e)
+  happen_kept w (Tick g) k = move_kept w (Tick g) tt k
+  happen_kept w (Post g) k = move_kept w (Post g) tt k
+  happen_kept w Close k =
+      ⊎_elim (λ (h : round_open w.scenario w.closed ≡ true). rw h (closing_kept w k (ltb-true (length w.closed) (suc w.scenario.bound) h)))
+      (λ (h : round_open w.scenario w.closed ≡ false). rw h k)
+      (cases_Bool (round_open w.scenario w.closed))
 
-pub run_kept : (es : List Event) (w : World) → IsKept w → IsKept (run w es)
-run_kept [] w k = k
-run_kept (e ∷ es) w k = run_kept es (happen w e) (happen_kept w e k)
-
-loyal_none : (o : Option (List Insn)) → is_some o ≡ false → o ≡ None
-loyal_none None h = refl
-loyal_none (Some p) h = cc
-
--- in a world with all rounds closed and full the loyal generals are faithful
-pub world_faithful : (w : World) → IsKept w → length w.closed ≡ suc w.scenario.bound → w.full ≡ true → w.scenario.commander < w.scenario.generals
-    → (g : ℕ) → g < w.scenario.generals → is_traitor w.scenario g ≡ false
-    → IsFaithful w.scenario.generals w.scenario.commander w.scenario.bound w.scenario.order (messages w.closed) g
-world_faithful w k all full inside g lt loyal =
-    faithful w.scenario w.closed g inside all (k.told full g lt (loyal_none (program_of w.scenario g) loyal))
-
--- and under the bound the decisions agree
-pub world_agrees : (w : World) → IsKept w → length w.closed ≡ suc w.scenario.bound → w.full ≡ true → w.scenario.commander < w.scenario.generals
-    → IsBound w.scenario.generals w.scenario.bound (is_traitor w.scenario)
-    → Agree w.scenario.generals w.scenario.commander w.scenario.order (is_traitor w.scenario) (decision w.scenario (messages w.closed))
-world_agrees w k all full inside bound =
-    holds (combined_by w.scenario.rule) (chosen_is_rule w.scenario.rule) w.scenario.generals w.scenario.commander w.scenario.bound w.scenario.order (is_traitor w.scenario) (messages w.closed) inside bound
-    (world_faithful w k all full inside)
+  pub run_kept : (es : List Event) (w : World) → IsKept K w → IsKept K (run K w es)
+  run_kept [] w k = k
+  run_kept (e ∷ es) w k = run_kept es (happen K w e) (happen_kept w e k)

@@ -8,7 +8,7 @@ use Rattle.world.specs.declared.event.Event.TheVariants.{Tick}
 use Rattle.round.specs.Scenario.{Scenario}
 use Rattle.round.specs.Activation.{Activation, Turn, Goes, Asks, Ended, turn}
 use Rattle.world.specs.Part.{Part, Acting, Silent, Posted}
-use Rattle.world.specs.World.{World, served, ticked, happen, run}
+use Rattle.world.specs.World.{oral_kind, World, served, ticked, happen, run}
 use Rattle.round.specs.Runs.{Onward, Runs}
 use Rattle.world.specs.Lists.{further_turns, until_access, ticks_named}
 use Rattle.round.specs.Running.{Pauses}
@@ -26,6 +26,7 @@ use Rattle.world.specs.Playing.{IsStill, program_length}
 use Rattle.round.proofs.Going.{turn_within, over_ended, ended_over}
 use Rattle.round.proofs.Stepping.{runs_steps, turn_counts, CountsTurn}
 use Rattle.world.proofs.Due.{IsDue, due_few, due_lasts}
+use Rattle.world.proofs.Campaigns.{oral_campaigns}
 
 -- so many events of one kind, and so many more
 pub events_add : (m n : ℕ) (w : World) (e : Event) → run w (replicate (m + n) e) ≡ run (run w (replicate m e)) (replicate n e)
@@ -131,7 +132,7 @@ named_is s w v g n a b board d at here is way le pause =
     ∙ ap (λ (o : Option Part). run w (ticks_named g o)) (sym at))))
 
 -- a name's ticks: ahead to the next request or the end, and one more
-named_by : (s : Scenario) (w v : World) (g most taken : ℕ) → IsOnTime s w → (o : Option Part) → slice_get w.parts g ≡ o → program_length o ≡ Some most → AheadTo most taken w.parts g o v.parts → v ≡ run w (replicate taken (Tick g)) →
+named_by : (s : Scenario) (w v : World) (g most taken : ℕ) → IsOnTime oral_kind s w → (o : Option Part) → slice_get w.parts g ≡ o → program_length o ≡ Some most → AheadTo most taken w.parts g o v.parts → v ≡ run w (replicate taken (Tick g)) →
     happen v (Tick g) ≡ run w (ticks_named g (slice_get w.parts g))
 named_by s w v g most taken t None at is far ahead = absurd (let f : None ≡ Some most = is in cc)
 named_by s w v g most taken t (Some (Acting a)) at is (b, way, le, pause, new) ahead =
@@ -145,7 +146,7 @@ pub named_turn : {A E : Type 0} (result : Result A E) (s : Scenario) (closed : L
     world_of s closed k opened ps full ≡ w → ps' ≡ ps → Some most ≡ program_length (slice_get ps' g) → AheadTo most taken w.parts g (slice_get w.parts g) v.parts → v ≡ run w (replicate taken (Tick g)) → OnOk result (u ≡ happen v (Tick g)) →
     OnOk result (u ≡ run w (ticks_named g (slice_get w.parts g)))
 named_turn (Ok x) s closed k opened ps ps' full w v u g most taken is h view parts_are most_is far ahead done =
-    let timely : IsOnTime s w = subst (λ (x : World). IsOnTime s x) (h.reached.1 ∙ view) ((held s h.reached.0 is).timely) in
+    let timely : IsOnTime oral_kind s w = subst (λ (x : World). IsOnTime oral_kind s x) (h.reached.1 ∙ view) ((held oral_kind s h.reached.0 (oral_campaigns s is)).timely) in
     let parts : ps' ≡ w.parts = parts_are ∙ ap (λ (x : World). x.parts) view in
     done ∙ named_by s w v g most taken timely (slice_get w.parts g) refl (ap (λ (l : List Part). program_length (slice_get l g)) (sym parts) ∙ sym most_is) far ahead
 named_turn (Err x) s closed k opened ps ps' full w v u g most taken is h view parts_are most_is far ahead done = tt

@@ -13,7 +13,7 @@ use Rattle.book.proofs.Induction.{holds}
 use Rattle.book.proofs.Listed.{listed}
 use Rattle.round.specs.Scenario.{Scenario, is_traitor}
 use Rattle.round.specs.Letters.{messages}
-use Rattle.world.specs.World.{opening, run}
+use Rattle.world.specs.World.{oral_kind, opening, run}
 use Rattle.world.specs.Chronicle.{decisions, of_loyal, verdict_of}
 use Rattle.world.specs.Agreement.{DecisionsAgree, AreAlike, AreObedient, VerdictsMean}
 use Rattle.world.proofs.Punctual.{run_scenario}
@@ -131,5 +131,5 @@ proved_verdicts_mean = record {
   kept = λ s events is done b.
       let M = messages (run (opening s) events).closed in
       let A : Scenario → Type 0 = λ v. (verdict_of v (decisions v M)).bound ≡ true → ((verdict_of v (decisions v M)).alike ≡ true) × ((verdict_of v (decisions v M)).obeyed ≢ Some false) in
-      subst A (sym (run_scenario events (opening s))) (kept_is s (decisions s M) (length-map (lieutenants s.generals s.commander) _) (λ bound. proved_decisions_agree s events is done bound)) b;
+      subst A (sym (run_scenario oral_kind events (opening s))) (kept_is s (decisions s M) (length-map (lieutenants s.generals s.commander) _) (λ bound. proved_decisions_agree s events is done bound)) b;
 }

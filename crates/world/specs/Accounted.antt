@@ -1,48 +1,21 @@
--- Letters that a ledger accounts for (own).
-use Rattle.std.specs.Prelude.{ℕ, suc, ◌≡◌, ◌<◌, ◌*◌, ◌==◌, ◌&&◌, ◌||◌, true, List, [], ◌∷◌, ◌++◌, All, length, take, drop, find, sum_by, slice_get, Option, None, Some, option_to_list}
+-- Letters that a ledger accounts for in an oral campaign (own).
+use Rattle.std.specs.Prelude.{ℕ, List, Option}
 use Rattle.insn.specs.declared.insn.Insn.{Insn}
 use Rattle.board.specs.Board.{Access}
-use Rattle.semantics.specs.Relay.{oral}
-use Rattle.round.specs.Scenario.{Scenario, program_of, shape_of}
+use Rattle.round.specs.Scenario.{Scenario}
 use Rattle.round.specs.Letters.{Letter}
-use Rattle.round.specs.Contexts.{context_of, faithful_letter}
-use Rattle.round.specs.Activation.{Activation, started, is_reached}
-use Rattle.round.specs.Runs.{Runs, IsWithin}
-use Rattle.world.specs.World.{accesses_of, each, traitor_letter_with}
+use Rattle.world.specs.World.{oral_kind}
+use Rattle.world.specs.KindAccounted as accounted
+pub use Rattle.world.specs.KindAccounted.{letter_by, letters_by, rounds_of}
 
--- the letter is what the general's program, or the loyal general, makes of the round behind these:
--- it has run, as far as the letter tells, within the patience, and has ended by itself or by the patience
 abbrev pub IsLetterOf : Scenario → List (List Letter) → ℕ → Option (List Insn) → Letter → Type 0
-IsLetterOf s before g None l = l ≡ faithful_letter s before g
-IsLetterOf s before g (Some program) l =
-    (end : Activation) × Runs l.steps (started None program (context_of s before g) (oral (shape_of s g (suc (length before))))) l.transcript end
-    × (l ≡ traitor_letter_with s before g (Some program) l.transcript l.steps end) × IsWithin s.patience l.steps × ((l.exited || is_reached s.patience l.steps) ≡ true)
+IsLetterOf s before g program l = accounted.IsLetterOf oral_kind s before g program l
 
--- the letters of a round, by general, and the entries of a ledger that are theirs
-pub record IsAccountedRound (s : Scenario) (before : List (List Letter)) (piece : List Access) (letters : List Letter) : Type 0 where
-  pub count : length letters ≡ s.generals
-  pub each : (g : ℕ) (l : Letter) → slice_get letters g ≡ Some l → IsLetterOf s before g (program_of s g) l × (accesses_of g piece ≡ l.transcript)
-  pub entries : All (λ a. (a.general < s.generals) × (a.round ≡ suc (length before))) piece
+abbrev pub IsAccountedRound : Scenario → List (List Letter) → List Access → List Letter → Type 0
+IsAccountedRound s before piece letters = accounted.IsAccountedRound oral_kind s before piece letters
 
--- the rounds behind these: the ledger is cut behind as many entries as a round's transcripts have together
 abbrev pub AreAccounted : Scenario → List (List Letter) → List Access → List (List Letter) → Type 0
-AreAccounted s before ledger [] = (length before ≡ suc s.bound) × (ledger ≡ [])
-AreAccounted s before ledger (letters ∷ rounds) =
-    let count = sum_by (λ l. length l.transcript) letters in
-    IsAccountedRound s before (take count ledger) letters × AreAccounted s (before ++ letters ∷ []) (drop count ledger) rounds
+AreAccounted s before ledger rounds = accounted.AreAccounted oral_kind s before ledger rounds
 
--- the first letter of a general in a round, where there is one
-abbrev pub letter_by : ℕ → ℕ → List Letter → Option Letter
-letter_by g round letters = find (λ l. (l.general == g) && (l.round == round)) letters
-
--- the letters of a round, by general
-abbrev pub letters_by : ℕ → ℕ → List Letter → List Letter
-letters_by n round letters = each n (λ g. option_to_list (letter_by g round letters))
-
--- the letters by round and general
-abbrev pub rounds_of : Scenario → List Letter → List (List Letter)
-rounds_of s letters = each (suc s.bound) (λ r. letters_by s.generals (suc r) letters ∷ [])
-
--- the letters, in whatever order, are one for each general and round, and the ledger has their accesses and no others
 abbrev pub IsAccounted : Scenario → List Access → List Letter → Type 0
-IsAccounted s ledger letters = (length letters ≡ suc s.bound * s.generals) × AreAccounted s [] ledger (rounds_of s letters)
+IsAccounted s ledger letters = accounted.IsAccounted oral_kind s ledger letters

@@ -1,8 +1,11 @@
 pub mod Part
+pub mod Kind
 pub mod World
 pub mod Reached
+pub mod KindLists
 pub mod Lists
 pub mod Schedules
+pub mod KindAccounted
 pub mod Accounted
 pub mod Chronicle
 pub mod Agreement

@@ -1,43 +1,41 @@
--- What the activations and letters of every world are. Each law is the contract of a function of this crate.
+-- What the activations and letters of every world are, in campaigns of some kind. Each law is the contract of a function, here of oral ones.
 use Rattle.std.specs.Prelude.{ℕ, suc, ◌≡◌, ◌≢◌, ◌<◌, ◌≤◌, false, All, List, length, take, drop, slice_get, Option, None, Some}
 use Rattle.insn.specs.declared.insn.Insn.{Insn}
 use Rattle.semantics.specs.State.{Cause, Trap}
 use Rattle.semantics.specs.Execution.{step}
-use Rattle.semantics.specs.Relay.{oral}
-use Rattle.round.specs.Scenario.{Scenario, IsScenario, program_of, shape_of}
+use Rattle.round.specs.Scenario.{Scenario, IsScenario, program_of}
 use Rattle.round.specs.Letters.{Letter}
-use Rattle.round.specs.Contexts.{context_of, faithful_letter}
 use Rattle.round.specs.Activation.{Activation, started, has_ended}
 use Rattle.round.specs.Runs.{Runs, AreFitting, IsRunOf, IsWithin, IsLetter}
 use Rattle.world.specs.declared.event.Event.{Event}
 use Rattle.world.specs.Part.{Acting}
-use Rattle.world.specs.World.{World, accesses_of, opening, run}
+use Rattle.world.specs.Kind.{Kind, World, accesses_of, opening, run, loyal_letter}
 
 -- a traitor's letter has no more steps than his program has instructions
 abbrev pub IsShort : Letter → Type 0
 IsShort l = (program : List Insn) → l.program ≡ Some program → l.steps ≤ length program
 
 -- whatever happens, no activation traps or takes more steps than its program has instructions
-pub record ActivationsAreSafe : Type 0 where
+pub record ActivationsAreSafe (K : Kind) : Type 0 where
   pub untrapped : (s : Scenario) (events : List Event) (g : ℕ) (a : Activation) (cause : Cause) → IsScenario s →
-      slice_get (run (opening s) events).parts g ≡ Some (Acting a) → has_ended a ≡ false → step a.program a.context a.relay a.state ≢ Trap cause
+      slice_get (run K (opening K s) events).parts g ≡ Some (Acting a) → has_ended a ≡ false → step a.program a.context a.relay a.state ≢ Trap cause
   pub fewer : (s : Scenario) (events : List Event) (g : ℕ) (a : Activation) → IsScenario s →
-      slice_get (run (opening s) events).parts g ≡ Some (Acting a) → a.state.steps ≤ length a.program
-  pub letters : (s : Scenario) (events : List Event) → IsScenario s → All (λ letters. All IsShort letters) (run (opening s) events).closed
+      slice_get (run K (opening K s) events).parts g ≡ Some (Acting a) → a.state.steps ≤ length a.program
+  pub letters : (s : Scenario) (events : List Event) → IsScenario s → All (λ letters. All IsShort letters) (run K (opening K s) events).closed
 
 -- the activation is that of a general in the round behind these, which is one of the campaign: what he runs, what he was told, whom he relays to, and his patience
-pub record IsPlaced (s : Scenario) (closed : List (List Letter)) (g : ℕ) (a : Activation) : Type 0 where
+pub record IsPlaced (K : Kind) (s : Scenario) (closed : List (List Letter)) (g : ℕ) (a : Activation) : Type 0 where
   pub general : g < s.generals
   pub rounds : length closed ≤ s.bound
   pub program : program_of s g ≡ Some a.program
-  pub context : a.context ≡ context_of s closed g
-  pub relay : a.relay ≡ oral (shape_of s g (suc (length closed)))
+  pub context : a.context ≡ K.context s closed g
+  pub relay : a.relay ≡ K.relay s closed g
   pub patience : a.patience ≡ s.patience
 
 -- each acting general has his program, the context and the relay of the open round, and the patience
-abbrev pub PartsArePlaced : Type 0
-PartsArePlaced = (s : Scenario) (events : List Event) (g : ℕ) (a : Activation) → IsScenario s →
-    slice_get (run (opening s) events).parts g ≡ Some (Acting a) → IsPlaced s (run (opening s) events).closed g a
+abbrev pub PartsArePlaced : Kind → Type 0
+PartsArePlaced K = (s : Scenario) (events : List Event) (g : ℕ) (a : Activation) → IsScenario s →
+    slice_get (run K (opening K s) events).parts g ≡ Some (Acting a) → IsPlaced K s (run K (opening K s) events).closed g a
 
 -- it has come from its start in the steps that it counts, by his accesses in the open round, whose replies fit
 abbrev pub HasRun : World → ℕ → Activation → Type 0
@@ -46,25 +44,25 @@ HasRun w g a =
     AreFitting transcript × Runs a.state.steps (started a.patience a.program a.context a.relay) transcript a
 
 -- a loyal general's letter is what he took, a traitor's the run of its transcript
-abbrev pub IsMade : Scenario → List (List Letter) → Letter → Option (List Insn) → Type 0
-IsMade s before l None = l ≡ faithful_letter s before l.general
-IsMade s before l (Some program) = IsRunOf l (Some program)
+abbrev pub IsMade : Kind → Scenario → List (List Letter) → Letter → Option (List Insn) → Type 0
+IsMade K s before l None = l ≡ loyal_letter K s before l.general
+IsMade K s before l (Some program) = IsRunOf l (Some program)
 
 -- a letter of the round behind these, which is one of the campaign; its steps lie within the patience
-pub record IsLetterIn (s : Scenario) (before : List (List Letter)) (l : Letter) : Type 0 where
+pub record IsLetterIn (K : Kind) (s : Scenario) (before : List (List Letter)) (l : Letter) : Type 0 where
   pub general : l.general < s.generals
   pub rounds : length before ≤ s.bound
   pub round : l.round ≡ suc (length before)
-  pub context : l.context ≡ context_of s before l.general
-  pub relay : l.outbox.relay ≡ oral (shape_of s l.general l.round)
+  pub context : l.context ≡ K.context s before l.general
+  pub relay : l.outbox.relay ≡ K.relay s before l.general
   pub program : l.program ≡ program_of s l.general
-  pub made : IsMade s before l l.program
+  pub made : IsMade K s before l l.program
   pub within : IsWithin s.patience l.steps
 
 -- every open activation and every closed letter is a run of its transcript, also an unfinished one
-pub record ActivationsAreRuns : Type 0 where
+pub record ActivationsAreRuns (K : Kind) : Type 0 where
   pub parts : (s : Scenario) (events : List Event) (g : ℕ) (a : Activation) → IsScenario s →
-      slice_get (run (opening s) events).parts g ≡ Some (Acting a) → HasRun (run (opening s) events) g a
+      slice_get (run K (opening K s) events).parts g ≡ Some (Acting a) → HasRun (run K (opening K s) events) g a
   pub letters : (s : Scenario) (events : List Event) (k : ℕ) (row : List Letter) → IsScenario s →
-      slice_get (run (opening s) events).closed k ≡ Some row → All (λ l. IsLetterIn s (take k (run (opening s) events).closed) l) row
-  pub kept : (s : Scenario) (before : List (List Letter)) (l : Letter) (program : List Insn) → IsScenario s → IsLetterIn s before l → l.program ≡ Some program → IsLetter l
+      slice_get (run K (opening K s) events).closed k ≡ Some row → All (λ l. IsLetterIn K s (take k (run K (opening K s) events).closed) l) row
+  pub kept : (s : Scenario) (before : List (List Letter)) (l : Letter) (program : List Insn) → IsScenario s → IsLetterIn K s before l → l.program ≡ Some program → IsLetter l

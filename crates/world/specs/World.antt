@@ -1,139 +1,50 @@
--- The world of a campaign, as a fold of events (own).
-use Rattle.std.specs.Prelude.{ℕ, zero, suc, nat_lt, ◌==◌, ◌&&◌, cond, Bool, true, List, [], ◌∷◌, ◌++◌, length, drop, filter, slice_get, slice_set, Option, None, Some}
-use Rattle.std.specs.List.{list_all}
+-- The world of an oral campaign: a world of that kind (own).
+use Rattle.std.specs.Prelude.{ℕ, suc, Bool, List, [], length, Option}
 use Rattle.insn.specs.declared.insn.Insn.{Insn}
-use Rattle.board.specs.Board.{Access, reply, next}
+use Rattle.board.specs.Board.{Access}
 use Rattle.semantics.specs.Relay.{oral}
-use Rattle.round.specs.Scenario.{Scenario, program_of, shape_of}
-use Rattle.round.specs.Letters.{Letter}
-use Rattle.round.specs.Contexts.{context_of, faithful_letter}
-use Rattle.round.specs.Activation.{Activation, started, Turn, Goes, Asks, Ended, turn}
+use Rattle.round.specs.Scenario.{Scenario, shape_of}
+use Rattle.round.specs.Letters.{Letter, telling}
+use Rattle.round.specs.Contexts.{context_of, took}
+use Rattle.round.specs.Activation.{Activation}
 use Rattle.world.specs.declared.event.Event.{Event}
-use Rattle.world.specs.declared.event.Event.TheVariants.{Tick, Post, Close}
-use Rattle.world.specs.declared.event.EventError.{EventError}
-use Rattle.world.specs.declared.event.EventError.TheVariants.{NotOpen, NoGeneral}
-use Rattle.world.specs.Part.{Part, Acting, Silent, Posted, owes_no_letter}
+use Rattle.world.specs.Part.{Part}
+use Rattle.world.specs.Kind as kind
+use Rattle.world.specs.Kind.{Kind}
+pub use Rattle.world.specs.Kind.{World, each, round_open, accesses_of, served, ticked, posting, unfit, named_by, refusal}
 
--- the letters of the closed rounds, the board's words and ledger, where the open round's entries begin in it,
--- by general the parts of the open round, and whether in each closed round all loyal generals had posted
-pub record World : Type 0 where
-  pub scenario : Scenario
-  pub closed : List (List Letter)
-  pub words : List ℕ
-  pub ledger : List Access
-  pub opened : ℕ
-  pub parts : List Part
-  pub full : Bool
+-- orders are oral: a general is told what he took of each label that he relays, and a loyal one tells each receiver just that
+abbrev pub oral_kind : Kind
+oral_kind = record {
+  context = context_of;
+  relay = λ s before g. oral (shape_of s g (suc (length before)));
+  rows = λ s before g. (telling (shape_of s g (suc (length before))) (took s before g)).rows;
+  entries = λ s before g. [];
+}
 
--- what f gives for each number below n, in order
-abbrev pub each : {A : Type 0} → ℕ → (ℕ → List A) → List A
-each zero f = []
-each (suc n) f = each n f ++ f n
-
-abbrev pub round_open : Scenario → List (List Letter) → Bool
-round_open s closed = nat_lt (length closed) (suc s.bound)
-
--- how a general begins the round behind these
 abbrev pub begins : Scenario → List (List Letter) → ℕ → Option (List Insn) → Part
-begins s closed g None = Silent
-begins s closed g (Some program) = Acting (started s.patience program (context_of s closed g) (oral (shape_of s g (suc (length closed)))))
+begins s closed g program = kind.begins oral_kind s closed g program
 
--- the world where a round begins: behind the last one nobody has a part
 abbrev pub begun : Scenario → List (List Letter) → List ℕ → List Access → Bool → World
-begun s closed words ledger full = record {
-  scenario = s;
-  closed = closed;
-  words = words;
-  ledger = ledger;
-  opened = length ledger;
-  parts = cond (round_open s closed) (each s.generals (λ g. begins s closed g (program_of s g) ∷ [])) [];
-  full = full;
-}
+begun s closed words ledger full = kind.begun oral_kind s closed words ledger full
 
--- the world before its first event: round 1 is open, on the scenario's board
 abbrev pub opening : Scenario → World
-opening s = begun s [] s.board [] true
+opening s = kind.opening oral_kind s
 
--- the accesses of one general
-abbrev pub accesses_of : ℕ → List Access → List Access
-accesses_of g accesses = filter (λ a. a.general == g) accesses
-
--- a traitor's letter in the round behind these, by what his program has done: its accesses, its steps, and where it stands, whose outbox counts as it is
 abbrev pub traitor_letter_with : Scenario → List (List Letter) → ℕ → Option (List Insn) → List Access → ℕ → Activation → Letter
-traitor_letter_with s before g program transcript steps a = record {
-  general = g;
-  round = suc (length before);
-  context = context_of s before g;
-  program = program;
-  transcript = transcript;
-  steps = steps;
-  outbox = record { relay = oral (shape_of s g (suc (length before))); rows = a.state.outbox; entries = a.state.entries };
-  exited = a.over;
-}
+traitor_letter_with s before g program transcript steps a = kind.traitor_letter_with oral_kind s before g program transcript steps a
 
--- a general's letter as he stands, or none
 abbrev pub letters_at : World → ℕ → Option Part → List Letter
-letters_at w g (Some (Acting a)) =
-    traitor_letter_with w.scenario w.closed g (program_of w.scenario g) (accesses_of g (drop w.opened w.ledger)) a.state.steps a ∷ []
-letters_at w g (Some Silent) = []
-letters_at w g (Some Posted) = faithful_letter w.scenario w.closed g ∷ []
-letters_at w g None = []
+letters_at w g part = kind.letters_at oral_kind w g part
 
--- the letters of the open round, by general: what closing it makes of where each stands
 abbrev pub round_letters : World → List Letter
-round_letters w = each w.scenario.generals (λ g. letters_at w g (slice_get w.parts g))
+round_letters w = kind.round_letters oral_kind w
 
--- a request is served within the same event
-abbrev pub served : World → ℕ → Turn → World
-served w g (Goes a) = record w { parts = slice_set w.parts g (Acting a) }
-served w g (Asks request answered) =
-    let answer = reply w.words request in
-    record w {
-      words = next w.words request;
-      ledger = w.ledger ++ record { general = g; round = suc (length w.closed); request = request; reply = answer } ∷ [];
-      parts = slice_set w.parts g (Acting (answered answer));
-    }
-served w g Ended = w
-
--- a traitor's activation takes its next step; with a loyal general nothing happens
-abbrev pub ticked : World → ℕ → Option Part → World
-ticked w g (Some (Acting a)) = served w g (turn a)
-ticked w g _ = w
-
--- a loyal general's letter of the open round counts as given
-abbrev pub posting : World → ℕ → Option Part → World
-posting w g (Some Silent) = record w { parts = slice_set w.parts g Posted }
-posting w g _ = w
-
--- the letters of the round are made and kept, and the next round begins
 abbrev pub closing : World → World
-closing w = begun w.scenario (w.closed ++ round_letters w ∷ []) w.words w.ledger (w.full && list_all owes_no_letter w.parts)
+closing w = kind.closing oral_kind w
 
--- what an event does; a refused one, a tick of an ended activation and a second post change nothing
 abbrev pub happen : World → Event → World
-happen w (Tick g) = ticked w g (slice_get w.parts g)
-happen w (Post g) = posting w g (slice_get w.parts g)
-happen w Close = cond (round_open w.scenario w.closed) (closing w) w
+happen w e = kind.happen oral_kind w e
 
--- the world after these events, one after another
 abbrev pub run : World → List Event → World
-run w [] = w
-run w (e ∷ events) = run (happen w e) events
-
--- that there is no such general, or he is not of that kind
-abbrev pub unfit : Event → Option Part → Option EventError
-unfit (Tick g) (Some (Acting a)) = None
-unfit (Post g) (Some Silent) = None
-unfit (Post g) (Some Posted) = None
-unfit Close part = None
-unfit _ _ = Some NoGeneral
-
--- the general of an event; of a close none, told as 0
-abbrev pub named_by : Event → ℕ
-named_by (Tick g) = g
-named_by (Post g) = g
-named_by Close = 0
-
--- why an event is refused: all rounds are closed, or there is no such general, or he is not of that kind
-abbrev pub refusal : World → Event → Option EventError
-refusal w e = cond (round_open w.scenario w.closed) (unfit e (slice_get w.parts (named_by e))) (Some NotOpen)
+run w events = kind.run oral_kind w events

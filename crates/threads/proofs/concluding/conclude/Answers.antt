@@ -5,6 +5,8 @@ use Rattle.world.specs.Lists.{replayed, names_in}
 use Rattle.world.specs.Chronicle.{Chronicle, decisions, chronicle_of}
 use Rattle.world.specs.Replay.{replay_of}
 use Rattle.world.specs.Safety.{IsShort}
+use Rattle.world.specs.World.{oral_kind}
+use Rattle.world.proofs.Campaigns.{oral_campaigns}
 use Rattle.world.proofs.Lasting.{replayed_complete}
 use Rattle.world.proofs.Listed.{replayed_finished}
 use Rattle.world.proofs.Outcomes.{finished_agree, finished_verdict, finished_well}
@@ -19,7 +21,7 @@ returns-clause-replay c =
     ∙ ap (λ (ledger : List Access). chronicle_of (replay_of s ledger)) (sym accesses))
 
 pub returns-clause-complete : goal.returns-clause-complete
-returns-clause-complete c = replayed_complete c.args.scenario c.recall.ensures (names_in 1 c.of.result.accesses (suc c.args.scenario.bound))
+returns-clause-complete c = replayed_complete oral_kind c.args.scenario (oral_campaigns c.args.scenario c.recall.ensures) (names_in 1 c.of.result.accesses (suc c.args.scenario.bound))
 
 pub returns-clause-legal : goal.returns-clause-legal
 returns-clause-legal c = subst (λ (ledger : List Access). IsLegal c.args.scenario.board ledger) (sym (ap (λ (x : Chronicle). x.accesses) c.of.ensures)) c.requires.legal

@@ -4,7 +4,7 @@ use Rattle.board.specs.Board.{Access}
 use Rattle.trace.specs.Text.{Line, access_line}
 use Rattle.signed.specs.Chronicle.{chronicle_of}
 use Rattle.signed.specs.Programs.{RunWorld}
-use Rattle.signed.specs.Text.{signed_text}
+use Rattle.trace.specs.SignedText.{signed_text}
 
 -- the accesses of a round, each with its line, in the order of the ledger
 abbrev pub accesses_told : List Access → ℕ → List Line

@@ -1,0 +1,33 @@
+-- Signed campaigns, as a kind of campaign (own; TOPLAS 1982, section 4, algorithm SM(m)).
+use Rattle.std.specs.Prelude.{ℕ, suc, List, [], map, length}
+use Rattle.semantics.specs.Relay.{Relay, signed}
+use Rattle.round.specs.Scenario.{Scenario, shape_of}
+use Rattle.round.specs.Letters.{Letter}
+use Rattle.round.specs.Contexts.{context_bytes}
+use Rattle.world.specs.Kind.{Kind}
+use Rattle.signed.specs.Chains.{Chain}
+use Rattle.signed.specs.Contexts.{signed_context_numbers, signer_bits}
+use Rattle.signed.specs.Entries.{Entry}
+use Rattle.signed.specs.Loyal.{loyal_entries}
+use Rattle.signed.specs.Sent.{delivered, held_behind, sent_in}
+
+-- the chains that a general holds in the round behind these
+abbrev pub held_in : Scenario → List (List Letter) → ℕ → List Chain
+held_in s closed g = held_behind s.generals (sent_in s closed) g
+
+-- what he is told then
+abbrev pub signed_context : Scenario → List (List Letter) → ℕ → List ℕ
+signed_context s closed g =
+    context_bytes (signed_context_numbers s.generals s.bound s.commander g (suc (length closed)) (held_in s closed g))
+
+-- whom he relays to, with the signers of each chain that he holds
+abbrev pub signed_relay : Scenario → List (List Letter) → ℕ → Relay
+signed_relay s closed g = signed (shape_of s g (suc (length closed))) (map signer_bits (held_in s closed g))
+
+-- what he enters where he is loyal
+abbrev pub signed_entries : Scenario → List (List Letter) → ℕ → List Entry
+signed_entries s closed g =
+    loyal_entries s.generals s.commander s.bound s.order (delivered (sent_in s closed)) (suc (length closed)) g
+
+abbrev pub signed_kind : Kind
+signed_kind = record { context = signed_context; relay = signed_relay; rows = λ s closed g. []; entries = signed_entries }

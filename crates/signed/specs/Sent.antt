@@ -1,0 +1,42 @@
+-- What was sent in the closed rounds of a signed campaign, by their letters (own; TOPLAS 1982, section 4, algorithm SM(m)).
+use Rattle.std.specs.Prelude.{ℕ, zero, suc, List, [], ◌∷◌, ◌++◌, map, length, slice_index_or, Option, None, Some}
+use Rattle.label.specs.Labels.{generals}
+use Rattle.round.specs.Scenario.{Scenario}
+use Rattle.round.specs.Letters.{Letter, letter_of}
+use Rattle.signed.specs.Chains.{Chain}
+use Rattle.signed.specs.Accepted.{Deliveries, held}
+use Rattle.signed.specs.Entries.{Dispatch, dispatched, received}
+
+-- by round, by general, in the order of his entries
+abbrev pub Sent : Type 0
+Sent = List (List (List Dispatch))
+
+-- what a general sent in a round, the first round being 1
+abbrev pub sent_by : Sent → ℕ → ℕ → List Dispatch
+sent_by sent zero g = []
+sent_by sent (suc r) g = slice_index_or (slice_index_or sent r []) g []
+
+-- each close has given every receiver his chains
+abbrev pub delivered : Sent → Deliveries
+delivered sent round g p = received p (sent_by sent round g)
+
+-- the chains that a general holds in the round behind these
+unfoldable pub held_behind : ℕ → Sent → ℕ → List Chain
+held_behind n sent g = held n (delivered sent) (suc (length sent)) g
+
+-- what a general's letter of the round behind these sends: the chains of its entries
+abbrev pub sends : Scenario → Sent → ℕ → Option Letter → List Dispatch
+sends s sent g None = []
+sends s sent g (Some l) = dispatched s.generals s.commander g (held_behind s.generals sent g) l.outbox.entries
+
+abbrev pub round_sent : Scenario → Sent → List Letter → List (List Dispatch)
+round_sent s sent row = map (λ g. sends s sent g (letter_of row g)) (generals s.generals)
+
+-- with these rounds more
+abbrev pub sent_along : Scenario → Sent → List (List Letter) → Sent
+sent_along s sent [] = sent
+sent_along s sent (row ∷ rows) = sent_along s (sent ++ round_sent s sent row ∷ []) rows
+
+-- what was sent in these rounds
+unfoldable pub sent_in : Scenario → List (List Letter) → Sent
+sent_in s closed = sent_along s [] closed

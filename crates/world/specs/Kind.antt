@@ -1,0 +1,154 @@
+-- The world of a campaign of some kind, as a fold of events (own). What orders are, oral or signed, it leaves to the kind.
+use Rattle.std.specs.Prelude.{ℕ, zero, suc, nat_lt, ◌==◌, ◌&&◌, cond, Bool, true, List, [], ◌∷◌, ◌++◌, length, drop, filter, slice_get, slice_set, Option, None, Some}
+use Rattle.std.specs.List.{list_all}
+use Rattle.insn.specs.declared.insn.Insn.{Insn}
+use Rattle.board.specs.Board.{Access, reply, next}
+use Rattle.semantics.specs.Relay.{Relay}
+use Rattle.semantics.specs.declared.entry.Entry.{Entry}
+use Rattle.round.specs.Scenario.{Scenario, program_of}
+use Rattle.round.specs.Letters.{Letter}
+use Rattle.round.specs.Contexts.{faithful_letter_with}
+use Rattle.round.specs.Activation.{Activation, started, Turn, Goes, Asks, Ended, turn}
+use Rattle.world.specs.declared.event.Event.{Event}
+use Rattle.world.specs.declared.event.Event.TheVariants.{Tick, Post, Close}
+use Rattle.world.specs.declared.event.EventError.{EventError}
+use Rattle.world.specs.declared.event.EventError.TheVariants.{NotOpen, NoGeneral}
+use Rattle.world.specs.Part.{Part, Acting, Silent, Posted, owes_no_letter}
+
+-- a kind of campaign: of a general in the round behind these, what he is told, to whom he relays what,
+-- and what is in his outbox where he is loyal
+pub record Kind : Type 0 where
+  pub context : Scenario → List (List Letter) → ℕ → List ℕ
+  pub relay : Scenario → List (List Letter) → ℕ → Relay
+  pub rows : Scenario → List (List Letter) → ℕ → List (List (Option ℕ))
+  pub entries : Scenario → List (List Letter) → ℕ → List Entry
+
+-- the letters of the closed rounds, the board's words and ledger, where the open round's entries begin in it,
+-- by general the parts of the open round, and whether in each closed round all loyal generals had posted
+pub record World : Type 0 where
+  pub scenario : Scenario
+  pub closed : List (List Letter)
+  pub words : List ℕ
+  pub ledger : List Access
+  pub opened : ℕ
+  pub parts : List Part
+  pub full : Bool
+
+-- what f gives for each number below n, in order
+abbrev pub each : {A : Type 0} → ℕ → (ℕ → List A) → List A
+each zero f = []
+each (suc n) f = each n f ++ f n
+
+abbrev pub round_open : Scenario → List (List Letter) → Bool
+round_open s closed = nat_lt (length closed) (suc s.bound)
+
+-- how a general begins the round behind these
+abbrev pub begins : Kind → Scenario → List (List Letter) → ℕ → Option (List Insn) → Part
+begins K s closed g None = Silent
+begins K s closed g (Some program) = Acting (started s.patience program (K.context s closed g) (K.relay s closed g))
+
+-- the world where a round begins: behind the last one nobody has a part
+abbrev pub begun : Kind → Scenario → List (List Letter) → List ℕ → List Access → Bool → World
+begun K s closed words ledger full = record {
+  scenario = s;
+  closed = closed;
+  words = words;
+  ledger = ledger;
+  opened = length ledger;
+  parts = cond (round_open s closed) (each s.generals (λ g. begins K s closed g (program_of s g) ∷ [])) [];
+  full = full;
+}
+
+-- the world before its first event: round 1 is open, on the scenario's board
+abbrev pub opening : Kind → Scenario → World
+opening K s = begun K s [] s.board [] true
+
+-- the accesses of one general
+abbrev pub accesses_of : ℕ → List Access → List Access
+accesses_of g accesses = filter (λ a. a.general == g) accesses
+
+-- a traitor's letter in the round behind these, by what his program has done: its accesses, its steps, and where it stands, whose outbox counts as it is
+abbrev pub traitor_letter_with : Kind → Scenario → List (List Letter) → ℕ → Option (List Insn) → List Access → ℕ → Activation → Letter
+traitor_letter_with K s before g program transcript steps a = record {
+  general = g;
+  round = suc (length before);
+  context = K.context s before g;
+  program = program;
+  transcript = transcript;
+  steps = steps;
+  outbox = record { relay = K.relay s before g; rows = a.state.outbox; entries = a.state.entries };
+  exited = a.over;
+}
+
+-- a loyal general's letter in the round behind these: he runs nothing
+abbrev pub loyal_letter : Kind → Scenario → List (List Letter) → ℕ → Letter
+loyal_letter K s before g =
+    faithful_letter_with g (suc (length before)) (K.context s before g)
+    (record { relay = K.relay s before g; rows = K.rows s before g; entries = K.entries s before g })
+
+-- a general's letter as he stands, or none
+abbrev pub letters_at : Kind → World → ℕ → Option Part → List Letter
+letters_at K w g (Some (Acting a)) =
+    traitor_letter_with K w.scenario w.closed g (program_of w.scenario g) (accesses_of g (drop w.opened w.ledger)) a.state.steps a ∷ []
+letters_at K w g (Some Silent) = []
+letters_at K w g (Some Posted) = loyal_letter K w.scenario w.closed g ∷ []
+letters_at K w g None = []
+
+-- the letters of the open round, by general: what closing it makes of where each stands
+abbrev pub round_letters : Kind → World → List Letter
+round_letters K w = each w.scenario.generals (λ g. letters_at K w g (slice_get w.parts g))
+
+-- a request is served within the same event
+abbrev pub served : World → ℕ → Turn → World
+served w g (Goes a) = record w { parts = slice_set w.parts g (Acting a) }
+served w g (Asks request answered) =
+    let answer = reply w.words request in
+    record w {
+      words = next w.words request;
+      ledger = w.ledger ++ record { general = g; round = suc (length w.closed); request = request; reply = answer } ∷ [];
+      parts = slice_set w.parts g (Acting (answered answer));
+    }
+served w g Ended = w
+
+-- a traitor's activation takes its next step; with a loyal general nothing happens
+abbrev pub ticked : World → ℕ → Option Part → World
+ticked w g (Some (Acting a)) = served w g (turn a)
+ticked w g _ = w
+
+-- a loyal general's letter of the open round counts as given
+abbrev pub posting : World → ℕ → Option Part → World
+posting w g (Some Silent) = record w { parts = slice_set w.parts g Posted }
+posting w g _ = w
+
+-- the letters of the round are made and kept, and the next round begins
+abbrev pub closing : Kind → World → World
+closing K w = begun K w.scenario (w.closed ++ round_letters K w ∷ []) w.words w.ledger (w.full && list_all owes_no_letter w.parts)
+
+-- what an event does; a refused one, a tick of an ended activation and a second post change nothing
+abbrev pub happen : Kind → World → Event → World
+happen K w (Tick g) = ticked w g (slice_get w.parts g)
+happen K w (Post g) = posting w g (slice_get w.parts g)
+happen K w Close = cond (round_open w.scenario w.closed) (closing K w) w
+
+-- the world after these events, one after another
+abbrev pub run : Kind → World → List Event → World
+run K w [] = w
+run K w (e ∷ events) = run K (happen K w e) events
+
+-- that there is no such general, or he is not of that kind
+abbrev pub unfit : Event → Option Part → Option EventError
+unfit (Tick g) (Some (Acting a)) = None
+unfit (Post g) (Some Silent) = None
+unfit (Post g) (Some Posted) = None
+unfit Close part = None
+unfit _ _ = Some NoGeneral
+
+-- the general of an event; of a close none, told as 0
+abbrev pub named_by : Event → ℕ
+named_by (Tick g) = g
+named_by (Post g) = g
+named_by Close = 0
+
+-- why an event is refused: all rounds are closed, or there is no such general, or he is not of that kind
+abbrev pub refusal : World → Event → Option EventError
+refusal w e = cond (round_open w.scenario w.closed) (unfit e (slice_get w.parts (named_by e))) (Some NotOpen)
