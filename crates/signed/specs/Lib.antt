@@ -9,9 +9,9 @@ pub mod World
 pub mod Laws
 pub mod Chronicle
 pub mod Signers
-pub mod Loyal
 pub mod Sent
 pub mod Kind
+pub mod Sending
 pub mod Verdicts
 pub mod Programs
 pub mod Lists

@@ -1,11 +1,27 @@
 //! Signed messages. What is said of them stands in specs/.
 #![tactic(auto)]
 
+mod accepting;
+mod beginnings;
+mod bits;
+mod briefing;
 mod chain;
+mod chronicle;
+mod dispatching;
+mod drafting;
+mod entering;
+mod events;
+mod held;
+mod judging;
 mod laws;
+mod letter;
+mod sending;
 mod signer;
+mod world;
 
 pub use chain::Chain;
+pub use chronicle::SignedChronicle;
+pub use held::Held;
 pub use laws::{
     chains_are_few, chains_are_unforged, entries_are_entered, held_chains_are_few,
     idle_events_change_nothing, loyal_entries_are_sent, signed_activations_are_safe, signed_agreement,
@@ -13,3 +29,4 @@ pub use laws::{
     signed_runs_are_replays, signed_verdicts_mean, signed_worlds_agree,
 };
 pub use signer::Signer;
+pub use world::SignedWorld;
