@@ -30,8 +30,9 @@ abbrev pub IsWithin : Option ℕ → ℕ → Type 0
 IsWithin None steps = Unit {0}
 IsWithin (Some patience) steps = steps ≤ patience
 
--- a loyal general runs nothing, and at each place of his outbox stands what his context has; where that tells that orders are oral, nothing is entered.
--- A traitor's program, run on its context for so many steps with these accesses, whose replies fit, has come to this outbox
+-- a loyal general runs nothing, and at each place of his outbox stands what his context has; where that tells that
+-- orders are oral, nothing is entered. A traitor's program, run on its context for so many steps with these accesses,
+-- whose replies fit, has come to this outbox
 abbrev pub IsRunOf : Letter → Option (List Insn) → Type 0
 IsRunOf l None =
     (l.transcript ≡ []) × (l.steps ≡ 0) × (l.outbox.rows ≡ rows_told l.outbox.relay l.context) × (l.exited ≡ true)

@@ -24,8 +24,8 @@ pub use chronicle::SignedChronicle;
 pub use held::Held;
 pub use laws::{
     chains_are_few, chains_are_unforged, entries_are_entered, held_chains_are_few,
-    idle_events_change_nothing, loyal_entries_are_sent, signed_activations_are_safe, signed_agreement,
-    signed_entries_are_sent, signed_ledgers_decide, signed_lists_are_complete,
+    idle_events_change_nothing, loyal_entries_are_sent, signed_activations_are_safe,
+    signed_agreement, signed_entries_are_sent, signed_ledgers_decide, signed_lists_are_complete,
     signed_runs_are_replays, signed_verdicts_mean, signed_worlds_agree,
 };
 pub use signer::Signer;
