@@ -48,7 +48,7 @@ module _ (K : Kind) where
   moves_due s es w i d = record { scenario = (moves_same K es w i).scenario ∙ d.scenario; kept = run_kept K es w d.kept; due = moves_keep K (Due s) (due_lasts s) es w i d.kept.board d.due }
 
   pub opening_due : (s : Scenario) → IsCampaign K s → IsOnTime s (opening K s)
-  opening_due s sound = record { scenario = refl; kept = opening_kept K s sound.board; due = due_parts K s [] (round_open s []) sound (λ e. omega arith) }
+  opening_due s sound = record { scenario = refl; kept = opening_kept K s sound.scenario.board; due = due_parts K s [] (round_open s []) sound (λ e. omega arith) }
 
   pub close_open : (w : World) → round_open w.scenario w.closed ≡ true → happen K w Close ≡ closing K w
   close_open w h = rw h refl

@@ -26,6 +26,7 @@ pub mod Refusing
 pub mod Example
 pub mod Replies
 pub mod Standing
+pub mod Legal
 pub mod Verdicts
 pub mod Ticking
 pub mod Listed

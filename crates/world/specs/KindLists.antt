@@ -129,5 +129,5 @@ names_in round ledger zero = []
 names_in round ledger (suc k) = map (λ a. a.general) (filter (λ a. a.round == round) ledger) ∷ names_in (suc round) ledger k
 
 -- the world of the replay of a ledger
-abbrev pub replay_of : Kind → Scenario → List Access → World
-replay_of K s ledger = run K (opening K s) (replayed K s (names_in 1 ledger (suc s.bound)))
+abbrev pub replay_world : Kind → Scenario → List Access → World
+replay_world K s ledger = run K (opening K s) (replayed K s (names_in 1 ledger (suc s.bound)))

@@ -4,26 +4,7 @@ use Rattle.world.specs.declared.event.Event.{Event}
 use Rattle.round.specs.Scenario.{Scenario}
 use Rattle.world.specs.World.{World, oral_kind}
 use Rattle.world.specs.KindLists as lists
-pub use Rattle.world.specs.KindLists.{
-  AreMoves,
-  AtClose,
-  HasEnded,
-  IsMove,
-  IsRipe,
-  OwesNoLetter,
-  event_of,
-  first_line,
-  further_turns,
-  later_lines,
-  listed,
-  listed_rounds,
-  names_in,
-  post_of,
-  ticks_named,
-  ticks_of,
-  until_access,
-  wound_up,
-}
+pub use Rattle.world.specs.KindLists.{AreMoves, AtClose, HasEnded, IsMove, IsRipe, OwesNoLetter, event_of, first_line, further_turns, later_lines, listed, listed_rounds, names_in, post_of, ticks_named, ticks_of, until_access, wound_up}
 
 abbrev pub Throughout : (World → Event → Type 0) → World → List Event → Type 0
 Throughout Q w events = lists.Throughout oral_kind Q w events

@@ -1,8 +1,8 @@
 -- What lists of events and ledgers decide, in campaigns of some kind. Each law is the contract of a function, here of oral ones.
-use Rattle.std.specs.Prelude.{ℕ, suc, ◌≡◌, ◌<◌, All, List, [], map, flat_map}
+use Rattle.std.specs.Prelude.{ℕ, suc, ◌≡◌, ◌<◌, true, All, List, [], map, flat_map}
 use Rattle.semantics.specs.declared.request.Request.{Request}
-use Rattle.board.specs.Board.{Access, IsLegal}
-use Rattle.round.specs.Scenario.{Scenario, IsScenario}
+use Rattle.board.specs.Board.{Access, words_after, IsLegal}
+use Rattle.round.specs.Scenario.{Scenario, IsScenario, is_traitor}
 use Rattle.round.specs.Letters.{Letter}
 use Rattle.round.specs.Activation.{Activation, Asks, turn}
 use Rattle.round.specs.Runs.{Runs}
@@ -10,8 +10,7 @@ use Rattle.world.specs.declared.event.Event.{Event}
 use Rattle.world.specs.Kind.{Kind, opening, run}
 use Rattle.world.specs.World.{World, oral_kind}
 use Rattle.world.specs.World as oral
-use Rattle.world.specs.KindLists.{AreMoves, IsRipe, IsComplete, listed, replayed}
-use Rattle.world.specs.KindLists as lists
+use Rattle.world.specs.KindLists.{AreMoves, IsRipe, IsComplete, listed, replayed, replay_world}
 use Rattle.world.specs.KindAccounted.{AreAccounted, rounds_of, IsAccounted}
 use Rattle.world.specs.Chronicle.{chronicle_of}
 use Rattle.world.specs.Lists as plays
@@ -33,12 +32,12 @@ pub record LedgersDecide (K : Kind) : Type 0 where
 
 -- a complete run is the replay of its own accesses, which are those of generals of the campaign
 pub record RunsAreReplays (K : Kind) : Type 0 where
-  pub worlds : (s : Scenario) (events : List Event) → IsScenario s → IsComplete K s events → lists.replay_of K s (run K (opening K s) events).ledger ≡ run K (opening K s) events
+  pub worlds : (s : Scenario) (events : List Event) → IsScenario s → IsComplete K s events → replay_world K s (run K (opening K s) events).ledger ≡ run K (opening K s) events
   pub generals : (s : Scenario) (events : List Event) → IsScenario s → IsComplete K s events → All (λ a. a.general < s.generals) (run K (opening K s) events).ledger
 
 -- of an oral campaign the world of the replay of a ledger
 abbrev pub replay_of : Scenario → List Access → World
-replay_of s ledger = lists.replay_of oral_kind s ledger
+replay_of s ledger = replay_world oral_kind s ledger
 
 -- and so the chronicle of a complete run is that of the replay
 abbrev pub ChroniclesAreReplays : Type 0
@@ -48,9 +47,9 @@ ChroniclesAreReplays = (s : Scenario) (events : List Event) → IsScenario s →
 -- letters that a legal ledger accounts for are, by round and general, those of its replay, which is a complete run
 pub record AccountsAreRuns (K : Kind) : Type 0 where
   pub rounds : (s : Scenario) (ledger : List Access) (rounds : List (List Letter)) → IsScenario s → IsLegal s.board ledger → AreAccounted K s [] ledger rounds →
-      ((lists.replay_of K s ledger).closed ≡ rounds) × ((lists.replay_of K s ledger).ledger ≡ ledger)
+      ((replay_world K s ledger).closed ≡ rounds) × ((replay_world K s ledger).ledger ≡ ledger)
   pub letters : (s : Scenario) (ledger : List Access) (letters : List Letter) → IsScenario s → IsLegal s.board ledger → IsAccounted K s ledger letters →
-      ((lists.replay_of K s ledger).closed ≡ rounds_of s letters) × ((lists.replay_of K s ledger).ledger ≡ ledger)
+      ((replay_world K s ledger).closed ≡ rounds_of s letters) × ((replay_world K s ledger).ledger ≡ ledger)
   pub same : (s : Scenario) (ledger : List Access) (letters others : List Letter) → IsScenario s → IsLegal s.board ledger → IsAccounted K s ledger letters → IsAccounted K s ledger others →
       rounds_of s letters ≡ rounds_of s others
 
@@ -60,3 +59,13 @@ pub record RunsAreAccounted (K : Kind) : Type 0 where
       IsLegal s.board (run K (opening K s) events).ledger × AreAccounted K s [] (run K (opening K s) events).ledger (run K (opening K s) events).closed
   pub letters : (s : Scenario) (events : List Event) → IsScenario s → IsComplete K s events →
       IsAccounted K s (run K (opening K s) events).ledger (flat_map (λ (round : List Letter). round) (run K (opening K s) events).closed)
+
+-- a ledger legal from the board's opening words on, which leaves its words, with accesses of the campaign's traitors alone
+pub record IsLedgerOf (s : Scenario) (w : World) : Type 0 where
+  pub legal : IsLegal s.board w.ledger
+  pub words : w.words ≡ words_after s.board w.ledger
+  pub traitors : All (λ a. (a.general < s.generals) × (is_traitor s a.general ≡ true)) w.ledger
+
+-- whatever happens, the world's is such a ledger
+abbrev pub LedgersAreLegal : Kind → Type 0
+LedgersAreLegal K = (s : Scenario) (events : List Event) → IsScenario s → IsLedgerOf s (run K (opening K s) events)

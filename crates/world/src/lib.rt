@@ -22,8 +22,9 @@ pub use chronicle::Chronicle;
 pub use event::{Event, EventError};
 pub use laws::{
     accounts_are_runs, activations_are_runs, activations_are_safe, decisions_agree,
-    idle_events_change_nothing, ledgers_decide, lists_are_complete, parts_are_placed,
-    refusals_change_nothing, runs_are_accounted, runs_are_replays, verdicts_mean, worlds_agree,
+    idle_events_change_nothing, ledgers_are_legal, ledgers_decide, lists_are_complete,
+    parts_are_placed, refusals_change_nothing, runs_are_accounted, runs_are_replays, verdicts_mean,
+    worlds_agree,
 };
 pub use part::Part;
 pub use player::{play, replay};
