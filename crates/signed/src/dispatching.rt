@@ -51,7 +51,8 @@ fn send(
         None => Ok(()),
         Some(chain) => {
             let receivers = receivers(generals, bits_of(entry), &chain);
-            chains.push((chain, receivers))
+            chains.push((chain, receivers))?;
+            Ok(())
         }
     }
 }
