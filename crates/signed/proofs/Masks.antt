@@ -110,22 +110,22 @@ pub left_are : (n bits mask other result : ℕ) (ch : Chain) → n ≤ 13 → ((
 left_are n bits mask other result ch le masks others lefts =
     below_13 (λ g. bit_at result g == 1) (λ g. (bit_at bits g == 1) && not (on ch.signers g)) n le
     (λ g lt.
-        ap (λ (k : ℕ). k == 1) (lefts g
-        ∙ ((λ i. cond (others g i == 1) 0 (bit_at_and bits mask g i))
-        ∙ ap (λ (k : ℕ). cond (cond {A = ℕ} (on ch.signers g) 1 0 == 1) 0 (min (bit_at bits g) k)) (masks g ∙ ap (λ (b : Bool). cond {A = ℕ} b 1 0) (lt-ltb g n lt))))
-        ∙ kept_bit (bit_at bits g) (on ch.signers g) (bit_at-lt bits g))
+    ap (λ (k : ℕ). k == 1) (lefts g
+    ∙ ((λ i. cond (others g i == 1) 0 (bit_at_and bits mask g i))
+    ∙ ap (λ (k : ℕ). cond (cond {A = ℕ} (on ch.signers g) 1 0 == 1) 0 (min (bit_at bits g) k)) (masks g ∙ ap (λ (b : Bool). cond {A = ℕ} b 1 0) (lt-ltb g n lt))))
+    ∙ kept_bit (bit_at bits g) (on ch.signers g) (bit_at-lt bits g))
     (λ g past.
-        let off : bit_at mask g ≡ 0 = masks g ∙ ap (λ (b : Bool). cond {A = ℕ} b 1 0) (le-ltb g n past) in
-        let none : bit_at (bit_and bits mask) g ≡ 0 = bit_at_and bits mask g ∙ (ap (λ (k : ℕ). min (bit_at bits g) k) off ∙ (omega arith)) in
-        ap (λ (k : ℕ). k == 1) (lefts g ∙ none_left (bit_at other g) (bit_at (bit_and bits mask) g) none))
+    let off : bit_at mask g ≡ 0 = masks g ∙ ap (λ (b : Bool). cond {A = ℕ} b 1 0) (le-ltb g n past) in
+    let none : bit_at (bit_and bits mask) g ≡ 0 = bit_at_and bits mask g ∙ (ap (λ (k : ℕ). min (bit_at bits g) k) off ∙ (omega arith)) in
+    ap (λ (k : ℕ). k == 1) (lefts g ∙ none_left (bit_at other g) (bit_at (bit_and bits mask) g) none))
 
 on_all_others : (n : ℕ) (names : List ℕ) (g : ℕ) → cond {A = ℕ} (on (others n names) g) 1 0 ≡ cond (cond {A = ℕ} (on names g) 1 0 == 1) 0 (cond (nat_lt g n) 1 0)
 on_all_others n names g = elim (cases_Bool (nat_lt g n)) [
   | inl below ↦ rw below (ap (λ (b : Bool). cond {A = ℕ} b 1 0) (on_others n names g (ltb-true g n below)) ∙ by (on names g))
   | inr past ↦
       rw past (
-        ap (λ (b : Bool). cond {A = ℕ} b 1 0) (false_from_ne_true (on (others n names) g) (λ h. let l = (others-on n names g h).0 in let m = ltb-false g n past in omega arith))
-        ∙ sym (none_left (cond (on names g) 1 0) 0 refl))
+      ap (λ (b : Bool). cond {A = ℕ} b 1 0) (false_from_ne_true (on (others n names) g) (λ h. let l = (others-on n names g h).0 in let m = ltb-false g n past in omega arith))
+      ∙ sym (none_left (cond (on names g) 1 0) 0 refl))
 ]
   where
     by : (b : Bool) → cond {A = ℕ} (not b) 1 0 ≡ cond (cond {A = ℕ} b 1 0 == 1) 0 1

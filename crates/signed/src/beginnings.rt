@@ -7,7 +7,7 @@ ghost use Rattle.signed.specs.Sending.{begins_behind, beginnings_behind, context
 
 use crate::briefing::{context, outbox};
 use crate::held::Held;
-use crate::sending::SentRound;
+use crate::outgoing::SentRound;
 use round::{Running, Scenario};
 use std::alloc::{AllocError, Global};
 use std::sync::Arc;

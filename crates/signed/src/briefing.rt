@@ -3,7 +3,7 @@ ghost use Rattle.std.specs.Prelude.{◌≡◌, ◌≤◌, ◌<◌, [], length, I
 ghost use Rattle.signed.specs.Sending.{context_behind, held_of, relay_behind, AreRows};
 
 use crate::held::Held;
-use crate::sending::SentRound;
+use crate::outgoing::SentRound;
 use outbox::Outbox;
 use round::{Scenario, context_telling};
 use std::alloc::{AllocError, Global};

@@ -4,7 +4,7 @@ ghost use Rattle.signed.specs.Sending.{dispatch_of};
 ghost use Rattle.signed.specs.Sent.{sent_by, sent_in};
 
 use crate::chain::Chain;
-use crate::sending::SentRound;
+use crate::outgoing::SentRound;
 use arrayvec::ArrayVec;
 use board::Access;
 use round::{Round, Scenario};

@@ -4,10 +4,10 @@ ghost use Rattle.signed.specs.Entries.{dispatched};
 ghost use Rattle.signed.specs.Sending.{draft_behind, draft_in, drafts_behind, entries_drafted, part_in, sent_drafted, signatures, IsSent};
 ghost use Rattle.signed.specs.Sent.{held_behind};
 
-use crate::dispatching::dispatched;
+use crate::dispatch::dispatched;
 use crate::held::Held;
 use crate::letter::loyal_letter;
-use crate::sending::{Sending, SentRound};
+use crate::outgoing::{Sending, SentRound};
 use crate::signer::Signer;
 use board::Access;
 use round::Scenario;

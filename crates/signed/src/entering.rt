@@ -4,11 +4,11 @@ ghost use Rattle.signed.specs.Loyal.{bits_but, loyal_entries, passes};
 ghost use Rattle.signed.specs.Sending.{added_by, entered_all, held_of, relay_behind, AreFirst, AreRows, IsSent};
 ghost use Rattle.signed.specs.Sent.{delivered};
 
-use crate::accepting::{accepted, add, is_among};
+use crate::acceptance::{accepted, add, is_among};
 use crate::bits;
 use crate::chain::Chain;
 use crate::held::Held;
-use crate::sending::SentRound;
+use crate::outgoing::SentRound;
 use arrayvec::ArrayVec;
 use outbox::Outbox;
 use round::Scenario;

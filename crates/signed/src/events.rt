@@ -14,7 +14,7 @@ use board::Board;
 use round::{Round, Scenario};
 use std::alloc::{AllocError, Global};
 use world::letters::{is_full, letters, since};
-use world::{Event, EventError, parts};
+use world::{Event, EventError, Part, parts};
 
 impl SignedWorld {
     /// The scenario's world before any event.
@@ -67,6 +67,20 @@ impl SignedWorld {
             }
             Event::Close => Ok(self.close(alloc)?),
         }
+    }
+
+    /// Its campaign.
+    pub fn scenario(&self) -> &Scenario
+        ensures { result.now ≡ self.now.scenario }
+    {
+        &self.scenario
+    }
+
+    /// By general where each stands in the open round.
+    pub fn parts(&self) -> &[Part]
+        ensures { result.now ≡ self.now.parts }
+    {
+        self.parts.as_slice()
     }
 
     /// The number of the open round.

@@ -6,7 +6,7 @@ ghost use Rattle.signed.specs.Sending.{chain_in, held_of, lent, received_in};
 
 use crate::bits::has;
 use crate::chain::Chain;
-use crate::sending::{Sending, SentRound};
+use crate::outgoing::{Sending, SentRound};
 use std::alloc::{AllocError, Global};
 use std::marker::Model;
 

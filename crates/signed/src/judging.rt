@@ -3,7 +3,7 @@ ghost use Rattle.std.specs.Prelude.{◌≡◌, ◌↔◌, IfSome, IsSome};
 ghost use Rattle.signed.specs.Chronicle.{signed_chronicle_of, signed_decisions, signed_verdict_of};
 ghost use Rattle.world.specs.Agreement.{IsFinished};
 
-use crate::accepting::{accepted, decided};
+use crate::acceptance::{accepted, decided};
 use crate::chronicle::SignedChronicle;
 use crate::world::SignedWorld;
 use arrayvec::ArrayVec;

@@ -5,7 +5,7 @@ ghost use Rattle.signed.specs.Sending.{letter_behind, IsSent};
 use crate::briefing::{context, outbox};
 use crate::entering::enter;
 use crate::held::Held;
-use crate::sending::SentRound;
+use crate::outgoing::SentRound;
 use round::{Letter, Scenario, Seat};
 use std::alloc::{AllocError, Global};
 

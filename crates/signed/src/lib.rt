@@ -1,13 +1,13 @@
 //! Signed messages. What is said of them stands in specs/.
 #![tactic(auto)]
 
-mod accepting;
+mod acceptance;
 mod beginnings;
 mod bits;
 mod briefing;
 mod chain;
 mod chronicle;
-mod dispatching;
+mod dispatch;
 mod drafting;
 mod entering;
 mod events;
@@ -15,7 +15,7 @@ mod held;
 mod judging;
 mod laws;
 mod letter;
-mod sending;
+mod outgoing;
 mod signer;
 mod world;
 

@@ -1,5 +1,5 @@
 //! A campaign of signed messages as it stands.
-use crate::sending::SentRound;
+use crate::outgoing::SentRound;
 use crate::signer::Signer;
 use board::Board;
 use round::{Round, Scenario};

@@ -81,7 +81,11 @@ fn loyal(
 }
 
 /// One general's accesses.
-pub fn transcript(alloc: Global, accesses: &[Access], general: u32) -> Result<Transcript, AllocError>
+pub fn transcript(
+    alloc: Global,
+    accesses: &[Access],
+    general: u32,
+) -> Result<Transcript, AllocError>
     ensures { IfOk result (λ own. own ≡ accesses_of general accesses.now) }
 {
     let mut own = Vec::new(alloc);

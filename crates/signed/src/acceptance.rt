@@ -7,7 +7,7 @@ ghost use Rattle.signed.specs.Sending.{added_also, added_by, received_in, AreFir
 ghost use Rattle.signed.specs.Sent.{delivered};
 
 use crate::bits::has;
-use crate::sending::{Sending, SentRound};
+use crate::outgoing::{Sending, SentRound};
 use arrayvec::ArrayVec;
 
 /// The orders that a general accepted in so many of these rounds, the first 8 of them. Takes no memory.

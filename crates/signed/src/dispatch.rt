@@ -6,7 +6,7 @@ ghost use Rattle.signed.specs.Sending.{dispatch_of, named};
 use crate::bits::{below, without};
 use crate::chain::Chain;
 use crate::held::Held;
-use crate::sending::Sending;
+use crate::outgoing::Sending;
 use crate::signer::Signer;
 use semantics::Entry;
 use std::alloc::{AllocError, Global};
