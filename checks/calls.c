@@ -64,8 +64,6 @@ static void verdicts(void) {
         if (i == 12) memcpy(bytes + 8, answer + 8, 8); /* r0 = r1; exit */
         verified(bytes, i == 12 ? 16 : 24, BYZLAB_REFUSED, 101 + i, i == 12);
     }
-    memcpy(bytes, (uint8_t[24]){0x05, 0, 1, 0, 0, 0, 0, 0, 0x18}, 24); /* a jump into the second half of a wide move */
-    verified(bytes, 24, BYZLAB_REFUSED, BYZLAB_V4_LAST_NOT_EXIT, 1);
     uint8_t inside[32] = {0x05, 0, 1, 0, 0, 0, 0, 0, 0x18};
     inside[24] = 0x95;
     verified(inside, 32, BYZLAB_REFUSED, BYZLAB_V3_JUMP_IN_WIDE, 0);
