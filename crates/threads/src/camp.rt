@@ -39,6 +39,9 @@ impl<'a, G> Camp<'a, G> {
         ensures count { IfOk result (λ r. length r.1.items ≡ generals) }
         ensures posters { IfOk result (λ r. (g : ℕ) (d : PosterSeen) → g < generals → slice_index_or r.1.items g d ≡ poster_seen r.0.post.table g []) }
         ensures collector { IfOk result (λ r. r.2.table ≡ r.0.post.table) }
+        ensures gate { IfOk result (λ r. r.0.gate ≡ gate.entry) }
+        ensures board { IfOk result (λ r. r.0.board ≡ board.entry) }
+        ensures tally { IfOk result (λ r. r.0.tally.generals ≡ generals) }
     {
         let (post, posters, collector) = Post::new(alloc, generals, usize::from(generals))?;
         let inboxes = empty_inboxes(alloc, generals)?;
@@ -56,7 +59,9 @@ impl<'a, G> Camp<'a, G> {
     /// The general of this number, ready to begin.
     pub(crate) fn resident<'c>(&'c self, general: u8) -> Resident<'c, G>
         requires { general < length self.now.inboxes.items }
-        ensures { result.general ≡ general }
+        ensures general { result.general ≡ general }
+        ensures gate { result.gate ≡ self.now.gate }
+        ensures board { result.board ≡ self.now.board }
     {
         Resident {
             general: u32::from(general),

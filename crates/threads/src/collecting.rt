@@ -1,8 +1,9 @@
 //! The letters of a campaign whose generals stay in their threads for all rounds.
-ghost use Rattle.std.specs.Prelude.{◌≡◌, ℕ, ◌<◌, ◌≤◌, [], suc, length, slice_index_or, IfOk};
+ghost use Rattle.std.specs.Prelude.{◌≡◌, ℕ, ◌<◌, ◌≤◌, [], suc, length, slice_index_or, None, IfOk, IfNone, OnOk};
 ghost use Rattle.round.specs.Told.{WasTold};
 ghost use Rattle.post.specs.Seen.{PosterSeen, poster_seen};
 
+use crate::answers::{kept, lowest, unless_failed};
 use crate::camp::Camp;
 use crate::conducting::conduct;
 use crate::error::MusterError;
@@ -76,10 +77,7 @@ fn through_residents<R: Threads + Wait + Sync, G: Gate + Sync>(
                         requires general { poster.general ≡ resident.general }
                     { resident.stay(rt, alloc, &camp.post, poster) },
                 );
-                refused = match started {
-                    Err(_) => Some(MusterError::Spawn),
-                    Ok(handle) => handles.push(handle).err().map(MusterError::from),
-                };
+                refused = kept(&mut handles, started);
                 if refused.is_some() {
                     break;
                 }
@@ -100,6 +98,7 @@ fn finish<R: Threads + Wait, G>(
     refused: Option<MusterError>,
 ) -> Result<(Vec<Round>, Told), MusterError>
     requires { collector.table ≡ camp.now.post.table }
+    ensures refused { OnOk result (refused ≡ None) }
     ensures rounds { IfOk result (λ r. length r.0.items ≡ suc scenario.now.bound) }
     ensures told { IfOk result (λ r. WasTold scenario.now r.0.items r.1) }
 {
@@ -108,10 +107,7 @@ fn finish<R: Threads + Wait, G>(
         None => conduct(rt, alloc, scenario, camp, collector),
     };
     camp.close(rt);
-    match failure(rt, handles, refused) {
-        Some(error) => Err(error),
-        None => outcome,
-    }
+    unless_failed(outcome, failure(rt, handles, refused))
 }
 
 /// Waits for the threads of the generals, who were started from the highest on: the error of the lowest who has failed,
@@ -120,12 +116,12 @@ fn failure<R: Threads>(
     rt: &R,
     handles: Vec<JoinHandle<Result<(), MusterError>>>,
     refused: Option<MusterError>,
-) -> Option<MusterError> {
+) -> Option<MusterError>
+    ensures { IfNone result (refused ≡ None) }
+{
     let mut failed = refused;
     for handle in handles {
-        if let Err(error) = handle.join(rt) {
-            failed = Some(error);
-        }
+        failed = lowest(failed, handle.join(rt));
     }
     failed
 }

@@ -1,8 +1,12 @@
 //! A campaign's rounds, conducted through the generals' camp.
-ghost use Rattle.std.specs.Prelude.{◌≡◌, ◌≤◌, suc, List, length, IfOk};
+ghost use Rattle.std.specs.Prelude.{◌≡◌, ◌≢◌, ◌≤◌, ◌∷◌, [], suc, List, length, IfOk, IfErr};
 ghost use Rattle.round.specs.Letters.{Letter as LetterSeen};
 ghost use Rattle.round.specs.Told.{WasTold};
+ghost use Rattle.world.specs.World.{each};
+ghost use Rattle.threads.specs.Duties.{duty_of};
+ghost use Rattle.threads.specs.declared.error.MusterError.TheVariants.{Spawn, Post as PostFull};
 
+use crate::answers::accounted;
 use crate::camp::Camp;
 use crate::error::MusterError;
 use crate::task::Task;
@@ -27,20 +31,19 @@ pub(crate) fn conduct<R: Wait, G>(
     requires { collector.table ≡ camp.now.post.table }
     ensures rounds { IfOk result (λ r. length r.0.items ≡ suc scenario.now.bound) }
     ensures told { IfOk result (λ r. WasTold scenario.now r.0.items r.1) }
+    ensures started { IfErr result (λ e. e ≢ Spawn) }
+    ensures posted { IfErr result (λ e. e ≢ PostFull) }
 {
     let rounds = scenario.bound() + 1;
     let mut told = Told::new(alloc, scenario)?;
     let mut rows = Vec::with_capacity(alloc, usize::from(rounds))?;
     for round in 0..rounds {
         camp.hand_out(rt, tasks(alloc, scenario, &told)?);
-        if !camp.tally.all_posted(rt) {
-            return Err(MusterError::Unaccounted);
-        }
+        accounted(camp.tally.all_posted(rt))?;
         let (again, letters) = take_letters(rt, alloc, &camp.post, collector)?;
         collector = again;
-        if !are_letters_of(scenario, u32::from(round) + 1, letters.as_slice()) {
-            return Err(MusterError::Unaccounted);
-        }
+        let are_of_round = are_letters_of(scenario, u32::from(round) + 1, letters.as_slice());
+        accounted(are_of_round)?;
         told.deliver(scenario, letters.as_slice());
         rows.push(Round { letters })?;
     }
@@ -51,6 +54,8 @@ pub(crate) fn conduct<R: Wait, G>(
 fn tasks(alloc: Global, scenario: &Scenario, told: &Told) -> Result<Vec<Task>, AllocError>
     requires told { (before : List (List LetterSeen)) × WasTold scenario.now before told.now }
     requires left { told.now.rounds ≤ scenario.now.bound }
+    ensures { IfOk result (λ tasks. (before : List (List LetterSeen)) → WasTold scenario.now before told.now
+        → tasks.items ≡ each scenario.now.generals (λ g. duty_of scenario.now before g ∷ [])) }
 {
     let generals = scenario.generals();
     let mut tasks = Vec::with_capacity(alloc, usize::from(generals))?;

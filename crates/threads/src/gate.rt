@@ -1,4 +1,6 @@
 //! What holds a general before each access.
+ghost use Rattle.std.specs.Prelude.{◌≡◌, length};
+
 use crate::shared::SharedBoard;
 use board::Access;
 use round::Server;
@@ -32,12 +34,20 @@ pub(crate) struct Gated<'a, R, G> {
     pub(crate) made: Vec<Access>,
 }
 
+impl<'a, R, G: Gate> Gated<'a, R, G> {
+    /// Waits at the gate before the access of this number, counted from 0.
+    fn pass_gate(&self, general: u32, round: u32, nth: u64)
+        requires { nth ≡ length self.now.made.items }
+    {
+        self.gate.before_access(general, round, nth);
+    }
+}
+
 impl<'a, R: Wait, G: Gate> Server for Gated<'a, R, G> {
     ghost served = { λ gated. gated.made.items };
 
     fn serve(&mut self, general: u32, round: u32, request: Request) -> Result<Reply, AllocError> {
-        self.gate
-            .before_access(general, round, self.made.len() as u64);
+        self.pass_gate(general, round, self.made.len() as u64);
         let reply = self.board.apply(self.rt, general, round, request)?;
         let access = Access {
             general,

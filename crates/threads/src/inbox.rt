@@ -1,4 +1,6 @@
 //! Where a general waits for his next task.
+ghost use Rattle.std.specs.Prelude.{◌≡◌};
+ghost use Rattle.threads.specs.Inboxes.{task_in, left_in};
 
 use crate::task::Task;
 use std::mem;
@@ -48,12 +50,20 @@ impl Inbox {
         let mut phase = self.changed.wait_while(rt, self.phase.lock(rt), |phase| {
             matches!(phase, Phase::Waiting)
         });
-        match mem::replace(&mut *phase, Phase::Waiting) {
-            Phase::Given(task) => Some(task),
-            Phase::Waiting | Phase::Closed => {
-                *phase = Phase::Closed;
-                None
-            }
+        taken(&mut phase)
+    }
+}
+
+/// Takes the task that is given; where none is, the inbox is closed.
+fn taken(phase: &mut Phase) -> Option<Task>
+    ensures task { result ≡ task_in phase.old }
+    ensures left { phase.new ≡ left_in phase.old }
+{
+    match mem::replace(phase, Phase::Waiting) {
+        Phase::Given(task) => Some(task),
+        Phase::Waiting | Phase::Closed => {
+            *phase = Phase::Closed;
+            None
         }
     }
 }

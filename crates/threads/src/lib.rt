@@ -2,6 +2,7 @@
 #![tactic(auto)]
 
 mod account;
+mod answers;
 mod camp;
 mod collecting;
 mod concluding;

@@ -1,7 +1,9 @@
 //! A general's thread through all rounds.
-ghost use Rattle.std.specs.Prelude.{◌≡◌, IfOk};
+ghost use Rattle.std.specs.Prelude.{◌≡◌, ◌≢◌, IfOk, IfErr};
 ghost use Rattle.threads.specs.Duties.{IsDone};
+ghost use Rattle.threads.specs.declared.error.MusterError.TheVariants.{Spawn, Post as PostFull};
 
+use crate::answers::{accounted, posted};
 use crate::error::MusterError;
 use crate::gate::{Gate, Gated};
 use crate::inbox::Inbox;
@@ -68,9 +70,7 @@ impl<'a, G: Gate> Resident<'a, G> {
             let letter = self.letter(rt, alloc, task)?;
             let (again, sent) = post.post(rt, poster, letter);
             poster = again;
-            if sent.is_err() {
-                return Err(MusterError::Post);
-            }
+            posted(sent)?;
             self.tally.posted(rt);
         }
         unreachable!()
@@ -84,6 +84,8 @@ impl<'a, G: Gate> Resident<'a, G> {
     fn letter<R: Wait>(&self, rt: &R, alloc: Global, task: Task) -> Result<Letter, MusterError>
         ensures general { IfOk result (λ letter. letter.general ≡ self.now.general) }
         ensures done { IfOk result (IsDone task) }
+        ensures started { IfErr result (λ e. e ≢ Spawn) }
+        ensures posted { IfErr result (λ e. e ≢ PostFull) }
     {
         let mut server = Gated {
             rt,
@@ -93,9 +95,7 @@ impl<'a, G: Gate> Resident<'a, G> {
             made: Vec::new(alloc),
         };
         let letter = task.letter(alloc, &mut server)?;
-        if letter.general != self.general {
-            return Err(MusterError::Unaccounted);
-        }
+        accounted(letter.general == self.general)?;
         Ok(letter)
     }
 }
