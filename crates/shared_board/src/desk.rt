@@ -65,7 +65,12 @@ impl<J: Room> Desk<J> {
         let reply = self.board.apply(general, round, request)?;
         let mut seen = self.history.again();
         seen.learn(&me.seen);
-        let is_entered = enter(&self.head, count as u64, &mut seen, &self.board.ledger()[count]);
+        let is_entered = enter(
+            &self.head,
+            count as u64,
+            &mut seen,
+            &self.board.ledger()[count],
+        );
         if !is_entered {
             for _ in rt.forever() {}
             unreachable!()
@@ -119,6 +124,12 @@ fn enter(head: &Head, count: u64, seen: &mut Beginning, access: &Access) -> bool
 {
     let mut offer: Offer<Access, u64, Law, Nothing> = seen.plain::<Nothing, Access, Enter>(access);
     let mut pen = seen.no_pen();
-    let found = head.compare_exchange::<Enter, Nothing>(count, count + 1, seen, &mut offer, &mut pen);
+    let found = head.compare_exchange::<Enter, Nothing>(
+        count,
+        count + 1,
+        seen,
+        &mut offer,
+        &mut pen,
+    );
     found == count
 }

@@ -1,6 +1,6 @@
 //! The rule of the history, and the step that enters an access.
 use board::Access;
-use logbook::{Gain, Play, Plain, Rule, Seen, Word};
+use logbook::{Gain, Plain, Play, Rule, Seen, Word};
 
 /// The rule: the word that threads step is the length of the history.
 pub(crate) struct Law;

@@ -70,9 +70,11 @@ impl Tally {
 
     /// Waits until all generals have posted their letters of the round, and begins the next; false where one has failed.
     pub(crate) fn all_posted<R: Wait>(&self, rt: &R) -> bool {
-        let mut count = self
-            .changed
-            .wait_while(rt, self.count.lock(rt), |count| !count.is_over(self.generals));
+        let mut count = self.changed.wait_while(
+            rt,
+            self.count.lock(rt),
+            |count| !count.is_over(self.generals),
+        );
         count.posted = 0;
         !count.failed
     }
