@@ -4,3 +4,4 @@ pub mod Generals
 pub mod Lab
 pub mod Met
 pub mod Told
+pub mod Telling

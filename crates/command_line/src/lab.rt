@@ -1,4 +1,4 @@
-ghost use Rattle.std.specs.Prelude.{◌≡◌, IfOk, false};
+ghost use Rattle.std.specs.Prelude.{◌≡◌, Some, IfOk, false};
 ghost use Rattle.clap.specs.Words.{app_of, rule_of};
 ghost use Rattle.clap.specs.declared.builder.command.Command.TheViews.{out-Command};
 ghost use Rattle.command_line.specs.Lab.{asm_app, audit_app, bare_app, book_app, check_app, context_rule, dis_app, files_app, lab_app, play_app, programs_app, required_rule, schedule_rule, second_switch_rule, switch_rule, table_app, target_rule, traitors_rule, with_audit_command, with_file_command, with_play_command};
@@ -173,6 +173,7 @@ fn with_file_command<'a>(
 /// An argument that has to be there.
 fn required_argument<'a>(alloc: Global, id: &'a str, name: &'a str, help: &'a str) -> Arg<'a>
     ensures rule { rule_of result ≡ required_rule id.entry.now }
+    ensures help { result.help ≡ Some help.entry }
     ensures local { result.global ≡ false }
 {
     Arg::new(alloc, id)
@@ -184,6 +185,7 @@ fn required_argument<'a>(alloc: Global, id: &'a str, name: &'a str, help: &'a st
 /// A switch of this name.
 fn switch_argument<'a>(alloc: Global, name: &'a str, help: &'a str) -> Arg<'a>
     ensures rule { rule_of result ≡ switch_rule name.entry.now }
+    ensures help { result.help ≡ Some help.entry }
     ensures local { result.global ≡ false }
 {
     Arg::new(alloc, "switch")
@@ -195,6 +197,7 @@ fn switch_argument<'a>(alloc: Global, name: &'a str, help: &'a str) -> Arg<'a>
 /// A second switch, of this name.
 fn second_switch_argument<'a>(alloc: Global, name: &'a str, help: &'a str) -> Arg<'a>
     ensures rule { rule_of result ≡ second_switch_rule name.entry.now }
+    ensures help { result.help ≡ Some help.entry }
     ensures local { result.global ≡ false }
 {
     Arg::new(alloc, "also")

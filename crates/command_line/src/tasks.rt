@@ -1,5 +1,7 @@
 use clap::Error;
 use std::alloc::AllocError;
+use std::error;
+use std::fmt;
 
 /// What the words ask for: a subcommand with the names of its files, and what its flags say.
 #[derive(Debug, Drop, PartialEq, Eq)]
@@ -112,18 +114,34 @@ impl Task {
 }
 
 /// Why there is no task.
-#[derive(Debug, Drop, thiserror::Error)]
+#[derive(Debug, Drop)]
 pub enum TaskError {
     /// The words were refused, or they ask for help: `clap`'s text and exit status.
-    #[error("{0}")]
     Words(Error),
     /// The word behind `--traitors` names no generals.
-    #[error("error: invalid value {0:?} for '--traitors <G,H>': the numbers of generals, 0 to 12, joined by commas")]
     Traitors(String),
     /// Want of memory, here or in `clap`.
-    #[error("out of memory")]
     Memory,
 }
+
+impl fmt::Display for TaskError {
+    ghost use Rattle.command_line.specs.Telling.{told};
+
+    ghost output = { told };
+
+    fn fmt<W: fmt::Write>(&self, f: &mut fmt::Formatter<W>) -> fmt::Result {
+        match self {
+            TaskError::Words(refusal) => write!(f, "{refusal}"),
+            TaskError::Traitors(word) => write!(
+                f,
+                "error: invalid value {word:?} for '--traitors <G,H>': the numbers of generals, 0 to 12, joined by commas"
+            ),
+            TaskError::Memory => write!(f, "out of memory"),
+        }
+    }
+}
+
+impl error::Error for TaskError {}
 
 impl From<AllocError> for TaskError {
     ghost use Rattle.std.specs.Prelude.{◌≡◌};

@@ -1,5 +1,5 @@
 //! Scenarios, read from their text.
-ghost use Rattle.std.specs.Prelude.{◌≡◌, ◌-◌, ◌≤◌, min, length, replicate, option_map, None, Some, IfOk, OnOk, MatchResult};
+ghost use Rattle.std.specs.Prelude.{◌≡◌, ◌≢◌, ◌-◌, ◌≤◌, min, length, replicate, option_map, None, Some, IfOk, OnOk, MatchResult, IfErr};
 ghost use Rattle.toml.specs.Parse.{parse_document};
 ghost use Rattle.toml.specs.View.{view, table_view, items_view};
 ghost use Rattle.scenario.specs.Flaws.{Gives};
@@ -22,7 +22,8 @@ use verify::Verified;
 
 /// The rule that a text names.
 fn rule_by_name(text: &str) -> Result<Rule, ScenarioError>
-    ensures { Gives (λ r. r) result (rule_by_name text.now) }
+    ensures value { Gives (λ r. r) result (rule_by_name text.now) }
+    ensures fault { IfErr result (λ e. e ≢ Memory) }
 {
     if text == "majority" {
         return Ok(Rule::Majority);
@@ -36,7 +37,8 @@ fn rule_by_name(text: &str) -> Result<Rule, ScenarioError>
 /// The rule, the majority where there is no key.
 #[tactic(auto, unfolding(crate::specs::Checks::rule))]
 fn rule(value: Option<&Value>) -> Result<Rule, ScenarioError>
-    ensures { Gives (λ r. r) result (rule (option_map (λ v. view v.now) value.entry)) }
+    ensures value { Gives (λ r. r) result (rule (option_map (λ v. view v.now) value.entry)) }
+    ensures fault { IfErr result (λ e. e ≢ Memory) }
 {
     let Some(value) = value else {
         return Ok(Rule::Majority);
@@ -88,7 +90,8 @@ fn head(alloc: Global, table: &Table) -> Result<Head, ScenarioError>
 /// The traitors' tables, none where the key is absent.
 #[tactic(auto, unfolding(crate::specs::Checks::tables))]
 fn tables(value: Option<&Value>) -> Result<&[Value], ScenarioError>
-    ensures { Gives (λ t. items_view t.now) result (tables (option_map (λ v. view v.now) value.entry)) }
+    ensures value { Gives (λ t. items_view t.now) result (tables (option_map (λ v. view v.now) value.entry)) }
+    ensures fault { IfErr result (λ e. e ≢ Memory) }
 {
     match value {
         None => Ok(&[]),

@@ -1,10 +1,11 @@
 //! The traitors' tables, one after the other.
-ghost use Rattle.std.specs.Prelude.{◌≡◌, ◌≢◌, ◌<◌, ◌≤◌, ℕ, None, Some, Ok, option_map, IfOk, length, replicate};
+ghost use Rattle.std.specs.Prelude.{◌≡◌, ◌≢◌, ◌<◌, ◌≤◌, ℕ, None, Some, Ok, option_map, IfOk, length, replicate, IfErr};
 ghost use Rattle.toml.specs.View.{view, items_view, table_view};
 ghost use Rattle.scenario.specs.Flaws.{Gives};
 ghost use Rattle.scenario.specs.Tables.{is_seated, source, table_in, table};
 ghost use Rattle.scenario.specs.Told.{TableGives};
 ghost use Rattle.scenario.specs.Seen.{source_of};
+ghost use Rattle.scenario.specs.declared.fault.ScenarioError.TheVariants.{Memory};
 
 use crate::fault::{Fault, ScenarioError};
 use crate::keys::{at, entry_is_known, general};
@@ -22,7 +23,8 @@ fn written<'a>(
     asm: Option<&'a Value>,
     code: Option<&'a Value>,
 ) -> Result<Written<'a>, ScenarioError>
-    ensures { Gives source_of result (source index (option_map (λ v. view v.now) asm.entry) (option_map (λ v. view v.now) code.entry)) }
+    ensures value { Gives source_of result (source index (option_map (λ v. view v.now) asm.entry) (option_map (λ v. view v.now) code.entry)) }
+    ensures fault { IfErr result (λ e. e ≢ Memory) }
 {
     match (asm, code) {
         (Some(asm), None) => match asm.as_str() {
