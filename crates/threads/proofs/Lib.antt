@@ -6,3 +6,4 @@ pub mod Whose
 pub mod Deciding
 pub mod Tasks
 pub mod Concluded
+pub mod Among

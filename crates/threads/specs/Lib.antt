@@ -4,3 +4,4 @@ pub mod Duties
 pub mod Telling
 pub mod Answers
 pub mod Inboxes
+pub mod Served

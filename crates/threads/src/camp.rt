@@ -4,25 +4,25 @@ ghost use Rattle.post.specs.Seen.{PosterSeen, poster_seen};
 
 use crate::inbox::Inbox;
 use crate::resident::Resident;
-use crate::shared::SharedBoard;
 use crate::tally::Tally;
 use crate::task::Task;
 use post::{Collector, Post, Poster};
+use shared_board::{Room, SharedBoard};
 use std::alloc::{AllocError, Global};
 use std::sync::Wait;
 
 /// What the generals share with one another and with the one who conducts the rounds: the gate and the board, the inboxes in
 /// which they are given their tasks, the post for their letters, and the tally of those who have posted.
 #[derive(Drop)]
-pub(crate) struct Camp<'a, G> {
+pub(crate) struct Camp<'a, G, J: Room> {
     pub(crate) gate: &'a G,
-    pub(crate) board: &'a SharedBoard,
+    pub(crate) board: &'a SharedBoard<J>,
     pub(crate) inboxes: Vec<Inbox>,
     pub(crate) post: Post,
     pub(crate) tally: Tally,
 }
 
-impl<'a, G> Camp<'a, G> {
+impl<'a, G, J: Room> Camp<'a, G, J> {
     /// The camp of so many generals, with their posters, ascending, and the collector of their letters.
     ///
     /// # Errors
@@ -32,8 +32,8 @@ impl<'a, G> Camp<'a, G> {
         alloc: Global,
         generals: u8,
         gate: &'a G,
-        board: &'a SharedBoard,
-    ) -> Result<(Camp<'a, G>, Vec<Poster>, Collector), AllocError>
+        board: &'a SharedBoard<J>,
+    ) -> Result<(Camp<'a, G, J>, Vec<Poster>, Collector), AllocError>
         requires { 0 < generals }
         ensures inboxes { IfOk result (λ r. length r.0.inboxes.items ≡ generals) }
         ensures count { IfOk result (λ r. length r.1.items ≡ generals) }
@@ -57,7 +57,7 @@ impl<'a, G> Camp<'a, G> {
     }
 
     /// The general of this number, ready to begin.
-    pub(crate) fn resident<'c>(&'c self, general: u8) -> Resident<'c, G>
+    pub(crate) fn resident<'c>(&'c self, general: u8) -> Resident<'c, G, J>
         requires { general < length self.now.inboxes.items }
         ensures general { result.general ≡ general }
         ensures gate { result.gate ≡ self.now.gate }

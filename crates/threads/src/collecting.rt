@@ -8,9 +8,9 @@ use crate::camp::Camp;
 use crate::conducting::conduct;
 use crate::error::MusterError;
 use crate::gate::Gate;
-use crate::shared::SharedBoard;
 use post::{Collector, Poster};
 use round::{Round, Scenario, Told};
+use shared_board::{Room, SharedBoard, Witness};
 use std::alloc::Global;
 use std::sync::Wait;
 use std::thread;
@@ -23,32 +23,36 @@ use std::thread::{JoinHandle, Threads};
 ///
 /// `Spawn` where a thread could not be started; else the error of the lowest general who failed, if one has; else
 /// `Memory` where memory is refused, and `Unaccounted` where letters are not of their round.
-pub(crate) fn collect<R: Threads + Wait + Sync, G: Gate + Sync>(
+pub(crate) fn collect<R: Threads + Wait + Sync, G: Gate + Sync, J: Room + Send + Sync>(
     rt: &R,
     alloc: Global,
     scenario: &Scenario,
     gate: &G,
-    board: &SharedBoard,
+    board: &SharedBoard<J>,
+    witnesses: Vec<Witness<J>>,
     stack: usize,
 ) -> Result<(Vec<Round>, Told), MusterError>
+    requires { scenario.now.generals ≤ length witnesses.items }
     ensures rounds { IfOk result (λ r. length r.0.items ≡ suc scenario.now.bound) }
     ensures told { IfOk result (λ r. WasTold scenario.now r.0.items r.1) }
 {
     let (camp, posters, collector) = Camp::new(alloc, scenario.generals(), gate, board)?;
-    through_residents(rt, alloc, scenario, &camp, posters, collector, stack)
+    through_residents(rt, alloc, scenario, &camp, posters, witnesses, collector, stack)
 }
 
 /// The same, from the generals of these posters, in this camp.
-fn through_residents<R: Threads + Wait + Sync, G: Gate + Sync>(
+fn through_residents<R: Threads + Wait + Sync, G: Gate + Sync, J: Room + Send + Sync>(
     rt: &R,
     alloc: Global,
     scenario: &Scenario,
-    camp: &Camp<G>,
+    camp: &Camp<G, J>,
     mut posters: Vec<Poster>,
+    mut witnesses: Vec<Witness<J>>,
     collector: Collector,
     stack: usize,
 ) -> Result<(Vec<Round>, Told), MusterError>
     requires few { length posters.items < 256 }
+    requires witnesses { length posters.items ≤ length witnesses.items }
     requires posters { (g : ℕ) (d : PosterSeen) → g < length posters.items → slice_index_or posters.items g d ≡ poster_seen camp.now.post.table g [] }
     requires inboxes { length posters.items ≤ length camp.now.inboxes.items }
     requires collector { collector.table ≡ camp.now.post.table }
@@ -61,6 +65,7 @@ fn through_residents<R: Threads + Wait + Sync, G: Gate + Sync>(
         rt,
         |scope| -> Result<(Vec<Round>, Told), MusterError>
             requires few { length posters.items < 256 }
+            requires witnesses { length posters.items ≤ length witnesses.items }
             requires posters { (g : ℕ) (d : PosterSeen) → g < length posters.items → slice_index_or posters.items g d ≡ poster_seen camp.now.post.table g [] }
             requires inboxes { length posters.items ≤ length camp.now.inboxes.items }
             requires collector { collector.table ≡ camp.now.post.table }
@@ -69,13 +74,16 @@ fn through_residents<R: Threads + Wait + Sync, G: Gate + Sync>(
         {
             let mut refused = None;
             while let Some(poster) = posters.pop() {
+                let Some(me) = witnesses.pop() else {
+                    unreachable!()
+                };
                 let resident = camp.resident(posters.len() as u8);
                 let started = thread::Builder::new().stack_size(stack).spawn_scoped(
                     scope,
                     move || -> Result<(), MusterError>
                         requires post { poster.table ≡ camp.now.post.table }
                         requires general { poster.general ≡ resident.general }
-                    { resident.stay(rt, alloc, &camp.post, poster) },
+                    { resident.stay(rt, alloc, &camp.post, poster, me) },
                 );
                 refused = kept(&mut handles, started);
                 if refused.is_some() {
@@ -88,11 +96,11 @@ fn through_residents<R: Threads + Wait + Sync, G: Gate + Sync>(
 }
 
 /// Conducts the rounds, unless something was refused, then sends the generals home and waits for their threads.
-fn finish<R: Threads + Wait, G>(
+fn finish<R: Threads + Wait, G, J: Room>(
     rt: &R,
     alloc: Global,
     scenario: &Scenario,
-    camp: &Camp<G>,
+    camp: &Camp<G, J>,
     collector: Collector,
     handles: Vec<JoinHandle<Result<(), MusterError>>>,
     refused: Option<MusterError>,

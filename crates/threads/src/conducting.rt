@@ -12,6 +12,7 @@ use crate::error::MusterError;
 use crate::task::Task;
 use post::{Collector, Post};
 use round::{Letter, Round, Scenario, Told, are_letters_of};
+use shared_board::Room;
 use std::alloc::{AllocError, Global};
 use std::sync::Wait;
 
@@ -21,11 +22,11 @@ use std::sync::Wait;
 /// # Errors
 ///
 /// `Memory` where memory is refused, `Unaccounted` where a general has failed or letters are not of their round.
-pub(crate) fn conduct<R: Wait, G>(
+pub(crate) fn conduct<R: Wait, G, J: Room>(
     rt: &R,
     alloc: Global,
     scenario: &Scenario,
-    camp: &Camp<G>,
+    camp: &Camp<G, J>,
     mut collector: Collector,
 ) -> Result<(Vec<Round>, Told), MusterError>
     requires { collector.table ≡ camp.now.post.table }

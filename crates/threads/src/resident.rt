@@ -1,31 +1,32 @@
 //! A general's thread through all rounds.
 ghost use Rattle.std.specs.Prelude.{◌≡◌, ◌≢◌, IfOk, IfErr};
 ghost use Rattle.threads.specs.Duties.{IsDone};
+ghost use Rattle.threads.specs.Served.{AreAmong};
 ghost use Rattle.threads.specs.declared.error.MusterError.TheVariants.{Spawn, Post as PostFull};
 
 use crate::answers::{accounted, posted};
 use crate::error::MusterError;
 use crate::gate::{Gate, Gated};
 use crate::inbox::Inbox;
-use crate::shared::SharedBoard;
 use crate::tally::Tally;
 use crate::task::Task;
 use post::{Post, Poster};
 use round::Letter;
+use shared_board::{Room, SharedBoard, Witness};
 use std::alloc::Global;
 use std::sync::Wait;
 
 /// A general who stays for all rounds: his inbox, and what he shares with the others.
 #[derive(Drop)]
-pub(crate) struct Resident<'a, G> {
+pub(crate) struct Resident<'a, G, J: Room> {
     pub(crate) general: u32,
     pub(crate) gate: &'a G,
-    pub(crate) board: &'a SharedBoard,
+    pub(crate) board: &'a SharedBoard<J>,
     pub(crate) inbox: &'a Inbox,
     pub(crate) tally: &'a Tally,
 }
 
-impl<'a, G: Gate> Resident<'a, G> {
+impl<'a, G: Gate, J: Room> Resident<'a, G, J> {
     /// Does his tasks until his inbox is closed. Where he fails, he says so to the one who waits for the letters.
     ///
     /// # Errors
@@ -37,11 +38,12 @@ impl<'a, G: Gate> Resident<'a, G> {
         alloc: Global,
         post: &Post,
         poster: Poster,
+        me: Witness<J>,
     ) -> Result<(), MusterError>
         requires post { poster.table ≡ post.now.table }
         requires general { poster.general ≡ self.general }
     {
-        let ended = self.do_tasks(rt, alloc, post, poster);
+        let ended = self.do_tasks(rt, alloc, post, poster, me);
         if ended.is_err() {
             self.tally.failed(rt);
         }
@@ -59,6 +61,7 @@ impl<'a, G: Gate> Resident<'a, G> {
         alloc: Global,
         post: &Post,
         mut poster: Poster,
+        mut me: Witness<J>,
     ) -> Result<(), MusterError>
         requires post { poster.table ≡ post.now.table }
         requires general { poster.general ≡ self.now.general }
@@ -67,7 +70,8 @@ impl<'a, G: Gate> Resident<'a, G> {
             let Some(task) = self.inbox.next(rt) else {
                 return Ok(());
             };
-            let letter = self.letter(rt, alloc, task)?;
+            let (letter, witness) = self.letter(rt, alloc, me, task)?;
+            me = witness;
             let (again, sent) = post.post(rt, poster, letter);
             poster = again;
             posted(sent)?;
@@ -76,14 +80,22 @@ impl<'a, G: Gate> Resident<'a, G> {
         unreachable!()
     }
 
-    /// His letter for a task.
+    /// His letter for a task. The accesses that it tells are among those that the board has served, as they were asked and
+    /// answered there.
     ///
     /// # Errors
     ///
     /// `Memory` where memory is refused, `Unaccounted` where the task is not his.
-    fn letter<R: Wait>(&self, rt: &R, alloc: Global, task: Task) -> Result<Letter, MusterError>
-        ensures general { IfOk result (λ letter. letter.general ≡ self.now.general) }
-        ensures done { IfOk result (IsDone task) }
+    fn letter<R: Wait>(
+        &self,
+        rt: &R,
+        alloc: Global,
+        me: Witness<J>,
+        task: Task,
+    ) -> Result<(Letter, Witness<J>), MusterError>
+        ensures general { IfOk result (λ r. r.0.general ≡ self.now.general) }
+        ensures done { IfOk result (λ r. IsDone task r.0) }
+        ensures served { IfOk result (λ r. AreAmong r.0.transcript r.1.seen) }
         ensures started { IfErr result (λ e. e ≢ Spawn) }
         ensures posted { IfErr result (λ e. e ≢ PostFull) }
     {
@@ -92,10 +104,12 @@ impl<'a, G: Gate> Resident<'a, G> {
             alloc,
             gate: self.gate,
             board: self.board,
+            me,
             made: Vec::new(alloc),
         };
         let letter = task.letter(alloc, &mut server)?;
         accounted(letter.general == self.general)?;
-        Ok(letter)
+        let Gated { me, .. } = server;
+        Ok((letter, me))
     }
 }

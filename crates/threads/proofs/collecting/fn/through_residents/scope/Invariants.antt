@@ -5,6 +5,7 @@ use Rattle.threads.proofs.collecting.fn.through_residents.scope.Given as goal
 abbrev pub invariant-loop-poster : goal.invariant-loop-poster
 invariant-loop-poster g l = record {
   few : length l.posters.items < 256;
+  witnesses : length l.posters.items ≤ length l.witnesses.items;
   inboxes : length l.posters.items ≤ length l.camp.now.inboxes.items;
   each : (g : ℕ) (d : PosterSeen) → g < length l.posters.items → slice_index_or l.posters.items g d ≡ poster_seen l.camp.now.post.table g [];
 }
