@@ -3,15 +3,15 @@
 
 mod beginnings;
 mod chronicle;
-mod draft;
+pub mod draft;
 mod event;
 mod events;
-mod judging;
+pub mod judging;
 mod laws;
-mod letters;
+pub mod letters;
 mod outcome;
 mod part;
-mod parts;
+pub mod parts;
 mod player;
 mod playing;
 mod schedule;
