@@ -26,3 +26,5 @@ pub mod ProgramRows
 pub mod Example
 pub mod Masks
 pub mod Telling
+pub mod Lending
+pub mod Adding
