@@ -1,7 +1,7 @@
 -- The orders that a general accepts, one chain after another, and the first eight of them.
 use Rattle.std.proofs.Common.{◌≡◌, ℕ, zero, suc, ◌+◌, ◌<◌, ◌≤◌, Bool, true, false, not, cond, List, [], ◌∷◌, ◌++◌, map, length, get_or, take, refl, sym, ap, ◌∙◌, arith, inl, inr, append-nil, append_assoc, length-append}
 use Rattle.std.specs.Prelude.{filter, flat_map, ◌==◌, ◌||◌, nat_lt, ◌&&◌}
-use Rattle.std.specs.List.{range_with_len}
+use Rattle.std.specs.Int.{bit_at}
 use Rattle.std.proofs.lemmas.Bool.{cases_lt, or_cases}
 use Rattle.std.proofs.lemmas.List.{take_all, take-append-le, length-take, same_lists}
 use Rattle.std.proofs.lemmas.List.Folds.{flat_map-map}
@@ -12,7 +12,8 @@ use Rattle.signed.specs.Chains.{Chain, orders}
 use Rattle.signed.specs.Accepted.{Deliveries, came, counts, firsts, accepted}
 use Rattle.signed.specs.Entries.{Dispatch, received}
 use Rattle.signed.specs.Sent.{Sent, delivered}
-use Rattle.signed.specs.Sending.{added_also, added_by, received_in, AreFirst}
+use Rattle.signed.specs.Sending.{added_also, added_by, dispatch_of, received_in}
+use Rattle.signed.proofs.Lending.{came_of, came_then, came_else, received_more, received_in_more}
 
 -- chains one after another
 pub added_by-append : (k p : ℕ) (seen : List ℕ) (xs ys : List Chain) → added_by k p seen (xs ++ ys) ≡ added_by k p (added_by k p seen xs) ys
@@ -86,33 +87,36 @@ came_is n sent r p rows =
 
 -- a round more
 pub accepted_by : (n : ℕ) (sent : Sent) (r p : ℕ) → length (get_or sent r []) ≡ n →
-    accepted n (delivered sent) (suc r) p ≡ added_by (suc r) p (accepted n (delivered sent) r p) (received_in p (get_or sent r []))
-accepted_by n sent r p rows = accepted_more n (delivered sent) r p ∙ ap (added_by (suc r) p (accepted n (delivered sent) r p)) (came_is n sent r p rows)
+    accepted n (delivered sent) (r + 1) p ≡ added_by (r + 1) p (accepted n (delivered sent) r p) (received_in p (get_or sent r []))
+accepted_by n sent r p rows =
+    let next : r + 1 ≡ suc r = omega arith in
+    ap (λ (k : ℕ). accepted n (delivered sent) k p) next
+    ∙ (accepted_more n (delivered sent) r p
+    ∙ (ap (added_by (suc r) p (accepted n (delivered sent) r p)) (came_is n sent r p rows)
+    ∙ ap (λ (k : ℕ). added_by k p (accepted n (delivered sent) r p) (received_in p (get_or sent r []))) (sym next)))
 
-short : {X : Type 0} (m : ℕ) (kept seen : List X) → kept ≡ take m seen → length kept < m → kept ≡ seen
-short m kept seen e less = (let s : length (take m seen) < m = (rw e at less) in e ∙ take_all m seen (omega (arith, length-take m seen)))
+-- one more of the chains that a general sent
+pub one_added : (k p : ℕ) (seen : List ℕ) (xs : List (Chain × ℕ)) (i : ℕ) (x : Chain × ℕ) → p < 13 → i < length xs → x ≡ get_or xs i x →
+    added_by k p seen (received p (map dispatch_of (take (i + 1) xs))) ≡ added_by k p (added_by k p seen (received p (map dispatch_of (take i xs)))) (came_of p x)
+one_added k p seen xs i x below inside is =
+    ap (added_by k p seen) (received_more p xs i x below inside)
+    ∙ (added_by-append k p seen (received p (map dispatch_of (take i xs))) (came_of p (get_or xs i x))
+    ∙ ap (λ (y : Chain × ℕ). added_by k p (added_by k p seen (received p (map dispatch_of (take i xs)))) (came_of p y)) (sym is))
 
-full : {X : Type 0} (m : ℕ) (kept seen : List X) → kept ≡ take m seen → m ≤ length kept → m ≤ length seen
-full m kept seen e more = omega (arith, ap length e, length-take m seen)
+-- it comes and counts, it comes and does not count, or it does not come
+pub came_counts : (k p : ℕ) (seen : List ℕ) (x : Chain × ℕ) → (bit_at x.1 p == 1) ≡ true → counts k p x.0 ≡ true → added_by k p seen (came_of p x) ≡ added_also seen x.0.order
+came_counts k p seen x e f = ap (added_by k p seen) (came_then p x e) ∙ ap (λ (b : Bool). cond b (added_also seen x.0.order) seen) f
 
--- an order more for which there is room
-pub add_more : (m : ℕ) (kept seen : List ℕ) (o : ℕ) → kept ≡ take m seen → length kept < m → on kept o ≡ false → kept ++ o ∷ [] ≡ take m (added_also seen o)
-add_more m kept seen o first room off =
-    let same : kept ≡ seen = short m kept seen first room in
-    let size : length (kept ++ o ∷ []) ≤ m = omega (arith, length-append kept (o ∷ [])) in
-    sym (take_all m (kept ++ o ∷ []) size)
-    ∙ ((λ i. take m (same i ++ o ∷ [])) ∙ ap (λ (b : Bool). take m (cond b seen (seen ++ o ∷ []))) (sym (sym (ap (λ (xs : List ℕ). on xs o) same) ∙ off)))
+pub came_idle : (k p : ℕ) (seen : List ℕ) (x : Chain × ℕ) → (bit_at x.1 p == 1) ≡ true → counts k p x.0 ≡ false → added_by k p seen (came_of p x) ≡ seen
+came_idle k p seen x e f = ap (added_by k p seen) (came_then p x e) ∙ ap (λ (b : Bool). cond b (added_also seen x.0.order) seen) f
 
--- an order that is there already
-pub add_again : (m : ℕ) (kept seen : List ℕ) (o : ℕ) → kept ≡ take m seen → length kept < m → on kept o ≡ true → kept ≡ take m (added_also seen o)
-add_again m kept seen o first room there =
-    let same : kept ≡ seen = short m kept seen first room in
-    first ∙ ap (λ (b : Bool). take m (cond b seen (seen ++ o ∷ []))) (sym (sym (ap (λ (xs : List ℕ). on xs o) same) ∙ there))
+pub came_not : (k p : ℕ) (seen : List ℕ) (x : Chain × ℕ) → (bit_at x.1 p == 1) ≡ false → added_by k p seen (came_of p x) ≡ seen
+came_not k p seen x e = ap (added_by k p seen) (came_else p x e)
 
--- an order for which there is no room
-pub add_none : (m : ℕ) (kept seen : List ℕ) (o : ℕ) → kept ≡ take m seen → m ≤ length kept → kept ≡ take m (added_also seen o)
-add_none m kept seen o first none = by (on seen o)
-  where
-    by : (b : Bool) → kept ≡ take m (cond b seen (seen ++ o ∷ []))
-    by true = first
-    by false = first ∙ sym (take-append-le m seen (o ∷ []) (full m kept seen first none))
+-- one more of the generals who sent
+pub one_sent : (k p : ℕ) (seen : List ℕ) (row : List (List Dispatch)) (i : ℕ) (x : List Dispatch) → i < length row → x ≡ get_or row i x →
+    added_by k p seen (received_in p (take (i + 1) row)) ≡ added_by k p (added_by k p seen (received_in p (take i row))) (received p x)
+one_sent k p seen row i x inside is =
+    ap (added_by k p seen) (received_in_more p row i x inside)
+    ∙ (added_by-append k p seen (received_in p (take i row)) (received p (get_or row i x))
+    ∙ ap (λ (y : List Dispatch). added_by k p (added_by k p seen (received_in p (take i row))) (received p y)) (sym is))

@@ -52,3 +52,17 @@ received_more p xs i d below inside =
 pub received_in_more : (p : ℕ) (row : List (List Dispatch)) (i : ℕ) (d : List Dispatch) → i < length row →
     received_in p (take (i + 1) row) ≡ received_in p (take i row) ++ received p (get_or row i d)
 received_in_more p row i d inside = flat_more (received p) row i d inside
+
+-- a chain more that comes to p, and one that does not
+pub one_came : (p : ℕ) (start now : List Chain) (xs : List (Chain × ℕ)) (i : ℕ) (x : Chain × ℕ) → p < 13 → i < length xs → x ≡ get_or xs i x →
+    now ≡ start ++ received p (map dispatch_of (take i xs)) → now ++ came_of p x ≡ start ++ received p (map dispatch_of (take (i + 1) xs))
+one_came p start now xs i x below inside is h =
+    ap (λ ys. ys ++ came_of p x) h
+    ∙ (append_assoc start (received p (map dispatch_of (take i xs))) (came_of p x)
+    ∙ ap (λ ys. start ++ ys) (ap (λ (y : Chain × ℕ). received p (map dispatch_of (take i xs)) ++ came_of p y) is ∙ sym (received_more p xs i x below inside)))
+
+pub came_then : (p : ℕ) (x : Chain × ℕ) → (bit_at x.1 p == 1) ≡ true → came_of p x ≡ x.0 ∷ []
+came_then p x e = ap (λ b. cond b (x.0 ∷ []) []) e
+
+pub came_else : (p : ℕ) (x : Chain × ℕ) → (bit_at x.1 p == 1) ≡ false → came_of p x ≡ []
+came_else p x e = ap (λ b. cond b (x.0 ∷ []) []) e
