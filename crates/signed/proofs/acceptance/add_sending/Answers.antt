@@ -1,6 +1,4 @@
-use Rattle.std.proofs.Common.{◌≡◌, ℕ, List, Bool, true, false, map, take, sym, ap, ◌∙◌, arith}
-use Rattle.std.specs.Prelude.{◌==◌}
-use Rattle.std.specs.Int.{bit_at}
+use Rattle.std.proofs.Common.{ℕ, List, map, take, sym, ap, ◌∙◌, arith}
 use Rattle.signed.specs.Entries.{received}
 use Rattle.signed.specs.Sending.{added_also, added_by, dispatch_of}
 use Rattle.signed.proofs.Adding.{one_added, came_counts, came_idle, came_not}

@@ -13,7 +13,7 @@ loop-entry-preserved c =
     let entry = get_or c.args.entries.now c.loop-entry.entry-index (Sign 0 0) in
     record {
       sent = c.in_ok-send.ensures.sent
-      ∙ (ap (λ (ds : List Dispatch). ds ++ sent_by n (chain_of commander general held entry) (bits_of entry)) c.loop-entry.invariant.sent
-      ∙ sym (dispatched_more n commander general held c.args.entries.now c.loop-entry.entry-index (Sign 0 0) (omega arith)));
+          ∙ (ap (λ (ds : List Dispatch). ds ++ sent_by n (chain_of commander general held entry) (bits_of entry)) c.loop-entry.invariant.sent
+          ∙ sym (dispatched_more n commander general held c.args.entries.now c.loop-entry.entry-index (Sign 0 0) (omega arith)));
       few = omega (arith, c.in_ok-send.ensures.one);
     }

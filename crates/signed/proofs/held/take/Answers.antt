@@ -1,4 +1,4 @@
-use Rattle.std.proofs.Common.{List, ◌∷◌, ◌++◌, sym, ap, ◌∙◌, arith, append-nil}
+use Rattle.std.proofs.Common.{List, ◌++◌, sym, ap, ◌∙◌, arith, append-nil}
 use Rattle.std.specs.Borrow.{Bor}
 use Rattle.std.proofs.lemmas.List.{map_push}
 use Rattle.signed.specs.Chains.{Chain}
@@ -16,9 +16,9 @@ loop-chain-preserved c =
     elim c.if-has.branch [
       | then-has+in_ok-push w ↦ record {
         came = rw w.chains-is (
-        ap (λ (cs : List (Bor Chain)). lent cs) w.in_ok-push.ensures.items
-        ∙ (map_push (λ (b : Bor Chain). b.now) c.loop-chain.chains.items _
-        ∙ (ap (λ (ys : List Chain). before ++ ys) (sym (came_then p x (sym c.has.ensures ∙ w.if-has.true))) ∙ more)));
+            ap (λ (cs : List (Bor Chain)). lent cs) w.in_ok-push.ensures.items
+            ∙ (map_push (λ (b : Bor Chain). b.now) c.loop-chain.chains.items _
+            ∙ (ap (λ (ys : List Chain). before ++ ys) (sym (came_then p x (sym c.has.ensures ∙ w.if-has.true))) ∙ more)));
         few = rw w.chains-is (omega (arith, w.in_ok-push.ensures.len));
       }
       | else-has w ↦ record {
