@@ -20,6 +20,7 @@ pub mod Holding
 pub mod Signing
 pub mod Entered
 pub mod Concluding
+pub mod Whatever
 pub mod Verdicts
 pub mod Rows
 pub mod ProgramRows
