@@ -5,7 +5,7 @@ ghost use Rattle.signed.specs.Sending.{added_by, entered_all, held_of, relay_beh
 ghost use Rattle.signed.specs.Sent.{delivered};
 
 use crate::acceptance::{accepted, add, is_among};
-use crate::bits;
+use crate::sets;
 use crate::chain::Chain;
 use crate::held::Held;
 use crate::outgoing::SentRound;
@@ -82,12 +82,12 @@ fn receivers(generals: u8, chain: &Chain, general: u8) -> u16
     requires inside { general < generals }
     ensures { result ≡ bits_but generals (chain.now.signers ++ general ∷ []) }
 {
-    bits::without(bits::below(generals), bits::with(chain.bits(), general))
+    sets::without(sets::below(generals), sets::with(chain.bits(), general))
 }
 
 /// All generals but these, bit g for general g.
 fn others(generals: u8, but: &[u8]) -> u16
     ensures { result ≡ bits_but generals but.now }
 {
-    bits::without(bits::below(generals), bits::of(but))
+    sets::without(sets::below(generals), sets::of(but))
 }

@@ -3,7 +3,6 @@
 
 mod acceptance;
 mod beginnings;
-mod bits;
 mod briefing;
 mod chain;
 mod chronicle;
@@ -16,6 +15,7 @@ mod judging;
 mod laws;
 mod letter;
 mod outgoing;
+mod sets;
 mod signer;
 mod world;
 
