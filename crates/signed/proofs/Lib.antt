@@ -26,3 +26,7 @@ pub mod ProgramRows
 pub mod Example
 pub mod Masks
 pub mod Telling
+pub mod Receipts
+pub mod Passes
+pub mod Onward
+pub mod Duties
