@@ -30,3 +30,4 @@ pub mod Receipts
 pub mod Passes
 pub mod Onward
 pub mod Duties
+pub mod Written
