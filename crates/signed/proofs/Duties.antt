@@ -17,9 +17,10 @@ use Rattle.signed.specs.Sending.{added_by, entered_all, held_of, relay_behind, I
 use Rattle.signed.proofs.Along.{held_is}
 use Rattle.signed.proofs.Entered.{held_distinct}
 use Rattle.signed.proofs.Fewness.{accepted_few}
+use Rattle.signed.proofs.Holding.{held_few}
 use Rattle.signed.proofs.Making.{IsMade}
 use Rattle.signed.proofs.Passes.{added_is, passes_count, passes_entered, taken, MayPass}
-use Rattle.signed.proofs.Receipts.{held_last, sent_rows, sent_made, IsHeldOf}
+use Rattle.signed.proofs.Receipts.{chains_held, held_last, sent_rows, sent_made, IsHeldOf}
 use Rattle.signed.proofs.Signing.{sendable_is}
 
 -- the orders that a general adds in a round are those that he has accepted then
@@ -129,3 +130,8 @@ none_later s sent g same some = by (length sent) refl
     by : (k : ℕ) → length sent ≡ k → [] ≡ loyal_entries s.generals s.commander s.bound s.order (delivered sent) (suc k) g
     by zero e = absurd (some e)
     by (suc r) e = sym (later_none s.generals s.commander s.bound s.order (delivered sent) r g same)
+
+pub held_small : (s : Scenario) (sent : Sent) (g : ℕ) → IsScenario s → IsSent s sent → g < s.generals → length sent ≤ s.bound → length (held_of g sent).chains ≤ 384
+held_small s sent g is h inside le =
+    let e = ap length (chains_held s.generals sent g (sent_rows s sent h)) in
+    omega (arith, held_few s sent (sent_made s sent is h) is.few is.rounds le g inside)

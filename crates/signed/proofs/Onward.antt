@@ -1,7 +1,7 @@
 -- How a loyal general passes on, one after another, the chains that bring him orders.
 use Rattle.std.proofs.Common.{◌≡◌, ℕ, zero, suc, ◌+◌, ◌<◌, ◌≤◌, Bool, true, false, not, cond, ◌&&◌, List, [], ◌∷◌, ◌++◌, take, drop, length, refl, sym, ap, subst, ◌∙◌, arith, inl, inr, length-append, Some, None}
 use Rattle.std.specs.Prelude.{slice_get}
-use Rattle.std.proofs.Math.Seq.{drop-length}
+use Rattle.std.proofs.Math.ListN.{drop_of_length-le}
 use Rattle.std.proofs.lemmas.Bool.{cases_Bool}
 use Rattle.std.proofs.lemmas.List.{take_all}
 use Rattle.label.specs.Labels.{on}
@@ -97,8 +97,8 @@ module _ (n k g earlier : ℕ) (chains : List Chain) (relay : Relay) (seen : Lis
       apart a false e = refl
 
 -- at the end all are entered
-pub passing_last : (n k g earlier : ℕ) (chains : List Chain) (relay : Relay) (seen : List ℕ) (before : List Entry) (place : ℕ) (known : List ℕ) (entries : List Entry) → place ≡ length chains →
+pub passing_last : (n k g earlier : ℕ) (chains : List Chain) (relay : Relay) (seen : List ℕ) (before : List Entry) (place : ℕ) (known : List ℕ) (entries : List Entry) → length chains ≤ place →
     IsPassing n k g earlier chains relay seen before place known entries → entries ≡ entered_all relay before (passes n k g earlier seen (drop earlier chains))
 passing_last n k g earlier chains relay seen before place known entries end p =
-    let none : drop place chains ≡ [] = ap (λ (j : ℕ). drop j chains) end ∙ drop-length chains in
+    let none : drop place chains ≡ [] = drop_of_length-le chains end in
     ap (λ (xs : List Chain). entered_all relay entries (passes n k g place known xs)) (sym none) ∙ p.entered
