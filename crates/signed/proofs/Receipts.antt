@@ -1,11 +1,13 @@
 -- The chains that came to a general, in the lists of what was sent.
-use Rattle.std.proofs.Common.{◌≡◌, ℕ, zero, suc, ◌+◌, ◌-◌, ◌<◌, ◌≤◌, List, [], ◌∷◌, ◌++◌, take, drop, length, get_or, refl, sym, ap, subst, ◌∙◌, arith, All, append-nil}
+use Rattle.std.proofs.Common.{◌≡◌, ℕ, zero, suc, ◌+◌, ◌-◌, ◌<◌, ◌≤◌, List, [], ◌∷◌, ◌++◌, map, take, drop, length, get_or, refl, sym, ap, subst, ◌∙◌, arith, All, append-nil}
 use Rattle.std.specs.Prelude.{flat_map}
 use Rattle.std.specs.List.{range_with_len}
 use Rattle.std.proofs.Math.Seq.{take-suc, take-length, drop-append_seam}
 use Rattle.std.proofs.lemmas.Grind.{flat_map-append}
+use Rattle.std.proofs.lemmas.List.{map-append}
 use Rattle.std.proofs.lemmas.List.Elements.{All-append}
 use Rattle.label.specs.Labels.{generals}
+use Rattle.label.proofs.Ranks.{range_push}
 use Rattle.round.specs.Scenario.{Scenario, IsScenario}
 use Rattle.round.specs.Letters.{Letter, letter_of}
 use Rattle.signed.specs.Chains.{Chain}
@@ -105,3 +107,14 @@ pub sent_made : (s : Scenario) (sent : Sent) → IsScenario s → IsSent s sent 
 sent_made s sent is h =
     let A : Sent → Type 0 = λ x. IsMade s x in
     subst A (sym h.1) (played_made s h.0 is)
+
+-- a general more
+pub row_more : {X : Type 0} (f : ℕ → X) (k : ℕ) (xs : List X) (x : X) (ys : List X) → ys ≡ xs ++ x ∷ [] → xs ≡ map f (generals k) → x ≡ f k → ys ≡ map f (generals (k + 1))
+row_more f k xs x ys e h is =
+    let m : suc k ≡ k + 1 = omega arith in
+    let z : 0 + k ≡ k = omega arith in
+    e
+    ∙ ((λ i. h i ++ (is ∙ ap f (sym z)) i ∷ [])
+    ∙ (sym (map-append f (generals k) ((0 + k) ∷ []))
+    ∙ (ap (map f) (sym (range_push 0 k))
+    ∙ ap (λ (j : ℕ). map f (generals j)) m)))
