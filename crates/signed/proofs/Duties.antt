@@ -13,7 +13,7 @@ use Rattle.signed.specs.Accepted.{Deliveries, came, held, counts, counted, first
 use Rattle.signed.specs.Entries.{Entry, Sign, Pass, chain_of, passed_on}
 use Rattle.signed.specs.Loyal.{bits_but, passes, loyal_entries}
 use Rattle.signed.specs.Sent.{Sent, delivered, held_behind}
-use Rattle.signed.specs.Sending.{added_by, entered_all, held_of, relay_behind, IsSent}
+use Rattle.signed.specs.Sending.{added_by, entered_all, held_of, relay_behind, AreFirst, HeldChains, IsSent}
 use Rattle.signed.proofs.Along.{held_is}
 use Rattle.signed.proofs.Entered.{held_distinct}
 use Rattle.signed.proofs.Fewness.{accepted_few}
@@ -135,3 +135,19 @@ pub held_small : (s : Scenario) (sent : Sent) (g : ℕ) → IsScenario s → IsS
 held_small s sent g is h inside le =
     let e = ap length (chains_held s.generals sent g (sent_rows s sent h)) in
     omega (arith, held_few s sent (sent_made s sent is h) is.few is.rounds le g inside)
+
+-- a lieutenant who has passed on what brings him orders that he has not accepted
+pub passed_is : (s : Scenario) (sent : Sent) (g n rounds r : ℕ) (held_chains : HeldChains) (relay : Relay) (before entries : List Entry) (kept : List ℕ) → IsScenario s → IsSent s sent → g < s.generals → g ≢ s.commander → length sent ≤ s.bound →
+    n ≡ s.generals → rounds ≡ length sent → rounds ≡ suc r → held_chains ≡ held_of g sent → relay ≡ relay_behind s sent g → before ≡ [] → AreFirst kept (accepted s.generals (delivered sent) r g) →
+    ((seen : List ℕ) → AreFirst kept seen → length (added_by rounds g seen (drop held_chains.earlier held_chains.chains)) ≤ 8 → entries ≡ entered_all relay before (passes n rounds g held_chains.earlier seen (drop held_chains.earlier held_chains.chains))) →
+    entries ≡ loyal_entries s.generals s.commander s.bound s.order (delivered sent) (suc (length sent)) g
+passed_is s sent g n rounds r held_chains relay before entries kept is h inside ne le size counted e there relays none first passed =
+    let seen = accepted s.generals (delivered sent) r g in
+    let round : length sent ≡ suc r = sym counted ∙ e in
+    let same : added_by rounds g seen (drop held_chains.earlier held_chains.chains) ≡ added_by (length sent) g seen (drop (held_of g sent).earlier (held_of g sent).chains) =
+    (λ i. added_by (counted i) g seen (drop (there i).earlier (there i).chains)) in
+    let few = added_few s sent r g is h inside round in
+    let sizes = ap length same in
+    passed seen first (omega arith)
+    ∙ ((λ i. entered_all (relays i) (none i) (passes (size i) (counted i) g (there i).earlier seen (drop (there i).earlier (there i).chains)))
+    ∙ passes_are s sent r g is h inside ne round le)

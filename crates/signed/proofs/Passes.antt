@@ -51,7 +51,7 @@ added_more k p seen ch chains ih true true e =
 added_more k p seen ch chains ih true false e =
     let F = filter (counts k p) chains in
     ih (seen ++ ch.order ∷ [])
-    ∙ (append_assoc
+    ∙ (append_assoc seen (ch.order ∷ []) (orders (firsts (seen ++ ch.order ∷ []) F))
     ∙ (ap (λ (xs : List Chain). seen ++ ch.order ∷ orders xs) (firsts_same (seen ++ ch.order ∷ []) (ch.order ∷ seen) F (on_either_end seen ch.order))
     ∙ ap (λ (b : Bool). seen ++ orders (cond b (firsts seen F) (ch ∷ firsts (ch.order ∷ seen) F))) (sym e)))
 
@@ -108,7 +108,7 @@ entered_more relay n k g place seen ch chains entries ih true false may room =
     let rest = passes n k g (suc place) (ch.order ∷ seen) chains in
     let one = taken relay entries e (may refl (bits_but n (ch.signers ++ g ∷ []))) (omega arith) in
     ap (λ (es : List Entry). entered_all relay es rest) one
-    ∙ (ih (ch.order ∷ seen) (entries ++ e ∷ []) (omega (arith, length-append entries (e ∷ []))) ∙ append_assoc)
+    ∙ (ih (ch.order ∷ seen) (entries ++ e ∷ []) (omega (arith, length-append entries (e ∷ []))) ∙ append_assoc entries (e ∷ []) rest)
 
 pub passes_entered : (relay : Relay) (n k g place : ℕ) (seen : List ℕ) (chains : List Chain) (entries : List Entry) → MayPass relay k g place chains →
     length entries + length (passes n k g place seen chains) ≤ 8 → entered_all relay entries (passes n k g place seen chains) ≡ entries ++ passes n k g place seen chains

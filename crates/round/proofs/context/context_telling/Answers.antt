@@ -1,6 +1,10 @@
-use Rattle.std.proofs.Common.{refl, sym, arith, ◌≡◌, length}
+-- The header, the numbers, and zeros.
+use Rattle.std.proofs.Common.{refl, arith}
+use Rattle.std.specs.Vec.{vec_len}
 use Rattle.round.proofs.Spelling.{context_done}
 use Rattle.round.proofs.context.context_telling.Goals as goal
 
 pub returns : goal.returns
-returns c = ?
+returns c =
+    context_done c.args.header.now c.args.header.now c.args.numbers.now c.in_ok-bytes.bytes.items c.spell.new.bytes.items c.spell_all.new.bytes.items c.resize.new.self.items (vec_len c.spell_all.new.bytes)
+    (?) c.requires refl c.in_ok-bytes.ensures.items c.spell.ensures.bytes c.spell_all.ensures.bytes (?) c.in-Ok.ensures.items
