@@ -31,3 +31,4 @@ pub mod Passes
 pub mod Onward
 pub mod Duties
 pub mod Written
+pub mod Marks
