@@ -12,10 +12,11 @@ use Rattle.round.specs.Scenario.{Scenario, IsScenario}
 use Rattle.round.specs.Letters.{Letter, letter_of}
 use Rattle.signed.specs.Chains.{Chain}
 use Rattle.signed.specs.Accepted.{came, held}
-use Rattle.signed.specs.Entries.{Dispatch, received}
+use Rattle.signed.specs.Entries.{Dispatch, Entry, dispatched, received}
 use Rattle.signed.specs.Sent.{Sent, sent_by, delivered, held_behind, sends, round_sent, sent_along, sent_in}
 use Rattle.signed.specs.Sending.{received_in, AreRows, HeldChains, held_of, IsSent}
 use Rattle.signed.specs.Kind.{played}
+use Rattle.signed.specs.Signers.{Signature}
 use Rattle.signed.proofs.Along.{held_is}
 use Rattle.signed.proofs.Making.{IsMade}
 use Rattle.signed.proofs.Places.{row_length}
@@ -118,3 +119,11 @@ row_more f k xs x ys e h is =
     ∙ (sym (map-append f (generals k) ((0 + k) ∷ []))
     ∙ (ap (map f) (sym (range_push 0 k))
     ∙ ap (λ (j : ℕ). map f (generals j)) m)))
+
+-- a general's entries send by what he holds
+pub dispatched_is : (s : Scenario) (sent : Sent) (g n : ℕ) (signer : Signature) (held_chains : HeldChains) (entries drafted : List Entry) → AreRows s.generals sent →
+    n ≡ s.generals → signer ≡ record { general = g; commander = s.commander } → held_chains ≡ held_of g sent → entries ≡ drafted →
+    dispatched n signer.commander signer.general held_chains.chains entries ≡ dispatched s.generals s.commander g (held_behind s.generals sent g) drafted
+dispatched_is s sent g n signer held_chains entries drafted rows size own there same =
+    (λ i. dispatched (size i) (own i).commander (own i).general (there i).chains (same i))
+    ∙ ap (λ (xs : List Chain). dispatched s.generals s.commander g xs drafted) (chains_held s.generals sent g rows)
