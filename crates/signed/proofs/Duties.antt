@@ -19,14 +19,10 @@ use Rattle.signed.proofs.Entered.{held_distinct}
 use Rattle.signed.proofs.Fewness.{accepted_few}
 use Rattle.signed.proofs.Holding.{held_few}
 use Rattle.signed.proofs.Making.{IsMade}
-use Rattle.signed.proofs.Passes.{added_is, passes_count, passes_entered, taken, MayPass}
+use Rattle.signed.proofs.Adding.{added_by_is, accepted_more}
+use Rattle.signed.proofs.Passes.{passes_count, passes_entered, taken, MayPass}
 use Rattle.signed.proofs.Receipts.{chains_held, held_last, sent_rows, sent_made, IsHeldOf}
 use Rattle.signed.proofs.Signing.{sendable_is}
-
--- the orders that a general adds in a round are those that he has accepted then
-pub added_accepted : (n : ℕ) (S : Deliveries) (r g : ℕ) → added_by (suc r) g (accepted n S r g) (came n S (suc r) g) ≡ accepted n S (suc r) g
-unfolding accepted
-added_accepted n S r g = added_is (suc r) g (accepted n S r g) (came n S (suc r) g)
 
 prolonged : (ch : Chain) (g : ℕ) (b : Bool) → b ≡ false → is_some (cond b None (Some (signed_also ch g))) ≡ true
 prolonged ch g true e = absurd cc
@@ -57,7 +53,7 @@ added_few s sent r g is h inside e =
     let S = delivered sent in
     let of = held_last n sent r g (sent_rows s sent h) e in
     let all : added_by (length sent) g (accepted n S r g) (drop (held_of g sent).earlier (held_of g sent).chains) ≡ accepted n S (suc r) g =
-    (λ i. added_by (e i) g (accepted n S r g) (of.last i)) ∙ added_accepted n S r g in
+    (λ i. added_by (e i) g (accepted n S r g) (of.last i)) ∙ sym (accepted_more n S r g) in
     let size = ap length all in
     omega (arith, accepted_few s sent (sent_made s sent is h) (suc r) g inside)
 
@@ -68,8 +64,8 @@ passes_few s sent r g place made inside =
     let S = delivered sent in
     let F = firsts (accepted n S r g) (filter (counts (suc r) g) (came n S (suc r) g)) in
     let count = passes_count n (suc r) g place (accepted n S r g) (came n S (suc r) g) in
-    let size = ap length (added_is (suc r) g (accepted n S r g) (came n S (suc r) g)) in
-    let all = ap length (added_accepted n S r g) in
+    let size = ap length (added_by_is (suc r) g (accepted n S r g) (came n S (suc r) g)) in
+    let all = ap length (accepted_more n S r g) in
     let one : length (orders F) ≡ length F = length-map F (λ ch. ch.order) in
     omega (arith, accepted_few s sent made (suc r) g inside, length-append (accepted n S r g) (orders F))
 

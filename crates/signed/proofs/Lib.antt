@@ -26,6 +26,8 @@ pub mod ProgramRows
 pub mod Example
 pub mod Masks
 pub mod Telling
+pub mod Lending
+pub mod Adding
 pub mod Receipts
 pub mod Passes
 pub mod Onward

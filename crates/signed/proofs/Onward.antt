@@ -12,7 +12,8 @@ use Rattle.signed.specs.Accepted.{counts}
 use Rattle.signed.specs.Entries.{Entry, Pass}
 use Rattle.signed.specs.Loyal.{bits_but, passes}
 use Rattle.signed.specs.Sending.{added_also, added_by, entered_all, AreFirst}
-use Rattle.signed.proofs.Passes.{added_longer, on_either_end, passes_same}
+use Rattle.signed.proofs.Adding.{at_the_end}
+use Rattle.signed.proofs.Passes.{added_longer, passes_same}
 
 -- of no more than eight orders the first eight are all
 pub first_all : (kept seen : List ℕ) → length seen ≤ 8 → AreFirst kept seen → kept ≡ seen
@@ -76,7 +77,7 @@ module _ (n k g earlier : ℕ) (chains : List Chain) (relay : Relay) (seen : Lis
       let same : orders ≡ more = first_all orders more short (subst (λ (xs : List ℕ). AreFirst orders xs) also (firsts known (sym (take_all 8 known fewer)))) in
       let passed : passes n k g place known (ch ∷ rest) ≡ e ∷ passes n k g (suc place) more rest =
       ap (λ (b : Bool). cond b (e ∷ passes n k g (suc place) (ch.order ∷ known) rest) (passes n k g (suc place) known rest)) yes_new
-      ∙ ap (λ (es : List Entry). e ∷ es) (sym (passes_same n k g (suc place) more (ch.order ∷ known) rest (on_either_end known ch.order))) in
+      ∙ ap (λ (es : List Entry). e ∷ es) (sym (passes_same n k g (suc place) more (ch.order ∷ known) rest (λ v. at_the_end known ch.order v))) in
       subst (λ (j : ℕ). IsPassing n k g earlier chains relay seen before j orders (entered relay entries e)) (sym step)
       (subst (λ (xs : List ℕ). IsPassing n k g earlier chains relay seen before (suc place) xs (entered relay entries e)) (sym same) (record {
         added = sym one ∙ all;

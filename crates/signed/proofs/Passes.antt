@@ -2,37 +2,23 @@
 use Rattle.std.proofs.Common.{◌≡◌, ℕ, zero, suc, ◌+◌, ◌<◌, ◌≤◌, Bool, true, false, not, cond, ◌&&◌, ◌||◌, List, [], ◌∷◌, ◌++◌, map, take, drop, length, refl, sym, ap, subst, ◌∙◌, arith, length-append, Some, None}
 use Rattle.std.specs.Prelude.{filter, slice_get, nat_lt, if◌then◌else◌, ◌==◌}
 use Rattle.std.proofs.lemmas.Bool.{lt-ltb}
-use Rattle.std.proofs.lemmas.List.{append_assoc, take_all, append-nil}
+use Rattle.std.proofs.lemmas.List.{append_assoc, append-nil}
 use Rattle.label.specs.Labels.{on}
-use Rattle.label.proofs.Counting.{on-push}
 use Rattle.semantics.specs.Relay.{Relay}
 use Rattle.semantics.specs.Entries.{is_sendable, is_entered, entered}
 use Rattle.signed.specs.Chains.{Chain, orders}
 use Rattle.signed.specs.Accepted.{counts, firsts}
 use Rattle.signed.specs.Entries.{Entry, Pass}
 use Rattle.signed.specs.Loyal.{bits_but, passes}
-use Rattle.signed.specs.Sending.{added_also, added_by, entered_all, AreFirst}
+use Rattle.signed.specs.Sending.{added_by, entered_all}
+use Rattle.signed.proofs.Adding.{added_by_is}
 
 -- the same numbers are on both lists
 abbrev pub SameOn : List ℕ → List ℕ → Type 0
 SameOn xs ys = (v : ℕ) → on xs v ≡ on ys v
 
-or_turned : (a b : Bool) → (a || b) ≡ (b || a)
-or_turned true true = refl
-or_turned true false = refl
-or_turned false true = refl
-or_turned false false = refl
-
-pub on_either_end : (xs : List ℕ) (v : ℕ) → SameOn (xs ++ v ∷ []) (v ∷ xs)
-on_either_end xs v w = on-push xs v w ∙ or_turned (on xs w) (v == w)
-
 same_more : (xs ys : List ℕ) (v : ℕ) → SameOn xs ys → SameOn (v ∷ xs) (v ∷ ys)
 same_more xs ys v same w = ap (λ (b : Bool). (v == w) || b) (same w)
-
-pub firsts_same : (xs ys : List ℕ) (chains : List Chain) → SameOn xs ys → firsts xs chains ≡ firsts ys chains
-firsts_same xs ys [] same = refl
-firsts_same xs ys (ch ∷ chains) same =
-    (λ i. cond (same ch.order i) (firsts_same xs ys chains same i) (ch ∷ firsts_same (ch.order ∷ xs) (ch.order ∷ ys) chains (same_more xs ys ch.order same) i))
 
 pub passes_same : (n k g place : ℕ) (xs ys : List ℕ) (chains : List Chain) → SameOn xs ys → passes n k g place xs chains ≡ passes n k g place ys chains
 passes_same n k g place xs ys [] same = refl
@@ -41,27 +27,9 @@ passes_same n k g place xs ys (ch ∷ chains) same =
     (Pass place (bits_but n (ch.signers ++ g ∷ [])) ∷ passes_same n k g (suc place) (ch.order ∷ xs) (ch.order ∷ ys) chains (same_more xs ys ch.order same) i)
     (passes_same n k g (suc place) xs ys chains same i))
 
--- the orders that chains add stand behind those before, those of the first chains that count
-added_more : (k p : ℕ) (seen : List ℕ) (ch : Chain) (chains : List Chain) →
-    ((more : List ℕ) → added_by k p more chains ≡ more ++ orders (firsts more (filter (counts k p) chains))) → (a b : Bool) → on seen ch.order ≡ b →
-    added_by k p (cond a (cond b seen (seen ++ ch.order ∷ [])) seen) chains ≡ seen ++ orders (firsts seen (cond a (ch ∷ filter (counts k p) chains) (filter (counts k p) chains)))
-added_more k p seen ch chains ih false b e = ih seen
-added_more k p seen ch chains ih true true e =
-    ih seen ∙ ap (λ (b : Bool). seen ++ orders (cond b (firsts seen (filter (counts k p) chains)) (ch ∷ firsts (ch.order ∷ seen) (filter (counts k p) chains)))) (sym e)
-added_more k p seen ch chains ih true false e =
-    let F = filter (counts k p) chains in
-    ih (seen ++ ch.order ∷ [])
-    ∙ (append_assoc seen (ch.order ∷ []) (orders (firsts (seen ++ ch.order ∷ []) F))
-    ∙ (ap (λ (xs : List Chain). seen ++ ch.order ∷ orders xs) (firsts_same (seen ++ ch.order ∷ []) (ch.order ∷ seen) F (on_either_end seen ch.order))
-    ∙ ap (λ (b : Bool). seen ++ orders (cond b (firsts seen F) (ch ∷ firsts (ch.order ∷ seen) F))) (sym e)))
-
-pub added_is : (k p : ℕ) (seen : List ℕ) (chains : List Chain) → added_by k p seen chains ≡ seen ++ orders (firsts seen (filter (counts k p) chains))
-added_is k p seen [] = sym (append-nil seen)
-added_is k p seen (ch ∷ chains) = added_more k p seen ch chains (λ more. added_is k p more chains) (counts k p ch) (on seen ch.order) refl
-
 pub added_longer : (k p : ℕ) (seen : List ℕ) (chains : List Chain) → length seen ≤ length (added_by k p seen chains)
 added_longer k p seen chains =
-    let e = ap length (added_is k p seen chains) in
+    let e = ap length (added_by_is k p seen chains) in
     omega (arith, length-append seen (orders (firsts seen (filter (counts k p) chains))))
 
 -- one entry for each order

@@ -1,7 +1,6 @@
 -- The chains that came to a general, in the lists of what was sent.
 use Rattle.std.proofs.Common.{◌≡◌, ℕ, zero, suc, ◌+◌, ◌-◌, ◌<◌, ◌≤◌, List, [], ◌∷◌, ◌++◌, map, take, drop, length, get_or, refl, sym, ap, subst, ◌∙◌, arith, All, append-nil}
 use Rattle.std.specs.Prelude.{flat_map}
-use Rattle.std.specs.List.{range_with_len}
 use Rattle.std.proofs.Math.Seq.{take-suc, take-length, drop-append_seam}
 use Rattle.std.proofs.lemmas.Grind.{flat_map-append}
 use Rattle.std.proofs.lemmas.List.{map-append}
@@ -17,25 +16,11 @@ use Rattle.signed.specs.Sent.{Sent, sent_by, delivered, held_behind, sends, roun
 use Rattle.signed.specs.Sending.{received_in, AreRows, HeldChains, held_of, IsSent}
 use Rattle.signed.specs.Kind.{played}
 use Rattle.signed.specs.Signers.{Signature}
+use Rattle.signed.proofs.Adding.{came_is}
 use Rattle.signed.proofs.Along.{held_is}
 use Rattle.signed.proofs.Making.{IsMade}
 use Rattle.signed.proofs.Places.{row_length}
 use Rattle.signed.proofs.Worlds.{played_made}
-
--- what is made of the pieces at a list's places is made of its pieces
-by_place : (f : List Dispatch → List Chain) (row : List (List Dispatch)) (a : ℕ) (rest : List (List Dispatch)) → ((i : ℕ) → get_or row (a + i) [] ≡ get_or rest i []) →
-    flat_map (λ h. f (get_or row h [])) (range_with_len a (length rest)) ≡ flat_map f rest
-by_place f row a [] same = refl
-by_place f row a (x ∷ rest) same =
-    let here : get_or row a [] ≡ x = (let e : a ≡ a + 0 = omega arith in ap (λ (j : ℕ). get_or row j []) e ∙ same 0) in
-    let more = by_place f row (a + 1) rest (λ i. (let e : (a + 1) + i ≡ a + suc i = omega arith in ap (λ (j : ℕ). get_or row j []) e ∙ same (suc i))) in
-    (λ i. f (here i) ++ more i)
-
-pub came_row : (n : ℕ) (sent : Sent) (g k : ℕ) → length (get_or sent k []) ≡ n → came n (delivered sent) (suc k) g ≡ received_in g (get_or sent k [])
-came_row n sent g k e =
-    let row = get_or sent k [] in
-    ap (λ (m : ℕ). flat_map (λ h. received g (get_or row h [])) (generals m)) (sym e)
-    ∙ by_place (received g) row 0 row (λ i. (let z : 0 + i ≡ i = omega arith in ap (λ (j : ℕ). get_or row j []) z))
 
 none_came : (gs : List ℕ) → flat_map {X = ℕ} {A = Chain} (λ h. []) gs ≡ []
 none_came [] = refl
@@ -48,7 +33,7 @@ held_to n sent g zero rows le = none_came (generals n)
 held_to n sent g (suc k) rows le =
     let row = get_or sent k [] in
     let before = held_to n sent g k rows (omega arith) in
-    let now = came_row n sent g k (rows k [] (omega arith)) in
+    let now = came_is n sent k g (rows k [] (omega arith)) in
     (λ i. before i ++ now i)
     ∙ (ap (λ (xs : List Chain). flat_map (received_in g) (take k sent) ++ xs) (sym (append-nil (received_in g row)))
     ∙ (sym (flat_map-append (received_in g) (take k sent) (row ∷ []))

@@ -6,10 +6,10 @@ ghost use Rattle.signed.specs.Sending.{added_by, entered_all, held_of, relay_beh
 ghost use Rattle.signed.specs.Sent.{delivered};
 
 use crate::acceptance::{accepted, add, is_among};
-use crate::sets;
 use crate::chain::Chain;
 use crate::held::Held;
 use crate::outgoing::SentRound;
+use crate::sets;
 use arrayvec::ArrayVec;
 use outbox::Outbox;
 use round::Scenario;
