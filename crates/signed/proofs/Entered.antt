@@ -37,7 +37,7 @@ use Rattle.signed.proofs.Signing.{sendable_is, all_send}
 use Rattle.signed.proofs.Worlds.{signed_campaigns, played_made}
 
 -- the chains that a general holds have different signers
-held_distinct : (s : Scenario) (sent : Sent) → IsMade s sent → s.commander < s.generals → (g : ℕ) (ch : Chain) → Among ch (held_behind s.generals sent g) → is_distinct ch.signers ≡ true
+pub held_distinct : (s : Scenario) (sent : Sent) → IsMade s sent → s.commander < s.generals → (g : ℕ) (ch : Chain) → Among ch (held_behind s.generals sent g) → is_distinct ch.signers ≡ true
 held_distinct s sent made inside g ch there =
     let A : List Chain → Type 0 = λ xs. Among ch xs in
     let from = held_out s.generals (delivered sent) (suc (length sent)) g ch (subst A (held_is s.generals sent g) there) in

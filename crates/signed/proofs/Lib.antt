@@ -29,3 +29,9 @@ pub mod Masks
 pub mod Telling
 pub mod Lending
 pub mod Adding
+pub mod Receipts
+pub mod Passes
+pub mod Onward
+pub mod Duties
+pub mod Written
+pub mod Marks
