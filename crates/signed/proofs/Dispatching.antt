@@ -7,7 +7,7 @@ use Rattle.label.proofs.Counting.{range-on, others-on}
 use Rattle.signed.specs.Chains.{Chain, Among, signed_also, signed_alone}
 use Rattle.signed.specs.Accepted.{Deliveries, came, held}
 use Rattle.signed.specs.Agreement.{IsHeld}
-use Rattle.signed.specs.Entries.{Dispatch, Entry, Sign, Pass, passed_on, chain_of, bits_of, most_entries, is_entered, entered_also, entered, sent_by, dispatched, to_all_others, received}
+use Rattle.signed.specs.Entries.{Dispatch, Entry, Sign, Pass, passed_on, chain_of, bits_of, sent_by, dispatched, to_all_others, received}
 use Rattle.signed.specs.Laws.{chains_in}
 use Rattle.signed.proofs.Lists.{append_out}
 use Rattle.signed.proofs.Accepting.{came_out}
@@ -101,17 +101,6 @@ received_all_more n q x xs ih false true e = absurd cc
 pub received_all : (n q : ℕ) (xs : List Chain) → q < n → received q (map (to_all_others n) xs) ≡ filter (λ ch. not (on ch.signers q)) xs
 received_all n q [] l = refl
 received_all n q (x ∷ xs) l = received_all_more n q x xs (received_all n q xs l) (on (others n x.signers) q) (not (on x.signers q)) (on_others n x.signers q l)
-
-entered_more : (c g : ℕ) (held : List Chain) (es : List Entry) (e : Entry) (b : Bool) → is_entered c g held es e ≡ b → length es ≤ most_entries → length (cond b (es ++ e ∷ []) es) ≤ most_entries
-entered_more c g held es e true is few =
-    let room : length es < 8 = ltb-true (length es) 8 (and_parts (is_some (chain_of c g held e)) (nat_lt (length es) most_entries) is).1 in
-    omega (arith, length-append es (e ∷ []))
-entered_more c g held es e false is few = few
-
--- there are never more entries than an activation may have
-pub entered_few : (c g : ℕ) (held : List Chain) (es attempts : List Entry) → length es ≤ most_entries → length (entered c g held es attempts) ≤ most_entries
-entered_few c g held es [] few = few
-entered_few c g held es (e ∷ attempts) few = entered_few c g held (entered_also c g held es e) attempts (entered_more c g held es e (is_entered c g held es e) refl few)
 
 sent_few : (n : ℕ) (o : Option Chain) (bits : ℕ) → length (sent_by n o bits) ≤ 1
 sent_few n None bits = omega arith

@@ -4,14 +4,10 @@ pub mod Agreement
 pub mod Entries
 pub mod Loyal
 pub mod Contexts
-pub mod Campaign
-pub mod World
-pub mod Laws
-pub mod Chronicle
 pub mod Signers
 pub mod Sent
 pub mod Kind
+pub mod Laws
+pub mod Chronicle
 pub mod Verdicts
-pub mod Programs
-pub mod Lists
 pub mod Plays

@@ -1,12 +1,14 @@
--- What holds of every text of a signed campaign whose traitors run programs. The statement is the contract of a function of this crate.
+-- What holds of every text of a signed campaign. The statement is the contract of a function of this crate.
 use Rattle.std.specs.Prelude.{◌≡◌, List}
-use Rattle.signed.specs.World.{Event}
-use Rattle.signed.specs.Programs.{SignedScenario, IsSignedScenario, played}
-use Rattle.signed.specs.Lists.{IsComplete}
-use Rattle.signed.specs.Plays.{replay_of}
-use Rattle.trace.specs.SignedTold.{text_of}
+use Rattle.round.specs.Scenario.{Scenario, IsScenario}
+use Rattle.world.specs.declared.event.Event.{Event}
+use Rattle.world.specs.KindLists.{IsComplete, replay_world}
+use Rattle.signed.specs.Kind.{signed_kind, played}
+use Rattle.signed.specs.Chronicle.{signed_chronicle_of}
+use Rattle.trace.specs.SignedText.{signed_text}
 
 -- the text of a complete run is that of the replay of its own accesses
 abbrev pub SignedTextsAreReplays : Type 0
-SignedTextsAreReplays = (s : SignedScenario) (events : List Event) → IsSignedScenario s → IsComplete s events →
-    text_of (played s events) ≡ text_of (replay_of s (played s events).board.ledger)
+SignedTextsAreReplays = (s : Scenario) (events : List Event) → IsScenario s → IsComplete signed_kind s events →
+    signed_text (signed_chronicle_of (played s events))
+    ≡ signed_text (signed_chronicle_of (replay_world signed_kind s (played s events).ledger))

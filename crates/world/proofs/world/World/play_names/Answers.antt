@@ -1,10 +1,11 @@
 -- One name more.
 use Rattle.std.proofs.Common.{get_or}
+use Rattle.world.specs.World.{oral_kind}
 use Rattle.world.proofs.Listed.{names_more}
 use Rattle.world.proofs.world.World.play_names.Goals as goal
 use Rattle.std.proofs.lemmas.Option.{slice_get-get_or}
 
 pub loop-general-preserved : goal.loop-general-preserved
 loop-general-preserved c =
-    names_more c.loop-general.self c.tick_to_access.new.self _ c.args.names.now c.loop-general.general-index (get_or c.args.names.now c.loop-general.general-index 0) c.from.result
+    names_more oral_kind c.loop-general.self c.tick_to_access.new.self _ c.args.names.now c.loop-general.general-index (get_or c.args.names.now c.loop-general.general-index 0) c.from.result
     (slice_get-get_or c.args.names.now c.loop-general.general-index 0 c.loop-general-test.true) c.from.ensures c.in_ok-tick_to_access.ensures c.loop-general.invariant
