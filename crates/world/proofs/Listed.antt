@@ -179,11 +179,9 @@ module _ (K : Kind) where
       wound ∙ ((λ i. run K v (wound_up (same i))) ∙ ap (λ (x : World). run K x (wound_up w.scenario)) is)
 
   -- round by round
-  pub play_first : (s : Scenario) (schedule : List (List Repeat)) (w : World) (n : ℕ) → w ≡ opening K s → n ≡ s.bound + 1 →
-      (w.scenario ≡ s) × (run K w (listed_rounds s (n - 0) (lines_by (drop 0 schedule))) ≡ run K (opening K s) (listed s (lines_by schedule)))
-  play_first s schedule w n is counted =
-      let m : n - 0 ≡ suc s.bound = omega arith in
-      (ap (λ (x : World). x.scenario) is, (λ i. run K (is i) (listed_rounds s (m i) (lines_by schedule))))
+  pub play_first : (s : Scenario) (schedule : List (List Repeat)) (w : World) (n : ℕ) → n ≡ s.bound + 1 →
+      run K w (listed_rounds s (n - 0) (lines_by (drop 0 schedule))) ≡ run K w (listed_rounds s (suc s.bound) (lines_by schedule))
+  play_first s schedule w n counted = (let m : n - 0 ≡ suc s.bound = omega arith in ap (λ (k : ℕ). run K w (listed_rounds s k (lines_by schedule))) m)
 
   pub play_more : (s : Scenario) (n i : ℕ) (schedule : List (List Repeat)) (w u target : World) → i < n → w.scenario ≡ s → u ≡ run K (run K w (line_events w.scenario (entries_of (slice_index_or schedule i [])))) (wound_up w.scenario) →
       run K w (listed_rounds s (n - i) (lines_by (drop i schedule))) ≡ target →
@@ -204,10 +202,8 @@ module _ (K : Kind) where
   pub play_last : (s : Scenario) (n i : ℕ) (lines : List (List ℕ)) (w target : World) → n ≤ i → run K w (listed_rounds s (n - i) lines) ≡ target → w ≡ target
   play_last s n i lines w target le left = (let z : 0 ≡ n - i = omega arith in ap (λ (k : ℕ). run K w (listed_rounds s k lines)) z ∙ left)
 
-  pub replay_first : (s : Scenario) (names : List (List ℕ)) (w : World) (n : ℕ) → w ≡ opening K s → n ≡ s.bound + 1 → run K w (replayed_rounds K w (n - 0) (drop 0 names)) ≡ run K (opening K s) (replayed K s names)
-  replay_first s names w n is counted =
-      let m : n - 0 ≡ suc s.bound = omega arith in
-      (λ i. run K (is i) (replayed_rounds K (is i) (m i) names))
+  pub replay_first : (names : List (List ℕ)) (w : World) (n m : ℕ) → n ≡ m + 1 → run K w (replayed_rounds K w (n - 0) (drop 0 names)) ≡ run K w (replayed_rounds K w (suc m) names)
+  replay_first names w n m counted = (let k : n - 0 ≡ suc m = omega arith in ap (λ (i : ℕ). run K w (replayed_rounds K w i names)) k)
 
   pub replay_more : (n i : ℕ) (names : List (List ℕ)) (w u target : World) → i < n → u ≡ run K (run K w (names_events K w (slice_index_or names i []))) (wound_up w.scenario) → run K w (replayed_rounds K w (n - i) (drop i names)) ≡ target →
       run K u (replayed_rounds K u (n - (i + 1)) (drop (i + 1) names)) ≡ target
@@ -220,6 +216,19 @@ module _ (K : Kind) where
 
   pub replay_last : (n i : ℕ) (names : List (List ℕ)) (w target : World) → n ≤ i → run K w (replayed_rounds K w (n - i) names) ≡ target → w ≡ target
   replay_last n i names w target le left = (let z : 0 ≡ n - i = omega arith in ap (λ (k : ℕ). run K w (replayed_rounds K w k names)) z ∙ left)
+
+  -- so many entries of one general
+  pub entries_ok : {A E : Type 0} (result : Result A E) (w v : World) (g n m : ℕ) → g < w.scenario.generals → m ≡ n → OnOk result (v ≡ run K w (replicate m (event_of g (program_of w.scenario g)))) →
+      OnOk result (v ≡ run K w (line_events w.scenario (replicate n g)))
+  entries_ok (Ok x) w v g n m lt same h = h ∙ (ap (λ (k : ℕ). run K w (replicate k (event_of g (program_of w.scenario g)))) same ∙ ap (λ (l : List Event). run K w l) (sym (line_of w.scenario g n lt)))
+  entries_ok (Err x) w v g n m lt same h = tt
+
+  -- from the opening on
+  pub played_is : (s : Scenario) (lines : List (List ℕ)) (w v : World) → w ≡ opening K s → v ≡ run K w (listed_rounds w.scenario (suc w.scenario.bound) lines) → v ≡ run K (opening K s) (listed s lines)
+  played_is s lines w v opened is = is ∙ ap (λ (x : World). run K x (listed_rounds x.scenario (suc x.scenario.bound) lines)) opened
+
+  pub replayed_is : (s : Scenario) (names : List (List ℕ)) (w v : World) → w ≡ opening K s → v ≡ run K w (replayed_rounds K w (suc w.scenario.bound) names) → v ≡ run K (opening K s) (replayed K s names)
+  replayed_is s names w v opened is = is ∙ ap (λ (x : World). run K x (replayed_rounds K x (suc x.scenario.bound) names)) opened
 
   pub wound_ok : {A E : Type 0} (result : Result A E) (w v u t : World) → v ≡ run K w (each w.scenario.generals (λ g. post_of g (program_of w.scenario g))) → u ≡ run K v (each v.scenario.generals (λ g. ticks_of g (program_of v.scenario g))) →
       OnOk result (t ≡ happen K u Close) → OnOk result (t ≡ run K w (wound_up w.scenario))

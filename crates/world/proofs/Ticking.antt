@@ -14,11 +14,8 @@ use Rattle.world.specs.KindLists.{further_turns, until_access, ticks_named}
 use Rattle.round.specs.Running.{Pauses}
 use Rattle.std.specs.Prelude.{OnOk}
 use Rattle.std.proofs.Common.{Result, Ok, Err}
-use Rattle.board.specs.Ledger.{RecordedBoard}
-use Rattle.round.specs.Letters.{Letter}
 use Rattle.round.specs.Scenario.{IsScenario}
-use Rattle.world.specs.KindHeld.{world_of, IsHeld}
-use Rattle.world.specs.KindHeld.{AheadTo}
+use Rattle.world.specs.KindHeld.{AheadTo, IsReached}
 use Rattle.world.proofs.Lasting.{IsOnTime}
 use Rattle.world.proofs.Untrapped.{held}
 use Rattle.world.proofs.Listing.{set-here}
@@ -144,11 +141,11 @@ module _ (K : Kind) where
   named_by s w v g most taken t (Some Posted) at is far ahead = absurd (let f : None ≡ Some most = is in cc)
 
 module _ (K : Kind) (good : AreCampaigns K) where
-  pub named_turn : {A E : Type 0} (result : Result A E) (s : Scenario) (closed : List (List Letter)) (k : RecordedBoard) (opened : ℕ) (ps ps' : List Part) (full : Bool) (w v u : World) (g most taken : ℕ) → IsScenario s → IsHeld K s closed k opened ps full →
-      world_of s closed k opened ps full ≡ w → ps' ≡ ps → Some most ≡ program_length (slice_get ps' g) → AheadTo most taken w.parts g (slice_get w.parts g) v.parts → v ≡ run K w (replicate taken (Tick g)) → OnOk result (u ≡ happen K v (Tick g)) →
+  pub named_turn : {A E : Type 0} (result : Result A E) (w v u : World) (s : Scenario) (ps : List Part) (g most taken : ℕ) → s ≡ w.scenario → IsScenario s → IsReached K w → ps ≡ w.parts →
+      Some most ≡ program_length (slice_get ps g) → AheadTo most taken w.parts g (slice_get w.parts g) v.parts → v ≡ run K w (replicate taken (Tick g)) → OnOk result (u ≡ happen K v (Tick g)) →
       OnOk result (u ≡ run K w (ticks_named g (slice_get w.parts g)))
-  named_turn (Ok x) s closed k opened ps ps' full w v u g most taken is h view parts_are most_is far ahead done =
-      let timely : IsOnTime K s w = subst (λ (x : World). IsOnTime K s x) (h.reached.1 ∙ view) ((held K s h.reached.0 (good s is)).timely) in
-      let parts : ps' ≡ w.parts = parts_are ∙ ap (λ (x : World). x.parts) view in
-      done ∙ named_by K s w v g most taken timely (slice_get w.parts g) refl (ap (λ (l : List Part). program_length (slice_get l g)) (sym parts) ∙ sym most_is) far ahead
-  named_turn (Err x) s closed k opened ps ps' full w v u g most taken is h view parts_are most_is far ahead done = tt
+  named_turn (Ok x) w v u s ps g most taken same is h parts most_is far ahead done =
+      let inside : IsScenario w.scenario = subst (λ (t : Scenario). IsScenario t) same is in
+      let timely : IsOnTime K w.scenario w = subst (λ (x : World). IsOnTime K w.scenario x) h.1 ((held K h.0 (good w.scenario inside)).timely) in
+      done ∙ named_by K w.scenario w v g most taken timely (slice_get w.parts g) refl (ap (λ (l : List Part). program_length (slice_get l g)) (sym parts) ∙ sym most_is) far ahead
+  named_turn (Err x) w v u s ps g most taken same is h parts most_is far ahead done = tt
