@@ -179,11 +179,11 @@ fn named_round<W: Plays>(world: &mut W, alloc: Global, names: &[u8]) -> Result<(
     wind_up(world, alloc)
 }
 
-/// As many rounds as the campaign has, by a schedule.
+/// As many rounds more as the campaign has, by a schedule: from its opening on, all of it.
 ///
 /// # Errors
 ///
-/// `AllocError` where memory is refused; the world is then one that came about.
+/// `AllocError` where memory is refused. No more is said of the world then than of every world of its kind: let it go.
 pub fn play_listed<W: Plays>(
     world: &mut W,
     alloc: Global,
@@ -198,11 +198,12 @@ pub fn play_listed<W: Plays>(
     Ok(())
 }
 
-/// As many rounds as the campaign has, in which these generals, by round, make their accesses in this order.
+/// As many rounds more as the campaign has, in which these generals, by round, make their accesses in this order: from its
+/// opening on, all of it. A round without names has no accesses.
 ///
 /// # Errors
 ///
-/// `AllocError` where memory is refused; the world is then one that came about.
+/// `AllocError` where memory is refused. No more is said of the world then than of every world of its kind: let it go.
 pub fn play_named<W: Plays>(
     world: &mut W,
     alloc: Global,

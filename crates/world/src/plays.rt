@@ -1,5 +1,5 @@
 //! What playing asks of a world, of whichever kind of campaign.
-ghost use Rattle.std.specs.Prelude.{◌≡◌, ◌≤◌, length, OnOk, replicate, slice_get};
+ghost use Rattle.std.specs.Prelude.{◌≡◌, ◌≤◌, length, OnErr, OnOk, replicate, slice_get};
 ghost use Rattle.world.specs.declared.event.Event.TheVariants.{Tick, Post, Close};
 ghost use Rattle.world.specs.Campaigns.{AreCampaigns};
 ghost use Rattle.world.specs.Kind.{Kind, World as WorldSeen, happen, run};
@@ -35,9 +35,10 @@ pub trait Plays {
     ///
     /// # Errors
     ///
-    /// `AllocError` where memory is refused.
+    /// `AllocError` where memory is refused; the world is then as it was.
     fn tick(&mut self, general: u32) -> Result<(), AllocError>
-        ensures { OnOk result (seen self.new ≡ happen kind (seen self.old) (Tick general)) };
+        ensures done { OnOk result (seen self.new ≡ happen kind (seen self.old) (Tick general)) }
+        ensures undone { OnErr result (seen self.new ≡ seen self.old) };
 
     /// A traitor's turns up to so many steps in all, his next access or his end: how many there were.
     fn run_on(&mut self, general: u32, limit: u32) -> u32
@@ -52,10 +53,11 @@ pub trait Plays {
     ///
     /// # Errors
     ///
-    /// `AllocError` where memory is refused.
+    /// `AllocError` where memory is refused; the world is then as it was.
     fn close_round(&mut self, alloc: Global) -> Result<(), AllocError>
         requires { length (seen self.old).closed ≤ (seen self.old).scenario.bound }
-        ensures { OnOk result (seen self.new ≡ happen kind (seen self.old) Close) };
+        ensures done { OnOk result (seen self.new ≡ happen kind (seen self.old) Close) }
+        ensures undone { OnErr result (seen self.new ≡ seen self.old) };
 }
 
 impl Plays for World {
