@@ -146,6 +146,6 @@ module _ (K : Kind) (good : AreCampaigns K) where
       OnOk result (u ≡ run K w (ticks_named g (slice_get w.parts g)))
   named_turn (Ok x) w v u s ps g most taken same is h parts most_is far ahead done =
       let inside : IsScenario w.scenario = subst (λ (t : Scenario). IsScenario t) same is in
-      let timely : IsOnTime K w.scenario w = subst (λ (x : World). IsOnTime K w.scenario x) h.1 ((held K h.0 (good w.scenario inside)).timely) in
+      let timely : IsOnTime K w.scenario w = subst (λ (x : World). IsOnTime K w.scenario x) h.1 ((held K w.scenario h.0 (good w.scenario inside)).timely) in
       done ∙ named_by K w.scenario w v g most taken timely (slice_get w.parts g) refl (ap (λ (l : List Part). program_length (slice_get l g)) (sym parts) ∙ sym most_is) far ahead
   named_turn (Err x) w v u s ps g most taken same is h parts most_is far ahead done = tt
