@@ -23,7 +23,7 @@ fn three(alloc: Global, traitor: u8, program: &str) -> Result<Scenario, Fail> {
     )?;
     match read_any(alloc, text.as_str()) {
         Ok(Campaign::Signed(scenario)) => Ok(scenario),
-        _ => Err(Fail),
+        _ => Err("no signed campaign")?,
     }
 }
 
@@ -63,12 +63,12 @@ fn three_generals_agree_beside_one_who_passes_on(rt: HostRuntime) -> Result<(), 
     }
     assert!(rt; world.full());
     let Some(chronicle) = world.chronicle() else {
-        return Err(Fail);
+        return Err("no chronicle")?;
     };
     assert_eq!(rt; chronicle.sent(0, 1).len(), 1);
     assert_eq!(rt; chronicle.sent(2, 1).len(), 0);
     let [(chain, receivers)] = chronicle.sent(2, 2) else {
-        return Err(Fail);
+        return Err("other chains")?;
     };
     assert_eq!(rt; (chain.order(), *receivers), (1, 2));
     assert_eq!(rt; chain.signers(), [0, 2].as_slice());
@@ -90,7 +90,7 @@ fn three_generals_agree_under_a_commander_who_signs_two_orders(
     }
     assert_eq!(rt; world.decisions().as_slice(), [0, 0].as_slice());
     let Some(chronicle) = world.chronicle() else {
-        return Err(Fail);
+        return Err("no chronicle")?;
     };
     assert_eq!(rt; chronicle.sent(0, 1).len(), 2);
     assert_eq!(rt; chronicle.sent(1, 2).len(), 1);
