@@ -1,6 +1,6 @@
 use Rattle.std.proofs.lemmas.Result.{IfOk-weaker}
 use Rattle.lab.proofs.CampaignLemmas.{is_played}
-use Rattle.lab.proofs.playing.played.Goals as goal
+use Rattle.lab.proofs.playing.oral_played.Goals as goal
 
 pub returns : goal.returns
 returns c =
