@@ -238,11 +238,7 @@ fn is_end(line: &[u8]) -> bool
 fn is_shaped(line: &[u8]) -> bool
     ensures { result ≡ is_shaped line.now }
 {
-    is_version(line)
-        || is_campaign(line)
-        || is_told(line)
-        || is_access(line)
-        || is_end(line)
+    is_version(line) || is_campaign(line) || is_told(line) || is_access(line) || is_end(line)
 }
 
 /// The first line of a text, counted from 1, that has no shape or no line feed behind it; an empty text has one.
