@@ -2,6 +2,7 @@ pub mod EntryLemmas
 pub mod WrittenLemmas
 pub mod LineLemmas
 pub mod RoundLemmas
+pub mod ChainLemmas
 pub mod DecisionLemmas
 pub mod Splitting
 pub mod PartingLemmas

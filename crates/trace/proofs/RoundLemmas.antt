@@ -27,11 +27,13 @@ rows_more rows i d lt =
     ap (row_lines 0) (take_more rows i d lt) ∙ more_rows 0 (take i rows) (get_or rows i d)
     ∙ ap (λ r. row_lines 0 (take i rows) ++ row_line r (get_or rows i d) ∷ []) (let e : length (take i rows) ≡ i = length-take-le i rows (omega arith) in let z : 0 + length (take i rows) ≡ i = omega arith in z)
 
--- one letter more
-pub letters_more : (told : Letter → List Line) (letters : List Letter) (i : ℕ) (x : Letter) → i < length letters → x ≡ get_or letters i x → flat_map told (take (i + 1) letters) ≡ flat_map told (take i letters) ++ told x
-letters_more told letters i x lt is =
-    ap (flat_map told) (take_more letters i x lt ∙ ap (λ y. take i letters ++ y ∷ []) (sym is)) ∙ flat_map-append told (take i letters) (x ∷ [])
-    ∙ ap (λ ls. flat_map told (take i letters) ++ ls) (append-nil (told x))
+-- one more of a list whose members tell these parts
+pub told_at : {X Y : Type 0} (told : X → List Y) (xs : List X) (i : ℕ) (d : X) → i < length xs → flat_map told (take (i + 1) xs) ≡ flat_map told (take i xs) ++ told (get_or xs i d)
+told_at {X} {Y} told xs i d lt =
+    ap (flat_map told) (take_more xs i d lt) ∙ flat_map-append told (take i xs) (get_or xs i d ∷ []) ∙ ap (λ ls. flat_map told (take i xs) ++ ls) (append-nil (told (get_or xs i d)))
+
+pub told_more : {X Y : Type 0} (told : X → List Y) (xs : List X) (i : ℕ) (x : X) → i < length xs → x ≡ get_or xs i x → flat_map told (take (i + 1) xs) ≡ flat_map told (take i xs) ++ told x
+told_more {X} {Y} told xs i x lt is = told_at told xs i x lt ∙ ap (λ y. flat_map told (take i xs) ++ told y) (sym is)
 
 -- one round more
 more_rounds : (told : ℕ → Letter → List Line) (xs : List Access) (r : ℕ) (rounds : List (List Letter)) (letters : List Letter)
