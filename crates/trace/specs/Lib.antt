@@ -10,4 +10,5 @@ pub mod Sinks
 pub mod Lines
 pub mod Telling
 pub mod SignedText
+pub mod SignedAudit
 pub mod SignedLaws
