@@ -80,7 +80,8 @@ pub record SignedEntriesAreSent : Type 0 where
       is_sendable a.relay e ≡ is_some (chain_of s.commander g (held_in s (played s events).closed g) e)
   pub each : (s : Scenario) (events : List Event) (g : ℕ) (a : Activation) → IsScenario s →
       slice_get (played s events).parts g ≡ Some (Acting a) →
-      AllByRecursion (λ e. is_some (chain_of s.commander g (held_in s (played s events).closed g) e) ≡ true) a.state.entries
+      AllByRecursion (λ e. is_some (chain_of s.commander g (held_in s (played s events).closed g) e) ≡ true)
+      a.state.entries
   pub few : (s : Scenario) (events : List Event) (g : ℕ) (a : Activation) → IsScenario s →
       slice_get (played s events).parts g ≡ Some (Acting a) → length a.state.entries ≤ most_entries
   pub sent : (s : Scenario) (events : List Event) (g : ℕ) (a : Activation) → IsScenario s →

@@ -1,5 +1,5 @@
--- Whatever letters the traitors of a signed campaign write (own; TOPLAS 1982, section 4: of a traitor it is assumed that he cannot
--- sign for a loyal general, and nothing else). The last statement is the contract of a function of this crate.
+-- Whatever letters the traitors of a signed campaign write (own; TOPLAS 1982, section 4). The last statement is the
+-- contract of a function of this crate.
 use Rattle.std.specs.Prelude.{ℕ, suc, ◌≡◌, ◌*◌, ◌<◌, ◌≤◌, true, false, List, length, take, slice_get, Some}
 use Rattle.semantics.specs.Limits.{context_size, most_held}
 use Rattle.label.specs.Labels.{on}
@@ -36,15 +36,16 @@ HaveLoyalLetters s closed = (k g : ℕ) (row : List Letter) → slice_get closed
 pub record WhateverTraitorsWrite : Type 0 where
   pub written : (s : Scenario) (events : List Event) → IsScenario s → AreAnyLetters s (played s events).closed
   pub unforged : (s : Scenario) (closed : List (List Letter)) (r g : ℕ) (ch : Chain) → s.commander < s.generals →
-      AreAnyLetters s closed → Among ch (chains_in (sent_by (sent_in s closed) r g)) → IsUnforged s (sent_in s closed) r g ch
+      AreAnyLetters s closed → Among ch (chains_in (sent_by (sent_in s closed) r g)) →
+      IsUnforged s (sent_in s closed) r g ch
   pub first : (s : Scenario) (closed : List (List Letter)) (p v : ℕ) → AreAnyLetters s closed → p < s.generals →
       on (accepted_in s closed p) v ≡ true → on (orders (chains_in (sent_by (sent_in s closed) 1 s.commander))) v ≡ true
   pub orders : (s : Scenario) (closed : List (List Letter)) (p : ℕ) → AreAnyLetters s closed → p < s.generals →
       length (accepted_in s closed p) ≤ most_entries
   pub few : (s : Scenario) (closed : List (List Letter)) (r g : ℕ) → AreAnyLetters s closed →
       length (sent_by (sent_in s closed) r g) ≤ most_entries
-  pub held : (s : Scenario) (closed : List (List Letter)) (g : ℕ) → s.generals ≤ 13 → s.bound ≤ 4 → AreAnyLetters s closed →
-      g < s.generals → length closed ≤ s.bound → length (held_in s closed g) ≤ most_held
+  pub held : (s : Scenario) (closed : List (List Letter)) (g : ℕ) → s.generals ≤ 13 → s.bound ≤ 4 →
+      AreAnyLetters s closed → g < s.generals → length closed ≤ s.bound → length (held_in s closed g) ≤ most_held
   pub context : (s : Scenario) (closed : List (List Letter)) (g round : ℕ) → s.generals ≤ 13 → s.bound ≤ 4 →
       AreAnyLetters s closed → g < s.generals → length closed ≤ s.bound →
       4 * length (signed_context_numbers s.generals s.bound s.commander g round (held_in s closed g)) ≤ context_size

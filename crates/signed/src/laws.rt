@@ -23,8 +23,8 @@ ghost use Rattle.world.specs.Replay.{
 };
 ghost use Rattle.world.specs.Safety.{ActivationsAreSafe, PartsArePlaced};
 
-/// With at most m traitors, whatever they sign, all loyal lieutenants accept the same orders and decide alike, on a loyal
-/// commander's order (TOPLAS 1982, Theorem 2).
+/// With at most m traitors, whatever they sign, all loyal lieutenants accept the same orders and decide alike, on a
+/// loyal commander's order (TOPLAS 1982, Theorem 2).
 pub fn signed_agreement()
     ensures { SignedAgreementHolds }
 {}
@@ -49,8 +49,8 @@ pub fn held_chains_are_few()
     ensures { HeldChainsAreFew }
 {}
 
-/// All this holds of whatever letters traitors write, also where no program would: chains are unforged and few, and with
-/// at most m traitors the loyal lieutenants agree.
+/// All this holds of whatever letters traitors write, also where no program would: chains are unforged and few, and
+/// with at most m traitors the loyal lieutenants agree.
 pub fn whatever_traitors_write()
     ensures { WhateverTraitorsWrite }
 {}
@@ -66,8 +66,8 @@ pub fn signed_entries_are_sent()
     ensures { SignedEntriesAreSent }
 {}
 
-/// The verdict means what it says, and in a finished world with no more traitors than were provided for it says that all
-/// is well.
+/// The verdict means what it says, and in a finished world with no more traitors than were provided for it says that
+/// all is well.
 pub fn signed_verdicts_mean()
     ensures { SignedVerdictsMean }
 {}
