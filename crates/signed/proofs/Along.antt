@@ -1,5 +1,5 @@
 -- What was sent, round by round.
-use Rattle.std.proofs.Common.{◌≡◌, ℕ, zero, suc, ◌+◌, List, [], ◌∷◌, ◌++◌, length, refl, ◌∙◌, arith, length-append}
+use Rattle.std.proofs.Common.{◌≡◌, ℕ, suc, ◌+◌, List, [], ◌∷◌, ◌++◌, length, refl, ◌∙◌, arith, length-append}
 use Rattle.round.specs.Scenario.{Scenario}
 use Rattle.round.specs.Letters.{Letter}
 use Rattle.signed.specs.Accepted.{held}

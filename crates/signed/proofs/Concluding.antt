@@ -1,10 +1,10 @@
 -- What follows for signed worlds: the laws of this crate.
-use Rattle.std.proofs.Common.{◌≡◌, ℕ, suc, ◌<◌, ◌≤◌, true, false, List, length, refl, sym, ap, subst, ◌∙◌, Option, None, Some, arith}
+use Rattle.std.proofs.Common.{◌≡◌, ℕ, suc, ◌<◌, true, false, List, length, refl, sym, ap, subst, ◌∙◌, Option, None, Some, arith}
 use Rattle.std.specs.Prelude.{is_some}
 use Rattle.insn.specs.declared.insn.Insn.{Insn}
 use Rattle.round.specs.Scenario.{Scenario, IsScenario, program_of, is_traitor}
 use Rattle.world.specs.declared.event.Event.{Event}
-use Rattle.world.specs.Kind.{World, opening}
+use Rattle.world.specs.Kind.{opening}
 use Rattle.world.specs.Agreement.{IsFinished}
 use Rattle.world.proofs.Kept.{Tells}
 use Rattle.world.proofs.Rounds.{opening_kept, run_kept}

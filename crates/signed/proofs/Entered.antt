@@ -1,5 +1,5 @@
 -- What an acting general of a signed world can enter, has entered, and sends when the round closes.
-use Rattle.std.proofs.Common.{◌≡◌, ◌≢◌, ℕ, suc, ◌<◌, ◌≤◌, true, List, [], ◌∷◌, ◌++◌, length, map, drop, get_or, refl, sym, ap, subst, ◌∙◌, Option, Some, None, arith}
+use Rattle.std.proofs.Common.{◌≡◌, ◌≢◌, ℕ, suc, ◌<◌, ◌≤◌, true, List, [], ◌∷◌, ◌++◌, length, map, drop, refl, sym, ap, subst, ◌∙◌, Option, Some, None, arith}
 use Rattle.std.specs.Prelude.{slice_get, is_some, find, ◌==◌}
 use Rattle.std.proofs.lemmas.Bool.{eq-eqb, ne_eqb, lt-ltb}
 use Rattle.std.specs.List.{AllByRecursion}
@@ -22,7 +22,6 @@ use Rattle.world.proofs.Moves.{run-append}
 use Rattle.world.proofs.Punctual.{run_scenario}
 use Rattle.world.proofs.Standing.{standing, ran, placed_at}
 use Rattle.signed.specs.Chains.{Chain, Among}
-use Rattle.signed.specs.Accepted.{held}
 use Rattle.signed.specs.Entries.{Dispatch, chain_of, dispatched}
 use Rattle.signed.specs.Sent.{Sent, sent_by, delivered, held_behind, sends, round_sent, sent_in}
 use Rattle.signed.specs.Kind.{signed_kind, signed_context, signed_relay, played, sent_after, held_in}

@@ -1,6 +1,5 @@
 -- A signed context tells its general, the round, his relay, and that orders are signed.
-use Rattle.std.proofs.Common.{◌≡◌, ℕ, suc, ◌-◌, ◌<◌, ◌≤◌, List, [], ◌∷◌, length, flat_map, refl, sym, ◌∙◌, arith}
-use Rattle.semantics.specs.Relay.{Oral}
+use Rattle.std.proofs.Common.{◌≡◌, ℕ, suc, ◌<◌, ◌≤◌, List, length, refl, sym, arith}
 use Rattle.round.specs.Scenario.{Scenario, IsScenario, shape_of}
 use Rattle.round.specs.Letters.{Letter}
 use Rattle.round.specs.Contexts.{IsToldTo, shape_told, number_told, at_kind, tells_oral}

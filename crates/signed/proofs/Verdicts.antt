@@ -1,5 +1,5 @@
 -- Lists of decisions of signed campaigns, and what the verdict says of them.
-use Rattle.std.proofs.Common.{◌≡◌, ◌≢◌, ℕ, ◌≤◌, List, length, map, Bool, true, false, refl, sym, ap, subst, ◌∙◌, ⊎_elim, Some, None}
+use Rattle.std.proofs.Common.{◌≡◌, ◌≢◌, ℕ, ◌≤◌, List, length, map, Bool, true, false, sym, subst, ◌∙◌, ⊎_elim, Some, None}
 use Rattle.std.specs.Prelude.{◌↔◌, count_by, slice_index}
 use Rattle.std.proofs.lemmas.Bool.{cases_Bool, le-leb, leb-true}
 use Rattle.std.proofs.lemmas.List.{length-map}

@@ -1,37 +1,35 @@
 -- What the letters of a signed world send.
-use Rattle.std.proofs.Common.{◌≡◌, ℕ, zero, suc, ◌<◌, ◌≤◌, Bool, true, false, cond, List, [], ◌∷◌, ◌++◌, take, drop, map, length, get_or, refl, sym, ap, subst, ◌∙◌, arith, All, inl, inr, Option, None, Some}
-use Rattle.std.specs.Prelude.{slice_get, ◌==◌, is_some}
+use Rattle.std.proofs.Common.{◌≡◌, ℕ, zero, suc, ◌<◌, ◌≤◌, Bool, true, false, cond, List, [], ◌∷◌, take, map, length, get_or, refl, sym, ap, subst, ◌∙◌, arith, All, inl, inr, Option, None, Some}
+use Rattle.std.specs.Prelude.{◌==◌, is_some}
 use Rattle.std.proofs.lemmas.Bool.{cases_Bool, cases_lt, eqb-true}
 use Rattle.std.proofs.lemmas.List.{take_all}
 use Rattle.insn.specs.declared.insn.Insn.{Insn}
 use Rattle.label.specs.Labels.{generals}
 use Rattle.semantics.specs.Relay.{Relay, IsContext, IsRelay}
 use Rattle.semantics.proofs.SafetyLaws.{safe_of_sound}
-use Rattle.board.specs.Board.{Access}
-use Rattle.round.specs.Scenario.{Scenario, IsScenario, program_of, is_traitor}
+use Rattle.round.specs.Scenario.{Scenario, IsScenario, is_traitor}
 use Rattle.round.specs.Letters.{Letter, letter_of}
-use Rattle.round.specs.Activation.{Activation, started}
-use Rattle.round.specs.Runs.{Runs, AreFitting, IsRunOf}
+use Rattle.round.specs.Activation.{started}
+use Rattle.round.specs.Runs.{IsRunOf}
 use Rattle.round.proofs.Contexts.{bytes_context, shape_is}
 use Rattle.round.proofs.Lists.{some_at}
 use Rattle.world.specs.declared.event.Event.{Event}
-use Rattle.world.specs.Kind.{World, opening, run, loyal_letter}
+use Rattle.world.specs.Kind.{loyal_letter}
 use Rattle.world.specs.Safety.{IsMade, IsLetterIn}
-use Rattle.world.proofs.Campaigns.{IsCampaign, AreCampaigns}
+use Rattle.world.proofs.Campaigns.{AreCampaigns}
 use Rattle.world.proofs.Arranged.{snoc}
 use Rattle.world.proofs.Kept.{Tells}
 use Rattle.world.proofs.Standing.{standing}
-use Rattle.signed.specs.Accepted.{held}
-use Rattle.signed.specs.Entries.{Dispatch, Entry, dispatched}
+use Rattle.signed.specs.Entries.{Dispatch, dispatched}
 use Rattle.signed.specs.Loyal.{loyal_entries}
-use Rattle.signed.specs.Sent.{Sent, sent_by, delivered, held_behind, sends, round_sent, sent_in}
-use Rattle.signed.specs.Kind.{signed_kind, signed_entries, played}
+use Rattle.signed.specs.Sent.{Sent, sent_by, delivered, sends, round_sent, sent_in}
+use Rattle.signed.specs.Kind.{signed_kind, played}
 use Rattle.signed.specs.Traitors.{IsAnyLetter, AreAnyLetters}
 use Rattle.signed.proofs.Along.{held_is, sent_none, sent_more, sent_length}
 use Rattle.signed.proofs.Passing.{proved_loyal_entries_are_sent}
 use Rattle.signed.proofs.Making.{IsMadeOf, of_entries, of_loyal, made_more, full_more, sent_last}
 use Rattle.signed.proofs.Making as making
-use Rattle.signed.proofs.Places.{row_at, row_past, get_or_past, get_or_at}
+use Rattle.signed.proofs.Places.{row_at, row_past, get_or_at}
 use Rattle.signed.proofs.Sending.{runs_kept, start_kept}
 
 pub signed_campaigns : AreCampaigns signed_kind
