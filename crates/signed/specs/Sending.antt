@@ -21,7 +21,7 @@ use Rattle.signed.specs.Chains.{Chain}
 use Rattle.signed.specs.Accepted.{counts}
 use Rattle.signed.specs.Contexts.{signed_context_numbers, signer_bits}
 use Rattle.signed.specs.Entries.{Dispatch, Entry, dispatched, received}
-use Rattle.signed.specs.Kind.{played}
+use Rattle.signed.specs.Kind.{played, sent_after}
 use Rattle.signed.specs.Loyal.{loyal_entries}
 use Rattle.signed.specs.Sent.{Sent, delivered, held_behind, sent_in}
 use Rattle.signed.specs.Signers.{Signature}
@@ -127,9 +127,9 @@ abbrev pub sent_drafted : Scenario → Sent → List Draft → List Part → Lis
 sent_drafted s sent drafts parts =
     map (λ g. dispatched s.generals s.commander g (held_behind s.generals sent g) (entries_drafted (slice_get drafts g) (slice_get parts g))) (generals s.generals)
 
--- some letters have sent this
+-- some list of events leads to what was sent
 abbrev pub IsSent : Scenario → Sent → Type 0
-IsSent s sent = (closed : List (List Letter)) × (sent ≡ sent_in s closed)
+IsSent s sent = (events : List Event) × (sent ≡ sent_after s events)
 
 -- a signer for each general
 abbrev pub signatures : ℕ → ℕ → List Signature
