@@ -26,3 +26,9 @@ pub mod ProgramRows
 pub mod Example
 pub mod Masks
 pub mod Telling
+pub mod KindHolding
+pub mod Behind
+pub mod Drafted
+pub mod Closed
+pub mod Judged
+pub mod Promised

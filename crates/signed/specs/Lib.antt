@@ -7,8 +7,10 @@ pub mod Contexts
 pub mod Signers
 pub mod Sent
 pub mod Kind
+pub mod KindHeld
 pub mod Sending
 pub mod Laws
 pub mod Chronicle
 pub mod Verdicts
+pub mod Promises
 pub mod Plays
