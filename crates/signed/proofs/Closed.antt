@@ -41,12 +41,13 @@ opened_held s k ps sent signers begun words ledger parts none all = record {
   signers = all;
 }
 
+-- what was sent was sent by events
+pub is_sent : (s : Scenario) (closed : List (List Letter)) (k : RecordedBoard) (opened : ℕ) (ps : List Part) (full : Bool) (sent : Sent) (signers : List Signature) → IsSignedHeld s closed k opened ps full sent signers → IsSent s sent
+is_sent s closed k opened ps full sent signers h = (h.reached.0, h.sent ∙ ap (λ (w : World). sent_in s w.closed) (sym h.reached.1))
+
 module _ (s : Scenario) (closed : List (List Letter)) (k : RecordedBoard) (opened : ℕ) (ps : List Part) (full : Bool) (sent : Sent) (signers : List Signature) (h : IsSignedHeld s closed k opened ps full sent signers) where
   pub as_held : IsHeld signed_kind s closed k opened ps full
   as_held = record { reached = h.reached; opening = h.opening }
-
-  pub is_sent : IsSent s sent
-  is_sent = (h.reached.0, h.sent ∙ ap (λ (w : World). sent_in s w.closed) (sym h.reached.1))
 
   pub sent_long : length sent ≡ length closed
   sent_long = ap length h.sent ∙ sent_length s closed

@@ -32,7 +32,7 @@ range_same a (suc n) f h e = (λ i. e a (omega arith) i ∷ range_same (a + 1) n
 -- among pieces of which only his has what passes
 find_left : {A : Type 0} (t : A → Bool) (xs ys : List A) → find t ys ≡ None → find t (xs ++ ys) ≡ find t xs
 find_left t [] ys e = e
-find_left t (x ∷ xs) ys e = ap (λ (o : Option _). cond (t x) (Some x) o) (find_left t xs ys e)
+find_left {A = A} t (x ∷ xs) ys e = ap (λ (o : Option A). cond (t x) (Some x) o) (find_left t xs ys e)
 
 find_right : {A : Type 0} (t : A → Bool) (xs ys : List A) → find t xs ≡ None → find t (xs ++ ys) ≡ find t ys
 find_right t [] ys e = refl

@@ -3,7 +3,7 @@
 
 mod acceptance;
 mod beginnings;
-mod bits;
+mod sets;
 mod briefing;
 mod chain;
 mod chronicle;

@@ -1,5 +1,0 @@
-use Rattle.signed.proofs.Laws.{worlds_agree}
-use Rattle.signed.proofs.laws.signed_worlds_agree.Goals as goal
-
-pub returns : goal.returns
-returns c = worlds_agree
