@@ -19,7 +19,7 @@ pub mod Room
 pub mod Holding
 pub mod Signing
 pub mod Entered
-pub mod Laws
+pub mod Concluding
 pub mod Verdicts
 pub mod Rows
 pub mod ProgramRows
