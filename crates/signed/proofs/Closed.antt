@@ -8,8 +8,10 @@ use Rattle.round.specs.Letters.{Letter}
 use Rattle.world.specs.declared.event.Event.{Event}
 use Rattle.world.specs.declared.event.Event.TheVariants.{Tick, Post, Close}
 use Rattle.world.specs.Kind.{World, opening, happen, run}
-use Rattle.world.specs.Part.{Part, owes_no_letter}
-use Rattle.world.specs.Closing.{Draft, letters_from, AreDraftsOf}
+use Rattle.world.specs.declared.part.Part.{Part}
+use Rattle.world.specs.Part.{owes_no_letter}
+use Rattle.world.specs.declared.draft.Draft.{Draft}
+use Rattle.world.specs.Closing.{letters_from, AreDraftsOf}
 use Rattle.signed.specs.Entries.{Dispatch}
 use Rattle.signed.specs.Kind.{signed_kind, played}
 use Rattle.signed.specs.KindHeld.{world_of, IsHeld, AheadTo, ticked_of, posted_of, letters_held, beginnings}
@@ -37,27 +39,27 @@ pub opened_held : (s : Scenario) (k : RecordedBoard) (ps : List Part) (sent : Se
 opened_held s k ps sent signers begun words ledger parts none all = record {
   reached = ([], sym (opened s k ps words ledger parts));
   opening = begun;
-  sent = none ∙ sym (sent_none s);
-  signers = all;
+  chains = none ∙ sym (sent_none s);
+  signing = all;
 }
 
 -- what was sent was sent by events
 pub is_sent : (s : Scenario) (closed : List (List Letter)) (k : RecordedBoard) (opened : ℕ) (ps : List Part) (full : Bool) (sent : Sent) (signers : List Signature) → IsSignedHeld s closed k opened ps full sent signers → IsSent s sent
-is_sent s closed k opened ps full sent signers h = (h.reached.0, h.sent ∙ ap (λ (w : World). sent_in s w.closed) (sym h.reached.1))
+is_sent s closed k opened ps full sent signers h = (h.reached.0, h.chains ∙ ap (λ (w : World). sent_in s w.closed) (sym h.reached.1))
 
 module _ (s : Scenario) (closed : List (List Letter)) (k : RecordedBoard) (opened : ℕ) (ps : List Part) (full : Bool) (sent : Sent) (signers : List Signature) (h : IsSignedHeld s closed k opened ps full sent signers) where
   pub as_held : IsHeld signed_kind s closed k opened ps full
   as_held = record { reached = h.reached; opening = h.opening }
 
   pub sent_long : length sent ≡ length closed
-  sent_long = ap length h.sent ∙ sent_length s closed
+  sent_long = ap length h.chains ∙ sent_length s closed
 
   pub few_rounds : IsScenario s → length closed ≤ suc s.bound
   few_rounds is = held_few signed_kind s closed k opened ps full is as_held
 
   -- events that close no round leave what was sent
   pub kept : (k' : RecordedBoard) (ps' : List Part) → IsHeld signed_kind s closed k' opened ps' full → IsSignedHeld s closed k' opened ps' full sent signers
-  kept k' ps' held = record { reached = held.reached; opening = held.opening; sent = h.sent; signers = h.signers }
+  kept k' ps' held = record { reached = held.reached; opening = held.opening; chains = h.chains; signing = h.signing }
 
   pub ticked_kept : {A E : Type 0} (result : Result A E) (g r : ℕ) (ps' : List Part) (k' : RecordedBoard) → r ≡ suc (length closed) → OnOk result ((ps', k') ≡ ticked_of g r ps k (slice_get ps g)) → OnErr result ((ps' ≡ ps) × (k' ≡ k)) →
       IsSignedHeld s closed k' opened ps' full sent signers
@@ -80,7 +82,7 @@ module _ (s : Scenario) (closed : List (List Letter)) (k : RecordedBoard) (opene
   -- the drafts, the row that is written of them, and what they send
   module _ (ds : List Draft) (drafted : ds ≡ drafts_behind s sent (drop opened k.ledger) ps) where
     drafted_in : ds ≡ drafts_behind s (sent_in s closed) (drop opened k.ledger) ps
-    drafted_in = drafted ∙ ap (λ (x : Sent). drafts_behind s x (drop opened k.ledger) ps) h.sent
+    drafted_in = drafted ∙ ap (λ (x : Sent). drafts_behind s x (drop opened k.ledger) ps) h.chains
 
     pub all_drafted : length ds ≡ s.generals
     all_drafted = drafts_count s closed (drop opened k.ledger) ps ds drafted_in
@@ -95,12 +97,12 @@ module _ (s : Scenario) (closed : List (List Letter)) (k : RecordedBoard) (opene
 
     pub row_sent : (sendings : List (List Dispatch)) → sendings ≡ sent_drafted s sent ds ps → sendings ≡ round_sent s sent row_now
     row_sent sendings is =
-        is ∙ (ap (λ (x : Sent). sent_drafted s x ds ps) h.sent
-        ∙ (round_drafted s closed (drop opened k.ledger) ps ds drafted_in ∙ ap (λ (x : Sent). round_sent s x row_now) (sym h.sent)))
+        is ∙ (ap (λ (x : Sent). sent_drafted s x ds ps) h.chains
+        ∙ (round_drafted s closed (drop opened k.ledger) ps ds drafted_in ∙ ap (λ (x : Sent). round_sent s x row_now) (sym h.chains)))
 
   module _ (sent' : Sent) (is : IsScenario s) (le : length closed ≤ s.bound) (now : sent' ≡ sent ++ round_sent s sent row_now ∷ []) where
     sent_now : (closed' : List (List Letter)) → closed' ≡ closed_now → sent' ≡ sent_in s closed'
-    sent_now closed' rounds = now ∙ ((λ i. h.sent i ++ round_sent s (h.sent i) row_now ∷ []) ∙ (sym (sent_more s closed row_now) ∙ ap (sent_in s) (sym rounds)))
+    sent_now closed' rounds = now ∙ ((λ i. h.chains i ++ round_sent s (h.chains i) row_now ∷ []) ∙ (sym (sent_more s closed row_now) ∙ ap (sent_in s) (sym rounds)))
 
     -- what closing makes is the event
     pub closed_is : (closed' : List (List Letter)) (opened' : ℕ) (ps' : List Part) (full' : Bool) → closed' ≡ closed_now → ps' ≡ beginnings_behind s sent' → opened' ≡ length k.ledger → full' ≡ (full && list_all owes_no_letter ps) →
@@ -113,7 +115,7 @@ module _ (s : Scenario) (closed : List (List Letter)) (k : RecordedBoard) (opene
         IsSignedHeld s closed' k opened' ps' full' sent' signers
     closed_kept closed' opened' ps' full' rounds parts since posted =
         let held = held_on signed_kind s closed k opened ps full closed' k opened' ps' full' (Close ∷ []) as_held (closed_is closed' opened' ps' full' rounds parts since posted) refl in
-        record { reached = held.reached; opening = held.opening; sent = sent_now closed' rounds; signers = h.signers }
+        record { reached = held.reached; opening = held.opening; chains = sent_now closed' rounds; signing = h.signing }
 
     -- the next round is begun behind this
     pub closing_sent : IsSent s sent'

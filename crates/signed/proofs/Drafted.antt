@@ -10,9 +10,12 @@ use Rattle.round.specs.Letters.{Letter, letter_of}
 use Rattle.round.specs.Activation.{Activation}
 use Rattle.round.specs.Running.{letter_left}
 use Rattle.round.specs.Runs.{IsLetter}
-use Rattle.world.specs.Closing.{Draft, Begun, Whole, Missing, letter_from, letters_from, AreDraftsOf}
+use Rattle.world.specs.declared.draft.Draft.{Draft}
+use Rattle.world.specs.declared.draft.Draft.TheVariants.{Begun, Whole, Missing}
+use Rattle.world.specs.Closing.{letter_from, letters_from, AreDraftsOf}
 use Rattle.world.specs.Kind.{each, accesses_of, loyal_letter}
-use Rattle.world.specs.Part.{Part, Acting, Silent, Posted}
+use Rattle.world.specs.declared.part.Part.{Part}
+use Rattle.world.specs.declared.part.Part.TheVariants.{Acting, Silent, Posted}
 use Rattle.world.proofs.Listing.{each-get, each-get_only, each-length}
 use Rattle.signed.specs.Entries.{dispatched}
 use Rattle.signed.specs.Kind.{signed_kind}
@@ -36,11 +39,11 @@ find_left {A = A} t (x ∷ xs) ys e = ap (λ (o : Option A). cond (t x) (Some x)
 
 find_right : {A : Type 0} (t : A → Bool) (xs ys : List A) → find t xs ≡ None → find t (xs ++ ys) ≡ find t ys
 find_right t [] ys e = refl
-find_right t (x ∷ xs) ys e = by (t x) e
+find_right t (x ∷ xs) ys e = by (t x) e (λ none. find_right t xs ys none)
   where
-    by : (b : Bool) → cond b (Some x) (find t xs) ≡ None → cond b (Some x) (find t (xs ++ ys)) ≡ find t ys
-    by true e = absurd cc
-    by false e = find_right t xs ys e
+    by : (b : Bool) → cond b (Some x) (find t xs) ≡ None → (find t xs ≡ None → find t (xs ++ ys) ≡ find t ys) → cond b (Some x) (find t (xs ++ ys)) ≡ find t ys
+    by true e more = absurd cc
+    by false e more = more e
 
 each_none : {A : Type 0} (n : ℕ) (t : A → Bool) (f : ℕ → List A) → ((j : ℕ) → j < n → find t (f j) ≡ None) → find t (each n f) ≡ None
 each_none zero t f none = refl

@@ -10,7 +10,7 @@ use Rattle.semantics.proofs.SafetyLaws.{safe_of_sound}
 use Rattle.round.specs.Scenario.{Scenario, IsScenario}
 use Rattle.round.specs.Activation.{Activation, started}
 use Rattle.world.specs.declared.event.Event.{Event}
-use Rattle.world.specs.Part.{Acting}
+use Rattle.world.specs.declared.part.Part.TheVariants.{Acting}
 use Rattle.world.specs.Kind.{World, accesses_of}
 use Rattle.world.proofs.Standing.{standing, ran, placed_at}
 use Rattle.signed.specs.Chains.{Chain, Among}

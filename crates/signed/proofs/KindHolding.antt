@@ -12,7 +12,9 @@ use Rattle.round.specs.Running.{moved, Silently, Pauses}
 use Rattle.round.proofs.Stepping.{runs_steps}
 use Rattle.world.specs.declared.event.Event.{Event}
 use Rattle.world.specs.declared.event.Event.TheVariants.{Tick, Post, Close}
-use Rattle.world.specs.Part.{Part, Acting, Silent, Posted, owes_no_letter}
+use Rattle.world.specs.declared.part.Part.{Part}
+use Rattle.world.specs.declared.part.Part.TheVariants.{Acting, Silent, Posted}
+use Rattle.world.specs.Part.{owes_no_letter}
 use Rattle.world.specs.Kind.{Kind, World, each, opening, served, ticked, posting, closing, happen, run, round_open, letters_at, round_letters, accesses_of}
 use Rattle.signed.specs.KindHeld.{world_of, IsHeld}
 use Rattle.board.specs.Board.{Access}

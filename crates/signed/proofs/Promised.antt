@@ -14,7 +14,7 @@ use Rattle.world.specs.Chronicle.{Chronicle}
 use Rattle.world.specs.Kind.{World, opening}
 use Rattle.world.specs.KindAccounted.{AreAccounted}
 use Rattle.world.specs.KindLists.{IsComplete}
-use Rattle.world.specs.Part.{Acting}
+use Rattle.world.specs.declared.part.Part.TheVariants.{Acting}
 use Rattle.world.specs.Promises.{IsWellUnderBound}
 use Rattle.world.proofs.Punctual.{punctual_full, run_scenario}
 use Rattle.world.proofs.Replaying.{runs_are_accounted}
@@ -23,7 +23,7 @@ use Rattle.signed.specs.Accepted.{decided}
 use Rattle.signed.specs.Chronicle.{signed_chronicle_of, signed_decisions, signed_verdict_of}
 use Rattle.signed.specs.Kind.{signed_kind, played, accepted_in}
 use Rattle.signed.specs.Promises.{AgreeUnderSignedBound, AreSafeThroughout, AreWhole, IsSignedVerdictOn}
-use Rattle.signed.proofs.Laws.{same_scenario}
+use Rattle.signed.proofs.Concluding.{same_scenario}
 use Rattle.signed.proofs.Verdicts.{proved_verdicts}
 use Rattle.signed.proofs.Worlds.{signed_campaigns}
 

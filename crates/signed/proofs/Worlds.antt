@@ -79,13 +79,13 @@ letter_made s before l is h (Some p) e made =
 -- the letter found is one of the row, and his
 found : (P : Letter → Type 0) (row : List Letter) (g : ℕ) (l : Letter) → letter_of row g ≡ Some l → All P row → P l × (l.general ≡ g)
 found P [] g l e all = absurd (let f : None ≡ Some l = e in cc)
-found P (x ∷ row) g l e all = by (x.general == g) refl e
+found P (x ∷ row) g l e all = by (x.general == g) refl e (λ is. found P row g l is (λ k d lt. all (suc k) d (omega arith)))
   where
-    by : (b : Bool) → (x.general == g) ≡ b → cond b (Some x) (letter_of row g) ≡ Some l → P l × (l.general ≡ g)
-    by true same is =
+    by : (b : Bool) → (x.general == g) ≡ b → cond b (Some x) (letter_of row g) ≡ Some l → (letter_of row g ≡ Some l → P l × (l.general ≡ g)) → P l × (l.general ≡ g)
+    by true same is later =
         let here : x ≡ l = (let f : Some x ≡ Some l = is in cc) in
         (subst P here (all 0 x (omega arith)), ap (λ (m : Letter). m.general) (sym here) ∙ eqb-true x.general g same)
-    by false other is = found P row g l is (λ k d lt. all (suc k) d (omega arith))
+    by false other is later = later is
 
 -- what a row of letters sends
 row_made : (s : Scenario) (before : List (List Letter)) (row : List Letter) → IsScenario s → All (λ l. IsLetterIn signed_kind s before l) row → (g : ℕ)

@@ -6,7 +6,8 @@ use Rattle.round.specs.Scenario.{Scenario, program_of}
 use Rattle.round.specs.Letters.{Letter}
 use Rattle.round.specs.Running.{letter_left}
 use Rattle.world.specs.declared.event.Event.{Event}
-use Rattle.world.specs.Part.{Part, Acting, Silent, Posted}
+use Rattle.world.specs.declared.part.Part.{Part}
+use Rattle.world.specs.declared.part.Part.TheVariants.{Acting, Silent, Posted}
 use Rattle.world.specs.Kind.{Kind, World, each, accesses_of, begins, round_open, opening, run, loyal_letter}
 
 pub use Rattle.world.specs.Reached.{world_of}

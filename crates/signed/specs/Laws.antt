@@ -1,5 +1,5 @@
 -- What holds of every world of a signed campaign. Each statement is the contract of a function of this crate.
-use Rattle.std.specs.Prelude.{ℕ, suc, ◌≡◌, ◌*◌, ◌<◌, ◌≤◌, true, List, ◌∷◌, ◌++◌, map, length, slice_get, Some, is_some}
+use Rattle.std.specs.Prelude.{ℕ, suc, ◌≡◌, ◌*◌, ◌<◌, ◌≤◌, true, List, [], ◌∷◌, ◌++◌, map, length, slice_get, Some, is_some}
 use Rattle.std.specs.List.{AllByRecursion}
 use Rattle.semantics.specs.Limits.{context_size, most_held}
 use Rattle.semantics.specs.Entries.{is_sendable}
@@ -7,7 +7,7 @@ use Rattle.label.specs.Labels.{on}
 use Rattle.round.specs.Scenario.{Scenario, IsScenario, is_traitor}
 use Rattle.round.specs.Activation.{Activation}
 use Rattle.world.specs.declared.event.Event.{Event}
-use Rattle.world.specs.Part.{Acting}
+use Rattle.world.specs.declared.part.Part.TheVariants.{Acting}
 use Rattle.world.specs.KindLists.{IsPunctual}
 use Rattle.world.specs.Agreement.{IsFinished}
 use Rattle.signed.specs.Chains.{Chain, Among, IsChain, orders}

@@ -11,7 +11,7 @@ use Rattle.world.specs.declared.event.Event.{Event}
 use Rattle.world.specs.declared.verdict.Verdict.{Verdict}
 use Rattle.world.specs.Agreement.{AreAlike, AreObedient}
 use Rattle.world.specs.KindAccounted.{AreAccounted}
-use Rattle.world.specs.Part.{Acting}
+use Rattle.world.specs.declared.part.Part.TheVariants.{Acting}
 use Rattle.signed.specs.Agreement.{IsSignedBound}
 use Rattle.signed.specs.Kind.{signed_kind, played}
 

@@ -16,8 +16,9 @@ mod judging;
 // mod laws;
 mod letter;
 mod outgoing;
+mod signed_world;
 mod signer;
-mod world;
+
 
 pub use chain::Chain;
 pub use chronicle::SignedChronicle;
@@ -31,4 +32,4 @@ pub use held::Held;
 };
 */
 pub use signer::Signer;
-pub use world::SignedWorld;
+pub use signed_world::SignedWorld;

@@ -1,6 +1,6 @@
 -- A post is the event.
 use Rattle.signed.proofs.Closed.{posted_kept}
-use Rattle.signed.proofs.world.SignedWorld.post.Goals as goal
+use Rattle.signed.proofs.signed_world.SignedWorld.post.Goals as goal
 
 pub invariant_of-self : goal.invariant_of-self
 invariant_of-self c =
