@@ -2,6 +2,7 @@
 use Rattle.std.proofs.Common.{◌≡◌, ℕ, zero, suc, ◌+◌, ◌-◌, ◌<◌, ◌≤◌, List, [], ◌∷◌, ◌++◌, length, drop, Bool, true, refl, sym, ap, subst, ◌∙◌, Result, Ok, Err, arith}
 use Rattle.std.specs.Prelude.{OnOk, OnErr, slice_get, replicate, ◌&&◌}
 use Rattle.std.specs.List.{list_all}
+use Rattle.board.specs.Board.{Access}
 use Rattle.board.specs.Ledger.{RecordedBoard}
 use Rattle.round.specs.Scenario.{Scenario, IsScenario}
 use Rattle.round.specs.Letters.{Letter}
@@ -43,6 +44,13 @@ opened_held s k ps sent signers begun words ledger parts none all = record {
   signing = all;
 }
 
+-- by what was lent of the world
+pub drafts_same : (s : Scenario) (x x' : Sent) (a a' : List Access) (p p' : List Part) (ds : List Draft) → ds ≡ drafts_behind s x' a' p' → x' ≡ x → a' ≡ a → p' ≡ p → ds ≡ drafts_behind s x a p
+drafts_same s x x' a a' p p' ds is e f g = is ∙ (λ i. drafts_behind s (e i) (f i) (g i))
+
+pub sendings_same : (s : Scenario) (x x' : Sent) (d d' : List Draft) (p p' : List Part) (sendings : List (List Dispatch)) → sendings ≡ sent_drafted s x' d' p' → x' ≡ x → d' ≡ d → p' ≡ p → sendings ≡ sent_drafted s x d p
+sendings_same s x x' d d' p p' sendings is e f g = is ∙ (λ i. sent_drafted s (e i) (f i) (g i))
+
 -- what was sent was sent by events
 pub is_sent : (s : Scenario) (closed : List (List Letter)) (k : RecordedBoard) (opened : ℕ) (ps : List Part) (full : Bool) (sent : Sent) (signers : List Signature) → IsSignedHeld s closed k opened ps full sent signers → IsSent s sent
 is_sent s closed k opened ps full sent signers h = (h.reached.0, h.chains ∙ ap (λ (w : World). sent_in s w.closed) (sym h.reached.1))
@@ -76,7 +84,7 @@ module _ (s : Scenario) (closed : List (List Letter)) (k : RecordedBoard) (opene
   abbrev pub row_now : List Letter
   row_now = letters_held signed_kind s closed (drop opened k.ledger) ps
 
-  abbrev closed_now : List (List Letter)
+  abbrev pub closed_now : List (List Letter)
   closed_now = closed ++ row_now ∷ []
 
   -- the drafts, the row that is written of them, and what they send
@@ -95,10 +103,13 @@ module _ (s : Scenario) (closed : List (List Letter)) (k : RecordedBoard) (opene
     pub row_written : (n round : ℕ) (row : List Letter) → n ≡ s.generals → round ≡ suc (length closed) → row ≡ letters_from n round ds ps → row ≡ row_now
     row_written n round row all counted is = row_is s closed (drop opened k.ledger) ps ds drafted_in n round row all counted is
 
-    pub row_sent : (sendings : List (List Dispatch)) → sendings ≡ sent_drafted s sent ds ps → sendings ≡ round_sent s sent row_now
+    row_sent : (sendings : List (List Dispatch)) → sendings ≡ sent_drafted s sent ds ps → sendings ≡ round_sent s sent row_now
     row_sent sendings is =
         is ∙ (ap (λ (x : Sent). sent_drafted s x ds ps) h.chains
         ∙ (round_drafted s closed (drop opened k.ledger) ps ds drafted_in ∙ ap (λ (x : Sent). round_sent s x row_now) (sym h.chains)))
+
+    pub round_pushed : (sendings : List (List Dispatch)) (sent' : Sent) → sendings ≡ sent_drafted s sent ds ps → sent' ≡ sent ++ sendings ∷ [] → sent' ≡ sent ++ round_sent s sent row_now ∷ []
+    round_pushed sendings sent' is pushed = pushed ∙ ap (λ (r : List (List Dispatch)). sent ++ r ∷ []) (row_sent sendings is)
 
   module _ (sent' : Sent) (is : IsScenario s) (le : length closed ≤ s.bound) (now : sent' ≡ sent ++ round_sent s sent row_now ∷ []) where
     sent_now : (closed' : List (List Letter)) → closed' ≡ closed_now → sent' ≡ sent_in s closed'

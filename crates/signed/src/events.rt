@@ -87,7 +87,7 @@ impl SignedWorld {
     fn round(&self) -> u32
         ensures { result ≡ suc (length self.now.closed) }
     {
-        let _bound = self.scenario.bound();
+        self.scenario.recall();
         self.closed.len() as u32 + 1
     }
 
@@ -130,6 +130,7 @@ impl SignedWorld {
         ensures done { OnOk result (self.new ≡ happen signed_kind self.old Close) }
         ensures undone { OnErr result (self.new ≡ self.old) }
     {
+        self.scenario.recall();
         let round = self.round();
         let generals = self.scenario.generals();
         let accesses = since(self.board.ledger(), self.opened);

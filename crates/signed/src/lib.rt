@@ -4,17 +4,12 @@
 mod acceptance;
 mod beginnings;
 mod sets;
-mod briefing;
 mod chain;
 mod chronicle;
-mod dispatch;
 mod drafting;
-mod entering;
 mod events;
-mod held;
 mod judging;
 // mod laws;
-mod letter;
 mod outgoing;
 mod signed_world;
 mod signer;
@@ -22,7 +17,6 @@ mod signer;
 
 pub use chain::Chain;
 pub use chronicle::SignedChronicle;
-pub use held::Held;
 /*pub use laws::{
     chains_are_few, chains_are_unforged, held_chains_are_few, loyal_entries_are_sent,
     signed_accounts_are_runs, signed_activations_are_safe, signed_agreement,
