@@ -8,6 +8,7 @@ use Rattle.round.specs.Scenario.{Scenario, IsScenario}
 use Rattle.round.specs.Letters.{Letter}
 use Rattle.world.specs.declared.event.Event.{Event}
 use Rattle.world.specs.declared.event.Event.TheVariants.{Tick, Post, Close}
+use Rattle.world.specs.Agreement.{IsFinished}
 use Rattle.world.specs.Kind.{World, opening, happen, run}
 use Rattle.world.specs.declared.part.Part.{Part}
 use Rattle.world.specs.Part.{owes_no_letter}
@@ -64,6 +65,12 @@ module _ (s : Scenario) (closed : List (List Letter)) (k : RecordedBoard) (opene
 
   pub few_rounds : IsScenario s → length closed ≤ suc s.bound
   few_rounds is = held_few signed_kind s closed k opened ps full is as_held
+
+  -- where no round is open and it is full
+  pub is_finished : (w : World) (len from : ℕ) → IsScenario s → world_of s closed k opened ps full ≡ w → len ≡ length closed → from ≡ s.bound → from < len → full ≡ true → IsFinished w
+  is_finished w len from is same counted bound past filled =
+      let few = few_rounds is in
+      subst (λ (v : World). IsFinished v) same (record { closed = omega arith; full = filled })
 
   -- events that close no round leave what was sent
   pub kept : (k' : RecordedBoard) (ps' : List Part) → IsHeld signed_kind s closed k' opened ps' full → IsSignedHeld s closed k' opened ps' full sent signers

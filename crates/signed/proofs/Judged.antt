@@ -1,6 +1,7 @@
 -- What the lieutenants decide of what was sent, one by one.
-use Rattle.std.proofs.Common.{◌≡◌, ◌≢◌, ℕ, zero, suc, ◌+◌, ◌-◌, ◌<◌, ◌≤◌, not, List, [], ◌∷◌, ◌++◌, length, map, take, refl, sym, ap, subst, ◌∙◌, arith, append-nil, append_assoc, length-append}
+use Rattle.std.proofs.Common.{◌≡◌, ◌≢◌, ℕ, zero, suc, ◌+◌, ◌-◌, ◌<◌, ◌≤◌, not, List, [], ◌∷◌, ◌++◌, length, map, take, refl, sym, ap, subst, ◌∙◌, arith, inl, inr, append-nil, append_assoc, length-append}
 use Rattle.std.specs.Prelude.{flat_map, filter}
+use Rattle.std.proofs.lemmas.Bool.{cases_lt}
 use Rattle.std.proofs.lemmas.List.{length-map}
 use Rattle.std.proofs.lemmas.List.FromFn.{length-range_with_len}
 use Rattle.label.specs.Labels.{on, generals, others}
@@ -33,18 +34,18 @@ flat_none f (g ∷ gs) none = (λ i. none g i ++ flat_none f gs none i)
 came_past : (n : ℕ) (sent : Sent) (r p : ℕ) → length sent < r → came n (delivered sent) r p ≡ []
 came_past n sent r p past = flat_none (λ g. delivered sent r g p) (generals n) (λ g. ap (received p) (sent_past sent r g past))
 
-accepted_past : (n : ℕ) (sent : Sent) (p k : ℕ) → accepted n (delivered sent) (k + length sent) p ≡ accepted n (delivered sent) (length sent) p
+accepted_past : (n : ℕ) (sent : Sent) (p r : ℕ) → length sent < suc r → accepted n (delivered sent) (suc r) p ≡ accepted n (delivered sent) r p
 unfolding accepted
-accepted_past n sent p zero = refl
-accepted_past n sent p (suc k) =
-    let r = k + length sent in
-    ap (λ (xs : List Chain). accepted n (delivered sent) r p ++ orders (firsts (accepted n (delivered sent) r p) (filter (counts (suc r) p) xs))) (came_past n sent (suc r) p (omega arith))
-    ∙ (append-nil (accepted n (delivered sent) r p) ∙ accepted_past n sent p k)
+accepted_past n sent p r past =
+    ap (λ (xs : List Chain). accepted n (delivered sent) r p ++ orders (firsts (accepted n (delivered sent) r p) (filter (counts (suc r) p) xs))) (came_past n sent (suc r) p past)
+    ∙ append-nil (accepted n (delivered sent) r p)
 
 accepted_to : (n : ℕ) (sent : Sent) (p r : ℕ) → length sent ≤ r → accepted n (delivered sent) r p ≡ accepted n (delivered sent) (length sent) p
-accepted_to n sent p r le =
-    let k = r - length sent in
-    ap (λ (m : ℕ). accepted n (delivered sent) m p) (let e : r ≡ k + length sent = omega arith in e) ∙ accepted_past n sent p k
+accepted_to n sent p zero le = ap (λ (k : ℕ). accepted n (delivered sent) k p) (let e : 0 ≡ length sent = omega arith in e)
+accepted_to n sent p (suc r) le = elim (cases_lt r (length sent)) [
+  | inl last ↦ ap (λ (k : ℕ). accepted n (delivered sent) k p) (let e : suc r ≡ length sent = omega arith in e)
+  | inr past ↦ accepted_past n sent p r (omega arith) ∙ accepted_to n sent p r past
+]
 
 -- what one lieutenant decides
 pub one_decides : (s : Scenario) (closed : List (List Letter)) (sent : Sent) (rounds p d : ℕ) (found : List ℕ) → sent ≡ sent_in s closed → rounds ≡ length sent → length sent ≤ suc s.bound →

@@ -20,6 +20,8 @@ pub mod Holding
 pub mod Signing
 pub mod Entered
 pub mod Concluding
+pub mod Lending
+pub mod Adding
 pub mod Verdicts
 pub mod Rows
 pub mod ProgramRows
