@@ -32,7 +32,7 @@ firsts_alike s t [] h = refl
 firsts_alike s t (x ∷ xs) h =
     firsts_alike_more s t x xs (firsts_alike s t xs h) (firsts_alike (x.order ∷ s) (x.order ∷ t) xs (λ v. ap (λ (b : Bool). (x.order == v) || b) (h v))) (on s x.order) (on t x.order) (h x.order)
 
-at_the_end : (seen : List ℕ) (o v : ℕ) → on (seen ++ o ∷ []) v ≡ on (o ∷ seen) v
+pub at_the_end : (seen : List ℕ) (o v : ℕ) → on (seen ++ o ∷ []) v ≡ on (o ∷ seen) v
 at_the_end seen o v = on-push seen o v ∙ by (on seen v) (o == v)
   where
     by : (a b : Bool) → (a || b) ≡ (b || a)

@@ -15,12 +15,12 @@ use Rattle.signed.specs.Chains.{Chain}
 use Rattle.signed.specs.Contexts.{signed_context_numbers, signer_bits}
 use Rattle.signed.specs.Entries.{Dispatch}
 use Rattle.signed.specs.Kind.{signed_kind, signed_context, signed_relay}
-use Rattle.signed.specs.KindHeld.{beginnings}
+use Rattle.world.specs.KindHeld.{beginnings}
 use Rattle.signed.specs.Loyal.{loyal_entries}
 use Rattle.signed.specs.Sending.{AreRows, context_behind, relay_behind, letter_behind, begins_behind, beginnings_behind}
 use Rattle.signed.specs.Sent.{Sent, delivered, held_behind, sends, round_sent, sent_along, sent_in}
 use Rattle.signed.proofs.Along.{sent_length}
-use Rattle.signed.proofs.KindHolding.{each-same}
+use Rattle.world.proofs.Holding.{each-same}
 use Rattle.signed.proofs.Places.{row_length}
 
 module _ (s : Scenario) (closed : List (List Letter)) where

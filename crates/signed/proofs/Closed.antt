@@ -16,14 +16,14 @@ use Rattle.world.specs.declared.draft.Draft.{Draft}
 use Rattle.world.specs.Closing.{letters_from, AreDraftsOf}
 use Rattle.signed.specs.Entries.{Dispatch}
 use Rattle.signed.specs.Kind.{signed_kind, played}
-use Rattle.signed.specs.KindHeld.{world_of, IsHeld, AheadTo, ticked_of, posted_of, letters_held, beginnings}
+use Rattle.world.specs.KindHeld.{world_of, IsHeld, AheadTo, ticked_of, posted_of, letters_held, beginnings}
 use Rattle.signed.specs.Sending.{IsSent, IsSignedHeld, beginnings_behind, drafts_behind, sent_drafted, signatures}
 use Rattle.signed.specs.Sent.{Sent, round_sent, sent_in}
 use Rattle.signed.specs.Signers.{Signature}
 use Rattle.signed.proofs.Along.{sent_none, sent_more, sent_length}
 use Rattle.signed.proofs.Behind.{parts_behind}
 use Rattle.signed.proofs.Drafted.{drafts_count, drafts_run, round_drafted, row_is}
-use Rattle.signed.proofs.KindHolding.{ahead_is, close_is, held_few, held_letters, held_on, post_is, tick_held}
+use Rattle.world.proofs.Holding.{ahead_is, close_is, held_few, held_letters, held_on, post_is, tick_held}
 use Rattle.signed.proofs.Telling.{signed_relays}
 use Rattle.signed.proofs.Worlds.{signed_campaigns}
 

@@ -19,7 +19,7 @@ use Rattle.world.specs.declared.part.Part.TheVariants.{Acting, Silent, Posted}
 use Rattle.world.proofs.Listing.{each-get, each-get_only, each-length}
 use Rattle.signed.specs.Entries.{dispatched}
 use Rattle.signed.specs.Kind.{signed_kind}
-use Rattle.signed.specs.KindHeld.{AreLetters, letter_held, letters_held}
+use Rattle.world.specs.KindHeld.{AreLetters, letter_held, letters_held}
 use Rattle.signed.specs.Sending.{draft_behind, drafts_behind, entries_drafted, sent_drafted}
 use Rattle.signed.specs.Sent.{Sent, held_behind, sends, round_sent, sent_in}
 use Rattle.signed.proofs.Behind.{written_behind}

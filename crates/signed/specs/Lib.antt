@@ -7,9 +7,9 @@ pub mod Contexts
 pub mod Signers
 pub mod Sent
 pub mod Kind
-pub mod KindHeld
 pub mod Sending
 pub mod Laws
+pub mod Traitors
 pub mod Chronicle
 pub mod Verdicts
 pub mod Promises

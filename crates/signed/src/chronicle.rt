@@ -79,13 +79,13 @@ impl SignedChronicle {
 
     /// What a general sent in a round, from 1: each chain with its receivers, bit g for general g, in the order of his
     /// entries.
-    pub fn sent(&self, general: u8, round: u8) -> &[(Chain, u16)]
+    pub fn sent(&self, general: u8, round: usize) -> &[(Chain, u16)]
         ensures { map dispatch_of result.now ≡ sent_by (sent_in self.now.scenario self.now.letters) round general }
     {
         if round == 0 {
             return &[];
         }
-        match self.sent.get(usize::from(round - 1)) {
+        match self.sent.get(round - 1) {
             None => &[],
             Some(round) => match round.sendings().get(usize::from(general)) {
                 None => &[],

@@ -3,7 +3,7 @@ ghost use Rattle.std.specs.Prelude.{◌≡◌, ◌≤◌, ◌<◌, suc, length, 
 ghost use Rattle.signed.specs.Kind.{signed_kind};
 ghost use Rattle.signed.specs.Sending.{signatures};
 ghost use Rattle.world.specs.declared.event.Event.TheVariants.{Tick, Post, Close};
-ghost use Rattle.world.specs.Held.{AheadTo, IsAnswer};
+ghost use Rattle.world.specs.KindHeld.{AheadTo, IsAnswer};
 ghost use Rattle.world.specs.Kind.{opening, happen, refusal, run};
 
 use crate::beginnings::beginnings;

@@ -1,0 +1,14 @@
+pub mod Text
+pub mod Names
+pub mod Marks
+pub mod Laws
+pub mod Shapes
+pub mod Audit
+pub mod Compared
+pub mod Schedules
+pub mod Sinks
+pub mod Lines
+pub mod Telling
+pub mod SignedText
+pub mod SignedAudit
+pub mod SignedLaws

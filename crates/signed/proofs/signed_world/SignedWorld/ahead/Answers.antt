@@ -5,7 +5,7 @@ use Rattle.world.specs.declared.event.Event.TheVariants.{Tick}
 use Rattle.world.specs.Kind.{World, run}
 use Rattle.signed.specs.Kind.{signed_kind}
 use Rattle.signed.proofs.Closed.{ahead_kept}
-use Rattle.signed.proofs.KindHolding.{ahead_is}
+use Rattle.world.proofs.Holding.{ahead_is}
 use Rattle.signed.proofs.signed_world.SignedWorld.ahead.Goals as goal
 
 pub invariant_of-self : goal.invariant_of-self

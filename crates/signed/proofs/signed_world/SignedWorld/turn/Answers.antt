@@ -3,7 +3,7 @@ use Rattle.std.proofs.Common.{suc, length, ap, ◌∙◌, sym}
 use Rattle.world.specs.Kind.{World}
 use Rattle.signed.specs.Kind.{signed_kind}
 use Rattle.signed.proofs.Closed.{ticked_kept}
-use Rattle.signed.proofs.KindHolding.{tick_done}
+use Rattle.world.proofs.Holding.{tick_done}
 use Rattle.signed.proofs.signed_world.SignedWorld.turn.Goals as goal
 
 pub invariant_of-self : goal.invariant_of-self
