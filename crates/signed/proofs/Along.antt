@@ -29,4 +29,4 @@ sent_more s closed row = along_more s [] closed row
 
 pub sent_length : (s : Scenario) (closed : List (List Letter)) → length (sent_in s closed) ≡ length closed
 unfolding sent_in
-sent_length s closed = along_length s [] closed
+sent_length s closed = along_length s [] closed ∙ (omega arith)

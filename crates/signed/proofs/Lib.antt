@@ -19,7 +19,8 @@ pub mod Room
 pub mod Holding
 pub mod Signing
 pub mod Entered
-pub mod Laws
+pub mod Concluding
+pub mod Whatever
 pub mod Verdicts
 pub mod Rows
 pub mod ProgramRows

@@ -31,7 +31,7 @@ pub signed_is_told : (s : Scenario) (closed : List (List Letter)) (g : ℕ) → 
 signed_is_told s closed g = number_at (numbers s closed g) 7 28 1 refl (omega arith) refl (omega arith)
 
 pub not_oral : (s : Scenario) (closed : List (List Letter)) (g : ℕ) → tells_oral (signed_context s closed g) → ⊥
-not_oral s closed g spoken = let e : 1 ≡ 0 = sym (signed_is_told s closed g) ∙ spoken in omega arith
+not_oral s closed g spoken = omega (arith, signed_is_told s closed g)
 
 pub signed_relays : TellRelays signed_kind
 signed_relays s is = record {

@@ -15,7 +15,7 @@ use Rattle.signed.specs.Agreement.{IsSignedBound, SignedAgree}
 use Rattle.signed.specs.Kind.{played, accepted_in}
 use Rattle.signed.specs.Chronicle.{signed_decisions, signed_verdict_of}
 use Rattle.signed.specs.Verdicts.{SignedVerdictsMean}
-use Rattle.signed.proofs.Laws.{agree_in, same_scenario}
+use Rattle.signed.proofs.Concluding.{agree_in, same_scenario}
 
 -- orders that agree, place by place
 in_list : (n c order : ℕ) (traitor : ℕ → Bool) (accepts : ℕ → List ℕ) → SignedAgree n c order traitor accepts → AgreeInList n c order traitor (map (λ p. decided (accepts p)) (lieutenants n c))

@@ -10,6 +10,7 @@ ghost use Rattle.signed.specs.Laws.{
 };
 ghost use Rattle.signed.specs.Loyal.{LoyalEntriesAreSent};
 ghost use Rattle.signed.specs.Plays.{SignedChroniclesAreReplays};
+ghost use Rattle.signed.specs.Traitors.{WhateverTraitorsWrite};
 ghost use Rattle.signed.specs.Verdicts.{SignedVerdictsMean};
 ghost use Rattle.world.specs.Refusals.{IdleEventsChangeNothing, RefusalsChangeNothing};
 ghost use Rattle.world.specs.Replay.{
@@ -46,6 +47,12 @@ pub fn chains_are_few()
 /// Nobody holds more chains than a place names, and a context has room for them.
 pub fn held_chains_are_few()
     ensures { HeldChainsAreFew }
+{}
+
+/// All this holds of whatever letters traitors write, also where no program would: chains are unforged and few, and with
+/// at most m traitors the loyal lieutenants agree.
+pub fn whatever_traitors_write()
+    ensures { WhateverTraitorsWrite }
 {}
 
 /// What a loyal general enters sends, to all others, just the chains that he has to sign.

@@ -27,7 +27,7 @@ pub use laws::{
     signed_accounts_are_runs, signed_activations_are_safe, signed_agreement,
     signed_entries_are_sent, signed_ledgers_are_legal, signed_ledgers_decide,
     signed_lists_are_complete, signed_refusals_change_nothing, signed_runs_are_accounted,
-    signed_runs_are_replays, signed_verdicts_mean, signed_worlds_agree,
+    signed_runs_are_replays, signed_verdicts_mean, signed_worlds_agree, whatever_traitors_write,
 };
 pub use signer::Signer;
 pub use world::SignedWorld;

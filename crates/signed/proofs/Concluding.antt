@@ -1,4 +1,4 @@
--- The laws of signed worlds.
+-- What follows for signed worlds: the laws of this crate.
 use Rattle.std.proofs.Common.{◌≡◌, ℕ, suc, ◌<◌, ◌≤◌, true, false, List, length, refl, sym, ap, subst, ◌∙◌, Option, None, Some, arith}
 use Rattle.std.specs.Prelude.{is_some}
 use Rattle.insn.specs.declared.insn.Insn.{Insn}
