@@ -42,12 +42,12 @@ module _ (n k g earlier : ℕ) (chains : List Chain) (relay : Relay) (seen : Lis
   -- a chain that brings nothing new
   pub passing_over : next ≡ suc place → slice_get chains place ≡ Some ch → (counts k g ch && not (on known ch.order)) ≡ false →
       IsPassing n k g earlier chains relay seen before place known entries → IsPassing n k g earlier chains relay seen before next known entries
-  passing_over step at no p =
+  passing_over step at idle p =
       let rest = drop (suc place) chains in
       let cut = drop_at chains place ch at in
-      let orders : added_by k g known (ch ∷ rest) ≡ added_by k g known rest = ap (λ (xs : List ℕ). added_by k g xs rest) (none (counts k g ch) (on known ch.order) no) in
+      let orders : added_by k g known (ch ∷ rest) ≡ added_by k g known rest = ap (λ (xs : List ℕ). added_by k g xs rest) (none (counts k g ch) (on known ch.order) idle) in
       let over : passes n k g place known (ch ∷ rest) ≡ passes n k g (suc place) known rest =
-      ap (λ (b : Bool). cond b (Pass place (bits_but n (ch.signers ++ g ∷ [])) ∷ passes n k g (suc place) (ch.order ∷ known) rest) (passes n k g (suc place) known rest)) no in
+      ap (λ (b : Bool). cond b (Pass place (bits_but n (ch.signers ++ g ∷ [])) ∷ passes n k g (suc place) (ch.order ∷ known) rest) (passes n k g (suc place) known rest)) idle in
       subst (λ (j : ℕ). IsPassing n k g earlier chains relay seen before j known entries) (sym step) (record {
         added = sym orders ∙ (ap (added_by k g known) (sym cut) ∙ p.added);
         entered = ap (entered_all relay entries) (sym over) ∙ (ap (λ (xs : List Chain). entered_all relay entries (passes n k g place known xs)) (sym cut) ∙ p.entered);
