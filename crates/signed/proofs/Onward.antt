@@ -8,6 +8,7 @@ use Rattle.std.proofs.lemmas.List.{take_all}
 use Rattle.label.specs.Labels.{on}
 use Rattle.semantics.specs.Relay.{Relay}
 use Rattle.semantics.specs.Entries.{entered}
+use Rattle.round.proofs.Lists.{some_at}
 use Rattle.signed.specs.Chains.{Chain}
 use Rattle.signed.specs.Accepted.{counts}
 use Rattle.signed.specs.Entries.{Entry, Pass}
@@ -145,3 +146,11 @@ module _ (n k g earlier : ℕ) (chains : List Chain) (relay : Relay) (seen : Lis
       subst (λ (es : List Entry). IsPassing n k g earlier chains relay seen before (place + 1) orders es) (sym entries_are)
       (passing_on n k g earlier chains relay seen before place (place + 1) known entries ch orders (omega arith) at (both_hold (counts k g ch) (on known ch.order) counted among e f (h ∙ (λ i. on (same i) (is i))) l)
       (λ xs first. subst (λ (o : ℕ). AreFirst orders (added_also xs o)) is2 (firsts xs first)) few p)
+
+-- there is a chain at each place
+pub some_there : (o : Option (Bor Chain)) (chains : List Chain) (place : ℕ) → chain_in o ≡ slice_get chains place → o ≡ None → place < length chains → ⊥
+some_there o chains place read is inside =
+    let there = some_at chains place inside in
+    let none : slice_get chains place ≡ None = sym read ∙ ap chain_in is in
+    let clash : Some there.0 ≡ None = sym there.1 ∙ none in
+    cc

@@ -1,7 +1,7 @@
 -- One chain after another.
 use Rattle.std.proofs.Common.{arith, refl, ◌∙◌}
 use Rattle.std.specs.Prelude.{slice_get}
-use Rattle.signed.proofs.Onward.{passing_first, passing_last, chain_at, uncounted, known_already, passed_on_also}
+use Rattle.signed.proofs.Onward.{passing_first, passing_last, chain_at, uncounted, known_already, passed_on_also, some_there}
 use Rattle.signed.proofs.entering.pass_on.Goals as goal
 use Rattle.signed.proofs.entering.pass_on.Goals.{in-Some+then-counts+then-not-is_among, in-Some+else-counts, else-counts-via-then-counts+else-not-is_among, else-counts-via-else-counts, in_default}
 
@@ -47,7 +47,7 @@ loop-place-preserved c =
               w.counts.ensures w2.if-counts.false (l.invariant.left seen first few);
         })
       ]
-      | in_default w ↦ ?
+      | in_default w ↦ absurd (some_there c.get.result a.held.now.chains l.place c.get.ensures w.in_default.is (let t = c.loop-place-test.true in let e = c.len-place-end.ensures in omega arith))
     ]
 
 pub returns-clause-entries : goal.returns-clause-entries
