@@ -1,10 +1,9 @@
 -- As it is the commander or not, in the first round or a later one.
-use Rattle.std.proofs.Common.{◌≡◌, ◌-◌, suc, length, refl, sym, ap, ◌∙◌, arith}
-use Rattle.label.specs.Labels.{on}
-use Rattle.semantics.specs.Relay.{Relay}
+use Rattle.std.proofs.Common.{ℕ, ◌-◌, [], ◌∷◌, length, refl, sym, ap, ◌∙◌, arith}
 use Rattle.semantics.specs.Entries.{entered}
-use Rattle.signed.specs.Entries.{Entry, Sign}
-use Rattle.signed.specs.Sending.{HeldChains}
+use Rattle.signed.specs.Entries.{Sign}
+use Rattle.signed.specs.Loyal.{bits_but}
+use Rattle.signed.specs.Sending.{relay_behind, HeldChains}
 use Rattle.signed.proofs.Receipts.{sent_rows}
 use Rattle.signed.proofs.Duties.{held_small, passed_is, signed_is, none_first, none_later}
 use Rattle.signed.proofs.entering.enter.Goals as goal
@@ -38,7 +37,7 @@ returns-then-rounds-eq0-clause-entries c =
     signed_is s a.sent.now a.general c.sign-entered.new.self.entries (c.if-general-commander.false ∙ c.commander.ensures.same) c.if-rounds-eq0.true
     (c.sign-entered.ensures.entries
     ∙ ((λ i. entered (c.requires.relay i) (c.requires.unentered i) (Sign (c.order.ensures i) (c.others-all.ensures i)))
-    ∙ ?))
+    ∙ ap (λ (k : ℕ). entered (relay_behind s a.sent.now a.general) [] (Sign s.order (bits_but k (a.general ∷ [])))) c.generals-then-rounds-eq0.ensures.same))
 
 pub returns-else-rounds-eq0-clause-entries : goal.returns-else-rounds-eq0-clause-entries
 returns-else-rounds-eq0-clause-entries c =
