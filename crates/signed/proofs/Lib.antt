@@ -35,3 +35,8 @@ pub mod Onward
 pub mod Duties
 pub mod Written
 pub mod Marks
+pub mod Behind
+pub mod Drafted
+pub mod Closed
+pub mod Judged
+pub mod Promised

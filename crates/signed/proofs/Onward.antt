@@ -1,17 +1,19 @@
 -- How a loyal general passes on, one after another, the chains that bring him orders.
-use Rattle.std.proofs.Common.{◌≡◌, ℕ, zero, suc, ◌+◌, ◌<◌, ◌≤◌, Bool, true, false, not, cond, ◌&&◌, List, [], ◌∷◌, ◌++◌, take, drop, length, refl, sym, ap, subst, ◌∙◌, arith, inl, inr, length-append, Some, None}
+use Rattle.std.proofs.Common.{◌≡◌, ℕ, zero, suc, ◌+◌, ◌<◌, ◌≤◌, Bool, true, false, not, cond, ◌&&◌, List, [], ◌∷◌, ◌++◌, take, drop, length, refl, sym, ap, subst, ◌∙◌, arith, inl, inr, length-append, Option, Some, None}
 use Rattle.std.specs.Prelude.{slice_get}
+use Rattle.std.specs.Borrow.{Bor}
 use Rattle.std.proofs.Math.ListN.{drop_of_length-le}
 use Rattle.std.proofs.lemmas.Bool.{cases_Bool}
 use Rattle.std.proofs.lemmas.List.{take_all}
 use Rattle.label.specs.Labels.{on}
 use Rattle.semantics.specs.Relay.{Relay}
 use Rattle.semantics.specs.Entries.{entered}
+use Rattle.round.proofs.Lists.{some_at}
 use Rattle.signed.specs.Chains.{Chain}
 use Rattle.signed.specs.Accepted.{counts}
 use Rattle.signed.specs.Entries.{Entry, Pass}
 use Rattle.signed.specs.Loyal.{bits_but, passes}
-use Rattle.signed.specs.Sending.{added_also, added_by, entered_all, AreFirst}
+use Rattle.signed.specs.Sending.{added_also, added_by, chain_in, entered_all, AreFirst}
 use Rattle.signed.proofs.Adding.{at_the_end}
 use Rattle.signed.proofs.Passes.{added_longer, passes_same}
 
@@ -42,12 +44,12 @@ module _ (n k g earlier : ℕ) (chains : List Chain) (relay : Relay) (seen : Lis
   -- a chain that brings nothing new
   pub passing_over : next ≡ suc place → slice_get chains place ≡ Some ch → (counts k g ch && not (on known ch.order)) ≡ false →
       IsPassing n k g earlier chains relay seen before place known entries → IsPassing n k g earlier chains relay seen before next known entries
-  passing_over step at no p =
+  passing_over step at idle p =
       let rest = drop (suc place) chains in
       let cut = drop_at chains place ch at in
-      let orders : added_by k g known (ch ∷ rest) ≡ added_by k g known rest = ap (λ (xs : List ℕ). added_by k g xs rest) (none (counts k g ch) (on known ch.order) no) in
+      let orders : added_by k g known (ch ∷ rest) ≡ added_by k g known rest = ap (λ (xs : List ℕ). added_by k g xs rest) (none (counts k g ch) (on known ch.order) idle) in
       let over : passes n k g place known (ch ∷ rest) ≡ passes n k g (suc place) known rest =
-      ap (λ (b : Bool). cond b (Pass place (bits_but n (ch.signers ++ g ∷ [])) ∷ passes n k g (suc place) (ch.order ∷ known) rest) (passes n k g (suc place) known rest)) no in
+      ap (λ (b : Bool). cond b (Pass place (bits_but n (ch.signers ++ g ∷ [])) ∷ passes n k g (suc place) (ch.order ∷ known) rest) (passes n k g (suc place) known rest)) idle in
       subst (λ (j : ℕ). IsPassing n k g earlier chains relay seen before j known entries) (sym step) (record {
         added = sym orders ∙ (ap (added_by k g known) (sym cut) ∙ p.added);
         entered = ap (entered_all relay entries) (sym over) ∙ (ap (λ (xs : List Chain). entered_all relay entries (passes n k g place known xs)) (sym cut) ∙ p.entered);
@@ -103,3 +105,52 @@ pub passing_last : (n k g earlier : ℕ) (chains : List Chain) (relay : Relay) (
 passing_last n k g earlier chains relay seen before place known entries end p =
     let none : drop place chains ≡ [] = drop_of_length-le chains end in
     ap (λ (xs : List Chain). entered_all relay entries (passes n k g place known xs)) (sym none) ∙ p.entered
+
+both_hold : (a b c d : Bool) → c ≡ a → c ≡ true → d ≡ b → d ≡ false → (a && not b) ≡ true
+both_hold a b c d e f h k = (λ i. (sym e ∙ f) i && not ((sym h ∙ k) i))
+
+not_first : (a b c : Bool) → c ≡ a → c ≡ false → (a && not b) ≡ false
+not_first a b c e f = ap (λ (x : Bool). x && not b) (sym e ∙ f)
+
+not_second : (a b d : Bool) → d ≡ b → d ≡ true → (a && not b) ≡ false
+not_second a b d h k = ap (λ (x : Bool). a && not x) (sym h ∙ k) ∙ by a
+  where
+    by : (x : Bool) → (x && false) ≡ false
+    by true = refl
+    by false = refl
+
+-- a chain that was read
+pub chain_at : (o : Option (Bor Chain)) (b : Bor Chain) (x : Option Chain) → chain_in o ≡ x → o ≡ Some b → x ≡ Some b.now
+chain_at o b x read is = sym read ∙ ap chain_in is
+
+module _ (n k g earlier : ℕ) (chains : List Chain) (relay : Relay) (seen : List ℕ) (before : List Entry) (place : ℕ) (known : List ℕ) (entries : List Entry) (ch : Chain) where
+  -- it does not count
+  pub uncounted : (counted : Bool) → slice_get chains place ≡ Some ch → counted ≡ counts k g ch → counted ≡ false →
+      IsPassing n k g earlier chains relay seen before place known entries → IsPassing n k g earlier chains relay seen before (place + 1) known entries
+  uncounted counted at e f p =
+      passing_over n k g earlier chains relay seen before place (place + 1) known entries ch (omega arith) at (not_first (counts k g ch) (on known ch.order) counted e f) p
+
+  -- its order is known
+  pub known_already : (among : Bool) (kept : List ℕ) (order : ℕ) → slice_get chains place ≡ Some ch → among ≡ on kept order → kept ≡ known → order ≡ ch.order → among ≡ true →
+      IsPassing n k g earlier chains relay seen before place known entries → IsPassing n k g earlier chains relay seen before (place + 1) known entries
+  known_already among kept order at e same is f p =
+      passing_over n k g earlier chains relay seen before place (place + 1) known entries ch (omega arith) at (not_second (counts k g ch) (on known ch.order) among (e ∙ (λ i. on (same i) (is i))) f) p
+
+  -- it is passed on
+  pub passed_on_also : (counted among : Bool) (kept orders : List ℕ) (order order2 bits : ℕ) (there : Relay) (more : List Entry) → slice_get chains place ≡ Some ch → counted ≡ counts k g ch → counted ≡ true →
+      among ≡ on kept order → kept ≡ known → order ≡ ch.order → among ≡ false → there ≡ relay → bits ≡ bits_but n (ch.signers ++ g ∷ []) → more ≡ entered there entries (Pass place bits) → order2 ≡ ch.order →
+      ((xs : List ℕ) → AreFirst known xs → AreFirst orders (added_also xs order2)) → length (added_by k g seen (drop earlier chains)) ≤ 8 →
+      IsPassing n k g earlier chains relay seen before place known entries → IsPassing n k g earlier chains relay seen before (place + 1) orders more
+  passed_on_also counted among kept orders order order2 bits there more at e f h same is l relays all entering is2 firsts few p =
+      let entries_are : more ≡ entered relay entries (Pass place (bits_but n (ch.signers ++ g ∷ []))) = entering ∙ (λ i. entered (relays i) entries (Pass place (all i))) in
+      subst (λ (es : List Entry). IsPassing n k g earlier chains relay seen before (place + 1) orders es) (sym entries_are)
+      (passing_on n k g earlier chains relay seen before place (place + 1) known entries ch orders (omega arith) at (both_hold (counts k g ch) (on known ch.order) counted among e f (h ∙ (λ i. on (same i) (is i))) l)
+      (λ xs first. subst (λ (o : ℕ). AreFirst orders (added_also xs o)) is2 (firsts xs first)) few p)
+
+-- there is a chain at each place
+pub some_there : (o : Option (Bor Chain)) (chains : List Chain) (place : ℕ) → chain_in o ≡ slice_get chains place → o ≡ None → place < length chains → ⊥
+some_there o chains place read is inside =
+    let there = some_at chains place inside in
+    let none : slice_get chains place ≡ None = sym read ∙ ap chain_in is in
+    let clash : Some there.0 ≡ None = sym there.1 ∙ none in
+    cc

@@ -44,10 +44,10 @@ chains_held n sent g rows =
     ap (flat_map (received_in g)) (sym (take-length sent)) ∙ (sym (held_to n sent g (length sent) rows (omega arith)) ∙ sym (held_is n sent g))
 
 -- of what is held behind a round the front was held before it, and the rest came in it
-pub record IsHeldOf (n : ℕ) (sent : Sent) (r g : ℕ) (held_chains : List Chain) (earlier : ℕ) : Type 0 where
+pub record IsHeldOf (n : ℕ) (sent : Sent) (r g : ℕ) (held_chains : List Chain) (before : ℕ) : Type 0 where
   pub chains : held_chains ≡ held_behind n sent g
-  pub earlier : earlier ≡ length (held n (delivered sent) (suc r) g)
-  pub last : drop earlier held_chains ≡ came n (delivered sent) (suc r) g
+  pub earlier : before ≡ length (held n (delivered sent) (suc r) g)
+  pub last : drop before held_chains ≡ came n (delivered sent) (suc r) g
 
 last_came : (n : ℕ) (sent : Sent) (r g : ℕ) → length sent ≡ suc r → drop (length (held n (delivered sent) (suc r) g)) (held_behind n sent g) ≡ came n (delivered sent) (suc r) g
 unfolding held

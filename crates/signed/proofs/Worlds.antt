@@ -16,7 +16,7 @@ use Rattle.round.proofs.Lists.{some_at}
 use Rattle.world.specs.declared.event.Event.{Event}
 use Rattle.world.specs.Kind.{loyal_letter}
 use Rattle.world.specs.Safety.{IsMade, IsLetterIn}
-use Rattle.world.proofs.Campaigns.{AreCampaigns}
+use Rattle.world.specs.Campaigns.{IsCampaign, AreCampaigns}
 use Rattle.world.proofs.Arranged.{snoc}
 use Rattle.world.proofs.Kept.{Tells}
 use Rattle.world.proofs.Standing.{standing}

@@ -9,7 +9,7 @@ use Rattle.round.specs.Letters.{Letter}
 use Rattle.round.specs.Contexts.{context_bytes, IsToldTo, shape_told, tells_oral, faithful_letter_with}
 use Rattle.round.specs.Runs.{IsLetter}
 use Rattle.round.proofs.Contexts.{bytes_context, shape_is}
-use Rattle.world.proofs.Campaigns.{TellRelays}
+use Rattle.world.specs.Campaigns.{TellRelays}
 use Rattle.signed.specs.Chains.{Chain}
 use Rattle.signed.specs.Contexts.{signed_context_numbers, signer_bits}
 use Rattle.signed.specs.Entries.{Entry}
@@ -42,13 +42,13 @@ letter_is s sent g is h lt le =
     let rounds = rounds_in s sent h in
     let told = told_in s sent g h in
     let within : length closed ≤ s.bound = omega arith in
-    let not : tells_oral (context_behind s sent g) → ⊥ = λ spoken. not_oral s closed g (subst (λ (c : List ℕ). tells_oral c) told spoken) in
+    let never : tells_oral (context_behind s sent g) → ⊥ = λ spoken. not_oral s closed g (subst (λ (c : List ℕ). tells_oral c) told spoken) in
     record {
       context = context_whole s sent g;
       own = subst (λ (k : ℕ). IsToldTo g (suc k) (context_behind s sent g)) (sym rounds) (subst C (sym told) (tell.own closed g lt within));
       shape = (λ i. shape_of s g (suc (rounds i))) ∙ (tell.shape closed g lt within ∙ (λ i. shape_told g (suc (sym rounds i)) (sym told i)));
-      kind = λ spoken. absurd (not spoken);
-      run = (refl, (refl, (refl, (refl, λ spoken. absurd (not spoken)))));
+      kind = λ spoken. absurd (never spoken);
+      run = (refl, (refl, (refl, (refl, λ spoken. absurd (never spoken)))));
     }
 
 -- a letter of these parts is his

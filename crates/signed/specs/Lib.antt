@@ -12,4 +12,5 @@ pub mod Laws
 pub mod Traitors
 pub mod Chronicle
 pub mod Verdicts
+pub mod Promises
 pub mod Plays

@@ -13,9 +13,11 @@ use Rattle.round.specs.Letters.{Letter}
 use Rattle.round.specs.Contexts.{context_bytes, faithful_letter_with}
 use Rattle.round.specs.Activation.{started}
 use Rattle.world.specs.declared.event.Event.{Event}
-use Rattle.world.specs.Closing.{Draft, Begun, Whole, Missing}
+use Rattle.world.specs.declared.draft.Draft.{Draft}
+use Rattle.world.specs.declared.draft.Draft.TheVariants.{Begun, Whole, Missing}
 use Rattle.world.specs.Kind.{each, accesses_of}
-use Rattle.world.specs.Part.{Part, Acting, Silent, Posted}
+use Rattle.world.specs.declared.part.Part.{Part}
+use Rattle.world.specs.declared.part.Part.TheVariants.{Acting, Silent, Posted}
 use Rattle.world.specs.Reached.{world_of}
 use Rattle.signed.specs.Chains.{Chain}
 use Rattle.signed.specs.Accepted.{counts}
@@ -139,5 +141,5 @@ signatures n c = map (λ g. record { general = g; commander = c }) (generals n)
 pub record IsSignedHeld (s : Scenario) (closed : List (List Letter)) (board : RecordedBoard) (opened : ℕ) (parts : List Part) (full : Bool) (sent : Sent) (signers : List Signature) : Type 0 where
   pub reached : (events : List Event) × (played s events ≡ world_of s closed board opened parts full)
   pub opening : board.opening ≡ s.board
-  pub sent : sent ≡ sent_in s closed
-  pub signers : signers ≡ signatures s.generals s.commander
+  pub chains : sent ≡ sent_in s closed
+  pub signing : signers ≡ signatures s.generals s.commander

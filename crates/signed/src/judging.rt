@@ -5,7 +5,7 @@ ghost use Rattle.world.specs.Agreement.{IsFinished};
 
 use crate::acceptance::{accepted, decided};
 use crate::chronicle::SignedChronicle;
-use crate::world::SignedWorld;
+use crate::signed_world::SignedWorld;
 use arrayvec::ArrayVec;
 use round::Scenario;
 use world::Verdict;

@@ -15,9 +15,11 @@ mod judging;
 mod laws;
 mod letter;
 mod outgoing;
+mod player;
+mod playing;
 mod sets;
+mod signed_world;
 mod signer;
-mod world;
 
 pub use chain::Chain;
 pub use chronicle::SignedChronicle;
@@ -29,5 +31,6 @@ pub use laws::{
     signed_lists_are_complete, signed_refusals_change_nothing, signed_runs_are_accounted,
     signed_runs_are_replays, signed_verdicts_mean, signed_worlds_agree, whatever_traitors_write,
 };
+pub use player::{play_signed, replay_signed};
+pub use signed_world::SignedWorld;
 pub use signer::Signer;
-pub use world::SignedWorld;

@@ -1,7 +1,7 @@
 -- One part more.
 use Rattle.std.proofs.Common.{ap, ◌∷◌, []}
 use Rattle.round.specs.Scenario.{program_of}
-use Rattle.world.specs.Part.{Part}
+use Rattle.world.specs.declared.part.Part.{Part}
 use Rattle.world.proofs.Holding.{more_each}
 use Rattle.signed.specs.Sending.{begins_behind}
 use Rattle.signed.proofs.beginnings.beginnings.Goals as goal

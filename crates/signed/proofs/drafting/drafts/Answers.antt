@@ -1,7 +1,7 @@
 -- One draft more.
 use Rattle.std.proofs.Common.{ap, ◌∷◌, []}
 use Rattle.std.specs.Prelude.{slice_get}
-use Rattle.world.specs.Closing.{Draft}
+use Rattle.world.specs.declared.draft.Draft.{Draft}
 use Rattle.world.proofs.Holding.{more_each}
 use Rattle.signed.specs.Sending.{draft_behind}
 use Rattle.signed.proofs.drafting.drafts.Goals as goal
