@@ -1,22 +1,16 @@
 -- What holds of the chronicle of a complete list of events.
-use Rattle.std.proofs.Common.{◌≡◌, ℕ, suc, List, [], ◌++◌, length, true, refl, sym, ap, subst, ◌∙◌}
-use Rattle.std.specs.Prelude.{slice_get, Some, None}
+use Rattle.std.proofs.Common.{◌≡◌, ℕ, suc, List, length, sym, ap, subst, ◌∙◌}
 use Rattle.std.proofs.lemmas.List.{length-map}
 use Rattle.label.specs.Lieutenants.{lieutenants, AgreeInList}
-use Rattle.board.specs.Board.{Access, IsLegal}
-use Rattle.round.specs.Activation.{Activation}
 use Rattle.round.specs.Letters.{Letter}
 use Rattle.round.specs.Scenario.{Scenario, IsScenario, is_traitor}
 use Rattle.world.specs.declared.event.Event.{Event}
 use Rattle.world.specs.declared.verdict.Verdict.{Verdict}
 use Rattle.world.specs.Agreement.{IsFinished}
 use Rattle.world.specs.Chronicle.{Chronicle}
-use Rattle.world.specs.Kind.{World, opening}
-use Rattle.world.specs.KindAccounted.{AreAccounted}
 use Rattle.world.specs.KindLists.{IsComplete}
-use Rattle.world.specs.declared.part.Part.TheVariants.{Acting}
 use Rattle.world.specs.Promises.{IsWellUnderBound}
-use Rattle.world.proofs.Punctual.{punctual_full, run_scenario}
+use Rattle.world.proofs.Punctual.{punctual_full}
 use Rattle.world.proofs.Replaying.{runs_are_accounted}
 use Rattle.world.proofs.Untrapped.{activations_are_safe}
 use Rattle.signed.specs.Accepted.{decided}

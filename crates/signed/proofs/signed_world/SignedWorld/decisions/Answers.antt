@@ -1,5 +1,5 @@
 -- Lieutenant by lieutenant.
-use Rattle.std.proofs.Common.{◌≡◌, ◌≢◌, ◌<◌, ◌≤◌, ℕ, suc, length, sym, ap, subst, ◌∙◌, arith, lit<}
+use Rattle.std.proofs.Common.{◌≡◌, ◌≢◌, ◌<◌, ◌≤◌, length, sym, ap, subst, ◌∙◌, arith, lit<}
 use Rattle.round.specs.Scenario.{IsScenario}
 use Rattle.world.specs.Kind.{World}
 use Rattle.signed.specs.Accepted.{decided}
