@@ -1,5 +1,5 @@
 -- What is told, relayed, written and begun behind what the closed letters sent is what the kind says of these letters.
-use Rattle.std.proofs.Common.{◌≡◌, ℕ, zero, suc, ◌+◌, ◌<◌, List, [], ◌∷◌, ◌++◌, length, map, cond, All, refl, sym, ap, subst, ◌∙◌, arith, Option, Some, None}
+use Rattle.std.proofs.Common.{◌≡◌, ℕ, zero, suc, List, [], ◌∷◌, ◌++◌, length, map, cond, refl, ap, arith, Option, Some, None}
 use Rattle.std.specs.Prelude.{nat_lt}
 use Rattle.std.proofs.lemmas.List.Elements.{All-append}
 use Rattle.insn.specs.declared.insn.Insn.{Insn}
@@ -11,7 +11,6 @@ use Rattle.round.specs.Activation.{started}
 use Rattle.world.specs.declared.part.Part.{Part}
 use Rattle.world.specs.declared.part.Part.TheVariants.{Acting}
 use Rattle.world.specs.Kind.{each, begins, loyal_letter}
-use Rattle.signed.specs.Chains.{Chain}
 use Rattle.signed.specs.Contexts.{signed_context_numbers, signer_bits}
 use Rattle.signed.specs.Entries.{Dispatch}
 use Rattle.signed.specs.Kind.{signed_kind, signed_context, signed_relay}

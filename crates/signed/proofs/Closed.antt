@@ -1,21 +1,20 @@
 -- What a signed world keeps, and what its events leave.
-use Rattle.std.proofs.Common.{◌≡◌, ℕ, zero, suc, ◌+◌, ◌-◌, ◌<◌, ◌≤◌, List, [], ◌∷◌, ◌++◌, length, drop, Bool, true, refl, sym, ap, subst, ◌∙◌, Result, Ok, Err, arith}
+use Rattle.std.proofs.Common.{◌≡◌, ℕ, suc, ◌<◌, ◌≤◌, List, [], ◌∷◌, ◌++◌, length, drop, Bool, true, refl, sym, ap, subst, ◌∙◌, Result, arith}
 use Rattle.std.specs.Prelude.{OnOk, OnErr, slice_get, replicate, ◌&&◌}
 use Rattle.std.specs.List.{list_all}
 use Rattle.board.specs.Board.{Access}
 use Rattle.board.specs.Ledger.{RecordedBoard}
 use Rattle.round.specs.Scenario.{Scenario, IsScenario}
 use Rattle.round.specs.Letters.{Letter}
-use Rattle.world.specs.declared.event.Event.{Event}
 use Rattle.world.specs.declared.event.Event.TheVariants.{Tick, Post, Close}
 use Rattle.world.specs.Agreement.{IsFinished}
-use Rattle.world.specs.Kind.{World, opening, happen, run}
+use Rattle.world.specs.Kind.{World, opening, happen}
 use Rattle.world.specs.declared.part.Part.{Part}
 use Rattle.world.specs.Part.{owes_no_letter}
 use Rattle.world.specs.declared.draft.Draft.{Draft}
 use Rattle.world.specs.Closing.{letters_from, AreDraftsOf}
 use Rattle.signed.specs.Entries.{Dispatch}
-use Rattle.signed.specs.Kind.{signed_kind, played}
+use Rattle.signed.specs.Kind.{signed_kind}
 use Rattle.world.specs.KindHeld.{world_of, IsHeld, AheadTo, ticked_of, posted_of, letters_held, beginnings}
 use Rattle.signed.specs.Sending.{IsSent, IsSignedHeld, beginnings_behind, drafts_behind, sent_drafted, signatures}
 use Rattle.signed.specs.Sent.{Sent, round_sent, sent_in}

@@ -3,7 +3,6 @@ use Rattle.std.proofs.Common.{◌≡◌, ◌≢◌, ℕ, zero, suc, ◌+◌, ◌
 use Rattle.std.specs.Prelude.{slice_get, find, ◌==◌}
 use Rattle.std.specs.List.{range_with_len}
 use Rattle.std.proofs.lemmas.Bool.{cases_eq, ne_eqb, eq-eqb}
-use Rattle.label.specs.Labels.{generals}
 use Rattle.board.specs.Board.{Access}
 use Rattle.round.specs.Scenario.{Scenario}
 use Rattle.round.specs.Letters.{Letter, letter_of}
@@ -11,9 +10,9 @@ use Rattle.round.specs.Activation.{Activation}
 use Rattle.round.specs.Running.{letter_left}
 use Rattle.round.specs.Runs.{IsLetter}
 use Rattle.world.specs.declared.draft.Draft.{Draft}
-use Rattle.world.specs.declared.draft.Draft.TheVariants.{Begun, Whole, Missing}
+use Rattle.world.specs.declared.draft.Draft.TheVariants.{Begun}
 use Rattle.world.specs.Closing.{letter_from, letters_from, AreDraftsOf}
-use Rattle.world.specs.Kind.{each, accesses_of, loyal_letter}
+use Rattle.world.specs.Kind.{each, accesses_of}
 use Rattle.world.specs.declared.part.Part.{Part}
 use Rattle.world.specs.declared.part.Part.TheVariants.{Acting, Silent, Posted}
 use Rattle.world.proofs.Listing.{each-get, each-get_only, each-length}

@@ -16,7 +16,7 @@ use Rattle.signed.specs.Chains.{Chain, orders}
 use Rattle.signed.specs.Entries.{received}
 use Rattle.signed.specs.Kind.{accepted_in}
 use Rattle.signed.specs.Sending.{AreFirst, AreRows}
-use Rattle.signed.specs.Sent.{Sent, delivered, sent_by, sent_in}
+use Rattle.signed.specs.Sent.{Sent, delivered, sent_in}
 use Rattle.signed.proofs.Behind.{rows_in}
 use Rattle.signed.proofs.Making.{sent_past}
 

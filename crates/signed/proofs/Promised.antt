@@ -1,28 +1,29 @@
 -- What holds of the chronicle of a complete list of events.
-use Rattle.std.proofs.Common.{◌≡◌, ℕ, suc, List, [], ◌++◌, length, true, refl, sym, ap, subst, ◌∙◌}
-use Rattle.std.specs.Prelude.{slice_get, Some, None}
+use Rattle.std.proofs.Common.{◌≡◌, ℕ, suc, Bool, List, length, sym, ap, subst, ◌∙◌}
 use Rattle.std.proofs.lemmas.List.{length-map}
 use Rattle.label.specs.Lieutenants.{lieutenants, AgreeInList}
-use Rattle.board.specs.Board.{Access, IsLegal}
-use Rattle.round.specs.Activation.{Activation}
+use Rattle.board.specs.Ledger.{RecordedBoard}
 use Rattle.round.specs.Letters.{Letter}
 use Rattle.round.specs.Scenario.{Scenario, IsScenario, is_traitor}
 use Rattle.world.specs.declared.event.Event.{Event}
+use Rattle.world.specs.declared.part.Part.{Part}
 use Rattle.world.specs.declared.verdict.Verdict.{Verdict}
 use Rattle.world.specs.Agreement.{IsFinished}
 use Rattle.world.specs.Chronicle.{Chronicle}
-use Rattle.world.specs.Kind.{World, opening}
-use Rattle.world.specs.KindAccounted.{AreAccounted}
+use Rattle.world.specs.Kind.{World}
+use Rattle.world.specs.KindHeld.{world_of}
 use Rattle.world.specs.KindLists.{IsComplete}
-use Rattle.world.specs.declared.part.Part.TheVariants.{Acting}
 use Rattle.world.specs.Promises.{IsWellUnderBound}
-use Rattle.world.proofs.Punctual.{punctual_full, run_scenario}
+use Rattle.world.proofs.Punctual.{punctual_full}
 use Rattle.world.proofs.Replaying.{runs_are_accounted}
 use Rattle.world.proofs.Untrapped.{activations_are_safe}
 use Rattle.signed.specs.Accepted.{decided}
 use Rattle.signed.specs.Chronicle.{signed_chronicle_of, signed_decisions, signed_verdict_of}
 use Rattle.signed.specs.Kind.{signed_kind, played, accepted_in}
 use Rattle.signed.specs.Promises.{AgreeUnderSignedBound, AreSafeThroughout, AreWhole, IsSignedVerdictOn}
+use Rattle.signed.specs.Sending.{IsSignedHeld}
+use Rattle.signed.specs.Sent.{Sent}
+use Rattle.signed.specs.Signers.{Signature}
 use Rattle.signed.proofs.Concluding.{same_scenario}
 use Rattle.signed.proofs.Verdicts.{proved_verdicts}
 use Rattle.signed.proofs.Worlds.{signed_campaigns}
@@ -38,6 +39,15 @@ pub safe_throughout : (s : Scenario) (events : List Event) → IsScenario s → 
 safe_throughout s events is before after g a whole at =
     let safe = activations_are_safe signed_kind signed_campaigns in
     record { untrapped = λ cause on. safe.untrapped s before g a cause is at on; fewer = safe.fewer s before g a is at }
+
+-- in a held world that is finished the decisions agree
+pub held_agree : (s : Scenario) (closed : List (List Letter)) (k : RecordedBoard) (opened : ℕ) (ps : List Part) (full : Bool) (sent : Sent) (signers : List Signature) (w : World) (xs : List ℕ) → IsScenario s → IsSignedHeld s closed k opened ps full sent signers →
+    world_of s closed k opened ps full ≡ w → xs ≡ signed_decisions w.scenario w.closed → IsFinished w → AgreeUnderSignedBound w.scenario xs
+held_agree s closed k opened ps full sent signers w xs is h same decided_all done =
+    let Q : World → Type 0 = λ v. IsFinished v → AgreeUnderSignedBound s (signed_decisions s v.closed) in
+    let A : World → Type 0 = λ v. IsFinished v → AgreeUnderSignedBound v.scenario (signed_decisions v.scenario v.closed) in
+    let here : A (world_of s closed k opened ps full) = subst Q h.reached.1 (λ over bound. proved_verdicts.decided s h.reached.0 is bound over) in
+    subst (λ (ds : List ℕ). AgreeUnderSignedBound w.scenario ds) (sym decided_all) (subst A same here done)
 
 decisions_long : (s : Scenario) (closed : List (List Letter)) → length (signed_decisions s closed) ≡ length (lieutenants s.generals s.commander)
 unfolding signed_decisions

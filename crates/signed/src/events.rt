@@ -8,8 +8,8 @@ ghost use Rattle.world.specs.Kind.{opening, happen, refusal, run};
 
 use crate::beginnings::beginnings;
 use crate::drafting::{drafts, sendings};
-use crate::signer::Signer;
 use crate::signed_world::SignedWorld;
+use crate::signer::Signer;
 use board::Board;
 use round::{Round, Scenario};
 use std::alloc::{AllocError, Global};

@@ -1,7 +1,6 @@
 -- One signer more.
-use Rattle.std.proofs.Common.{◌≡◌, ℕ, List, ◌∷◌, [], ◌++◌, sym, ap, ◌∙◌, arith}
+use Rattle.std.proofs.Common.{ℕ, ◌∷◌, [], ◌++◌, sym, ◌∙◌, arith}
 use Rattle.std.proofs.lemmas.List.FromFn.{map-range_with_len_more}
-use Rattle.signed.specs.Signers.{Signature}
 use Rattle.signed.proofs.events.signers.Goals as goal
 
 pub loop-general-preserved : goal.loop-general-preserved

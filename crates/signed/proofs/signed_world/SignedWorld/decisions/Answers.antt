@@ -1,5 +1,5 @@
 -- Lieutenant by lieutenant.
-use Rattle.std.proofs.Common.{◌≡◌, ◌≢◌, ◌<◌, ◌≤◌, ℕ, suc, length, sym, ap, subst, ◌∙◌, arith, lit<}
+use Rattle.std.proofs.Common.{◌≡◌, ◌≢◌, ◌<◌, ◌≤◌, length, sym, ap, subst, ◌∙◌, arith, lit<}
 use Rattle.round.specs.Scenario.{IsScenario}
 use Rattle.world.specs.Kind.{World}
 use Rattle.signed.specs.Accepted.{decided}
@@ -7,6 +7,7 @@ use Rattle.signed.specs.Chronicle.{signed_decisions}
 use Rattle.signed.specs.Kind.{accepted_in}
 use Rattle.signed.proofs.Closed.{few_rounds, sent_long}
 use Rattle.signed.proofs.Judged.{all_decided, commander_decides, few_decided, lieutenant_decides, one_decides}
+use Rattle.signed.proofs.Promised.{held_agree}
 use Rattle.signed.proofs.signed_world.SignedWorld.decisions.Goals as goal
 use Rattle.signed.proofs.signed_world.SignedWorld.decisions.Goals.{then-general-commander, else-general-commander}
 
@@ -40,9 +41,14 @@ loop-general-preserved c =
       | else-general-commander t ↦ rw t.decisions-is (commander_decides w.scenario w.closed g c.loop-general.decisions.items c.loop-general.invariant lt (t.if-general-commander.false ∙ commander))
     ]
 
-pub returns : goal.returns
+pub returns-clause-values : goal.returns-clause-values
 unfolding signed_decisions
-returns c =
+returns-clause-values c =
     let w = c.args.self.now in
     let past : w.scenario.generals ≤ c.loop-general.general = let e = c.generals-general-end.ensures.same ∙ ap (λ (v : World). v.scenario.generals) c.self.view_is in let t = c.loop-general-test.false in omega arith in
     all_decided w.scenario w.closed c.loop-general.general c.loop-general.decisions.items c.loop-general.invariant past
+
+pub returns-clause-agree : goal.returns-clause-agree
+returns-clause-agree c =
+    let s = c.self.inside in
+    held_agree s.scenario s.closed.items s.board s.opened s.parts.items s.full s.sent.items s.signers.items c.args.self.now c.loop-general.decisions.items c.generals-general-end.ensures.whole c.self.invariant c.self.view_is (returns-clause-values c)

@@ -1,5 +1,5 @@
 -- The world before any event.
-use Rattle.std.proofs.Common.{◌≡◌, List, [], true, ap, sym, subst, ◌∙◌}
+use Rattle.std.proofs.Common.{List, true, ap, sym, subst, ◌∙◌}
 use Rattle.round.specs.Letters.{Letter}
 use Rattle.world.specs.KindHeld.{world_of}
 use Rattle.signed.specs.Sending.{signatures, IsSignedHeld}
