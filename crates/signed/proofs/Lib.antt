@@ -35,3 +35,4 @@ pub mod Onward
 pub mod Duties
 pub mod Written
 pub mod Marks
+pub mod Reading
