@@ -23,7 +23,7 @@ sending-requires-clause-own c =
     let same = c.generals-general-end.ensures.same in
     let inside = c.loop-general-test.true in
     let in_range : c.loop-general.general < s.generals = omega arith in
-    signer_at s.generals s.commander c.loop-general.general c.from-in-loop-general.result c.args.signers.now c.index-signers-from.result c.requires.signers c.from-in-loop-general.ensures in_range (?)
+    signer_at s.generals s.commander c.loop-general.general c.from-in-loop-general.result c.args.signers.now c.index-signers-from.result c.requires.signers c.from-in-loop-general.ensures in_range c.index-signers-from.is
 
 pub loop-general-preserved : goal.loop-general-preserved
 loop-general-preserved c =
