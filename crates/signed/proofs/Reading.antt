@@ -1,10 +1,9 @@
 -- What stands at a place that was read.
-use Rattle.std.proofs.Common.{◌≡◌, ℕ, ◌<◌, ◌≤◌, List, map, length, get_or, refl, sym, ap, ◌∙◌, arith, Option, None, Some}
+use Rattle.std.proofs.Common.{◌≡◌, ℕ, ◌<◌, List, length, get_or, refl, sym, ap, ◌∙◌, Option, None, Some}
 use Rattle.std.specs.Prelude.{slice_get, option_copied}
 use Rattle.std.specs.Borrow.{Bor}
 use Rattle.std.specs.Slice.{IsItemAt}
 use Rattle.std.proofs.lemmas.Option.{slice_get_past, slice_get_read}
-use Rattle.label.specs.Labels.{generals}
 use Rattle.world.specs.declared.draft.Draft.{Draft}
 use Rattle.world.specs.declared.part.Part.{Part}
 use Rattle.signed.specs.Sending.{draft_in, part_in, signatures}

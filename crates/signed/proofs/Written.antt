@@ -1,18 +1,17 @@
 -- A loyal general's letter by what was sent is a letter.
-use Rattle.std.proofs.Common.{◌≡◌, ℕ, suc, ◌+◌, ◌-◌, ◌*◌, ◌<◌, ◌≤◌, true, List, [], ◌∷◌, map, length, refl, sym, ap, subst, ◌∙◌, arith, flat_map, Option, None}
+use Rattle.std.proofs.Common.{◌≡◌, ℕ, suc, ◌-◌, ◌*◌, ◌<◌, ◌≤◌, true, List, [], ◌∷◌, map, length, refl, sym, ap, subst, ◌∙◌, arith, flat_map, Option, None}
 use Rattle.semantics.specs.Relay.{Relay, IsContext, signed}
 use Rattle.label.specs.Relay.{IsShape}
 use Rattle.insn.specs.declared.insn.Insn.{Insn}
 use Rattle.board.specs.Board.{Access}
 use Rattle.outbox.specs.Contents.{Contents}
 use Rattle.round.specs.Scenario.{Scenario, IsScenario, shape_of}
-use Rattle.round.specs.Letters.{Letter}
 use Rattle.round.specs.Contexts.{context_bytes, IsToldTo, shape_told, tells_oral}
 use Rattle.round.specs.Runs.{IsLetter}
 use Rattle.round.proofs.Contexts.{bytes_context, shape_is}
 use Rattle.signed.specs.Chains.{Chain}
 use Rattle.signed.specs.Contexts.{signed_context_numbers, signer_bits}
-use Rattle.signed.specs.Kind.{signed_kind, signed_context, played}
+use Rattle.signed.specs.Kind.{signed_context, played}
 use Rattle.signed.specs.Loyal.{loyal_entries}
 use Rattle.signed.specs.Sent.{Sent, delivered, held_behind, sent_in}
 use Rattle.signed.specs.Sending.{context_behind, relay_behind, letter_behind, held_of, AreRows, IsSent}

@@ -1,10 +1,8 @@
 -- His relay has the signers of the chains held.
-use Rattle.std.proofs.Common.{◌≡◌, ◌+◌, ℕ, suc, List, length, map, sym, ap, ◌∙◌, arith}
+use Rattle.std.proofs.Common.{◌≡◌, ◌+◌, length, map, ap, ◌∙◌, arith}
 use Rattle.std.proofs.lemmas.Result.{IfOk-weaker}
 use Rattle.semantics.specs.Relay.{signed}
-use Rattle.label.specs.declared.shape.Shape.{Shape}
 use Rattle.outbox.specs.Contents.{Contents}
-use Rattle.round.specs.Scenario.{shape_of}
 use Rattle.signed.specs.Contexts.{signer_bits}
 use Rattle.signed.specs.Sending.{relay_behind, HeldChains}
 use Rattle.signed.proofs.Written.{relay_is}

@@ -1,9 +1,9 @@
 -- By what he holds, and what he has entered.
-use Rattle.std.proofs.Common.{◌≡◌, List, ap, sym, ◌∙◌}
+use Rattle.std.proofs.Common.{◌≡◌, List, ◌∙◌}
 use Rattle.std.specs.Prelude.{slice_get}
 use Rattle.std.proofs.lemmas.Result.{IfOk-weaker}
 use Rattle.signed.specs.Entries.{Dispatch, dispatched}
-use Rattle.signed.specs.Sending.{entries_drafted, draft_in, part_in, HeldChains}
+use Rattle.signed.specs.Sending.{entries_drafted, draft_in, part_in}
 use Rattle.signed.specs.Sent.{held_behind}
 use Rattle.signed.proofs.Reading.{draft_at, part_at}
 use Rattle.signed.proofs.Receipts.{sent_rows, dispatched_is}

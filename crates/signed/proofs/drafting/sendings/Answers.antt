@@ -1,5 +1,5 @@
 -- One general more.
-use Rattle.std.proofs.Common.{◌≡◌, ◌<◌, ◌≤◌, ℕ, length, ap, ◌∙◌, arith}
+use Rattle.std.proofs.Common.{◌<◌, length, ap, ◌∙◌, arith}
 use Rattle.std.specs.Prelude.{slice_get}
 use Rattle.signed.specs.Entries.{dispatched}
 use Rattle.signed.specs.Sending.{entries_drafted}

@@ -1,5 +1,5 @@
 -- His context, his relay, and what he enters.
-use Rattle.std.proofs.Common.{◌≡◌, ◌+◌, ℕ, length, sym, subst, ◌∙◌, arith}
+use Rattle.std.proofs.Common.{◌+◌, length, sym, subst, ◌∙◌, arith}
 use Rattle.round.specs.Letters.{Letter}
 use Rattle.round.specs.Runs.{IsLetter}
 use Rattle.signed.proofs.Receipts.{sent_rows}
