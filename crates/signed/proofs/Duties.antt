@@ -1,16 +1,16 @@
 -- What a loyal general has to enter finds room.
-use Rattle.std.proofs.Common.{◌≡◌, ◌≢◌, ℕ, zero, suc, ◌+◌, ◌<◌, ◌≤◌, Bool, true, false, not, cond, ◌&&◌, List, [], ◌∷◌, ◌++◌, map, drop, length, refl, sym, ap, subst, ◌∙◌, arith, length-append, Option, Some, None}
+use Rattle.std.proofs.Common.{◌≡◌, ◌≢◌, ℕ, zero, suc, ◌+◌, ◌<◌, ◌≤◌, Bool, true, false, not, cond, List, [], ◌∷◌, drop, length, refl, sym, ap, ◌∙◌, arith, length-append, Option, Some, None}
 use Rattle.std.specs.Prelude.{filter, slice_get, nat_le, is_some, ◌==◌}
 use Rattle.std.proofs.lemmas.Bool.{and_parts, not-true, ne_eqb, eq-eqb, le-leb}
 use Rattle.std.proofs.lemmas.List.{length-map}
 use Rattle.label.specs.Labels.{on}
 use Rattle.label.proofs.Ranks.{get_right}
 use Rattle.semantics.specs.Relay.{Relay}
-use Rattle.semantics.specs.Entries.{is_sendable, entered}
+use Rattle.semantics.specs.Entries.{entered}
 use Rattle.round.specs.Scenario.{Scenario, IsScenario}
 use Rattle.signed.specs.Chains.{Chain, orders, signed_also}
 use Rattle.signed.specs.Accepted.{Deliveries, came, held, counts, counted, firsts, accepted}
-use Rattle.signed.specs.Entries.{Entry, Sign, Pass, chain_of, passed_on}
+use Rattle.signed.specs.Entries.{Entry, Sign, Pass, passed_on}
 use Rattle.signed.specs.Loyal.{bits_but, passes, loyal_entries}
 use Rattle.signed.specs.Sent.{Sent, delivered, held_behind}
 use Rattle.signed.specs.Sending.{added_by, entered_all, held_of, relay_behind, AreFirst, HeldChains, IsSent}
@@ -21,7 +21,7 @@ use Rattle.signed.proofs.Holding.{held_few}
 use Rattle.signed.proofs.Making.{IsMade}
 use Rattle.signed.proofs.Adding.{added_by_is, accepted_more}
 use Rattle.signed.proofs.Passes.{passes_count, passes_entered, taken, MayPass}
-use Rattle.signed.proofs.Receipts.{chains_held, held_last, sent_rows, sent_made, IsHeldOf}
+use Rattle.signed.proofs.Receipts.{chains_held, held_last, sent_rows, sent_made}
 use Rattle.signed.proofs.Signing.{sendable_is}
 
 prolonged : (ch : Chain) (g : ℕ) (b : Bool) → b ≡ false → is_some (cond b None (Some (signed_also ch g))) ≡ true

@@ -40,3 +40,4 @@ pub mod Drafted
 pub mod Closed
 pub mod Judged
 pub mod Promised
+pub mod Reading

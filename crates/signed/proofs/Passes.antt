@@ -1,11 +1,11 @@
 -- The orders that chains add, and the entries that pass these chains on.
-use Rattle.std.proofs.Common.{◌≡◌, ℕ, zero, suc, ◌+◌, ◌<◌, ◌≤◌, Bool, true, false, not, cond, ◌&&◌, ◌||◌, List, [], ◌∷◌, ◌++◌, map, take, drop, length, refl, sym, ap, subst, ◌∙◌, arith, length-append, Some, None}
-use Rattle.std.specs.Prelude.{filter, slice_get, nat_lt, if◌then◌else◌, ◌==◌}
+use Rattle.std.proofs.Common.{◌≡◌, ℕ, suc, ◌+◌, ◌<◌, ◌≤◌, Bool, true, false, not, cond, ◌&&◌, ◌||◌, List, [], ◌∷◌, ◌++◌, length, refl, sym, ap, subst, ◌∙◌, arith, length-append, Some}
+use Rattle.std.specs.Prelude.{filter, slice_get, if◌then◌else◌, ◌==◌}
 use Rattle.std.proofs.lemmas.Bool.{lt-ltb}
 use Rattle.std.proofs.lemmas.List.{append_assoc, append-nil}
 use Rattle.label.specs.Labels.{on}
 use Rattle.semantics.specs.Relay.{Relay}
-use Rattle.semantics.specs.Entries.{is_sendable, is_entered, entered}
+use Rattle.semantics.specs.Entries.{is_sendable, entered}
 use Rattle.signed.specs.Chains.{Chain, orders}
 use Rattle.signed.specs.Accepted.{counts, firsts}
 use Rattle.signed.specs.Entries.{Entry, Pass}

@@ -1,5 +1,5 @@
 -- The chains that came to a general, in the lists of what was sent.
-use Rattle.std.proofs.Common.{◌≡◌, ℕ, zero, suc, ◌+◌, ◌-◌, ◌<◌, ◌≤◌, List, [], ◌∷◌, ◌++◌, map, take, drop, length, get_or, refl, sym, ap, subst, ◌∙◌, arith, All, append-nil}
+use Rattle.std.proofs.Common.{◌≡◌, ℕ, zero, suc, ◌+◌, ◌-◌, ◌≤◌, List, [], ◌∷◌, ◌++◌, map, take, drop, length, get_or, refl, sym, ap, subst, ◌∙◌, arith, All, append-nil}
 use Rattle.std.specs.Prelude.{flat_map}
 use Rattle.std.proofs.Math.Seq.{take-suc, take-length, drop-append_seam}
 use Rattle.std.proofs.lemmas.Grind.{flat_map-append}
@@ -11,8 +11,8 @@ use Rattle.round.specs.Scenario.{Scenario, IsScenario}
 use Rattle.round.specs.Letters.{Letter, letter_of}
 use Rattle.signed.specs.Chains.{Chain}
 use Rattle.signed.specs.Accepted.{came, held}
-use Rattle.signed.specs.Entries.{Dispatch, Entry, dispatched, received}
-use Rattle.signed.specs.Sent.{Sent, sent_by, delivered, held_behind, sends, round_sent, sent_along, sent_in}
+use Rattle.signed.specs.Entries.{Dispatch, Entry, dispatched}
+use Rattle.signed.specs.Sent.{Sent, delivered, held_behind, sends, round_sent, sent_along, sent_in}
 use Rattle.signed.specs.Sending.{received_in, AreRows, HeldChains, held_of, IsSent}
 use Rattle.signed.specs.Kind.{played}
 use Rattle.signed.specs.Signers.{Signature}

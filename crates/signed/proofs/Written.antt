@@ -1,19 +1,17 @@
 -- A loyal general's letter by what was sent is a letter.
-use Rattle.std.proofs.Common.{◌≡◌, ℕ, suc, ◌+◌, ◌-◌, ◌*◌, ◌<◌, ◌≤◌, true, List, [], ◌∷◌, map, length, refl, sym, ap, subst, ◌∙◌, arith, flat_map, None}
+use Rattle.std.proofs.Common.{◌≡◌, ℕ, suc, ◌-◌, ◌*◌, ◌<◌, ◌≤◌, true, List, [], ◌∷◌, map, length, refl, sym, ap, subst, ◌∙◌, arith, flat_map, Option, None}
 use Rattle.semantics.specs.Relay.{Relay, IsContext, signed}
 use Rattle.label.specs.Relay.{IsShape}
-use Rattle.semantics.specs.Entries.{entered}
+use Rattle.insn.specs.declared.insn.Insn.{Insn}
+use Rattle.board.specs.Board.{Access}
 use Rattle.outbox.specs.Contents.{Contents}
 use Rattle.round.specs.Scenario.{Scenario, IsScenario, shape_of}
-use Rattle.round.specs.Letters.{Letter}
-use Rattle.round.specs.Contexts.{context_bytes, IsToldTo, shape_told, tells_oral, faithful_letter_with}
+use Rattle.round.specs.Contexts.{context_bytes, IsToldTo, shape_told, tells_oral}
 use Rattle.round.specs.Runs.{IsLetter}
 use Rattle.round.proofs.Contexts.{bytes_context, shape_is}
-use Rattle.world.specs.Campaigns.{TellRelays}
 use Rattle.signed.specs.Chains.{Chain}
 use Rattle.signed.specs.Contexts.{signed_context_numbers, signer_bits}
-use Rattle.signed.specs.Entries.{Entry}
-use Rattle.signed.specs.Kind.{signed_kind, signed_context, played}
+use Rattle.signed.specs.Kind.{signed_context, played}
 use Rattle.signed.specs.Loyal.{loyal_entries}
 use Rattle.signed.specs.Sent.{Sent, delivered, held_behind, sent_in}
 use Rattle.signed.specs.Sending.{context_behind, relay_behind, letter_behind, held_of, AreRows, IsSent}
@@ -48,15 +46,16 @@ letter_is s sent g is h lt le =
       own = subst (λ (k : ℕ). IsToldTo g (suc k) (context_behind s sent g)) (sym rounds) (subst C (sym told) (tell.own closed g lt within));
       shape = (λ i. shape_of s g (suc (rounds i))) ∙ (tell.shape closed g lt within ∙ (λ i. shape_told g (suc (sym rounds i)) (sym told i)));
       kind = λ spoken. absurd (never spoken);
-      run = (refl, (refl, (refl, (refl, λ spoken. absurd (never spoken)))));
+      run = (refl, refl, refl, refl, λ spoken. absurd (never spoken));
     }
 
 -- a letter of these parts is his
-pub written_is : (s : Scenario) (sent : Sent) (g general round : ℕ) (context : List ℕ) (outbox : Contents) → general ≡ g → round ≡ suc (length sent) → context ≡ context_behind s sent g →
+pub written_is : (s : Scenario) (sent : Sent) (g general round : ℕ) (context : List ℕ) (program : Option (List Insn)) (transcript : List Access) (outbox : Contents) →
+    general ≡ g → round ≡ suc (length sent) → context ≡ context_behind s sent g → program ≡ None → transcript ≡ [] →
     outbox.relay ≡ relay_behind s sent g → outbox.rows ≡ [] → outbox.entries ≡ loyal_entries s.generals s.commander s.bound s.order (delivered sent) (suc (length sent)) g →
-    faithful_letter_with general round context outbox ≡ letter_behind s sent g
-written_is s sent g general round context outbox a b c relay rows entries =
-    (λ i. faithful_letter_with (a i) (b i) (c i) (record { relay = relay i; rows = rows i; entries = entries i }))
+    record { general = general; round = round; context = context; program = program; transcript = transcript; steps = 0; outbox = outbox; exited = true } ≡ letter_behind s sent g
+written_is s sent g general round context program transcript outbox a b c p t relay rows entries =
+    (λ i. record { general = a i; round = b i; context = c i; program = p i; transcript = t i; steps = 0; outbox = record { relay = relay i; rows = rows i; entries = entries i }; exited = true })
 
 -- the bits of the signers of the chains held make his relay
 pub relay_is : (s : Scenario) (sent : Sent) (g round : ℕ) (relay : Relay) → AreRows s.generals sent → round ≡ suc (length sent) → relay ≡ signed (shape_of s g round) (map signer_bits (held_of g sent).chains) → relay ≡ relay_behind s sent g
