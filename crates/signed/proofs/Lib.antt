@@ -33,6 +33,6 @@ pub mod Receipts
 pub mod Passes
 pub mod Onward
 pub mod Duties
-pub mod Composed
+pub mod Written
 pub mod Marks
 pub mod Reading

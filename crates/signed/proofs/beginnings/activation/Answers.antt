@@ -1,7 +1,7 @@
 -- What he is told is whole.
 use Rattle.std.proofs.Common.{length, ap, ◌∙◌}
 use Rattle.signed.proofs.Receipts.{sent_rows}
-use Rattle.signed.proofs.Composed.{context_whole}
+use Rattle.signed.proofs.Written.{context_whole}
 use Rattle.signed.proofs.beginnings.activation.Goals as goal
 
 pub context-requires-clause-rows : goal.context-requires-clause-rows

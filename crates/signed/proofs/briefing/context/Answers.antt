@@ -5,7 +5,7 @@ use Rattle.round.specs.Contexts.{context_bytes}
 use Rattle.signed.specs.Chains.{Chain}
 use Rattle.signed.specs.Contexts.{signer_bits}
 use Rattle.signed.specs.Sending.{context_behind, HeldChains}
-use Rattle.signed.proofs.Composed.{numbers_few, context_is}
+use Rattle.signed.proofs.Written.{numbers_few, context_is}
 use Rattle.signed.proofs.briefing.context.Goals as goal
 
 pub context_telling-requires : goal.context_telling-requires

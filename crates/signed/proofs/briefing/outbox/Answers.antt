@@ -5,7 +5,7 @@ use Rattle.semantics.specs.Relay.{signed}
 use Rattle.outbox.specs.Contents.{Contents}
 use Rattle.signed.specs.Contexts.{signer_bits}
 use Rattle.signed.specs.Sending.{relay_behind, HeldChains}
-use Rattle.signed.proofs.Composed.{relay_is}
+use Rattle.signed.proofs.Written.{relay_is}
 use Rattle.signed.proofs.briefing.outbox.Goals as goal
 
 pub returns-clause-relay : goal.returns-clause-relay

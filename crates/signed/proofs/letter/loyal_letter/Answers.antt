@@ -3,7 +3,7 @@ use Rattle.std.proofs.Common.{◌+◌, length, sym, subst, ◌∙◌, arith}
 use Rattle.round.specs.Letters.{Letter}
 use Rattle.round.specs.Runs.{IsLetter}
 use Rattle.signed.proofs.Receipts.{sent_rows}
-use Rattle.signed.proofs.Composed.{letter_is, written_is}
+use Rattle.signed.proofs.Written.{letter_is, written_is}
 use Rattle.signed.proofs.letter.loyal_letter.Goals as goal
 
 pub context-requires-clause-rows : goal.context-requires-clause-rows
