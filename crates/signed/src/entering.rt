@@ -14,9 +14,9 @@ use arrayvec::ArrayVec;
 use outbox::Outbox;
 use round::Scenario;
 
-/// Enters what a loyal general has to sign in the round behind these: the commander his order in the first; a lieutenant,
-/// in each round after one of the first m, the first chain that brought him each order that he added then. It takes no
-/// memory.
+/// Enters what a loyal general has to sign in the round behind these: the commander his order in the first; a
+/// lieutenant, in each round after one of the first m, the first chain that brought him each order that he added then.
+/// It takes no memory.
 pub(crate) fn enter(
     outbox: &mut Outbox,
     scenario: &Scenario,
