@@ -1,10 +1,10 @@
 -- Lists of events, entry by entry, name by name and round by round.
-use Rattle.std.proofs.Common.{◌≡◌, ℕ, zero, suc, ◌+◌, ◌-◌, ◌<◌, ◌≤◌, List, [], ◌∷◌, ◌++◌, length, map, drop, get_or, Bool, true, false, refl, sym, ap, ◌∙◌, ⊎_elim, Option, Some, None, arith}
+use Rattle.std.proofs.Common.{◌≡◌, ℕ, zero, suc, ◌+◌, ◌-◌, ◌<◌, ◌≤◌, List, [], ◌∷◌, ◌++◌, map, drop, Bool, refl, sym, ap, ◌∙◌, Option, Some, None, arith}
 use Rattle.std.specs.Prelude.{slice_get, slice_index_or, replicate, nat_lt, filter, OnOk}
 use Rattle.std.proofs.Common.{Result, Ok, Err, subst}
 use Rattle.std.proofs.lemmas.List.{map-append}
 use Rattle.std.proofs.lemmas.List.Elements.{filter-append}
-use Rattle.std.proofs.lemmas.Bool.{lt-ltb, le-ltb, cases_Bool}
+use Rattle.std.proofs.lemmas.Bool.{lt-ltb, le-ltb}
 use Rattle.world.specs.declared.event.Event.{Event}
 use Rattle.world.specs.declared.event.Event.TheVariants.{Post, Close}
 use Rattle.world.specs.declared.schedule.Repeat.{Repeat}
@@ -21,7 +21,6 @@ use Rattle.world.proofs.Lasting.{listed_complete, replayed_complete}
 use Rattle.world.proofs.Punctual.{punctual_full}
 use Rattle.world.proofs.Moves.{run-append}
 use Rattle.world.proofs.Punctual.{run_scenario}
-use Rattle.std.proofs.lemmas.Option.{slice_get-get_or}
 use Rattle.world.specs.Campaigns.{AreCampaigns}
 
 -- entries of a general are his events, and of a number that is none nothing

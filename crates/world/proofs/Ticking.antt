@@ -1,5 +1,5 @@
 -- Many ticks of one general, and those that replay a name.
-use Rattle.std.proofs.Common.{◌≡◌, ℕ, zero, suc, ◌+◌, ◌-◌, ◌≤◌, List, [], length, Bool, refl, sym, ap, subst, ◌∙◌, Option, Some, None, arith, zero-add}
+use Rattle.std.proofs.Common.{◌≡◌, ℕ, zero, suc, ◌+◌, ◌-◌, ◌≤◌, List, [], length, refl, sym, ap, subst, ◌∙◌, Option, Some, None, arith, zero-add}
 use Rattle.std.specs.Prelude.{slice_get, replicate}
 use Rattle.board.specs.Board.{IsBoard, reply}
 use Rattle.board.proofs.Serving.{reply_fits}
