@@ -1,5 +1,5 @@
 -- What was sent, round by round.
-use Rattle.std.proofs.Common.{◌≡◌, ℕ, zero, suc, ◌+◌, List, [], ◌∷◌, ◌++◌, length, refl, ◌∙◌, arith, length-append}
+use Rattle.std.proofs.Common.{◌≡◌, ℕ, suc, ◌+◌, List, [], ◌∷◌, ◌++◌, length, refl, ◌∙◌, arith, length-append}
 use Rattle.round.specs.Scenario.{Scenario}
 use Rattle.round.specs.Letters.{Letter}
 use Rattle.signed.specs.Accepted.{held}
@@ -29,4 +29,4 @@ sent_more s closed row = along_more s [] closed row
 
 pub sent_length : (s : Scenario) (closed : List (List Letter)) → length (sent_in s closed) ≡ length closed
 unfolding sent_in
-sent_length s closed = along_length s [] closed
+sent_length s closed = along_length s [] closed ∙ (omega arith)

@@ -1,7 +1,8 @@
 -- Of what entries and letters send: whose signature a chain ends with, what comes to whom, and how many chains there are.
-use Rattle.std.proofs.Common.{◌≡◌, ℕ, zero, suc, ◌<◌, ◌≤◌, Bool, true, false, not, cond, List, [], ◌∷◌, ◌++◌, map, length, refl, sym, ap, ◌∙◌, arith, inl, inr, length-append, Option, None, Some}
+use Rattle.std.proofs.Common.{◌≡◌, ℕ, zero, suc, ◌+◌, ◌<◌, ◌≤◌, Bool, true, false, not, cond, List, [], ◌∷◌, ◌++◌, map, length, refl, sym, ap, ◌∙◌, arith, inl, inr, length-append, append-nil, append_assoc, get_or, take, Option, None, Some}
 use Rattle.std.specs.Prelude.{filter, slice_get, is_some, nat_lt, ◌==◌, ◌⊎◌}
 use Rattle.std.proofs.lemmas.Bool.{cases_Bool, and_parts, ltb-true, eqb-true, not_from_false, not_from_true, or_left, or_right, or_cases, false_from_ne_true}
+use Rattle.std.proofs.lemmas.List.{take_more}
 use Rattle.label.specs.Labels.{on, generals, others}
 use Rattle.label.proofs.Counting.{range-on, others-on}
 use Rattle.signed.specs.Chains.{Chain, Among, signed_also, signed_alone}
@@ -110,3 +111,18 @@ pub dispatched_few : (n c g : ℕ) (held : List Chain) (es : List Entry) → len
 dispatched_few n c g held [] = omega arith
 dispatched_few n c g held (e ∷ es) =
     omega (arith, length-append (sent_by n (chain_of c g held e) (bits_of e)) (dispatched n c g held es), sent_few n (chain_of c g held e) (bits_of e), dispatched_few n c g held es)
+
+-- entries one after another
+dispatched-append : (n c g : ℕ) (held : List Chain) (es fs : List Entry) → dispatched n c g held (es ++ fs) ≡ dispatched n c g held es ++ dispatched n c g held fs
+dispatched-append n c g held [] fs = refl
+dispatched-append n c g held (e ∷ es) fs =
+    ap (λ (ds : List Dispatch). sent_by n (chain_of c g held e) (bits_of e) ++ ds) (dispatched-append n c g held es fs)
+    ∙ sym (append_assoc (sent_by n (chain_of c g held e) (bits_of e)) (dispatched n c g held es) (dispatched n c g held fs))
+
+-- an entry more
+pub dispatched_more : (n c g : ℕ) (held : List Chain) (es : List Entry) (i : ℕ) (d : Entry) → i < length es →
+    dispatched n c g held (take (i + 1) es) ≡ dispatched n c g held (take i es) ++ sent_by n (chain_of c g held (get_or es i d)) (bits_of (get_or es i d))
+dispatched_more n c g held es i d inside =
+    ap (dispatched n c g held) (take_more es i d inside)
+    ∙ (dispatched-append n c g held (take i es) (get_or es i d ∷ [])
+    ∙ ap (λ (ds : List Dispatch). dispatched n c g held (take i es) ++ ds) (append-nil (sent_by n (chain_of c g held (get_or es i d)) (bits_of (get_or es i d)))))

@@ -1,5 +1,5 @@
 -- A signed campaign within the limits, and a complete list of events.
-use Rattle.std.proofs.Common.{◌≡◌, ℕ, zero, suc, ◌<◌, [], ◌∷◌, refl, subst, Some, None, arith}
+use Rattle.std.proofs.Common.{◌≡◌, ℕ, zero, suc, [], ◌∷◌, refl, subst, Some, None, arith}
 use Rattle.insn.specs.declared.insn.Insn.{Insn}
 use Rattle.semantics.specs.Run.{IsSound}
 use Rattle.semantics.specs.Examples.{answer}

@@ -11,7 +11,7 @@ use Rattle.label.proofs.Counting.{on-push, on-filter, others-on, others-split, o
 use Rattle.label.proofs.Ranks.{all_kept}
 use Rattle.signed.specs.Chains.{Chain, Among}
 use Rattle.signed.specs.Accepted.{Deliveries, came, held, loyal_chains}
-use Rattle.signed.specs.Entries.{Dispatch, Entry, receivers_in, chain_of, bits_of, sent_by, dispatched, to_all_others, received}
+use Rattle.signed.specs.Entries.{Dispatch, Entry, receivers_in, chain_of, bits_of, sent_by as sent_of, dispatched, to_all_others, received}
 use Rattle.round.specs.Scenario.{Scenario}
 use Rattle.signed.specs.Sent.{Sent, sent_by, delivered, held_behind}
 use Rattle.signed.specs.Contexts.{signed_context_numbers, signer_bits}
@@ -42,14 +42,14 @@ off_one n p bits k ch true e h = elim h [
   | inr m ↦ absurd m
 ]
 
-off_sent : (n p bits : ℕ) (o : Option Chain) (ch : Chain) → Among ch (received p (sent_by n o bits)) → on ch.signers p ≡ false
+off_sent : (n p bits : ℕ) (o : Option Chain) (ch : Chain) → Among ch (received p (sent_of n o bits)) → on ch.signers p ≡ false
 off_sent n p bits None ch h = absurd h
 off_sent n p bits (Some k) ch h = off_one n p bits k ch (on (receivers_in n bits k) p) refl h
 
 off_dispatched : (n c g p : ℕ) (held : List Chain) (es : List Entry) (ch : Chain) → Among ch (received p (dispatched n c g held es)) → on ch.signers p ≡ false
 off_dispatched n c g p held [] ch h = absurd h
 off_dispatched n c g p held (e ∷ es) ch h =
-    let first = sent_by n (chain_of c g held e) (bits_of e) in
+    let first = sent_of n (chain_of c g held e) (bits_of e) in
     let rest = dispatched n c g held es in
     elim (append_out (received p first) (received p rest) ch (rw (received_append p first rest) at h)) [
       | inl now ↦ off_sent n p (bits_of e) (chain_of c g held e) ch now

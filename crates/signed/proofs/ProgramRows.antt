@@ -176,7 +176,7 @@ late_told = refl
 -- so cannot prolong it again for 1 alone in the last. If one signature counted twice, general 1 would accept 7 then, and general 2 would not. Both read the round in what they are told
 abbrev pub twice : Scenario
 twice = campaign 4 2 1 None (
-    Some (Load Word 3 1 (pos 16) ∷ Branch W64 NotEqual 3 (Immediate (pos 1)) (pos 3) ∷ (calling 10 7 8 ++ Exit ∷ []))
+    Some (Load Word 0 1 (pos 16) ∷ Branch W64 NotEqual 0 (Immediate (pos 1)) (pos 3) ∷ (calling 10 7 8 ++ Exit ∷ []))
     ∷ None
     ∷ None
     ∷ Some (Load Word 3 1 (pos 16) ∷ Branch W64 Equal 3 (Immediate (pos 2)) (pos 4) ∷ (calling 11 1 2 ++ Exit ∷ (calling 11 0 8 ++ Exit ∷ [])))

@@ -1,11 +1,10 @@
 -- A signed context tells its general, the round, his relay, and that orders are signed.
-use Rattle.std.proofs.Common.{◌≡◌, ℕ, suc, ◌-◌, ◌<◌, ◌≤◌, List, [], ◌∷◌, length, flat_map, refl, sym, ◌∙◌, arith}
-use Rattle.semantics.specs.Relay.{Oral}
+use Rattle.std.proofs.Common.{◌≡◌, ℕ, suc, ◌<◌, ◌≤◌, List, length, refl, sym, arith}
 use Rattle.round.specs.Scenario.{Scenario, IsScenario, shape_of}
 use Rattle.round.specs.Letters.{Letter}
 use Rattle.round.specs.Contexts.{IsToldTo, shape_told, number_told, at_kind, tells_oral}
 use Rattle.round.proofs.Telling.{number_at}
-use Rattle.world.proofs.Campaigns.{TellRelays}
+use Rattle.world.specs.Campaigns.{TellRelays}
 use Rattle.signed.specs.Contexts.{signed_context_numbers}
 use Rattle.signed.specs.Kind.{signed_kind, signed_context, held_in}
 
@@ -31,7 +30,7 @@ pub signed_is_told : (s : Scenario) (closed : List (List Letter)) (g : ℕ) → 
 signed_is_told s closed g = number_at (numbers s closed g) 7 28 1 refl (omega arith) refl (omega arith)
 
 pub not_oral : (s : Scenario) (closed : List (List Letter)) (g : ℕ) → tells_oral (signed_context s closed g) → ⊥
-not_oral s closed g spoken = let e : 1 ≡ 0 = sym (signed_is_told s closed g) ∙ spoken in omega arith
+not_oral s closed g spoken = omega (arith, signed_is_told s closed g)
 
 pub signed_relays : TellRelays signed_kind
 signed_relays s is = record {

@@ -1,5 +1,5 @@
 -- What holds of every world of a signed campaign. Each statement is the contract of a function of this crate.
-use Rattle.std.specs.Prelude.{ℕ, suc, ◌≡◌, ◌*◌, ◌<◌, ◌≤◌, true, List, ◌∷◌, ◌++◌, map, length, slice_get, Some, is_some}
+use Rattle.std.specs.Prelude.{ℕ, suc, ◌≡◌, ◌*◌, ◌<◌, ◌≤◌, true, List, [], ◌∷◌, ◌++◌, map, length, slice_get, Some, is_some}
 use Rattle.std.specs.List.{AllByRecursion}
 use Rattle.semantics.specs.Limits.{context_size, most_held}
 use Rattle.semantics.specs.Entries.{is_sendable}
@@ -7,12 +7,13 @@ use Rattle.label.specs.Labels.{on}
 use Rattle.round.specs.Scenario.{Scenario, IsScenario, is_traitor}
 use Rattle.round.specs.Activation.{Activation}
 use Rattle.world.specs.declared.event.Event.{Event}
-use Rattle.world.specs.Part.{Acting}
+use Rattle.world.specs.declared.event.Event.TheVariants.{Close}
+use Rattle.world.specs.declared.part.Part.TheVariants.{Acting}
 use Rattle.world.specs.KindLists.{IsPunctual}
 use Rattle.world.specs.Agreement.{IsFinished}
 use Rattle.signed.specs.Chains.{Chain, Among, IsChain, orders}
 use Rattle.signed.specs.Agreement.{IsSignedBound, SignedAgree}
-use Rattle.signed.specs.Entries.{Dispatch, Entry, chain_of, most_entries}
+use Rattle.signed.specs.Entries.{Dispatch, Entry, chain_of, dispatched, most_entries}
 use Rattle.signed.specs.Contexts.{signed_context_numbers}
 use Rattle.signed.specs.Sent.{Sent, sent_by}
 use Rattle.signed.specs.Kind.{signed_kind, played, sent_after, held_in, accepted_in}
@@ -71,14 +72,19 @@ pub record HeldChainsAreFew : Type 0 where
       4 * length (signed_context_numbers s.generals s.bound s.commander g round (held_in s (played s events).closed g))
       ≤ context_size
 
--- the machine, by the signers of the chains held, lets an entry be sent exactly where it has a chain; and each of an
--- acting general's entries, eight at most, has one, so that all of them are sent when the round closes
+-- the machine, by the signers of the chains held, lets an entry be sent exactly where it has a chain; each of an acting
+-- general's entries, eight at most, has one; and when the round closes, he has sent the chains of them all
 pub record SignedEntriesAreSent : Type 0 where
   pub agree : (s : Scenario) (events : List Event) (g : ℕ) (a : Activation) (e : Entry) → IsScenario s →
       slice_get (played s events).parts g ≡ Some (Acting a) →
       is_sendable a.relay e ≡ is_some (chain_of s.commander g (held_in s (played s events).closed g) e)
   pub each : (s : Scenario) (events : List Event) (g : ℕ) (a : Activation) → IsScenario s →
       slice_get (played s events).parts g ≡ Some (Acting a) →
-      AllByRecursion (λ e. is_some (chain_of s.commander g (held_in s (played s events).closed g) e) ≡ true) a.state.entries
+      AllByRecursion (λ e. is_some (chain_of s.commander g (held_in s (played s events).closed g) e) ≡ true)
+      a.state.entries
   pub few : (s : Scenario) (events : List Event) (g : ℕ) (a : Activation) → IsScenario s →
       slice_get (played s events).parts g ≡ Some (Acting a) → length a.state.entries ≤ most_entries
+  pub sent : (s : Scenario) (events : List Event) (g : ℕ) (a : Activation) → IsScenario s →
+      slice_get (played s events).parts g ≡ Some (Acting a) →
+      sent_by (sent_after s (events ++ Close ∷ [])) (suc (length (played s events).closed)) g
+      ≡ dispatched s.generals s.commander g (held_in s (played s events).closed g) a.state.entries

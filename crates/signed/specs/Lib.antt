@@ -9,6 +9,8 @@ pub mod Sent
 pub mod Kind
 pub mod Sending
 pub mod Laws
+pub mod Traitors
 pub mod Chronicle
 pub mod Verdicts
+pub mod Promises
 pub mod Plays

@@ -13,15 +13,17 @@ use Rattle.round.specs.Letters.{Letter}
 use Rattle.round.specs.Contexts.{context_bytes, faithful_letter_with}
 use Rattle.round.specs.Activation.{started}
 use Rattle.world.specs.declared.event.Event.{Event}
-use Rattle.world.specs.Closing.{Draft, Begun, Whole, Missing}
+use Rattle.world.specs.declared.draft.Draft.{Draft}
+use Rattle.world.specs.declared.draft.Draft.TheVariants.{Begun, Whole, Missing}
 use Rattle.world.specs.Kind.{each, accesses_of}
-use Rattle.world.specs.Part.{Part, Acting, Silent, Posted}
+use Rattle.world.specs.declared.part.Part.{Part}
+use Rattle.world.specs.declared.part.Part.TheVariants.{Acting, Silent, Posted}
 use Rattle.world.specs.Reached.{world_of}
 use Rattle.signed.specs.Chains.{Chain}
 use Rattle.signed.specs.Accepted.{counts}
 use Rattle.signed.specs.Contexts.{signed_context_numbers, signer_bits}
 use Rattle.signed.specs.Entries.{Dispatch, Entry, dispatched, received}
-use Rattle.signed.specs.Kind.{played}
+use Rattle.signed.specs.Kind.{played, sent_after}
 use Rattle.signed.specs.Loyal.{loyal_entries}
 use Rattle.signed.specs.Sent.{Sent, delivered, held_behind, sent_in}
 use Rattle.signed.specs.Signers.{Signature}
@@ -127,9 +129,9 @@ abbrev pub sent_drafted : Scenario → Sent → List Draft → List Part → Lis
 sent_drafted s sent drafts parts =
     map (λ g. dispatched s.generals s.commander g (held_behind s.generals sent g) (entries_drafted (slice_get drafts g) (slice_get parts g))) (generals s.generals)
 
--- some letters have sent this
+-- some list of events leads to what was sent
 abbrev pub IsSent : Scenario → Sent → Type 0
-IsSent s sent = (closed : List (List Letter)) × (sent ≡ sent_in s closed)
+IsSent s sent = (events : List Event) × (sent ≡ sent_after s events)
 
 -- a signer for each general
 abbrev pub signatures : ℕ → ℕ → List Signature
@@ -139,5 +141,5 @@ signatures n c = map (λ g. record { general = g; commander = c }) (generals n)
 pub record IsSignedHeld (s : Scenario) (closed : List (List Letter)) (board : RecordedBoard) (opened : ℕ) (parts : List Part) (full : Bool) (sent : Sent) (signers : List Signature) : Type 0 where
   pub reached : (events : List Event) × (played s events ≡ world_of s closed board opened parts full)
   pub opening : board.opening ≡ s.board
-  pub sent : sent ≡ sent_in s closed
-  pub signers : signers ≡ signatures s.generals s.commander
+  pub chains : sent ≡ sent_in s closed
+  pub signing : signers ≡ signatures s.generals s.commander

@@ -6,8 +6,8 @@ ghost use Rattle.signed.specs.Entries.{received};
 ghost use Rattle.signed.specs.Sending.{added_also, added_by, received_in, AreFirst, AreRows};
 ghost use Rattle.signed.specs.Sent.{delivered};
 
-use crate::bits::has;
 use crate::outgoing::{Sending, SentRound};
+use crate::sets::has;
 use arrayvec::ArrayVec;
 
 /// The orders that a general accepted in so many of these rounds, the first 8 of them. Takes no memory.

@@ -68,6 +68,7 @@ fn activation(
     requires inside { general < scenario.now.generals }
     ensures { IfOk result (λ running. running ≡ started scenario.now.patience (arc_value program.now) (context_behind scenario.now sent.now general) (relay_behind scenario.now sent.now general)) }
 {
+    scenario.recall();
     let held = Held::behind(alloc, sent, general)?;
     let context = context(alloc, scenario, sent, general, &held)?;
     let outbox = outbox(alloc, scenario, sent, general, &held)?;

@@ -65,6 +65,7 @@ pub(crate) fn outbox(
     ensures empty { IfOk result (λ outbox. outbox.rows ≡ []) }
     ensures unentered { IfOk result (λ outbox. outbox.entries ≡ []) }
 {
+    scenario.recall();
     let round = sent.len() as u8 + 1;
     let signers = held.signers(alloc)?;
     Outbox::signed(alloc, scenario.shape(general, round), signers.as_slice())

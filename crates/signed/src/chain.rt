@@ -6,7 +6,7 @@ ghost use Rattle.signed.specs.Chains.{begin, prolong};
 ghost use Rattle.signed.specs.Accepted.{counts};
 ghost use Rattle.signed.specs.Contexts.{signer_bits};
 
-use crate::bits;
+use crate::sets;
 use crate::signer::Signer;
 use label::Label;
 use std::marker::Model;
@@ -69,7 +69,7 @@ impl Chain {
         ensures same { result ≡ signer_bits self.now }
         ensures each { (g : ℕ) → bit_at result g ≡ cond (on self.now.signers g) 1 0 }
     {
-        bits::of(self.signers.generals())
+        sets::of(self.signers.generals())
     }
 
     /// Who signed it, the first signature first.

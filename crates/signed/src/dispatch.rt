@@ -3,10 +3,10 @@ ghost use Rattle.std.specs.Prelude.{◌≡◌, ◌≤◌, ◌+◌, ◌++◌, map
 ghost use Rattle.signed.specs.Entries.{bits_of, chain_of, dispatched, receivers_in, sent_by};
 ghost use Rattle.signed.specs.Sending.{dispatch_of, named};
 
-use crate::bits::{below, without};
 use crate::chain::Chain;
 use crate::held::Held;
 use crate::outgoing::Sending;
+use crate::sets::{below, without};
 use crate::signer::Signer;
 use semantics::Entry;
 use std::alloc::{AllocError, Global};

@@ -102,6 +102,7 @@ fn sending(
     requires own { signer.now ≡ record { general = general; commander = scenario.now.commander } }
     ensures { IfOk result (λ sending. sending ≡ dispatched scenario.now.generals scenario.now.commander general (held_behind scenario.now.generals sent.now general) (entries_drafted (slice_get drafts.now general) (slice_get parts.now general))) }
 {
+    scenario.recall();
     let held = Held::behind(alloc, sent, general)?;
     let place = usize::from(general);
     let entries = entries(drafts.get(place), parts.get(place));

@@ -1,20 +1,22 @@
 //! What a loyal general enters.
-ghost use Rattle.std.specs.Prelude.{◌≡◌, ◌≤◌, ◌<◌, ◌×◌, ◌++◌, ◌∷◌, [], ℕ, List, drop, length, suc};
+ghost use Rattle.std.specs.Prelude.{◌≡◌, ◌≤◌, ◌<◌, ◌++◌, ◌∷◌, [], ℕ, List, drop, length, suc};
+ghost use Rattle.label.specs.Generals.{IsGenerals};
 ghost use Rattle.signed.specs.Loyal.{bits_but, loyal_entries, passes};
-ghost use Rattle.signed.specs.Sending.{added_by, entered_all, held_of, relay_behind, AreFirst, AreRows, IsSent};
+ghost use Rattle.signed.specs.Sending.{added_by, entered_all, held_of, relay_behind, AreFirst, IsSent};
 ghost use Rattle.signed.specs.Sent.{delivered};
 
 use crate::acceptance::{accepted, add, is_among};
-use crate::bits;
 use crate::chain::Chain;
 use crate::held::Held;
 use crate::outgoing::SentRound;
+use crate::sets;
 use arrayvec::ArrayVec;
 use outbox::Outbox;
 use round::Scenario;
 
-/// Enters what a loyal general has to sign in the round behind these: the commander his order in the first; a lieutenant,
-/// in each round after one of the first m, the first chain that brought him each order that he added then. It takes no memory.
+/// Enters what a loyal general has to sign in the round behind these: the commander his order in the first; a
+/// lieutenant, in each round after one of the first m, the first chain that brought him each order that he added then.
+/// It takes no memory.
 pub(crate) fn enter(
     outbox: &mut Outbox,
     scenario: &Scenario,
@@ -59,7 +61,6 @@ fn pass_on(
     requires size { generals ≤ 13 }
     requires inside { general < generals }
     requires few { length held.now.chains < 65536 }
-    requires seen { (seen : List ℕ) × (AreFirst before.items seen × (length (added_by rounds general seen (drop held.now.earlier held.now.chains)) ≤ 8)) }
     ensures relay { outbox.new.relay ≡ outbox.old.relay }
     ensures rows { outbox.new.rows ≡ outbox.old.rows }
     ensures entries { (seen : List ℕ) → AreFirst before.items seen → length (added_by rounds general seen (drop held.now.earlier held.now.chains)) ≤ 8
@@ -82,12 +83,14 @@ fn receivers(generals: u8, chain: &Chain, general: u8) -> u16
     requires inside { general < generals }
     ensures { result ≡ bits_but generals (chain.now.signers ++ general ∷ []) }
 {
-    bits::without(bits::below(generals), bits::with(chain.bits(), general))
+    sets::without(sets::below(generals), sets::with(chain.bits(), general))
 }
 
 /// All generals but these, bit g for general g.
 fn others(generals: u8, but: &[u8]) -> u16
+    requires size { generals ≤ 13 }
+    requires but { IsGenerals but.now }
     ensures { result ≡ bits_but generals but.now }
 {
-    bits::without(bits::below(generals), bits::of(but))
+    sets::without(sets::below(generals), sets::of(but))
 }

@@ -3,13 +3,13 @@ ghost use Rattle.std.specs.Prelude.{◌≡◌, ◌≤◌, ◌<◌, suc, length, 
 ghost use Rattle.signed.specs.Kind.{signed_kind};
 ghost use Rattle.signed.specs.Sending.{signatures};
 ghost use Rattle.world.specs.declared.event.Event.TheVariants.{Tick, Post, Close};
-ghost use Rattle.world.specs.Held.{AheadTo, IsAnswer};
+ghost use Rattle.world.specs.KindHeld.{AheadTo, IsAnswer};
 ghost use Rattle.world.specs.Kind.{opening, happen, refusal, run};
 
 use crate::beginnings::beginnings;
 use crate::drafting::{drafts, sendings};
+use crate::signed_world::SignedWorld;
 use crate::signer::Signer;
-use crate::world::SignedWorld;
 use board::Board;
 use round::{Round, Scenario};
 use std::alloc::{AllocError, Global};
@@ -87,7 +87,7 @@ impl SignedWorld {
     fn round(&self) -> u32
         ensures { result ≡ suc (length self.now.closed) }
     {
-        let _bound = self.scenario.bound();
+        self.scenario.recall();
         self.closed.len() as u32 + 1
     }
 
@@ -130,6 +130,7 @@ impl SignedWorld {
         ensures done { OnOk result (self.new ≡ happen signed_kind self.old Close) }
         ensures undone { OnErr result (self.new ≡ self.old) }
     {
+        self.scenario.recall();
         let round = self.round();
         let generals = self.scenario.generals();
         let accesses = since(self.board.ledger(), self.opened);

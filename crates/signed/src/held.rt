@@ -4,9 +4,9 @@ ghost use Rattle.signed.specs.Contexts.{signer_bits};
 ghost use Rattle.signed.specs.Entries.{received};
 ghost use Rattle.signed.specs.Sending.{chain_in, held_of, lent, received_in};
 
-use crate::bits::has;
 use crate::chain::Chain;
 use crate::outgoing::{Sending, SentRound};
+use crate::sets::has;
 use std::alloc::{AllocError, Global};
 use std::marker::Model;
 

@@ -1,11 +1,12 @@
 //! What a campaign of signed messages has come to.
 ghost use Rattle.std.specs.Prelude.{◌≡◌, ◌↔◌, IfSome, IsSome};
 ghost use Rattle.signed.specs.Chronicle.{signed_chronicle_of, signed_decisions, signed_verdict_of};
+ghost use Rattle.signed.specs.Promises.{AgreeUnderSignedBound};
 ghost use Rattle.world.specs.Agreement.{IsFinished};
 
 use crate::acceptance::{accepted, decided};
 use crate::chronicle::SignedChronicle;
-use crate::world::SignedWorld;
+use crate::signed_world::SignedWorld;
 use arrayvec::ArrayVec;
 use round::Scenario;
 use world::Verdict;
@@ -17,7 +18,8 @@ impl SignedWorld {
     /// posted in each and at most m are traitors, the loyal ones decide alike, and the order of a loyal commander. Takes no
     /// memory.
     pub fn decisions(&self) -> ArrayVec<u32, 12>
-        ensures { result.items ≡ signed_decisions self.now.scenario self.now.closed }
+        ensures values { result.items ≡ signed_decisions self.now.scenario self.now.closed }
+        ensures agree { IsFinished self.now → AgreeUnderSignedBound self.now.scenario result.items }
     {
         let rounds = self.sent.len();
         let mut decisions = ArrayVec::new();

@@ -10,6 +10,7 @@ ghost use Rattle.signed.specs.Laws.{
 };
 ghost use Rattle.signed.specs.Loyal.{LoyalEntriesAreSent};
 ghost use Rattle.signed.specs.Plays.{SignedChroniclesAreReplays};
+ghost use Rattle.signed.specs.Traitors.{WhateverTraitorsWrite};
 ghost use Rattle.signed.specs.Verdicts.{SignedVerdictsMean};
 ghost use Rattle.world.specs.Refusals.{IdleEventsChangeNothing, RefusalsChangeNothing};
 ghost use Rattle.world.specs.Replay.{
@@ -22,8 +23,8 @@ ghost use Rattle.world.specs.Replay.{
 };
 ghost use Rattle.world.specs.Safety.{ActivationsAreSafe, PartsArePlaced};
 
-/// With at most m traitors, whatever they sign, all loyal lieutenants accept the same orders and decide alike, on a loyal
-/// commander's order (TOPLAS 1982, Theorem 2).
+/// With at most m traitors, whatever they sign, all loyal lieutenants accept the same orders and decide alike, on a
+/// loyal commander's order (TOPLAS 1982, Theorem 2).
 pub fn signed_agreement()
     ensures { SignedAgreementHolds }
 {}
@@ -48,6 +49,12 @@ pub fn held_chains_are_few()
     ensures { HeldChainsAreFew }
 {}
 
+/// All this holds of whatever letters traitors write, also where no program would: chains are unforged and few, and
+/// with at most m traitors the loyal lieutenants agree.
+pub fn whatever_traitors_write()
+    ensures { WhateverTraitorsWrite }
+{}
+
 /// What a loyal general enters sends, to all others, just the chains that he has to sign.
 pub fn loyal_entries_are_sent()
     ensures { LoyalEntriesAreSent }
@@ -59,8 +66,8 @@ pub fn signed_entries_are_sent()
     ensures { SignedEntriesAreSent }
 {}
 
-/// The verdict means what it says, and in a finished world with no more traitors than were provided for it says that all
-/// is well.
+/// The verdict means what it says, and in a finished world with no more traitors than were provided for it says that
+/// all is well.
 pub fn signed_verdicts_mean()
     ensures { SignedVerdictsMean }
 {}

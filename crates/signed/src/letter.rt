@@ -25,6 +25,7 @@ pub(crate) fn loyal_letter(
     requires sent { IsSent scenario.now sent.now }
     ensures { IfOk result (λ letter. letter ≡ letter_behind scenario.now sent.now general) }
 {
+    scenario.recall();
     let held = Held::behind(alloc, sent, general)?;
     let context = context(alloc, scenario, sent, general, &held)?;
     let mut outbox = outbox(alloc, scenario, sent, general, &held)?;

@@ -3,7 +3,6 @@
 
 mod acceptance;
 mod beginnings;
-mod bits;
 mod briefing;
 mod chain;
 mod chronicle;
@@ -16,8 +15,11 @@ mod judging;
 mod laws;
 mod letter;
 mod outgoing;
+mod player;
+mod playing;
+mod sets;
+mod signed_world;
 mod signer;
-mod world;
 
 pub use chain::Chain;
 pub use chronicle::SignedChronicle;
@@ -27,7 +29,8 @@ pub use laws::{
     signed_accounts_are_runs, signed_activations_are_safe, signed_agreement,
     signed_entries_are_sent, signed_ledgers_are_legal, signed_ledgers_decide,
     signed_lists_are_complete, signed_refusals_change_nothing, signed_runs_are_accounted,
-    signed_runs_are_replays, signed_verdicts_mean, signed_worlds_agree,
+    signed_runs_are_replays, signed_verdicts_mean, signed_worlds_agree, whatever_traitors_write,
 };
+pub use player::{play_signed, replay_signed};
+pub use signed_world::SignedWorld;
 pub use signer::Signer;
-pub use world::SignedWorld;

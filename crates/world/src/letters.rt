@@ -81,6 +81,10 @@ fn loyal(
 }
 
 /// One general's accesses.
+///
+/// # Errors
+///
+/// `AllocError` where memory is refused.
 pub fn transcript(
     alloc: Global,
     accesses: &[Access],
@@ -98,7 +102,7 @@ pub fn transcript(
 }
 
 /// The letters of so many generals, in a list that has room for them: their drafts, and what the traitors' activations
-/// have. The activations are gone from the parts. It takes no memory.
+/// have. The activations are gone from the parts, which are of no use then: let them go. It takes no memory.
 pub fn letters(
     mut list: Vec<Letter>,
     mut drafts: Vec<Draft>,

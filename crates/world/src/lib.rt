@@ -14,6 +14,7 @@ mod part;
 pub mod parts;
 mod player;
 mod playing;
+mod plays;
 mod schedule;
 mod verdict;
 mod world;
@@ -28,6 +29,8 @@ pub use laws::{
 };
 pub use part::Part;
 pub use player::{play, replay};
+pub use playing::{play_listed, play_named};
+pub use plays::Plays;
 pub use schedule::{Entries, Repeat, Schedule};
 pub use verdict::Verdict;
 pub use world::World;

@@ -1,5 +1,5 @@
 //! What one event leaves of the parts and the board.
-ghost use Rattle.std.specs.Prelude.{◌≡◌, OnOk, OnErr, slice_get, is_some, true};
+ghost use Rattle.std.specs.Prelude.{◌≡◌, ◌↔◌, IsTrue, OnOk, OnErr, slice_get, is_some};
 ghost use Rattle.world.specs.World.{unfit, named_by};
 ghost use Rattle.world.specs.Held.{ticked_of, posted_of, AheadTo, steps_of};
 ghost use Rattle.world.specs.Playing.{IsStill, program_length};
@@ -23,7 +23,11 @@ pub fn is_unfit(parts: &[Part], event: Event) -> bool
     }
 }
 
-/// One turn of a traitor's activation; without memory, nothing changes.
+/// One turn of a traitor's activation; nothing where nobody acts.
+///
+/// # Errors
+///
+/// `AllocError` where memory is refused; nothing has changed then.
 pub fn turn(
     parts: &mut Vec<Part>,
     board: &mut Board,
@@ -75,7 +79,7 @@ pub fn mark_posted(parts: &mut Vec<Part>, general: u32)
 
 /// Whether nobody acts there, or his activation has ended.
 pub fn is_still(parts: &[Part], general: u32) -> bool
-    ensures { result ≡ true → IsStill (slice_get parts.now general) }
+    ensures { IsTrue result ↔ IsStill (slice_get parts.now general) }
 {
     match parts.get(general as usize) {
         Some(Part::Acting(running)) => running.has_ended(),

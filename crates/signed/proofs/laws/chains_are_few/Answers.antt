@@ -1,4 +1,4 @@
-use Rattle.signed.proofs.Laws.{few_in}
+use Rattle.signed.proofs.Concluding.{few_in}
 use Rattle.signed.proofs.laws.chains_are_few.Goals as goal
 
 pub returns : goal.returns

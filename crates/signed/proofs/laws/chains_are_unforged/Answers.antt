@@ -1,4 +1,4 @@
-use Rattle.signed.proofs.Laws.{unforged_in}
+use Rattle.signed.proofs.Concluding.{unforged_in}
 use Rattle.signed.proofs.laws.chains_are_unforged.Goals as goal
 
 pub returns : goal.returns

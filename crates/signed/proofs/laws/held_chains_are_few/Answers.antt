@@ -1,4 +1,4 @@
-use Rattle.signed.proofs.Laws.{held_few_in}
+use Rattle.signed.proofs.Concluding.{held_few_in}
 use Rattle.signed.proofs.laws.held_chains_are_few.Goals as goal
 
 pub returns : goal.returns

@@ -1,4 +1,4 @@
-use Rattle.signed.proofs.Laws.{worlds_agree}
+use Rattle.signed.proofs.Concluding.{worlds_agree}
 use Rattle.signed.proofs.laws.signed_worlds_agree.Goals as goal
 
 pub returns : goal.returns
