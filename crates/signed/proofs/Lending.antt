@@ -20,7 +20,7 @@ on_named n bits g below = elim (cases_Bool (bit_at bits g == 1)) [
 
 -- a general is named just where his bit is set
 pub named_is : (bits g : ℕ) → g < 13 → on (named bits) g ≡ (bit_at bits g == 1)
-named_is bits g below = on_named 13 bits g below
+named_is bits g below = on_named 16 bits g (omega arith)
 
 -- of one chain with its receivers, what comes to p
 abbrev pub came_of : ℕ → Chain × ℕ → List Chain

@@ -83,10 +83,10 @@ narrow t u n (suc k) same none =
     ∙ (ap (λ (b : Bool). filter t (generals (n + k)) ++ cond b ((0 + (n + k)) ∷ []) []) last
     ∙ (append-nil (filter t (generals (n + k))) ∙ narrow t u n k same none))))
 
-below_13 : (t u : ℕ → Bool) (n : ℕ) → n ≤ 13 → ((g : ℕ) → g < n → t g ≡ u g) → ((g : ℕ) → n ≤ g → t g ≡ false) → filter t (generals 13) ≡ filter u (generals n)
-below_13 t u n le same none =
-    let e : 13 ≡ n + (13 - n) = omega arith in
-    ap (λ (m : ℕ). filter t (generals m)) e ∙ narrow t u n (13 - n) same none
+below_16 : (t u : ℕ → Bool) (n : ℕ) → n ≤ 13 → ((g : ℕ) → g < n → t g ≡ u g) → ((g : ℕ) → n ≤ g → t g ≡ false) → filter t (generals 16) ≡ filter u (generals n)
+below_16 t u n le same none =
+    let e : 16 ≡ n + (16 - n) = omega arith in
+    ap (λ (m : ℕ). filter t (generals m)) e ∙ narrow t u n (16 - n) same none
 
 kept_bit : (x : ℕ) (b : Bool) → x < 2 → (cond {A = ℕ} (cond {A = ℕ} b 1 0 == 1) 0 (min x 1) == 1) ≡ ((x == 1) && not b)
 kept_bit x true l = sym (and_no (x == 1))
@@ -106,7 +106,7 @@ kept_bit x false l =
 pub left_are : (n bits mask other result : ℕ) (ch : Chain) → n ≤ 13 → ((g : ℕ) → bit_at mask g ≡ cond (nat_lt g n) 1 0) → ((g : ℕ) → bit_at other g ≡ cond (on ch.signers g) 1 0)
     → ((g : ℕ) → bit_at result g ≡ cond (bit_at other g == 1) 0 (bit_at (bit_and bits mask) g)) → named result ≡ receivers_in n bits ch
 left_are n bits mask other result ch le masks others lefts =
-    below_13 (λ g. bit_at result g == 1) (λ g. (bit_at bits g == 1) && not (on ch.signers g)) n le
+    below_16 (λ g. bit_at result g == 1) (λ g. (bit_at bits g == 1) && not (on ch.signers g)) n le
     (λ g lt.
     ap (λ (k : ℕ). k == 1) (lefts g
     ∙ ((λ i. cond (others g i == 1) 0 (bit_at_and bits mask g i))

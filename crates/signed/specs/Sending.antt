@@ -28,9 +28,9 @@ use Rattle.signed.specs.Loyal.{loyal_entries}
 use Rattle.signed.specs.Sent.{Sent, delivered, held_behind, sent_in}
 use Rattle.signed.specs.Signers.{Signature}
 
--- the generals below 13 whose bit is set
+-- the numbers of the bits that are set: of all of a word of 16 bits, so nothing beside generals is named there
 abbrev pub named : ℕ → List ℕ
-named bits = filter (λ g. bit_at bits g == 1) (generals 13)
+named bits = filter (λ g. bit_at bits g == 1) (generals 16)
 
 -- a chain with its receivers, which are kept as bits
 abbrev pub dispatch_of : Chain × ℕ → Dispatch

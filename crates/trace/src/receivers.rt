@@ -13,12 +13,12 @@ fn has(bits: u16, general: u8) -> bool
     (bits >> general) & 1 == 1
 }
 
-/// The generals among them, ascending.
-pub fn named(bits: u16) -> ArrayVec<u8, 13>
+/// The numbers of the bits among them, ascending.
+pub fn named(bits: u16) -> ArrayVec<u8, 16>
     ensures { result.items ≡ named bits }
 {
     let mut generals = ArrayVec::new();
-    for general in 0..13 {
+    for general in 0..16 {
         if has(bits, general) {
             generals.push(general);
         }
