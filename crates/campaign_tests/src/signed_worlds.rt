@@ -3,10 +3,11 @@
 use crate::scenarios::THREE;
 use round::Scenario;
 use scenario::{Campaign, read_any};
-use signed::SignedWorld;
+use signed::{SignedWorld, replay_signed};
 use std::alloc::Global;
 use std::process::Abort;
 use std::test::Fail;
+use trace::{Latch, write_signed};
 use world::{Event, EventError};
 
 /// Passes on to 1 the first chain that he holds.
@@ -111,5 +112,35 @@ fn signed_events_of_nobody_are_refused(rt: HostRuntime) -> Result<(), Fail> {
     let late = [Event::Tick(2), Event::Post(0), Event::Close];
     refused(&rt, alloc, &mut world, &late, EventError::NotOpen);
     assert!(rt; world.chronicle().is_none());
+    Ok(())
+}
+
+/// The chronicle of three generals of whom the last passes on.
+const PASSED: &str = "chronicle 3
+signed generals 3 bound 1 commander 0 order 1 patience -
+round 1
+letter 0 loyal
+chain 1 0 to 1.2
+letter 1 loyal
+letter 2 steps 4
+round 2
+letter 0 loyal
+letter 1 loyal
+chain 1 0.1 to 2
+letter 2 steps 4
+chain 1 0.2 to 1
+decision 1 1
+decision 2 traitor 1
+verdict alike yes obeyed yes bound yes
+";
+
+#[test]
+fn a_signed_replay_without_names_has_the_text(rt: HostRuntime) -> Result<(), Fail> {
+    let alloc = rt.alloc();
+    let chronicle = replay_signed(alloc, three(alloc, 2, PASSING)?, &[])?;
+    let mut sink = Latch::new(Vec::new(alloc));
+    write_signed(&chronicle, &mut sink)?;
+    let bytes = sink.into_writer();
+    assert_eq!(rt; std::str::from_utf8(bytes.as_slice())?, PASSED);
     Ok(())
 }

@@ -9,7 +9,7 @@ use Rattle.world.specs.KindLists.{IsComplete}
 use Rattle.world.specs.Lists.{listed}
 use Rattle.world.specs.Schedules.{lines_by}
 use Rattle.signed.specs.Kind.{signed_kind}
-use Rattle.signed.specs.Promises.{AgreeUnderSignedBound, IsSignedVerdictOn}
+use Rattle.signed.specs.Promises.{AgreeUnderSignedBound, AreSafeThroughout, AreWhole, IsSignedVerdictOn}
 use Rattle.trace.specs.SignedText.{signed_text}
 use Rattle.lab.specs.Campaigns.{IsOralPlayed, IsSignedPlayed, played, signed_played}
 
@@ -27,11 +27,14 @@ is_played s schedule chronicle text listed agree verdict well told = record {
 -- the same of a signed campaign
 pub is_signed_played : (s : Scenario) (schedule : List (List Repeat)) (chronicle : Chronicle) (text : List ℕ) → chronicle ≡ signed_played s schedule
     → IsComplete signed_kind s (listed s (lines_by schedule))
+    → AreSafeThroughout s (listed s (lines_by schedule)) → AreWhole s chronicle.accesses chronicle.letters
     → AgreeUnderSignedBound s chronicle.decisions → IsSignedVerdictOn s chronicle.decisions chronicle.verdict → IsWellUnderBound chronicle.verdict
     → text ≡ signed_text chronicle → IsSignedPlayed s schedule text
-is_signed_played s schedule chronicle text listed complete agree verdict well told = record {
+is_signed_played s schedule chronicle text listed complete safe whole agree verdict well told = record {
   told = told ∙ ap signed_text listed;
   complete = complete;
+  safe = safe;
+  whole = subst (λ (c : Chronicle). AreWhole s c.accesses c.letters) listed whole;
   agree = subst (λ (c : Chronicle). AgreeUnderSignedBound s c.decisions) listed agree;
   verdict = subst (λ (c : Chronicle). IsSignedVerdictOn s c.decisions c.verdict) listed verdict;
   well = subst (λ (c : Chronicle). IsWellUnderBound c.verdict) listed well;

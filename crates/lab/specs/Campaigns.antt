@@ -16,7 +16,7 @@ use Rattle.scenario.specs.declared.messages.Campaign.TheVariants.{Oral, Signed}
 use Rattle.signed.specs.Kind.{signed_kind}
 use Rattle.signed.specs.Kind as signed
 use Rattle.signed.specs.Chronicle.{signed_chronicle_of}
-use Rattle.signed.specs.Promises.{AgreeUnderSignedBound, IsSignedVerdictOn}
+use Rattle.signed.specs.Promises.{AgreeUnderSignedBound, AreSafeThroughout, AreWhole, IsSignedVerdictOn}
 use Rattle.trace.specs.Names.{chronicle_told}
 use Rattle.trace.specs.Laws.{IsSoundText}
 use Rattle.trace.specs.Schedules.{schedule_told}
@@ -40,11 +40,14 @@ pub record IsOralPlayed (s : Scenario) (schedule : List (List Repeat)) (text : L
   pub verdict : IsVerdictOn s (played s schedule).decisions (played s schedule).verdict
   pub well : IsWellUnderBound (played s schedule).verdict
 
--- the text is that of the signed campaign's chronicle, and so of a complete run, whose decisions agree for at most m traitors
--- among n at least m + 2 generals, and whose verdict means what it says
+-- the text is that of the signed campaign's chronicle, and so of a complete run, in which no activation traps or takes more
+-- steps than its program has instructions, and whose letters are whole; its decisions agree for at most m traitors among n at
+-- least m + 2 generals, and its verdict means what it says
 pub record IsSignedPlayed (s : Scenario) (schedule : List (List Repeat)) (text : List ℕ) : Type 0 where
   pub told : text ≡ signed_text (signed_played s schedule)
   pub complete : generic.IsComplete signed_kind s (listed s (lines_by schedule))
+  pub safe : AreSafeThroughout s (listed s (lines_by schedule))
+  pub whole : AreWhole s (signed_played s schedule).accesses (signed_played s schedule).letters
   pub agree : AgreeUnderSignedBound s (signed_played s schedule).decisions
   pub verdict : IsSignedVerdictOn s (signed_played s schedule).decisions (signed_played s schedule).verdict
   pub well : IsWellUnderBound (signed_played s schedule).verdict
