@@ -10,6 +10,12 @@
 typedef unsigned int u32;
 typedef unsigned long long u64;
 
+/* A chain as its holder is told it, where messages are signed: an order, and who has signed it. */
+struct chain {
+    u32 order;
+    u32 signers; /* bit g for general g */
+};
+
 /* What a program is told: 4,096 bytes that are only read. */
 struct context {
     u32 generals;  /* n, 2 to 13; they are numbered from 0 */
@@ -17,10 +23,16 @@ struct context {
     u32 general;   /* this general's own number */
     u32 commander;
     u32 round;     /* 1 to m + 1 */
-    u32 labels;    /* how many labels he relays in this round, 0 to 1,016 */
-    u32 receivers; /* how many receivers each of them has */
-    u32 zero;
-    u32 taken[1016]; /* the order that he took for each label, by rank */
+    union {
+        u32 labels; /* oral messages: how many labels he relays in this round, 0 to 1,016 */
+        u32 chains; /* signed messages: how many chains he holds, 0 to 384 */
+    };
+    u32 receivers; /* oral messages: how many receivers each label has; signed messages: n - 1 */
+    u32 is_signed; /* 0 where messages are oral, 1 where they are signed */
+    union {
+        u32 taken[1016];        /* oral messages: the order that he took for each label, by rank */
+        struct chain held[384]; /* signed messages: the chains that came to him, by round, sender and entry */
+    };
 };
 
 /* The board: 64 words that the programs of all generals share. Each call is one access. */
@@ -30,13 +42,22 @@ static u64 (*const board_add)(u64 slot, u64 value) = (void *)3;               /*
 static u64 (*const board_cas)(u64 slot, u64 expected, u64 value) = (void *)4; /* the word before */
 static u64 (*const board_copy)(u64 slot, u64 *words, u64 count) = (void *)5;  /* the count */
 
-/* The outbox: what this general tells in this round. An order is the low 32 bits. */
+/* The outbox: what this general tells in this round, where messages are oral. An order is the low 32 bits. */
 static u64 (*const send)(u64 label, u64 receiver, u64 order) = (void *)6;          /* 0 set, 1 no such place */
 static u64 (*const send_row)(u64 label, const u32 *orders, u64 count) = (void *)7; /* how many were set */
 static u64 (*const sway)(u64 receiver, u64 order) = (void *)8;                     /* how many were set */
 static u64 (*const honest)(u64 receiver) = (void *)9;                              /* how many were set */
 
-/* Where orders are signed; bit g of the receivers stands for general g. No campaign that can be played is so: both answer 1. */
+/*
+ * Where messages are signed: what this general sends in this round, in the order of the calls. At most 8 calls are entered.
+ * Bit g of the receivers, 0 to 8,191, stands for general g; whoever is no general, or stands on the chain that is sent, is
+ * dropped from them. Where messages are signed the calls of the outbox above set nothing, and where they are oral these two
+ * enter nothing and answer 1.
+ *
+ * sign_order begins a chain: this order (its low 32 bits), signed by this general. It is entered if he is the commander.
+ * pass_on sends a chain that he holds, with his signature at its end: that at this place of `held`, 0 to 383. It is entered
+ * if he holds a chain there on which he does not stand. What came to him in this round he holds from the next one on.
+ */
 static u64 (*const sign_order)(u64 order, u64 receivers) = (void *)10; /* 0 entered, 1 not */
 static u64 (*const pass_on)(u64 held, u64 receivers) = (void *)11;     /* 0 entered, 1 not */
 

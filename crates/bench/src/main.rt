@@ -1,4 +1,4 @@
-//! `bench`, which times the codec, the verifier, the machine, trees, rounds, campaigns and audits: what it measures goes to standard
+//! `bench`, which times the codec, the verifier, the machine, trees, rounds, oral and signed campaigns and audits: what it measures goes to standard
 //! output, which is the same at every run, and the times go to standard error.
 #![tactic(auto)]
 
@@ -12,6 +12,7 @@ mod plain;
 mod report;
 mod rounds;
 mod shape;
+mod signatures;
 mod trees;
 mod work;
 
@@ -22,5 +23,6 @@ fn main(rt: HostRuntime) -> Result<()> {
     trees::report_trees(&rt)?;
     rounds::report_rounds(&rt)?;
     campaigns::report_campaigns(&rt)?;
+    signatures::report_signatures(&rt)?;
     musters::report_musters(&rt)
 }

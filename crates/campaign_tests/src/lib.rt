@@ -21,6 +21,8 @@ mod rounds;
 #[cfg(test)]
 mod scenarios;
 #[cfg(test)]
+mod signed_worlds;
+#[cfg(test)]
 mod tasks;
 #[cfg(test)]
 mod threaded;

@@ -4,9 +4,9 @@ use crate::changes::{next, with_byte};
 use crate::marks::{back, ready};
 use crate::outcome::Outcome;
 use crate::playing::played;
+use crate::signing;
 use anyhow::{Result, bail};
 use lab::{Refusal, audited};
-use round::Scenario;
 use std::alloc::Global;
 use std::str;
 use trace::{TraceError, check};
@@ -34,22 +34,44 @@ pub fn checks<R: Print + AllocGlobal>(rt: &R, campaign: Campaign) -> Result<Outc
 /// How often each byte of the chronicle is changed.
 const TIMES: u32 = 9;
 
-/// Audits each proper beginning of the chronicle of seven generals, and the chronicle with one byte changed.
+/// Audits each proper beginning of the chronicle of seven generals, and the chronicle with one byte changed; then those of
+/// the same generals with signed messages.
 pub fn report<R: Print + AllocGlobal>(rt: &R) -> Result<()> {
     let alloc = rt.alloc();
     let scenario = Campaign::Seven.scenario(alloc)?;
     let chronicle = played(alloc, scenario.copy(alloc)?)?;
-    let bytes = chronicle.as_slice();
+    damage(
+        rt,
+        &scenario::Campaign::Oral(scenario),
+        chronicle.as_slice(),
+    )?;
+    let scenario = Campaign::Seven.signed_scenario(alloc)?;
+    let chronicle = signing::played(alloc, scenario.copy(alloc)?)?;
+    let chronicle = signing::text(alloc, &chronicle)?;
+    damage(
+        rt,
+        &scenario::Campaign::Signed(scenario),
+        chronicle.as_slice(),
+    )
+}
+
+/// Audits each proper beginning of the campaign's chronicle, and the chronicle with one byte changed.
+fn damage<R: Print + AllocGlobal>(
+    rt: &R,
+    campaign: &scenario::Campaign,
+    bytes: &[u8],
+) -> Result<()> {
+    let alloc = rt.alloc();
     let length = bytes.len();
     let mut state = 1;
     for place in 0..bytes.len() {
-        if !is_refused(alloc, &scenario, &bytes[..place])? {
+        if !is_refused(alloc, campaign, &bytes[..place])? {
             bail!("the first {place} bytes are not refused");
         }
         for _ in 0..TIMES {
             let byte = bytes[place].wrapping_add(change(&mut state));
             let changed = with_byte(alloc, bytes, place, byte)?;
-            if !is_refused(alloc, &scenario, changed.as_slice())? {
+            if !is_refused(alloc, campaign, changed.as_slice())? {
                 bail!("with {byte} behind {place} bytes it is not refused");
             }
         }
@@ -65,9 +87,9 @@ fn change(state: &mut u64) -> u8 {
     if more == 0 { 1 } else { more }
 }
 
-/// Whether the bytes are refused as a chronicle of the scenario's: as no text, or by a line.
-fn is_refused(alloc: Global, scenario: &Scenario, bytes: &[u8]) -> Result<bool> {
-    match audited(alloc, scenario, bytes) {
+/// Whether the bytes are refused as a chronicle of the campaign: as no text, or by a line.
+fn is_refused(alloc: Global, campaign: &scenario::Campaign, bytes: &[u8]) -> Result<bool> {
+    match audited(alloc, campaign, bytes) {
         Ok(_) => Ok(false),
         Err(Refusal::NotText) => Ok(true),
         Err(Refusal::Trace(fault)) => Ok(is_of_text(fault)),

@@ -15,10 +15,14 @@ pub enum Call {
     Read,
     ReadSchedule,
     Check,
+    OpenSigned,
+    SignedApply,
+    PlaySigned,
+    CheckSigned,
 }
 
 /// All of them.
-pub const CALLS: [Call; 14] = [
+pub const CALLS: [Call; 18] = [
     Call::Decode,
     Call::Encode,
     Call::Assemble,
@@ -33,6 +37,10 @@ pub const CALLS: [Call; 14] = [
     Call::Read,
     Call::ReadSchedule,
     Call::Check,
+    Call::OpenSigned,
+    Call::SignedApply,
+    Call::PlaySigned,
+    Call::CheckSigned,
 ];
 
 impl Call {
@@ -53,6 +61,10 @@ impl Call {
             Call::Read => "read",
             Call::ReadSchedule => "read_schedule",
             Call::Check => "check",
+            Call::OpenSigned => "open_signed",
+            Call::SignedApply => "signed_apply",
+            Call::PlaySigned => "play_signed",
+            Call::CheckSigned => "check_signed",
         }
     }
 

@@ -2,7 +2,7 @@
 use crate::call::Call;
 use crate::campaign::Campaign;
 use crate::outcome::Outcome;
-use crate::{auditing, coding, deciding, playing, reading, serving};
+use crate::{auditing, coding, deciding, playing, reading, serving, signing};
 use anyhow::Result;
 use std::sync::Wait;
 use std::thread::Threads;
@@ -40,5 +40,9 @@ fn made<R: Print + Threads + Wait + Sync + AllocGlobal>(
         Call::Read => reading::reads(rt, campaign),
         Call::ReadSchedule => reading::reads_schedule(rt, campaign),
         Call::Check => auditing::checks(rt, campaign),
+        Call::OpenSigned => signing::opens(rt, campaign),
+        Call::SignedApply => signing::happens(rt, campaign),
+        Call::PlaySigned => signing::plays(rt, campaign),
+        Call::CheckSigned => signing::checks(rt, campaign),
     }
 }

@@ -1,5 +1,5 @@
 //! The campaigns on which the calls are made.
-use anyhow::{Result, anyhow};
+use anyhow::{Result, anyhow, bail};
 use asm::assemble;
 use codec::encode;
 use insn::Program;
@@ -67,6 +67,23 @@ first: mov r1, 0
 mov r2, 9
 call board_swap
 done: mov r0, 0
+exit
+";
+
+/// Signs the order 1 for 1 and the order 0 for 2, which the commander alone can, and passes on to all the first two chains
+/// that he holds.
+const SIGNING: &str = "mov r1, 1
+mov r2, 2
+call sign_order
+mov r1, 0
+mov r2, 4
+call sign_order
+mov r1, 0
+mov r2, 8191
+call pass_on
+mov r1, 1
+mov r2, 8191
+call pass_on
 exit
 ";
 
@@ -146,14 +163,19 @@ impl Campaign {
     /// The text of its scenario.
     pub fn text(self, alloc: Global) -> Result<String> {
         let mut text = String::from_str(alloc, self.keys())?;
-        let program = self.assembly();
+        self.push_traitors(alloc, &mut text, self.assembly())?;
+        Ok(text)
+    }
+
+    /// The tables of its traitors with this program, behind a scenario's keys.
+    fn push_traitors(self, alloc: Global, text: &mut String, program: &str) -> Result<()> {
         for general in self.traitors() {
             let table = format!(in alloc;
                 "[[traitor]]\ngeneral = {general}\nasm = '''\n{program}'''\n"
             )?;
             text.push_str(table.as_str())?;
         }
-        Ok(text)
+        Ok(())
     }
 
     /// Its scenario.
@@ -161,6 +183,27 @@ impl Campaign {
         match scenario::read(alloc, self.text(alloc)?.as_str()) {
             Ok(scenario) => Ok(scenario),
             Err(error) => Err(anyhow!("the scenario: {error}")),
+        }
+    }
+
+    /// The keys of the scenario in which the same generals sign their orders.
+    fn signed_keys(self) -> &'static str {
+        match self {
+            Campaign::Four | Campaign::Seven => self.keys(),
+            Campaign::Copying =>
+                "generals = 4\nbound = 1\ncommander = 0\norder = 1\npatience = 20\n",
+        }
+    }
+
+    /// The scenario in which the same generals sign their orders, and the same are traitors.
+    pub fn signed_scenario(self, alloc: Global) -> Result<Scenario> {
+        let mut text = String::from_str(alloc, self.signed_keys())?;
+        text.push_str("messages = \"signed\"\n")?;
+        self.push_traitors(alloc, &mut text, SIGNING)?;
+        match scenario::read_any(alloc, text.as_str()) {
+            Ok(scenario::Campaign::Signed(scenario)) => Ok(scenario),
+            Ok(scenario::Campaign::Oral(_)) => bail!("the campaign is an oral one"),
+            Err(error) => Err(anyhow!("the signed scenario: {error}")),
         }
     }
 

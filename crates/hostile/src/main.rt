@@ -19,6 +19,7 @@ mod outcome;
 mod playing;
 mod reading;
 mod serving;
+mod signing;
 mod stored;
 mod writer;
 mod writing;

@@ -1,14 +1,16 @@
 //! Writers that fail, and what they have taken then.
 use crate::campaign::{Campaign, text};
 use crate::playing::played;
+use crate::signing;
 use crate::writer::{Failure, Writer};
 use anyhow::{Result, bail};
 use command_line::Task;
 use lab::serve;
+use signed::SignedChronicle;
 use std::alloc::Global;
 use std::sync::Wait;
 use std::thread::Threads;
-use trace::{Latch, TraceError, write_chronicle};
+use trace::{Latch, TraceError, write_chronicle, write_signed};
 use world::{Chronicle, play};
 
 /// How many bytes a call the writers take at most.
@@ -17,7 +19,31 @@ const SIZES: [usize; 3] = [1, 7, 4096];
 /// No text takes more writes.
 const MOST_WRITES: u32 = 100_000;
 
-/// Writes the chronicle of seven generals to writers that fail at each of their writes, and when they are flushed.
+/// A chronicle of oral or of signed messages.
+enum Told<'a> {
+    Oral(&'a Chronicle),
+    Signed(&'a SignedChronicle),
+}
+
+impl<'a> Told<'a> {
+    /// Its whole text.
+    fn text(&self, alloc: Global) -> Result<Vec<u8>> {
+        match self {
+            Told::Oral(chronicle) => text(alloc, chronicle),
+            Told::Signed(chronicle) => signing::text(alloc, chronicle),
+        }
+    }
+
+    /// Writes it.
+    fn write(&self, sink: &mut Latch<Writer>) -> Result<(), TraceError> {
+        match self {
+            Told::Oral(chronicle) => write_chronicle(chronicle, sink),
+            Told::Signed(chronicle) => write_signed(chronicle, sink),
+        }
+    }
+}
+
+/// Writes the chronicles of seven generals to writers that fail at each of their writes, and when they are flushed.
 pub fn report<R: Print + Threads + Wait + Sync + AllocGlobal>(rt: &R) -> Result<()> {
     let alloc = rt.alloc();
     let chronicle = play(
@@ -25,8 +51,10 @@ pub fn report<R: Print + Threads + Wait + Sync + AllocGlobal>(rt: &R) -> Result<
         Campaign::Seven.scenario(alloc)?,
         &Campaign::Seven.schedule(alloc)?,
     )?;
+    let signed = signing::played(alloc, Campaign::Seven.signed_scenario(alloc)?)?;
     for size in SIZES {
-        fail_at_each_write(alloc, &chronicle, size)?;
+        fail_at_each_write(alloc, Told::Oral(&chronicle), size)?;
+        fail_at_each_write(alloc, Told::Signed(&signed), size)?;
         println!(rt; "{size} bytes a write: each failure told, behind a beginning")?;
     }
     report_flushes(rt)
@@ -51,11 +79,11 @@ fn report_flushes<R: Print + Threads + Wait + Sync + AllocGlobal>(rt: &R) -> Res
 
 /// Writes the chronicle to writers that fail at their first write, at their second, and so on, until one takes all of it. Each
 /// failure is answered, behind a beginning of the text.
-fn fail_at_each_write(alloc: Global, chronicle: &Chronicle, size: usize) -> Result<()> {
-    let whole = text(alloc, chronicle)?;
+fn fail_at_each_write(alloc: Global, chronicle: Told<'_>, size: usize) -> Result<()> {
+    let whole = chronicle.text(alloc)?;
     for nth in 1..MOST_WRITES {
         let mut sink = Latch::new(Writer::new(alloc, size, Failure::Write(nth)));
-        let answer = write_chronicle(chronicle, &mut sink);
+        let answer = chronicle.write(&mut sink);
         let writer = sink.into_writer();
         match answer {
             Ok(()) => {

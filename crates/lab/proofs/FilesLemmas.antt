@@ -7,6 +7,7 @@ use Rattle.command_line.specs.Told.{file_of, second_of}
 use Rattle.command_line.specs.declared.tasks.Task.{Task}
 use Rattle.command_line.specs.declared.tasks.Task.TheVariants.{Check, Assemble, Disassemble, DisassembleUnits, Book, ExplainDecisions, Form, Play, Muster, Audit}
 use Rattle.round.specs.Scenario.{Scenario}
+use Rattle.scenario.specs.declared.messages.Campaign.{Campaign}
 use Rattle.world.specs.declared.schedule.Repeat.{Repeat}
 use Rattle.trace.specs.Schedules.{schedule_told}
 use Rattle.lab.specs.Answers.{ComesTo, GoesOn, IsTriedBy, Prints}
@@ -43,7 +44,7 @@ second_bytes None bytes are = (None, refl, are)
 second_bytes (Some known) bytes are = (Some bytes, are, refl)
 
 -- an answer by the second file's schedule
-pub answered_played : (task : Task) (files : Files) (first text : List ℕ) (s : Scenario) → AreBytes files.first first
+pub answered_played : (task : Task) (files : Files) (first text : List ℕ) (s : Campaign) → AreBytes files.first first
     → ComesTo task first (answer.Play s) → IsPlayedBy files.second s text → IsAnswer task files text
 answered_played (Check file notation None explained) files first text s are comes by = absurd comes
 answered_played (Check file notation (Some context) explained) files first text s are comes by = absurd comes
@@ -75,7 +76,7 @@ answered_mustered (Muster scenario) files first text s are comes mustered =
 answered_mustered (Audit scenario chronicle) files first text s are comes mustered = absurd comes
 
 -- an answer on the second file
-pub answered_audited : (task : Task) (files : Files) (first text : List ℕ) (s : Scenario) → AreBytes files.first first
+pub answered_audited : (task : Task) (files : Files) (first text : List ℕ) (s : Campaign) → AreBytes files.first first
     → ComesTo task first (answer.Audit s) → IsAuditOf files.second s text → IsAnswer task files text
 answered_audited (Check file notation None explained) files first text s are comes audit = absurd comes
 answered_audited (Check file notation (Some context) explained) files first text s are comes audit = absurd comes

@@ -12,7 +12,7 @@ use Rattle.command_line.specs.declared.tasks.Notation.{Notation}
 use Rattle.command_line.specs.declared.tasks.Spelling.TheVariants.{Hex, Raw}
 use Rattle.command_line.specs.declared.tasks.Task.{Task}
 use Rattle.command_line.specs.declared.tasks.Task.TheVariants.{Check, Assemble, Disassemble, DisassembleUnits, Book, ExplainDecisions, Form, Play, Muster, Audit}
-use Rattle.scenario.specs.Told.{Tells}
+use Rattle.scenario.specs.Told.{Tells, TellsAny}
 use Rattle.tables.specs.Answers.{DecidesTable, ExplainsTable, IsFormOf}
 use Rattle.verify.specs.Judgement.{judged}
 use Rattle.trial.specs.Setting.{Setting, bench, context_in}
@@ -92,9 +92,9 @@ Prints (Audit scenario chronicle) first second text = Audits first second text
 abbrev pub GoesOn : Task → List ℕ → FirstAnswer → Type 0
 GoesOn (Check file notation (Some context) explained) first (answer.Trial program) =
     HasProgram notation first program × (judged program ≡ None) × IsSound program
-GoesOn (Play scenario schedule) first (answer.Play s) = Tells first s
+GoesOn (Play scenario schedule) first (answer.Play c) = TellsAny first c
 GoesOn (Muster scenario) first (answer.Muster s) = Tells first s
-GoesOn (Audit scenario chronicle) first (answer.Audit s) = Tells first s
+GoesOn (Audit scenario chronicle) first (answer.Audit c) = TellsAny first c
 GoesOn _ first _ = ⊥
 
 -- what the task comes to on its first file: a text, whatever the second has, or that with which it goes on

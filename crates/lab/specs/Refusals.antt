@@ -12,8 +12,9 @@ use Rattle.book.specs.Grammar.{opened, table_told}
 use Rattle.book.specs.declared.fault.TableError.{TableError}
 use Rattle.book.specs.declared.fault.TableError.TheVariants as table
 use Rattle.toml.specs.Parse.{parse_document}
-use Rattle.round.specs.Scenario as round
-use Rattle.scenario.specs.Told.{Reads}
+use Rattle.scenario.specs.Told.{Reads, ReadsAny}
+use Rattle.scenario.specs.declared.messages.Campaign.{Campaign}
+use Rattle.scenario.specs.declared.messages.Campaign.TheVariants.{Oral, Signed}
 use Rattle.scenario.specs.declared.fault.ScenarioError.{ScenarioError}
 use Rattle.scenario.specs.declared.fault.ScenarioError.TheVariants as scenario
 use Rattle.trial.specs.Told as trial
@@ -23,6 +24,7 @@ use Rattle.threads.specs.declared.error.MusterError.{MusterError}
 use Rattle.threads.specs.declared.error.MusterError.TheVariants as muster
 use Rattle.trace.specs.Audit.{IsFaultOf}
 use Rattle.trace.specs.Laws.{IsSoundText}
+use Rattle.trace.specs.SignedAudit.{IsSignedFaultOf, IsSoundSignedText}
 use Rattle.trace.specs.Schedules.{schedule_told}
 use Rattle.trace.specs.declared.fault.TraceError.{TraceError}
 use Rattle.trace.specs.declared.fault.TraceError.TheVariants as trace
@@ -118,11 +120,17 @@ RefusesTable text (Table error) = table_told text ≡ Err error
 RefusesTable text Memory = Unit {0}
 RefusesTable text _ = ⊥
 
--- the text tells no scenario, by this first fault
+-- the text tells no oral campaign, by this first fault
 abbrev pub RefusesScenario : List ℕ → Refusal → Type 0
 RefusesScenario text (Scenario error) = (error ≢ scenario.Memory) × Reads (parse_document text) (Err error)
 RefusesScenario text Memory = Unit {0}
 RefusesScenario text _ = ⊥
+
+-- the text tells no campaign, oral or signed, by this first fault
+abbrev pub RefusesCampaign : List ℕ → Refusal → Type 0
+RefusesCampaign text (Scenario error) = (error ≢ scenario.Memory) × ReadsAny (parse_document text) (Err error)
+RefusesCampaign text Memory = Unit {0}
+RefusesCampaign text _ = ⊥
 
 -- the text tells no setting, by this first fault
 abbrev pub RefusesSetting : List ℕ → Refusal → Type 0
@@ -136,11 +144,12 @@ RefusesSchedule text (Trace error) = schedule_told text ≡ Err error
 RefusesSchedule text Memory = Unit {0}
 RefusesSchedule text _ = ⊥
 
--- the text is no chronicle of the scenario's, by this first line
-abbrev pub RefusesChronicle : round.Scenario → List ℕ → Refusal → Type 0
-RefusesChronicle s text (Trace error) = (IsSoundText s text → ⊥) × IsFaultOf s text error
-RefusesChronicle s text Memory = Unit {0}
-RefusesChronicle s text _ = ⊥
+-- the text is no chronicle of the campaign, by this first line
+abbrev pub RefusesChronicle : Campaign → List ℕ → Refusal → Type 0
+RefusesChronicle (Oral s) text (Trace error) = (IsSoundText s text → ⊥) × IsFaultOf s text error
+RefusesChronicle (Signed s) text (Trace error) = (IsSoundSignedText s text → ⊥) × IsSignedFaultOf s text error
+RefusesChronicle c text Memory = Unit {0}
+RefusesChronicle c text _ = ⊥
 
 -- the threads gave no chronicle; which of them is at fault is not said
 abbrev pub RefusesMuster : Refusal → Type 0
@@ -172,6 +181,6 @@ Refuses (DisassembleUnits file) bytes refusal = RefusesDisassembly bytes refusal
 Refuses (Book file) bytes refusal = RefusesText RefusesTable bytes refusal
 Refuses (ExplainDecisions file traitors) bytes refusal = RefusesText RefusesTable bytes refusal
 Refuses (Form n m c) bytes refusal = RefusesForm (string_bytes n) (string_bytes m) (string_bytes c) refusal
-Refuses (Play scenario schedule) bytes refusal = RefusesText RefusesScenario bytes refusal
+Refuses (Play scenario schedule) bytes refusal = RefusesText RefusesCampaign bytes refusal
 Refuses (Muster scenario) bytes refusal = RefusesText RefusesScenario bytes refusal
-Refuses (Audit scenario chronicle) bytes refusal = RefusesText RefusesScenario bytes refusal
+Refuses (Audit scenario chronicle) bytes refusal = RefusesText RefusesCampaign bytes refusal

@@ -4,7 +4,7 @@ use Rattle.std.specs.Io.KnownBytes.{Appends}
 use Rattle.command_line.specs.Told.{file_of, second_of}
 use Rattle.command_line.specs.declared.tasks.Task.{Task}
 use Rattle.insn.specs.declared.insn.Insn.{Insn}
-use Rattle.round.specs.Scenario.{Scenario}
+use Rattle.scenario.specs.declared.messages.Campaign.{Campaign}
 use Rattle.world.specs.declared.schedule.Repeat.{Repeat}
 use Rattle.lab.specs.declared.refusal.Refusal.{Refusal}
 use Rattle.lab.specs.declared.refusal.Refusal.TheVariants.{NotText, Memory}
@@ -55,12 +55,12 @@ abbrev pub IsScheduleOf : Option (Option (List ℕ)) → List (List Repeat) → 
 IsScheduleOf known schedule = (second : Option (List ℕ)) × AreSecond known second × IsSchedule second schedule
 
 -- the text is that of the campaign by the second file's schedule
-abbrev pub IsPlayedBy : Option (Option (List ℕ)) → Scenario → List ℕ → Type 0
-IsPlayedBy known s text = (schedule : List (List Repeat)) × IsScheduleOf known schedule × IsPlayed s schedule text
+abbrev pub IsPlayedBy : Option (Option (List ℕ)) → Campaign → List ℕ → Type 0
+IsPlayedBy known c text = (schedule : List (List Repeat)) × IsScheduleOf known schedule × IsPlayed c schedule text
 
 -- the lines are those of the audit of the second file
-abbrev pub IsAuditOf : Option (Option (List ℕ)) → Scenario → List ℕ → Type 0
-IsAuditOf known s text = (bytes : List ℕ) × AreSecondBytes known bytes × IsAudited s bytes text
+abbrev pub IsAuditOf : Option (Option (List ℕ)) → Campaign → List ℕ → Type 0
+IsAuditOf known c text = (bytes : List ℕ) × AreSecondBytes known bytes × IsAudited c bytes text
 
 -- the lines are those of the program's trial in the second file's setting, and behind them its explanation, if it is asked for
 abbrev pub IsTrialOf : Option (Option (List ℕ)) → Bool → List Insn → List ℕ → Type 0
@@ -99,10 +99,10 @@ abbrev pub IsScheduleRefused : Option (Option (List ℕ)) → Refusal → Type 0
 IsScheduleRefused known refusal =
     (refusal ≢ Memory) × ((bytes : List ℕ) × AreSecond known (Some bytes) × RefusesText RefusesSchedule bytes refusal)
 
--- the second file is refused so as a chronicle of the scenario's, and not for want of memory
-abbrev pub IsChronicleRefused : Scenario → Option (Option (List ℕ)) → Refusal → Type 0
-IsChronicleRefused s known refusal =
-    (refusal ≢ Memory) × ((bytes : List ℕ) × AreSecondBytes known bytes × RefusesText (RefusesChronicle s) bytes refusal)
+-- the second file is refused so as a chronicle of the campaign, and not for want of memory
+abbrev pub IsChronicleRefused : Campaign → Option (Option (List ℕ)) → Refusal → Type 0
+IsChronicleRefused c known refusal =
+    (refusal ≢ Memory) × ((bytes : List ℕ) × AreSecondBytes known bytes × RefusesText (RefusesChronicle c) bytes refusal)
 
 -- the threads gave no chronicle so, and not for want of memory
 abbrev pub IsUnmustered : Refusal → Type 0
@@ -111,9 +111,9 @@ IsUnmustered refusal = (refusal ≢ Memory) × RefusesMuster refusal
 -- behind a first file with which a task goes on so, it refuses so
 abbrev pub IsRefusedLater : FirstAnswer → Option (Option (List ℕ)) → Refusal → Type 0
 IsRefusedLater (answer.Trial program) known refusal = IsSettingRefused known refusal
-IsRefusedLater (answer.Play s) known refusal = IsScheduleRefused known refusal
+IsRefusedLater (answer.Play c) known refusal = IsScheduleRefused known refusal
 IsRefusedLater (answer.Muster s) known refusal = IsUnmustered refusal
-IsRefusedLater (answer.Audit s) known refusal = IsChronicleRefused s known refusal
+IsRefusedLater (answer.Audit c) known refusal = IsChronicleRefused c known refusal
 IsRefusedLater _ known refusal = ⊥
 
 -- the stream has grown by this line, or it failed

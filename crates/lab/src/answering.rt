@@ -8,7 +8,7 @@ use crate::deciding::{decided, explained};
 use crate::explaining::with_explanation;
 use crate::first_answer::FirstAnswer;
 use crate::forming::formed;
-use crate::playing::campaign;
+use crate::playing::{any_campaign, campaign};
 use crate::refusal::Refusal;
 use crate::texts::as_text;
 use command_line::{Notation, Spelling, Task};
@@ -54,9 +54,9 @@ pub fn answer(alloc: Global, task: &Task, bytes: &[u8]) -> Result<FirstAnswer, R
             bound,
             commander,
         } => formed(alloc, generals.as_str(), bound.as_str(), commander.as_str())?,
-        Task::Play { .. } => return Ok(FirstAnswer::Play(campaign(alloc, bytes)?)),
+        Task::Play { .. } => return Ok(FirstAnswer::Play(any_campaign(alloc, bytes)?)),
         Task::Muster(_) => return Ok(FirstAnswer::Muster(campaign(alloc, bytes)?)),
-        Task::Audit { .. } => return Ok(FirstAnswer::Audit(campaign(alloc, bytes)?)),
+        Task::Audit { .. } => return Ok(FirstAnswer::Audit(any_campaign(alloc, bytes)?)),
     };
     Ok(FirstAnswer::Text(text))
 }

@@ -1,4 +1,5 @@
 use round::Scenario;
+use scenario::Campaign;
 use verify::Verified;
 
 /// What a task comes to on its only or first file.
@@ -11,9 +12,9 @@ pub enum FirstAnswer {
     /// A program to try, in the setting of the second file.
     Trial(Verified),
     /// A campaign to play, by the schedule of the second file.
-    Play(Scenario),
-    /// A campaign to run with a thread for each general.
+    Play(Campaign),
+    /// An oral campaign to run with a thread for each general.
     Muster(Scenario),
     /// A campaign whose chronicle the second file may be.
-    Audit(Scenario),
+    Audit(Campaign),
 }

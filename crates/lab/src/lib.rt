@@ -28,7 +28,7 @@ pub use deciding::{decided, explained};
 pub use first_answer::FirstAnswer;
 pub use forming::formed;
 pub use mustering::mustered;
-pub use playing::{campaign, played, schedule};
+pub use playing::{any_campaign, campaign, played, schedule};
 pub use refusal::Refusal;
 pub use seeming::{Likeness, seems};
 pub use serving::serve;

@@ -1,20 +1,37 @@
 ghost use Rattle.std.specs.Prelude.{◌≡◌, ℕ, List, IfOk, IfErr, Ok, Some};
-ghost use Rattle.scenario.specs.Told.{Tells};
+ghost use Rattle.scenario.specs.Told.{Tells, TellsAny};
 ghost use Rattle.trace.specs.Schedules.{schedule_told};
+ghost use Rattle.trace.specs.SignedText.{signed_text};
 ghost use Rattle.trace.specs.Text.{chronicle_text};
-ghost use Rattle.lab.specs.Campaigns.{IsPlayed};
+ghost use Rattle.lab.specs.Campaigns.{IsOralPlayed, IsPlayed, IsSignedPlayed};
 ghost use Rattle.streams.specs.Reading.{IsFront};
-ghost use Rattle.lab.specs.Refusals.{RefusesScenario, RefusesSchedule, RefusesText};
+ghost use Rattle.lab.specs.Refusals.{RefusesCampaign, RefusesScenario, RefusesSchedule, RefusesText};
 
 use crate::refusal::Refusal;
 use crate::texts::as_text;
 use round::Scenario;
+use scenario::Campaign;
+use signed::{SignedChronicle, play_signed};
 use std::alloc::{AllocError, Global};
 use streams::may_begin_text;
-use trace::{Fault, Latch, MOST_SCHEDULE_BYTES, TraceError, read_schedule, write_chronicle};
+use trace::{
+    Fault, Latch, MOST_SCHEDULE_BYTES, TraceError, read_schedule, write_chronicle, write_signed,
+};
 use world::{Chronicle, Schedule, play};
 
-/// The campaign that the bytes tell.
+/// The campaign that the bytes tell, be it oral or signed.
+///
+/// # Errors
+///
+/// The first fault of the scenario, or want of memory.
+pub fn any_campaign(alloc: Global, bytes: &[u8]) -> Result<Campaign, Refusal>
+    ensures told { IfOk result (TellsAny bytes.now) }
+    ensures refused { IfErr result (RefusesText RefusesCampaign bytes.now) }
+{
+    Ok(scenario::read_any(alloc, as_text(bytes)?)?)
+}
+
+/// The oral campaign that the bytes tell.
 ///
 /// # Errors
 ///
@@ -63,19 +80,56 @@ pub(crate) fn schedule_of(alloc: Global, front: &[u8]) -> Result<Schedule, Refus
 /// # Errors
 ///
 /// `AllocError` where memory is refused.
-pub fn played(alloc: Global, scenario: Scenario, schedule: &Schedule) -> Result<Vec<u8>, AllocError>
-    ensures { IfOk result (λ text. IsPlayed scenario schedule.now text.items) }
+pub fn played(alloc: Global, campaign: Campaign, schedule: &Schedule) -> Result<Vec<u8>, AllocError>
+    ensures { IfOk result (λ text. IsPlayed campaign schedule.now text.items) }
+{
+    match campaign {
+        Campaign::Oral(scenario) => oral_played(alloc, scenario, schedule),
+        Campaign::Signed(scenario) => signed_played(alloc, scenario, schedule),
+    }
+}
+
+/// That of an oral campaign.
+fn oral_played(
+    alloc: Global,
+    scenario: Scenario,
+    schedule: &Schedule,
+) -> Result<Vec<u8>, AllocError>
+    ensures { IfOk result (λ text. IsOralPlayed scenario schedule.now text.items) }
 {
     let chronicle = play(alloc, scenario, schedule)?;
     chronicle_text(alloc, &chronicle)
 }
 
-/// The text of a chronicle.
+/// That of a signed one.
+fn signed_played(
+    alloc: Global,
+    scenario: Scenario,
+    schedule: &Schedule,
+) -> Result<Vec<u8>, AllocError>
+    ensures { IfOk result (λ text. IsSignedPlayed scenario schedule.now text.items) }
+{
+    let chronicle = play_signed(alloc, scenario, schedule)?;
+    signed_chronicle_text(alloc, &chronicle)
+}
+
+/// The text of an oral campaign's chronicle.
 pub(crate) fn chronicle_text(alloc: Global, chronicle: &Chronicle) -> Result<Vec<u8>, AllocError>
     ensures { IfOk result (λ text. text.items ≡ chronicle_text chronicle.now) }
 {
     let mut latch = Latch::new(Vec::new(alloc));
     match write_chronicle(chronicle, &mut latch) {
+        Ok(()) => Ok(latch.into_writer()),
+        Err(_) => Err(AllocError),
+    }
+}
+
+/// The text of a signed one's.
+fn signed_chronicle_text(alloc: Global, chronicle: &SignedChronicle) -> Result<Vec<u8>, AllocError>
+    ensures { IfOk result (λ text. text.items ≡ signed_text chronicle.now) }
+{
+    let mut latch = Latch::new(Vec::new(alloc));
+    match write_signed(chronicle, &mut latch) {
         Ok(()) => Ok(latch.into_writer()),
         Err(_) => Err(AllocError),
     }

@@ -13,7 +13,7 @@ use crate::playing::{played, schedule_of};
 use crate::reading::{read_first, read_schedule, read_second};
 use crate::trying::tried_by;
 use command_line::Task;
-use round::Scenario;
+use scenario::Campaign;
 use std::alloc::Global;
 use std::sync::Wait;
 use std::thread::Threads;
@@ -111,12 +111,12 @@ where
         Ok(FirstAnswer::Trial(program)) => {
             trial_of(alloc, &program, explained_in(task).is_some(), file, second)
         }
-        Ok(FirstAnswer::Play(scenario)) => play_by(alloc, scenario, file, second),
+        Ok(FirstAnswer::Play(campaign)) => play_by(alloc, campaign, file, second),
         Ok(FirstAnswer::Muster(scenario)) => match mustered(rt, alloc, scenario) {
             Ok(text) => Ok(text),
             Err(refusal) => Err(Failure::of(refusal, file)),
         },
-        Ok(FirstAnswer::Audit(scenario)) => audit_of(alloc, &scenario, file, second),
+        Ok(FirstAnswer::Audit(campaign)) => audit_of(alloc, &campaign, file, second),
         Err(refusal) => Err(refused(alloc, task, refusal, bytes.as_slice())),
     }
 }
@@ -146,16 +146,16 @@ fn trial_of<'a, R: Source>(
 /// The text of the campaign by the schedule of the second file.
 fn play_by<'a, R: Source>(
     alloc: Global,
-    scenario: Scenario,
+    campaign: Campaign,
     file: &'a str,
     second: Option<R>,
 ) -> Result<Vec<u8>, Failure<'a>>
-    ensures played { IfOk result (λ text. IsPlayedBy (option_map R.bytes second) scenario text.items) }
+    ensures played { IfOk result (λ text. IsPlayedBy (option_map R.bytes second) campaign text.items) }
     ensures fault { IfErr result
         (Stops (IsSomeAnd second R.fails) (NoHint (IsScheduleRefused (option_map R.bytes second))) file.entry.now) }
 {
     let schedule = scheduled(alloc, file, second)?;
-    match played(alloc, scenario, &schedule) {
+    match played(alloc, campaign, &schedule) {
         Ok(text) => Ok(text),
         Err(_) => Err(Failure::Memory),
     }
@@ -183,19 +183,19 @@ fn scheduled<'a, R: Source>(
     }
 }
 
-/// The audit of the second file as a chronicle of the scenario's.
+/// The audit of the second file as a chronicle of the campaign.
 fn audit_of<'a, R: Source>(
     alloc: Global,
-    scenario: &Scenario,
+    campaign: &Campaign,
     file: &'a str,
     second: Option<R>,
 ) -> Result<Vec<u8>, Failure<'a>>
-    ensures audited { IfOk result (λ text. IsAuditOf (option_map R.bytes second) scenario.now text.items) }
+    ensures audited { IfOk result (λ text. IsAuditOf (option_map R.bytes second) campaign.now text.items) }
     ensures fault { IfErr result
-        (Stops (IsSomeAnd second R.fails) (NoHint (IsChronicleRefused scenario.now (option_map R.bytes second))) file.entry.now) }
+        (Stops (IsSomeAnd second R.fails) (NoHint (IsChronicleRefused campaign.now (option_map R.bytes second))) file.entry.now) }
 {
     let bytes = read_second(alloc, file, second)?;
-    match audited(alloc, scenario, bytes.as_slice()) {
+    match audited(alloc, campaign, bytes.as_slice()) {
         Ok(text) => Ok(text),
         Err(refusal) => Err(Failure::of(refusal, file)),
     }

@@ -1,5 +1,5 @@
 //! The bytes of a context.
-ghost use Rattle.std.specs.Prelude.{◌≡◌, ◌<◌, ◌≤◌, ◌+◌, ◌*◌, ◌^◌, ◌++◌, All, length, map, flat_map, vec_len, vec_capacity};
+ghost use Rattle.std.specs.Prelude.{◌≡◌, ◌<◌, ◌≤◌, ◌+◌, ◌*◌, ◌^◌, ◌++◌, All, length, map, flat_map, vec_len, vec_capacity, IfOk};
 ghost use Rattle.word.specs.Bytes.{little_bytes};
 ghost use Rattle.label.specs.Oral.{order_of};
 ghost use Rattle.round.specs.Contexts.{context_bytes, context_numbers};
@@ -7,6 +7,7 @@ ghost use Rattle.round.specs.Contexts.{context_bytes, context_numbers};
 use byteorder::{ByteOrder, LittleEndian};
 use label::Shape;
 use mem::Context;
+use std::alloc::{AllocError, Global};
 
 /// Writes the context of a relay in a campaign with this bound, in place of what the vector held, which has room for it:
 /// the values taken for its labels, in the order of their ranks, nothing as RETREAT. It takes no memory. Labels are 990 at
@@ -84,4 +85,37 @@ fn put(bytes: &mut Vec<u8>, number: u32)
     let Ok(()) = bytes.extend_from_slice(&word) else {
         unreachable!()
     };
+}
+
+/// The context of these eight numbers and those behind them, zeros after.
+///
+/// # Errors
+///
+/// `AllocError` where the memory for the 4,096 bytes is refused.
+pub fn context_telling(
+    alloc: Global,
+    header: &[u32; 8],
+    numbers: &[u32],
+) -> Result<Vec<u8>, AllocError>
+    requires few { length numbers.now ≤ 1000 }
+    ensures { IfOk result (λ bytes. bytes.items ≡ context_bytes (header.now ++ numbers.now)) }
+{
+    let mut bytes = Vec::with_capacity(alloc, Context::BYTES)?;
+    spell(&mut bytes, header);
+    spell_all(&mut bytes, numbers);
+    let Ok(()) = bytes.resize(Context::BYTES, 0) else {
+        unreachable!()
+    };
+    Ok(bytes)
+}
+
+/// The bytes of these numbers behind, for which there is room.
+fn spell_all(bytes: &mut Vec<u8>, numbers: &[u32])
+    requires room { vec_len bytes.old + 4 * length numbers.now ≤ vec_capacity bytes.old }
+    ensures bytes { bytes.new.items ≡ bytes.old.items ++ flat_map (little_bytes 4) numbers.now }
+    ensures capacity { vec_capacity bytes.old ≤ vec_capacity bytes.new }
+{
+    for number in numbers {
+        put(bytes, *number);
+    }
 }

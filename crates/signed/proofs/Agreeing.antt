@@ -1,9 +1,9 @@
 -- All loyal lieutenants accept the same orders.
 use Rattle.std.proofs.Common.{◌≡◌, ◌≢◌, ℕ, zero, suc, ◌<◌, ◌≤◌, Bool, true, false, ◌||◌, List, [], ◌∷◌, ◌++◌, length, refl, sym, ap, ◌∙◌, arith, inl, inr, length-append, le-leb}
 use Rattle.std.specs.Prelude.{count_by, ◌==◌}
-use Rattle.std.proofs.lemmas.Bool.{cases_Bool, cases_eq, cases_lt, or_cases, or_from, or_parts, eq-eqb, eqb-true, ne_eqb}
+use Rattle.std.proofs.lemmas.Bool.{cases_Bool, cases_eq, cases_lt, or_from, or_parts, eq-eqb, ne_eqb}
 use Rattle.label.specs.Labels.{on, generals}
-use Rattle.label.specs.Oral.{AllBelow, BeginsWith, IsLoyalLieutenant}
+use Rattle.label.specs.Oral.{BeginsWith, IsLoyalLieutenant}
 use Rattle.label.proofs.Counting.{on-push}
 use Rattle.outbox.proofs.RowLemmas.{on-below}
 use Rattle.signed.specs.Chains.{Chain, Among, signed_also, signed_alone}

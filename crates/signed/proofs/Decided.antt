@@ -1,7 +1,7 @@
 -- Lists of orders without repeats, and the decision.
 use Rattle.std.proofs.Common.{◌≡◌, ℕ, zero, suc, Bool, true, false, not, cond, List, [], ◌∷◌, ◌++◌, refl, sym, ◌∙◌, inl, inr}
 use Rattle.std.specs.Prelude.{◌==◌}
-use Rattle.std.proofs.lemmas.Bool.{or_left, or_right, or_cases, or_parts, or_from, and_parts, and_from, eq-eqb, eqb-true, not-true, not_from_false, false_from_ne_true}
+use Rattle.std.proofs.lemmas.Bool.{or_right, or_cases, or_parts, or_from, and_parts, and_from, eq-eqb, eqb-true, not-true, not_from_false, false_from_ne_true}
 use Rattle.label.specs.Labels.{on, is_distinct}
 use Rattle.book.proofs.ConditionLemmas.{head_on}
 use Rattle.signed.specs.Chains.{Chain, orders}

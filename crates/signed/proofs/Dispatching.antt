@@ -1,13 +1,14 @@
 -- Of what entries and letters send: whose signature a chain ends with, what comes to whom, and how many chains there are.
-use Rattle.std.proofs.Common.{◌≡◌, ℕ, zero, suc, ◌<◌, ◌≤◌, Bool, true, false, not, cond, List, [], ◌∷◌, ◌++◌, map, length, refl, sym, ap, ◌∙◌, arith, inl, inr, length-append, Option, None, Some}
+use Rattle.std.proofs.Common.{◌≡◌, ℕ, zero, suc, ◌+◌, ◌<◌, ◌≤◌, Bool, true, false, not, cond, List, [], ◌∷◌, ◌++◌, map, length, refl, sym, ap, ◌∙◌, arith, inl, inr, length-append, append-nil, append_assoc, get_or, take, Option, None, Some}
 use Rattle.std.specs.Prelude.{filter, slice_get, is_some, nat_lt, ◌==◌, ◌⊎◌}
 use Rattle.std.proofs.lemmas.Bool.{cases_Bool, and_parts, ltb-true, eqb-true, not_from_false, not_from_true, or_left, or_right, or_cases, false_from_ne_true}
+use Rattle.std.proofs.lemmas.List.{take_more}
 use Rattle.label.specs.Labels.{on, generals, others}
 use Rattle.label.proofs.Counting.{range-on, others-on}
 use Rattle.signed.specs.Chains.{Chain, Among, signed_also, signed_alone}
 use Rattle.signed.specs.Accepted.{Deliveries, came, held}
 use Rattle.signed.specs.Agreement.{IsHeld}
-use Rattle.signed.specs.Entries.{Dispatch, Entry, Sign, Pass, passed_on, chain_of, bits_of, most_entries, is_entered, entered_also, entered, sent_by, dispatched, to_all_others, received}
+use Rattle.signed.specs.Entries.{Dispatch, Entry, Sign, Pass, passed_on, chain_of, bits_of, sent_by, dispatched, to_all_others, received}
 use Rattle.signed.specs.Laws.{chains_in}
 use Rattle.signed.proofs.Lists.{append_out}
 use Rattle.signed.proofs.Accepting.{came_out}
@@ -102,17 +103,6 @@ pub received_all : (n q : ℕ) (xs : List Chain) → q < n → received q (map (
 received_all n q [] l = refl
 received_all n q (x ∷ xs) l = received_all_more n q x xs (received_all n q xs l) (on (others n x.signers) q) (not (on x.signers q)) (on_others n x.signers q l)
 
-entered_more : (c g : ℕ) (held : List Chain) (es : List Entry) (e : Entry) (b : Bool) → is_entered c g held es e ≡ b → length es ≤ most_entries → length (cond b (es ++ e ∷ []) es) ≤ most_entries
-entered_more c g held es e true is few =
-    let room : length es < 8 = ltb-true (length es) 8 (and_parts (is_some (chain_of c g held e)) (nat_lt (length es) most_entries) is).1 in
-    omega (arith, length-append es (e ∷ []))
-entered_more c g held es e false is few = few
-
--- there are never more entries than an activation may have
-pub entered_few : (c g : ℕ) (held : List Chain) (es attempts : List Entry) → length es ≤ most_entries → length (entered c g held es attempts) ≤ most_entries
-entered_few c g held es [] few = few
-entered_few c g held es (e ∷ attempts) few = entered_few c g held (entered_also c g held es e) attempts (entered_more c g held es e (is_entered c g held es e) refl few)
-
 sent_few : (n : ℕ) (o : Option Chain) (bits : ℕ) → length (sent_by n o bits) ≤ 1
 sent_few n None bits = omega arith
 sent_few n (Some ch) bits = omega arith
@@ -121,3 +111,18 @@ pub dispatched_few : (n c g : ℕ) (held : List Chain) (es : List Entry) → len
 dispatched_few n c g held [] = omega arith
 dispatched_few n c g held (e ∷ es) =
     omega (arith, length-append (sent_by n (chain_of c g held e) (bits_of e)) (dispatched n c g held es), sent_few n (chain_of c g held e) (bits_of e), dispatched_few n c g held es)
+
+-- entries one after another
+dispatched-append : (n c g : ℕ) (held : List Chain) (es fs : List Entry) → dispatched n c g held (es ++ fs) ≡ dispatched n c g held es ++ dispatched n c g held fs
+dispatched-append n c g held [] fs = refl
+dispatched-append n c g held (e ∷ es) fs =
+    ap (λ (ds : List Dispatch). sent_by n (chain_of c g held e) (bits_of e) ++ ds) (dispatched-append n c g held es fs)
+    ∙ sym (append_assoc (sent_by n (chain_of c g held e) (bits_of e)) (dispatched n c g held es) (dispatched n c g held fs))
+
+-- an entry more
+pub dispatched_more : (n c g : ℕ) (held : List Chain) (es : List Entry) (i : ℕ) (d : Entry) → i < length es →
+    dispatched n c g held (take (i + 1) es) ≡ dispatched n c g held (take i es) ++ sent_by n (chain_of c g held (get_or es i d)) (bits_of (get_or es i d))
+dispatched_more n c g held es i d inside =
+    ap (dispatched n c g held) (take_more es i d inside)
+    ∙ (dispatched-append n c g held (take i es) (get_or es i d ∷ [])
+    ∙ ap (λ (ds : List Dispatch). dispatched n c g held (take i es) ++ ds) (append-nil (sent_by n (chain_of c g held (get_or es i d)) (bits_of (get_or es i d)))))

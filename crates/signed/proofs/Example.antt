@@ -1,29 +1,40 @@
--- A signed scenario within the limits, and a complete list of events.
-use Rattle.std.proofs.Common.{◌≡◌, ℕ, ◌<◌, ◌^◌, [], ◌∷◌, length, refl, arith}
-use Rattle.std.specs.Prelude.{replicate}
-use Rattle.std.proofs.lemmas.List.{length-replicate}
-use Rattle.std.proofs.lemmas.List.Elements.{All-replicate}
-use Rattle.board.specs.Board.{IsBoard}
+-- A signed campaign within the limits, and a complete list of events.
+use Rattle.std.proofs.Common.{◌≡◌, ℕ, zero, suc, [], ◌∷◌, refl, subst, Some, None, arith}
+use Rattle.insn.specs.declared.insn.Insn.{Insn}
+use Rattle.semantics.specs.Run.{IsSound}
 use Rattle.semantics.specs.Examples.{answer}
 use Rattle.semantics.proofs.SoundExample.{some_are}
+use Rattle.std.specs.Prelude.{List}
+use Rattle.round.specs.Scenario.{Scenario, IsScenario, program_of}
+use Rattle.world.specs.KindLists.{IsComplete, listed}
 use Rattle.world.proofs.Example.{zeros}
-use Rattle.signed.specs.Programs.{SignedScenario, IsSignedScenario}
-use Rattle.signed.specs.Lists.{IsComplete, listed}
-use Rattle.signed.proofs.Completing.{proved_complete}
-use Rattle.signed.proofs.Rows.{passing}
+use Rattle.world.proofs.Lasting.{listed_complete}
+use Rattle.signed.specs.Kind.{signed_kind}
+use Rattle.signed.proofs.Worlds.{signed_campaigns}
+use Rattle.signed.proofs.ProgramRows.{campaign}
 
 -- three generals, the lieutenant 2 a traitor who enters nothing
-abbrev pub silent : SignedScenario
-silent = record { campaign = passing; program = λ g. answer; board = replicate 64 0 }
+abbrev pub silent : Scenario
+silent = campaign 3 1 1 None (None ∷ None ∷ Some answer ∷ [])
 
-pub silent_is_scenario : IsSignedScenario silent
+silent_sound : (g : ℕ) (program : List Insn) → program_of silent g ≡ Some program → IsSound program
+silent_sound zero program is = absurd (let f : None ≡ Some program = is in cc)
+silent_sound (suc zero) program is = absurd (let f : None ≡ Some program = is in cc)
+silent_sound (suc (suc zero)) program is = (let f : answer ≡ program = (let e : Some answer ≡ Some program = is in cc) in subst IsSound f some_are.sound)
+silent_sound (suc (suc (suc g))) program is = absurd (let f : None ≡ Some program = is in cc)
+
+pub silent_is_scenario : IsScenario silent
 silent_is_scenario = record {
   few = omega arith;
   rounds = omega arith;
+  enough = omega arith;
   commander = omega arith;
+  order = omega arith;
   board = zeros 64 refl;
-  sound = λ g traitor. some_are.sound;
+  programs = refl;
+  sound = silent_sound;
+  patience = tt;
 }
 
-listed_is_complete : IsComplete silent (listed silent ((2 ∷ 0 ∷ 2 ∷ []) ∷ []))
-listed_is_complete = proved_complete.listed silent ((2 ∷ 0 ∷ 2 ∷ []) ∷ []) silent_is_scenario
+listed_is_complete : IsComplete signed_kind silent (listed silent ((2 ∷ 0 ∷ 2 ∷ []) ∷ []))
+listed_is_complete = listed_complete signed_kind silent (signed_campaigns silent silent_is_scenario) ((2 ∷ 0 ∷ 2 ∷ []) ∷ [])

@@ -7,15 +7,15 @@ use Rattle.label.specs.Labels.{on, is_distinct}
 use Rattle.signed.specs.Chains.{Chain, Among, orders, signed_alone, signed_also}
 use Rattle.signed.specs.Accepted.{Deliveries, held, counted, accepted, added, loyal_chains}
 use Rattle.signed.specs.Agreement.{SignsForHimself}
-use Rattle.signed.specs.Entries.{Entry, entered, dispatched, most_entries, to_all_others}
-use Rattle.signed.specs.Campaign.{Campaign}
-use Rattle.signed.specs.World.{sent, delivered}
+use Rattle.signed.specs.Entries.{Entry, most_entries, to_all_others}
+use Rattle.round.specs.Scenario.{Scenario}
+use Rattle.signed.specs.Sent.{Sent, sent_by, delivered}
 use Rattle.signed.specs.Laws.{chains_in}
 use Rattle.signed.proofs.Lists.{orders_in, orders_out}
 use Rattle.signed.proofs.Accepting.{came_out, added_out, accepted_out}
 use Rattle.signed.proofs.Decided.{firsts_distinct, accepted_distinct}
-use Rattle.signed.proofs.Dispatching.{received_out, entered_few, dispatched_few}
-use Rattle.signed.proofs.Making.{Row, IsMade, of_traitor, of_loyal}
+use Rattle.signed.proofs.Dispatching.{received_out, dispatched_few}
+use Rattle.signed.proofs.Making.{IsMade, of_entries, of_loyal}
 use Rattle.signed.proofs.Forging.{all_signed}
 
 -- a list without one of its elements
@@ -74,27 +74,24 @@ timely n c S all none (suc b) (suc r) lt g p ch gn pn there =
     ]
 
 -- the orders that the commander signed in the first round
-abbrev pub first_orders : ℕ → List Row → List ℕ
-first_orders c closed = orders (chains_in (sent closed 1 c))
+abbrev pub first_orders : ℕ → Sent → List ℕ
+first_orders c sent = orders (chains_in (sent_by sent 1 c))
 
-pub counted_first : (s : Campaign) (closed : List Row) → IsMade s closed → (k p : ℕ) (ch : Chain) → p < s.generals → Among ch (added s.generals (delivered closed) k p) → on (first_orders s.commander closed) ch.order ≡ true
-counted_first s closed made k p ch pn h =
-    let counts = added_out s.generals (delivered closed) k p ch h in
-    let from = came_out s.generals (delivered closed) (suc k) p ch counts.came in
-    let t = timely s.generals s.commander (delivered closed) (all_signed s closed made) (λ g q. refl) (suc (suc k)) (suc k) (omega arith) from.0 p ch from.1.0 pn from.1.1 in
+pub counted_first : (s : Scenario) (sent : Sent) → IsMade s sent → (k p : ℕ) (ch : Chain) → p < s.generals → Among ch (added s.generals (delivered sent) k p) → on (first_orders s.commander sent) ch.order ≡ true
+counted_first s sent made k p ch pn h =
+    let counts = added_out s.generals (delivered sent) k p ch h in
+    let from = came_out s.generals (delivered sent) (suc k) p ch counts.came in
+    let t = timely s.generals s.commander (delivered sent) (all_signed s sent made) (λ g q. refl) (suc (suc k)) (suc k) (omega arith) from.0 p ch from.1.0 pn from.1.1 in
     let b = t.begun counts.size in
-    orders_in (chains_in (sent closed 1 s.commander)) (signed_alone ch.order s.commander) (received_out b.0 (sent closed 1 s.commander) (signed_alone ch.order s.commander) b.1.1)
+    orders_in (chains_in (sent_by sent 1 s.commander)) (signed_alone ch.order s.commander) (received_out b.0 (sent_by sent 1 s.commander) (signed_alone ch.order s.commander) b.1.1)
 
-pub accepted_first : (s : Campaign) (closed : List Row) → IsMade s closed → (r p v : ℕ) → p < s.generals → on (accepted s.generals (delivered closed) r p) v ≡ true → on (first_orders s.commander closed) v ≡ true
-accepted_first s closed made r p v pn h =
-    let b = accepted_out s.generals (delivered closed) p v r h in
-    rw b.brings at (counted_first s closed made b.round p b.chain pn b.there)
+pub accepted_first : (s : Scenario) (sent : Sent) → IsMade s sent → (r p v : ℕ) → p < s.generals → on (accepted s.generals (delivered sent) r p) v ≡ true → on (first_orders s.commander sent) v ≡ true
+accepted_first s sent made r p v pn h =
+    let b = accepted_out s.generals (delivered sent) p v r h in
+    rw b.brings at (counted_first s sent made b.round p b.chain pn b.there)
 
-traitor_few : (s : Campaign) (S : Deliveries) (r g : ℕ) (attempts : List Entry) → length (of_traitor s S r g attempts) ≤ most_entries
-traitor_few s S r g attempts =
-    let a : length (dispatched s.generals s.commander g (held s.generals S r g) (entered s.commander g (held s.generals S r g) [] attempts)) ≤ length (entered s.commander g (held s.generals S r g) [] attempts) = dispatched_few s.generals s.commander g (held s.generals S r g) (entered s.commander g (held s.generals S r g) [] attempts) in
-    let b : length (entered s.commander g (held s.generals S r g) [] attempts) ≤ 8 = entered_few s.commander g (held s.generals S r g) [] attempts (omega arith) in
-    omega arith
+traitor_few : (s : Scenario) (S : Deliveries) (r g : ℕ) (entries : List Entry) → length entries ≤ most_entries → length (of_entries s S r g entries) ≤ most_entries
+traitor_few s S r g entries few = omega (arith, dispatched_few s.generals s.commander g (held s.generals S r g) entries)
 
 one_few : (c order g : ℕ) (b : Bool) → length (cond b (signed_alone order c ∷ []) []) ≤ 8
 one_few c order g true = omega arith
@@ -125,38 +122,38 @@ all_others_length : (n : ℕ) (xs : List Chain) → length (map (to_all_others n
 all_others_length n xs = length-map xs (to_all_others n)
 
 -- in the first round a loyal commander signs one order
-first_few : (s : Campaign) (S : Deliveries) (g : ℕ) → length (of_loyal s S 1 g) ≤ 8
+first_few : (s : Scenario) (S : Deliveries) (g : ℕ) → length (of_loyal s S 1 g) ≤ 8
 unfolding loyal_chains
 first_few s S g = let e : length (of_loyal s S 1 g) ≡ length (loyal_chains s.generals s.commander s.bound s.order S 1 g) = all_others_length s.generals (loyal_chains s.generals s.commander s.bound s.order S 1 g) in omega (arith, one_few s.commander s.order g (g == s.commander))
 
-first_orders_few : (s : Campaign) (closed : List Row) → IsMade s closed → length (first_orders s.commander closed) ≤ 8
-first_orders_few s closed made =
-    let size : length (first_orders s.commander closed) ≡ length (sent closed 1 s.commander) = orders_length (chains_in (sent closed 1 s.commander)) ∙ length-map (sent closed 1 s.commander) (λ x. x.chain) in
-    let few : length (sent closed 1 s.commander) ≤ 8 = elim (made 1 s.commander) [
+first_orders_few : (s : Scenario) (sent : Sent) → IsMade s sent → length (first_orders s.commander sent) ≤ 8
+first_orders_few s sent made =
+    let size : length (first_orders s.commander sent) ≡ length (sent_by sent 1 s.commander) = orders_length (chains_in (sent_by sent 1 s.commander)) ∙ length-map (sent_by sent 1 s.commander) (λ x. x.chain) in
+    let few : length (sent_by sent 1 s.commander) ≤ 8 = elim (made 1 s.commander) [
       | inl none ↦ rw none (omega arith)
       | inr some ↦ elim some [
-        | inl t ↦ rw t.sends (traitor_few s (delivered closed) 1 s.commander t.attempts)
-        | inr y ↦ rw y.sends (first_few s (delivered closed) s.commander)
+        | inl t ↦ rw t.sends (traitor_few s (delivered sent) 1 s.commander t.entries t.few)
+        | inr y ↦ rw y.sends (first_few s (delivered sent) s.commander)
       ]
     ] in
     omega arith
 
 -- nobody accepts more than eight orders
-pub accepted_few : (s : Campaign) (closed : List Row) → IsMade s closed → (r p : ℕ) → p < s.generals → length (accepted s.generals (delivered closed) r p) ≤ 8
-accepted_few s closed made r p pn =
-    let fewer : length (accepted s.generals (delivered closed) r p) ≤ length (first_orders s.commander closed) =
-    no_more (accepted s.generals (delivered closed) r p) (first_orders s.commander closed) (accepted_distinct s.generals (delivered closed) p r) (λ v h. accepted_first s closed made r p v pn h) in
-    omega (arith, first_orders_few s closed made)
+pub accepted_few : (s : Scenario) (sent : Sent) → IsMade s sent → (r p : ℕ) → p < s.generals → length (accepted s.generals (delivered sent) r p) ≤ 8
+accepted_few s sent made r p pn =
+    let fewer : length (accepted s.generals (delivered sent) r p) ≤ length (first_orders s.commander sent) =
+    no_more (accepted s.generals (delivered sent) r p) (first_orders s.commander sent) (accepted_distinct s.generals (delivered sent) p r) (λ v h. accepted_first s sent made r p v pn h) in
+    omega (arith, first_orders_few s sent made)
 
 -- nobody sends more than eight chains
-pub sent_few : (s : Campaign) (closed : List Row) → IsMade s closed → (r g : ℕ) → length (sent closed r g) ≤ 8
-sent_few s closed made r g = elim (made r g) [
+pub sent_few : (s : Scenario) (sent : Sent) → IsMade s sent → (r g : ℕ) → length (sent_by sent r g) ≤ 8
+sent_few s sent made r g = elim (made r g) [
   | inl none ↦ rw none (omega arith)
   | inr some ↦ elim some [
-    | inl t ↦ rw t.sends (traitor_few s (delivered closed) r g t.attempts)
+    | inl t ↦ rw t.sends (traitor_few s (delivered sent) r g t.entries t.few)
     | inr y ↦
-        let few : length (loyal_chains s.generals s.commander s.bound s.order (delivered closed) r g) ≤ 8 =
-        loyal_few s.generals s.commander s.bound s.order (delivered closed) r g (first_orders s.commander closed) (first_orders_few s closed made) (λ k ch h. counted_first s closed made k g ch y.general h) in
-        rw y.sends (let e = all_others_length s.generals (loyal_chains s.generals s.commander s.bound s.order (delivered closed) r g) in omega arith)
+        let few : length (loyal_chains s.generals s.commander s.bound s.order (delivered sent) r g) ≤ 8 =
+        loyal_few s.generals s.commander s.bound s.order (delivered sent) r g (first_orders s.commander sent) (first_orders_few s sent made) (λ k ch h. counted_first s sent made k g ch y.general h) in
+        rw y.sends (let e = all_others_length s.generals (loyal_chains s.generals s.commander s.bound s.order (delivered sent) r g) in omega arith)
   ]
 ]

@@ -11,13 +11,14 @@ use Rattle.label.proofs.Counting.{on-push, on-filter, others-on, others-split, o
 use Rattle.label.proofs.Ranks.{all_kept}
 use Rattle.signed.specs.Chains.{Chain, Among}
 use Rattle.signed.specs.Accepted.{Deliveries, came, held, loyal_chains}
-use Rattle.signed.specs.Entries.{Dispatch, Entry, receivers_in, chain_of, bits_of, sent_by, dispatched, entered, to_all_others, received}
-use Rattle.signed.specs.Campaign.{Campaign}
-use Rattle.signed.specs.World.{sent, delivered, held_behind, context_behind}
-use Rattle.signed.specs.Contexts.{signer_bits}
+use Rattle.signed.specs.Entries.{Dispatch, Entry, receivers_in, chain_of, bits_of, sent_by as sent_of, dispatched, to_all_others, received}
+use Rattle.round.specs.Scenario.{Scenario}
+use Rattle.signed.specs.Sent.{Sent, sent_by, delivered, held_behind}
+use Rattle.signed.specs.Contexts.{signed_context_numbers, signer_bits}
 use Rattle.signed.proofs.Lists.{append_out}
+use Rattle.signed.proofs.Along.{held_is}
 use Rattle.signed.proofs.Dispatching.{received_out}
-use Rattle.signed.proofs.Making.{Row, IsMade, IsMadeOf}
+use Rattle.signed.proofs.Making.{IsMade, IsMadeOf}
 use Rattle.signed.proofs.Forging.{made_signed, IsSignedBy}
 use Rattle.signed.proofs.Fewness.{sent_few}
 
@@ -41,14 +42,14 @@ off_one n p bits k ch true e h = elim h [
   | inr m ↦ absurd m
 ]
 
-off_sent : (n p bits : ℕ) (o : Option Chain) (ch : Chain) → Among ch (received p (sent_by n o bits)) → on ch.signers p ≡ false
+off_sent : (n p bits : ℕ) (o : Option Chain) (ch : Chain) → Among ch (received p (sent_of n o bits)) → on ch.signers p ≡ false
 off_sent n p bits None ch h = absurd h
 off_sent n p bits (Some k) ch h = off_one n p bits k ch (on (receivers_in n bits k) p) refl h
 
 off_dispatched : (n c g p : ℕ) (held : List Chain) (es : List Entry) (ch : Chain) → Among ch (received p (dispatched n c g held es)) → on ch.signers p ≡ false
 off_dispatched n c g p held [] ch h = absurd h
 off_dispatched n c g p held (e ∷ es) ch h =
-    let first = sent_by n (chain_of c g held e) (bits_of e) in
+    let first = sent_of n (chain_of c g held e) (bits_of e) in
     let rest = dispatched n c g held es in
     elim (append_out (received p first) (received p rest) ch (rw (received_append p first rest) at h)) [
       | inl now ↦ off_sent n p (bits_of e) (chain_of c g held e) ch now
@@ -67,11 +68,11 @@ off_loyal : (n p : ℕ) (xs : List Chain) (ch : Chain) → Among ch (received p 
 off_loyal n p [] ch h = absurd h
 off_loyal n p (x ∷ xs) ch h = off_other n p x ch xs (off_loyal n p xs ch) (on (others n x.signers) p) refl h
 
-received_off : (s : Campaign) (S : Deliveries) (r g p : ℕ) (xs : List Dispatch) (ch : Chain) → IsMadeOf s S r g xs → Among ch (received p xs) → on ch.signers p ≡ false
+received_off : (s : Scenario) (S : Deliveries) (r g p : ℕ) (xs : List Dispatch) (ch : Chain) → IsMadeOf s S r g xs → Among ch (received p xs) → on ch.signers p ≡ false
 received_off s S r g p xs ch made h = elim made [
   | inl none ↦ absurd (let f : Among ch (received p []) = rw none at h in f)
   | inr some ↦ elim some [
-    | inl t ↦ off_dispatched s.generals s.commander g p (held s.generals S r g) (entered s.commander g (held s.generals S r g) [] t.attempts) ch (rw t.sends at h)
+    | inl t ↦ off_dispatched s.generals s.commander g p (held s.generals S r g) t.entries ch (rw t.sends at h)
     | inr y ↦ off_loyal s.generals p (loyal_chains s.generals s.commander s.bound s.order S r g) ch (rw y.sends at h)
   ]
 ]
@@ -87,11 +88,11 @@ empty_since [] h = refl
 empty_since (x ∷ xs) h = absurd (h x (inl refl))
 
 -- nobody sends himself anything
-received_own : (s : Campaign) (closed : List Row) → IsMade s closed → (r p : ℕ) → delivered closed r p p ≡ []
-received_own s closed made r p = empty_since (delivered closed r p p) (λ ch h.
-    let there = (made_signed s (delivered closed) r p (sent closed r p) ch (made r p) (received_out p (sent closed r p) ch h)).1 in
-    let yes_on : on ch.signers p ≡ true = ends_on s.generals s.commander (delivered closed) r p ch there in
-    let off : on ch.signers p ≡ false = received_off s (delivered closed) r p p (sent closed r p) ch (made r p) h in
+received_own : (s : Scenario) (sent : Sent) → IsMade s sent → (r p : ℕ) → delivered sent r p p ≡ []
+received_own s sent made r p = empty_since (delivered sent r p p) (λ ch h.
+    let there = (made_signed s (delivered sent) r p (sent_by sent r p) ch (made r p) (received_out p (sent_by sent r p) ch h)).1 in
+    let yes_on : on ch.signers p ≡ true = ends_on s.generals s.commander (delivered sent) r p ch there in
+    let off : on ch.signers p ≡ false = received_off s (delivered sent) r p p (sent_by sent r p) ch (made r p) h in
     cc)
 
 received_less_more : (p : ℕ) (x : Dispatch) (xs : List Dispatch) → length (received p xs) ≤ length xs → (b : Bool) → length (map (λ (z : Dispatch). z.chain) (cond b (x ∷ filter (λ z. on z.receivers p) xs) (filter (λ z. on z.receivers p) xs))) ≤ suc (length xs)
@@ -107,16 +108,16 @@ sum_few h [] few = omega arith
 sum_few h (x ∷ xs) few = omega (arith, sum_by-cons h x xs, few x, sum_few h xs few)
 
 -- at most eight from each of the others
-came_few : (s : Campaign) (closed : List Row) → IsMade s closed → (r p : ℕ) → p < s.generals → length (came s.generals (delivered closed) r p) + 8 ≤ 8 * s.generals
-came_few s closed made r p pn =
+came_few : (s : Scenario) (sent : Sent) → IsMade s sent → (r p : ℕ) → p < s.generals → length (came s.generals (delivered sent) r p) + 8 ≤ 8 * s.generals
+came_few s sent made r p pn =
     let n = s.generals in
-    let h : ℕ → ℕ = λ g. length (delivered closed r g p) in
-    let sum : length (came s.generals (delivered closed) r p) ≡ sum_by h (generals s.generals) = length-flat_map (λ g. delivered closed r g p) (generals s.generals) in
+    let h : ℕ → ℕ = λ g. length (delivered sent r g p) in
+    let sum : length (came s.generals (delivered sent) r p) ≡ sum_by h (generals s.generals) = length-flat_map (λ g. delivered sent r g p) (generals s.generals) in
     let kept : sum_by h (others s.generals []) ≡ sum_by h (generals s.generals) = ap (sum_by h) (all_kept (generals s.generals)) in
     let split : sum_by h (others s.generals []) ≡ h p + sum_by h (others s.generals (p ∷ [])) = others-split h s.generals [] p pn refl in
-    let none : h p ≡ 0 = ap length (received_own s closed made r p) in
+    let none : h p ≡ 0 = ap length (received_own s sent made r p) in
     let rest : sum_by h (others s.generals (p ∷ [])) ≤ 8 * length (others s.generals (p ∷ [])) =
-    sum_few h (others s.generals (p ∷ [])) (λ g. let a : length (delivered closed r g p) ≤ length (sent closed r g) = received_less p (sent closed r g) in let b : length (sent closed r g) ≤ 8 = sent_few s closed made r g in omega arith) in
+    sum_few h (others s.generals (p ∷ [])) (λ g. let a : length (delivered sent r g p) ≤ length (sent_by sent r g) = received_less p (sent_by sent r g) in let b : length (sent_by sent r g) ≤ 8 = sent_few s sent made r g in omega arith) in
     let all : length (others s.generals []) ≡ s.generals = ap length (all_kept (generals s.generals)) ∙ length-range_with_len 0 s.generals in
     let one : length (others s.generals []) ≡ 1 + length (others s.generals (p ∷ [])) = others-length s.generals [] p pn refl in
     omega arith
@@ -125,23 +126,26 @@ flat_none : (f : ℕ → List Chain) (gs : List ℕ) → ((g : ℕ) → f g ≡ 
 flat_none f [] none = refl
 flat_none f (g ∷ gs) none = rw (none g) (flat_none f gs none)
 
-held_more : (s : Campaign) (closed : List Row) → IsMade s closed → s.generals ≤ 13 → (k p : ℕ) → p < s.generals → length (held s.generals (delivered closed) (suc k) p) ≤ 96 * k
+held_more : (s : Scenario) (sent : Sent) → IsMade s sent → s.generals ≤ 13 → (k p : ℕ) → p < s.generals → length (held s.generals (delivered sent) (suc k) p) ≤ 96 * k
 unfolding held
-held_more s closed made size zero p pn =
-    let e : length (came s.generals (delivered closed) 0 p) ≡ 0 = ap length (flat_none (λ g. delivered closed 0 g p) (generals s.generals) (λ g. refl)) in
+held_more s sent made size zero p pn =
+    let e : length (came s.generals (delivered sent) 0 p) ≡ 0 = ap length (flat_none (λ g. delivered sent 0 g p) (generals s.generals) (λ g. refl)) in
     omega arith
-held_more s closed made size (suc k) p pn =
-    omega (arith, length-append (held s.generals (delivered closed) (suc k) p) (came s.generals (delivered closed) (suc k) p), held_more s closed made size k p pn, came_few s closed made (suc k) p pn)
+held_more s sent made size (suc k) p pn =
+    omega (arith, length-append (held s.generals (delivered sent) (suc k) p) (came s.generals (delivered sent) (suc k) p), held_more s sent made size k p pn, came_few s sent made (suc k) p pn)
 
-pub held_few : (s : Campaign) (closed : List Row) → IsMade s closed → s.generals ≤ 13 → s.bound ≤ 4 → length closed ≤ s.bound → (g : ℕ) → g < s.generals → length (held_behind s closed g) ≤ 384
-held_few s closed made size rounds within g gn = omega (arith, held_more s closed made size (length closed) g gn)
+pub held_few : (s : Scenario) (sent : Sent) → IsMade s sent → s.generals ≤ 13 → s.bound ≤ 4 → length sent ≤ s.bound → (g : ℕ) → g < s.generals → length (held_behind s.generals sent g) ≤ 384
+held_few s sent made size rounds within g gn =
+    let e = ap length (held_is s.generals sent g) in
+    omega (arith, held_more s sent made size (length sent) g gn)
 
 pairs_length : (xs : List Chain) → length (flat_map (λ ch. ch.order ∷ signer_bits ch ∷ []) xs) ≡ 2 * length xs
 pairs_length [] = refl
 pairs_length (x ∷ xs) = omega (arith, pairs_length xs)
 
-pub context_few : (s : Campaign) (closed : List Row) → IsMade s closed → s.generals ≤ 13 → s.bound ≤ 4 → length closed ≤ s.bound → (g : ℕ) → g < s.generals → 4 * length (context_behind s closed g) ≤ 4096
-context_few s closed made size rounds within g gn =
-    let few : length (held_behind s closed g) ≤ 384 = held_few s closed made size rounds within g gn in
-    let pairs : length (flat_map (λ ch. ch.order ∷ signer_bits ch ∷ []) (held_behind s closed g)) ≡ 2 * length (held_behind s closed g) = pairs_length (held_behind s closed g) in
+pub context_few : (s : Scenario) (sent : Sent) (round : ℕ) → IsMade s sent → s.generals ≤ 13 → s.bound ≤ 4 → length sent ≤ s.bound → (g : ℕ) → g < s.generals
+    → 4 * length (signed_context_numbers s.generals s.bound s.commander g round (held_behind s.generals sent g)) ≤ 4096
+context_few s sent round made size rounds within g gn =
+    let few : length (held_behind s.generals sent g) ≤ 384 = held_few s sent made size rounds within g gn in
+    let pairs : length (flat_map (λ ch. ch.order ∷ signer_bits ch ∷ []) (held_behind s.generals sent g)) ≡ 2 * length (held_behind s.generals sent g) = pairs_length (held_behind s.generals sent g) in
     omega arith

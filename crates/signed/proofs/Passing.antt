@@ -1,14 +1,14 @@
 -- What a loyal general enters sends the chains that he has to sign.
-use Rattle.std.proofs.Common.{◌≡◌, ℕ, zero, suc, ◌+◌, ◌^◌, ◌<◌, Bool, true, false, not, cond, List, [], ◌∷◌, ◌++◌, map, length, refl, sym, ap, ◌∙◌, arith, Option, None, Some}
-use Rattle.std.specs.Prelude.{filter, slice_get, nat_le, ◌==◌, ◌&&◌, sum_by}
+use Rattle.std.proofs.Common.{◌≡◌, ℕ, zero, suc, ◌+◌, ◌<◌, Bool, true, false, not, cond, List, [], ◌∷◌, ◌++◌, map, length, refl, sym, ap, ◌∙◌, arith, Option, None, Some}
+use Rattle.std.specs.Prelude.{filter, slice_get, nat_le, ◌==◌, ◌&&◌}
 use Rattle.std.specs.Int.{bit_at}
 use Rattle.std.proofs.lemmas.Bool.{and_parts, not-true, or_left, or_right, eq-eqb, eqb-true}
 use Rattle.label.specs.Labels.{on, generals, others}
 use Rattle.label.proofs.Counting.{range-on_within, others-distinct}
 use Rattle.label.proofs.Ranks.{get_right}
-use Rattle.signed.specs.Chains.{Chain, signed_also, signed_alone, prolong}
-use Rattle.signed.specs.Accepted.{Deliveries, came, held, counts, counted, firsts, accepted, added, loyal_chains}
-use Rattle.signed.specs.Entries.{Dispatch, Entry, Sign, Pass, receivers_in, passed_on, chain_of, bits_of, sent_by, dispatched, to_all_others}
+use Rattle.signed.specs.Chains.{Chain, signed_also, signed_alone}
+use Rattle.signed.specs.Accepted.{came, held, counts, firsts, accepted, loyal_chains}
+use Rattle.signed.specs.Entries.{Dispatch, Sign, Pass, receivers_in, passed_on, chain_of, sent_by, dispatched, to_all_others}
 use Rattle.signed.specs.Loyal.{bits_but, passes, loyal_entries, LoyalEntriesAreSent}
 use Rattle.signed.proofs.Dispatching.{on_others}
 use Rattle.signed.proofs.Signing.{bits_are}

@@ -1,28 +1,74 @@
--- Rows, computed: signed scenarios, from their traitors' programs to their chronicles.
-use Rattle.std.proofs.Common.{◌≡◌, ℕ, List, [], ◌∷◌, ◌++◌, refl}
-use Rattle.std.specs.Prelude.{◌==◌, pos, cond, replicate, None, Some, true, false}
+-- Rows, computed: signed campaigns, from their traitors' programs to their chronicles.
+use Rattle.std.proofs.Common.{◌≡◌, ℕ, suc, true, false, List, [], ◌∷◌, ◌++◌, map, refl, Option, None, Some}
+use Rattle.std.specs.Prelude.{pos, replicate}
 use Rattle.word.specs.declared.Width.TheVariants.{W64}
 use Rattle.word.specs.declared.Operation.TheVariants.{Move}
+use Rattle.word.specs.declared.Condition.TheVariants.{Equal, NotEqual}
 use Rattle.insn.specs.declared.insn.Insn.{Insn}
-use Rattle.insn.specs.declared.insn.Insn.TheVariants.{Arithmetic, Call, Exit}
+use Rattle.insn.specs.declared.insn.Insn.TheVariants.{Arithmetic, Branch, Load, Call, Exit}
 use Rattle.insn.specs.declared.insn.Operand.TheVariants.{Immediate}
+use Rattle.insn.specs.declared.insn.Size.TheVariants.{Word}
+use Rattle.combine.specs.declared.chosen.Rule.TheVariants.{Majority}
 use Rattle.semantics.specs.Execution.{step}
-use Rattle.signed.specs.Accepted.{held, accepted, loyal_chains}
-use Rattle.signed.specs.Campaign.{Campaign}
-use Rattle.signed.specs.Chronicle.{chronicle_of, decisions}
-use Rattle.signed.specs.Programs.{SignedScenario, played}
-use Rattle.signed.specs.Lists.{listed, replayed}
-use Rattle.signed.proofs.Rows.{told, passing, torn}
+use Rattle.round.specs.Scenario.{Scenario}
+use Rattle.round.specs.Letters.{Letter}
+use Rattle.round.specs.Contexts.{context_bytes}
+use Rattle.world.specs.declared.event.Event.TheVariants.{Tick, Post, Close}
+use Rattle.world.specs.declared.event.EventError.TheVariants.{NotOpen, NoGeneral}
+use Rattle.world.specs.declared.verdict.Verdict.{Verdict}
+use Rattle.world.specs.Kind.{World, refusal}
+use Rattle.world.specs.KindLists.{listed, replayed}
+use Rattle.signed.specs.Accepted.{held, accepted}
+use Rattle.signed.specs.Contexts.{signed_context_numbers}
+use Rattle.signed.specs.Loyal.{loyal_entries}
+use Rattle.signed.specs.Sent.{Sent, sent_by, delivered, held_behind, sent_in}
+use Rattle.signed.specs.Kind.{signed_kind, played, held_in, accepted_in}
+use Rattle.signed.specs.Chronicle.{signed_decisions, signed_verdict_of}
 
--- mov r1, PLACE; mov r2, RECEIVERS; call HELPER
+-- a letter in short: its general, the steps of a traitor, and of each chain that it sends the order, the signers and the receivers
+abbrev pub Short : Type 0
+Short = ℕ × (Option ℕ × List (ℕ × (List ℕ × List ℕ)))
+
+abbrev steps_told : Option (List Insn) → ℕ → Option ℕ
+steps_told None steps = None
+steps_told (Some program) steps = Some steps
+
+abbrev short : Sent → ℕ → Letter → Short
+short sent round l =
+    (l.general, (steps_told l.program l.steps, map (λ x. (x.chain.order, (x.chain.signers, x.receivers))) (sent_by sent round l.general)))
+
+abbrev rounds_told : Sent → ℕ → List (List Letter) → List (List Short)
+rounds_told sent round [] = []
+rounds_told sent round (letters ∷ rounds) = map (short sent round) letters ∷ rounds_told sent (suc round) rounds
+
+-- a world's chronicle in short: its letters by round, the decisions and the verdict
+abbrev pub told : World → List (List Short) × (List ℕ × Verdict)
+told w =
+    let ds = signed_decisions w.scenario w.closed in
+    (rounds_told (sent_in w.scenario w.closed) 1 w.closed, (ds, signed_verdict_of w.scenario ds))
+
+abbrev pub campaign : ℕ → ℕ → ℕ → Option ℕ → List (Option (List Insn)) → Scenario
+campaign generals bound order patience programs = record {
+  generals = generals;
+  bound = bound;
+  commander = 0;
+  order = order;
+  board = replicate 64 0;
+  programs = programs;
+  patience = patience;
+  rule = Majority;
+}
+
+-- mov r1, FIRST; mov r2, SECOND; call HELPER
 abbrev pub calling : ℕ → ℕ → ℕ → List Insn
-calling helper first second = Arithmetic W64 Move 1 (Immediate (pos first)) ∷ Arithmetic W64 Move 2 (Immediate (pos second)) ∷ Call (pos helper) ∷ []
+calling helper first second =
+    Arithmetic W64 Move 1 (Immediate (pos first)) ∷ Arithmetic W64 Move 2 (Immediate (pos second)) ∷ Call (pos helper) ∷ []
 
--- the lieutenant 2 passes on to 1 the first chain that he holds: in the first round he holds none
-abbrev pub passing_program : SignedScenario
-passing_program = record { campaign = passing; program = λ g. calling 11 0 2 ++ Exit ∷ []; board = replicate 64 0 }
+-- three generals and one traitor, the lieutenant 2, who passes on to 1 the first chain that he holds: in the first round he holds none
+abbrev pub passing : Scenario
+passing = campaign 3 1 1 None (None ∷ None ∷ Some (calling 11 0 2 ++ Exit ∷ []) ∷ [])
 
-passing_told : told (chronicle_of (played passing_program (listed passing_program []))) ≡ (
+passing_told : told (played passing (listed passing [])) ≡ (
   (
       (0, (None, (1, (0 ∷ [], 1 ∷ 2 ∷ [])) ∷ []))
       ∷ (1, (None, []))
@@ -36,14 +82,20 @@ passing_told : told (chronicle_of (played passing_program (listed passing_progra
       ∷ [],
   (1 ∷ 1 ∷ [], record { alike = true; obeyed = Some true; bound = true }),
 )
-unfolding decisions held accepted loyal_chains step
+unfolding signed_decisions sent_in held_behind held accepted loyal_entries context_bytes step
 passing_told = refl
 
--- the commander signs the order 1 for general 1 and the order 0 for general 2, in both rounds
-abbrev pub torn_program : SignedScenario
-torn_program = record { campaign = torn; program = λ g. calling 10 1 2 ++ (calling 10 0 4 ++ Exit ∷ []); board = replicate 64 0 }
+-- in the second round the traitor is told that he holds the commander's chain
+passing_context : (let closed = (played passing (Post 0 ∷ Post 1 ∷ Close ∷ [])).closed in signed_context_numbers 3 1 0 2 2 (held_in passing closed 2))
+    ≡ 3 ∷ 1 ∷ 2 ∷ 0 ∷ 2 ∷ 1 ∷ 2 ∷ 1 ∷ 1 ∷ 1 ∷ []
+unfolding sent_in held_behind held loyal_entries
+passing_context = refl
 
-torn_program_told : told (chronicle_of (played torn_program (replayed torn_program []))) ≡ (
+-- the same generals, the commander a traitor, who signs the order 1 for general 1 and the order 0 for general 2, in both rounds
+abbrev pub torn : Scenario
+torn = campaign 3 1 0 None (Some (calling 10 1 2 ++ (calling 10 0 4 ++ Exit ∷ [])) ∷ None ∷ None ∷ [])
+
+torn_told : told (played torn (replayed signed_kind torn [])) ≡ (
   (
       (0, (Some 7, (1, (0 ∷ [], 1 ∷ [])) ∷ (0, (0 ∷ [], 2 ∷ [])) ∷ []))
       ∷ (1, (None, []))
@@ -57,22 +109,24 @@ torn_program_told : told (chronicle_of (played torn_program (replayed torn_progr
       ∷ [],
   (0 ∷ 0 ∷ [], record { alike = true; obeyed = None; bound = true }),
 )
-unfolding decisions held accepted loyal_chains step
-torn_program_told = refl
+unfolding signed_decisions sent_in held_behind held accepted loyal_entries context_bytes step
+torn_told = refl
+
+-- what the commander signed in the second round came, and did not count
+torn_accepted : accepted_in torn (played torn (replayed signed_kind torn [])).closed 1 ≡ 1 ∷ 0 ∷ []
+unfolding sent_in held_behind held accepted loyal_entries context_bytes step
+torn_accepted = refl
 
 -- two traitors, the commander and a lieutenant, who meet on the board: the lieutenant reads a word twice, and passes on to 1 the first chain that he holds; the commander puts 7 into
 -- that word, and signs the order 1 for both. In the first round the commander comes between the two readings, in the second before them
-abbrev pub pair : Campaign
-pair = record { generals = 3; bound = 1; commander = 0; order = 1; traitors = 0 ∷ 2 ∷ []; patience = None }
+abbrev pub pair : Scenario
+pair = campaign 3 1 1 None (
+    Some (calling 2 5 7 ++ (calling 10 1 6 ++ Exit ∷ []))
+    ∷ None
+    ∷ Some (calling 1 5 0 ++ (calling 1 5 0 ++ (calling 11 0 2 ++ Exit ∷ [])))
+    ∷ [])
 
-abbrev pub pair_program : SignedScenario
-pair_program = record {
-  campaign = pair;
-  program = λ g. cond (g == 0) (calling 2 5 7 ++ (calling 10 1 6 ++ Exit ∷ [])) (calling 1 5 0 ++ (calling 1 5 0 ++ (calling 11 0 2 ++ Exit ∷ [])));
-  board = replicate 64 0;
-}
-
-pair_told : told (chronicle_of (played pair_program (replayed pair_program ((2 ∷ 0 ∷ 2 ∷ []) ∷ [])))) ≡ (
+pair_told : told (played pair (replayed signed_kind pair ((2 ∷ 0 ∷ 2 ∷ []) ∷ []))) ≡ (
   (
       (0, (Some 7, (1, (0 ∷ [], 1 ∷ 2 ∷ [])) ∷ []))
       ∷ (1, (None, []))
@@ -86,5 +140,83 @@ pair_told : told (chronicle_of (played pair_program (replayed pair_program ((2 �
       ∷ [],
   (1 ∷ 1 ∷ [], record { alike = true; obeyed = None; bound = false }),
 )
-unfolding decisions held accepted loyal_chains step
+unfolding signed_decisions sent_in held_behind held accepted loyal_entries context_bytes step
 pair_told = refl
+
+-- four generals, two traitors: the commander signs 7 for the traitor 3 alone, who passes it on to 1 and 2 in the second round; both pass it on to each other, and decide 7
+abbrev pub late : Scenario
+late = campaign 4 2 1 (Some 4) (Some (calling 10 7 8 ++ Exit ∷ []) ∷ None ∷ None ∷ Some (calling 11 0 6 ++ Exit ∷ []) ∷ [])
+
+late_told : told (played late (listed late ((3 ∷ 1 ∷ 0 ∷ 2 ∷ 0 ∷ 3 ∷ []) ∷ []))) ≡ (
+  (
+      (0, (Some 4, (7, (0 ∷ [], 3 ∷ [])) ∷ []))
+      ∷ (1, (None, []))
+      ∷ (2, (None, []))
+      ∷ (3, (Some 4, []))
+      ∷ [])
+      ∷ (
+      (0, (Some 4, (7, (0 ∷ [], 3 ∷ [])) ∷ []))
+      ∷ (1, (None, []))
+      ∷ (2, (None, []))
+      ∷ (3, (Some 4, (7, (0 ∷ 3 ∷ [], 1 ∷ 2 ∷ [])) ∷ []))
+      ∷ [])
+      ∷ (
+      (0, (Some 4, (7, (0 ∷ [], 3 ∷ [])) ∷ []))
+      ∷ (1, (None, (7, (0 ∷ 3 ∷ 1 ∷ [], 2 ∷ [])) ∷ []))
+      ∷ (2, (None, (7, (0 ∷ 3 ∷ 2 ∷ [], 1 ∷ [])) ∷ []))
+      ∷ (3, (Some 4, (7, (0 ∷ 3 ∷ [], 1 ∷ 2 ∷ [])) ∷ []))
+      ∷ [])
+      ∷ [],
+  (7 ∷ 7 ∷ 7 ∷ [], record { alike = true; obeyed = None; bound = true }),
+)
+unfolding signed_decisions sent_in held_behind held accepted loyal_entries context_bytes step
+late_told = refl
+
+-- four generals, two traitors: in the first round the commander signs 7 for the traitor 3 alone; 3 prolongs that chain for himself in the second, who stands on it and is dropped, and
+-- so cannot prolong it again for 1 alone in the last. If one signature counted twice, general 1 would accept 7 then, and general 2 would not. Both read the round in what they are told
+abbrev pub twice : Scenario
+twice = campaign 4 2 1 None (
+    Some (Load Word 0 1 (pos 16) ∷ Branch W64 NotEqual 0 (Immediate (pos 1)) (pos 3) ∷ (calling 10 7 8 ++ Exit ∷ []))
+    ∷ None
+    ∷ None
+    ∷ Some (Load Word 3 1 (pos 16) ∷ Branch W64 Equal 3 (Immediate (pos 2)) (pos 4) ∷ (calling 11 1 2 ++ Exit ∷ (calling 11 0 8 ++ Exit ∷ [])))
+    ∷ [])
+
+twice_told : told (played twice (listed twice [])) ≡ (
+  (
+      (0, (Some 6, (7, (0 ∷ [], 3 ∷ [])) ∷ []))
+      ∷ (1, (None, []))
+      ∷ (2, (None, []))
+      ∷ (3, (Some 6, []))
+      ∷ [])
+      ∷ (
+      (0, (Some 3, []))
+      ∷ (1, (None, []))
+      ∷ (2, (None, []))
+      ∷ (3, (Some 6, (7, (0 ∷ 3 ∷ [], [])) ∷ []))
+      ∷ [])
+      ∷ (
+      (0, (Some 3, []))
+      ∷ (1, (None, []))
+      ∷ (2, (None, []))
+      ∷ (3, (Some 6, []))
+      ∷ [])
+      ∷ [],
+  (0 ∷ 0 ∷ 7 ∷ [], record { alike = true; obeyed = None; bound = true }),
+)
+unfolding signed_decisions sent_in held_behind held accepted loyal_entries context_bytes step
+twice_told = refl
+
+-- whoever has not posted is absent, and a post after the close is refused
+absent : delivered (sent_in passing (played passing (Tick 2 ∷ Close ∷ [])).closed) 1 0 1 ≡ []
+unfolding sent_in held_behind held loyal_entries step
+absent = refl
+
+all_closed : refusal (played passing (Post 0 ∷ Close ∷ Close ∷ [])) (Post 0) ≡ Some NotOpen
+all_closed = refl
+
+no_traitor : refusal (played passing []) (Tick 1) ≡ Some NoGeneral
+no_traitor = refl
+
+no_such_general : refusal (played passing []) (Post 12) ≡ Some NoGeneral
+no_such_general = refl

@@ -15,8 +15,7 @@ use Rattle.semantics.specs.Entries.{is_unsigned, is_sendable}
 use Rattle.signed.specs.Chains.{Chain, Among, signed_alone, signed_also, begin, prolong}
 use Rattle.signed.specs.Contexts.{signer_bits}
 use Rattle.signed.specs.Entries.{Entry, Sign, Pass, passed_on, chain_of}
-use Rattle.signed.specs.Campaign.{Campaign}
-use Rattle.signed.specs.Programs.{shape_in}
+use Rattle.round.specs.Scenario.{Scenario, shape_of}
 
 -- a bit more
 bit_more : (n x i : ℕ) → bit_at n x ≡ 0 → bit_at (n + 2 ^ x) i ≡ max (bit_at n i) (bit_at (2 ^ x) i)
@@ -72,7 +71,7 @@ passed_is g zero (ch ∷ held) d = unsigned_is ch g (d ch (inl refl))
 passed_is g (suc place) (ch ∷ held) d = passed_is g place held (λ k there. d k (inr there))
 
 -- where the relay has the signers of the chains held, it lets be sent what has a chain
-pub sendable_is : (s : Campaign) (g round : ℕ) (held : List Chain) (e : Entry) → AreDistinct held → is_sendable (signed (shape_in s g round) (map signer_bits held)) e ≡ is_some (chain_of s.commander g held e)
+pub sendable_is : (s : Scenario) (g round : ℕ) (held : List Chain) (e : Entry) → AreDistinct held → is_sendable (signed (shape_of s g round) (map signer_bits held)) e ≡ is_some (chain_of s.commander g held e)
 sendable_is s g round held (Sign order bits) d = begun_is s.commander g order
 sendable_is s g round held (Pass place bits) d = passed_is g place held d
 

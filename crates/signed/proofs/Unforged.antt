@@ -1,6 +1,6 @@
 -- No signature is forged, and a chain of more than m signatures has a loyal one.
 use Rattle.std.proofs.Common.{◌≡◌, ℕ, zero, suc, ◌+◌, ◌<◌, ◌≤◌, Bool, true, false, not, cond, List, [], ◌∷◌, ◌++◌, length, refl, sym, ap, ◌∙◌, arith, inl, inr}
-use Rattle.std.specs.Prelude.{filter, count_by, ◌==◌, ◌⊎◌}
+use Rattle.std.specs.Prelude.{count_by, ◌==◌, ◌⊎◌}
 use Rattle.std.proofs.lemmas.Bool.{cases_Bool, or_left, or_right, or_cases, or_from, and_parts, eq-eqb, eqb-true, not-true, ne_eqb}
 use Rattle.label.specs.Labels.{on, is_distinct, generals, others}
 use Rattle.label.specs.Oral.{IsLabel, AllBelow}

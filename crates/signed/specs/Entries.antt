@@ -1,5 +1,5 @@
 -- What a traitor's activation enters, and the chains that it sends (own; TOPLAS 1982, section 4, assumption A4).
-use Rattle.std.specs.Prelude.{ℕ, ◌==◌, nat_lt, Bool, not, cond, ◌&&◌, List, [], ◌∷◌, ◌++◌, map, filter, length, slice_get, Option, None, Some, is_some}
+use Rattle.std.specs.Prelude.{ℕ, ◌==◌, not, ◌&&◌, List, [], ◌∷◌, ◌++◌, map, filter, slice_get, Option, None, Some}
 use Rattle.std.specs.Int.{bit_at}
 use Rattle.label.specs.Labels.{on, generals, others}
 pub use Rattle.semantics.specs.declared.entry.Entry.{Entry}
@@ -28,19 +28,6 @@ chain_of c g held (Pass place bits) = passed_on g (slice_get held place)
 abbrev pub bits_of : Entry → ℕ
 bits_of (Sign order bits) = bits
 bits_of (Pass place bits) = bits
-
--- an attempt is entered where there is such a chain, and room
-abbrev pub is_entered : ℕ → ℕ → List Chain → List Entry → Entry → Bool
-is_entered c g held entries e = is_some (chain_of c g held e) && nat_lt (length entries) most_entries
-
--- the entries once this has been attempted too
-abbrev pub entered_also : ℕ → ℕ → List Chain → List Entry → Entry → List Entry
-entered_also c g held entries e = cond (is_entered c g held entries e) (entries ++ e ∷ []) entries
-
--- the entries once all this has been attempted, in this order
-abbrev pub entered : ℕ → ℕ → List Chain → List Entry → List Entry → List Entry
-entered c g held entries [] = entries
-entered c g held entries (e ∷ attempts) = entered c g held (entered_also c g held entries e) attempts
 
 abbrev pub sent_by : ℕ → Option Chain → ℕ → List Dispatch
 sent_by n None bits = []

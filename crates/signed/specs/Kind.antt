@@ -4,12 +4,14 @@ use Rattle.semantics.specs.Relay.{Relay, signed}
 use Rattle.round.specs.Scenario.{Scenario, shape_of}
 use Rattle.round.specs.Letters.{Letter}
 use Rattle.round.specs.Contexts.{context_bytes}
-use Rattle.world.specs.Kind.{Kind}
+use Rattle.world.specs.declared.event.Event.{Event}
+use Rattle.world.specs.Kind.{Kind, World, opening, run}
 use Rattle.signed.specs.Chains.{Chain}
+use Rattle.signed.specs.Accepted.{accepted}
 use Rattle.signed.specs.Contexts.{signed_context_numbers, signer_bits}
 use Rattle.signed.specs.Entries.{Entry}
 use Rattle.signed.specs.Loyal.{loyal_entries}
-use Rattle.signed.specs.Sent.{delivered, held_behind, sent_in}
+use Rattle.signed.specs.Sent.{Sent, delivered, held_behind, sent_in}
 
 -- the chains that a general holds in the round behind these
 abbrev pub held_in : Scenario → List (List Letter) → ℕ → List Chain
@@ -31,3 +33,15 @@ signed_entries s closed g =
 
 abbrev pub signed_kind : Kind
 signed_kind = record { context = signed_context; relay = signed_relay; rows = λ s closed g. []; entries = signed_entries }
+
+-- the world of a signed campaign after these events
+abbrev pub played : Scenario → List Event → World
+played s events = run signed_kind (opening signed_kind s) events
+
+-- what was sent in its closed rounds
+abbrev pub sent_after : Scenario → List Event → Sent
+sent_after s events = sent_in s (played s events).closed
+
+-- the orders that a general accepts of the chains of these rounds
+abbrev pub accepted_in : Scenario → List (List Letter) → ℕ → List ℕ
+accepted_in s closed p = accepted s.generals (delivered (sent_in s closed)) (suc s.bound) p

@@ -1,68 +1,90 @@
 -- What holds of every world of a signed campaign. Each statement is the contract of a function of this crate.
-use Rattle.std.specs.Prelude.{ℕ, suc, ◌≡◌, ◌*◌, ◌<◌, ◌≤◌, true, List, [], ◌∷◌, ◌++◌, map, length, slice_get, Some, None, is_some}
+use Rattle.std.specs.Prelude.{ℕ, suc, ◌≡◌, ◌*◌, ◌<◌, ◌≤◌, true, List, [], ◌∷◌, ◌++◌, map, length, slice_get, Some, is_some}
 use Rattle.std.specs.List.{AllByRecursion}
 use Rattle.semantics.specs.Limits.{context_size, most_held}
+use Rattle.semantics.specs.Entries.{is_sendable}
 use Rattle.label.specs.Labels.{on}
+use Rattle.round.specs.Scenario.{Scenario, IsScenario, is_traitor}
+use Rattle.round.specs.Activation.{Activation}
+use Rattle.world.specs.declared.event.Event.{Event}
+use Rattle.world.specs.declared.event.Event.TheVariants.{Close}
+use Rattle.world.specs.declared.part.Part.TheVariants.{Acting}
+use Rattle.world.specs.KindLists.{IsPunctual}
+use Rattle.world.specs.Agreement.{IsFinished}
 use Rattle.signed.specs.Chains.{Chain, Among, IsChain, orders}
 use Rattle.signed.specs.Agreement.{IsSignedBound, SignedAgree}
-use Rattle.signed.specs.Entries.{Dispatch, Entry, chain_of, entered, most_entries}
-use Rattle.signed.specs.Campaign.{Campaign, Conduct, is_traitor}
-use Rattle.signed.specs.World.{World, Event, Post, Posted, EventError, opening, run, happen, refusal, sent, held_behind, context_behind, accepted_in, IsPunctual, IsFinished}
+use Rattle.signed.specs.Entries.{Dispatch, Entry, chain_of, dispatched, most_entries}
+use Rattle.signed.specs.Contexts.{signed_context_numbers}
+use Rattle.signed.specs.Sent.{Sent, sent_by}
+use Rattle.signed.specs.Kind.{signed_kind, played, sent_after, held_in, accepted_in}
 
 abbrev pub chains_in : List Dispatch → List Chain
 chains_in dispatches = map (λ x. x.chain) dispatches
 
 -- a general sent this chain in one of the rounds up to this one
-pub record IsSentBy (A B : Type 0) (w : World A B) (g last : ℕ) (ch : Chain) : Type 0 where
+pub record IsSentBy (sent : Sent) (g last : ℕ) (ch : Chain) : Type 0 where
   pub round : ℕ
   pub early : round ≤ last
-  pub there : Among ch (chains_in (sent w.closed round g))
+  pub there : Among ch (chains_in (sent_by sent round g))
 
--- a chain that g sent in a round is unforged: different generals signed it, the commander first and g last, and whoever stands on it has himself sent the beginning that ends with him
-pub record IsUnforged (A B : Type 0) (w : World A B) (r g : ℕ) (ch : Chain) : Type 0 where
-  pub chain : IsChain w.campaign.generals w.campaign.commander ch
+-- a chain that g sent in a round is unforged: different generals signed it, the commander first and g last,
+-- and whoever stands on it has himself sent the beginning that ends with him
+pub record IsUnforged (s : Scenario) (sent : Sent) (r g : ℕ) (ch : Chain) : Type 0 where
+  pub chain : IsChain s.generals s.commander ch
   pub last : (u : List ℕ) × (ch.signers ≡ u ++ g ∷ [])
-  pub own : (u : List ℕ) (h : ℕ) (v : List ℕ) → ch.signers ≡ u ++ h ∷ v → IsSentBy A B w h r (record { order = ch.order; signers = u ++ h ∷ [] })
+  pub own : (u : List ℕ) (h : ℕ) (v : List ℕ) → ch.signers ≡ u ++ h ∷ v →
+      IsSentBy sent h r (record { order = ch.order; signers = u ++ h ∷ [] })
 
 -- whatever happens, and whatever traitors do, all chains are unforged
-abbrev pub ChainsAreUnforged : Type 0 → Type 0 → Type 0
-ChainsAreUnforged A B = (d : Conduct A B) (s : Campaign) (events : List Event) (r g : ℕ) (ch : Chain) → s.commander < s.generals →
-    Among ch (chains_in (sent (run d (opening d s) events).closed r g)) → IsUnforged A B (run d (opening d s) events) r g ch
+abbrev pub ChainsAreUnforged : Type 0
+ChainsAreUnforged = (s : Scenario) (events : List Event) (r g : ℕ) (ch : Chain) → IsScenario s →
+    Among ch (chains_in (sent_by (sent_after s events) r g)) → IsUnforged s (sent_after s events) r g ch
 
--- nobody sends more than eight chains in a round: a traitor has no more entries, and a loyal general adds only orders that the commander signed in the first round, of which there are no more
-pub record ChainsAreFew (A B : Type 0) : Type 0 where
-  pub first : (d : Conduct A B) (s : Campaign) (events : List Event) (p v : ℕ) → s.commander < s.generals → p < s.generals →
-      on (accepted_in (run d (opening d s) events) p) v ≡ true → on (orders (chains_in (sent (run d (opening d s) events).closed 1 s.commander))) v ≡ true
-  pub orders : (d : Conduct A B) (s : Campaign) (events : List Event) (p : ℕ) → s.commander < s.generals → p < s.generals →
-      length (accepted_in (run d (opening d s) events) p) ≤ most_entries
-  pub few : (d : Conduct A B) (s : Campaign) (events : List Event) (r g : ℕ) →
-      length (sent (run d (opening d s) events).closed r g) ≤ most_entries
+-- nobody sends more than eight chains in a round: a traitor has no more entries, and a loyal general adds only orders
+-- that the commander signed in the first round, of which there are no more
+pub record ChainsAreFew : Type 0 where
+  pub first : (s : Scenario) (events : List Event) (p v : ℕ) → IsScenario s → p < s.generals →
+      on (accepted_in s (played s events).closed p) v ≡ true →
+      on (orders (chains_in (sent_by (sent_after s events) 1 s.commander))) v ≡ true
+  pub orders : (s : Scenario) (events : List Event) (p : ℕ) → IsScenario s → p < s.generals →
+      length (accepted_in s (played s events).closed p) ≤ most_entries
+  pub few : (s : Scenario) (events : List Event) (r g : ℕ) → IsScenario s →
+      length (sent_by (sent_after s events) r g) ≤ most_entries
 
--- where the loyal generals posted in every round, and with at most m traitors, the loyal lieutenants accept the same orders and decide alike, on the order of a loyal commander
--- (TOPLAS 1982, Theorem 2); so they do after every punctual list that reaches the last close
-pub record SignedWorldsAgree (A B : Type 0) : Type 0 where
-  pub full : (d : Conduct A B) (s : Campaign) (events : List Event) → IsPunctual d (opening d s) events → (run d (opening d s) events).full ≡ true
-  pub agree : (d : Conduct A B) (s : Campaign) (events : List Event) → s.commander < s.generals → IsSignedBound s.generals s.bound (is_traitor s) →
-      IsFinished A B (run d (opening d s) events) → SignedAgree s.generals s.commander s.order (is_traitor s) (accepted_in (run d (opening d s) events))
-  pub punctual : (d : Conduct A B) (s : Campaign) (events : List Event) → s.commander < s.generals → IsSignedBound s.generals s.bound (is_traitor s) →
-      IsPunctual d (opening d s) events → length (run d (opening d s) events).closed ≡ suc s.bound →
-      SignedAgree s.generals s.commander s.order (is_traitor s) (accepted_in (run d (opening d s) events))
+-- where the loyal generals posted in every round, and with at most m traitors, the loyal lieutenants accept the same
+-- orders and decide alike, on the order of a loyal commander (TOPLAS 1982, Theorem 2); so they do after every punctual
+-- list that reaches the last close
+pub record SignedWorldsAgree : Type 0 where
+  pub full : (s : Scenario) (events : List Event) → IsPunctual signed_kind s events → (played s events).full ≡ true
+  pub agree : (s : Scenario) (events : List Event) → IsScenario s → IsSignedBound s.generals s.bound (is_traitor s) →
+      IsFinished (played s events) →
+      SignedAgree s.generals s.commander s.order (is_traitor s) (accepted_in s (played s events).closed)
+  pub punctual : (s : Scenario) (events : List Event) → IsScenario s → IsSignedBound s.generals s.bound (is_traitor s) →
+      IsPunctual signed_kind s events → length (played s events).closed ≡ suc s.bound →
+      SignedAgree s.generals s.commander s.order (is_traitor s) (accepted_in s (played s events).closed)
 
--- in a campaign within its limits nobody holds more chains than a place names, 0 to 383, and their numbers find room in a context of 4,096 bytes
-pub record HeldChainsAreFew (A B : Type 0) : Type 0 where
-  pub held : (d : Conduct A B) (s : Campaign) (events : List Event) (g : ℕ) → s.commander < s.generals → s.generals ≤ 13 → s.bound ≤ 4 → g < s.generals →
-      length (run d (opening d s) events).closed ≤ s.bound → length (held_behind s (run d (opening d s) events).closed g) ≤ most_held
-  pub context : (d : Conduct A B) (s : Campaign) (events : List Event) (g : ℕ) → s.commander < s.generals → s.generals ≤ 13 → s.bound ≤ 4 → g < s.generals →
-      length (run d (opening d s) events).closed ≤ s.bound → 4 * length (context_behind s (run d (opening d s) events).closed g) ≤ context_size
+-- nobody holds more chains than a place names, 0 to 383, and their numbers find room in a context of 4,096 bytes
+pub record HeldChainsAreFew : Type 0 where
+  pub held : (s : Scenario) (events : List Event) (g : ℕ) → IsScenario s → g < s.generals →
+      length (played s events).closed ≤ s.bound → length (held_in s (played s events).closed g) ≤ most_held
+  pub context : (s : Scenario) (events : List Event) (g round : ℕ) → IsScenario s → g < s.generals →
+      length (played s events).closed ≤ s.bound →
+      4 * length (signed_context_numbers s.generals s.bound s.commander g round (held_in s (played s events).closed g))
+      ≤ context_size
 
--- a refused event, and a second post, leave the world as it was
-pub record IdleEventsChangeNothing (A B : Type 0) : Type 0 where
-  pub refused : (d : Conduct A B) (s : Campaign) (events : List Event) (e : Event) (r : EventError) →
-      refusal (run d (opening d s) events) e ≡ Some r → happen d (run d (opening d s) events) e ≡ run d (opening d s) events
-  pub posted : (d : Conduct A B) (s : Campaign) (events : List Event) (g : ℕ) → slice_get (run d (opening d s) events).parts g ≡ Some Posted →
-      (refusal (run d (opening d s) events) (Post g) ≡ None) × (happen d (run d (opening d s) events) (Post g) ≡ run d (opening d s) events)
-
--- entries that can be sent, at most 8, are all entered: so what a program has entered may stand for what it has attempted
-abbrev pub EntriesAreEntered : Type 0
-EntriesAreEntered = (c g : ℕ) (held : List Chain) (entries : List Entry) → AllByRecursion (λ e. is_some (chain_of c g held e) ≡ true) entries → length entries ≤ most_entries →
-    entered c g held [] entries ≡ entries
+-- the machine, by the signers of the chains held, lets an entry be sent exactly where it has a chain; each of an acting
+-- general's entries, eight at most, has one; and when the round closes, he has sent the chains of them all
+pub record SignedEntriesAreSent : Type 0 where
+  pub agree : (s : Scenario) (events : List Event) (g : ℕ) (a : Activation) (e : Entry) → IsScenario s →
+      slice_get (played s events).parts g ≡ Some (Acting a) →
+      is_sendable a.relay e ≡ is_some (chain_of s.commander g (held_in s (played s events).closed g) e)
+  pub each : (s : Scenario) (events : List Event) (g : ℕ) (a : Activation) → IsScenario s →
+      slice_get (played s events).parts g ≡ Some (Acting a) →
+      AllByRecursion (λ e. is_some (chain_of s.commander g (held_in s (played s events).closed g) e) ≡ true)
+      a.state.entries
+  pub few : (s : Scenario) (events : List Event) (g : ℕ) (a : Activation) → IsScenario s →
+      slice_get (played s events).parts g ≡ Some (Acting a) → length a.state.entries ≤ most_entries
+  pub sent : (s : Scenario) (events : List Event) (g : ℕ) (a : Activation) → IsScenario s →
+      slice_get (played s events).parts g ≡ Some (Acting a) →
+      sent_by (sent_after s (events ++ Close ∷ [])) (suc (length (played s events).closed)) g
+      ≡ dispatched s.generals s.commander g (held_in s (played s events).closed g) a.state.entries

@@ -1,7 +1,12 @@
-ghost use Rattle.std.specs.Prelude.{◌≡◌};
+ghost use Rattle.std.specs.Prelude.{◌≡◌, ℕ, cond, length};
+ghost use Rattle.std.specs.Int.{bit_at};
+ghost use Rattle.label.specs.Labels.{on};
 ghost use Rattle.label.specs.Generals.{IsGenerals};
 ghost use Rattle.signed.specs.Chains.{begin, prolong};
+ghost use Rattle.signed.specs.Accepted.{counts};
+ghost use Rattle.signed.specs.Contexts.{signer_bits};
 
+use crate::sets;
 use crate::signer::Signer;
 use label::Label;
 use std::marker::Model;
@@ -59,11 +64,26 @@ impl Chain {
         self.order
     }
 
+    /// Who signed it, bit g for general g.
+    pub(crate) fn bits(&self) -> u16
+        ensures same { result ≡ signer_bits self.now }
+        ensures each { (g : ℕ) → bit_at result g ≡ cond (on self.now.signers g) 1 0 }
+    {
+        sets::of(self.signers.generals())
+    }
+
     /// Who signed it, the first signature first.
     pub fn signers(&self) -> &[u8]
         ensures value { result.now ≡ self.now.signers }
         ensures kind { IsGenerals self.now.signers }
     {
         self.signers.generals()
+    }
+
+    /// Whether it counts for the general in this round: it has as many signatures, and none is his.
+    pub(crate) fn counts(&self, round: usize, general: u8) -> bool
+        ensures { result ≡ counts round general self.now }
+    {
+        self.signers.len() == round && !self.signers.has(general)
     }
 }

@@ -1,15 +1,36 @@
 //! Signed messages. What is said of them stands in specs/.
 #![tactic(auto)]
 
+mod acceptance;
+mod beginnings;
+mod briefing;
 mod chain;
+mod chronicle;
+mod dispatch;
+mod drafting;
+mod entering;
+mod events;
+mod held;
+mod judging;
 mod laws;
+mod letter;
+mod outgoing;
+mod player;
+mod playing;
+mod sets;
+mod signed_world;
 mod signer;
 
 pub use chain::Chain;
+pub use chronicle::SignedChronicle;
+pub use held::Held;
 pub use laws::{
-    chains_are_few, chains_are_unforged, entries_are_entered, held_chains_are_few,
-    idle_events_change_nothing, loyal_entries_are_sent, signed_activations_are_safe,
-    signed_agreement, signed_entries_are_sent, signed_ledgers_decide, signed_lists_are_complete,
-    signed_runs_are_replays, signed_verdicts_mean, signed_worlds_agree,
+    chains_are_few, chains_are_unforged, held_chains_are_few, loyal_entries_are_sent,
+    signed_accounts_are_runs, signed_activations_are_safe, signed_agreement,
+    signed_entries_are_sent, signed_ledgers_are_legal, signed_ledgers_decide,
+    signed_lists_are_complete, signed_refusals_change_nothing, signed_runs_are_accounted,
+    signed_runs_are_replays, signed_verdicts_mean, signed_worlds_agree, whatever_traitors_write,
 };
+pub use player::{play_signed, replay_signed};
+pub use signed_world::SignedWorld;
 pub use signer::Signer;

@@ -8,9 +8,9 @@ use Rattle.combine.specs.declared.chosen.Rule.TheVariants.{Majority, Median}
 use Rattle.round.specs.Scenario.{Scenario}
 use Rattle.world.specs.Playing.{lists_in}
 use Rattle.world.specs.declared.event.Event.{Event}
-use Rattle.world.specs.World.{World, opening, run}
-use Rattle.world.specs.Lists.{names_events, replayed, replayed_rounds, wound_up}
-use Rattle.world.specs.Chronicle.{Chronicle, chronicle_of}
+use Rattle.world.specs.Kind.{Kind, World, opening, run}
+use Rattle.world.specs.KindLists.{names_events, replayed, replayed_rounds, wound_up}
+use Rattle.world.specs.Chronicle.{Chronicle}
 use Rattle.text.specs.Stop.{feed, space}
 use Rattle.text.specs.Parts.{pieces}
 use Rattle.trace.specs.declared.version.Version.{Version}
@@ -30,12 +30,12 @@ names_behind (v ∷ vs) n k h =
     ap lists_in all ∙ tails
 
 -- lists behind those of so many rounds give nothing
-first_rounds : (k : ℕ) (names : List (List ℕ)) (w : World) → replayed_rounds w k (take k names) ≡ replayed_rounds w k names
-first_rounds zero names w = refl
-first_rounds (suc k) [] w = refl
-first_rounds (suc k) (line ∷ lines) w =
-    let events = names_events w line ++ wound_up w.scenario in
-    ap (λ (later : List Event). events ++ later) (first_rounds k lines (run w events))
+first_rounds : (K : Kind) (k : ℕ) (names : List (List ℕ)) (w : World) → replayed_rounds K w k (take k names) ≡ replayed_rounds K w k names
+first_rounds K zero names w = refl
+first_rounds K (suc k) [] w = refl
+first_rounds K (suc k) (line ∷ lines) w =
+    let events = names_events K w line ++ wound_up w.scenario in
+    ap (λ (later : List Event). events ++ later) (first_rounds K k lines (run K w events))
 
 -- a text names its version
 pub version_known : (rule : Rule) (v : Version) (c : Chronicle) → Admits rule v → version_named rule (text_in v c) ≡ Some v
@@ -100,15 +100,15 @@ pub found_sound : (s : Scenario) (t bytes : List ℕ) (rule : Rule) (v : Version
 found_sound s t bytes rule v c r b h e d =
     same_is_sound s t v ((λ i. version_named (sym r i) (sym b i)) ∙ h) (subst (λ u. u ≡ text_in v (chronicle_told s u)) b (subst (λ x. bytes ≡ text_in v x) e d))
 
--- the replay of a copy by the names of the text, of as many rounds as the campaign has
-pub replayed_ok : {E : Type 0} (s copy : Scenario) (t : List ℕ) (most : ℕ) (items lists : List (Vec ℕ Global)) (r : Result Chronicle E) → copy ≡ s → lists ≡ items → most ≡ s.bound + 2
+-- what is told of the replay of a copy by the names of the text, of as many rounds as the campaign has
+pub replayed_ok : {E : Type 0} (K : Kind) (tell : World → Chronicle) (s copy : Scenario) (t : List ℕ) (most : ℕ) (items lists : List (Vec ℕ Global)) (r : Result Chronicle E) → copy ≡ s → lists ≡ items → most ≡ s.bound + 2
     → lists_in items ≡ take most (all_names (named (map (pieces space) (pieces feed t))))
-    → IfOk r (λ c. c ≡ chronicle_of (run (opening copy) (replayed copy (lists_in (take (length lists - 1) (drop 1 lists)))))) → IfOk r (λ c. c ≡ chronicle_told s t)
-unfolding chronicle_told names_of
-replayed_ok s copy t most items lists (Err x) e same m h d = tt
-replayed_ok s copy t most items lists (Ok c) e same m h d =
+    → IfOk r (λ c. c ≡ tell (run K (opening K copy) (replayed K copy (lists_in (take (length lists - 1) (drop 1 lists)))))) → IfOk r (λ c. c ≡ tell (run K (opening K s) (replayed K s (names_of t))))
+unfolding names_of
+replayed_ok K tell s copy t most items lists (Err x) e same m h d = tt
+replayed_ok K tell s copy t most items lists (Ok c) e same m h d =
     let all : Named = named (map (pieces space) (pieces feed t)) in
     let count : most ≡ suc (suc s.bound) = omega (arith, m) in
     let names : lists_in (take (length lists - 1) (drop 1 lists)) ≡ take (suc s.bound) all.1 =
     names_behind lists all (suc s.bound) (ap lists_in same ∙ (h ∙ ap (λ n. take n (all_names all)) count)) in
-    d ∙ ((λ i. chronicle_of (run (opening (e i)) (replayed (e i) (names i)))) ∙ ap (λ (events : List Event). chronicle_of (run (opening s) events)) (first_rounds (suc s.bound) all.1 (opening s)))
+    d ∙ ((λ i. tell (run K (opening K (e i)) (replayed K (e i) (names i)))) ∙ ap (λ (events : List Event). tell (run K (opening K s) events)) (first_rounds K (suc s.bound) all.1 (opening K s)))

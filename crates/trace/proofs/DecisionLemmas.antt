@@ -1,8 +1,6 @@
 -- The lines of decisions, lieutenant by lieutenant.
-use Rattle.std.proofs.Common.{◌≡◌, ◌≢◌, ℕ, zero, suc, ◌+◌, ◌-◌, ◌<◌, ◌≤◌, arith, Bool, true, false, not, List, [], ◌∷◌, ◌++◌, drop, refl, sym, ap, subst, ◌∙◌, append_assoc, append-nil, Option}
-use Rattle.std.specs.Prelude.{◌==◌, filter, slice_get}
-use Rattle.std.specs.List.{range_with_len}
-use Rattle.std.proofs.lemmas.Bool.{ne_eqb, eq-eqb}
+use Rattle.std.proofs.Common.{◌≡◌, ◌≢◌, ℕ, zero, suc, ◌+◌, ◌-◌, ◌<◌, ◌≤◌, arith, Bool, not, List, [], ◌∷◌, ◌++◌, drop, refl, sym, ap, subst, ◌∙◌, append_assoc, append-nil, Option}
+use Rattle.std.specs.Prelude.{filter, slice_get}
 use Rattle.label.specs.Labels.{on}
 use Rattle.label.specs.Lieutenants.{lieutenants}
 use Rattle.round.specs.Scenario.{Scenario}
@@ -11,7 +9,7 @@ use Rattle.trace.specs.Text.{Line, text, decision_lines}
 use Rattle.trace.specs.Lines.{decided_lines}
 use Rattle.trace.proofs.WrittenLemmas.{wrote-nothing}
 use Rattle.trace.proofs.RoundLemmas.{then_lines}
-use Rattle.world.proofs.Counted.{range_cons, range_none, from_commander, from_lieutenant, from}
+use Rattle.world.proofs.Counted.{range_none, from_commander, from_lieutenant, from}
 
 -- the lieutenants from a general on
 

@@ -2,6 +2,8 @@ pub mod EntryLemmas
 pub mod WrittenLemmas
 pub mod LineLemmas
 pub mod RoundLemmas
+pub mod ChainLemmas
+pub mod SignedLines
 pub mod DecisionLemmas
 pub mod Splitting
 pub mod PartingLemmas
@@ -14,6 +16,9 @@ pub mod Sound
 pub mod ShapeLemmas
 pub mod Differences
 pub mod AuditLemmas
+pub mod SignedAudits
+pub mod SignedNaming
+pub mod SignedSound
 mod Printed
 mod TwoGenerals
 mod TraitorLieutenant
@@ -28,4 +33,3 @@ mod CutOff
 mod Medians
 mod ScheduleTexts
 mod SignedRows
-mod SignedProgramRows

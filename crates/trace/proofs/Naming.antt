@@ -16,10 +16,10 @@ use Rattle.round.specs.Letters.{Letter}
 use Rattle.world.specs.Lists.{names_in}
 use Rattle.world.specs.Chronicle.{Chronicle}
 use Rattle.label.specs.Lieutenants.{lieutenants}
-use Rattle.trace.specs.Text.{Line, access_line, row_lines, letter_line, letter_lines, round_lines, decision_line, decision_lines, verdict_line, lines_in, text_in}
+use Rattle.trace.specs.Text.{Line, access_line, row_lines, letter_line, letter_lines, rounds_told, decision_line, decision_lines, verdict_line, head_lines, lines_behind, lines_in, text, text_in}
 use Rattle.trace.specs.declared.version.Version.{Version}
 use Rattle.trace.specs.Names.{general_of, Named, with_line, named, names_of}
-use Rattle.trace.proofs.Splitting.{text-split}
+use Rattle.trace.proofs.Splitting.{AreLines, text-split}
 use Rattle.trace.proofs.Plain.{chronicle_plain}
 
 -- a number below 13 tells the general of that number alone
@@ -42,10 +42,10 @@ pub general_told : (g : ℕ) → g < 13 → general_of (decimal g) ≡ g ∷ []
 unfolding is_told
 general_told g lt = (bytes_eq-Decides (general_of (decimal g)) (g ∷ [])).0 (in-range is_told 13 0 g all_told (omega arith) (omega arith))
 
-abbrev IsSilent : Line → Type 0
+abbrev pub IsSilent : Line → Type 0
 IsSilent l = (rest : Named) → with_line l rest ≡ rest
 
-abbrev AreSilent : List Line → Type 0
+abbrev pub AreSilent : List Line → Type 0
 AreSilent [] = Unit {0}
 AreSilent (l ∷ ls) = IsSilent l × AreSilent ls
 
@@ -79,7 +79,7 @@ rows_silent : (rank : ℕ) (rows : List (List (Option ℕ))) → AreSilent (row_
 rows_silent rank [] = tt
 rows_silent rank (row ∷ rows) = ((λ rest. refl), rows_silent (suc rank) rows)
 
-letter_line_silent : (g : ℕ) (o : Option (List Insn)) (steps : ℕ) → IsSilent (letter_line g o steps)
+pub letter_line_silent : (g : ℕ) (o : Option (List Insn)) (steps : ℕ) → IsSilent (letter_line g o steps)
 letter_line_silent g None steps = λ rest. refl
 letter_line_silent g (Some p) steps = λ rest. refl
 
@@ -90,43 +90,53 @@ decision_silent g false d = λ rest. refl
 letter_silent : (l : Letter) → AreSilent (letter_lines l)
 letter_silent l = (letter_line_silent l.general l.program l.steps, rows_silent 0 l.outbox.rows)
 
-letters_silent : (ls : List Letter) → AreSilent (flat_map letter_lines ls)
-letters_silent [] = tt
-letters_silent (l ∷ ls) = silent-append (letter_lines l) (flat_map letter_lines ls) (letter_silent l) (letters_silent ls)
+letters_silent : (told : Letter → List Line) → ((l : Letter) → AreSilent (told l)) → (ls : List Letter) → AreSilent (flat_map told ls)
+letters_silent told silent [] = tt
+letters_silent told silent (l ∷ ls) = silent-append (told l) (flat_map told ls) (silent l) (letters_silent told silent ls)
 
 decisions_silent : (s : Scenario) (gs ds : List ℕ) → AreSilent (decision_lines s gs ds)
 decisions_silent s [] ds = tt
 decisions_silent s (g ∷ gs) [] = tt
 decisions_silent s (g ∷ gs) (d ∷ ds) = (decision_silent g (is_traitor s g) d, decisions_silent s gs ds)
 
-rounds-named : (r : ℕ) (xs : List Access) (rounds : List (List Letter)) (ks : List Line) → AreKnown xs → named ks ≡ ([], []) → named (round_lines r xs rounds ++ ks) ≡ ([], names_in r xs (length rounds))
-rounds-named r xs [] ks k e = e
-rounds-named r xs (ls ∷ rest) ks k e =
+rounds-named : (told : ℕ → Letter → List Line) → ((r : ℕ) (l : Letter) → AreSilent (told r l)) → (xs : List Access) (r : ℕ) (rounds : List (List Letter)) (ks : List Line) → AreKnown xs → named ks ≡ ([], [])
+    → named (rounds_told told xs r rounds ++ ks) ≡ ([], names_in r xs (length rounds))
+rounds-named told silent xs r [] ks k e = e
+rounds-named told silent xs r (ls ∷ rest) ks k e =
     let here = filter (λ a. a.round == r) xs in
-    let behind = round_lines (suc r) xs rest in
-    let letters = flat_map letter_lines ls in
+    let behind = rounds_told told xs (suc r) rest in
+    let letters = flat_map (told r) ls in
     let shape : (map access_line here ++ (letters ++ behind)) ++ ks ≡ map access_line here ++ (letters ++ (behind ++ ks)) =
     append_assoc (map access_line here) (letters ++ behind) ks ∙ ap (λ l. map access_line here ++ l) (append_assoc letters behind ks) in
     let inner : named ((map access_line here ++ (letters ++ behind)) ++ ks) ≡ (map (λ a. a.general) here, names_in (suc r) xs (length rest)) =
     ap named shape
     ∙ accesses-named here (letters ++ (behind ++ ks)) (known-filter r xs k)
-    ∙ (let q : named (letters ++ (behind ++ ks)) ≡ ([], names_in (suc r) xs (length rest)) = silent-front letters (behind ++ ks) (letters_silent ls) ∙ rounds-named (suc r) xs rest ks k e in
+    ∙ (let q : named (letters ++ (behind ++ ks)) ≡ ([], names_in (suc r) xs (length rest)) = silent-front letters (behind ++ ks) (letters_silent (told r) (silent r) ls) ∙ rounds-named told silent xs (suc r) rest ks k e in
     (λ i. (map (λ a. a.general) here ++ (q i).0, (q i).1)))
     ∙ (λ i. (append-nil (map (λ a. a.general) here) i, names_in (suc r) xs (length rest))) in
     (λ i. ([], (inner i).0 ∷ (inner i).1))
 
-pub names_told : (v : Version) (c : Chronicle) → AreKnown c.accesses → names_of (text_in v c) ≡ names_in 1 c.accesses (length c.letters)
-unfolding names_of text_in lines_in
-names_told v c k =
+-- where the head's lines and the letters' name nobody, the text names those who made the accesses
+pub lines_named : (head : List Line) (told : ℕ → Letter → List Line) (c : Chronicle) → AreSilent head → ((r : ℕ) (l : Letter) → AreSilent (told r l)) → AreLines (lines_behind head told c) → AreKnown c.accesses
+    → names_of (text (lines_behind head told c)) ≡ names_in 1 c.accesses (length c.letters)
+unfolding names_of
+lines_named head told c front silent plain k =
     let s = c.scenario in
+    let rounds = rounds_told told c.accesses 1 c.letters in
     let ds = decision_lines s (lieutenants s.generals s.commander) c.decisions in
     let end : List Line = verdict_line c.verdict ∷ [] in
     let tail : List Line = ([] ∷ []) ∷ [] in
     let behind : named ((ds ++ end) ++ tail) ≡ ([], []) =
     ap named (append_assoc ds end tail) ∙ silent-front ds (end ++ tail) (decisions_silent s (lieutenants s.generals s.commander) c.decisions) in
-    ap (λ ls. (named ls).1) (text-split (lines_in v c) (chronicle_plain v c))
-    ∙ ap (λ ls. (named ls).1) (append_assoc (round_lines 1 c.accesses c.letters) (ds ++ end) tail)
-    ∙ ap (λ p. p.1) (rounds-named 1 c.accesses c.letters ((ds ++ end) ++ tail) k behind)
+    ap (λ ls. (named ls).1) (text-split (lines_behind head told c) plain)
+    ∙ ap (λ ls. (named ls).1) (append_assoc head (rounds ++ (ds ++ end)) tail)
+    ∙ ap (λ p. p.1) (silent-front head ((rounds ++ (ds ++ end)) ++ tail) front)
+    ∙ ap (λ ls. (named ls).1) (append_assoc rounds (ds ++ end) tail)
+    ∙ ap (λ p. p.1) (rounds-named told silent c.accesses 1 c.letters ((ds ++ end) ++ tail) k behind)
+
+pub names_told : (v : Version) (c : Chronicle) → AreKnown c.accesses → names_of (text_in v c) ≡ names_in 1 c.accesses (length c.letters)
+unfolding text_in lines_in
+names_told v c k = lines_named (head_lines v c.scenario) (λ _. letter_lines) c ((λ rest. refl), ((λ rest. refl), tt)) (λ _. letter_silent) (chronicle_plain v c) k
 
 pub known_all : (xs : List Access) → All (λ a. a.general < 13) xs → AreKnown xs
 known_all [] h = tt

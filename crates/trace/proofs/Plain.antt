@@ -11,14 +11,15 @@ use Rattle.semantics.specs.declared.request.Request.TheVariants.{Get, Swap, Add,
 use Rattle.board.specs.Board.{Access}
 use Rattle.round.specs.Scenario.{Scenario, is_traitor}
 use Rattle.round.specs.Letters.{Letter}
+use Rattle.world.specs.declared.verdict.Verdict.{Verdict}
 use Rattle.world.specs.Chronicle.{Chronicle}
 use Rattle.label.specs.Lieutenants.{lieutenants}
-use Rattle.trace.specs.Text.{Word, Line, asked, access_line, place, row_lines, yes_no, yes_no_none, letter_line, letter_lines, round_lines, decision_line, decision_lines, version_word, rule_word, further_words, lines_in}
+use Rattle.trace.specs.Text.{Word, Line, asked, access_line, place, row_lines, yes_no, yes_no_none, letter_line, letter_lines, rounds_told, decision_line, decision_lines, verdict_line, version_word, version_line, rule_word, campaign_words, further_words, head_lines, lines_behind, lines_in}
 use Rattle.trace.specs.declared.version.Version.{Version}
 use Rattle.trace.specs.declared.version.Version.TheVariants.{First, Second}
 use Rattle.trace.proofs.Splitting.{IsPlain, ArePlain, IsLine, AreLines, decimal_plain}
 
-by_test : (w : Word) → list_all (λ c. nat_lt 32 c) w ≡ true → IsPlain w
+pub by_test : (w : Word) → list_all (λ c. nat_lt 32 c) w ≡ true → IsPlain w
 by_test [] h = tt
 by_test (c ∷ cs) h = let b = and_parts (nat_lt 32 c) (list_all (λ c. nat_lt 32 c) cs) h in (ltb-true 32 c b.0, by_test cs b.1)
 
@@ -52,7 +53,7 @@ accesses_plain : (xs : List Access) → AreLines (map access_line xs)
 accesses_plain [] = tt
 accesses_plain (a ∷ rest) = (access_plain a, accesses_plain rest)
 
-place_plain : (o : Option ℕ) → IsPlain (place o)
+pub place_plain : (o : Option ℕ) → IsPlain (place o)
 place_plain None = by_test (codes "-") refl
 place_plain (Some v) = decimal_plain v
 
@@ -76,20 +77,23 @@ decision_plain : (g : ℕ) (b : Bool) (d : ℕ) → IsLine (decision_line g b d)
 decision_plain g true d = (by_test (codes "decision") refl, (decimal_plain g, (by_test (codes "traitor") refl, (decimal_plain d, tt))))
 decision_plain g false d = (by_test (codes "decision") refl, (decimal_plain g, (decimal_plain d, tt)))
 
-letter_plain : (g : ℕ) (o : Option (List Insn)) (steps : ℕ) → IsLine (letter_line g o steps)
+pub letter_plain : (g : ℕ) (o : Option (List Insn)) (steps : ℕ) → IsLine (letter_line g o steps)
 letter_plain g None steps = (by_test (codes "letter") refl, (decimal_plain g, (by_test (codes "loyal") refl, tt)))
 letter_plain g (Some p) steps = (by_test (codes "letter") refl, (decimal_plain g, (by_test (codes "steps") refl, (decimal_plain steps, tt))))
 
-letters_plain : (ls : List Letter) → AreLines (flat_map letter_lines ls)
-letters_plain [] = tt
-letters_plain (l ∷ ls) = lines-append (letter_lines l) (flat_map letter_lines ls) (letter_plain l.general l.program l.steps, rows_plain 0 l.outbox.rows) (letters_plain ls)
+letter_lines_plain : (l : Letter) → AreLines (letter_lines l)
+letter_lines_plain l = (letter_plain l.general l.program l.steps, rows_plain 0 l.outbox.rows)
 
-rounds_plain : (r : ℕ) (xs : List Access) (rounds : List (List Letter)) → AreLines (round_lines r xs rounds)
-rounds_plain r xs [] = tt
-rounds_plain r xs (ls ∷ rest) = (
+letters_plain : (told : Letter → List Line) → ((l : Letter) → AreLines (told l)) → (ls : List Letter) → AreLines (flat_map told ls)
+letters_plain told plain [] = tt
+letters_plain told plain (l ∷ ls) = lines-append (told l) (flat_map told ls) (plain l) (letters_plain told plain ls)
+
+rounds_plain : (told : ℕ → Letter → List Line) → ((r : ℕ) (l : Letter) → AreLines (told r l)) → (xs : List Access) (r : ℕ) (rounds : List (List Letter)) → AreLines (rounds_told told xs r rounds)
+rounds_plain told plain xs r [] = tt
+rounds_plain told plain xs r (ls ∷ rest) = (
   (by_test (codes "round") refl, (decimal_plain r, tt)),
-  lines-append (map access_line (filter (λ a. a.round == r) xs)) (flat_map letter_lines ls ++ round_lines (suc r) xs rest) (accesses_plain (filter (λ a. a.round == r) xs))
-      (lines-append (flat_map letter_lines ls) (round_lines (suc r) xs rest) (letters_plain ls) (rounds_plain (suc r) xs rest)),
+  lines-append (map access_line (filter (λ a. a.round == r) xs)) (flat_map (told r) ls ++ rounds_told told xs (suc r) rest) (accesses_plain (filter (λ a. a.round == r) xs))
+      (lines-append (flat_map (told r) ls) (rounds_told told xs (suc r) rest) (letters_plain (told r) (plain r) ls) (rounds_plain told plain xs (suc r) rest)),
 )
 
 decisions_plain : (s : Scenario) (gs ds : List ℕ) → AreLines (decision_lines s gs ds)
@@ -109,15 +113,26 @@ head_plain : (v : Version) (patience : Option ℕ) (rule : Rule) → ArePlain (f
 head_plain First patience rule = tt
 head_plain Second patience rule = (by_test (codes "patience") refl, (place_plain patience, (by_test (codes "rule") refl, (rule_plain rule, tt))))
 
+verdict_plain : (v : Verdict) → IsLine (verdict_line v)
+verdict_plain v =
+    (by_test (codes "verdict") refl, (by_test (codes "alike") refl, (yes_no_plain v.alike, (by_test (codes "obeyed") refl, (yes_no_none_plain v.obeyed, (by_test (codes "bound") refl, (yes_no_plain v.bound, tt)))))))
+
+-- where the head's lines and the letters' are plain, all are
+pub lines_plain : (head : List Line) (told : ℕ → Letter → List Line) (c : Chronicle) → AreLines head → ((r : ℕ) (l : Letter) → AreLines (told r l)) → AreLines (lines_behind head told c)
+lines_plain head told c front plain =
+    let s = c.scenario in
+    lines-append head _ front
+    (lines-append (rounds_told told c.accesses 1 c.letters) _ (rounds_plain told plain c.accesses 1 c.letters)
+    (lines-append (decision_lines s (lieutenants s.generals s.commander) c.decisions) _ (decisions_plain s (lieutenants s.generals s.commander) c.decisions) (verdict_plain c.verdict, tt)))
+
+-- the words of the campaign, and words behind them
+pub campaign_plain : (n m c order : ℕ) (ws : List Word) → ArePlain ws → ArePlain (campaign_words n m c order ++ ws)
+campaign_plain n m c order ws p =
+    (by_test (codes "generals") refl, (decimal_plain n, (by_test (codes "bound") refl, (decimal_plain m, (by_test (codes "commander") refl, (decimal_plain c, (by_test (codes "order") refl, (decimal_plain order, p))))))))
+
 pub chronicle_plain : (v : Version) (c : Chronicle) → AreLines (lines_in v c)
 unfolding lines_in
 chronicle_plain v c =
-    let s = c.scenario in (
-      (by_test (codes "chronicle") refl, (version_plain v, tt)),
-      (
-        (by_test (codes "generals") refl, (decimal_plain s.generals, (by_test (codes "bound") refl, (decimal_plain s.bound, (by_test (codes "commander") refl, (decimal_plain s.commander, (by_test (codes "order") refl, (decimal_plain s.order, head_plain v s.patience s.rule)))))))),
-        lines-append (round_lines 1 c.accesses c.letters) _ (rounds_plain 1 c.accesses c.letters)
-            (lines-append (decision_lines s (lieutenants s.generals s.commander) c.decisions) _ (decisions_plain s (lieutenants s.generals s.commander) c.decisions)
-            ((by_test (codes "verdict") refl, (by_test (codes "alike") refl, (yes_no_plain c.verdict.alike, (by_test (codes "obeyed") refl, (yes_no_none_plain c.verdict.obeyed, (by_test (codes "bound") refl, (yes_no_plain c.verdict.bound, tt))))))), tt)),
-      ),
-    )
+    let s = c.scenario in
+    let version : IsLine (version_line v) = (by_test (codes "chronicle") refl, (version_plain v, tt)) in
+    lines_plain (head_lines v s) (λ _. letter_lines) c (version, (campaign_plain s.generals s.bound s.commander s.order (further_words v s.patience s.rule) (head_plain v s.patience s.rule), tt)) (λ _. letter_lines_plain)

@@ -8,8 +8,8 @@ use Rattle.insn.specs.declared.insn.Insn.{Insn}
 use Rattle.board.specs.Board.{Access}
 use Rattle.round.specs.Letters.{Letter}
 use Rattle.trace.specs.Sinks.{Wrote}
-use Rattle.trace.specs.Text.{Word, Line, further, text, access_line, row_lines, letter_line, letter_lines, round_lines}
-use Rattle.trace.specs.Lines.{author_line, one_round, round_line, row_line}
+use Rattle.trace.specs.Text.{Word, Line, further, text, access_line, row_lines, letter_line, letter_lines, rounds_told}
+use Rattle.trace.specs.Lines.{author_line, round_line, round_told, row_line}
 use Rattle.trace.proofs.WrittenLemmas.{further-append, then_wrote, wrote-same}
 use Rattle.trace.proofs.LineLemmas.{text-append}
 
@@ -27,31 +27,36 @@ rows_more rows i d lt =
     ap (row_lines 0) (take_more rows i d lt) ∙ more_rows 0 (take i rows) (get_or rows i d)
     ∙ ap (λ r. row_lines 0 (take i rows) ++ row_line r (get_or rows i d) ∷ []) (let e : length (take i rows) ≡ i = length-take-le i rows (omega arith) in let z : 0 + length (take i rows) ≡ i = omega arith in z)
 
--- one letter more
-pub letters_more : (letters : List Letter) (i : ℕ) (x : Letter) → i < length letters → x ≡ get_or letters i x → flat_map letter_lines (take (i + 1) letters) ≡ flat_map letter_lines (take i letters) ++ letter_lines x
-letters_more letters i x lt is =
-    ap (flat_map letter_lines) (take_more letters i x lt ∙ ap (λ y. take i letters ++ y ∷ []) (sym is)) ∙ flat_map-append letter_lines (take i letters) (x ∷ [])
-    ∙ ap (λ ls. flat_map letter_lines (take i letters) ++ ls) (append-nil (letter_lines x))
+-- one more of a list whose members tell these parts
+pub told_at : {X Y : Type 0} (told : X → List Y) (xs : List X) (i : ℕ) (d : X) → i < length xs → flat_map told (take (i + 1) xs) ≡ flat_map told (take i xs) ++ told (get_or xs i d)
+told_at {X} {Y} told xs i d lt =
+    ap (flat_map told) (take_more xs i d lt) ∙ flat_map-append told (take i xs) (get_or xs i d ∷ []) ∙ ap (λ ls. flat_map told (take i xs) ++ ls) (append-nil (told (get_or xs i d)))
+
+pub told_more : {X Y : Type 0} (told : X → List Y) (xs : List X) (i : ℕ) (x : X) → i < length xs → x ≡ get_or xs i x → flat_map told (take (i + 1) xs) ≡ flat_map told (take i xs) ++ told x
+told_more {X} {Y} told xs i x lt is = told_at told xs i x lt ∙ ap (λ y. flat_map told (take i xs) ++ told y) (sym is)
 
 -- one round more
-more_rounds : (r : ℕ) (xs : List Access) (rounds : List (List Letter)) (letters : List Letter) → round_lines r xs (rounds ++ letters ∷ []) ≡ round_lines r xs rounds ++ one_round (r + length rounds) xs letters
-more_rounds r xs [] letters =
-    ap (λ ls. round_line r ∷ (map access_line (filter (λ a. a.round == r) xs) ++ ls)) (append-nil (flat_map letter_lines letters))
-    ∙ ap (λ k. one_round k xs letters) (let e : r ≡ r + 0 = omega arith in e)
-more_rounds r xs (first ∷ rounds) letters =
+more_rounds : (told : ℕ → Letter → List Line) (xs : List Access) (r : ℕ) (rounds : List (List Letter)) (letters : List Letter)
+    → rounds_told told xs r (rounds ++ letters ∷ []) ≡ rounds_told told xs r rounds ++ round_told (told (r + length rounds)) (r + length rounds) xs letters
+more_rounds told xs r [] letters =
+    ap (λ ls. round_line r ∷ (map access_line (filter (λ a. a.round == r) xs) ++ ls)) (append-nil (flat_map (told r) letters))
+    ∙ ap (λ k. round_told (told k) k xs letters) (let e : r ≡ r + 0 = omega arith in e)
+more_rounds told xs r (first ∷ rounds) letters =
     let mine = map access_line (filter (λ a. a.round == r) xs) in
-    let here = flat_map letter_lines first in
-    let last = one_round (r + length (first ∷ rounds)) xs letters in
-    let e : round_lines (suc r) xs (rounds ++ letters ∷ []) ≡ round_lines (suc r) xs rounds ++ last =
-    more_rounds (suc r) xs rounds letters ∙ ap (λ k. round_lines (suc r) xs rounds ++ one_round k xs letters) (omega arith) in
+    let here = flat_map (told r) first in
+    let behind = rounds_told told xs (suc r) rounds in
+    let k : ℕ = r + length (first ∷ rounds) in
+    let last = round_told (told k) k xs letters in
+    let e : rounds_told told xs (suc r) (rounds ++ letters ∷ []) ≡ behind ++ last =
+    more_rounds told xs (suc r) rounds letters ∙ ap (λ j. behind ++ round_told (told j) j xs letters) (omega arith) in
     ap (λ ls. round_line r ∷ ls)
-    (ap (λ ls. mine ++ (here ++ ls)) e ∙ ap (λ ls. mine ++ ls) (sym (append_assoc here (round_lines (suc r) xs rounds) last)) ∙ sym (append_assoc mine (here ++ round_lines (suc r) xs rounds) last))
+    (ap (λ ls. mine ++ (here ++ ls)) e ∙ ap (λ ls. mine ++ ls) (sym (append_assoc here behind last)) ∙ sym (append_assoc mine (here ++ behind) last))
 
-pub rounds_more : (xs : List Access) (rounds : List (List Letter)) (i : ℕ) (d : List Letter) → i < length rounds
-    → round_lines 1 xs (take (i + 1) rounds) ≡ round_lines 1 xs (take i rounds) ++ one_round (i + 1) xs (get_or rounds i d)
-rounds_more xs rounds i d lt =
-    ap (round_lines 1 xs) (take_more rounds i d lt) ∙ more_rounds 1 xs (take i rounds) (get_or rounds i d)
-    ∙ ap (λ k. round_lines 1 xs (take i rounds) ++ one_round k xs (get_or rounds i d)) (let e = length-take-le i rounds (omega arith) in omega arith)
+pub rounds_more : (told : ℕ → Letter → List Line) (xs : List Access) (rounds : List (List Letter)) (i : ℕ) (d : List Letter) → i < length rounds
+    → rounds_told told xs 1 (take (i + 1) rounds) ≡ rounds_told told xs 1 (take i rounds) ++ round_told (told (i + 1)) (i + 1) xs (get_or rounds i d)
+rounds_more told xs rounds i d lt =
+    ap (rounds_told told xs 1) (take_more rounds i d lt) ∙ more_rounds told xs 1 (take i rounds) (get_or rounds i d)
+    ∙ ap (λ k. rounds_told told xs 1 (take i rounds) ++ round_told (told k) k xs (get_or rounds i d)) (let e = length-take-le i rounds (omega arith) in omega arith)
 
 -- the head's lines, part by part
 pub head_parts : (v w : Word) (ws fs : List Word) → (((v ++ 10 ∷ []) ++ (w ++ further ws)) ++ further fs) ++ 10 ∷ [] ≡ v ++ 10 ∷ ((w ++ further (ws ++ fs)) ++ 10 ∷ [])
@@ -62,12 +67,13 @@ pub chronicle_parts : (xs ys zs ws : List Line) → ((text xs ++ text ys) ++ tex
 chronicle_parts xs ys zs ws = rw (text-append xs (ys ++ (zs ++ ws)), text-append ys (zs ++ ws), text-append zs ws) (simp append_assoc)
 
 -- a round's lines behind each other
-pub round_parts : (r : ℕ) (xs : List Access) (letters : List Letter) → (text (round_line r ∷ []) ++ text (map access_line (filter (λ a. a.round == r) xs))) ++ text (flat_map letter_lines letters) ≡ text (one_round r xs letters)
-round_parts r xs letters =
-    ap (λ t. t ++ text (flat_map letter_lines letters)) (sym (text-append (round_line r ∷ []) (map access_line (filter (λ a. a.round == r) xs))))
-    ∙ sym (text-append (round_line r ∷ map access_line (filter (λ a. a.round == r) xs)) (flat_map letter_lines letters))
+pub round_parts : (told : Letter → List Line) (r : ℕ) (xs : List Access) (letters : List Letter)
+    → (text (round_line r ∷ []) ++ text (map access_line (filter (λ a. a.round == r) xs))) ++ text (flat_map told letters) ≡ text (round_told told r xs letters)
+round_parts told r xs letters =
+    ap (λ t. t ++ text (flat_map told letters)) (sym (text-append (round_line r ∷ []) (map access_line (filter (λ a. a.round == r) xs))))
+    ∙ sym (text-append (round_line r ∷ map access_line (filter (λ a. a.round == r) xs)) (flat_map told letters))
 
-author_is : (g : ℕ) (program : Option (List Insn)) (steps : ℕ) → author_line g (option_map (λ _. steps) program) ≡ letter_line g program steps
+pub author_is : (g : ℕ) (program : Option (List Insn)) (steps : ℕ) → author_line g (option_map (λ _. steps) program) ≡ letter_line g program steps
 author_is g None steps = refl
 author_is g (Some program) steps = refl
 

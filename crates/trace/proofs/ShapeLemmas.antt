@@ -1,11 +1,12 @@
 -- The lines of a text, one after the other.
-use Rattle.std.proofs.Common.{◌≡◌, ℕ, suc, true, false, List, ◌∷◌, Option, Some, refl, sym, ap, ◌∙◌}
+use Rattle.std.proofs.Common.{◌≡◌, ℕ, suc, true, false, List, [], ◌∷◌, Option, Some, refl, sym, ap, ◌∙◌}
 use Rattle.std.specs.Prelude.{if◌then◌else◌}
 use Rattle.text.specs.Stop.{feed, space}
 use Rattle.text.specs.Parts.{pieces}
 use Rattle.text.proofs.PartsLemmas.{pieces_is}
 use Rattle.trace.specs.Text.{Word}
-use Rattle.trace.specs.Shapes.{is_nothing_left, is_shaped, unshaped_from}
+use Rattle.std.specs.List.{list_all}
+use Rattle.trace.specs.Shapes.{are_places, is_nothing_left, is_place, is_shaped, unshaped_from}
 
 -- a line with its LF is looked at for its shape
 line_by : (number : ℕ) (line next : List ℕ) (lines : List (List ℕ)) → unshaped_from number (line ∷ next ∷ lines) ≡ (if is_shaped line then unshaped_from (suc number) (next ∷ lines) else Some number)
@@ -26,3 +27,13 @@ some_left rest = rw (pieces_is space rest) refl
 -- where words are left, there is no end
 pub more_left : (rest : List ℕ) (o : Option (List Word)) → Some (pieces space rest) ≡ o → false ≡ is_nothing_left o
 more_left rest o h = sym (some_left rest) ∙ ap is_nothing_left h
+
+-- a row has places
+pub some_places : (rest : List ℕ) (o : Option (List Word)) → Some (pieces space rest) ≡ o → list_all is_place (pieces space rest) ≡ are_places o
+some_places rest o h = places (pieces_is space rest) ∙ ap are_places h
+  where
+    places : {w : Word} {ws : List Word} → pieces space rest ≡ w ∷ ws → list_all is_place (pieces space rest) ≡ are_places (Some (pieces space rest))
+    places e = rw e refl
+
+pub no_places : (o : Option (List Word)) → Some [] ≡ o → false ≡ are_places o
+no_places o h = ap are_places h

@@ -1,24 +1,24 @@
--- Rows, computed: signed campaigns from their events to their texts.
+-- Rows, computed: signed campaigns from their traitors' programs to their texts.
 use Rattle.std.proofs.Common.{◌≡◌, ℕ, List, [], ◌∷◌, ◌++◌, refl}
 use Rattle.std.specs.Prelude.{codes}
 use Rattle.std.specs.Fmt.{digits}
-use Rattle.signed.specs.Accepted.{held, accepted, loyal_chains}
-use Rattle.signed.specs.World.{opening, run}
-use Rattle.signed.specs.Chronicle.{chronicle_of, decisions}
-use Rattle.signed.proofs.Rows.{passing, passer, passing_round, torn, signer, torn_round, late, late_conduct, late_round, twice, twice_conduct, twice_round}
-use Rattle.trace.specs.Text.{Line}
+use Rattle.semantics.specs.Execution.{step}
+use Rattle.round.specs.Contexts.{context_bytes}
+use Rattle.world.specs.KindLists.{listed, replayed}
+use Rattle.signed.specs.Accepted.{held, accepted}
+use Rattle.signed.specs.Loyal.{loyal_entries}
+use Rattle.signed.specs.Sent.{held_behind, sent_in}
+use Rattle.signed.specs.Kind.{signed_kind, played}
+use Rattle.signed.specs.Chronicle.{signed_decisions, signed_chronicle_of}
+use Rattle.signed.proofs.ProgramRows.{passing, torn, pair, late, twice}
 use Rattle.trace.specs.SignedText.{signed_lines, signed_text}
 
 -- lines, each with its LF
-abbrev pub whole : List (List ℕ) → List ℕ
+abbrev whole : List (List ℕ) → List ℕ
 whole [] = []
 whole (l ∷ ls) = l ++ 10 ∷ whole ls
 
--- a conduct has no ledger
-abbrev none_told : ℕ → List Line
-none_told round = []
-
-passed_text : signed_text none_told (chronicle_of (run passer (opening passer passing) (passing_round ++ passing_round))) ≡ whole (
+passing_text : signed_text (signed_chronicle_of (played passing (listed passing []))) ≡ whole (
     codes "chronicle 3"
     ∷ codes "signed generals 3 bound 1 commander 0 order 1 patience -"
     ∷ codes "round 1"
@@ -36,10 +36,10 @@ passed_text : signed_text none_told (chronicle_of (run passer (opening passer pa
     ∷ codes "decision 2 traitor 1"
     ∷ codes "verdict alike yes obeyed yes bound yes"
     ∷ [])
-unfolding signed_text signed_lines decisions held accepted loyal_chains digits
-passed_text = refl
+unfolding signed_text signed_lines signed_decisions sent_in held_behind held accepted loyal_entries context_bytes step digits
+passing_text = refl
 
-torn_text : signed_text none_told (chronicle_of (run signer (opening signer torn) (torn_round ++ torn_round))) ≡ whole (
+torn_text : signed_text (signed_chronicle_of (played torn (replayed signed_kind torn []))) ≡ whole (
     codes "chronicle 3"
     ∷ codes "signed generals 3 bound 1 commander 0 order 0 patience -"
     ∷ codes "round 1"
@@ -60,66 +60,94 @@ torn_text : signed_text none_told (chronicle_of (run signer (opening signer torn
     ∷ codes "decision 2 0"
     ∷ codes "verdict alike yes obeyed - bound yes"
     ∷ [])
-unfolding signed_text signed_lines decisions held accepted loyal_chains digits
+unfolding signed_text signed_lines signed_decisions sent_in held_behind held accepted loyal_entries context_bytes step digits
 torn_text = refl
 
-late_text : signed_text none_told (chronicle_of (run late_conduct (opening late_conduct late) (late_round ++ (late_round ++ late_round)))) ≡ whole (
+pair_text : signed_text (signed_chronicle_of (played pair (replayed signed_kind pair ((2 ∷ 0 ∷ 2 ∷ []) ∷ [])))) ≡ whole (
     codes "chronicle 3"
-    ∷ codes "signed generals 4 bound 2 commander 0 order 1 patience 2"
+    ∷ codes "signed generals 3 bound 1 commander 0 order 1 patience -"
     ∷ codes "round 1"
-    ∷ codes "letter 0 steps 2"
-    ∷ codes "chain 7 0 to 3"
+    ∷ codes "access 2 get 5 = 0"
+    ∷ codes "access 0 swap 5 7 = 0"
+    ∷ codes "access 2 get 5 = 7"
+    ∷ codes "letter 0 steps 7"
+    ∷ codes "chain 1 0 to 1.2"
     ∷ codes "letter 1 loyal"
-    ∷ codes "letter 2 loyal"
-    ∷ codes "letter 3 steps 2"
+    ∷ codes "letter 2 steps 10"
     ∷ codes "round 2"
-    ∷ codes "letter 0 steps 2"
+    ∷ codes "access 0 swap 5 7 = 7"
+    ∷ codes "access 2 get 5 = 7"
+    ∷ codes "access 2 get 5 = 7"
+    ∷ codes "letter 0 steps 7"
+    ∷ codes "chain 1 0 to 1.2"
+    ∷ codes "letter 1 loyal"
+    ∷ codes "chain 1 0.1 to 2"
+    ∷ codes "letter 2 steps 10"
+    ∷ codes "chain 1 0.2 to 1"
+    ∷ codes "decision 1 1"
+    ∷ codes "decision 2 traitor 1"
+    ∷ codes "verdict alike yes obeyed - bound no"
+    ∷ [])
+unfolding signed_text signed_lines signed_decisions sent_in held_behind held accepted loyal_entries context_bytes step digits
+pair_text = refl
+
+late_text : signed_text (signed_chronicle_of (played late (listed late ((3 ∷ 1 ∷ 0 ∷ 2 ∷ 0 ∷ 3 ∷ []) ∷ [])))) ≡ whole (
+    codes "chronicle 3"
+    ∷ codes "signed generals 4 bound 2 commander 0 order 1 patience 4"
+    ∷ codes "round 1"
+    ∷ codes "letter 0 steps 4"
     ∷ codes "chain 7 0 to 3"
     ∷ codes "letter 1 loyal"
     ∷ codes "letter 2 loyal"
-    ∷ codes "letter 3 steps 2"
+    ∷ codes "letter 3 steps 4"
+    ∷ codes "round 2"
+    ∷ codes "letter 0 steps 4"
+    ∷ codes "chain 7 0 to 3"
+    ∷ codes "letter 1 loyal"
+    ∷ codes "letter 2 loyal"
+    ∷ codes "letter 3 steps 4"
     ∷ codes "chain 7 0.3 to 1.2"
     ∷ codes "round 3"
-    ∷ codes "letter 0 steps 2"
+    ∷ codes "letter 0 steps 4"
     ∷ codes "chain 7 0 to 3"
     ∷ codes "letter 1 loyal"
     ∷ codes "chain 7 0.3.1 to 2"
     ∷ codes "letter 2 loyal"
     ∷ codes "chain 7 0.3.2 to 1"
-    ∷ codes "letter 3 steps 2"
+    ∷ codes "letter 3 steps 4"
     ∷ codes "chain 7 0.3 to 1.2"
     ∷ codes "decision 1 7"
     ∷ codes "decision 2 7"
     ∷ codes "decision 3 traitor 7"
     ∷ codes "verdict alike yes obeyed - bound yes"
     ∷ [])
-unfolding signed_text signed_lines decisions held accepted loyal_chains digits
+unfolding signed_text signed_lines signed_decisions sent_in held_behind held accepted loyal_entries context_bytes step digits
 late_text = refl
 
-twice_text : signed_text none_told (chronicle_of (run twice_conduct (opening twice_conduct twice) (twice_round ++ (twice_round ++ twice_round)))) ≡ whole (
+twice_text : signed_text (signed_chronicle_of (played twice (listed twice []))) ≡ whole (
     codes "chronicle 3"
-    ∷ codes "signed generals 4 bound 2 commander 0 order 1 patience 1"
+    ∷ codes "signed generals 4 bound 2 commander 0 order 1 patience -"
     ∷ codes "round 1"
-    ∷ codes "letter 0 steps 1"
+    ∷ codes "letter 0 steps 6"
     ∷ codes "chain 7 0 to 3"
     ∷ codes "letter 1 loyal"
     ∷ codes "letter 2 loyal"
-    ∷ codes "letter 3 steps 1"
+    ∷ codes "letter 3 steps 6"
     ∷ codes "round 2"
-    ∷ codes "letter 0 steps 1"
+    ∷ codes "letter 0 steps 3"
     ∷ codes "letter 1 loyal"
     ∷ codes "letter 2 loyal"
-    ∷ codes "letter 3 steps 1"
+    ∷ codes "letter 3 steps 6"
     ∷ codes "chain 7 0.3 to -"
     ∷ codes "round 3"
-    ∷ codes "letter 0 steps 1"
+    ∷ codes "letter 0 steps 3"
     ∷ codes "letter 1 loyal"
     ∷ codes "letter 2 loyal"
-    ∷ codes "letter 3 steps 1"
+    ∷ codes "letter 3 steps 6"
     ∷ codes "decision 1 0"
     ∷ codes "decision 2 0"
     ∷ codes "decision 3 traitor 7"
     ∷ codes "verdict alike yes obeyed - bound yes"
     ∷ [])
-unfolding signed_text signed_lines decisions held accepted loyal_chains digits
+unfolding signed_text signed_lines signed_decisions sent_in held_behind held accepted loyal_entries context_bytes step digits
 twice_text = refl

@@ -1,5 +1,5 @@
 -- One text after another, and a piece in several calls.
-use Rattle.std.proofs.Common.{◌≡◌, ℕ, zero, suc, ◌+◌, ◌-◌, ◌<◌, ◌≤◌, arith, List, [], ◌∷◌, ◌++◌, length, map, take, drop, get_or, Bool, true, false, refl, sym, ap, subst, ◌∙◌, append_assoc, append-nil, Option, None, Some}
+use Rattle.std.proofs.Common.{◌≡◌, ℕ, zero, suc, ◌+◌, ◌-◌, ◌<◌, ◌≤◌, arith, List, [], ◌∷◌, ◌++◌, length, map, take, drop, get_or, Bool, true, false, refl, sym, ap, subst, ◌∙◌, append_assoc, append-nil, Option}
 use Rattle.std.specs.Prelude.{decimal, OnOk, Result, Ok, Err}
 use Rattle.std.proofs.Math.ListN.{set, length-set}
 use Rattle.std.proofs.lemmas.List.{take-append-drop, take_all, drop-set, drop_all, take_more, map-append}
@@ -115,20 +115,20 @@ some_left piece from lt =
     let long = drop-length from piece (omega arith) in
     (let A : List ℕ → Type 0 = λ t. 0 < length t in subst A (sym (behind_is piece from lt)) (omega arith))
 
--- digits behind a space in a row of 21 bytes
-pub next_digits : (n s : ℕ) (old new : List ℕ) → s + length (decimal n) ≡ 21 → 1 ≤ s → length new ≡ 21 → length old ≡ 21 → drop s new ≡ decimal n ++ drop 21 old
-    → take (21 - (s - 1)) (drop (s - 1) (set new (s - 1) 32)) ≡ 32 ∷ decimal n
-next_digits n s old new e le long short w =
+-- digits behind a sign in a row of 21 bytes
+pub next_digits : (sign n s : ℕ) (old new : List ℕ) → s + length (decimal n) ≡ 21 → 1 ≤ s → length new ≡ 21 → length old ≡ 21 → drop s new ≡ decimal n ++ drop 21 old
+    → take (21 - (s - 1)) (drop (s - 1) (set new (s - 1) sign)) ≡ sign ∷ decimal n
+next_digits sign n s old new e le long short w =
     let k : ℕ = s - 1 in
     let sk : k + 1 ≡ s = omega arith in
     let room : k < length new = omega arith in
-    let row = set new k 32 in
-    let wide : length row ≡ length new = length-set new k 32 in
+    let row = set new k sign in
+    let wide : length row ≡ length new = length-set new k sign in
     let rest = drop-length k row (omega arith) in
     take_all (21 - k) (drop k row) (omega arith)
-    ∙ drop-set new k 32 room
-    ∙ ap (λ j. 32 ∷ drop j new) sk
-    ∙ ap (λ t. 32 ∷ t) (w ∙ ap (λ t. decimal n ++ t) (drop_all 21 old (omega arith)) ∙ append-nil (decimal n))
+    ∙ drop-set new k sign room
+    ∙ ap (λ j. sign ∷ drop j new) sk
+    ∙ ap (λ t. sign ∷ t) (w ∙ ap (λ t. decimal n ++ t) (drop_all 21 old (omega arith)) ∙ append-nil (decimal n))
 
 -- words behind words
 pub further-append : (vs ws : List Word) → further (vs ++ ws) ≡ further vs ++ further ws

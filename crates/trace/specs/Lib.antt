@@ -10,5 +10,5 @@ pub mod Sinks
 pub mod Lines
 pub mod Telling
 pub mod SignedText
-pub mod SignedTold
+pub mod SignedAudit
 pub mod SignedLaws

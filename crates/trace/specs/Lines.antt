@@ -34,9 +34,12 @@ abbrev pub mark : Bool → List Word
 mark true = codes "traitor" ∷ []
 mark false = []
 
--- a round's lines
+-- a round's lines, its letters told by these lines
+abbrev pub round_told : (Letter → List Line) → ℕ → List Access → List Letter → List Line
+round_told told r xs letters = (round_line r ∷ map access_line (filter (λ a. a.round == r) xs)) ++ flat_map told letters
+
 abbrev pub one_round : ℕ → List Access → List Letter → List Line
-one_round r xs letters = (round_line r ∷ map access_line (filter (λ a. a.round == r) xs)) ++ flat_map letter_lines letters
+one_round r xs letters = round_told letter_lines r xs letters
 
 -- the line of a general's decision, where he has one
 abbrev pub decided_lines : Scenario → ℕ → Option ℕ → List Line

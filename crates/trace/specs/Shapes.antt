@@ -1,7 +1,7 @@
 -- The shapes of a chronicle's lines: each is a line's alone, whatever its numbers (own).
 use Rattle.std.specs.Prelude.{ℕ, suc, ◌==◌, ◌&&◌, ◌||◌, nat_lt, Bool, true, false, if◌then◌else◌, List, [], ◌∷◌, length, bytes_eq, codes, Option, Some, None, is_some}
 use Rattle.std.specs.List.{list_all}
-use Rattle.text.specs.Stop.{space}
+use Rattle.text.specs.Stop.{dot, space}
 use Rattle.text.specs.Parts.{pieces}
 use Rattle.text.specs.Number.{decimal_of}
 use Rattle.trace.specs.Text.{Word}
@@ -19,13 +19,22 @@ is_place word = is_dash word || is_number word
 abbrev pub is_yes_no : Word → Bool
 is_yes_no word = bytes_eq word (codes "yes") || bytes_eq word (codes "no")
 
--- whether a word is what a word of a shape stands for: N for a number, P for a number or a dash, A for yes or no, B for these or a dash, any other for itself
+-- numbers joined by dots
+abbrev pub are_joined : Word → Bool
+are_joined word = list_all is_number (pieces dot word)
+
+abbrev pub are_receivers : Word → Bool
+are_receivers word = is_dash word || are_joined word
+
+-- whether a word is what a word of a shape stands for: N for a number, P for a number or a dash, A for yes or no, B for these or a dash, S for numbers joined by dots, R for these or a dash, any other for itself
 unfoldable pub stands_for : Word → Word → Bool
 stands_for kind word =
     if bytes_eq kind (codes "N") then is_number word
     else if bytes_eq kind (codes "P") then is_place word
     else if bytes_eq kind (codes "A") then is_yes_no word
     else if bytes_eq kind (codes "B") then (is_dash word || is_yes_no word)
+    else if bytes_eq kind (codes "S") then are_joined word
+    else if bytes_eq kind (codes "R") then are_receivers word
     else bytes_eq word kind
 
 -- the words behind those of a shape
@@ -45,19 +54,26 @@ is_nothing_left _ = false
 unfoldable pub fits : List ℕ → List Word → Bool
 fits shape words = is_nothing_left (behind_shape shape words)
 
--- the first two lines
-unfoldable pub is_head : List Word → Bool
-is_head words =
+-- the line of a version
+unfoldable pub is_version : List Word → Bool
+is_version words =
     fits (codes "chronicle 1") words
     || fits (codes "chronicle 2") words
-    || fits (codes "generals N bound N commander N order N") words
+    || fits (codes "chronicle 3") words
+
+-- the line of a campaign, in any version
+unfoldable pub is_campaign : List Word → Bool
+is_campaign words =
+    fits (codes "generals N bound N commander N order N") words
     || fits (codes "generals N bound N commander N order N patience P rule majority") words
     || fits (codes "generals N bound N commander N order N patience P rule median") words
+    || fits (codes "signed generals N bound N commander N order N patience P") words
 
--- places to the end of a line
+-- places to the end of a line, at least one: each label of a row has a receiver
 abbrev pub are_places : Option (List Word) → Bool
 are_places None = false
-are_places (Some words) = list_all is_place words
+are_places (Some []) = false
+are_places (Some (word ∷ words)) = list_all is_place (word ∷ words)
 
 -- the line of a round, and those of a letter
 unfoldable pub is_told : List Word → Bool
@@ -65,6 +81,7 @@ is_told words =
     fits (codes "round N") words
     || fits (codes "letter N loyal") words
     || fits (codes "letter N steps N") words
+    || fits (codes "chain N S to R") words
     || are_places (behind_shape (codes "row N") words)
 
 -- so many words, all of them numbers
@@ -95,7 +112,7 @@ is_end words =
 
 -- a line of one of the shapes
 unfoldable pub is_shaped : List ℕ → Bool
-is_shaped line = let words = pieces space line in is_head words || is_told words || is_access words || is_end words
+is_shaped line = let words = pieces space line in is_version words || is_campaign words || is_told words || is_access words || is_end words
 
 -- the first line, counted from this number, that has no shape or no LF behind it, where nothing stands behind the last LF; an empty text has a first line
 abbrev pub unshaped_from : ℕ → List (List ℕ) → Option ℕ

@@ -1,12 +1,31 @@
--- What holds of every text of a signed campaign whose traitors run programs. The statement is the contract of a function of this crate.
-use Rattle.std.specs.Prelude.{◌≡◌, List}
-use Rattle.signed.specs.World.{Event}
-use Rattle.signed.specs.Programs.{SignedScenario, IsSignedScenario, played}
-use Rattle.signed.specs.Lists.{IsComplete}
-use Rattle.signed.specs.Plays.{replay_of}
-use Rattle.trace.specs.SignedTold.{text_of}
+-- What holds of every text of a signed campaign. Each statement is the contract of a function of this crate.
+use Rattle.std.specs.Prelude.{◌≡◌, ◌<◌, ◌↔◌, ℕ, All, List, length}
+use Rattle.round.specs.Scenario.{Scenario, IsScenario}
+use Rattle.world.specs.declared.event.Event.{Event}
+use Rattle.world.specs.KindLists.{IsComplete, names_in, replay_world}
+use Rattle.world.specs.Chronicle.{Chronicle}
+use Rattle.signed.specs.Kind.{signed_kind, played}
+use Rattle.signed.specs.Chronicle.{signed_chronicle_of}
+use Rattle.trace.specs.Names.{names_of}
+use Rattle.trace.specs.SignedAudit.{IsSoundSignedText}
+use Rattle.trace.specs.SignedText.{signed_text}
+
+-- the names that the text tells are those of its accesses, round by round
+abbrev pub SignedNamesAreTold : Type 0
+SignedNamesAreTold = (c : Chronicle) → All (λ a. a.general < 13) c.accesses → names_of (signed_text c) ≡ names_in 1 c.accesses (length c.letters)
 
 -- the text of a complete run is that of the replay of its own accesses
 abbrev pub SignedTextsAreReplays : Type 0
-SignedTextsAreReplays = (s : SignedScenario) (events : List Event) → IsSignedScenario s → IsComplete s events →
-    text_of (played s events) ≡ text_of (replay_of s (played s events).board.ledger)
+SignedTextsAreReplays = (s : Scenario) (events : List Event) → IsScenario s → IsComplete signed_kind s events →
+    signed_text (signed_chronicle_of (played s events))
+    ≡ signed_text (signed_chronicle_of (replay_world signed_kind s (played s events).ledger))
+
+-- the text of a complete run
+pub record IsSignedRunText (s : Scenario) (t : List ℕ) : Type 0 where
+  pub events : List Event
+  pub complete : IsComplete signed_kind s events
+  pub same : t ≡ signed_text (signed_chronicle_of (played s events))
+
+-- the texts that an audit finds sound are exactly those of complete runs
+abbrev pub SoundSignedTextsAreRuns : Type 0
+SoundSignedTextsAreRuns = (s : Scenario) (t : List ℕ) → IsScenario s → IsSoundSignedText s t ↔ IsSignedRunText s t

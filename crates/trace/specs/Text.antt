@@ -63,12 +63,15 @@ letter_line g (Some program) steps = codes "letter" ∷ decimal g ∷ codes "ste
 abbrev pub letter_lines : Letter → List Line
 letter_lines l = letter_line l.general l.program l.steps ∷ row_lines 0 l.outbox.rows
 
--- round by round: its line, its accesses, its letters
-abbrev pub round_lines : ℕ → List Access → List (List Letter) → List Line
-round_lines round accesses [] = []
-round_lines round accesses (letters ∷ rounds) =
+-- round by round its line, its accesses, and its letters, which are told by these lines
+abbrev pub rounds_told : (ℕ → Letter → List Line) → List Access → ℕ → List (List Letter) → List Line
+rounds_told told accesses round [] = []
+rounds_told told accesses round (letters ∷ rounds) =
     (codes "round" ∷ decimal round ∷ [])
-    ∷ (map access_line (filter (λ a. a.round == round) accesses) ++ (flat_map letter_lines letters ++ round_lines (suc round) accesses rounds))
+    ∷ (map access_line (filter (λ a. a.round == round) accesses) ++ (flat_map (told round) letters ++ rounds_told told accesses (suc round) rounds))
+
+abbrev pub round_lines : ℕ → List Access → List (List Letter) → List Line
+round_lines round accesses rounds = rounds_told (λ _. letter_lines) accesses round rounds
 
 abbrev pub decision_line : ℕ → Bool → ℕ → Line
 decision_line g true d = codes "decision" ∷ decimal g ∷ codes "traitor" ∷ decimal d ∷ []
@@ -120,10 +123,14 @@ further_words Second patience rule = codes "patience" ∷ place patience ∷ cod
 abbrev pub head_lines : Version → Scenario → List Line
 head_lines v s = version_line v ∷ (campaign_words s.generals s.bound s.commander s.order ++ further_words v s.patience s.rule) ∷ []
 
+-- a chronicle behind these lines: its rounds, the decisions and the verdict
+abbrev pub lines_behind : List Line → (ℕ → Letter → List Line) → Chronicle → List Line
+lines_behind head told c =
+    head
+    ++ (rounds_told told c.accesses 1 c.letters ++ (decision_lines c.scenario (lieutenants c.scenario.generals c.scenario.commander) c.decisions ++ verdict_line c.verdict ∷ []))
+
 unfoldable pub lines_in : Version → Chronicle → List Line
-lines_in v c =
-    head_lines v c.scenario
-    ++ (round_lines 1 c.accesses c.letters ++ (decision_lines c.scenario (lieutenants c.scenario.generals c.scenario.commander) c.decisions ++ verdict_line c.verdict ∷ []))
+lines_in v c = lines_behind (head_lines v c.scenario) (λ _. letter_lines) c
 
 unfoldable pub text_in : Version → Chronicle → List ℕ
 text_in v c = text (lines_in v c)

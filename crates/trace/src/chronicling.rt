@@ -17,7 +17,7 @@ use round::Scenario;
 use world::{Chronicle, Verdict};
 
 /// The campaign's numbers, which begin the second line.
-fn put_campaign_of<S: Sink>(sink: &mut S, scenario: &Scenario)
+pub(crate) fn put_campaign_of<S: Sink>(sink: &mut S, scenario: &Scenario)
     ensures { Wrote (S.contents sink.old) (S.has_failed sink.old)
         (spaced (campaign_words scenario.now.generals scenario.now.bound scenario.now.commander scenario.now.order))
         (S.contents sink.new) (S.has_failed sink.new) }
@@ -98,7 +98,7 @@ pub fn write_verdict<S: Sink>(verdict: Verdict, sink: &mut S) -> Result<(), Trac
 }
 
 /// That all was written, or that the sink has failed.
-fn written<S: Sink>(sink: &S) -> Result<(), TraceError>
+pub(crate) fn written<S: Sink>(sink: &S) -> Result<(), TraceError>
     ensures ok { OnOk result (S.has_failed sink.now ≡ false) }
     ensures fault { IfErr result (λ e. e ≡ unwritten) }
     ensures exactly { is_err result ≡ S.has_failed sink.now }

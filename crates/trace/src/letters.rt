@@ -25,7 +25,7 @@ fn put_rows<S: Sink>(sink: &mut S, outbox: &Outbox)
 }
 
 /// Whose letter it is.
-fn general_of(letter: &Letter) -> u32
+pub(crate) fn general_of(letter: &Letter) -> u32
     ensures { result ≡ letter.now.general }
 {
     letter.general
@@ -39,7 +39,7 @@ fn outbox_of(letter: &Letter) -> &Outbox
 }
 
 /// The steps of a traitor's letter; none where its general is loyal.
-fn steps_of(letter: &Letter) -> Option<u32>
+pub(crate) fn steps_of(letter: &Letter) -> Option<u32>
     ensures { result ≡ option_map (λ _. letter.now.steps) letter.now.program }
 {
     match letter.program.program() {
@@ -75,7 +75,7 @@ fn put_one<S: Sink>(sink: &mut S, round: u64, accesses: &[Access], letters: &[Le
 }
 
 /// The letters of a round, counted from 0.
-fn letters_of(rounds: &[Round], number: usize) -> &[Letter]
+pub(crate) fn letters_of(rounds: &[Round], number: usize) -> &[Letter]
     requires { number < length rounds.now }
     ensures { result.now ≡ slice_index_or rounds.now number [] }
 {

@@ -1,12 +1,12 @@
 //! The shapes of a chronicle's lines.
 ghost use Rattle.std.specs.Prelude.{◌≡◌, ◌&&◌, ◌==◌, Some, option_map, codes, length};
 ghost use Rattle.std.specs.List.{list_all};
-ghost use Rattle.text.specs.Stop.{space, feed};
+ghost use Rattle.text.specs.Stop.{dot, space, feed};
 ghost use Rattle.text.specs.Parts.{left, pieces};
-ghost use Rattle.trace.specs.Shapes.{are_places, behind, behind_shape, fits, is_access, is_copied, is_count, is_end};
-ghost use Rattle.trace.specs.Shapes.{is_head, is_number, is_place, is_shaped, is_told, is_yes_no, stands_for, unshaped_from};
+ghost use Rattle.trace.specs.Shapes.{are_joined, are_places, are_receivers, behind, behind_shape, fits, is_access, is_copied, is_count, is_end};
+ghost use Rattle.trace.specs.Shapes.{is_campaign, is_number, is_place, is_shaped, is_told, is_version, is_yes_no, stands_for, unshaped_from};
 
-use crate::stops::{FEED, SPACE};
+use crate::stops::{DOT, FEED, SPACE};
 use text::{decimal, piece};
 
 /// Whether a word is a number, or a dash for nothing.
@@ -23,8 +23,30 @@ fn is_yes_no(word: &[u8]) -> bool
     word == b"yes".as_slice() || word == b"no".as_slice()
 }
 
+/// Whether a word is numbers joined by dots.
+fn are_joined(word: &[u8]) -> bool
+    ensures { result ≡ are_joined word.now }
+{
+    let mut rest = Some(word);
+    while let Some(numbers) = rest {
+        let (number, further) = piece(DOT, numbers);
+        if decimal(number).is_none() {
+            return false;
+        }
+        rest = further;
+    }
+    true
+}
+
+/// Whether a word is numbers joined by dots, or a dash for none.
+fn are_receivers(word: &[u8]) -> bool
+    ensures { result ≡ are_receivers word.now }
+{
+    word == b"-".as_slice() || are_joined(word)
+}
+
 /// Whether a word is what a word of a shape stands for: `N` for a number, `P` for a number or a dash, `A` for yes or no,
-/// `B` for these or a dash, any other for itself.
+/// `B` for these or a dash, `S` for numbers joined by dots, `R` for these or a dash, any other for itself.
 #[tactic(auto, unfolding(crate::specs::Shapes::stands_for))]
 fn stands_for(kind: &[u8], word: &[u8]) -> bool
     ensures { result ≡ stands_for kind.now word.now }
@@ -37,6 +59,10 @@ fn stands_for(kind: &[u8], word: &[u8]) -> bool
         is_yes_no(word)
     } else if kind == b"B".as_slice() {
         word == b"-".as_slice() || is_yes_no(word)
+    } else if kind == b"S".as_slice() {
+        are_joined(word)
+    } else if kind == b"R".as_slice() {
+        are_receivers(word)
     } else {
         word == kind
     }
@@ -72,14 +98,20 @@ fn fits(shape: &[u8], line: &[u8]) -> bool
     }
 }
 
-/// Whether a line has a shape of the first two.
-#[tactic(auto, unfolding(crate::specs::Shapes::is_head))]
-fn is_head(line: &[u8]) -> bool
-    ensures { result ≡ is_head (pieces space line.now) }
+/// Whether a line is that of a version.
+#[tactic(auto, unfolding(crate::specs::Shapes::is_version))]
+fn is_version(line: &[u8]) -> bool
+    ensures { result ≡ is_version (pieces space line.now) }
 {
-    fits(b"chronicle 1", line)
-        || fits(b"chronicle 2", line)
-        || fits(b"generals N bound N commander N order N", line)
+    fits(b"chronicle 1", line) || fits(b"chronicle 2", line) || fits(b"chronicle 3", line)
+}
+
+/// Whether a line is that of a campaign, in any version.
+#[tactic(auto, unfolding(crate::specs::Shapes::is_campaign))]
+fn is_campaign(line: &[u8]) -> bool
+    ensures { result ≡ is_campaign (pieces space line.now) }
+{
+    fits(b"generals N bound N commander N order N", line)
         || fits(
             b"generals N bound N commander N order N patience P rule majority",
             line,
@@ -88,13 +120,17 @@ fn is_head(line: &[u8]) -> bool
             b"generals N bound N commander N order N patience P rule median",
             line,
         )
+        || fits(
+            b"signed generals N bound N commander N order N patience P",
+            line,
+        )
 }
 
-/// Whether the words that are left are numbers or dashes.
-fn are_places(words: Option<&[u8]>) -> bool
-    ensures { result ≡ list_all is_place (left space words.entry) }
+/// Whether all of these words are numbers or dashes.
+fn are_places(words: &[u8]) -> bool
+    ensures { result ≡ list_all is_place (pieces space words.now) }
 {
-    let mut rest = words;
+    let mut rest = Some(words);
     while let Some(places) = rest {
         let (place, further) = piece(SPACE, places);
         if !is_place(place) {
@@ -105,17 +141,18 @@ fn are_places(words: Option<&[u8]>) -> bool
     true
 }
 
-/// Whether a line is a label's row.
+/// Whether a line is a label's row, which has a place for each receiver, at least one.
+#[tactic(auto, using(crate::proofs::ShapeLemmas::no_places, crate::proofs::ShapeLemmas::some_places))]
 fn is_row(line: &[u8]) -> bool
     ensures { result ≡ are_places (behind_shape (codes "row N") (pieces space line.now)) }
 {
     match behind(b"row N", line) {
-        Some(places) => are_places(places),
-        None => false,
+        Some(Some(places)) => are_places(places),
+        Some(None) | None => false,
     }
 }
 
-/// Whether a line is a round's or one of a letter's.
+/// Whether a line is a round's, or one of a letter's: its first, a signed chain's, a label's row.
 #[tactic(auto, unfolding(crate::specs::Shapes::is_told))]
 fn is_told(line: &[u8]) -> bool
     ensures { result ≡ is_told (pieces space line.now) }
@@ -123,6 +160,7 @@ fn is_told(line: &[u8]) -> bool
     fits(b"round N", line)
         || fits(b"letter N loyal", line)
         || fits(b"letter N steps N", line)
+        || fits(b"chain N S to R", line)
         || is_row(line)
 }
 
@@ -200,7 +238,7 @@ fn is_end(line: &[u8]) -> bool
 fn is_shaped(line: &[u8]) -> bool
     ensures { result ≡ is_shaped line.now }
 {
-    is_head(line) || is_told(line) || is_access(line) || is_end(line)
+    is_version(line) || is_campaign(line) || is_told(line) || is_access(line) || is_end(line)
 }
 
 /// The first line of a text, counted from 1, that has no shape or no line feed behind it; an empty text has one.

@@ -22,14 +22,21 @@ pub fn put_all<S: Sink>(sink: &mut S, piece: &[u8])
     }
 }
 
+/// Writes a sign and a number.
+pub fn put_behind<S: Sink>(sink: &mut S, sign: u8, number: u64)
+    ensures { Wrote (S.contents sink.old) (S.has_failed sink.old) (sign ∷ decimal number) (S.contents sink.new) (S.has_failed sink.new) }
+{
+    let mut digits = [sign; 21];
+    let start = write_digits(number, &mut digits, 21);
+    digits[start - 1] = sign;
+    put_all(sink, &digits[start - 1..]);
+}
+
 /// Writes a space and a number.
 pub fn put_next<S: Sink>(sink: &mut S, number: u64)
     ensures { Wrote (S.contents sink.old) (S.has_failed sink.old) (32 ∷ decimal number) (S.contents sink.new) (S.has_failed sink.new) }
 {
-    let mut digits = [b' '; 21];
-    let start = write_digits(number, &mut digits, 21);
-    digits[start - 1] = b' ';
-    put_all(sink, &digits[start - 1..]);
+    put_behind(sink, b' ', number);
 }
 
 /// Writes a line's beginning and a number.

@@ -27,7 +27,7 @@ use Rattle.round.proofs.Stepping.{runs_steps}
 use Rattle.round.proofs.Patience.{under, runs_under}
 use Rattle.world.proofs.Following.{Act, of_first, Ways, Followed, follow, ways_last, moves_still, way_ended}
 use Rattle.world.proofs.Cutting.{entries_of, entries_below, AreBelow}
-use Rattle.world.proofs.Campaigns.{IsCampaign}
+use Rattle.world.specs.Campaigns.{IsCampaign}
 
 take-snoc : (ls : List Letter) (n : ℕ) (l : Letter) → slice_get ls n ≡ Some l → take (suc n) ls ≡ take n ls ++ l ∷ []
 take-snoc [] n l e = cc

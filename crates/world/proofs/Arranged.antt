@@ -1,5 +1,5 @@
 -- Accounted rounds, one behind the other, are accounted letters.
-use Rattle.std.proofs.Common.{◌≡◌, ◌≢◌, ℕ, zero, suc, ◌+◌, ◌*◌, ◌<◌, ◌≤◌, List, [], ◌∷◌, ◌++◌, length, take, drop, true, false, refl, sym, ap, subst, ◌∙◌, ⊎_elim, Option, None, Some, arith, length-append}
+use Rattle.std.proofs.Common.{◌≡◌, ◌≢◌, ℕ, zero, suc, ◌+◌, ◌*◌, ◌≤◌, List, [], ◌∷◌, ◌++◌, length, take, drop, true, false, refl, sym, ap, subst, ◌∙◌, ⊎_elim, Option, None, Some, arith, length-append}
 use Rattle.std.specs.Prelude.{◌==◌, ◌&&◌, Bool, slice_get, flat_map, sum_by, option_to_list}
 use Rattle.std.proofs.Math.Nat.{suc-mul}
 use Rattle.std.proofs.lemmas.Bool.{eq-eqb, ne_eqb}

@@ -12,7 +12,7 @@ use Rattle.world.specs.Kind.{Kind, begins, each}
 use Rattle.world.proofs.Listing.{each-get_only}
 use Rattle.world.proofs.Moves.{AllParts, IsLasting}
 use Rattle.round.proofs.Going.{IsGoing, IsAfter, TurnsTo, turn_safe, going_zero, over_ended}
-use Rattle.world.proofs.Campaigns.{IsCampaign}
+use Rattle.world.specs.Campaigns.{IsCampaign}
 
 -- it runs its general's program, has some steps left at most, and is safe for these
 pub record IsDue (s : Scenario) (g : ℕ) (a : Activation) : Type 0 where

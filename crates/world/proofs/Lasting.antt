@@ -15,7 +15,7 @@ use Rattle.world.proofs.Moves.{moves-append, moves_same, run-append, AllParts, m
 use Rattle.world.proofs.Rounds.{run_kept, opening_kept, happen_kept}
 use Rattle.world.proofs.Due.{Due, due_lasts, due_parts}
 use Rattle.world.proofs.Complete.{throughout-append, moves_throughout, posts, ends, posts_moves, ends_moves, ripens, ticks_are_moves}
-use Rattle.world.proofs.Campaigns.{IsCampaign, AreCampaigns}
+use Rattle.world.specs.Campaigns.{IsCampaign, AreCampaigns}
 
 abbrev IsOpen : World → Type 0
 IsOpen w = round_open w.scenario w.closed ≡ true

@@ -35,7 +35,7 @@ decided_agree s closed k opened ps full w xs is h same decided done =
 pub is_done : (s : Scenario) (closed : List (List Letter)) (k : RecordedBoard) (opened : ℕ) (ps : List Part) (full : Bool) (w : World) (len from : ℕ) → IsScenario s → IsHeld s closed k opened ps full → world_of s closed k opened ps full ≡ w →
     len ≡ length closed → from ≡ s.bound → from < len → full ≡ true → IsFinished w
 is_done s closed k opened ps full w len from is h same counted bound past filled =
-    let few = held_few s closed k opened ps full is h in
+    let few = held_few oral_kind s closed k opened ps full is h in
     subst (λ (v : World). IsFinished v) same (record { closed = omega arith; full = filled })
 
 long : (s : Scenario) (M : Messages) → length (decisions s M) ≡ length (lieutenants s.generals s.commander)

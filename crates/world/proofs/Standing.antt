@@ -32,7 +32,7 @@ use Rattle.world.proofs.Listing.{each-get_only, take-front, take-whole}
 use Rattle.world.proofs.Moves.{SameRound, same_round, then_same, move_same}
 use Rattle.world.proofs.Ways.{Midst, midst_first, move_midst}
 use Rattle.world.proofs.Untrapped.{one_letter}
-use Rattle.world.proofs.Campaigns.{IsCampaign, AreCampaigns, TellsRelays, TellRelays}
+use Rattle.world.specs.Campaigns.{IsCampaign, AreCampaigns, TellsRelays, TellRelays}
 
 no_program : (o : Option (List Insn)) → Fits o Posted → o ≡ None
 no_program None fits = refl

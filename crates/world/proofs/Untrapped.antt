@@ -18,7 +18,7 @@ use Rattle.world.proofs.Moves.{AllParts, move_same}
 use Rattle.world.proofs.Rounds.{closing_kept}
 use Rattle.world.proofs.Due.{IsDue, Due, due_few, due_parts}
 use Rattle.world.proofs.Lasting.{IsOnTime, moves_due, opening_due, few}
-use Rattle.world.proofs.Campaigns.{IsCampaign, AreCampaigns}
+use Rattle.world.specs.Campaigns.{IsCampaign, AreCampaigns}
 
 pub one_letter : (P : Letter → Type 0) (l : Letter) → P l → All P (l ∷ [])
 one_letter P l h zero d lt = h

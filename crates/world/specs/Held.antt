@@ -1,67 +1,21 @@
--- How code holds a world, and what one event leaves of its parts and its board (own). No claim rests on this: what a world is and does, World.antt says.
-use Rattle.std.specs.Prelude.{ℕ, suc, ◌≡◌, ◌≤◌, ◌-◌, cond, List, [], ◌∷◌, length, slice_set, slice_get, Option, None, Some}
+-- How code holds the world of an oral campaign (own). No claim rests on this: what a world is and does, World.antt says.
+use Rattle.std.specs.Prelude.{ℕ, List, Option}
 use Rattle.board.specs.Board.{Access}
-use Rattle.board.specs.Ledger.{RecordedBoard}
-use Rattle.round.specs.Scenario.{Scenario, program_of}
+use Rattle.round.specs.Scenario.{Scenario}
 use Rattle.round.specs.Letters.{Letter}
-use Rattle.round.specs.Contexts.{faithful_letter}
-use Rattle.round.specs.Activation.{Activation, turn}
-use Rattle.round.specs.Runs.{Runs, IsLetter}
-use Rattle.round.specs.Running.{moved, Pauses, letter_left}
-use Rattle.world.specs.declared.event.Event.{Event}
-use Rattle.world.specs.declared.event.Event.TheVariants.{Post}
-use Rattle.world.specs.declared.event.EventError.{EventError}
-use Rattle.world.specs.declared.event.EventError.TheVariants.{Memory}
-use Rattle.world.specs.Part.{Part, Acting, Silent, Posted}
-use Rattle.world.specs.World.{each, accesses_of, begins, round_open}
-
--- a tick enters an access, and a close keeps letters; a post takes no memory
-abbrev pub TakesMemory : Event → Type 0
-TakesMemory (Post g) = ⊥
-TakesMemory _ = Unit {0}
-
--- an error is the refusal, and where nothing is refused the want of memory
-abbrev pub IsAnswer : Event → EventError → Option EventError → Type 0
-IsAnswer event error (Some refused) = error ≡ refused
-IsAnswer event error None = (error ≡ Memory) × TakesMemory event
-
--- what a tick leaves
-abbrev pub ticked_of : ℕ → ℕ → List Part → RecordedBoard → Option Part → List Part × RecordedBoard
-ticked_of general round parts board (Some (Acting a)) =
-    (slice_set parts general (Acting (moved general round a board (turn a)).0), (moved general round a board (turn a)).1)
-ticked_of general round parts board _ = (parts, board)
-
--- what a post leaves
-abbrev pub posted_of : ℕ → List Part → Option Part → List Part
-posted_of general parts (Some Silent) = slice_set parts general Posted
-posted_of general parts _ = parts
-
--- what some turns of a general without an access leave, up to so many steps in all
-abbrev pub AheadTo : ℕ → ℕ → List Part → ℕ → Option Part → List Part → Type 0
-AheadTo limit taken parts g (Some (Acting a)) new =
-    (b : Activation) × Runs taken a [] b × (taken ≤ limit - a.state.steps) × Pauses limit b (turn b) × (new ≡ slice_set parts g (Acting b))
-AheadTo limit taken parts g _ new = (taken ≡ 0) × (new ≡ parts)
-
--- how many steps a part has taken
-abbrev pub steps_of : Option Part → ℕ
-steps_of (Some (Acting a)) = a.state.steps
-steps_of _ = 0
+use Rattle.world.specs.Part.{Part}
+use Rattle.world.specs.World.{oral_kind}
+use Rattle.world.specs.KindHeld as held
+pub use Rattle.world.specs.KindHeld.{TakesMemory, IsAnswer, ticked_of, posted_of, AheadTo, steps_of, AreLetters}
 
 -- a general's letter, or none, from his part and the round's accesses
 abbrev pub letter_held : Scenario → List (List Letter) → List Access → ℕ → Option Part → List Letter
-letter_held s closed accesses g (Some (Acting a)) = letter_left g (suc (length closed)) (accesses_of g accesses) a ∷ []
-letter_held s closed accesses g (Some Silent) = []
-letter_held s closed accesses g (Some Posted) = faithful_letter s closed g ∷ []
-letter_held s closed accesses g None = []
+letter_held s closed accesses g part = held.letter_held oral_kind s closed accesses g part
 
 -- the letters of a round
 abbrev pub letters_held : Scenario → List (List Letter) → List Access → List Part → List Letter
-letters_held s closed accesses parts = each s.generals (λ g. letter_held s closed accesses g (slice_get parts g))
+letters_held s closed accesses parts = held.letters_held oral_kind s closed accesses parts
 
 -- how the generals begin the round behind these
 abbrev pub beginnings : Scenario → List (List Letter) → List Part
-beginnings s closed = cond (round_open s closed) (each s.generals (λ g. begins s closed g (program_of s g) ∷ [])) []
-
--- what each acting general has done is a letter's run
-abbrev pub AreLetters : ℕ → List Access → List Part → Type 0
-AreLetters round accesses parts = (g : ℕ) (a : Activation) → slice_get parts g ≡ Some (Acting a) → IsLetter (letter_left g round (accesses_of g accesses) a)
+beginnings s closed = held.beginnings oral_kind s closed

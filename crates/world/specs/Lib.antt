@@ -1,7 +1,10 @@
 pub mod Part
 pub mod Kind
 pub mod World
+pub mod KindHeld
+pub mod Held
 pub mod Reached
+pub mod Campaigns
 pub mod KindLists
 pub mod Lists
 pub mod Schedules
@@ -14,5 +17,4 @@ pub mod Safety
 pub mod Replay
 pub mod Refusals
 pub mod Playing
-pub mod Held
 pub mod Closing

@@ -1,5 +1,5 @@
 -- What lists of events and ledgers decide, in campaigns of some kind. Each law is the contract of a function, here of oral ones.
-use Rattle.std.specs.Prelude.{ℕ, suc, ◌≡◌, ◌<◌, true, All, List, [], map, flat_map}
+use Rattle.std.specs.Prelude.{ℕ, ◌≡◌, ◌<◌, true, All, List, [], map, flat_map}
 use Rattle.semantics.specs.declared.request.Request.{Request}
 use Rattle.board.specs.Board.{Access, words_after, IsLegal}
 use Rattle.round.specs.Scenario.{Scenario, IsScenario, is_traitor}

@@ -5,7 +5,7 @@ use std::marker::Model;
 
 /// One general's accesses of a round, seen as their list.
 #[derive(Drop)]
-pub(crate) struct Transcript {
+pub struct Transcript {
     pub accesses: Vec<Access>,
 }
 
@@ -20,7 +20,7 @@ impl Model for Transcript {
 
 /// A general's letter as far as it takes memory.
 #[derive(Drop)]
-pub(crate) enum Draft {
+pub enum Draft {
     /// A traitor's accesses: all else is in his activation.
     Begun(Transcript),
     /// A loyal general's letter.

@@ -24,7 +24,7 @@ pub(crate) fn verdict(scenario: &Scenario, decisions: &[u32]) -> Verdict
 }
 
 /// Whether all these decisions of loyal lieutenants are one.
-fn alike(loyal: &[u32]) -> bool
+pub fn alike(loyal: &[u32]) -> bool
     ensures { result ≡ are_alike loyal.now }
 {
     match loyal.split_first() {
@@ -41,7 +41,7 @@ fn are_all(decisions: &[u32], order: u32) -> bool
 }
 
 /// Whether all these decisions of loyal lieutenants are the order; none where the commander is a traitor.
-fn obeyed(scenario: &Scenario, loyal: &[u32]) -> Option<bool>
+pub fn obeyed(scenario: &Scenario, loyal: &[u32]) -> Option<bool>
     ensures { result ≡ cond (is_traitor scenario.now scenario.now.commander) None (Some (list_all (λ d. d == scenario.now.order) loyal.now)) }
 {
     if scenario.is_traitor(scenario.commander()) {
@@ -59,7 +59,7 @@ fn is_bound(scenario: &Scenario) -> bool
 }
 
 /// How many generals are traitors.
-fn traitors(scenario: &Scenario) -> u8
+pub fn traitors(scenario: &Scenario) -> u8
     ensures { result ≡ count_by (is_traitor scenario.now) (generals scenario.now.generals) }
 {
     let mut traitors = 0;
@@ -72,7 +72,7 @@ fn traitors(scenario: &Scenario) -> u8
 }
 
 /// The decisions of the loyal lieutenants, ascending by number.
-fn loyal_decisions(scenario: &Scenario, decisions: &[u32]) -> ArrayVec<u32, 13>
+pub fn loyal_decisions(scenario: &Scenario, decisions: &[u32]) -> ArrayVec<u32, 13>
     ensures { result.items ≡ of_loyal scenario.now (lieutenants scenario.now.generals scenario.now.commander) decisions.now }
 {
     let mut loyal = ArrayVec::new();

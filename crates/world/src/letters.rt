@@ -81,7 +81,15 @@ fn loyal(
 }
 
 /// One general's accesses.
-fn transcript(alloc: Global, accesses: &[Access], general: u32) -> Result<Transcript, AllocError>
+///
+/// # Errors
+///
+/// `AllocError` where memory is refused.
+pub fn transcript(
+    alloc: Global,
+    accesses: &[Access],
+    general: u32,
+) -> Result<Transcript, AllocError>
     ensures { IfOk result (λ own. own ≡ accesses_of general accesses.now) }
 {
     let mut own = Vec::new(alloc);
@@ -94,8 +102,8 @@ fn transcript(alloc: Global, accesses: &[Access], general: u32) -> Result<Transc
 }
 
 /// The letters of so many generals, in a list that has room for them: their drafts, and what the traitors' activations
-/// have. The activations are gone from the parts. It takes no memory.
-pub(crate) fn letters(
+/// have. The activations are gone from the parts, which are of no use then: let them go. It takes no memory.
+pub fn letters(
     mut list: Vec<Letter>,
     mut drafts: Vec<Draft>,
     parts: &mut Vec<Part>,
@@ -165,7 +173,7 @@ fn leave(list: &mut Vec<Letter>, part: &mut Part, transcript: Transcript, genera
 }
 
 /// The accesses from this place on.
-pub(crate) fn since(ledger: &[Access], opened: usize) -> &[Access]
+pub fn since(ledger: &[Access], opened: usize) -> &[Access]
     ensures { result.now ≡ drop opened ledger.now }
 {
     if opened > ledger.len() {
@@ -175,7 +183,7 @@ pub(crate) fn since(ledger: &[Access], opened: usize) -> &[Access]
 }
 
 /// Whether it was full before and every loyal general has posted.
-pub(crate) fn is_full(full: bool, parts: &[Part]) -> bool
+pub fn is_full(full: bool, parts: &[Part]) -> bool
     ensures { result ≡ (full && list_all owes_no_letter parts.now) }
 {
     full && all_posted(parts)

@@ -3,17 +3,18 @@
 
 mod beginnings;
 mod chronicle;
-mod draft;
+pub mod draft;
 mod event;
 mod events;
-mod judging;
+pub mod judging;
 mod laws;
-mod letters;
+pub mod letters;
 mod outcome;
 mod part;
-mod parts;
+pub mod parts;
 mod player;
 mod playing;
+mod plays;
 mod schedule;
 mod verdict;
 mod world;
@@ -28,6 +29,8 @@ pub use laws::{
 };
 pub use part::Part;
 pub use player::{play, replay};
+pub use playing::{play_listed, play_named};
+pub use plays::Plays;
 pub use schedule::{Entries, Repeat, Schedule};
 pub use verdict::Verdict;
 pub use world::World;

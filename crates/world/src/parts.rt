@@ -1,5 +1,5 @@
 //! What one event leaves of the parts and the board.
-ghost use Rattle.std.specs.Prelude.{◌≡◌, OnOk, OnErr, slice_get, is_some, true};
+ghost use Rattle.std.specs.Prelude.{◌≡◌, ◌↔◌, IsTrue, OnOk, OnErr, slice_get, is_some};
 ghost use Rattle.world.specs.World.{unfit, named_by};
 ghost use Rattle.world.specs.Held.{ticked_of, posted_of, AheadTo, steps_of};
 ghost use Rattle.world.specs.Playing.{IsStill, program_length};
@@ -10,7 +10,7 @@ use board::Board;
 use std::alloc::AllocError;
 
 /// Whether there is no such general, or he is not of the event's kind.
-pub(crate) fn is_unfit(parts: &[Part], event: Event) -> bool
+pub fn is_unfit(parts: &[Part], event: Event) -> bool
     ensures { result ≡ is_some (unfit event (slice_get parts.now (named_by event))) }
 {
     match event {
@@ -23,8 +23,12 @@ pub(crate) fn is_unfit(parts: &[Part], event: Event) -> bool
     }
 }
 
-/// One turn of a traitor's activation; without memory, nothing changes.
-pub(crate) fn turn(
+/// One turn of a traitor's activation; nothing where nobody acts.
+///
+/// # Errors
+///
+/// `AllocError` where memory is refused; nothing has changed then.
+pub fn turn(
     parts: &mut Vec<Part>,
     board: &mut Board,
     general: u32,
@@ -45,7 +49,7 @@ pub(crate) fn turn(
 }
 
 /// A traitor's turns up to so many steps in all, his next access or his end: how many there were.
-pub(crate) fn ahead(parts: &mut Vec<Part>, general: u32, limit: u32) -> u32
+pub fn ahead(parts: &mut Vec<Part>, general: u32, limit: u32) -> u32
     ensures { AheadTo limit result parts.old.items general (slice_get parts.old.items general) parts.new.items }
 {
     let place = general as usize;
@@ -64,7 +68,7 @@ pub(crate) fn ahead(parts: &mut Vec<Part>, general: u32, limit: u32) -> u32
 }
 
 /// Marks a loyal general as one who has posted; a second time changes nothing.
-pub(crate) fn mark_posted(parts: &mut Vec<Part>, general: u32)
+pub fn mark_posted(parts: &mut Vec<Part>, general: u32)
     ensures { parts.new.items ≡ posted_of general parts.old.items (slice_get parts.old.items general) }
 {
     let place = general as usize;
@@ -74,8 +78,8 @@ pub(crate) fn mark_posted(parts: &mut Vec<Part>, general: u32)
 }
 
 /// Whether nobody acts there, or his activation has ended.
-pub(crate) fn is_still(parts: &[Part], general: u32) -> bool
-    ensures { result ≡ true → IsStill (slice_get parts.now general) }
+pub fn is_still(parts: &[Part], general: u32) -> bool
+    ensures { IsTrue result ↔ IsStill (slice_get parts.now general) }
 {
     match parts.get(general as usize) {
         Some(Part::Acting(running)) => running.has_ended(),
@@ -86,7 +90,7 @@ pub(crate) fn is_still(parts: &[Part], general: u32) -> bool
 }
 
 /// How many steps a traitor's activation has taken.
-pub(crate) fn steps(parts: &[Part], general: u32) -> u32
+pub fn steps(parts: &[Part], general: u32) -> u32
     ensures { result ≡ steps_of (slice_get parts.now general) }
 {
     match parts.get(general as usize) {
@@ -98,7 +102,7 @@ pub(crate) fn steps(parts: &[Part], general: u32) -> u32
 }
 
 /// How many instructions the program of an acting general has; none where nobody acts.
-pub(crate) fn instructions(parts: &[Part], general: u32) -> Option<u32>
+pub fn instructions(parts: &[Part], general: u32) -> Option<u32>
     ensures { result ≡ program_length (slice_get parts.now general) }
 {
     match parts.get(general as usize) {

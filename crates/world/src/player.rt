@@ -1,6 +1,7 @@
 //! Campaigns from a scenario to their chronicle.
 ghost use Rattle.std.specs.Prelude.{◌≡◌, IfOk};
 ghost use Rattle.round.specs.Letters.{messages};
+ghost use Rattle.world.specs.Agreement.{IsFinished};
 ghost use Rattle.world.specs.Chronicle.{decisions, chronicle_of};
 ghost use Rattle.world.specs.Lists.{listed, replayed};
 ghost use Rattle.world.specs.Playing.{lists_in};
@@ -9,6 +10,7 @@ ghost use Rattle.world.specs.Schedules.{lines_by};
 ghost use Rattle.world.specs.World.{opening, run};
 
 use crate::chronicle::Chronicle;
+use crate::playing::{play_listed, play_named};
 use crate::schedule::Schedule;
 use crate::world::World;
 use round::Scenario;
@@ -28,7 +30,7 @@ pub fn play(alloc: Global, scenario: Scenario, schedule: &Schedule) -> Result<Ch
     ensures well { IfOk result (λ chronicle. IsWellUnderBound chronicle.verdict) }
 {
     scenario.recall();
-    let world = World::played(alloc, scenario, schedule)?;
+    let world = played(alloc, scenario, schedule)?;
     match world.chronicle() {
         Some(chronicle) => Ok(chronicle),
         None => unreachable!(),
@@ -48,9 +50,31 @@ pub fn replay(alloc: Global, scenario: Scenario, names: &[Vec<u8>]) -> Result<Ch
     ensures well { IfOk result (λ chronicle. IsWellUnderBound chronicle.verdict) }
 {
     scenario.recall();
-    let world = World::replayed(alloc, scenario, names)?;
+    let world = replayed(alloc, scenario, names)?;
     match world.chronicle() {
         Some(chronicle) => Ok(chronicle),
         None => unreachable!(),
     }
+}
+
+/// The scenario's campaign by a schedule, to its end.
+fn played(alloc: Global, scenario: Scenario, schedule: &Schedule) -> Result<World, AllocError>
+    ensures listed { IfOk result (λ world. world ≡ run (opening scenario) (listed scenario (lines_by schedule.now))) }
+    ensures finished { IfOk result IsFinished }
+{
+    scenario.recall();
+    let mut world = World::open(alloc, scenario)?;
+    play_listed(&mut world, alloc, schedule)?;
+    Ok(world)
+}
+
+/// The scenario's campaign in which these generals, by round, make their accesses in this order, to its end.
+fn replayed(alloc: Global, scenario: Scenario, names: &[Vec<u8>]) -> Result<World, AllocError>
+    ensures replayed { IfOk result (λ world. world ≡ run (opening scenario) (replayed scenario (lists_in names.now))) }
+    ensures finished { IfOk result IsFinished }
+{
+    scenario.recall();
+    let mut world = World::open(alloc, scenario)?;
+    play_named(&mut world, alloc, names)?;
+    Ok(world)
 }

@@ -38,14 +38,14 @@ returns-clause-decisions c =
 pub returns-clause-agree : goal.returns-clause-agree
 returns-clause-agree c =
     let s = c.args.scenario in let names = names_in 1 c.of.result.accesses (suc s.bound) in
-    finished_agree s (replayed s names) c.of.result c.recall.ensures (replayed_finished s names (replay_of s c.of.result.accesses) c.recall.ensures refl) (returns-clause-replay c)
+    finished_agree s (replayed s names) c.of.result c.recall.ensures (replayed_finished oral_kind oral_campaigns s names (replay_of s c.of.result.accesses) c.recall.ensures refl) (returns-clause-replay c)
 
 pub returns-clause-verdict : goal.returns-clause-verdict
 returns-clause-verdict c =
     let s = c.args.scenario in let names = names_in 1 c.of.result.accesses (suc s.bound) in
-    finished_verdict s (replayed s names) c.of.result c.recall.ensures (replayed_finished s names (replay_of s c.of.result.accesses) c.recall.ensures refl) (returns-clause-replay c)
+    finished_verdict s (replayed s names) c.of.result c.recall.ensures (replayed_finished oral_kind oral_campaigns s names (replay_of s c.of.result.accesses) c.recall.ensures refl) (returns-clause-replay c)
 
 pub returns-clause-well : goal.returns-clause-well
 returns-clause-well c =
     let s = c.args.scenario in let names = names_in 1 c.of.result.accesses (suc s.bound) in
-    finished_well s (replayed s names) c.of.result c.recall.ensures (replayed_finished s names (replay_of s c.of.result.accesses) c.recall.ensures refl) (returns-clause-replay c)
+    finished_well s (replayed s names) c.of.result c.recall.ensures (replayed_finished oral_kind oral_campaigns s names (replay_of s c.of.result.accesses) c.recall.ensures refl) (returns-clause-replay c)

@@ -15,18 +15,18 @@ overflow_sub-start c = let few = length-decimal-le 10 c.args.number (omega arith
 pub with_piece-requires : goal.with_piece-requires
 with_piece-requires c =
     let few = length-decimal-le 10 c.args.number (omega arith) (omega arith) (omega arith) in
-    let e = next_digits c.args.number c.write_digits-start.result (replicate 21 32) c.write_digits-start.new.buf c.write_digits-start.ensures.start (omega (arith, c.write_digits-start.ensures.start)) (search rules) refl c.write_digits-start.ensures.written in
+    let e = next_digits 32 c.args.number c.write_digits-start.result (replicate 21 32) c.write_digits-start.new.buf c.write_digits-start.ensures.start (omega (arith, c.write_digits-start.ensures.start)) (search rules) refl c.write_digits-start.ensures.written in
     let long = ap length e in
     omega (arith, c.requires)
 
 pub returns-clause-count : goal.returns-clause-count
 returns-clause-count c =
     let few = length-decimal-le 10 c.args.number (omega arith) (omega arith) (omega arith) in
-    let e = next_digits c.args.number c.write_digits-start.result (replicate 21 32) c.write_digits-start.new.buf c.write_digits-start.ensures.start (omega (arith, c.write_digits-start.ensures.start)) (search rules) refl c.write_digits-start.ensures.written in
+    let e = next_digits 32 c.args.number c.write_digits-start.result (replicate 21 32) c.write_digits-start.new.buf c.write_digits-start.ensures.start (omega (arith, c.write_digits-start.ensures.start)) (search rules) refl c.write_digits-start.ensures.written in
     let long = ap length e in
     omega (arith, c.with_piece.ensures.count)
 
 pub returns-clause-bytes : goal.returns-clause-bytes
 returns-clause-bytes c =
     let few = length-decimal-le 10 c.args.number (omega arith) (omega arith) (omega arith) in
-    c.with_piece.ensures.bytes ∙ ap (λ t. take c.args.count c.args.bytes.now ++ t) (next_digits c.args.number c.write_digits-start.result (replicate 21 32) c.write_digits-start.new.buf c.write_digits-start.ensures.start (omega (arith, c.write_digits-start.ensures.start)) (search rules) refl c.write_digits-start.ensures.written)
+    c.with_piece.ensures.bytes ∙ ap (λ t. take c.args.count c.args.bytes.now ++ t) (next_digits 32 c.args.number c.write_digits-start.result (replicate 21 32) c.write_digits-start.new.buf c.write_digits-start.ensures.start (omega (arith, c.write_digits-start.ensures.start)) (search rules) refl c.write_digits-start.ensures.written)

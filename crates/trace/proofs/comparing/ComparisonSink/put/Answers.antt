@@ -1,5 +1,5 @@
 -- What is alike is taken.
-use Rattle.std.proofs.Common.{rules, ◌≡◌, ◌+◌, ◌-◌, ℕ, zero, suc, List, [], ◌∷◌, ◌++◌, length, take, drop, None, Option, refl, sym, ap, ◌∙◌, append_assoc, length-drop, arith}
+use Rattle.std.proofs.Common.{rules, ◌≡◌, ◌+◌, ◌-◌, ℕ, List, ◌∷◌, ◌++◌, length, take, drop, None, Option, sym, ap, ◌∙◌, append_assoc, length-drop, arith}
 use Rattle.std.proofs.lemmas.List.{append-nil, take_all}
 use Rattle.std.specs.Prelude.{option_to_list}
 use Rattle.mem.proofs.Parts.{take-split}

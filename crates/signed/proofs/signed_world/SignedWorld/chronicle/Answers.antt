@@ -1,0 +1,12 @@
+-- Where nothing is left to come.
+use Rattle.std.proofs.Common.{◌≡◌, length, refl, ◌∙◌, arith}
+use Rattle.signed.proofs.Closed.{is_finished}
+use Rattle.signed.proofs.signed_world.SignedWorld.chronicle.Goals as goal
+
+pub returns-clause-finished : goal.returns-clause-finished
+returns-clause-finished c =
+    let s = c.self.inside in
+    let len : c.len.result ≡ length s.closed.items = (let o = s.closed.ok in let h = c.len.ensures in omega arith) in
+    let done = is_finished s.scenario s.closed.items s.board s.opened s.parts.items s.full s.sent.items s.signers.items c.self.invariant c.args.self c.len.result c.from.result c.bound.ensures.whole c.self.view_is len
+    (c.from.ensures ∙ c.bound.ensures.same) c.if-len-from.false c.if-not-self.false in
+    (λ e. done, λ f. refl)

@@ -1,0 +1,146 @@
+-- How code holds what was sent (own). No claim rests on this but what `SignedChronicle::sent` lends (`named`, `dispatch_of`):
+-- what is sent, Entries.antt and Sent.antt say.
+use Rattle.std.specs.Prelude.{ℕ, suc, ◌≡◌, ◌≤◌, ◌==◌, ◌<◌, ◌-◌, nat_lt, cond, Bool, List, [], ◌∷◌, ◌++◌, map, filter, flat_map, take, drop, All, length, Option, Some, None, slice_get}
+use Rattle.std.specs.Borrow.{Bor}
+use Rattle.std.specs.Int.{bit_at}
+use Rattle.insn.specs.declared.insn.Insn.{Insn}
+use Rattle.label.specs.Labels.{on, generals}
+use Rattle.semantics.specs.Relay.{Relay, signed}
+use Rattle.semantics.specs.Entries.{entered}
+use Rattle.board.specs.Board.{Access}
+use Rattle.board.specs.Ledger.{RecordedBoard}
+use Rattle.round.specs.Scenario.{Scenario, program_of, shape_of}
+use Rattle.round.specs.Letters.{Letter}
+use Rattle.round.specs.Contexts.{context_bytes, faithful_letter_with}
+use Rattle.round.specs.Activation.{started}
+use Rattle.world.specs.declared.event.Event.{Event}
+use Rattle.world.specs.declared.draft.Draft.{Draft}
+use Rattle.world.specs.declared.draft.Draft.TheVariants.{Begun, Whole, Missing}
+use Rattle.world.specs.Kind.{each, accesses_of}
+use Rattle.world.specs.declared.part.Part.{Part}
+use Rattle.world.specs.declared.part.Part.TheVariants.{Acting, Silent, Posted}
+use Rattle.world.specs.Reached.{world_of}
+use Rattle.signed.specs.Chains.{Chain}
+use Rattle.signed.specs.Accepted.{counts}
+use Rattle.signed.specs.Contexts.{signed_context_numbers, signer_bits}
+use Rattle.signed.specs.Entries.{Dispatch, Entry, dispatched, received}
+use Rattle.signed.specs.Kind.{played, sent_after}
+use Rattle.signed.specs.Loyal.{loyal_entries}
+use Rattle.signed.specs.Sent.{Sent, delivered, held_behind, sent_in}
+use Rattle.signed.specs.Signers.{Signature}
+
+-- the numbers of the bits that are set: of all of a word of 16 bits, so nothing beside generals is named there
+abbrev pub named : ℕ → List ℕ
+named bits = filter (λ g. bit_at bits g == 1) (generals 16)
+
+-- a chain with its receivers, which are kept as bits
+abbrev pub dispatch_of : Chain × ℕ → Dispatch
+dispatch_of x = record { chain = x.0; receivers = named x.1 }
+
+-- the chains of a round that came to p
+abbrev pub received_in : ℕ → List (List Dispatch) → List Chain
+received_in p row = flat_map (received p) row
+
+-- each round has a list for each of so many generals
+abbrev pub AreRows : ℕ → Sent → Type 0
+AreRows n sent = All (λ row. length row ≡ n) sent
+
+-- lent chains
+abbrev pub lent : List (Bor Chain) → List Chain
+lent chains = map (λ c. c.now) chains
+
+abbrev pub chain_in : Option (Bor Chain) → Option Chain
+chain_in None = None
+chain_in (Some c) = Some c.now
+
+-- the chains that a general holds, and how many of them came before the last round
+pub record HeldChains : Type 0 where
+  pub chains : List Chain
+  pub earlier : ℕ
+
+abbrev pub held_of : ℕ → Sent → HeldChains
+held_of g sent = record { chains = flat_map (received_in g) sent; earlier = length (flat_map (received_in g) (take (length sent - 1) sent)) }
+
+-- the orders with one more, where it was not among them
+abbrev pub added_also : List ℕ → ℕ → List ℕ
+added_also seen order = cond (on seen order) seen (seen ++ order ∷ [])
+
+-- the orders with those that these chains bring p in round k
+abbrev pub added_by : ℕ → ℕ → List ℕ → List Chain → List ℕ
+added_by k p seen [] = seen
+added_by k p seen (ch ∷ xs) = added_by k p (cond (counts k p ch) (added_also seen ch.order) seen) xs
+
+-- these orders are the first eight of those
+abbrev pub AreFirst : List ℕ → List ℕ → Type 0
+AreFirst kept orders = kept ≡ take 8 orders
+
+-- the entries behind these, one after another
+abbrev pub entered_all : Relay → List Entry → List Entry → List Entry
+entered_all relay entries [] = entries
+entered_all relay entries (e ∷ es) = entered_all relay (entered relay entries e) es
+
+-- what a general is told in the round behind these, and his relay, from what was sent
+abbrev pub context_behind : Scenario → Sent → ℕ → List ℕ
+context_behind s sent g = context_bytes (signed_context_numbers s.generals s.bound s.commander g (suc (length sent)) (held_behind s.generals sent g))
+
+abbrev pub relay_behind : Scenario → Sent → ℕ → Relay
+relay_behind s sent g = signed (shape_of s g (suc (length sent))) (map signer_bits (held_behind s.generals sent g))
+
+-- a loyal general's letter in the round behind these
+abbrev pub letter_behind : Scenario → Sent → ℕ → Letter
+letter_behind s sent g =
+    faithful_letter_with g (suc (length sent)) (context_behind s sent g)
+    (record { relay = relay_behind s sent g; rows = []; entries = loyal_entries s.generals s.commander s.bound s.order (delivered sent) (suc (length sent)) g })
+
+-- how the generals begin it
+abbrev pub begins_behind : Scenario → Sent → ℕ → Option (List Insn) → Part
+begins_behind s sent g None = Silent
+begins_behind s sent g (Some program) = Acting (started s.patience program (context_behind s sent g) (relay_behind s sent g))
+
+abbrev pub beginnings_behind : Scenario → Sent → List Part
+beginnings_behind s sent = cond (nat_lt (length sent) (suc s.bound)) (each s.generals (λ g. begins_behind s sent g (program_of s g) ∷ [])) []
+
+-- of a traitor's letter his accesses, a loyal general's letter, or none
+abbrev pub draft_behind : Scenario → Sent → List Access → ℕ → Option Part → Draft
+draft_behind s sent accesses g (Some (Acting a)) = Begun (accesses_of g accesses)
+draft_behind s sent accesses g (Some Silent) = Missing
+draft_behind s sent accesses g (Some Posted) = Whole (letter_behind s sent g)
+draft_behind s sent accesses g None = Missing
+
+abbrev pub drafts_behind : Scenario → Sent → List Access → List Part → List Draft
+drafts_behind s sent accesses parts = each s.generals (λ g. draft_behind s sent accesses g (slice_get parts g) ∷ [])
+
+-- lent drafts and parts
+abbrev pub draft_in : Option (Bor Draft) → Option Draft
+draft_in None = None
+draft_in (Some d) = Some d.now
+
+abbrev pub part_in : Option (Bor Part) → Option Part
+part_in None = None
+part_in (Some p) = Some p.now
+
+-- what a general has entered, by the draft of his letter or by his activation
+abbrev pub entries_drafted : Option Draft → Option Part → List Entry
+entries_drafted (Some (Begun transcript)) (Some (Acting a)) = a.state.entries
+entries_drafted (Some (Whole letter)) part = letter.outbox.entries
+entries_drafted _ _ = []
+
+-- what the generals send by it
+abbrev pub sent_drafted : Scenario → Sent → List Draft → List Part → List (List Dispatch)
+sent_drafted s sent drafts parts =
+    map (λ g. dispatched s.generals s.commander g (held_behind s.generals sent g) (entries_drafted (slice_get drafts g) (slice_get parts g))) (generals s.generals)
+
+-- some list of events leads to what was sent
+abbrev pub IsSent : Scenario → Sent → Type 0
+IsSent s sent = (events : List Event) × (sent ≡ sent_after s events)
+
+-- a signer for each general
+abbrev pub signatures : ℕ → ℕ → List Signature
+signatures n c = map (λ g. record { general = g; commander = c }) (generals n)
+
+-- what is kept of a signed world: some list of events leads here, its board opened as the scenario says, what was sent is kept, and there is a signer for each general
+pub record IsSignedHeld (s : Scenario) (closed : List (List Letter)) (board : RecordedBoard) (opened : ℕ) (parts : List Part) (full : Bool) (sent : Sent) (signers : List Signature) : Type 0 where
+  pub reached : (events : List Event) × (played s events ≡ world_of s closed board opened parts full)
+  pub opening : board.opening ≡ s.board
+  pub chains : sent ≡ sent_in s closed
+  pub signing : signers ≡ signatures s.generals s.commander

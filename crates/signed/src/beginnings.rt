@@ -1,0 +1,77 @@
+//! How a round begins.
+ghost use Rattle.std.specs.Prelude.{◌≡◌, ◌≤◌, ◌<◌, length, IfOk};
+ghost use Rattle.std.specs.Arc.{arc_value};
+ghost use Rattle.round.specs.Activation.{started};
+ghost use Rattle.round.specs.Scenario.{program_of};
+ghost use Rattle.signed.specs.Sending.{begins_behind, beginnings_behind, context_behind, relay_behind, IsSent};
+
+use crate::briefing::{context, outbox};
+use crate::held::Held;
+use crate::outgoing::SentRound;
+use round::{Running, Scenario};
+use std::alloc::{AllocError, Global};
+use std::sync::Arc;
+use verify::Verified;
+use world::Part;
+
+/// All generals' parts as the round behind these begins; none where no round is left.
+///
+/// # Errors
+///
+/// `AllocError` where memory is refused.
+pub(crate) fn beginnings(
+    alloc: Global,
+    scenario: &Scenario,
+    sent: &[SentRound],
+) -> Result<Vec<Part>, AllocError>
+    requires sent { IsSent scenario.now sent.now }
+    ensures { IfOk result (λ parts. parts.items ≡ beginnings_behind scenario.now sent.now) }
+{
+    if sent.len() > usize::from(scenario.bound()) {
+        return Ok(Vec::new(alloc));
+    }
+    let mut parts = Vec::with_capacity(alloc, usize::from(scenario.generals()))?;
+    for general in 0..scenario.generals() {
+        parts.push(beginning(alloc, scenario, sent, general)?)?;
+    }
+    Ok(parts)
+}
+
+/// How one general begins it.
+fn beginning(
+    alloc: Global,
+    scenario: &Scenario,
+    sent: &[SentRound],
+    general: u8,
+) -> Result<Part, AllocError>
+    requires left { length sent.now ≤ scenario.now.bound }
+    requires sent { IsSent scenario.now sent.now }
+    requires inside { general < scenario.now.generals }
+    ensures { IfOk result (λ part. part ≡ begins_behind scenario.now sent.now general (program_of scenario.now general)) }
+{
+    match scenario.seat(general).program() {
+        None => Ok(Part::Silent),
+        Some(program) => Ok(Part::Acting(activation(alloc, scenario, sent, program, general)?)),
+    }
+}
+
+/// A traitor's activation at its start.
+fn activation(
+    alloc: Global,
+    scenario: &Scenario,
+    sent: &[SentRound],
+    program: &Arc<Verified>,
+    general: u8,
+) -> Result<Running, AllocError>
+    requires left { length sent.now ≤ scenario.now.bound }
+    requires sent { IsSent scenario.now sent.now }
+    requires inside { general < scenario.now.generals }
+    ensures { IfOk result (λ running. running ≡ started scenario.now.patience (arc_value program.now) (context_behind scenario.now sent.now general) (relay_behind scenario.now sent.now general)) }
+{
+    scenario.recall();
+    let held = Held::behind(alloc, sent, general)?;
+    let context = context(alloc, scenario, sent, general, &held)?;
+    let outbox = outbox(alloc, scenario, sent, general, &held)?;
+    let program = program.clone()?;
+    Ok(Running::start(program, context, scenario.patience(), outbox))
+}

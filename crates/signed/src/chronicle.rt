@@ -1,0 +1,96 @@
+//! What is told of a finished campaign of signed messages.
+ghost use Rattle.std.specs.Prelude.{◌≡◌, ◌≤◌, ◌<◌, map};
+ghost use Rattle.signed.specs.Sending.{dispatch_of};
+ghost use Rattle.signed.specs.Sent.{sent_by, sent_in};
+
+use crate::chain::Chain;
+use crate::outgoing::SentRound;
+use arrayvec::ArrayVec;
+use board::Access;
+use round::{Round, Scenario};
+use std::marker::Model;
+use world::Verdict;
+
+/// What is told of a finished campaign of signed messages: its letters and the chains that they sent, its accesses, the
+/// lieutenants' decisions and the verdict on them.
+#[derive(Drop)]
+pub struct SignedChronicle {
+    pub(crate) scenario: Scenario,
+    pub(crate) letters: Vec<Round>,
+    pub(crate) accesses: Vec<Access>,
+    pub(crate) decisions: ArrayVec<u32, 12>,
+    pub(crate) verdict: Verdict,
+    pub(crate) sent: Vec<SentRound>,
+}
+
+impl Model for SignedChronicle {
+    ghost use Rattle.std.specs.Prelude.{◌≡◌};
+    ghost use Rattle.signed.specs.Sent.{sent_in};
+    ghost use Rattle.world.specs.Chronicle.{Chronicle};
+
+    ghost Value = { Chronicle };
+
+    ghost view = { λ c. record {
+      scenario = c.scenario;
+      letters = c.letters.items;
+      accesses = c.accesses.items;
+      decisions = c.decisions.items;
+      verdict = c.verdict;
+    } };
+
+    ghost invariant = { λ c. c.sent.items ≡ sent_in c.scenario c.letters.items };
+}
+
+impl SignedChronicle {
+    /// Its campaign.
+    pub fn scenario(&self) -> &Scenario
+        ensures { result.now ≡ self.now.scenario }
+    {
+        &self.scenario
+    }
+
+    /// The letters, by round from the first, and in a round by general.
+    pub fn letters(&self) -> &[Round]
+        ensures { result.now ≡ self.now.letters }
+    {
+        self.letters.as_slice()
+    }
+
+    /// The accesses, in the board's order.
+    pub fn accesses(&self) -> &[Access]
+        ensures { result.now ≡ self.now.accesses }
+    {
+        self.accesses.as_slice()
+    }
+
+    /// The decision of each lieutenant, ascending by number.
+    pub fn decisions(&self) -> &[u32]
+        ensures { result.now ≡ self.now.decisions }
+    {
+        self.decisions.as_slice()
+    }
+
+    /// The verdict on the decisions.
+    pub fn verdict(&self) -> Verdict
+        ensures { result ≡ self.now.verdict }
+    {
+        self.verdict
+    }
+
+    /// What a general sent in a round, from 1: each chain with its receivers, bit g for general g, in the order of his
+    /// entries.
+    pub fn sent(&self, general: u8, round: usize) -> &[(Chain, u16)]
+        ensures { map dispatch_of result.now ≡ sent_by (sent_in self.now.scenario self.now.letters) round general }
+    {
+        if round == 0 {
+            return &[];
+        }
+        match self.sent.get(round - 1) {
+            None => &[],
+            Some(round) => match round.sendings().get(usize::from(general)) {
+                None => &[],
+                Some(sending) => sending.chains(),
+            },
+        }
+    }
+}

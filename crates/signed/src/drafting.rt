@@ -1,0 +1,122 @@
+//! The letters of a round as far as they take memory, and the chains that they send.
+ghost use Rattle.std.specs.Prelude.{◌≡◌, ◌≤◌, ◌<◌, length, IfOk, slice_get};
+ghost use Rattle.signed.specs.Entries.{dispatched};
+ghost use Rattle.signed.specs.Sending.{draft_behind, draft_in, drafts_behind, entries_drafted, part_in, sent_drafted, signatures, IsSent};
+ghost use Rattle.signed.specs.Sent.{held_behind};
+
+use crate::dispatch::dispatched;
+use crate::held::Held;
+use crate::letter::loyal_letter;
+use crate::outgoing::{Sending, SentRound};
+use crate::signer::Signer;
+use board::Access;
+use round::Scenario;
+use semantics::Entry;
+use std::alloc::{AllocError, Global};
+use world::Part;
+use world::draft::Draft;
+use world::letters::transcript;
+
+/// The drafts of all generals' letters, as they stand.
+///
+/// # Errors
+///
+/// `AllocError` where memory is refused.
+pub(crate) fn drafts(
+    alloc: Global,
+    scenario: &Scenario,
+    sent: &[SentRound],
+    accesses: &[Access],
+    parts: &[Part],
+) -> Result<Vec<Draft>, AllocError>
+    requires left { length sent.now ≤ scenario.now.bound }
+    requires sent { IsSent scenario.now sent.now }
+    ensures { IfOk result (λ drafts. drafts.items ≡ drafts_behind scenario.now sent.now accesses.now parts.now) }
+{
+    let mut drafts = Vec::with_capacity(alloc, usize::from(scenario.generals()))?;
+    for general in 0..scenario.generals() {
+        drafts.push(draft(alloc, scenario, sent, accesses, parts, general)?)?;
+    }
+    Ok(drafts)
+}
+
+/// The draft of one general's letter.
+fn draft(
+    alloc: Global,
+    scenario: &Scenario,
+    sent: &[SentRound],
+    accesses: &[Access],
+    parts: &[Part],
+    general: u8,
+) -> Result<Draft, AllocError>
+    requires left { length sent.now ≤ scenario.now.bound }
+    requires sent { IsSent scenario.now sent.now }
+    requires inside { general < scenario.now.generals }
+    ensures { IfOk result (λ draft. draft ≡ draft_behind scenario.now sent.now accesses.now general (slice_get parts.now general)) }
+{
+    match parts.get(usize::from(general)) {
+        Some(Part::Acting(_)) => Ok(Draft::Begun(transcript(alloc, accesses, u32::from(general))?)),
+        Some(Part::Posted) => Ok(Draft::Whole(loyal_letter(alloc, scenario, sent, general)?)),
+        Some(Part::Silent) => Ok(Draft::Missing),
+        None => Ok(Draft::Missing),
+    }
+}
+
+/// What the generals send in the round behind these, each with his own signature.
+///
+/// # Errors
+///
+/// `AllocError` where memory is refused.
+pub(crate) fn sendings(
+    alloc: Global,
+    scenario: &Scenario,
+    sent: &[SentRound],
+    signers: &[Signer],
+    drafts: &[Draft],
+    parts: &[Part],
+) -> Result<SentRound, AllocError>
+    requires sent { IsSent scenario.now sent.now }
+    requires signers { signers.now ≡ signatures scenario.now.generals scenario.now.commander }
+    ensures { IfOk result (λ round. round ≡ sent_drafted scenario.now sent.now drafts.now parts.now) }
+{
+    let mut sendings = Vec::with_capacity(alloc, usize::from(scenario.generals()))?;
+    for general in 0..scenario.generals() {
+        let signer = &signers[usize::from(general)];
+        sendings.push(sending(alloc, scenario, sent, signer, drafts, parts, general)?)?;
+    }
+    Ok(SentRound { sendings })
+}
+
+/// What one general sends, with his signature.
+fn sending(
+    alloc: Global,
+    scenario: &Scenario,
+    sent: &[SentRound],
+    signer: &Signer,
+    drafts: &[Draft],
+    parts: &[Part],
+    general: u8,
+) -> Result<Sending, AllocError>
+    requires sent { IsSent scenario.now sent.now }
+    requires inside { general < scenario.now.generals }
+    requires own { signer.now ≡ record { general = general; commander = scenario.now.commander } }
+    ensures { IfOk result (λ sending. sending ≡ dispatched scenario.now.generals scenario.now.commander general (held_behind scenario.now.generals sent.now general) (entries_drafted (slice_get drafts.now general) (slice_get parts.now general))) }
+{
+    scenario.recall();
+    let held = Held::behind(alloc, sent, general)?;
+    let place = usize::from(general);
+    let entries = entries(drafts.get(place), parts.get(place));
+    dispatched(alloc, signer, scenario.generals(), &held, entries)
+}
+
+/// What a general has entered, by the draft of his letter or by his activation.
+fn entries<'a>(draft: Option<&'a Draft>, part: Option<&'a Part>) -> &'a [Entry]
+    ensures same { result.now ≡ entries_drafted (draft_in draft.entry) (part_in part.entry) }
+    ensures few { length result.now ≤ 8 }
+{
+    match (draft, part) {
+        (Some(Draft::Begun(_)), Some(Part::Acting(running))) => running.outbox().entries(),
+        (Some(Draft::Whole(letter)), _) => letter.outbox.entries(),
+        _ => &[],
+    }
+}

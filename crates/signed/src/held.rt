@@ -1,0 +1,134 @@
+//! The chains that a general holds.
+ghost use Rattle.std.specs.Prelude.{◌≡◌, ◌≤◌, ◌<◌, ◌+◌, ◌*◌, ◌++◌, ◌∷◌, [], map, flat_map, length, slice_get, IfOk, OnOk, vec_len};
+ghost use Rattle.signed.specs.Contexts.{signer_bits};
+ghost use Rattle.signed.specs.Entries.{received};
+ghost use Rattle.signed.specs.Sending.{chain_in, held_of, lent, received_in};
+
+use crate::chain::Chain;
+use crate::outgoing::{Sending, SentRound};
+use crate::sets::has;
+use std::alloc::{AllocError, Global};
+use std::marker::Model;
+
+/// The chains that came to a general in earlier rounds, by round, sender and entry, repeats too. They are lent from what
+/// was sent: a chain goes to up to twelve receivers, and there is no copy of one.
+#[derive(Drop)]
+pub struct Held<'a> {
+    chains: Vec<&'a Chain>,
+    /// How many of them came before the last round.
+    earlier: usize,
+}
+
+impl<'a> Model for Held<'a> {
+    ghost use Rattle.signed.specs.Sending.{HeldChains, lent as lent_chains};
+
+    ghost Value = { HeldChains };
+
+    ghost view = { λ h. record { chains = lent_chains h.chains.items; earlier = h.earlier } };
+}
+
+impl<'a> Held<'a> {
+    /// What a general holds behind these rounds.
+    ///
+    /// # Errors
+    ///
+    /// `AllocError` where memory is refused.
+    pub(crate) fn behind(
+        alloc: Global,
+        sent: &'a [SentRound],
+        general: u8,
+    ) -> Result<Held<'a>, AllocError>
+        requires { general < 13 }
+        ensures held { IfOk result (λ held. held ≡ held_of general sent.now) }
+        ensures few { IfOk result (λ held. length held.chains ≤ 104 * length sent.now) }
+    {
+        let mut chains = Vec::new(alloc);
+        let mut earlier = 0;
+        for round in sent {
+            earlier = chains.len();
+            take_round(&mut chains, round, general)?;
+        }
+        Ok(Held { chains, earlier })
+    }
+
+    /// How many chains he holds.
+    pub fn len(&self) -> usize
+        ensures { result ≡ length self.now.chains }
+    {
+        self.chains.len()
+    }
+
+    /// How many of them came before the last round.
+    pub(crate) fn earlier(&self) -> usize
+        ensures { result ≡ self.now.earlier }
+    {
+        self.earlier
+    }
+
+    /// The chain at a place, where there is one.
+    pub fn get(&self, place: usize) -> Option<&Chain>
+        ensures { chain_in result ≡ slice_get self.now.chains place }
+    {
+        match self.chains.get(place) {
+            Some(chain) => Some(*chain),
+            None => None,
+        }
+    }
+
+    /// Who signed each, bit g for general g.
+    pub(crate) fn signers(&self, alloc: Global) -> Result<Vec<u16>, AllocError>
+        ensures { IfOk result (λ signers. signers.items ≡ map signer_bits self.now.chains) }
+    {
+        let mut signers = Vec::with_capacity(alloc, self.chains.len())?;
+        for chain in &self.chains {
+            signers.push(chain.bits())?;
+        }
+        Ok(signers)
+    }
+
+    /// Of each its order and who signed it.
+    pub(crate) fn numbers(&self, alloc: Global) -> Result<Vec<u32>, AllocError>
+        ensures { IfOk result (λ numbers. numbers.items ≡ flat_map (λ ch. ch.order ∷ signer_bits ch ∷ []) self.now.chains) }
+    {
+        let mut numbers = Vec::new(alloc);
+        for chain in &self.chains {
+            numbers.push(chain.order())?;
+            numbers.push(u32::from(chain.bits()))?;
+        }
+        Ok(numbers)
+    }
+}
+
+/// The chains of a round that came to the general, behind those before.
+fn take_round<'a>(
+    chains: &mut Vec<&'a Chain>,
+    round: &'a SentRound,
+    general: u8,
+) -> Result<(), AllocError>
+    requires { general < 13 }
+    ensures came { OnOk result (lent chains.new.items ≡ lent chains.old.items ++ received_in general round.now) }
+    ensures few { OnOk result (vec_len chains.new ≤ vec_len chains.old + 104) }
+{
+    for sending in round.sendings() {
+        take(chains, sending, general)?;
+    }
+    Ok(())
+}
+
+/// The chains of one sender that came to the general, behind those before.
+fn take<'a>(
+    chains: &mut Vec<&'a Chain>,
+    sending: &'a Sending,
+    general: u8,
+) -> Result<(), AllocError>
+    requires { general < 13 }
+    ensures came { OnOk result (lent chains.new.items ≡ lent chains.old.items ++ received general sending.now) }
+    ensures few { OnOk result (vec_len chains.new ≤ vec_len chains.old + 8) }
+{
+    for (chain, receivers) in sending.chains() {
+        if has(*receivers, general) {
+            chains.push(chain)?;
+        }
+    }
+    Ok(())
+}

@@ -1,0 +1,73 @@
+//! What a campaign of signed messages has come to.
+ghost use Rattle.std.specs.Prelude.{◌≡◌, ◌↔◌, IfSome, IsSome};
+ghost use Rattle.signed.specs.Chronicle.{signed_chronicle_of, signed_decisions, signed_verdict_of};
+ghost use Rattle.signed.specs.Promises.{AgreeUnderSignedBound};
+ghost use Rattle.world.specs.Agreement.{IsFinished};
+
+use crate::acceptance::{accepted, decided};
+use crate::chronicle::SignedChronicle;
+use crate::signed_world::SignedWorld;
+use arrayvec::ArrayVec;
+use round::Scenario;
+use world::Verdict;
+use world::judging::{alike, loyal_decisions, obeyed, traitors};
+
+impl SignedWorld {
+    /// What the lieutenants decide, ascending by number, of the chains so far: the one order that each accepted, of none or
+    /// of several RETREAT, as SM(m) has it, m the bound (TOPLAS 1982). Where all rounds are closed, every loyal general has
+    /// posted in each and at most m are traitors, the loyal ones decide alike, and the order of a loyal commander. Takes no
+    /// memory.
+    pub fn decisions(&self) -> ArrayVec<u32, 12>
+        ensures values { result.items ≡ signed_decisions self.now.scenario self.now.closed }
+        ensures agree { IsFinished self.now → AgreeUnderSignedBound self.now.scenario result.items }
+    {
+        let rounds = self.sent.len();
+        let mut decisions = ArrayVec::new();
+        for general in 0..self.scenario.generals() {
+            if general != self.scenario.commander() {
+                let orders = accepted(self.sent.as_slice(), rounds, general);
+                decisions.push(decided(orders.as_slice()));
+            }
+        }
+        decisions
+    }
+
+    /// Its chronicle; none where a round is open, or a loyal general had not posted in a closed one. Takes no memory.
+    pub fn chronicle(self) -> Option<SignedChronicle>
+        ensures finished { IsSome result ↔ IsFinished self }
+        ensures told { IfSome result (λ chronicle. chronicle ≡ signed_chronicle_of self) }
+    {
+        if self.closed.len() <= usize::from(self.scenario.bound()) || !self.full {
+            return None;
+        }
+        let decisions = self.decisions();
+        let verdict = verdict(&self.scenario, decisions.as_slice());
+        let SignedWorld {
+            scenario,
+            closed,
+            board,
+            sent,
+            ..
+        } = self;
+        Some(SignedChronicle {
+            scenario,
+            letters: closed,
+            accesses: board.into_ledger(),
+            decisions,
+            verdict,
+            sent,
+        })
+    }
+}
+
+/// The verdict on these decisions of the lieutenants, ascending by number.
+fn verdict(scenario: &Scenario, decisions: &[u32]) -> Verdict
+    ensures { result ≡ signed_verdict_of scenario.now decisions.now }
+{
+    let loyal = loyal_decisions(scenario, decisions);
+    Verdict {
+        alike: alike(loyal.as_slice()),
+        obeyed: obeyed(scenario, loyal.as_slice()),
+        bound: traitors(scenario) <= scenario.bound(),
+    }
+}

@@ -1,0 +1,61 @@
+//! What was sent, by general and by round.
+ghost use Rattle.std.specs.Prelude.{◌≡◌, ◌≤◌, map, length};
+ghost use Rattle.signed.specs.Sending.{dispatch_of};
+
+use crate::chain::Chain;
+use std::marker::Model;
+
+/// What one general sent in a round: chains, in the order of his entries, each with its receivers, bit g for general g.
+#[derive(Drop)]
+pub struct Sending {
+    pub(crate) chains: Vec<(Chain, u16)>,
+}
+
+impl Model for Sending {
+    ghost use Rattle.std.specs.Prelude.{◌≤◌, List, map, length};
+    ghost use Rattle.signed.specs.Entries.{Dispatch};
+    ghost use Rattle.signed.specs.Sending.{dispatch_of};
+
+    ghost Value = { List Dispatch };
+
+    ghost view = { λ s. map dispatch_of s.chains.items };
+
+    ghost invariant = { λ s. length s.chains.items ≤ 8 };
+}
+
+impl Sending {
+    /// The chains, each with its receivers.
+    pub fn chains(&self) -> &[(Chain, u16)]
+        ensures same { map dispatch_of result.now ≡ self.now }
+        ensures few { length result.now ≤ 8 }
+    {
+        self.chains.as_slice()
+    }
+}
+
+/// What was sent in a round, by general: at most 13.
+#[derive(Drop)]
+pub struct SentRound {
+    pub(crate) sendings: Vec<Sending>,
+}
+
+impl Model for SentRound {
+    ghost use Rattle.std.specs.Prelude.{◌≤◌, List, length};
+    ghost use Rattle.signed.specs.Entries.{Dispatch};
+
+    ghost Value = { List (List Dispatch) };
+
+    ghost view = { λ r. r.sendings.items };
+
+    ghost invariant = { λ r. length r.sendings.items ≤ 13 };
+}
+
+impl SentRound {
+    /// What each general sent.
+    pub fn sendings(&self) -> &[Sending]
+        ensures same { result.now ≡ self.now }
+        ensures few { length result.now ≤ 13 }
+    {
+        self.sendings.as_slice()
+    }
+}

@@ -1,0 +1,102 @@
+//! Campaigns of signed messages from a scenario to their chronicle.
+ghost use Rattle.std.specs.Prelude.{◌≡◌, IfOk};
+ghost use Rattle.signed.specs.Chronicle.{signed_chronicle_of, signed_decisions};
+ghost use Rattle.signed.specs.Kind.{signed_kind, played};
+ghost use Rattle.signed.specs.Promises.{AgreeUnderSignedBound, AreSafeThroughout, AreWhole, IsSignedVerdictOn};
+ghost use Rattle.world.specs.Agreement.{IsFinished};
+ghost use Rattle.world.specs.KindLists.{IsComplete, listed, replayed};
+ghost use Rattle.world.specs.Playing.{lists_in};
+ghost use Rattle.world.specs.Promises.{IsWellUnderBound};
+ghost use Rattle.world.specs.Schedules.{lines_by};
+
+use crate::chronicle::SignedChronicle;
+use crate::signed_world::SignedWorld;
+use round::Scenario;
+use std::alloc::{AllocError, Global};
+use world::{Schedule, play_listed, play_named};
+
+/// The chronicle of the scenario's campaign of signed messages by a schedule: in each round its entries one by one, then
+/// the letters of all loyal generals and what is left of the traitors' instructions, ascending by number.
+///
+/// # Errors
+///
+/// `AllocError` where memory is refused.
+pub fn play_signed(
+    alloc: Global,
+    scenario: Scenario,
+    schedule: &Schedule,
+) -> Result<SignedChronicle, AllocError>
+    ensures listed { IfOk result (λ chronicle. chronicle ≡ signed_chronicle_of (played scenario (listed scenario (lines_by schedule.now)))) }
+    ensures complete { IfOk result (λ _. IsComplete signed_kind scenario (listed scenario (lines_by schedule.now))) }
+    ensures safe { IfOk result (λ _. AreSafeThroughout scenario (listed scenario (lines_by schedule.now))) }
+    ensures letters { IfOk result (λ chronicle. AreWhole scenario chronicle.accesses chronicle.letters) }
+    ensures decisions { IfOk result (λ chronicle. chronicle.decisions ≡ signed_decisions scenario chronicle.letters) }
+    ensures agree { IfOk result (λ chronicle. AgreeUnderSignedBound scenario chronicle.decisions) }
+    ensures verdict { IfOk result (λ chronicle. IsSignedVerdictOn scenario chronicle.decisions chronicle.verdict) }
+    ensures well { IfOk result (λ chronicle. IsWellUnderBound chronicle.verdict) }
+{
+    scenario.recall();
+    let world = played_listed(alloc, scenario, schedule)?;
+    match world.chronicle() {
+        Some(chronicle) => Ok(chronicle),
+        None => unreachable!(),
+    }
+}
+
+/// The chronicle of the scenario's campaign of signed messages in which these generals, by round, make their accesses in
+/// this order; a round without names has none, and names beyond the last round give nothing.
+///
+/// # Errors
+///
+/// `AllocError` where memory is refused.
+pub fn replay_signed(
+    alloc: Global,
+    scenario: Scenario,
+    names: &[Vec<u8>],
+) -> Result<SignedChronicle, AllocError>
+    ensures replayed { IfOk result (λ chronicle. chronicle ≡ signed_chronicle_of (played scenario (replayed signed_kind scenario (lists_in names.now)))) }
+    ensures complete { IfOk result (λ _. IsComplete signed_kind scenario (replayed signed_kind scenario (lists_in names.now))) }
+    ensures safe { IfOk result (λ _. AreSafeThroughout scenario (replayed signed_kind scenario (lists_in names.now))) }
+    ensures letters { IfOk result (λ chronicle. AreWhole scenario chronicle.accesses chronicle.letters) }
+    ensures decisions { IfOk result (λ chronicle. chronicle.decisions ≡ signed_decisions scenario chronicle.letters) }
+    ensures agree { IfOk result (λ chronicle. AgreeUnderSignedBound scenario chronicle.decisions) }
+    ensures verdict { IfOk result (λ chronicle. IsSignedVerdictOn scenario chronicle.decisions chronicle.verdict) }
+    ensures well { IfOk result (λ chronicle. IsWellUnderBound chronicle.verdict) }
+{
+    scenario.recall();
+    let world = played_named(alloc, scenario, names)?;
+    match world.chronicle() {
+        Some(chronicle) => Ok(chronicle),
+        None => unreachable!(),
+    }
+}
+
+/// The scenario's campaign by a schedule, to its end.
+fn played_listed(
+    alloc: Global,
+    scenario: Scenario,
+    schedule: &Schedule,
+) -> Result<SignedWorld, AllocError>
+    ensures listed { IfOk result (λ world. world ≡ played scenario (listed scenario (lines_by schedule.now))) }
+    ensures finished { IfOk result IsFinished }
+{
+    scenario.recall();
+    let mut world = SignedWorld::open(alloc, scenario)?;
+    play_listed(&mut world, alloc, schedule)?;
+    Ok(world)
+}
+
+/// The scenario's campaign in which these generals, by round, make their accesses in this order, to its end.
+fn played_named(
+    alloc: Global,
+    scenario: Scenario,
+    names: &[Vec<u8>],
+) -> Result<SignedWorld, AllocError>
+    ensures replayed { IfOk result (λ world. world ≡ played scenario (replayed signed_kind scenario (lists_in names.now))) }
+    ensures finished { IfOk result IsFinished }
+{
+    scenario.recall();
+    let mut world = SignedWorld::open(alloc, scenario)?;
+    play_named(&mut world, alloc, names)?;
+    Ok(world)
+}

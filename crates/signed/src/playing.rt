@@ -1,0 +1,41 @@
+//! How a signed world is played on: turn by turn, post by post and close by close.
+ghost use Rattle.signed.specs.Kind.{signed_kind};
+
+use crate::signed_world::SignedWorld;
+use round::Scenario;
+use std::alloc::{AllocError, Global};
+use world::{Part, Plays};
+
+impl Plays for SignedWorld {
+    ghost kind = { signed_kind };
+
+    ghost seen = { λ w. w };
+
+    fn campaign(&self) -> &Scenario {
+        &self.scenario
+    }
+
+    fn open_parts(&self) -> &[Part] {
+        self.parts.as_slice()
+    }
+
+    fn rounds(&self) -> usize {
+        self.closed.len()
+    }
+
+    fn tick(&mut self, general: u32) -> Result<(), AllocError> {
+        self.turn(general)
+    }
+
+    fn run_on(&mut self, general: u32, limit: u32) -> u32 {
+        self.ahead(general, limit)
+    }
+
+    fn give_post(&mut self, general: u32) {
+        self.post(general);
+    }
+
+    fn close_round(&mut self, alloc: Global) -> Result<(), AllocError> {
+        self.close(alloc)
+    }
+}

@@ -1,0 +1,49 @@
+//! Sets of generals as bits: bit g for general g.
+ghost use Rattle.std.specs.Prelude.{◌≡◌, ◌<◌, ◌≤◌, ◌==◌, ◌^◌, cond, ℕ, sum_by, nat_lt};
+ghost use Rattle.std.specs.Int.{bit_at};
+ghost use Rattle.label.specs.Generals.{IsGenerals};
+ghost use Rattle.label.specs.Labels.{on};
+
+/// Whether the general is in the set.
+pub(crate) fn has(bits: u16, general: u8) -> bool
+    requires { general < 16 }
+    ensures { result ≡ (bit_at bits general == 1) }
+{
+    (bits >> general) & 1 == 1
+}
+
+/// The set with that general.
+pub(crate) fn with(bits: u16, general: u8) -> u16
+    requires { general < 16 }
+    ensures { (g : ℕ) → bit_at result g ≡ cond (general == g) 1 (bit_at bits g) }
+{
+    bits | (1 << general)
+}
+
+/// The set without those in the other.
+pub(crate) fn without(bits: u16, others: u16) -> u16
+    ensures { (g : ℕ) → bit_at result g ≡ cond (bit_at others g == 1) 0 (bit_at bits g) }
+{
+    bits & !others
+}
+
+/// The generals below a number.
+pub(crate) fn below(generals: u8) -> u16
+    requires { generals ≤ 13 }
+    ensures { (g : ℕ) → bit_at result g ≡ cond (nat_lt g generals) 1 0 }
+{
+    (1 << generals) - 1
+}
+
+/// These generals.
+pub(crate) fn of(generals: &[u8]) -> u16
+    requires { IsGenerals generals.now }
+    ensures same { result ≡ sum_by (λ g. 2 ^ g) generals.now }
+    ensures bits { (g : ℕ) → bit_at result g ≡ cond (on generals.now g) 1 0 }
+{
+    let mut bits = 0;
+    for general in generals {
+        bits = with(bits, *general);
+    }
+    bits
+}

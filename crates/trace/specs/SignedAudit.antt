@@ -1,0 +1,40 @@
+-- What an audit of a signed campaign's text finds (own).
+use Rattle.std.specs.Prelude.{ℕ, ◌≡◌, Bool, true, false, List, [], ◌∷◌, bytes_eq, codes}
+use Rattle.text.specs.Stop.{feed}
+use Rattle.text.specs.Parts.{pieces}
+use Rattle.round.specs.Scenario.{Scenario}
+use Rattle.world.specs.Chronicle.{Chronicle}
+use Rattle.world.specs.KindLists.{replayed}
+use Rattle.signed.specs.Kind.{signed_kind, played}
+use Rattle.signed.specs.Chronicle.{signed_chronicle_of}
+use Rattle.trace.specs.declared.fault.TraceError.{TraceError}
+use Rattle.trace.specs.Audit.{IsFirstDifference, fault_at}
+use Rattle.trace.specs.Names.{names_of}
+use Rattle.trace.specs.SignedText.{signed_text}
+
+-- the chronicle of the replay of the accesses that a text tells
+unfoldable pub signed_chronicle_told : Scenario → List ℕ → Chronicle
+signed_chronicle_told s t = signed_chronicle_of (played s (replayed signed_kind s (names_of t)))
+
+-- an audit replays the accesses in the order that the text tells, and compares the texts
+abbrev pub IsSoundSignedText : Scenario → List ℕ → Type 0
+IsSoundSignedText s t = t ≡ signed_text (signed_chronicle_told s t)
+
+-- whether the first line names the version of signed campaigns
+abbrev pub is_third : List (List ℕ) → Bool
+is_third [] = false
+is_third (line ∷ lines) = bytes_eq line (codes "chronicle 3")
+
+unfoldable pub is_third_version : List ℕ → Bool
+is_third_version t = is_third (pieces feed t)
+
+-- the text differs there from that of its replay, or at once where it names another version
+abbrev pub SignedDiffersAt : Scenario → List ℕ → Bool → ℕ → Type 0
+SignedDiffersAt s t false place = place ≡ 0
+SignedDiffersAt s t true place = IsFirstDifference t (signed_text (signed_chronicle_told s t)) place
+
+-- why the text is not sound: the fault at its first difference
+pub record IsSignedFaultOf (s : Scenario) (t : List ℕ) (e : TraceError) : Type 0 where
+  pub place : ℕ
+  pub differs : SignedDiffersAt s t (is_third_version t) place
+  pub fault : e ≡ fault_at t place

@@ -1,0 +1,84 @@
+//! The rounds of a campaign of signed messages, written to a sink.
+ghost use Rattle.std.specs.Prelude.{◌≡◌, flat_map, map};
+ghost use Rattle.signed.specs.Sending.{dispatch_of};
+ghost use Rattle.signed.specs.Sent.{sent_by, sent_in};
+ghost use Rattle.trace.specs.Lines.{round_told};
+ghost use Rattle.trace.specs.SignedText.{letter_lines};
+ghost use Rattle.trace.specs.Sinks.{Wrote};
+ghost use Rattle.trace.specs.Text.{rounds_told, text};
+
+use crate::chains::put_chains;
+use crate::letters::{general_of, letters_of, steps_of};
+use crate::lines::{put_accesses, put_author, put_round};
+use crate::sink::Sink;
+use round::Letter;
+use signed::{Chain, SignedChronicle};
+
+/// Whose letter it is: one of at most 13 generals.
+fn number_of(letter: &Letter) -> u8
+    ensures { result ≡ letter.now.general }
+{
+    letter.recall();
+    let _shape = letter.outbox.shape();
+    letter.general as u8
+}
+
+/// The chains that a letter sent in a round, each with its receivers.
+fn sent_by<'a>(
+    chronicle: &'a SignedChronicle,
+    round: usize,
+    letter: &Letter,
+) -> &'a [(Chain, u16)]
+    ensures { map dispatch_of result.now ≡ sent_by (sent_in chronicle.now.scenario chronicle.now.letters) round letter.now.general }
+{
+    chronicle.sent(number_of(letter), round)
+}
+
+/// The lines of a letter of a round.
+fn put_letter<S: Sink>(sink: &mut S, chronicle: &SignedChronicle, round: usize, letter: &Letter)
+    ensures { Wrote (S.contents sink.old) (S.has_failed sink.old)
+        (text (letter_lines (sent_in chronicle.now.scenario chronicle.now.letters) round letter.now))
+        (S.contents sink.new) (S.has_failed sink.new) }
+{
+    put_author(sink, general_of(letter), steps_of(letter));
+    put_chains(sink, sent_by(chronicle, round, letter));
+}
+
+/// The lines of a round's letters, in their order.
+fn put_letters<S: Sink>(
+    sink: &mut S,
+    chronicle: &SignedChronicle,
+    round: usize,
+    letters: &[Letter],
+)
+    ensures { Wrote (S.contents sink.old) (S.has_failed sink.old)
+        (text (flat_map (letter_lines (sent_in chronicle.now.scenario chronicle.now.letters) round) letters.now))
+        (S.contents sink.new) (S.has_failed sink.new) }
+{
+    for letter in letters {
+        put_letter(sink, chronicle, round, letter);
+    }
+}
+
+/// The lines of a round: its own, its accesses and these letters.
+fn put_one<S: Sink>(sink: &mut S, chronicle: &SignedChronicle, round: usize, letters: &[Letter])
+    ensures { Wrote (S.contents sink.old) (S.has_failed sink.old)
+        (text (round_told (letter_lines (sent_in chronicle.now.scenario chronicle.now.letters) round) round chronicle.now.accesses letters.now))
+        (S.contents sink.new) (S.has_failed sink.new) }
+{
+    put_round(sink, round as u64);
+    put_accesses(sink, round as u64, chronicle.accesses());
+    put_letters(sink, chronicle, round, letters);
+}
+
+/// The lines of the rounds from the first on: of each its own, its accesses and its letters.
+pub fn put_signed_rounds<S: Sink>(sink: &mut S, chronicle: &SignedChronicle)
+    ensures { Wrote (S.contents sink.old) (S.has_failed sink.old)
+        (text (rounds_told (letter_lines (sent_in chronicle.now.scenario chronicle.now.letters)) chronicle.now.accesses 1 chronicle.now.letters))
+        (S.contents sink.new) (S.has_failed sink.new) }
+{
+    let rounds = chronicle.letters();
+    for number in 0..rounds.len() {
+        put_one(sink, chronicle, number + 1, letters_of(rounds, number));
+    }
+}
