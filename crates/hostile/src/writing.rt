@@ -20,6 +20,7 @@ const SIZES: [usize; 3] = [1, 7, 4096];
 const MOST_WRITES: u32 = 100_000;
 
 /// A chronicle of oral or of signed messages.
+#[derive(Clone, Copy)]
 enum Told<'a> {
     Oral(&'a Chronicle),
     Signed(&'a SignedChronicle),
