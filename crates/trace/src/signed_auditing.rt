@@ -27,7 +27,11 @@ fn is_third_version(text: &[u8]) -> bool
 }
 
 /// The chronicle of the signed campaign in which the generals make their accesses in the order that the text tells.
-fn signed_replayed(alloc: Global, scenario: &Scenario, text: &[u8]) -> Result<SignedChronicle, AllocError>
+fn signed_replayed(
+    alloc: Global,
+    scenario: &Scenario,
+    text: &[u8],
+) -> Result<SignedChronicle, AllocError>
     ensures { IfOk result (λ chronicle. chronicle ≡ signed_chronicle_told scenario.now text.now) }
 {
     // The names before the first round, and those of each of the campaign's rounds.

@@ -24,11 +24,7 @@ fn number_of(letter: &Letter) -> u8
 }
 
 /// The chains that a letter sent in a round, each with its receivers.
-fn sent_by<'a>(
-    chronicle: &'a SignedChronicle,
-    round: usize,
-    letter: &Letter,
-) -> &'a [(Chain, u16)]
+fn sent_by<'a>(chronicle: &'a SignedChronicle, round: usize, letter: &Letter) -> &'a [(Chain, u16)]
     ensures { map dispatch_of result.now ≡ sent_by (sent_in chronicle.now.scenario chronicle.now.letters) round letter.now.general }
 {
     chronicle.sent(number_of(letter), round)
@@ -45,12 +41,7 @@ fn put_letter<S: Sink>(sink: &mut S, chronicle: &SignedChronicle, round: usize, 
 }
 
 /// The lines of a round's letters, in their order.
-fn put_letters<S: Sink>(
-    sink: &mut S,
-    chronicle: &SignedChronicle,
-    round: usize,
-    letters: &[Letter],
-)
+fn put_letters<S: Sink>(sink: &mut S, chronicle: &SignedChronicle, round: usize, letters: &[Letter])
     ensures { Wrote (S.contents sink.old) (S.has_failed sink.old)
         (text (flat_map (letter_lines (sent_in chronicle.now.scenario chronicle.now.letters) round) letters.now))
         (S.contents sink.new) (S.has_failed sink.new) }
