@@ -1,7 +1,6 @@
 //! What a gate is asked before each access, and that the generals of a muster act at once.
 
-use crate::campaigns::five_decide;
-use crate::threaded::{ADDER, SEVEN, campaign, colluders, replays, word};
+use crate::threaded::{ADDER, SEVEN, campaign, colluders, five_decide, replays, word};
 use board::Access;
 use semantics::Request;
 use std::alloc::Global;

@@ -1,14 +1,12 @@
 //! Campaigns that are replayed by the names of those who make accesses.
 
 use crate::scenarios::{
-    COLLUSION, FOUR, FOUR_RETREAT, SWAYED, SWAYED_CHRONICLE, THREE, played, reads, replayed,
+    COLLUSION, FOUR_RETREAT, SWAYED, SWAYED_CHRONICLE, THREE, played, reads, replayed, text,
     with_traitor,
 };
-use crate::threaded::text;
 use std::alloc::Global;
 use std::process::Abort;
 use std::test::Fail;
-use world::{Chronicle, Verdict};
 
 /// The same campaign, in which nobody waits for more than three steps.
 const SWAYED_IMPATIENTLY: &str = "generals = 4
@@ -113,13 +111,6 @@ decision 1 7
 verdict alike yes obeyed yes bound yes
 ";
 
-/// What stands of a verdict where the commander is a traitor, and the bound holds.
-pub(crate) const AGREED: Verdict = Verdict {
-    alike: true,
-    obeyed: None,
-    bound: true,
-};
-
 /// Campaigns by the names of those who make accesses, and their chronicles.
 const REPLAYED: &[(&str, &[&[u8]], &str)] = &[
     (SWAYED, &[&[3, 3, 12], &[0], &[3]], SWAYED_CHRONICLE),
@@ -183,20 +174,6 @@ fn lieutenants_of_a_traitor_replay(rt: HostRuntime) -> Result<(), Fail> {
 fn of_three(alloc: Global, rule: &str) -> Result<String, Fail> {
     let head = format!(in alloc; "{THREE}rule = \"{rule}\"\n")?;
     with_traitor(alloc, head.as_str(), 2, &[(1, 0)])
-}
-
-/// The places of the loyal lieutenants of seven, 1, 2, 3, 5 and 6, among the decisions.
-const LOYAL: &[usize] = &[0, 1, 2, 4, 5];
-
-/// Whether the loyal lieutenants of seven decide so, and the verdict is that they agree.
-pub(crate) fn five_decide(chronicle: &Chronicle, decision: u32) -> bool {
-    let decisions = chronicle.decisions();
-    for place in LOYAL {
-        if decisions.get(*place) != Some(&decision) {
-            return false;
-        }
-    }
-    decisions.len() == 6 && chronicle.verdict() == AGREED
 }
 
 /// A schedule of the colluders, and the names in each round.

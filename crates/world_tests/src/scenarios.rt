@@ -1,13 +1,12 @@
 //! Campaigns told by texts.
 
-use crate::threaded::text;
 use round::Scenario;
 use scenario::read;
 use std::alloc::Global;
 use std::fmt;
 use std::process::Abort;
 use std::test::Fail;
-use trace::read_schedule;
+use trace::{Latch, read_schedule, write_chronicle};
 use world::{Chronicle, play, replay};
 
 /// Four generals, bound 1, whose commander 0 has order 1.
@@ -177,6 +176,13 @@ pub(crate) fn replayed(alloc: Global, text: &str, names: &[&[u8]]) -> Result<Chr
         rounds.push(Vec::from_slice(alloc, generals)?)?;
     }
     Ok(replay(alloc, scenario, rounds.as_slice())?)
+}
+
+/// The text of a chronicle.
+pub(crate) fn text(alloc: Global, chronicle: &Chronicle) -> Result<Vec<u8>, Fail> {
+    let mut sink = Latch::new(Vec::new(alloc));
+    write_chronicle(chronicle, &mut sink)?;
+    Ok(sink.into_writer())
 }
 
 /// The chronicle has this text.

@@ -7,7 +7,7 @@ use std::alloc::{AllocError, Global};
 use std::process::Abort;
 use std::test::Fail;
 use trace::{Latch, write_chronicle};
-use world::{Chronicle, replay};
+use world::{Chronicle, Verdict, replay};
 
 /// Adds 1 to word 0, and tells 1, 2 and 3 the last bit of what the word was.
 pub(crate) const ADDER: &str = "mov r1, 0
@@ -27,12 +27,22 @@ call sway
 exit
 ";
 
+/// Four generals, bound 1, whose commander 0 has order 1.
+pub(crate) const FOUR: &str = "generals = 4\nbound = 1\ncommander = 0\norder = 1\n";
+
 /// Seven generals under 0, and a bound of two.
 pub(crate) const SEVEN: &str = "generals = 7
 bound = 2
 commander = 0
 order = 0
 ";
+
+/// What stands of a verdict where the commander is a traitor, and the bound holds.
+pub(crate) const AGREED: Verdict = Verdict {
+    alike: true,
+    obeyed: None,
+    bound: true,
+};
 
 /// The campaign with these first keys, in which these generals are traitors with these programs.
 pub(crate) fn campaign(
@@ -108,4 +118,18 @@ pub(crate) fn letters(alloc: Global, chronicle: &Chronicle) -> Result<Vec<Letter
         }
     }
     Ok(all)
+}
+
+/// The places of the loyal lieutenants of seven, 1, 2, 3, 5 and 6, among the decisions.
+const LOYAL: &[usize] = &[0, 1, 2, 4, 5];
+
+/// Whether the loyal lieutenants of seven decide so, and the verdict is that they agree.
+pub(crate) fn five_decide(chronicle: &Chronicle, decision: u32) -> bool {
+    let decisions = chronicle.decisions();
+    for place in LOYAL {
+        if decisions.get(*place) != Some(&decision) {
+            return false;
+        }
+    }
+    decisions.len() == 6 && chronicle.verdict() == AGREED
 }

@@ -1,8 +1,6 @@
 //! Campaigns whose generals act in threads.
 
-use crate::campaigns::AGREED;
-use crate::scenarios::FOUR;
-use crate::threaded::{ADDER, SEVEN, campaign, colluders, replays, text, word};
+use crate::threaded::{ADDER, AGREED, FOUR, SEVEN, campaign, colluders, replays, text, word};
 use board::Access;
 use round::Scenario;
 use std::alloc::Global;

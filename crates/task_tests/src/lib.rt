@@ -1,0 +1,5 @@
+//! Tests of tasks by their words.
+#![tactic(auto)]
+
+#[cfg(test)]
+mod tasks;
