@@ -1,5 +1,0 @@
-//! Tests of tasks by their words.
-#![tactic(auto)]
-
-#[cfg(test)]
-mod tasks;
