@@ -30,3 +30,7 @@ ending program context relay (suc k) words s = served (λ left t. ending program
 -- how it ends from its entry, within as many steps as it has instructions
 abbrev pub trial : List Insn → List ℕ → Relay → Option Ending
 trial program context relay = ending program context relay (length program) (replicate board_words 0) (entry (empty_outbox relay))
+
+-- the same with a board of these words
+abbrev pub trial_on : List ℕ → List Insn → List ℕ → Relay → Option Ending
+trial_on words program context relay = ending program context relay (length program) words (entry (empty_outbox relay))

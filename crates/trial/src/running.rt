@@ -3,7 +3,7 @@ ghost use Rattle.std.specs.Prelude.{◌≡◌, Some, IfOk, replicate};
 ghost use Rattle.label.specs.Relay.{IsShape};
 ghost use Rattle.semantics.specs.Relay.{oral};
 ghost use Rattle.trial.specs.Setting.{context_in};
-ghost use Rattle.trial.specs.Trial.{trial};
+ghost use Rattle.trial.specs.Trial.{trial, trial_on};
 
 use crate::setting::Setting;
 use board::Board;
@@ -39,7 +39,7 @@ pub fn run_in(alloc: Global, verified: &Verified, setting: &Setting) -> Result<E
     run(alloc, verified, &context, setting.shape())
 }
 
-/// Runs a program to its exit, in this context and with an outbox of this relay.
+/// Runs a program to its exit, in this context and with an outbox of this relay, with a board that begins with zeros.
 fn run(
     alloc: Global,
     verified: &Verified,
@@ -50,9 +50,28 @@ fn run(
     ensures ending { IfOk result (λ e. trial verified.now context.now (oral shape) ≡ Some (record { r0 = e.r0; state = e.activation.state; words = e.board.words })) }
     ensures relay { IfOk result (λ e. e.activation.relay ≡ oral shape) }
 {
+    run_on(alloc, verified, context, shape, [0; 64])
+}
+
+/// The same with a board that begins with these words.
+///
+/// # Errors
+///
+/// `AllocError` where the memory for the outbox or an access is refused.
+pub fn run_on(
+    alloc: Global,
+    verified: &Verified,
+    context: &Context,
+    shape: Shape,
+    words: [u64; 64],
+) -> Result<Exited, AllocError>
+    requires { IsShape shape }
+    ensures ending { IfOk result (λ e. trial_on words verified.now context.now (oral shape) ≡ Some (record { r0 = e.r0; state = e.activation.state; words = e.board.words })) }
+    ensures relay { IfOk result (λ e. e.activation.relay ≡ oral shape) }
+{
     // A sound program is over within as many steps as it has instructions.
     let limit = verified.program().len() as u32;
-    let mut board = Board::new(alloc, [0; 64]);
+    let mut board = Board::new(alloc, words);
     let mut activation = Activation::start(verified, context, Outbox::new(alloc, shape)?);
     loop {
         match activation.run(verified, context, limit) {

@@ -1,0 +1,21 @@
+-- Why bytes are not accepted.
+use Rattle.std.specs.Prelude.{ℕ, ◌≡◌, List, Some}
+use Rattle.insn.specs.declared.insn.Insn.{Insn}
+use Rattle.codec.specs.Program.{SpellsProgram, IsFirstFault}
+use Rattle.verify.specs.declared.reason.Reason.{Reason}
+use Rattle.verify.specs.declared.error.VerifyError.TheVariants.{At}
+use Rattle.verify.specs.Judgement.{judged}
+use Rattle.capi.specs.declared.refusal.Refusal.{Refusal}
+use Rattle.capi.specs.declared.refusal.Refusal.TheVariants as refusals
+
+-- the bytes spell a program in which the judgement finds this
+pub record IsJudged (bytes : List ℕ) (reason : Reason) (unit : ℕ) : Type 0 where
+  pub program : List Insn
+  pub spelt : SpellsProgram bytes program
+  pub judgement : judged program ≡ Some (At reason unit)
+
+-- the refusal is that of these bytes; of want of memory nothing is said
+abbrev pub Refuses : List ℕ → Refusal → Type 0
+Refuses bytes (refusals.Misspelt fault unit) = IsFirstFault bytes fault unit
+Refuses bytes (refusals.Refused reason unit) = IsJudged bytes reason unit
+Refuses bytes refusals.Memory = Unit {0}
