@@ -14,16 +14,17 @@ pub record IsProgram (bytes : List ℕ) : Type 0 where
   pub program : List Insn
   pub spelt : SpellsProgram bytes program
 
--- the bytes spell this program, the verifier's one function finds no fault in it, and it is sound
-pub record Spells (bytes : List ℕ) (program : List Insn) : Type 0 where
-  pub spelt : SpellsProgram bytes program
-  pub accepted : judged program ≡ None
-  pub sound : IsSound program
-
--- the bytes spell a program that is accepted
+-- the bytes spell a program that the verifier's one function accepts
 pub record IsAccepted (bytes : List ℕ) : Type 0 where
   pub program : List Insn
-  pub spells : Spells bytes program
+  pub spelt : SpellsProgram bytes program
+  pub accepted : judged program ≡ None
+
+-- the bytes spell a sound program
+pub record IsSoundProgram (bytes : List ℕ) : Type 0 where
+  pub program : List Insn
+  pub spelt : SpellsProgram bytes program
+  pub sound : IsSound program
 
 -- the bytes spell no program: the number of their first fault, and its unit
 pub record IsMisspelt (bytes : List ℕ) (number unit : ℕ) : Type 0 where
@@ -31,10 +32,10 @@ pub record IsMisspelt (bytes : List ℕ) (number unit : ℕ) : Type 0 where
   pub first : IsFirstFault bytes fault unit
   pub numbered : number ≡ fault_number fault
 
--- the bytes spell a program that is refused: the number of the first reason, and its unit
+-- the bytes spell a program that the verifier's one function refuses: the number of its reason, and its unit
 pub record IsRefused (bytes : List ℕ) (number unit : ℕ) : Type 0 where
   pub program : List Insn
   pub reason : Reason
   pub spelt : SpellsProgram bytes program
-  pub judgement : judged program ≡ Some (At reason unit)
+  pub refused : judged program ≡ Some (At reason unit)
   pub numbered : number ≡ reason_number reason

@@ -8,11 +8,11 @@ use Rattle.verify.specs.Judgement.{judged}
 use Rattle.capi.specs.declared.refusal.Refusal.{Refusal}
 use Rattle.capi.specs.declared.refusal.Refusal.TheVariants as refusals
 
--- the bytes spell a program in which the judgement finds this
+-- the bytes spell a program in which the verifier's one function finds this
 pub record IsJudged (bytes : List ℕ) (reason : Reason) (unit : ℕ) : Type 0 where
   pub program : List Insn
   pub spelt : SpellsProgram bytes program
-  pub judgement : judged program ≡ Some (At reason unit)
+  pub refused : judged program ≡ Some (At reason unit)
 
 -- the refusal is that of these bytes; of want of memory nothing is said
 abbrev pub Refuses : List ℕ → Refusal → Type 0

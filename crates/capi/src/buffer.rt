@@ -7,7 +7,10 @@ pub fn put_text(text: &[u8], buffer: &mut [u8], needed: &mut usize)
     ensures needed { needed.new ≡ length text.now }
     ensures written { buffer.new ≡ overwritten text.now buffer.old }
 {
-    let count = text.len().min(buffer.len());
-    buffer[..count].copy_from_slice(&text[..count]);
     *needed = text.len();
+    if text.len() < buffer.len() {
+        buffer[..text.len()].copy_from_slice(text);
+    } else {
+        buffer.copy_from_slice(&text[..buffer.len()]);
+    }
 }

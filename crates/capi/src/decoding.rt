@@ -1,8 +1,10 @@
 //! Bytes that are read, verified, explained or shown.
-ghost use Rattle.std.specs.Prelude.{◌≡◌, IfOk, IfErr, MatchResult, List, string_bytes};
+ghost use Rattle.std.specs.Prelude.{◌≡◌, IfOk, IfErr, MatchResult, List, None, string_bytes};
 ghost use Rattle.insn.specs.declared.insn.Insn.{Insn as InsnValue};
 ghost use Rattle.codec.specs.Program.{SpellsProgram};
-ghost use Rattle.capi.specs.Bytes.{Spells, IsAccepted, IsProgram};
+ghost use Rattle.semantics.specs.Run.{IsSound};
+ghost use Rattle.verify.specs.Judgement.{judged};
+ghost use Rattle.capi.specs.Bytes.{IsAccepted, IsProgram};
 ghost use Rattle.capi.specs.Refusals.{Refuses};
 ghost use Rattle.capi.specs.Texts.{IsExplanation, IsAssembly};
 
@@ -30,7 +32,9 @@ fn spelt(alloc: Global, bytes: &[u8]) -> Result<Program, Refusal>
 
 /// The program that the bytes spell, where it is accepted.
 pub fn accepted(alloc: Global, bytes: &[u8]) -> Result<Verified, Refusal>
-    ensures accepted { IfOk result (λ program. Spells bytes.now program) }
+    ensures spelt { IfOk result (λ v. SpellsProgram bytes.now v) }
+    ensures accepted { IfOk result (λ v. judged v ≡ None) }
+    ensures sound { IfOk result (λ v. IsSound v) }
     ensures refused { IfErr result (λ refusal. Refuses bytes.now refusal) }
     ensures only { IsAccepted bytes.now → IfErr result (λ refusal. refusal ≡ Refusal.Memory) }
 {
@@ -51,7 +55,7 @@ pub fn accepted(alloc: Global, bytes: &[u8]) -> Result<Verified, Refusal>
 pub fn explained(alloc: Global, bytes: &[u8]) -> Result<String, Refusal>
     ensures text { IfOk result (λ text. IsExplanation bytes.now (string_bytes text)) }
     ensures refused { IfErr result (λ refusal. Refuses bytes.now refusal) }
-    ensures only { IsAccepted bytes.now → IfErr result (λ refusal. refusal ≡ Refusal.Memory) }
+    ensures only { IsProgram bytes.now → IfErr result (λ refusal. refusal ≡ Refusal.Memory) }
 {
     let program = match spelt(alloc, bytes) {
         Ok(program) => program,

@@ -5,6 +5,7 @@
 mod buffer;
 mod decoding;
 mod fault;
+mod hosting;
 mod outcome;
 mod reading;
 mod refusal;

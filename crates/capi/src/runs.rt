@@ -1,20 +1,19 @@
-//! Runs of programs that the verifier accepts.
-ghost use Rattle.std.specs.Prelude.{◌≡◌, ◌≤◌, ◌≢◌, ◌*◌, ◌⊎◌, IfOk, length};
+//! The exports that run programs.
+ghost use Rattle.std.specs.Prelude.{◌≡◌, ◌≤◌, ◌≢◌, ◌*◌, ◌⊎◌, length};
 ghost use Rattle.capi.specs.Bytes.{IsAccepted, IsMisspelt, IsRefused};
-ghost use Rattle.capi.specs.Runs.{IsRun, Exits};
-ghost use Rattle.capi.specs.Many.{ExitFirst, ExitsAfresh, AreRuns};
+ghost use Rattle.capi.specs.Runs.{IsRun};
+ghost use Rattle.capi.specs.Many.{AreRuns, AreBegun};
 
 use crate::decoding::accepted;
 use crate::fault::{Fault, tell};
+use crate::hosting::{run_each, run_hosted};
 use crate::outcome::Outcome;
 use crate::status::{DONE, LENGTH, MEMORY};
-use label::Shape;
+use board::Board;
 use mem::Context;
-use std::alloc::{AllocError, Global};
-use trial::{Exited, run_on};
-use verify::Verified;
+use std::alloc::Global;
 
-/// Verifies a program and runs it once in the context, with a board of these words, which it leaves as the program left them.
+/// Verifies a program and runs it once in the context, on a board of these words, which are then those that it left.
 #[unsafe(no_mangle)]
 pub extern "C" fn byzlab_run(
     alloc: Global,
@@ -25,16 +24,21 @@ pub extern "C" fn byzlab_run(
     outcome: &mut Outcome,
 ) -> u32
     ensures known { result ≤ 4 }
-    ensures ran { result ≡ 0 → IsRun program.now context.now board.old outcome.new.r0 outcome.new.steps board.new }
-    ensures misspelt { result ≡ 1 → IsMisspelt program.now fault.new.number fault.new.unit }
-    ensures refused { result ≡ 2 → IsRefused program.now fault.new.number fault.new.unit }
+
+    // 4 exactly where the context has another length.
     ensures short { result ≡ 4 → length context.now ≢ 4096 }
     ensures cut { length context.now ≢ 4096 → result ≡ 4 }
 
-    // What is accepted is run, want of memory aside.
+    // 0 exactly where the program is accepted, memory aside; it was then run.
+    ensures accepted { result ≡ 0 → IsAccepted program.now }
     ensures only { IsAccepted program.now → length context.now ≡ 4096 → (result ≡ 0) ⊎ (result ≡ 3) }
+    ensures ran { result ≡ 0 → IsRun program.now context.now board.old outcome.new.r0 outcome.new.steps board.new }
 
-    // What is not told is not written.
+    // The fault, by its number and unit.
+    ensures misspelt { result ≡ 1 → IsMisspelt program.now fault.new.number fault.new.unit }
+    ensures refused { result ≡ 2 → IsRefused program.now fault.new.number fault.new.unit }
+
+    // Nothing else is written.
     ensures untold { (result ≡ 1) ⊎ (result ≡ 2) ⊎ (fault.new ≡ fault.old) }
     ensures unwritten { (result ≡ 0) ⊎ (board.new ≡ board.old) × (outcome.new ≡ outcome.old) }
 {
@@ -45,17 +49,18 @@ pub extern "C" fn byzlab_run(
         Ok(verified) => verified,
         Err(refusal) => return tell(refusal, fault),
     };
-    match run_hosted(alloc, &verified, &context, *board) {
+    let mut served = Board::new(alloc, *board);
+    match run_hosted(alloc, &verified, &context, &mut served) {
         Ok(exited) => {
-            *board = *exited.board.words();
-            *outcome = outcome_of(&exited);
+            *board = *served.words();
+            *outcome = exited;
             DONE
         }
         Err(_) => MEMORY,
     }
 }
 
-/// Verifies a program once and runs it in each context, of which so many stand behind one another, each time with a board of
+/// Verifies a program once and runs it in each context, of which so many stand behind one another, each time on a board of
 /// zeros.
 #[unsafe(no_mangle)]
 pub extern "C" fn byzlab_run_many(
@@ -66,16 +71,25 @@ pub extern "C" fn byzlab_run_many(
     outcomes: &mut [Outcome],
 ) -> u32
     ensures known { result ≤ 4 }
-    ensures ran { result ≡ 0 → AreRuns program.now contexts.now outcomes.new }
-    ensures misspelt { result ≡ 1 → IsMisspelt program.now fault.new.number fault.new.unit }
-    ensures refused { result ≡ 2 → IsRefused program.now fault.new.number fault.new.unit }
+
+    // 4 exactly where the contexts have another length.
     ensures short { result ≡ 4 → length contexts.now ≢ 4096 * length outcomes.old }
     ensures cut { length contexts.now ≢ 4096 * length outcomes.old → result ≡ 4 }
-    ensures only { IsAccepted program.now → length contexts.now ≡ 4096 * length outcomes.old → (result ≡ 0) ⊎ (result ≡ 3) }
-    ensures untold { (result ≡ 1) ⊎ (result ≡ 2) ⊎ (fault.new ≡ fault.old) }
 
-    // Where memory was refused in a later run, the outcomes before it are written.
+    // 0 exactly where the program is accepted, memory aside; it was then run in each context.
+    ensures accepted { result ≡ 0 → IsAccepted program.now }
+    ensures only { IsAccepted program.now → length contexts.now ≡ 4096 * length outcomes.old →
+        (result ≡ 0) ⊎ (result ≡ 3) }
+    ensures ran { result ≡ 0 → AreRuns program.now contexts.now outcomes.new }
+
+    // The fault, by its number and unit.
+    ensures misspelt { result ≡ 1 → IsMisspelt program.now fault.new.number fault.new.unit }
+    ensures refused { result ≡ 2 → IsRefused program.now fault.new.number fault.new.unit }
+
+    // Nothing else is written, but outcomes of runs before one to which memory was refused.
+    ensures untold { (result ≡ 1) ⊎ (result ≡ 2) ⊎ (fault.new ≡ fault.old) }
     ensures unwritten { (result ≡ 0) ⊎ (result ≡ 3) ⊎ (outcomes.new ≡ outcomes.old) }
+    ensures begun { result ≡ 3 → AreBegun program.now contexts.now outcomes.old outcomes.new }
 {
     if contexts.len() / Context::BYTES != outcomes.len() || contexts.len() % Context::BYTES != 0 {
         return LENGTH;
@@ -88,62 +102,4 @@ pub extern "C" fn byzlab_run_many(
         Ok(()) => DONE,
         Err(_) => MEMORY,
     }
-}
-
-/// Runs a program as that general of four who relays nothing, with a board of these words.
-fn run_hosted(
-    alloc: Global,
-    verified: &Verified,
-    context: &Context,
-    words: [u64; 64],
-) -> Result<Exited, AllocError>
-    ensures { IfOk result (λ e. Exits words verified.now context.now e.r0 e.activation.state.steps e.board.words) }
-{
-    let shape = Shape {
-        generals: 4,
-        commander: 0,
-        general: 3,
-        round: 1,
-    };
-    run_on(alloc, verified, context, shape, words)
-}
-
-/// What it exited with, and after how many steps.
-fn outcome_of(exited: &Exited) -> Outcome
-    ensures r0 { result.r0 ≡ exited.now.r0 }
-    ensures steps { result.steps ≡ exited.now.activation.state.steps }
-{
-    Outcome {
-        r0: exited.r0,
-        steps: exited.activation.steps(),
-    }
-}
-
-/// Runs a program once with a board of zeros.
-fn run_afresh(
-    alloc: Global,
-    verified: &Verified,
-    context: &Context,
-) -> Result<Outcome, AllocError>
-    ensures { IfOk result (λ o. ExitsAfresh verified.now context.now o) }
-{
-    let exited = run_hosted(alloc, verified, context, [0; 64])?;
-    Ok(outcome_of(&exited))
-}
-
-/// Runs a program in each context.
-fn run_each(
-    alloc: Global,
-    verified: &Verified,
-    contexts: &[u8],
-    outcomes: &mut [Outcome],
-) -> Result<(), AllocError>
-    requires whole { length contexts.now ≡ 4096 * length outcomes.old }
-    ensures ran { IfOk result (λ _. ExitFirst (length outcomes.new) verified.now contexts.now outcomes.new) }
-{
-    for index in 0..outcomes.len() {
-        let context = Context::new(&contexts[4096 * index..4096 * index + 4096]);
-        outcomes[index] = run_afresh(alloc, verified, &context)?;
-    }
-    Ok(())
 }
