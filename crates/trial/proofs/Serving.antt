@@ -24,13 +24,12 @@ pub record IsServing (program : List Insn) (context : List ℕ) (relay : Relay) 
   pub rest : ending program context relay (length program - a.state.steps) b.words a.state ≡ trial_on words program context relay
 
 pub served_from : (program : List Insn) (context : List ℕ) (relay : Relay) (words : List ℕ) (a : Standing) (b : RecordedBoard) → IsOfRun program context a → a.relay ≡ relay →
-    b.words ≡ words → a.state ≡ entry (empty_outbox a.relay) → IsServing program context relay words a b
+    b.words ≡ words → a.state ≡ entry (empty_outbox relay) → IsServing program context relay words a b
 served_from program context relay words a b run same opened begun =
-    let at : a.state ≡ entry (empty_outbox relay) = begun ∙ ap (λ (s : Relay). entry (empty_outbox s)) same in
     record {
       of_run = run;
       relay_kept = same;
-      rest = (let all : length program - 0 ≡ length program = omega arith in rw (at, opened) (ap (λ (k : ℕ). ending program context relay k words (entry (empty_outbox relay))) all));
+      rest = (let all : length program - 0 ≡ length program = omega arith in rw (begun, opened) (ap (λ (k : ℕ). ending program context relay k words (entry (empty_outbox relay))) all));
     }
 
 -- a step that goes on

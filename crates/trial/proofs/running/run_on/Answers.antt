@@ -1,8 +1,7 @@
 -- Each answer leads on.
-use Rattle.std.proofs.Common.{◌≤◌, ◌∙◌, ℕ, List, length, ap, sym, arith}
+use Rattle.std.proofs.Common.{◌≤◌, length, ap, arith}
 use Rattle.semantics.specs.Replies.{words_in}
 use Rattle.semantics.specs.Relay.{oral}
-use Rattle.trial.specs.Trial.{trial_on}
 use Rattle.trial.proofs.Serving.{serves_on, goes_further, served_to}
 use Rattle.trial.proofs.running.run_on.Goals as goal
 
@@ -51,6 +50,5 @@ returns-in-Exited-clause-ending c =
     let a = c.loop-request.activation in
     let s = c.loop-request.invariant in
     let few : c.len-limit.result ≤ length c.args.verified.now = (let l = c.len-limit.ensures.len in let p = ap length c.program.ensures.same in omega arith) in
-    ap (λ (words : List ℕ). trial_on words c.args.verified.now c.args.context.now (oral c.args.shape)) (sym c.new-board.ensures.words)
-    ∙ served_to c.args.verified.now c.args.context.now (oral c.args.shape) _ c.len-limit.result c.in-Exited.r0 a c.run.new.self c.loop-request.board s few
+    served_to c.args.verified.now c.args.context.now (oral c.args.shape) _ c.len-limit.result c.in-Exited.r0 a c.run.new.self c.loop-request.board s few
     (c.in-Exited.ensures.advances s.of_run.answers s.of_run.reached)
