@@ -21,4 +21,5 @@ AreRuns bytes contexts outcomes =
 -- each is that in its context, or as it was
 abbrev pub AreBegun : List ℕ → List ℕ → List Outcome → List Outcome → Type 0
 AreBegun bytes contexts before after =
-    (index : ℕ) → IfSome (slice_get after index) (λ o. IsOutcome bytes (context_at contexts index) o ⊎ (slice_get before index ≡ Some o))
+    (index : ℕ) →
+    IfSome (slice_get after index) (λ o. IsOutcome bytes (context_at contexts index) o ⊎ (slice_get before index ≡ Some o))

@@ -14,6 +14,12 @@ pub record IsJudged (bytes : List ℕ) (reason : Reason) (unit : ℕ) : Type 0 w
   pub spelt : SpellsProgram bytes program
   pub refused : judged program ≡ Some (At reason unit)
 
+-- the status that tells it
+abbrev pub status_of : Refusal → ℕ
+status_of (refusals.Misspelt fault unit) = 1
+status_of (refusals.Refused reason unit) = 2
+status_of refusals.Memory = 3
+
 -- the refusal is that of these bytes; of want of memory nothing is said
 abbrev pub Refuses : List ℕ → Refusal → Type 0
 Refuses bytes (refusals.Misspelt fault unit) = IsFirstFault bytes fault unit

@@ -1,11 +1,11 @@
 //! Bytes that are read, verified, explained or shown.
-ghost use Rattle.std.specs.Prelude.{◌≡◌, IfOk, IfErr, MatchResult, List, None, string_bytes};
+ghost use Rattle.std.specs.Prelude.{◌≡◌, ◌≢◌, IfOk, IfErr, MatchResult, List, None, string_bytes};
 ghost use Rattle.insn.specs.declared.insn.Insn.{Insn as InsnValue};
 ghost use Rattle.codec.specs.Program.{SpellsProgram};
 ghost use Rattle.semantics.specs.Run.{IsSound};
 ghost use Rattle.verify.specs.Judgement.{judged};
 ghost use Rattle.capi.specs.Bytes.{IsAccepted, IsProgram};
-ghost use Rattle.capi.specs.Refusals.{Refuses};
+ghost use Rattle.capi.specs.Refusals.{Refuses, status_of};
 ghost use Rattle.capi.specs.Texts.{IsExplanation, IsAssembly};
 
 use crate::refusal::Refusal;
@@ -20,6 +20,7 @@ use verify::{Verified, VerifyError, verify};
 fn spelt(alloc: Global, bytes: &[u8]) -> Result<Program, Refusal>
     ensures spelt { IfOk result (λ program. SpellsProgram bytes.now program) }
     ensures refused { IfErr result (λ refusal. Refuses bytes.now refusal) }
+    ensures unjudged { IfErr result (λ refusal. status_of refusal ≢ 2) }
     ensures only { (program : List InsnValue) → SpellsProgram bytes.now program →
         MatchResult result (λ p. p ≡ program) (λ refusal. refusal ≡ Refusal.Memory) }
 {
@@ -55,6 +56,7 @@ pub fn accepted(alloc: Global, bytes: &[u8]) -> Result<Verified, Refusal>
 pub fn explained(alloc: Global, bytes: &[u8]) -> Result<String, Refusal>
     ensures text { IfOk result (λ text. IsExplanation bytes.now (string_bytes text)) }
     ensures refused { IfErr result (λ refusal. Refuses bytes.now refusal) }
+    ensures unjudged { IfErr result (λ refusal. status_of refusal ≢ 2) }
     ensures only { IsProgram bytes.now → IfErr result (λ refusal. refusal ≡ Refusal.Memory) }
 {
     let program = match spelt(alloc, bytes) {
@@ -71,6 +73,7 @@ pub fn explained(alloc: Global, bytes: &[u8]) -> Result<String, Refusal>
 pub fn assembly(alloc: Global, bytes: &[u8]) -> Result<String, Refusal>
     ensures text { IfOk result (λ text. IsAssembly bytes.now (string_bytes text)) }
     ensures refused { IfErr result (λ refusal. Refuses bytes.now refusal) }
+    ensures unjudged { IfErr result (λ refusal. status_of refusal ≢ 2) }
     ensures only { IsProgram bytes.now → IfErr result (λ refusal. refusal ≡ Refusal.Memory) }
 {
     let program = match spelt(alloc, bytes) {

@@ -2,7 +2,7 @@
 ghost use Rattle.std.specs.Prelude.{◌≡◌, ◌≤◌, ℕ, List};
 ghost use Rattle.capi.specs.Numbers.{fault_number, reason_number};
 ghost use Rattle.capi.specs.Bytes.{IsMisspelt, IsRefused};
-ghost use Rattle.capi.specs.Refusals.{Refuses};
+ghost use Rattle.capi.specs.Refusals.{Refuses, status_of};
 
 use crate::refusal::Refusal;
 use crate::status::{MEMORY, MISSPELT, REFUSED};
@@ -56,10 +56,13 @@ pub fn reason_number(reason: Reason) -> u32
 
 /// Writes a refusal into the fault, and answers its status. Want of memory writes nothing.
 pub fn tell(refusal: Refusal, fault: &mut Fault) -> u32
+    ensures status { result ≡ status_of refusal }
     ensures least { 1 ≤ result }
     ensures most { result ≤ 3 }
-    ensures misspelt { (bytes : List ℕ) → Refuses bytes refusal → result ≡ 1 → IsMisspelt bytes fault.new.number fault.new.unit }
-    ensures refused { (bytes : List ℕ) → Refuses bytes refusal → result ≡ 2 → IsRefused bytes fault.new.number fault.new.unit }
+    ensures misspelt { (bytes : List ℕ) → Refuses bytes refusal → result ≡ 1 →
+        IsMisspelt bytes fault.new.number fault.new.unit }
+    ensures refused { (bytes : List ℕ) → Refuses bytes refusal → result ≡ 2 →
+        IsRefused bytes fault.new.number fault.new.unit }
     ensures memory { refusal ≡ Refusal.Memory → result ≡ 3 }
     ensures untold { result ≡ 3 → fault.new ≡ fault.old }
 {

@@ -44,7 +44,8 @@ fn run_afresh(
     verified: &Verified,
     context: &Context,
 ) -> Result<Outcome, AllocError>
-    ensures { IfOk result (λ o. (bytes : List ℕ) → SpellsProgram bytes verified.now → IsOutcome bytes context.now o) }
+    ensures { IfOk result (λ o. (bytes : List ℕ) → SpellsProgram bytes verified.now →
+        IsOutcome bytes context.now o) }
 {
     let mut board = Board::new(alloc, [0; 64]);
     run_hosted(alloc, verified, context, &mut board)

@@ -1,5 +1,5 @@
-//! What a program in C calls: the verifier, the machine, explanations and assembly. Each export states the promises of what it
-//! calls again; share/byzlab_sandbox.h declares them.
+//! What a program in C calls: the verifier, the machine, explanations and assembly. Each export states the promises of
+//! what it calls again; share/byzlab_sandbox.h declares them.
 #![tactic(auto)]
 
 mod buffer;

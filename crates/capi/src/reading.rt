@@ -1,5 +1,5 @@
 //! The exports that tell programs as texts.
-ghost use Rattle.std.specs.Prelude.{◌≡◌, ◌≤◌, ◌⊎◌};
+ghost use Rattle.std.specs.Prelude.{◌≡◌, ◌≢◌, ◌≤◌, ◌⊎◌};
 ghost use Rattle.capi.specs.Bytes.{IsProgram, IsAccepted, IsMisspelt, IsRefused};
 ghost use Rattle.capi.specs.Texts.{GivesExplanation, GivesAssembly};
 
@@ -10,8 +10,8 @@ use crate::status::{DONE, REFUSED};
 use crate::verdict::byzlab_verify;
 use std::alloc::Global;
 
-/// Answers as `byzlab_verify`, and writes into `text` what the verifier knows at each unit, and why it refuses the program, if so:
-/// as much as there is room for, and into `needed` how many bytes the whole has.
+/// Answers as `byzlab_verify`, and writes what the verifier knows at each unit, and why it refuses the program, if so: into
+/// `text` as much as there is room for, and into `needed` how many bytes the whole has.
 #[unsafe(no_mangle)]
 pub extern "C" fn byzlab_explain(
     alloc: Global,
@@ -48,8 +48,8 @@ pub extern "C" fn byzlab_explain(
     status
 }
 
-/// Writes into `text` the assembly text of the program that the bytes spell, accepted or not: as much as there is room for, and
-/// into `needed` how many bytes the whole has.
+/// Writes the assembly text of the program that the bytes spell, accepted or not: into `text` as much as there is room for,
+/// and into `needed` how many bytes the whole has.
 #[unsafe(no_mangle)]
 pub extern "C" fn byzlab_disassemble(
     alloc: Global,
@@ -58,7 +58,8 @@ pub extern "C" fn byzlab_disassemble(
     needed: &mut usize,
     fault: &mut Fault,
 ) -> u32
-    ensures known { (result ≤ 1) ⊎ (result ≡ 3) }
+    ensures known { result ≤ 3 }
+    ensures unrefused { result ≢ 2 }
 
     // 0 exactly where the bytes spell a program, memory aside: its assembly text.
     ensures text { result ≡ 0 → GivesAssembly program.now text.old text.new needed.new }

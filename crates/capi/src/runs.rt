@@ -60,8 +60,8 @@ pub extern "C" fn byzlab_run(
     }
 }
 
-/// Verifies a program once and runs it in each context, of which so many stand behind one another, each time on a board of
-/// zeros.
+/// Verifies a program once and runs it in each context, of which so many stand behind one another, each time on a board
+/// of zeros.
 #[unsafe(no_mangle)]
 pub extern "C" fn byzlab_run_many(
     alloc: Global,
