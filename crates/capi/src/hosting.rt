@@ -39,11 +39,7 @@ pub fn run_hosted(
 }
 
 /// Runs a program on a board of zeros.
-fn run_afresh(
-    alloc: Global,
-    verified: &Verified,
-    context: &Context,
-) -> Result<Outcome, AllocError>
+fn run_afresh(alloc: Global, verified: &Verified, context: &Context) -> Result<Outcome, AllocError>
     ensures { IfOk result (λ o. (bytes : List ℕ) → SpellsProgram bytes verified.now →
         IsOutcome bytes context.now o) }
 {

@@ -18,8 +18,7 @@ loop-index-preserved c =
     let before : List Outcome = c.args.outcomes.now in
     let at : c.new-context.result ≡ context_at contexts i = (let long : 4096 * i + 4096 - 4096 * i ≡ 4096 = omega arith in c.new-context.ensures.same ∙ ap (λ (n : ℕ). take n (drop (4096 * i) contexts)) long) in
     let ended : (bytes : List ℕ) → SpellsProgram bytes c.args.verified.now → IsOutcome bytes (context_at contexts i) o =
-        (λ bytes spelt. subst (λ (context : List ℕ). IsOutcome bytes context o) at (c.in_ok-outcomes.ensures bytes spelt)) in
-    (
+    (λ bytes spelt. subst (λ (context : List ℕ). IsOutcome bytes context o) at (c.in_ok-outcomes.ensures bytes spelt)) in (
       search rules,
       (λ bytes spelt. first_set (λ (j : ℕ) (x : Outcome). IsOutcome bytes (context_at contexts j) x) c.loop-index.outcomes i o (ended bytes spelt) (c.loop-index.invariant.1 bytes spelt)),
       (λ bytes spelt. each_set (λ (j : ℕ) (x : Outcome). IsOutcome bytes (context_at contexts j) x ⊎ (slice_get before j ≡ Some x)) c.loop-index.outcomes i o (inl (ended bytes spelt)) (c.loop-index.invariant.2 bytes spelt)),
