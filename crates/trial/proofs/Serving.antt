@@ -1,6 +1,5 @@
 -- Requests that are served in turn.
 use Rattle.std.proofs.Common.{◌≡◌, ℕ, zero, suc, ◌+◌, ◌-◌, ◌<◌, ◌≤◌, List, Option, Some, sym, ap, subst, ◌∙◌, length, arith}
-use Rattle.std.specs.Prelude.{replicate}
 use Rattle.insn.specs.declared.insn.Insn.{Insn}
 use Rattle.semantics.specs.Relay.{Relay}
 use Rattle.semantics.specs.declared.request.Request.{Request}
@@ -16,22 +15,21 @@ use Rattle.board.specs.Ledger.{RecordedBoard}
 use Rattle.machine.specs.Standing.{Standing, before}
 use Rattle.machine.specs.Advance.{IsOfRun, Leads, Requests, Exits}
 use Rattle.machine.proofs.AdvanceLemmas.{fewer}
-use Rattle.trial.specs.Trial.{Ending, served, ending, trial}
+use Rattle.trial.specs.Trial.{Ending, served, ending, trial_on}
 
--- what is left of the trial, from where the program stands and the board's words
-pub record IsServing (program : List Insn) (context : List ℕ) (relay : Relay) (a : Standing) (b : RecordedBoard) : Type 0 where
+-- what is left of the trial on a board of these words, from where the program stands and the board's words now
+pub record IsServing (program : List Insn) (context : List ℕ) (relay : Relay) (words : List ℕ) (a : Standing) (b : RecordedBoard) : Type 0 where
   pub of_run : IsOfRun program context a
   pub relay_kept : a.relay ≡ relay
-  pub rest : ending program context relay (length program - a.state.steps) b.words a.state ≡ trial program context relay
+  pub rest : ending program context relay (length program - a.state.steps) b.words a.state ≡ trial_on words program context relay
 
-pub served_from : (program : List Insn) (context : List ℕ) (relay : Relay) (a : Standing) (b : RecordedBoard) → IsOfRun program context a → a.relay ≡ relay →
-    b.words ≡ replicate 64 0 → a.state ≡ entry (empty_outbox a.relay) → IsServing program context relay a b
-served_from program context relay a b run same zeros begun =
-    let at : a.state ≡ entry (empty_outbox relay) = begun ∙ ap (λ (s : Relay). entry (empty_outbox s)) same in
+pub served_from : (program : List Insn) (context : List ℕ) (relay : Relay) (words : List ℕ) (a : Standing) (b : RecordedBoard) → IsOfRun program context a → a.relay ≡ relay →
+    b.words ≡ words → a.state ≡ entry (empty_outbox relay) → IsServing program context relay words a b
+served_from program context relay words a b run same opened begun =
     record {
       of_run = run;
       relay_kept = same;
-      rest = (let all : length program - 0 ≡ length program = omega arith in rw (at, zeros) (ap (λ (k : ℕ). ending program context relay k (replicate 64 0) (entry (empty_outbox relay))) all));
+      rest = (let all : length program - 0 ≡ length program = omega arith in rw (begun, opened) (ap (λ (k : ℕ). ending program context relay k words (entry (empty_outbox relay))) all));
     }
 
 -- a step that goes on
@@ -70,10 +68,10 @@ ending_leads program context relay (suc n) words s t (u, is, more) lt =
     ∙ ending_leads program context relay n words u t more lt)
 
 -- it goes on from the board's answer
-pub serves_on : (program : List Insn) (context : List ℕ) (relay : Relay) (limit : ℕ) (a v t : Standing) (b d : RecordedBoard) (request : Request) (words : List ℕ) (s : IsServing program context relay a b) → limit ≤ length program →
+pub serves_on : (program : List Insn) (context : List ℕ) (relay : Relay) (opening : List ℕ) (limit : ℕ) (a v t : Standing) (b d : RecordedBoard) (request : Request) (words : List ℕ) (s : IsServing program context relay opening a b) → limit ≤ length program →
     Requests program context a.relay s.of_run.answers limit a.state request v → t.relay ≡ v.relay → t.state ≡ resumed request words v.state → IsOfRun program context t →
-    words ≡ reply b.words request → d.words ≡ next b.words request → IsServing program context relay t d
-serves_on program context relay limit a v t b d request words s few r same is run answer left =
+    words ≡ reply b.words request → d.words ≡ next b.words request → IsServing program context relay opening t d
+serves_on program context relay opening limit a v t b d request words s few r same is run answer left =
     let most = length program in
     let last = before v.state in
     let leads : Leads program context relay r.taken a.state last = subst (λ (own : Relay). Leads program context own r.taken a.state last) s.relay_kept r.leads in
@@ -106,9 +104,9 @@ goes_further program context limit answers a v t request words sound run r is =
     omega arith
 
 -- the exit
-pub served_to : (program : List Insn) (context : List ℕ) (relay : Relay) (limit r0 : ℕ) (a new : Standing) (b : RecordedBoard) (s : IsServing program context relay a b) → limit ≤ length program →
-    Exits program context a.relay s.of_run.answers limit a.state r0 new → trial program context relay ≡ Some (record { r0 = r0; state = new.state; words = b.words })
-served_to program context relay limit r0 a new b s few e =
+pub served_to : (program : List Insn) (context : List ℕ) (relay : Relay) (opening : List ℕ) (limit r0 : ℕ) (a new : Standing) (b : RecordedBoard) (s : IsServing program context relay opening a b) → limit ≤ length program →
+    Exits program context a.relay s.of_run.answers limit a.state r0 new → trial_on opening program context relay ≡ Some (record { r0 = r0; state = new.state; words = b.words })
+served_to program context relay opening limit r0 a new b s few e =
     let most = length program in
     let leads : Leads program context relay e.taken a.state e.last = subst (λ (own : Relay). Leads program context own e.taken a.state e.last) s.relay_kept e.leads in
     let exit : step program context relay e.last ≡ Exit r0 new.state = ap (λ (own : Relay). step program context own e.last) (sym s.relay_kept) ∙ e.exit in

@@ -27,6 +27,10 @@ unfoldable pub ending : List Insn → List ℕ → Relay → ℕ → List ℕ �
 ending program context relay zero words s = None
 ending program context relay (suc k) words s = served (λ left t. ending program context relay k left t) words (step program context relay s)
 
--- how it ends from its entry, within as many steps as it has instructions
+-- how it ends from its entry, within as many steps as it has instructions, with a board of these words
+abbrev pub trial_on : List ℕ → List Insn → List ℕ → Relay → Option Ending
+trial_on words program context relay = ending program context relay (length program) words (entry (empty_outbox relay))
+
+-- the same with a board of zeros
 abbrev pub trial : List Insn → List ℕ → Relay → Option Ending
-trial program context relay = ending program context relay (length program) (replicate board_words 0) (entry (empty_outbox relay))
+trial program context relay = trial_on (replicate board_words 0) program context relay

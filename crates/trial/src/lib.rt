@@ -18,5 +18,5 @@ pub use laws::{contexts_are_settings, trials_are_runs, trials_end};
 pub use lines::{first_lines, tried};
 pub use place::{Name, Place};
 pub use reader::read;
-pub use running::{Exited, run_in};
+pub use running::{Exited, run_in, run_on};
 pub use setting::Setting;

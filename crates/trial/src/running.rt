@@ -2,8 +2,11 @@
 ghost use Rattle.std.specs.Prelude.{◌≡◌, Some, IfOk, replicate};
 ghost use Rattle.label.specs.Relay.{IsShape};
 ghost use Rattle.semantics.specs.Relay.{oral};
+ghost use Rattle.semantics.specs.State.{entry};
+ghost use Rattle.semantics.specs.Outbox.{empty_outbox};
+ghost use Rattle.machine.specs.Advance.{IsOfRun};
 ghost use Rattle.trial.specs.Setting.{context_in};
-ghost use Rattle.trial.specs.Trial.{trial};
+ghost use Rattle.trial.specs.Trial.{trial, trial_on};
 
 use crate::setting::Setting;
 use board::Board;
@@ -39,7 +42,7 @@ pub fn run_in(alloc: Global, verified: &Verified, setting: &Setting) -> Result<E
     run(alloc, verified, &context, setting.shape())
 }
 
-/// Runs a program to its exit, in this context and with an outbox of this relay.
+/// Runs a program to its exit, in this context and with an outbox of this relay, with a board that begins with zeros.
 fn run(
     alloc: Global,
     verified: &Verified,
@@ -50,23 +53,43 @@ fn run(
     ensures ending { IfOk result (λ e. trial verified.now context.now (oral shape) ≡ Some (record { r0 = e.r0; state = e.activation.state; words = e.board.words })) }
     ensures relay { IfOk result (λ e. e.activation.relay ≡ oral shape) }
 {
-    // A sound program is over within as many steps as it has instructions.
-    let limit = verified.program().len() as u32;
     let mut board = Board::new(alloc, [0; 64]);
     let mut activation = Activation::start(verified, context, Outbox::new(alloc, shape)?);
+    let r0 = run_on(&mut board, verified, context, shape, &mut activation)?;
+    Ok(Exited {
+        r0,
+        activation,
+        board,
+    })
+}
+
+/// Runs an activation that has just been started to its exit, on this board: what it exits with.
+///
+/// # Errors
+///
+/// `AllocError` where the memory for an access is refused.
+pub fn run_on(
+    board: &mut Board,
+    verified: &Verified,
+    context: &Context,
+    shape: Shape,
+    activation: &mut Activation,
+) -> Result<u64, AllocError>
+    requires relay { activation.old.relay ≡ oral shape }
+    requires started { activation.old.state ≡ entry (empty_outbox (oral shape)) }
+    requires of_run { IsOfRun verified.now context.now activation.old }
+    ensures ending { IfOk result (λ r0. trial_on board.old.words verified.now context.now (oral shape) ≡ Some (record { r0 = r0; state = activation.new.state; words = board.new.words })) }
+    ensures relay { activation.new.relay ≡ oral shape }
+{
+    // A sound program is over within as many steps as it has instructions.
+    let limit = verified.program().len() as u32;
     loop {
         match activation.run(verified, context, limit) {
             Stop::Asked(request) => {
                 let reply = board.apply(shape.general, shape.round, request)?;
                 activation.resume(&request, &reply);
             }
-            Stop::Exited(r0) => {
-                return Ok(Exited {
-                    r0,
-                    activation,
-                    board,
-                });
-            }
+            Stop::Exited(r0) => return Ok(r0),
             Stop::Limit => unreachable!(),
         }
     }

@@ -1,10 +1,10 @@
 use Rattle.std.proofs.Common.{◌-◌, length}
 use Rattle.semantics.specs.Relay.{oral}
 use Rattle.trial.proofs.Serving.{IsServing}
-use Rattle.trial.proofs.running.run.Given as goal
+use Rattle.trial.proofs.running.run_on.Given as goal
 
 abbrev pub invariant-loop-request : goal.invariant-loop-request
-invariant-loop-request l = IsServing l.verified l.context (oral l.shape) l.activation l.board
+invariant-loop-request l = IsServing l.verified l.context (oral l.shape) l.initial.board.words l.activation l.board
 
 abbrev pub decreases-loop-request : goal.decreases-loop-request
 decreases-loop-request l = length l.verified - l.activation.state.steps

@@ -3,7 +3,7 @@ use Rattle.std.proofs.Common.{◌≤◌, length, ap, arith}
 use Rattle.semantics.specs.Replies.{words_in}
 use Rattle.semantics.specs.Relay.{oral}
 use Rattle.trial.proofs.Serving.{serves_on, goes_further, served_to}
-use Rattle.trial.proofs.running.run.Goals as goal
+use Rattle.trial.proofs.running.run_on.Goals as goal
 
 pub loop-request-preserved : goal.loop-request-preserved
 loop-request-preserved c =
@@ -12,7 +12,7 @@ loop-request-preserved c =
     let a = c.loop-request.activation in
     let s = c.loop-request.invariant in
     let few : c.len-limit.result ≤ length c.args.verified.now = (let l = c.len-limit.ensures.len in let p = ap length c.program.ensures.same in omega arith) in
-    serves_on program context (oral c.args.shape) c.len-limit.result a c.run.new.self c.resume.new.self c.loop-request.board c.apply.new.self c.in-Asked.request (words_in c.in_ok-reply-in-Asked.reply) s few
+    serves_on program context (oral c.args.shape) _ c.len-limit.result a c.run.new.self c.resume.new.self c.loop-request.board c.apply.new.self c.in-Asked.request (words_in c.in_ok-reply-in-Asked.reply) s few
     (c.in-Asked.ensures.advances s.of_run.answers s.of_run.reached) c.resume.ensures.relay c.resume.ensures.resumed
     (c.resume.ensures.of_run program context c.in-Asked.ensures.of_run) c.in_ok-reply-in-Asked.ensures.answer c.in_ok-reply-in-Asked.ensures.words
 
@@ -23,7 +23,7 @@ loop-request-preserved-in_ok-reply-in-Asked c =
     let a = c.loop-request.activation in
     let s = c.loop-request.invariant in
     let few : c.len-limit.result ≤ length c.args.verified.now = (let l = c.len-limit.ensures.len in let p = ap length c.program.ensures.same in omega arith) in
-    serves_on program context (oral c.args.shape) c.len-limit.result a c.run.new.self c.resume.new.self c.loop-request.board c.apply.new.self c.in-Asked.request (words_in c.in_ok-reply-in-Asked.reply) s few
+    serves_on program context (oral c.args.shape) _ c.len-limit.result a c.run.new.self c.resume.new.self c.loop-request.board c.apply.new.self c.in-Asked.request (words_in c.in_ok-reply-in-Asked.reply) s few
     (c.in-Asked.ensures.advances s.of_run.answers s.of_run.reached) c.resume.ensures.relay c.resume.ensures.resumed
     (c.resume.ensures.of_run program context c.in-Asked.ensures.of_run) c.in_ok-reply-in-Asked.ensures.answer c.in_ok-reply-in-Asked.ensures.words
 
@@ -50,5 +50,5 @@ returns-in-Exited-clause-ending c =
     let a = c.loop-request.activation in
     let s = c.loop-request.invariant in
     let few : c.len-limit.result ≤ length c.args.verified.now = (let l = c.len-limit.ensures.len in let p = ap length c.program.ensures.same in omega arith) in
-    served_to c.args.verified.now c.args.context.now (oral c.args.shape) c.len-limit.result c.in-Exited.r0 a c.run.new.self c.loop-request.board s few
+    served_to c.args.verified.now c.args.context.now (oral c.args.shape) _ c.len-limit.result c.in-Exited.r0 a c.run.new.self c.loop-request.board s few
     (c.in-Exited.ensures.advances s.of_run.answers s.of_run.reached)

@@ -1,0 +1,41 @@
+-- What is said of the bytes of a program (own; the bytes as in RFC 9669, 3).
+use Rattle.std.specs.Prelude.{ℕ, ◌≡◌, List, None, Some}
+use Rattle.insn.specs.declared.insn.Insn.{Insn}
+use Rattle.codec.specs.declared.fault.Fault.{Fault}
+use Rattle.codec.specs.Program.{SpellsProgram, IsFirstFault}
+use Rattle.semantics.specs.Run.{IsSound}
+use Rattle.verify.specs.declared.reason.Reason.{Reason}
+use Rattle.verify.specs.declared.error.VerifyError.TheVariants.{At}
+use Rattle.verify.specs.Judgement.{judged}
+use Rattle.capi.specs.Numbers.{fault_number, reason_number}
+
+-- the bytes spell a program
+pub record IsProgram (bytes : List ℕ) : Type 0 where
+  pub program : List Insn
+  pub spelt : SpellsProgram bytes program
+
+-- the bytes spell a program that the verifier's one function accepts
+pub record IsAccepted (bytes : List ℕ) : Type 0 where
+  pub program : List Insn
+  pub spelt : SpellsProgram bytes program
+  pub accepted : judged program ≡ None
+
+-- the bytes spell a sound program
+pub record IsSoundProgram (bytes : List ℕ) : Type 0 where
+  pub program : List Insn
+  pub spelt : SpellsProgram bytes program
+  pub sound : IsSound program
+
+-- the bytes spell no program: the number of their first fault, and its unit
+pub record IsMisspelt (bytes : List ℕ) (number unit : ℕ) : Type 0 where
+  pub fault : Fault
+  pub first : IsFirstFault bytes fault unit
+  pub numbered : number ≡ fault_number fault
+
+-- the bytes spell a program that the verifier's one function refuses: the number of its reason, and its unit
+pub record IsRefused (bytes : List ℕ) (number unit : ℕ) : Type 0 where
+  pub program : List Insn
+  pub reason : Reason
+  pub spelt : SpellsProgram bytes program
+  pub refused : judged program ≡ Some (At reason unit)
+  pub numbered : number ≡ reason_number reason

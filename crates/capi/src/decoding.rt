@@ -1,0 +1,87 @@
+//! Bytes that are read, verified, explained or shown.
+ghost use Rattle.std.specs.Prelude.{◌≡◌, ◌≢◌, IfOk, IfErr, MatchResult, List, None, string_bytes};
+ghost use Rattle.insn.specs.declared.insn.Insn.{Insn as InsnValue};
+ghost use Rattle.codec.specs.Program.{SpellsProgram};
+ghost use Rattle.semantics.specs.Run.{IsSound};
+ghost use Rattle.verify.specs.Judgement.{judged};
+ghost use Rattle.capi.specs.Bytes.{IsAccepted, IsProgram};
+ghost use Rattle.capi.specs.Refusals.{Refuses, status_of};
+ghost use Rattle.capi.specs.Texts.{IsExplanation, IsAssembly};
+
+use crate::refusal::Refusal;
+use asm::disassemble;
+use codec::{CodecError, decode};
+use explain::explanation;
+use insn::Program;
+use std::alloc::Global;
+use verify::{Verified, VerifyError, verify};
+
+/// The program that the bytes spell.
+fn spelt(alloc: Global, bytes: &[u8]) -> Result<Program, Refusal>
+    ensures spelt { IfOk result (λ program. SpellsProgram bytes.now program) }
+    ensures refused { IfErr result (λ refusal. Refuses bytes.now refusal) }
+    ensures unjudged { IfErr result (λ refusal. status_of refusal ≢ 2) }
+    ensures only { (program : List InsnValue) → SpellsProgram bytes.now program →
+        MatchResult result (λ p. p ≡ program) (λ refusal. refusal ≡ Refusal.Memory) }
+{
+    match decode(alloc, bytes) {
+        Ok(program) => Ok(program),
+        Err(CodecError::At(fault, unit)) => Err(Refusal::Misspelt(fault, unit)),
+        Err(CodecError::Memory) => Err(Refusal::Memory),
+    }
+}
+
+/// The program that the bytes spell, where it is accepted.
+pub fn accepted(alloc: Global, bytes: &[u8]) -> Result<Verified, Refusal>
+    ensures spelt { IfOk result (λ v. SpellsProgram bytes.now v) }
+    ensures accepted { IfOk result (λ v. judged v ≡ None) }
+    ensures sound { IfOk result (λ v. IsSound v) }
+    ensures refused { IfErr result (λ refusal. Refuses bytes.now refusal) }
+    ensures only { IsAccepted bytes.now → IfErr result (λ refusal. refusal ≡ Refusal.Memory) }
+{
+    let program = match spelt(alloc, bytes) {
+        Ok(program) => program,
+        Err(refusal) => return Err(refusal),
+    };
+    match verify(alloc, program) {
+        Ok(verified) => Ok(verified),
+        Err(refused) => match refused.fault {
+            VerifyError::At(reason, unit) => Err(Refusal::Refused(reason, unit)),
+            VerifyError::Memory => Err(Refusal::Memory),
+        },
+    }
+}
+
+/// What the verifier knows at each unit of the program that the bytes spell, and why it refuses it, if so.
+pub fn explained(alloc: Global, bytes: &[u8]) -> Result<String, Refusal>
+    ensures text { IfOk result (λ text. IsExplanation bytes.now (string_bytes text)) }
+    ensures refused { IfErr result (λ refusal. Refuses bytes.now refusal) }
+    ensures unjudged { IfErr result (λ refusal. status_of refusal ≢ 2) }
+    ensures only { IsProgram bytes.now → IfErr result (λ refusal. refusal ≡ Refusal.Memory) }
+{
+    let program = match spelt(alloc, bytes) {
+        Ok(program) => program,
+        Err(refusal) => return Err(refusal),
+    };
+    match explanation(alloc, &program) {
+        Ok(text) => Ok(text),
+        Err(_) => Err(Refusal::Memory),
+    }
+}
+
+/// The assembly text of the program that the bytes spell.
+pub fn assembly(alloc: Global, bytes: &[u8]) -> Result<String, Refusal>
+    ensures text { IfOk result (λ text. IsAssembly bytes.now (string_bytes text)) }
+    ensures refused { IfErr result (λ refusal. Refuses bytes.now refusal) }
+    ensures unjudged { IfErr result (λ refusal. status_of refusal ≢ 2) }
+    ensures only { IsProgram bytes.now → IfErr result (λ refusal. refusal ≡ Refusal.Memory) }
+{
+    let program = match spelt(alloc, bytes) {
+        Ok(program) => program,
+        Err(refusal) => return Err(refusal),
+    };
+    match disassemble(alloc, &program) {
+        Ok(text) => Ok(text),
+        Err(_) => Err(Refusal::Memory),
+    }
+}

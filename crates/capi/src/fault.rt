@@ -1,0 +1,82 @@
+//! Faults as C sees them.
+ghost use Rattle.std.specs.Prelude.{◌≡◌, ◌≤◌, ℕ, List};
+ghost use Rattle.capi.specs.Numbers.{fault_number, reason_number};
+ghost use Rattle.capi.specs.Bytes.{IsMisspelt, IsRefused};
+ghost use Rattle.capi.specs.Refusals.{Refuses, status_of};
+
+use crate::refusal::Refusal;
+use crate::status::{MEMORY, MISSPELT, REFUSED};
+use codec::Fault as Misspelling;
+use verify::Reason;
+
+/// Why bytes are not accepted: the number of the fault, 1 to 8 or 101 to 113, and the unit at which it stands.
+#[repr(C)]
+#[derive(Clone, Copy, Drop)]
+pub struct Fault {
+    pub number: u32,
+    pub unit: usize,
+}
+
+/// 1 to 8 for C1 to C8.
+pub fn fault_number(fault: Misspelling) -> u32
+    ensures { result ≡ fault_number fault }
+{
+    match fault {
+        Misspelling::Length => 1,
+        Misspelling::Opcode => 2,
+        Misspelling::Reserved => 3,
+        Misspelling::WideCut => 4,
+        Misspelling::Register => 5,
+        Misspelling::LeftOut => 6,
+        Misspelling::Operand => 7,
+        Misspelling::Count => 8,
+    }
+}
+
+/// 101 to 113 for V1 to V13.
+pub fn reason_number(reason: Reason) -> u32
+    ensures { result ≡ reason_number reason }
+{
+    match reason {
+        Reason::BackJump => 101,
+        Reason::JumpOut => 102,
+        Reason::JumpInWide => 103,
+        Reason::LastNotExit => 104,
+        Reason::Unset => 105,
+        Reason::FrameWrite => 106,
+        Reason::PointerUse => 107,
+        Reason::Bounds => 108,
+        Reason::StackUnset => 109,
+        Reason::ContextWrite => 110,
+        Reason::Helper => 111,
+        Reason::Argument => 112,
+        Reason::ExitPointer => 113,
+    }
+}
+
+/// Writes a refusal into the fault, and answers its status. Want of memory writes nothing.
+pub fn tell(refusal: Refusal, fault: &mut Fault) -> u32
+    ensures status { result ≡ status_of refusal }
+    ensures least { 1 ≤ result }
+    ensures most { result ≤ 3 }
+    ensures misspelt { (bytes : List ℕ) → Refuses bytes refusal → result ≡ 1 →
+        IsMisspelt bytes fault.new.number fault.new.unit }
+    ensures refused { (bytes : List ℕ) → Refuses bytes refusal → result ≡ 2 →
+        IsRefused bytes fault.new.number fault.new.unit }
+    ensures memory { refusal ≡ Refusal.Memory → result ≡ 3 }
+    ensures untold { result ≡ 3 → fault.new ≡ fault.old }
+{
+    match refusal {
+        Refusal::Misspelt(found, unit) => {
+            fault.number = fault_number(found);
+            fault.unit = unit;
+            MISSPELT
+        }
+        Refusal::Refused(reason, unit) => {
+            fault.number = reason_number(reason);
+            fault.unit = unit;
+            REFUSED
+        }
+        Refusal::Memory => MEMORY,
+    }
+}

@@ -1,0 +1,105 @@
+//! The exports that run programs.
+ghost use Rattle.std.specs.Prelude.{◌≡◌, ◌≤◌, ◌≢◌, ◌*◌, ◌⊎◌, length};
+ghost use Rattle.capi.specs.Bytes.{IsAccepted, IsMisspelt, IsRefused};
+ghost use Rattle.capi.specs.Runs.{IsRun};
+ghost use Rattle.capi.specs.Many.{AreRuns, AreBegun};
+
+use crate::decoding::accepted;
+use crate::fault::{Fault, tell};
+use crate::hosting::{run_each, run_hosted};
+use crate::outcome::Outcome;
+use crate::status::{DONE, LENGTH, MEMORY};
+use board::Board;
+use mem::Context;
+use std::alloc::Global;
+
+/// Verifies a program and runs it once in the context, on a board of these words, which are then those that it left.
+#[unsafe(no_mangle)]
+pub extern "C" fn byzlab_run(
+    alloc: Global,
+    program: &[u8],
+    context: &[u8],
+    board: &mut [u64; 64],
+    fault: &mut Fault,
+    outcome: &mut Outcome,
+) -> u32
+    ensures known { result ≤ 4 }
+
+    // 4 exactly where the context has another length.
+    ensures short { result ≡ 4 → length context.now ≢ 4096 }
+    ensures cut { length context.now ≢ 4096 → result ≡ 4 }
+
+    // 0 exactly where the program is accepted, memory aside; it was then run.
+    ensures accepted { result ≡ 0 → IsAccepted program.now }
+    ensures only { IsAccepted program.now → length context.now ≡ 4096 → (result ≡ 0) ⊎ (result ≡ 3) }
+    ensures ran { result ≡ 0 → IsRun program.now context.now board.old outcome.new.r0 outcome.new.steps board.new }
+
+    // The fault, by its number and unit.
+    ensures misspelt { result ≡ 1 → IsMisspelt program.now fault.new.number fault.new.unit }
+    ensures refused { result ≡ 2 → IsRefused program.now fault.new.number fault.new.unit }
+
+    // Nothing else is written.
+    ensures untold { (result ≡ 1) ⊎ (result ≡ 2) ⊎ (fault.new ≡ fault.old) }
+    ensures unwritten { (result ≡ 0) ⊎ (board.new ≡ board.old) × (outcome.new ≡ outcome.old) }
+{
+    let Some(context) = Context::try_new(context) else {
+        return LENGTH;
+    };
+    let verified = match accepted(alloc, program) {
+        Ok(verified) => verified,
+        Err(refusal) => return tell(refusal, fault),
+    };
+    let mut served = Board::new(alloc, *board);
+    match run_hosted(alloc, &verified, &context, &mut served) {
+        Ok(exited) => {
+            *board = *served.words();
+            *outcome = exited;
+            DONE
+        }
+        Err(_) => MEMORY,
+    }
+}
+
+/// Verifies a program once and runs it in each context, of which so many stand behind one another, each time on a board
+/// of zeros.
+#[unsafe(no_mangle)]
+pub extern "C" fn byzlab_run_many(
+    alloc: Global,
+    program: &[u8],
+    contexts: &[u8],
+    fault: &mut Fault,
+    outcomes: &mut [Outcome],
+) -> u32
+    ensures known { result ≤ 4 }
+
+    // 4 exactly where the contexts have another length.
+    ensures short { result ≡ 4 → length contexts.now ≢ 4096 * length outcomes.old }
+    ensures cut { length contexts.now ≢ 4096 * length outcomes.old → result ≡ 4 }
+
+    // 0 exactly where the program is accepted, memory aside; it was then run in each context.
+    ensures accepted { result ≡ 0 → IsAccepted program.now }
+    ensures only { IsAccepted program.now → length contexts.now ≡ 4096 * length outcomes.old →
+        (result ≡ 0) ⊎ (result ≡ 3) }
+    ensures ran { result ≡ 0 → AreRuns program.now contexts.now outcomes.new }
+
+    // The fault, by its number and unit.
+    ensures misspelt { result ≡ 1 → IsMisspelt program.now fault.new.number fault.new.unit }
+    ensures refused { result ≡ 2 → IsRefused program.now fault.new.number fault.new.unit }
+
+    // Nothing else is written, but outcomes of runs before one to which memory was refused.
+    ensures untold { (result ≡ 1) ⊎ (result ≡ 2) ⊎ (fault.new ≡ fault.old) }
+    ensures unwritten { (result ≡ 0) ⊎ (result ≡ 3) ⊎ (outcomes.new ≡ outcomes.old) }
+    ensures begun { result ≡ 3 → AreBegun program.now contexts.now outcomes.old outcomes.new }
+{
+    if contexts.len() / Context::BYTES != outcomes.len() || contexts.len() % Context::BYTES != 0 {
+        return LENGTH;
+    }
+    let verified = match accepted(alloc, program) {
+        Ok(verified) => verified,
+        Err(refusal) => return tell(refusal, fault),
+    };
+    match run_each(alloc, &verified, contexts, outcomes) {
+        Ok(()) => DONE,
+        Err(_) => MEMORY,
+    }
+}

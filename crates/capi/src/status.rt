@@ -1,0 +1,16 @@
+//! What an export answers.
+
+/// The bytes are accepted, and what was asked is done.
+pub const DONE: u32 = 0;
+
+/// The bytes spell no program.
+pub const MISSPELT: u32 = 1;
+
+/// The bytes spell a program that is refused.
+pub const REFUSED: u32 = 2;
+
+/// Memory was refused; nothing is said of the bytes.
+pub const MEMORY: u32 = 3;
+
+/// The contexts have another length.
+pub const LENGTH: u32 = 4;

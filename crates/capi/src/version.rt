@@ -1,0 +1,9 @@
+ghost use Rattle.std.specs.Prelude.{◌≡◌, ◌+◌, ◌*◌};
+
+/// The version of this library: 10,000 * major + 100 * minor + patch.
+#[unsafe(no_mangle)]
+pub extern "C" fn byzlab_version() -> u32
+    ensures { result ≡ 10000 * 1 + 100 * 0 + 0 }
+{
+    10_000
+}
