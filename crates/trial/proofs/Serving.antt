@@ -1,5 +1,5 @@
 -- Requests that are served in turn.
-use Rattle.std.proofs.Common.{◌≡◌, ℕ, zero, suc, ◌+◌, ◌-◌, ◌<◌, ◌≤◌, List, Option, Some, sym, ap, subst, ◌∙◌, length, arith}
+use Rattle.std.proofs.Common.{◌≡◌, ℕ, zero, suc, ◌+◌, ◌-◌, ◌<◌, ◌≤◌, List, Some, sym, ap, subst, ◌∙◌, length, arith}
 use Rattle.insn.specs.declared.insn.Insn.{Insn}
 use Rattle.semantics.specs.Relay.{Relay}
 use Rattle.semantics.specs.declared.request.Request.{Request}
@@ -15,7 +15,7 @@ use Rattle.board.specs.Ledger.{RecordedBoard}
 use Rattle.machine.specs.Standing.{Standing, before}
 use Rattle.machine.specs.Advance.{IsOfRun, Leads, Requests, Exits}
 use Rattle.machine.proofs.AdvanceLemmas.{fewer}
-use Rattle.trial.specs.Trial.{Ending, served, ending, trial_on}
+use Rattle.trial.specs.Trial.{served, ending, trial_on}
 
 -- what is left of the trial on a board of these words, from where the program stands and the board's words now
 pub record IsServing (program : List Insn) (context : List ℕ) (relay : Relay) (words : List ℕ) (a : Standing) (b : RecordedBoard) : Type 0 where

@@ -4,7 +4,7 @@ use Rattle.std.specs.Prelude.{take, drop, slice_get}
 use Rattle.codec.specs.Program.{SpellsProgram}
 use Rattle.capi.specs.Many.{IsOutcome, context_at}
 use Rattle.capi.specs.declared.outcome.Outcome.{Outcome}
-use Rattle.capi.proofs.Places.{first_set, each_set, all_of_first, as_was}
+use Rattle.capi.proofs.Places.{first_set, each_set, as_was}
 use Rattle.capi.proofs.hosting.run_each.Goals as goal
 
 pub loop-index-init : goal.loop-index-init
