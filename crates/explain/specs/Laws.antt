@@ -6,7 +6,8 @@ use Rattle.verify.specs.declared.error.VerifyError.TheVariants.{At}
 use Rattle.verify.specs.declared.reason.Reason.{Reason}
 use Rattle.verify.specs.Judgement.{judged}
 use Rattle.verify.specs.KnownAtUnits.{known_before}
-use Rattle.explain.specs.Explained.{sentence_of, known_by}
+use Rattle.causes.specs.Marks.{known_by}
+use Rattle.explain.specs.Explained.{sentence_of}
 
 -- each fault that the verifier's one function finds in a program stands at an instruction, and has a sentence
 abbrev pub RefusalsAreTold : Type 0

@@ -2,5 +2,8 @@ pub mod Values
 pub mod Reads
 pub mod Sentences
 pub mod Shortfalls
+pub mod Cells
+pub mod Rules
+pub mod Notes
 pub mod Explained
 pub mod Laws

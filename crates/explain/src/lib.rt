@@ -2,13 +2,16 @@
 #![tactic(auto)]
 
 mod accesses;
+mod cells;
 mod laws;
 mod lines;
 mod misfits;
 mod misuse;
 mod moving;
+mod notes;
 mod reach;
 mod reads;
+mod rules;
 mod sentence;
 mod shortfall;
 mod values;

@@ -1,0 +1,5 @@
+pub mod Contents
+pub mod Left
+pub mod Setting
+pub mod Marks
+pub mod Laws

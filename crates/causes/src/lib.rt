@@ -1,0 +1,19 @@
+//! Where what is known comes from: what each instruction leaves, what a cell holds, and which units set it last.
+#![tactic(auto)]
+
+mod cells;
+mod laws;
+mod left;
+mod loads;
+mod marking;
+mod register;
+mod stack_left;
+mod subject;
+mod ways;
+
+pub use cells::{Content, content};
+pub use laws::left_is_the_transfer;
+pub use left::left_by;
+pub use marking::{Mark, known_by, marks};
+pub use register::{numbered, result_of};
+pub use subject::Subject;
