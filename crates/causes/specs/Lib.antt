@@ -3,3 +3,4 @@ pub mod Left
 pub mod Setting
 pub mod Marks
 pub mod Laws
+pub mod Mends

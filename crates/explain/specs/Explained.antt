@@ -21,9 +21,11 @@ use Rattle.explain.specs.Sentences.{named_text, sentence_text}
 use Rattle.explain.specs.Shortfalls.{shortfall}
 use Rattle.explain.specs.Reads.{read_by}
 use Rattle.explain.specs.Cells.{cells_read}
-use Rattle.explain.specs.Notes.{subject_of, notes_on}
+use Rattle.explain.specs.Notes.{subject_of, notes_below}
+use Rattle.explain.specs.Helps.{wanted, help_on}
+use Rattle.causes.specs.declared.subject.Subject.{Subject}
 use Rattle.causes.specs.Left.{left, result_of}
-use Rattle.causes.specs.Marks.{KnownByUnit, known_by}
+use Rattle.causes.specs.Marks.{KnownByUnit, known_by, marks}
 
 -- ---- what is known at a unit
 
@@ -90,10 +92,15 @@ sentence_of units r unit i known = option_and_then (λ a. shortfall r i a) known
 abbrev pub sentence_line : ℕ → Insn → Sentence → List ℕ
 sentence_line unit i s = place_text unit i ++ codes ": " ++ sentence_text s
 
--- behind it where what it is about comes from
+-- where what it is about comes from, and an edit that mends it
+abbrev pub about_text : KnownByUnit → List Insn → ℕ → Insn → Sentence → Option Subject → List ℕ
+about_text survey program unit i s None = []
+about_text survey program unit i s (Some asked) =
+    notes_below program survey asked (marks program survey asked unit) unit ++ help_on program unit (wanted program (marks program survey asked unit) unit i s)
+
 abbrev pub told_text : KnownByUnit → List Insn → ℕ → Insn → Option Sentence → List ℕ
 told_text survey program unit i None = []
-told_text survey program unit i (Some s) = sentence_line unit i s ++ notes_on program survey unit (subject_of s)
+told_text survey program unit i (Some s) = sentence_line unit i s ++ about_text survey program unit i s (subject_of s)
 
 abbrev pub refused_at : KnownByUnit → List Insn → Reason → ℕ → Option Insn → List ℕ
 refused_at survey program r unit None = []

@@ -5,5 +5,6 @@ pub mod Shortfalls
 pub mod Cells
 pub mod Rules
 pub mod Notes
+pub mod Helps
 pub mod Explained
 pub mod Laws

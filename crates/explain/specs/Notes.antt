@@ -11,7 +11,7 @@ use Rattle.causes.specs.declared.subject.Subject.{Subject}
 use Rattle.causes.specs.declared.subject.Subject.TheVariants as subject
 use Rattle.causes.specs.Contents.{content}
 use Rattle.causes.specs.Left.{left}
-use Rattle.causes.specs.Marks.{KnownByUnit, known_by, marks}
+use Rattle.causes.specs.Marks.{KnownByUnit, known_by}
 use Rattle.explain.specs.declared.sentence.Sentence.{Sentence}
 use Rattle.explain.specs.declared.sentence.Sentence.TheVariants as sentence
 use Rattle.explain.specs.declared.sentence.Misuse.{Misuse}
@@ -101,7 +101,3 @@ abbrev pub notes_below : List Insn → KnownByUnit → Subject → List Mark →
 notes_below program survey asked marked zero = entry_note asked (known_by (survey 0)) (slice_get marked 0)
 notes_below program survey asked marked (suc n) =
     notes_below program survey asked marked n ++ note_text asked n (instruction_at program n) (known_by (survey n)) (slice_get marked n)
-
-abbrev pub notes_on : List Insn → KnownByUnit → ℕ → Option Subject → List ℕ
-notes_on program survey unit None = []
-notes_on program survey unit (Some asked) = notes_below program survey asked (marks program survey asked unit) unit

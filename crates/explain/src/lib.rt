@@ -3,6 +3,7 @@
 
 mod accesses;
 mod cells;
+mod helps;
 mod laws;
 mod lines;
 mod misfits;
@@ -15,6 +16,7 @@ mod rules;
 mod sentence;
 mod shortfall;
 mod values;
+mod wanted;
 
 pub use laws::refusals_are_told;
 pub use lines::explanation;

@@ -1,16 +1,19 @@
 //! The explanation of a program.
 ghost use Rattle.std.specs.Prelude.{◌≡◌, ◌≤◌, ◌<◌, ◌++◌, length, option_map, slice_get, string_bytes, IfOk, OnOk};
 ghost use Rattle.insn.specs.Program.{slots_of};
-ghost use Rattle.explain.specs.Explained.{read_text, reads_text, known_text, place_text, unit_line, result_text, given_text, is_at, line_if, known_lines, target_of, sentence_of, sentence_line, told_text, refused_text, explained};
+ghost use Rattle.explain.specs.Notes.{subject_of};
+ghost use Rattle.explain.specs.Explained.{read_text, reads_text, known_text, place_text, unit_line, result_text, given_text, is_at, line_if, known_lines, target_of, sentence_of, sentence_line, about_text, told_text, refused_text, explained};
 
 use crate::cells::put_cells_read;
-use crate::notes::{put_notes, subject_of};
+use crate::helps::put_help;
+use crate::notes::{put_notes_below, subject_of};
 use crate::reads::{Registers, read_by};
 use crate::sentence::{Sentence, Structure};
 use crate::shortfall::shortfall;
 use crate::values::Known;
+use crate::wanted::wanted;
 use asm::put_instruction;
-use causes::{known_by, left_by, result_of};
+use causes::{known_by, left_by, marks, result_of};
 use insn::{Insn, Program, Reg};
 use std::alloc::{AllocError, Global};
 use verify::{AbsState, Reason, VerifyError, known_at_units};
@@ -197,24 +200,48 @@ fn put_sentence(
     write!(out, ": {sentence}")
 }
 
-/// Adds the sentence of an instruction, if there is one, and where what it is about comes from.
+/// Adds where what a sentence is about comes from, and an edit that mends it.
+fn put_about(
+    alloc: Global,
+    out: &mut String,
+    program: &Program,
+    states: &[Option<AbsState>],
+    at: (usize, &Insn),
+    sentence: Sentence,
+) -> Result<(), AllocError>
+    requires inside { at.0 < length (slots_of program.now) }
+    requires few { at.0 < 4096 }
+    ensures { OnOk result (string_bytes out.new ≡ string_bytes out.old ++ about_text (slice_get states.now) program.now at.0 at.1.now sentence (subject_of sentence)) }
+{
+    let (unit, insn) = at;
+    let Some(asked) = subject_of(sentence) else {
+        return Ok(());
+    };
+    let marks = marks(alloc, program, states, asked, unit)?;
+    put_notes_below(out, program, states, asked, marks.as_slice(), unit)?;
+    let wanted = wanted(program, marks.as_slice(), unit, insn, sentence);
+    put_help(alloc, out, program, unit, wanted)
+}
+
+/// Adds the sentence of an instruction, if there is one, and what is said about it.
 fn put_told(
     alloc: Global,
     out: &mut String,
     program: &Program,
     states: &[Option<AbsState>],
-    unit: usize,
-    insn: &Insn,
+    at: (usize, &Insn),
     sentence: Option<Sentence>,
 ) -> Result<(), AllocError>
-    requires { unit < length (slots_of program.now) }
-    ensures { OnOk result (string_bytes out.new ≡ string_bytes out.old ++ told_text (slice_get states.now) program.now unit insn.now sentence) }
+    requires inside { at.0 < length (slots_of program.now) }
+    requires few { at.0 < 4096 }
+    ensures { OnOk result (string_bytes out.new ≡ string_bytes out.old ++ told_text (slice_get states.now) program.now at.0 at.1.now sentence) }
 {
+    let (unit, insn) = at;
     let Some(sentence) = sentence else {
         return Ok(());
     };
     put_sentence(out, unit, insn, sentence)?;
-    put_notes(alloc, out, program, states, unit, subject_of(sentence))
+    put_about(alloc, out, program, states, at, sentence)
 }
 
 /// Adds why a program is refused, if it is.
@@ -234,7 +261,7 @@ fn put_refused(
         return Ok(());
     };
     let sentence = sentence_of(program.units(), reason, unit, &insn, known_by(states, unit));
-    put_told(alloc, out, program, states, unit, &insn, sentence)
+    put_told(alloc, out, program, states, (unit, &insn), sentence)
 }
 
 /// What is known at each unit of a program to which the verifier comes, what each instruction gives, and why the program is refused, if so. Each line stands behind the end of one.

@@ -1,18 +1,16 @@
 //! Where what a refusal is about comes from, as notes.
-ghost use Rattle.std.specs.Prelude.{◌≡◌, ◌<◌, ◌≤◌, ◌++◌, length, option_map, slice_get, string_bytes, OnOk};
-ghost use Rattle.insn.specs.Program.{slots_of};
-ghost use Rattle.causes.specs.Marks.{known_by};
+ghost use Rattle.std.specs.Prelude.{◌≡◌, ◌++◌, option_map, slice_get, string_bytes, OnOk};
 ghost use Rattle.explain.specs.Rules.{passing_text};
-ghost use Rattle.explain.specs.Notes.{of_misuse, of_access, of_misfit, subject_of, found_text, noted_text, rule_behind, set_note, noted_if, passing_note, note_by, note_text, entry_note, notes_below, notes_on};
+ghost use Rattle.explain.specs.Notes.{of_misuse, of_access, of_misfit, subject_of, found_text, noted_text, rule_behind, set_note, noted_if, passing_note, note_by, note_text, entry_note, notes_below};
 
 use crate::cells::put_run;
 use crate::rules::{is_past, is_signed, limit_bits, rule_text};
 use crate::sentence::{Access, Misfit, Misuse, Named, Sentence};
 use absval::AbsVal;
 use asm::put_instruction;
-use causes::{Mark, Subject, content, known_by, left_by, marks, numbered};
+use causes::{Mark, Subject, content, known_by, left_by, numbered};
 use insn::{Insn, Operand, Program, Reg};
-use std::alloc::{AllocError, Global};
+use std::alloc::AllocError;
 use verify::AbsState;
 use word::{Operation, Width};
 
@@ -247,7 +245,7 @@ fn mark_at(marks: &[Mark], unit: usize) -> Option<Mark>
 }
 
 /// Adds the notes of the units below one.
-fn put_notes_below(
+pub(crate) fn put_notes_below(
     out: &mut String,
     program: &Program,
     states: &[Option<AbsState>],
@@ -264,23 +262,4 @@ fn put_notes_below(
         put_note_at(out, asked, place, insn, state, mark_at(marks, place))?;
     }
     Ok(())
-}
-
-/// Adds the notes of what is asked about at a unit, if anything is.
-pub(crate) fn put_notes(
-    alloc: Global,
-    out: &mut String,
-    program: &Program,
-    states: &[Option<AbsState>],
-    unit: usize,
-    asked: Option<Subject>,
-) -> Result<(), AllocError>
-    requires { unit < length (slots_of program.now) }
-    ensures { OnOk result (string_bytes out.new ≡ string_bytes out.old ++ notes_on program.now (slice_get states.now) unit asked) }
-{
-    let Some(asked) = asked else {
-        return Ok(());
-    };
-    let marks = marks(alloc, program, states, asked, unit)?;
-    put_notes_below(out, program, states, asked, marks.as_slice(), unit)
 }
