@@ -1,7 +1,7 @@
 -- A unit that a distance leads to.
 use Rattle.std.proofs.Common.{◌≡◌, ◌≢◌, ℕ, List, Bool, false, refl, subst}
 use Rattle.std.specs.Prelude.{ℤ, pos, negsuc, slice_get}
-use Rattle.causes.specs.declared.marking.Mark.{Mark}
+use Rattle.causes.specs.declared.mark.Mark.{Mark}
 use Rattle.causes.specs.Marks.{is_open, open_at}
 
 pub open_there : (marks : List Mark) (z : ℤ) (n : ℕ) (b : Bool) → pos n ≡ z → b ≡ is_open (slice_get marks n) → b ≡ open_at marks z

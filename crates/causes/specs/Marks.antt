@@ -4,8 +4,8 @@ use Rattle.insn.specs.declared.insn.Insn.{Insn}
 use Rattle.insn.specs.Program.{slots_of, instruction_at}
 use Rattle.semantics.specs.Plain.{leads_to}
 use Rattle.verify.specs.declared.state.AbsState.{AbsState}
-use Rattle.causes.specs.declared.marking.Mark.{Mark}
-use Rattle.causes.specs.declared.marking.Mark.TheVariants.{Closed, Open, Sets}
+use Rattle.causes.specs.declared.mark.Mark.{Mark}
+use Rattle.causes.specs.declared.mark.Mark.TheVariants.{Closed, Open, Sets}
 use Rattle.causes.specs.declared.subject.Subject.{Subject}
 use Rattle.causes.specs.Setting.{sets}
 

@@ -34,7 +34,7 @@ fn assigned(state: &AbsState, dst: Reg, value: Option<AbsVal>) -> AbsState
 }
 
 /// What is known of what an operation reads of dst: a move reads nothing there.
-fn first(state: &AbsState, operation: Operation, dst: Reg) -> AbsVal
+fn read_first(state: &AbsState, operation: Operation, dst: Reg) -> AbsVal
     ensures { result ≡ first_known state.now.registers operation dst }
 {
     match operation {
@@ -53,7 +53,7 @@ fn computed(
 ) -> AbsState
     ensures { result ≡ left (Insn.Arithmetic width operation dst operand) state.now }
 {
-    let first = first(state, operation, dst);
+    let first = read_first(state, operation, dst);
     let made = absval::arithmetic(width, operation, first, state.operand(operand));
     assigned(state, dst, made)
 }
@@ -75,7 +75,7 @@ fn stored(state: &AbsState, size: Size, base: Reg, offset: i16, source: Operand)
 
 /// The registers behind a call: r0 has the result, and r1 to r5 are unset.
 fn registers_behind(registers: [AbsVal; 11], range: Range) -> [AbsVal; 11]
-    ensures { result ≡ known_behind (within range) registers.entry }
+    ensures { result ≡ known_behind (within range) registers }
 {
     let [_, _, _, _, _, _, r6, r7, r8, r9, r10] = registers;
     let made = AbsVal::Number(NumberSet::within(range));

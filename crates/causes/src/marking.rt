@@ -3,22 +3,12 @@ ghost use Rattle.std.specs.Prelude.{◌≡◌, ◌<◌, length, replicate, slice
 ghost use Rattle.insn.specs.Program.{slots_of, instruction_at};
 ghost use Rattle.causes.specs.Marks.{known_by, mark_of, marks};
 
+use crate::mark::Mark;
 use crate::subject::Subject;
 use crate::ways::leads_open;
 use insn::Program;
 use std::alloc::{AllocError, Global};
 use verify::AbsState;
-
-/// What a unit is to the one that is asked about.
-#[derive(Clone, Copy, Debug, PartialEq, Eq)]
-pub enum Mark {
-    /// No way leads from it there on which what is asked about stays as it is.
-    Closed,
-    /// A way leads from it there on which it stays as it is.
-    Open,
-    /// Its instruction sets it, and behind it a way leads there on which it stays as it is.
-    Sets,
-}
 
 /// What is known at a unit, if anything is.
 pub fn known_by(states: &[Option<AbsState>], unit: usize) -> Option<&AbsState>

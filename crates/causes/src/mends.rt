@@ -138,12 +138,15 @@ fn push_around(
 {
     if unit == place {
         insns.push(first)?;
-        return insns.push(insn);
+        insns.push(insn)?;
+        return Ok(());
     }
     if unit < place {
-        return insns.push(stretched(place, unit, insn));
+        insns.push(stretched(place, unit, insn))?;
+        return Ok(());
     }
-    insns.push(insn)
+    insns.push(insn)?;
+    Ok(())
 }
 
 /// Adds what stands for an instruction of a program with an edit.
@@ -164,10 +167,11 @@ fn push_edited(
             let first = operation_of(operation, dst, operand);
             push_around(insns, first, place, unit, insn)
         }
-        Edit::Instead(operation, dst, operand) if unit == place => {
-            insns.push(operation_of(operation, dst, operand))
+        Edit::Instead(operation, dst, operand) => {
+            let other = operation_of(operation, dst, operand);
+            insns.push(if unit == place { other } else { insn })?;
+            Ok(())
         }
-        Edit::Instead(..) => insns.push(insn),
     }
 }
 

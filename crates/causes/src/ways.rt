@@ -3,7 +3,7 @@ ghost use Rattle.std.specs.Prelude.{◌≡◌, ◌≢◌, ◌<◌, ◌+◌, ◌+
 ghost use Rattle.semantics.specs.Plain.{leads_to};
 ghost use Rattle.causes.specs.Marks.{is_open, open_at, leads_open};
 
-use crate::marking::Mark;
+use crate::mark::Mark;
 use insn::Insn;
 
 /// Whether the mark of a unit is open.

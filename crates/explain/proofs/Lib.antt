@@ -7,3 +7,4 @@ pub mod CallsTold
 pub mod InstructionsTold
 pub mod StructureTold
 pub mod RefusalsTold
+pub mod HelpLaws

@@ -9,8 +9,8 @@ use Rattle.insn.specs.Program.{instruction_at}
 use Rattle.asm.specs.Printing.{insn_text}
 use Rattle.absval.specs.declared.value.AbsVal.{AbsVal}
 use Rattle.absval.specs.declared.value.AbsVal.TheVariants.{Unset, Number, Pointer}
-use Rattle.causes.specs.declared.marking.Mark.{Mark}
-use Rattle.causes.specs.declared.marking.Mark.TheVariants.{Sets}
+use Rattle.causes.specs.declared.mark.Mark.{Mark}
+use Rattle.causes.specs.declared.mark.Mark.TheVariants.{Sets}
 use Rattle.causes.specs.declared.mends.Edit.{Edit}
 use Rattle.causes.specs.declared.mends.Edit.TheVariants.{Before, Instead}
 use Rattle.causes.specs.declared.mends.Trial.{Trial}

@@ -5,8 +5,8 @@ use Rattle.insn.specs.Program.{instruction_at}
 use Rattle.asm.specs.Printing.{insn_text}
 use Rattle.verify.specs.declared.state.AbsState.{AbsState}
 use Rattle.verify.specs.Registers.{known_at}
-use Rattle.causes.specs.declared.marking.Mark.{Mark}
-use Rattle.causes.specs.declared.marking.Mark.TheVariants.{Open, Sets}
+use Rattle.causes.specs.declared.mark.Mark.{Mark}
+use Rattle.causes.specs.declared.mark.Mark.TheVariants.{Open, Sets}
 use Rattle.causes.specs.declared.subject.Subject.{Subject}
 use Rattle.causes.specs.declared.subject.Subject.TheVariants as subject
 use Rattle.causes.specs.Contents.{content}

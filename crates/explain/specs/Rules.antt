@@ -20,7 +20,7 @@ number_rule (Arithmetic w ArithmeticShiftRight dst operand) = codes ": the sign 
 number_rule (Negate w dst) = codes ": what was 0 and more becomes 0, and just below 2^64"
 number_rule (SignExtend w part dst src) = codes ": the sign is extended, so it is small, or just below 2^64"
 number_rule (LoadSigned part dst base offset) = codes ": the sign is extended, so it is small, or just below 2^64"
-number_rule (Load size dst base offset) = codes ": a load gives any number of its size, whatever was stored"
+number_rule (Load size dst base offset) = codes ": a load gives any number of its size"
 number_rule i = []
 
 abbrev pub unset_rule : Insn → List ℕ

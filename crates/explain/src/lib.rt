@@ -18,7 +18,7 @@ mod shortfall;
 mod values;
 mod wanted;
 
-pub use laws::refusals_are_told;
+pub use laws::{helps_mend, refusals_are_told};
 pub use lines::explanation;
 pub use sentence::{Access, Misfit, Misuse, Sentence, Structure};
 pub use values::{Known, Span};

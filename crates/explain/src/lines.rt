@@ -206,14 +206,14 @@ fn put_about(
     out: &mut String,
     program: &Program,
     states: &[Option<AbsState>],
-    at: (usize, &Insn),
+    unit: usize,
+    insn: &Insn,
     sentence: Sentence,
 ) -> Result<(), AllocError>
-    requires inside { at.0 < length (slots_of program.now) }
-    requires few { at.0 < 4096 }
-    ensures { OnOk result (string_bytes out.new ≡ string_bytes out.old ++ about_text (slice_get states.now) program.now at.0 at.1.now sentence (subject_of sentence)) }
+    requires inside { unit < length (slots_of program.now) }
+    requires few { unit < 4096 }
+    ensures { OnOk result (string_bytes out.new ≡ string_bytes out.old ++ about_text (slice_get states.now) program.now unit insn.now sentence (subject_of sentence)) }
 {
-    let (unit, insn) = at;
     let Some(asked) = subject_of(sentence) else {
         return Ok(());
     };
@@ -229,19 +229,19 @@ fn put_told(
     out: &mut String,
     program: &Program,
     states: &[Option<AbsState>],
-    at: (usize, &Insn),
+    unit: usize,
+    insn: &Insn,
     sentence: Option<Sentence>,
 ) -> Result<(), AllocError>
-    requires inside { at.0 < length (slots_of program.now) }
-    requires few { at.0 < 4096 }
-    ensures { OnOk result (string_bytes out.new ≡ string_bytes out.old ++ told_text (slice_get states.now) program.now at.0 at.1.now sentence) }
+    requires inside { unit < length (slots_of program.now) }
+    requires few { unit < 4096 }
+    ensures { OnOk result (string_bytes out.new ≡ string_bytes out.old ++ told_text (slice_get states.now) program.now unit insn.now sentence) }
 {
-    let (unit, insn) = at;
     let Some(sentence) = sentence else {
         return Ok(());
     };
     put_sentence(out, unit, insn, sentence)?;
-    put_about(alloc, out, program, states, at, sentence)
+    put_about(alloc, out, program, states, unit, insn, sentence)
 }
 
 /// Adds why a program is refused, if it is.
@@ -261,7 +261,7 @@ fn put_refused(
         return Ok(());
     };
     let sentence = sentence_of(program.units(), reason, unit, &insn, known_by(states, unit));
-    put_told(alloc, out, program, states, (unit, &insn), sentence)
+    put_told(alloc, out, program, states, unit, &insn, sentence)
 }
 
 /// What is known at each unit of a program to which the verifier comes, what each instruction gives, and why the program is refused, if so. Each line stands behind the end of one.

@@ -19,7 +19,7 @@ fn number_rule(insn: &Insn) -> &'static str
         Insn::SignExtend { .. } | Insn::LoadSigned { .. } => {
             ": the sign is extended, so it is small, or just below 2^64"
         }
-        Insn::Load { .. } => ": a load gives any number of its size, whatever was stored",
+        Insn::Load { .. } => ": a load gives any number of its size",
         _ => "",
     }
 }

@@ -1,5 +1,5 @@
 use Rattle.std.proofs.Common.{◌≡◌, replicate}
-use Rattle.causes.specs.declared.marking.Mark.TheVariants.{Closed}
+use Rattle.causes.specs.declared.mark.Mark.TheVariants.{Closed}
 use Rattle.causes.proofs.marking.closed.Given as goal
 
 abbrev pub invariant-loop-unit : goal.invariant-loop-unit
