@@ -26,8 +26,8 @@ piece_of (Some pointer) = Piece pointer.0 pointer.1
 abbrev pub content_in : Known → ℕ → Content
 content_in known place = if byte_at known.bytes place then Byte else piece_of (pointer_over known place 8)
 
-abbrev pub content : Known → ℕ → Content
-content known place = if nat_lt place stack_size then content_in known place else Unset
+abbrev pub held_at : Known → ℕ → Content
+held_at known place = if nat_lt place stack_size then content_in known place else Unset
 
 abbrev pub same_content : Content → Content → Bool
 same_content Unset Unset = true

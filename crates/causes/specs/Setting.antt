@@ -5,7 +5,7 @@ use Rattle.insn.specs.declared.insn.Insn.TheVariants.{Call}
 use Rattle.verify.specs.declared.state.AbsState.{AbsState}
 use Rattle.causes.specs.declared.subject.Subject.{Subject}
 use Rattle.causes.specs.declared.subject.Subject.TheVariants.{Register, Cell}
-use Rattle.causes.specs.Contents.{content, same_content}
+use Rattle.causes.specs.Contents.{held_at, same_content}
 use Rattle.causes.specs.Left.{left, result_of}
 
 abbrev pub is_result : ℕ → Option ℕ → Bool
@@ -20,4 +20,4 @@ writes i r = is_result r (result_of i)
 -- a register is set where it is written, a cell where something else is left in it than was known of it
 abbrev pub sets : Subject → Insn → AbsState → Bool
 sets (Register r) i a = writes i r
-sets (Cell place) i a = not (same_content (content a.stack place) (content (left i a).stack place))
+sets (Cell place) i a = not (same_content (held_at a.stack place) (held_at (left i a).stack place))

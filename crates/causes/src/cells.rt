@@ -1,7 +1,7 @@
 //! What is known of one cell of a stack.
 ghost use Rattle.std.specs.Prelude.{◌≡◌, ◌≤◌, ◌+◌, IfSome};
 ghost use Rattle.semantics.specs.Memory.{is_same_region};
-ghost use Rattle.causes.specs.Contents.{pointer_from, pointer_over, content_in, content, same_content};
+ghost use Rattle.causes.specs.Contents.{pointer_from, pointer_over, content_in, held_at, same_content};
 
 use absmem::AbsStack;
 use absval::Offset;
@@ -15,7 +15,7 @@ pub enum Content {
     /// A byte.
     Byte,
     /// A piece of the pointer that stands there whole.
-    Piece(Region, Offset),
+    Piece(Region, i32),
 }
 
 /// The pointer that begins at a place.
@@ -50,14 +50,14 @@ fn content_in(stack: &AbsStack, place: usize) -> Content
         return Content::Byte;
     }
     match pointer_over(stack, place, 8) {
-        Some((region, offset)) => Content::Piece(region, offset),
+        Some((region, offset)) => Content::Piece(region, offset.at),
         None => Content::Unset,
     }
 }
 
 /// What is known of a cell.
-pub fn content(stack: &AbsStack, place: usize) -> Content
-    ensures { result ≡ content stack.now place }
+pub fn held_at(stack: &AbsStack, place: usize) -> Content
+    ensures { result ≡ held_at stack.now place }
 {
     if place >= 512 {
         return Content::Unset;
@@ -82,7 +82,7 @@ impl Content {
         match (self, other) {
             (Content::Unset, Content::Unset) | (Content::Byte, Content::Byte) => true,
             (Content::Piece(region, offset), Content::Piece(second, place)) => {
-                is_same_region(region, second) && offset.at == place.at
+                is_same_region(region, second) && offset == place
             }
             _ => false,
         }

@@ -73,14 +73,14 @@ fn stored(state: &AbsState, size: Size, base: Reg, offset: i16, source: Operand)
     left
 }
 
-/// The registers behind a call: r0 has the result, and r1 to r5 are unset.
-fn registers_behind(registers: [AbsVal; 11], range: Range) -> [AbsVal; 11]
-    ensures { result ≡ known_behind (within range) registers }
+/// Behind a call r0 has the result, and r1 to r5 are unset.
+fn put_result(registers: &mut [AbsVal; 11], range: Range)
+    ensures { registers.new ≡ known_behind (within range) registers.old }
 {
-    let [_, _, _, _, _, _, r6, r7, r8, r9, r10] = registers;
-    let made = AbsVal::Number(NumberSet::within(range));
-    let none = AbsVal::Unset;
-    [made, none, none, none, none, none, r6, r7, r8, r9, r10]
+    registers[0] = AbsVal::Number(NumberSet::within(range));
+    for r in 1..6 {
+        registers[r] = AbsVal::Unset;
+    }
 }
 
 /// Behind a call.
@@ -97,7 +97,7 @@ fn called(state: &AbsState, number: i32) -> AbsState
         known_at(&state.registers, 3),
     );
     if let Some(helper) = helper {
-        left.registers = registers_behind(state.registers, helper::result(helper));
+        put_result(&mut left.registers, helper::result(helper));
     }
     left
 }

@@ -13,7 +13,7 @@ mod stack_left;
 mod subject;
 mod ways;
 
-pub use cells::{Content, content};
+pub use cells::{Content, held_at};
 pub use laws::left_is_the_transfer;
 pub use left::left_by;
 pub use mark::Mark;

@@ -30,13 +30,13 @@ fn closed(alloc: Global, units: usize) -> Result<Vec<Mark>, AllocError>
 
 /// The mark of a unit, by those of the units behind it.
 fn mark_of(
-    subject: Subject,
+    subject: &Subject,
     behind: &[Mark],
     program: &Program,
     states: &[Option<AbsState>],
     unit: usize,
 ) -> Mark
-    ensures { result ≡ mark_of subject behind.now unit (instruction_at program.now unit) (known_by (slice_get states.now unit)) }
+    ensures { result ≡ mark_of subject.now behind.now unit (instruction_at program.now unit) (known_by (slice_get states.now unit)) }
 {
     let Some(insn) = program.at(unit) else {
         return Mark::Closed;
@@ -59,11 +59,11 @@ pub fn marks(
     alloc: Global,
     program: &Program,
     states: &[Option<AbsState>],
-    subject: Subject,
+    subject: &Subject,
     unit: usize,
 ) -> Result<Vec<Mark>, AllocError>
     requires { unit < length (slots_of program.now) }
-    ensures { IfOk result (λ vec. vec.items ≡ marks program.now (slice_get states.now) subject unit) }
+    ensures { IfOk result (λ vec. vec.items ≡ marks program.now (slice_get states.now) subject.now unit) }
 {
     let mut marks = closed(alloc, program.units())?;
     marks[unit] = Mark::Open;

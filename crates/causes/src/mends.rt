@@ -126,50 +126,53 @@ impl Edit {
 /// Adds an instruction of a program into which one is put before a place.
 fn push_around(
     insns: &mut Vec<Insn>,
-    first: Insn,
+    first: &Insn,
     place: usize,
     unit: usize,
-    insn: Insn,
+    insn: &Insn,
 ) -> Result<(), AllocError>
     requires unit { unit < 4096 }
     requires place { place < 4096 }
-    ensures pushed { OnOk result (insns.new.items ≡ insns.old.items ++ put_before first place unit insn) }
+    ensures pushed { OnOk result (insns.new.items ≡ insns.old.items ++ put_before first.now place unit insn.now) }
     ensures few { OnOk result (length insns.new.items ≤ length insns.old.items + 2) }
 {
     if unit == place {
-        insns.push(first)?;
-        insns.push(insn)?;
+        insns.push(*first)?;
+        insns.push(*insn)?;
         return Ok(());
     }
     if unit < place {
-        insns.push(stretched(place, unit, insn))?;
+        insns.push(stretched(place, unit, *insn))?;
         return Ok(());
     }
-    insns.push(insn)?;
+    insns.push(*insn)?;
     Ok(())
 }
 
 /// Adds what stands for an instruction of a program with an edit.
 fn push_edited(
     insns: &mut Vec<Insn>,
-    edit: Edit,
+    edit: &Edit,
     place: usize,
     unit: usize,
-    insn: Insn,
+    insn: &Insn,
 ) -> Result<(), AllocError>
     requires unit { unit < 4096 }
     requires place { place < 4096 }
-    ensures pushed { OnOk result (insns.new.items ≡ insns.old.items ++ edited edit place unit insn) }
+    ensures pushed { OnOk result (insns.new.items ≡ insns.old.items ++ edited edit.now place unit insn.now) }
     ensures few { OnOk result (length insns.new.items ≤ length insns.old.items + 2) }
 {
     match edit {
         Edit::Before(operation, dst, operand) => {
-            let first = operation_of(operation, dst, operand);
-            push_around(insns, first, place, unit, insn)
+            let first = operation_of(*operation, *dst, *operand);
+            push_around(insns, &first, place, unit, insn)
         }
-        Edit::Instead(operation, dst, operand) => {
-            let other = operation_of(operation, dst, operand);
-            insns.push(if unit == place { other } else { insn })?;
+        Edit::Instead(operation, dst, operand) if unit == place => {
+            insns.push(operation_of(*operation, *dst, *operand))?;
+            Ok(())
+        }
+        Edit::Instead(..) => {
+            insns.push(*insn)?;
             Ok(())
         }
     }
@@ -179,20 +182,20 @@ fn push_edited(
 fn mended(
     alloc: Global,
     insns: &[Insn],
-    edit: Edit,
+    edit: &Edit,
     place: usize,
 ) -> Result<Vec<Insn>, AllocError>
     requires place { place < 4096 }
     requires units { length (slots_of insns.now) ≤ 4096 }
     requires well { AllByRecursion IsInsn insns.now }
-    ensures mended { IfOk result (λ vec. vec.items ≡ mended edit place 0 insns.now) }
+    ensures mended { IfOk result (λ vec. vec.items ≡ mended edit.now place 0 insns.now) }
     ensures few { IfOk result (λ vec. length vec.items ≤ 8192) }
     ensures well { IfOk result (λ vec. AllByRecursion IsWell vec.items) }
 {
     let mut out = Vec::with_capacity(alloc, insns.len() + 1)?;
     let mut unit = 0;
     for insn in insns {
-        push_edited(&mut out, edit, place, unit, *insn)?;
+        push_edited(&mut out, edit, place, unit, insn)?;
         unit += insn.units() as usize;
     }
     Ok(out)
@@ -228,12 +231,12 @@ fn come(alloc: Global, program: Program, unit: usize) -> Result<Trial, AllocErro
 pub fn tried(
     alloc: Global,
     program: &Program,
-    edit: Edit,
+    edit: &Edit,
     place: usize,
     unit: usize,
 ) -> Result<Trial, AllocError>
     requires { place < 4096 }
-    ensures { IfOk result (λ trial. trial ≡ tried edit place program.now unit) }
+    ensures { IfOk result (λ trial. trial ≡ tried edit.now place program.now unit) }
 {
     let insns = mended(alloc, program.instructions(), edit, place)?;
     let units = units_of(insns.as_slice());

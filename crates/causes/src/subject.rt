@@ -2,7 +2,7 @@
 ghost use Rattle.std.specs.Prelude.{◌≡◌};
 ghost use Rattle.causes.specs.Setting.{writes, sets};
 
-use crate::cells::content;
+use crate::cells::held_at;
 use crate::left::left_by;
 use crate::register::result_of;
 use insn::{Insn, Reg};
@@ -33,18 +33,18 @@ fn changes(insn: &Insn, cell: u16, state: &AbsState) -> bool
     ensures { result ≡ sets (Subject.Cell cell) insn.now state.now }
 {
     let place = usize::from(cell);
-    let before = content(&state.stack, place);
-    !before.is_same(content(&left_by(insn, state).stack, place))
+    let before = held_at(&state.stack, place);
+    !before.is_same(held_at(&left_by(insn, state).stack, place))
 }
 
 impl Subject {
     /// Whether an instruction sets it.
-    pub fn is_set_by(self, insn: &Insn, state: &AbsState) -> bool
-        ensures { result ≡ sets self insn.now state.now }
+    pub fn is_set_by(&self, insn: &Insn, state: &AbsState) -> bool
+        ensures { result ≡ sets self.now insn.now state.now }
     {
         match self {
-            Subject::Register(r) => writes(insn, r),
-            Subject::Cell(cell) => changes(insn, cell, state),
+            Subject::Register(r) => writes(insn, *r),
+            Subject::Cell(cell) => changes(insn, *cell, state),
         }
     }
 }

@@ -17,7 +17,7 @@ use Rattle.verify.specs.declared.state.AbsState.{AbsState}
 use Rattle.verify.specs.Registers.{known_at}
 use Rattle.causes.specs.declared.cells.Content.{Content}
 use Rattle.causes.specs.declared.cells.Content.TheVariants.{Unset, Byte, Piece}
-use Rattle.causes.specs.Contents.{content, same_content}
+use Rattle.causes.specs.Contents.{held_at, same_content}
 use Rattle.explain.specs.declared.reach.Reach.{Reach}
 use Rattle.explain.specs.Values.{region_text}
 use Rattle.explain.specs.Shortfalls.{reach_of}
@@ -40,12 +40,12 @@ run_text first end held = cells_text (pos first -ℤ pos 512) (pos end -ℤ pos 
 abbrev pub runs_text : Known → ℕ → Content → ℕ → ℕ → List ℕ
 runs_text known first held place zero = run_text first place held
 runs_text known first held place (suc n) =
-    if same_content held (content known place) then runs_text known first held (suc place) n
-    else run_text first place held ++ codes ", " ++ runs_text known place (content known place) (suc place) n
+    if same_content held (held_at known place) then runs_text known first held (suc place) n
+    else run_text first place held ++ codes ", " ++ runs_text known place (held_at known place) (suc place) n
 
 abbrev pub of_cells : Known → ℕ → ℕ → List ℕ
 of_cells known place zero = []
-of_cells known place (suc n) = codes " ; " ++ runs_text known place (content known place) (suc place) n
+of_cells known place (suc n) = codes " ; " ++ runs_text known place (held_at known place) (suc place) n
 
 abbrev pub of_window : Known → Option Window → List ℕ
 of_window known None = []

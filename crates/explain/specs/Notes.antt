@@ -9,7 +9,7 @@ use Rattle.causes.specs.declared.mark.Mark.{Mark}
 use Rattle.causes.specs.declared.mark.Mark.TheVariants.{Open, Sets}
 use Rattle.causes.specs.declared.subject.Subject.{Subject}
 use Rattle.causes.specs.declared.subject.Subject.TheVariants as subject
-use Rattle.causes.specs.Contents.{content}
+use Rattle.causes.specs.Contents.{held_at}
 use Rattle.causes.specs.Left.{left}
 use Rattle.causes.specs.Marks.{KnownByUnit, known_by}
 use Rattle.explain.specs.declared.sentence.Sentence.{Sentence}
@@ -59,7 +59,7 @@ subject_of (sentence.Call m) = of_misfit m
 -- what is known of it
 abbrev pub found_text : Subject → AbsState → List ℕ
 found_text (subject.Register r) a = named_text r (known_at a.registers r)
-found_text (subject.Cell place) a = run_text place (suc place) (content a.stack place)
+found_text (subject.Cell place) a = run_text place (suc place) (held_at a.stack place)
 
 -- `note: UNIT INSTRUCTION`
 abbrev pub noted_text : ℕ → Insn → List ℕ

@@ -7,7 +7,7 @@ use crate::reach::{Reach, reach_of};
 use crate::values::region_name;
 use absmem::AbsStack;
 use absval::{AbsVal, Window, window_of};
-use causes::{Content, content};
+use causes::{Content, held_at};
 use helper::Helper;
 use insn::Insn;
 use semantics::Region;
@@ -31,8 +31,7 @@ impl fmt::Display for Held {
             Content::Byte => f.write_str("bytes"),
             Content::Piece(region, offset) => {
                 let region = region_name(region);
-                let at = offset.at;
-                write!(f, "pointer: {region} {at}")
+                write!(f, "pointer: {region} {offset}")
             }
         }
     }
@@ -96,7 +95,7 @@ fn put_runs(
     if more == 0 {
         return put_run(out, first, place, held);
     }
-    let next = content(stack, place);
+    let next = held_at(stack, place);
     if held.is_same(next) {
         return put_runs(out, stack, run, place + 1, more - 1);
     }
@@ -122,7 +121,7 @@ fn put_cells(
     put_runs(
         out,
         stack,
-        (place, content(stack, place)),
+        (place, held_at(stack, place)),
         place + 1,
         size - 1,
     )

@@ -13,9 +13,9 @@ use word::Operation;
 type Help = (Edit, Trial);
 
 /// The unit of the refused instruction in the program with an edit.
-fn unit_behind(edit: Edit, unit: usize) -> usize
+fn unit_behind(edit: &Edit, unit: usize) -> usize
     requires { unit < 4096 }
-    ensures { result ≡ unit_behind edit unit }
+    ensures { result ≡ unit_behind edit.now unit }
 {
     match edit {
         Edit::Before(..) => unit + 1,
@@ -75,7 +75,7 @@ fn best_mask(
         return Ok(None);
     }
     let edit = mask(r, bits);
-    let trial = tried(alloc, program, edit, place, unit + 1)?;
+    let trial = tried(alloc, program, &edit, place, unit + 1)?;
     if let Trial::Accepted = trial {
         return Ok(Some((edit, Trial::Accepted)));
     }
@@ -98,7 +98,7 @@ fn one(
     requires unit { unit < 4096 }
     ensures { IfOk result (λ help. help ≡ best program.now place unit (Choice.One edit)) }
 {
-    let trial = tried(alloc, program, edit, place, unit_behind(edit, unit))?;
+    let trial = tried(alloc, program, &edit, place, unit_behind(&edit, unit))?;
     match trial {
         Trial::Refused => Ok(None),
         Trial::Passes | Trial::Accepted => Ok(Some((edit, trial))),
@@ -124,8 +124,8 @@ fn best(
 }
 
 /// Adds where an edit is made.
-fn put_place(out: &mut String, place: usize, edit: Edit) -> Result<(), AllocError>
-    ensures { OnOk result (string_bytes out.new ≡ string_bytes out.old ++ edit_text place edit) }
+fn put_place(out: &mut String, place: usize, edit: &Edit) -> Result<(), AllocError>
+    ensures { OnOk result (string_bytes out.new ≡ string_bytes out.old ++ edit_text place edit.now) }
 {
     match edit {
         Edit::Before(..) => write!(out, "` before unit {place}"),
@@ -153,7 +153,7 @@ fn put_help_text(out: &mut String, place: usize, help: Option<Help>) -> Result<(
     };
     out.push_str("\nhelp: with `")?;
     put_instruction(out, &edit.insn())?;
-    put_place(out, place, edit)?;
+    put_place(out, place, &edit)?;
     out.push_str(trial_text(trial))
 }
 

@@ -105,11 +105,11 @@ fn put_given(
 }
 
 /// Whether the fault stands at a unit.
-fn is_at(fault: Option<VerifyError>, unit: usize) -> bool
-    ensures { result ≡ is_at fault unit }
+fn is_at(fault: &Option<VerifyError>, unit: usize) -> bool
+    ensures { result ≡ is_at fault.now unit }
 {
     match fault {
-        Some(VerifyError::At(_, place)) => place == unit,
+        Some(VerifyError::At(_, place)) => *place == unit,
         _ => false,
     }
 }
@@ -117,12 +117,12 @@ fn is_at(fault: Option<VerifyError>, unit: usize) -> bool
 /// Adds the line of a unit, if the pass comes there.
 fn put_reached(
     out: &mut String,
-    fault: Option<VerifyError>,
+    fault: &Option<VerifyError>,
     unit: usize,
     insn: &Insn,
     states: &[Option<AbsState>],
 ) -> Result<(), AllocError>
-    ensures { OnOk result (string_bytes out.new ≡ string_bytes out.old ++ line_if fault unit insn.now (slice_get states.now unit)) }
+    ensures { OnOk result (string_bytes out.new ≡ string_bytes out.old ++ line_if fault.now unit insn.now (slice_get states.now unit)) }
 {
     let Some(state) = states.get(unit) else {
         return Ok(());
@@ -137,12 +137,12 @@ fn put_reached(
 /// Adds the lines of the units to which the pass comes.
 fn put_units(
     out: &mut String,
-    fault: Option<VerifyError>,
+    fault: &Option<VerifyError>,
     insns: &[Insn],
     states: &[Option<AbsState>],
 ) -> Result<(), AllocError>
     requires { length (slots_of insns.now) ≤ 4096 }
-    ensures { OnOk result (string_bytes out.new ≡ string_bytes out.old ++ known_lines (slice_get states.now) fault 0 insns.now) }
+    ensures { OnOk result (string_bytes out.new ≡ string_bytes out.old ++ known_lines (slice_get states.now) fault.now 0 insns.now) }
 {
     let mut unit = 0;
     for insn in insns {
@@ -217,8 +217,8 @@ fn put_about(
     let Some(asked) = subject_of(sentence) else {
         return Ok(());
     };
-    let marks = marks(alloc, program, states, asked, unit)?;
-    put_notes_below(out, program, states, asked, marks.as_slice(), unit)?;
+    let marks = marks(alloc, program, states, &asked, unit)?;
+    put_notes_below(out, program, states, &asked, marks.as_slice(), unit)?;
     let wanted = wanted(program, marks.as_slice(), unit, insn, sentence);
     put_help(alloc, out, program, unit, wanted)
 }
@@ -271,7 +271,7 @@ pub fn explanation(alloc: Global, program: &Program) -> Result<String, AllocErro
     let survey = known_at_units(alloc, program)?;
     let mut out = String::with_capacity(alloc, 48 * program.units())?;
     let states = survey.states.as_slice();
-    put_units(&mut out, survey.fault, program.instructions(), states)?;
+    put_units(&mut out, &survey.fault, program.instructions(), states)?;
     put_refused(alloc, &mut out, program, states, survey.fault)?;
     Ok(out)
 }

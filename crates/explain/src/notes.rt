@@ -8,7 +8,7 @@ use crate::rules::{is_past, is_signed, limit_bits, rule_text};
 use crate::sentence::{Access, Misfit, Misuse, Named, Sentence};
 use absval::AbsVal;
 use asm::put_instruction;
-use causes::{Mark, Subject, content, known_by, left_by, numbered};
+use causes::{Mark, Subject, held_at, known_by, left_by, numbered};
 use insn::{Insn, Operand, Program, Reg};
 use std::alloc::AllocError;
 use verify::AbsState;
@@ -64,17 +64,17 @@ pub(crate) fn subject_of(sentence: Sentence) -> Option<Subject>
 }
 
 /// Adds what is known of it.
-fn put_found(out: &mut String, asked: Subject, state: &AbsState) -> Result<(), AllocError>
-    ensures { OnOk result (string_bytes out.new ≡ string_bytes out.old ++ found_text asked state.now) }
+fn put_found(out: &mut String, asked: &Subject, state: &AbsState) -> Result<(), AllocError>
+    ensures { OnOk result (string_bytes out.new ≡ string_bytes out.old ++ found_text asked.now state.now) }
 {
     match asked {
         Subject::Register(r) => {
-            let named = Named(r, state.known(r));
+            let named = Named(*r, state.known(*r));
             write!(out, "{named}")
         }
         Subject::Cell(cell) => {
-            let place = usize::from(cell);
-            put_run(out, place, place + 1, content(&state.stack, place))
+            let place = usize::from(*cell);
+            put_run(out, place, place + 1, held_at(&state.stack, place))
         }
     }
 }
@@ -90,14 +90,14 @@ fn put_noted(out: &mut String, unit: usize, insn: &Insn) -> Result<(), AllocErro
 /// Adds by which rule it is what is known behind an instruction.
 fn put_rule(
     out: &mut String,
-    asked: Subject,
+    asked: &Subject,
     insn: &Insn,
     left: &AbsState,
 ) -> Result<(), AllocError>
-    ensures { OnOk result (string_bytes out.new ≡ string_bytes out.old ++ rule_behind asked insn.now left.now) }
+    ensures { OnOk result (string_bytes out.new ≡ string_bytes out.old ++ rule_behind asked.now insn.now left.now) }
 {
     match asked {
-        Subject::Register(r) => out.push_str(rule_text(insn, left.known(r))),
+        Subject::Register(r) => out.push_str(rule_text(insn, left.known(*r))),
         Subject::Cell(_) => Ok(()),
     }
 }
@@ -105,12 +105,12 @@ fn put_rule(
 /// Adds what an instruction that set it left.
 fn put_set(
     out: &mut String,
-    asked: Subject,
+    asked: &Subject,
     unit: usize,
     insn: &Insn,
     state: &AbsState,
 ) -> Result<(), AllocError>
-    ensures { OnOk result (string_bytes out.new ≡ string_bytes out.old ++ set_note asked unit insn.now state.now) }
+    ensures { OnOk result (string_bytes out.new ≡ string_bytes out.old ++ set_note asked.now unit insn.now state.now) }
 {
     let left = left_by(insn, state);
     put_noted(out, unit, insn)?;
@@ -167,15 +167,15 @@ fn put_passing_register(
 /// Adds an instruction on a way there that tells nothing of it.
 fn put_passing(
     out: &mut String,
-    asked: Subject,
+    asked: &Subject,
     unit: usize,
     insn: &Insn,
     state: &AbsState,
 ) -> Result<(), AllocError>
-    ensures { OnOk result (string_bytes out.new ≡ string_bytes out.old ++ passing_note asked unit insn.now state.now) }
+    ensures { OnOk result (string_bytes out.new ≡ string_bytes out.old ++ passing_note asked.now unit insn.now state.now) }
 {
     match asked {
-        Subject::Register(r) => put_passing_register(out, r, unit, insn, state.known(r)),
+        Subject::Register(r) => put_passing_register(out, *r, unit, insn, state.known(*r)),
         Subject::Cell(_) => Ok(()),
     }
 }
@@ -183,13 +183,13 @@ fn put_passing(
 /// Adds what is noted of a unit by its mark.
 fn put_note(
     out: &mut String,
-    asked: Subject,
+    asked: &Subject,
     unit: usize,
     insn: &Insn,
     state: &AbsState,
     mark: Option<Mark>,
 ) -> Result<(), AllocError>
-    ensures { OnOk result (string_bytes out.new ≡ string_bytes out.old ++ note_by asked unit insn.now state.now mark) }
+    ensures { OnOk result (string_bytes out.new ≡ string_bytes out.old ++ note_by asked.now unit insn.now state.now mark) }
 {
     match mark {
         Some(Mark::Sets) => put_set(out, asked, unit, insn, state),
@@ -201,13 +201,13 @@ fn put_note(
 /// The same where an instruction starts to which a path leads.
 fn put_note_at(
     out: &mut String,
-    asked: Subject,
+    asked: &Subject,
     unit: usize,
     insn: Option<Insn>,
     state: Option<&AbsState>,
     mark: Option<Mark>,
 ) -> Result<(), AllocError>
-    ensures { OnOk result (string_bytes out.new ≡ string_bytes out.old ++ note_text asked unit insn (option_map (λ a. a.now) state.entry) mark) }
+    ensures { OnOk result (string_bytes out.new ≡ string_bytes out.old ++ note_text asked.now unit insn (option_map (λ a. a.now) state.entry) mark) }
 {
     let Some(insn) = insn else {
         return Ok(());
@@ -221,11 +221,11 @@ fn put_note_at(
 /// Adds what is known at the entry, where a way leads from there on which nothing sets it.
 fn put_entry(
     out: &mut String,
-    asked: Subject,
+    asked: &Subject,
     state: Option<&AbsState>,
     mark: Option<Mark>,
 ) -> Result<(), AllocError>
-    ensures { OnOk result (string_bytes out.new ≡ string_bytes out.old ++ entry_note asked (option_map (λ a. a.now) state.entry) mark) }
+    ensures { OnOk result (string_bytes out.new ≡ string_bytes out.old ++ entry_note asked.now (option_map (λ a. a.now) state.entry) mark) }
 {
     let Some(state) = state else {
         return Ok(());
@@ -249,11 +249,11 @@ pub(crate) fn put_notes_below(
     out: &mut String,
     program: &Program,
     states: &[Option<AbsState>],
-    asked: Subject,
+    asked: &Subject,
     marks: &[Mark],
     unit: usize,
 ) -> Result<(), AllocError>
-    ensures { OnOk result (string_bytes out.new ≡ string_bytes out.old ++ notes_below program.now (slice_get states.now) asked marks.now unit) }
+    ensures { OnOk result (string_bytes out.new ≡ string_bytes out.old ++ notes_below program.now (slice_get states.now) asked.now marks.now unit) }
 {
     put_entry(out, asked, known_by(states, 0), mark_at(marks, 0))?;
     for place in 0..unit {

@@ -17,12 +17,12 @@ overflow_add-unit c =
 pub loop-insn-preserved : goal.loop-insn-preserved
 loop-insn-preserved c =
     let lt : c.loop-insn.insn-index < length c.args.insns.now = omega arith in record {
-      so_far = mended_so_far _ _ c.args.insns.now c.args.edit c.args.place c.loop-insn.insn-index _ _ lt c.insn-item.is c.loop-insn.invariant.here c.loop-insn.invariant.so_far c.in_ok-push_edited.ensures.pushed;
+      so_far = mended_so_far _ _ c.args.insns.now c.args.edit.now c.args.place c.loop-insn.insn-index _ _ lt c.insn-item.is c.loop-insn.invariant.here c.loop-insn.invariant.so_far c.in_ok-push_edited.ensures.pushed;
       here = slots_so_far c.args.insns.now c.loop-insn.insn-index _ _ _ lt c.insn-item.is c.loop-insn.invariant.here c.units.ensures.units;
       few = let more = c.in_ok-push_edited.ensures.few in let less = c.loop-insn.invariant.few in omega arith;
     }
 
 pub returns-clause-well : goal.returns-clause-well
 returns-clause-well c =
-    let whole : c.loop-insn.out.items ≡ mended c.args.edit c.args.place 0 c.args.insns.now = search rules in
-    subst (λ (is : List Insn). AllByRecursion IsWell is) (sym whole) (mended_well c.args.edit c.args.place 0 c.args.insns.now c.requires.well)
+    let whole : c.loop-insn.out.items ≡ mended c.args.edit.now c.args.place 0 c.args.insns.now = search rules in
+    subst (λ (is : List Insn). AllByRecursion IsWell is) (sym whole) (mended_well c.args.edit.now c.args.place 0 c.args.insns.now c.requires.well)
