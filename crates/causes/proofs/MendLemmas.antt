@@ -7,7 +7,7 @@ use Rattle.insn.specs.declared.insn.Insn.{Insn}
 use Rattle.insn.specs.declared.insn.Insn.TheVariants.{SignExtend}
 use Rattle.insn.specs.Insn.{units_of, IsInsn, IsWell}
 use Rattle.insn.specs.Program.{slots_of}
-use Rattle.insn.proofs.SlotLemmas.{length-slots_of-cons}
+use Rattle.insn.proofs.SlotLemmas.{length-slots_of-cons, units_bound, units_some}
 use Rattle.causes.specs.declared.mends.Edit.{Edit}
 use Rattle.causes.specs.declared.mends.Edit.TheVariants.{Before, Instead}
 use Rattle.causes.specs.Mends.{stretched, wide, put_before, edited, mended}
@@ -30,6 +30,10 @@ pub mended_so_far : (out new : List Insn) (xs : List Insn) (edit : Edit) (place 
 mended_so_far out new xs edit place k unit i lt at here so_far more =
     let e : unit ≡ 0 + length (slots_of (take k xs)) = omega arith in
     rw (take_more xs k i lt, ← at, mended-push edit place 0 (take k xs) i, ← e, more, so_far) refl
+
+-- an instruction starts within the units of all
+pub starts_inside : (xs : List Insn) (k unit : ℕ) (i : Insn) → k < length xs → i ≡ get_or xs k i → unit ≡ length (slots_of (take k xs)) → unit < length (slots_of xs)
+starts_inside xs k unit i lt at here = omega (arith, units_bound xs k unit (units_of i) i lt at here refl, units_some i)
 
 -- ---- well formed
 

@@ -1,10 +1,8 @@
 //! Programs with one instruction more, or another, and how far the verifier comes in them.
 ghost use Rattle.std.specs.Prelude.{◌≡◌, ◌≤◌, ◌<◌, ◌+◌, ◌++◌, ◌&&◌, ◌+ℤ◌, ◌<ℤ◌, pos, int_lt, length, IfOk, OnOk, IsTrue};
-ghost use Rattle.std.specs.List.{AllByRecursion};
-ghost use Rattle.insn.specs.Insn.{IsInsn, IsWell};
 ghost use Rattle.insn.specs.Program.{slots_of, most_units};
 ghost use Rattle.verify.specs.Judgement.{judged};
-ghost use Rattle.causes.specs.Mends.{longer, stretched, wide, put_by, put_before, edited, mended, comes, tried};
+ghost use Rattle.causes.specs.Mends.{longer, stretched, wide, put_by, edited, mended, comes, tried};
 
 use insn::{Insn, Operand, Program, Reg};
 use std::alloc::{AllocError, Global};
@@ -123,32 +121,6 @@ impl Edit {
     }
 }
 
-/// Adds an instruction of a program into which one is put before a place.
-fn push_around(
-    insns: &mut Vec<Insn>,
-    first: &Insn,
-    place: usize,
-    unit: usize,
-    insn: &Insn,
-) -> Result<(), AllocError>
-    requires unit { unit < 4096 }
-    requires place { place < 4096 }
-    ensures pushed { OnOk result (insns.new.items ≡ insns.old.items ++ put_before first.now place unit insn.now) }
-    ensures few { OnOk result (length insns.new.items ≤ length insns.old.items + 2) }
-{
-    if unit == place {
-        insns.push(*first)?;
-        insns.push(*insn)?;
-        return Ok(());
-    }
-    if unit < place {
-        insns.push(stretched(place, unit, *insn))?;
-        return Ok(());
-    }
-    insns.push(*insn)?;
-    Ok(())
-}
-
 /// Adds what stands for an instruction of a program with an edit.
 fn push_edited(
     insns: &mut Vec<Insn>,
@@ -163,19 +135,17 @@ fn push_edited(
     ensures few { OnOk result (length insns.new.items ≤ length insns.old.items + 2) }
 {
     match edit {
-        Edit::Before(operation, dst, operand) => {
-            let first = operation_of(*operation, *dst, *operand);
-            push_around(insns, &first, place, unit, insn)
+        Edit::Before(operation, dst, operand) if unit == place => {
+            insns.push(operation_of(*operation, *dst, *operand))?;
+            insns.push(*insn)?;
         }
+        Edit::Before(..) if unit < place => insns.push(stretched(place, unit, *insn))?,
         Edit::Instead(operation, dst, operand) if unit == place => {
             insns.push(operation_of(*operation, *dst, *operand))?;
-            Ok(())
         }
-        Edit::Instead(..) => {
-            insns.push(*insn)?;
-            Ok(())
-        }
+        _ => insns.push(*insn)?,
     }
+    Ok(())
 }
 
 /// The instructions of a program with an edit.
@@ -187,10 +157,8 @@ fn mended(
 ) -> Result<Vec<Insn>, AllocError>
     requires place { place < 4096 }
     requires units { length (slots_of insns.now) ≤ 4096 }
-    requires well { AllByRecursion IsInsn insns.now }
     ensures mended { IfOk result (λ vec. vec.items ≡ mended edit.now place 0 insns.now) }
     ensures few { IfOk result (λ vec. length vec.items ≤ 8192) }
-    ensures well { IfOk result (λ vec. AllByRecursion IsWell vec.items) }
 {
     let mut out = Vec::with_capacity(alloc, insns.len() + 1)?;
     let mut unit = 0;
@@ -238,6 +206,7 @@ pub fn tried(
     requires { place < 4096 }
     ensures { IfOk result (λ trial. trial ≡ tried edit.now place program.now unit) }
 {
+    let _units = program.units();
     let insns = mended(alloc, program.instructions(), edit, place)?;
     let units = units_of(insns.as_slice());
     if units == 0 || units > Program::MOST_UNITS {

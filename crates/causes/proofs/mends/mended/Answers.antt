@@ -1,12 +1,15 @@
-use Rattle.std.proofs.Common.{◌≡◌, ◌≤◌, ◌<◌, ◌+◌, ◌*◌, List, arith, length, rules, subst, sym}
-use Rattle.std.specs.List.{AllByRecursion}
-use Rattle.insn.specs.declared.insn.Insn.{Insn}
-use Rattle.insn.specs.Insn.{IsWell}
+use Rattle.std.proofs.Common.{◌≤◌, ◌<◌, ◌+◌, ◌*◌, arith, length}
 use Rattle.insn.specs.Program.{slots_of}
-use Rattle.insn.proofs.SlotLemmas.{slots_so_far, units_bound}
-use Rattle.causes.proofs.MendLemmas.{mended_so_far, mended_well}
-use Rattle.causes.specs.Mends.{mended}
+use Rattle.insn.proofs.SlotLemmas.{slots_so_far, units_bound, length-le-slots_of}
+use Rattle.causes.proofs.MendLemmas.{mended_so_far, starts_inside}
 use Rattle.causes.proofs.mends.mended.Goals as goal
+
+pub push_edited-requires-clause-unit : goal.push_edited-requires-clause-unit
+push_edited-requires-clause-unit c =
+    let lt : c.loop-insn.insn-index < length c.args.insns.now = omega arith in
+    let inside : c.loop-insn.unit < length (slots_of c.args.insns.now) = starts_inside c.args.insns.now c.loop-insn.insn-index _ _ lt c.insn-item.is c.loop-insn.invariant.here in
+    let few = c.requires.units in
+    omega arith
 
 pub overflow_add-unit : goal.overflow_add-unit
 overflow_add-unit c =
@@ -22,7 +25,5 @@ loop-insn-preserved c =
       few = let more = c.in_ok-push_edited.ensures.few in let less = c.loop-insn.invariant.few in omega arith;
     }
 
-pub returns-clause-well : goal.returns-clause-well
-returns-clause-well c =
-    let whole : c.loop-insn.out.items ≡ mended c.args.edit.now c.args.place 0 c.args.insns.now = search rules in
-    subst (λ (is : List Insn). AllByRecursion IsWell is) (sym whole) (mended_well c.args.edit.now c.args.place 0 c.args.insns.now c.requires.well)
+pub returns-clause-few : goal.returns-clause-few
+returns-clause-few c = omega (arith, c.loop-insn.invariant.few, length-le-slots_of c.args.insns.now, c.requires.units)
