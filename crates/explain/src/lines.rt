@@ -100,7 +100,10 @@ fn put_given(
 {
     match state {
         None => Ok(()),
-        Some(state) => put_result(out, result_of(insn), &left_by(insn, state)),
+        Some(state) => {
+            let left = left_by(insn, state);
+            put_result(out, result_of(insn), &left)
+        }
     }
 }
 
@@ -217,10 +220,10 @@ fn put_about(
     let Some(asked) = subject_of(sentence) else {
         return Ok(());
     };
-    let marks = marks(alloc, program, states, &asked, unit)?;
-    put_notes_below(out, program, states, &asked, marks.as_slice(), unit)?;
-    let wanted = wanted(program, marks.as_slice(), unit, insn, sentence);
-    put_help(alloc, out, program, unit, wanted)
+    let marked = marks(alloc, program, states, &asked, unit)?;
+    put_notes_below(out, program, states, &asked, marked.as_slice(), unit)?;
+    let choice = wanted(program, marked.as_slice(), unit, insn, sentence);
+    put_help(alloc, out, program, unit, choice)
 }
 
 /// Adds the sentence of an instruction, if there is one, and what is said about it.
