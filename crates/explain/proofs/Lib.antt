@@ -8,3 +8,4 @@ pub mod InstructionsTold
 pub mod StructureTold
 pub mod RefusalsTold
 pub mod HelpLaws
+pub mod NoteLemmas

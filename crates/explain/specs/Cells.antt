@@ -28,7 +28,7 @@ content_text Byte = codes "bytes"
 content_text (Piece region offset) = codes "pointer: " ++ region_text region ++ codes " " ++ signed_decimal offset
 
 -- cells by their offsets from the end of the stack, the first and the last of them
-abbrev pub cells_text : ℤ → ℤ → List ℕ
+unfoldable pub cells_text : ℤ → ℤ → List ℕ
 cells_text first last =
     if int_eq first last then codes "[" ++ signed_decimal first ++ codes "]" else codes "[" ++ signed_decimal first ++ codes ".." ++ signed_decimal last ++ codes "]"
 
@@ -36,12 +36,15 @@ cells_text first last =
 abbrev pub run_text : ℕ → ℕ → Content → List ℕ
 run_text first end held = cells_text (pos first -ℤ pos 512) (pos end -ℤ pos 513) ++ codes " " ++ content_text held
 
+abbrev pub ended_text : ℕ → ℕ → Content → List ℕ
+ended_text first end held = run_text first end held ++ codes ", "
+
 -- those from a place up to one, all of which hold the same, and so many more from there on
 abbrev pub runs_text : Known → ℕ → Content → ℕ → ℕ → List ℕ
 runs_text known first held place zero = run_text first place held
 runs_text known first held place (suc n) =
     if same_content held (held_at known place) then runs_text known first held (suc place) n
-    else run_text first place held ++ codes ", " ++ runs_text known place (held_at known place) (suc place) n
+    else ended_text first place held ++ runs_text known place (held_at known place) (suc place) n
 
 abbrev pub of_cells : Known → ℕ → ℕ → List ℕ
 of_cells known place zero = []

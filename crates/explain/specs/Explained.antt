@@ -62,10 +62,17 @@ abbrev pub is_at : Option VerifyError → ℕ → Bool
 is_at (Some (At r place)) unit = place == unit
 is_at _ unit = false
 
--- of an instruction to which the verifier comes, with what is known there, and behind it, where it may run
+-- but where the fault stands
+abbrev pub behind_text : Option VerifyError → ℕ → Insn → Option AbsState → List ℕ
+behind_text fault unit i known = if is_at fault unit then [] else given_text i known
+
+abbrev pub whole_line : Option VerifyError → ℕ → Insn → Option AbsState → List ℕ
+whole_line fault unit i known = unit_line unit i known ++ behind_text fault unit i known
+
+-- of an instruction to which the verifier comes
 abbrev pub line_if : Option VerifyError → ℕ → Insn → Option (Option AbsState) → List ℕ
 line_if fault unit i None = []
-line_if fault unit i (Some known) = unit_line unit i known ++ (if is_at fault unit then [] else given_text i known)
+line_if fault unit i (Some known) = whole_line fault unit i known
 
 -- the lines of the instructions from a unit on
 abbrev pub known_lines : KnownByUnit → Option VerifyError → ℕ → List Insn → List ℕ

@@ -22,7 +22,8 @@ use Rattle.explain.specs.declared.sentence.Misfit.{Misfit}
 use Rattle.explain.specs.declared.sentence.Misfit.TheVariants as misfit
 use Rattle.explain.specs.Sentences.{named_text}
 use Rattle.explain.specs.Cells.{run_text}
-use Rattle.explain.specs.Rules.{rule_text, passing_text}
+use Rattle.explain.specs.declared.rules.Passing.{Passing}
+use Rattle.explain.specs.Rules.{rule_text, passing, passing_text}
 
 -- ---- what a sentence is about
 
@@ -73,13 +74,13 @@ rule_behind (subject.Cell place) i a = []
 abbrev pub set_note : Subject → ℕ → Insn → AbsState → List ℕ
 set_note asked unit i a = noted_text unit i ++ codes " -> " ++ found_text asked (left i a) ++ rule_behind asked i (left i a)
 
-abbrev pub noted_if : ℕ → Insn → Option (List ℕ) → List ℕ
+abbrev pub noted_if : ℕ → Insn → Option Passing → List ℕ
 noted_if unit i None = []
-noted_if unit i (Some text) = noted_text unit i ++ text
+noted_if unit i (Some tells) = noted_text unit i ++ passing_text tells
 
 -- an instruction on a way there that tells nothing of it
 abbrev pub passing_note : Subject → ℕ → Insn → AbsState → List ℕ
-passing_note (subject.Register r) unit i a = noted_if unit i (passing_text r i (known_at a.registers r))
+passing_note (subject.Register r) unit i a = noted_if unit i (passing r i (known_at a.registers r))
 passing_note (subject.Cell place) unit i a = []
 
 abbrev pub note_by : Subject → ℕ → Insn → AbsState → Option Mark → List ℕ

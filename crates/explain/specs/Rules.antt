@@ -9,6 +9,8 @@ use Rattle.word.specs.Arithmetic.{bits_of}
 use Rattle.insn.specs.declared.insn.Insn.{Insn}
 use Rattle.insn.specs.declared.insn.Insn.TheVariants.{Arithmetic, Negate, SignExtend, Load, LoadSigned, Call, Branch}
 use Rattle.insn.specs.declared.insn.Operand.TheVariants.{Register}
+use Rattle.explain.specs.declared.rules.Passing.{Passing}
+use Rattle.explain.specs.declared.rules.Passing.TheVariants.{Test, Copied}
 use Rattle.absval.specs.NumberSets.{greatest}
 use Rattle.absval.specs.declared.value.AbsVal.{AbsVal}
 use Rattle.absval.specs.declared.value.AbsVal.TheVariants.{Unset, Number, Pointer}
@@ -51,15 +53,13 @@ abbrev pub is_past : ℕ → AbsVal → Bool
 is_past bits (Number n) = nat_lt (2 ^ bits - 1) (greatest n)
 is_past bits value = false
 
-abbrev pub test_text : ℕ → List ℕ
-test_text bits = codes ": such a test tells only of numbers that are known to be below 2^" ++ decimal bits
-
-abbrev pub copy_text : ℕ → List ℕ
-copy_text dst = codes ": what is tested of r" ++ decimal dst ++ codes " is not known of it"
-
 -- a test of the register that tells nothing of it, or a copy of it, of which another test does not
-abbrev pub passing_text : ℕ → Insn → AbsVal → Option (List ℕ)
-passing_text r (Branch w condition dst operand distance) value =
-    if (dst == r) && is_past (limit_bits w (is_signed condition)) value then Some (test_text (limit_bits w (is_signed condition))) else None
-passing_text r (Arithmetic W64 Move dst (Register src)) value = if src == r then Some (copy_text dst) else None
-passing_text r i value = None
+abbrev pub passing : ℕ → Insn → AbsVal → Option Passing
+passing r (Branch w condition dst operand distance) value =
+    if (dst == r) && is_past (limit_bits w (is_signed condition)) value then Some (Test (limit_bits w (is_signed condition))) else None
+passing r (Arithmetic W64 Move dst (Register src)) value = if src == r then Some (Copied dst) else None
+passing r i value = None
+
+abbrev pub passing_text : Passing → List ℕ
+passing_text (Test bits) = codes ": such a test tells only of numbers that are known to be below 2^" ++ decimal bits
+passing_text (Copied dst) = codes ": what is tested of r" ++ decimal dst ++ codes " is not known of it"

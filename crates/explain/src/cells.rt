@@ -1,7 +1,7 @@
 //! Cells of the stack that are read, as text.
-ghost use Rattle.std.specs.Prelude.{◌≡◌, ◌≤◌, ◌+◌, ◌++◌, IfSome, OnOk, string_bytes};
+ghost use Rattle.std.specs.Prelude.{◌≡◌, ◌≤◌, ◌+◌, ◌-ℤ◌, ◌++◌, pos, IfSome, OnOk, string_bytes};
 ghost use Rattle.semantics.specs.Call.{helper_of};
-ghost use Rattle.explain.specs.Cells.{run_text, runs_text, of_cells, of_window, of_reach, is_row, reads_cells, cells_read};
+ghost use Rattle.explain.specs.Cells.{run_text, ended_text, runs_text, of_cells, of_window, of_reach, is_row, reads_cells, cells_read};
 
 use crate::reach::{Reach, reach_of};
 use crate::values::region_name;
@@ -50,6 +50,7 @@ impl fmt::Display for Cells {
 
     ghost output = { λ cells. Some (cells_text cells.first cells.last) };
 
+    #[tactic(auto, unfolding(crate::specs::Cells::cells_text))]
     fn fmt<W: fmt::Write>(&self, f: &mut fmt::Formatter<W>) -> fmt::Result {
         let Cells { first, last } = *self;
         if first == last {
@@ -58,6 +59,22 @@ impl fmt::Display for Cells {
             write!(f, "[{first}..{last}]")
         }
     }
+}
+
+/// How far a cell lies from the end of the stack.
+fn offset_of(place: usize) -> i64
+    requires { place ≤ 65536 }
+    ensures { result ≡ pos place -ℤ pos 512 }
+{
+    place as i64 - 512
+}
+
+/// How far the last cell before a place does.
+fn offset_before(place: usize) -> i64
+    requires { place ≤ 65536 }
+    ensures { result ≡ pos place -ℤ pos 513 }
+{
+    place as i64 - 513
 }
 
 /// Adds the cells from one place up to another, and what they hold.
@@ -72,11 +89,26 @@ pub(crate) fn put_run(
     ensures { OnOk result (string_bytes out.new ≡ string_bytes out.old ++ run_text first end content) }
 {
     let cells = Cells {
-        first: first as i64 - 512,
-        last: end as i64 - 513,
+        first: offset_of(first),
+        last: offset_before(end),
     };
     let held = Held(content);
     write!(out, "{cells} {held}")
+}
+
+/// The same, with others behind.
+fn put_ended(
+    out: &mut String,
+    first: usize,
+    end: usize,
+    content: Content,
+) -> Result<(), AllocError>
+    requires first { first ≤ 65536 }
+    requires end { end ≤ 65536 }
+    ensures { OnOk result (string_bytes out.new ≡ string_bytes out.old ++ ended_text first end content) }
+{
+    put_run(out, first, end, content)?;
+    out.push_str(", ")
 }
 
 /// Adds the cells from a place up to one, all of which hold the same, and so many more from there on.
@@ -99,8 +131,7 @@ fn put_runs(
     if held.is_same(next) {
         return put_runs(out, stack, run, place + 1, more - 1);
     }
-    put_run(out, first, place, held)?;
-    out.push_str(", ")?;
+    put_ended(out, first, place, held)?;
     put_runs(out, stack, (place, next), place + 1, more - 1)
 }
 

@@ -57,6 +57,17 @@ fn accepted_or(edit: Edit, rest: Option<Help>) -> Option<Help>
     }
 }
 
+/// This edit or a later one.
+fn better(edit: Edit, trial: Trial, rest: Option<Help>) -> Option<Help>
+    ensures { result ≡ better edit trial rest }
+{
+    match trial {
+        Trial::Accepted => Some((edit, Trial::Accepted)),
+        Trial::Passes => accepted_or(edit, rest),
+        Trial::Refused => rest,
+    }
+}
+
 /// The best of the masks of up to so many bits.
 fn best_mask(
     alloc: Global,
@@ -80,10 +91,7 @@ fn best_mask(
         return Ok(Some((edit, Trial::Accepted)));
     }
     let rest = best_mask(alloc, program, place, unit, r, bits - 1)?;
-    match trial {
-        Trial::Refused => Ok(rest),
-        _ => Ok(accepted_or(edit, rest)),
-    }
+    Ok(better(edit, trial, rest))
 }
 
 /// An edit, where it mends the refusal.
@@ -99,10 +107,7 @@ fn one(
     ensures { IfOk result (λ help. help ≡ best program.now place unit (Choice.One edit)) }
 {
     let trial = tried(alloc, program, &edit, place, unit_behind(&edit, unit))?;
-    match trial {
-        Trial::Refused => Ok(None),
-        Trial::Passes | Trial::Accepted => Ok(Some((edit, trial))),
-    }
+    Ok(better(edit, trial, None))
 }
 
 /// The best edit of those that are wanted.

@@ -2,7 +2,7 @@
 ghost use Rattle.std.specs.Prelude.{◌≡◌, ◌≤◌, ◌<◌, ◌++◌, length, option_map, slice_get, string_bytes, IfOk, OnOk};
 ghost use Rattle.insn.specs.Program.{slots_of};
 ghost use Rattle.explain.specs.Notes.{subject_of};
-ghost use Rattle.explain.specs.Explained.{read_text, reads_text, known_text, place_text, unit_line, result_text, given_text, is_at, line_if, known_lines, target_of, sentence_of, sentence_line, about_text, told_text, refused_text, explained};
+ghost use Rattle.explain.specs.Explained.{read_text, reads_text, known_text, place_text, unit_line, result_text, given_text, is_at, behind_text, whole_line, line_if, known_lines, target_of, sentence_of, sentence_line, about_text, told_text, refused_text, explained};
 
 use crate::cells::put_cells_read;
 use crate::helps::put_help;
@@ -117,6 +117,36 @@ fn is_at(fault: &Option<VerifyError>, unit: usize) -> bool
     }
 }
 
+/// Adds what is known of the result, but where the fault stands.
+fn put_behind(
+    out: &mut String,
+    fault: &Option<VerifyError>,
+    unit: usize,
+    insn: &Insn,
+    state: &Option<AbsState>,
+) -> Result<(), AllocError>
+    ensures { OnOk result (string_bytes out.new ≡ string_bytes out.old ++ behind_text fault.now unit insn.now state.now) }
+{
+    if is_at(fault, unit) {
+        return Ok(());
+    }
+    put_given(out, insn, state.as_ref())
+}
+
+/// Adds the line of a unit, with what is known of the result.
+fn put_line(
+    out: &mut String,
+    fault: &Option<VerifyError>,
+    unit: usize,
+    insn: &Insn,
+    state: &Option<AbsState>,
+) -> Result<(), AllocError>
+    ensures { OnOk result (string_bytes out.new ≡ string_bytes out.old ++ whole_line fault.now unit insn.now state.now) }
+{
+    put_unit(out, unit, insn, state.as_ref())?;
+    put_behind(out, fault, unit, insn, state)
+}
+
 /// Adds the line of a unit, if the pass comes there.
 fn put_reached(
     out: &mut String,
@@ -127,14 +157,10 @@ fn put_reached(
 ) -> Result<(), AllocError>
     ensures { OnOk result (string_bytes out.new ≡ string_bytes out.old ++ line_if fault.now unit insn.now (slice_get states.now unit)) }
 {
-    let Some(state) = states.get(unit) else {
-        return Ok(());
-    };
-    put_unit(out, unit, insn, state.as_ref())?;
-    if is_at(fault, unit) {
-        return Ok(());
+    match states.get(unit) {
+        Some(state) => put_line(out, fault, unit, insn, state),
+        None => Ok(()),
     }
-    put_given(out, insn, state.as_ref())
 }
 
 /// Adds the lines of the units to which the pass comes.
@@ -211,11 +237,11 @@ fn put_about(
     states: &[Option<AbsState>],
     unit: usize,
     insn: &Insn,
-    sentence: Sentence,
+    sentence: &Sentence,
 ) -> Result<(), AllocError>
     requires inside { unit < length (slots_of program.now) }
     requires few { unit < 4096 }
-    ensures { OnOk result (string_bytes out.new ≡ string_bytes out.old ++ about_text (slice_get states.now) program.now unit insn.now sentence (subject_of sentence)) }
+    ensures { OnOk result (string_bytes out.new ≡ string_bytes out.old ++ about_text (slice_get states.now) program.now unit insn.now sentence.now (subject_of sentence.now)) }
 {
     let Some(asked) = subject_of(sentence) else {
         return Ok(());
@@ -234,16 +260,16 @@ fn put_told(
     states: &[Option<AbsState>],
     unit: usize,
     insn: &Insn,
-    sentence: Option<Sentence>,
+    sentence: &Option<Sentence>,
 ) -> Result<(), AllocError>
     requires inside { unit < length (slots_of program.now) }
     requires few { unit < 4096 }
-    ensures { OnOk result (string_bytes out.new ≡ string_bytes out.old ++ told_text (slice_get states.now) program.now unit insn.now sentence) }
+    ensures { OnOk result (string_bytes out.new ≡ string_bytes out.old ++ told_text (slice_get states.now) program.now unit insn.now sentence.now) }
 {
     let Some(sentence) = sentence else {
         return Ok(());
     };
-    put_sentence(out, unit, insn, sentence)?;
+    put_sentence(out, unit, insn, *sentence)?;
     put_about(alloc, out, program, states, unit, insn, sentence)
 }
 
@@ -264,7 +290,7 @@ fn put_refused(
         return Ok(());
     };
     let sentence = sentence_of(program.units(), reason, unit, &insn, known_by(states, unit));
-    put_told(alloc, out, program, states, unit, &insn, sentence)
+    put_told(alloc, out, program, states, unit, &insn, &sentence)
 }
 
 /// What is known at each unit of a program to which the verifier comes, what each instruction gives, and why the program is refused, if so. Each line stands behind the end of one.

@@ -1,18 +1,15 @@
 //! Where what a refusal is about comes from, as notes.
 ghost use Rattle.std.specs.Prelude.{◌≡◌, ◌++◌, option_map, slice_get, string_bytes, OnOk};
-ghost use Rattle.explain.specs.Rules.{passing_text};
 ghost use Rattle.explain.specs.Notes.{of_misuse, of_access, of_misfit, subject_of, found_text, noted_text, rule_behind, set_note, noted_if, passing_note, note_by, note_text, entry_note, notes_below};
 
 use crate::cells::put_run;
-use crate::rules::{is_past, is_signed, limit_bits, rule_text};
+use crate::rules::{Passing, passing, rule_text};
 use crate::sentence::{Access, Misfit, Misuse, Named, Sentence};
-use absval::AbsVal;
 use asm::put_instruction;
 use causes::{Mark, Subject, held_at, known_by, left_by, numbered};
-use insn::{Insn, Operand, Program, Reg};
+use insn::{Insn, Program};
 use std::alloc::AllocError;
 use verify::AbsState;
-use word::{Operation, Width};
 
 /// What a misuse is about.
 fn of_misuse(misuse: Misuse) -> Option<Subject>
@@ -52,10 +49,10 @@ fn of_misfit(misfit: Misfit) -> Option<Subject>
 }
 
 /// What a sentence is about.
-pub(crate) fn subject_of(sentence: Sentence) -> Option<Subject>
-    ensures { result ≡ subject_of sentence }
+pub(crate) fn subject_of(sentence: &Sentence) -> Option<Subject>
+    ensures { result ≡ subject_of sentence.now }
 {
-    match sentence {
+    match *sentence {
         Sentence::Structure(_) => None,
         Sentence::Register(misuse) => of_misuse(misuse),
         Sentence::Memory(access) => of_access(access),
@@ -119,49 +116,20 @@ fn put_set(
     put_rule(out, asked, insn, &left)
 }
 
-/// Adds a test of a register that tells nothing of it, or a copy of it.
-fn put_passing_register(
+/// Adds an instruction that tells nothing of a register, if it is one.
+fn put_if(
     out: &mut String,
-    r: Reg,
     unit: usize,
     insn: &Insn,
-    value: AbsVal,
+    tells: Option<Passing>,
 ) -> Result<(), AllocError>
-    ensures { OnOk result (string_bytes out.new ≡ string_bytes out.old ++ noted_if unit insn.now (passing_text r insn.now value)) }
+    ensures { OnOk result (string_bytes out.new ≡ string_bytes out.old ++ noted_if unit insn.now tells) }
 {
-    match insn {
-        Insn::Branch {
-            width,
-            condition,
-            dst,
-            ..
-        } => {
-            let signed = is_signed(*condition);
-            if dst.number() == r.number() && is_past(*width, signed, value) {
-                put_noted(out, unit, insn)?;
-                let bits = limit_bits(*width, signed);
-                write!(
-                    out,
-                    ": such a test tells only of numbers that are known to be below 2^{bits}"
-                )?;
-            }
-            Ok(())
-        }
-        Insn::Arithmetic {
-            width: Width::W64,
-            operation: Operation::Move,
-            dst,
-            operand: Operand::Register(src),
-        } => {
-            if src.number() == r.number() {
-                put_noted(out, unit, insn)?;
-                let dst = dst.number();
-                write!(out, ": what is tested of r{dst} is not known of it")?;
-            }
-            Ok(())
-        }
-        _ => Ok(()),
-    }
+    let Some(tells) = tells else {
+        return Ok(());
+    };
+    put_noted(out, unit, insn)?;
+    write!(out, "{tells}")
 }
 
 /// Adds an instruction on a way there that tells nothing of it.
@@ -175,7 +143,7 @@ fn put_passing(
     ensures { OnOk result (string_bytes out.new ≡ string_bytes out.old ++ passing_note asked.now unit insn.now state.now) }
 {
     match asked {
-        Subject::Register(r) => put_passing_register(out, *r, unit, insn, state.known(*r)),
+        Subject::Register(r) => put_if(out, unit, insn, passing(*r, insn, state.known(*r))),
         Subject::Cell(_) => Ok(()),
     }
 }

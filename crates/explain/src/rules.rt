@@ -1,9 +1,10 @@
 //! Which rule of the verifier an instruction meets that leaves a register unknown, or tells nothing of it.
 ghost use Rattle.std.specs.Prelude.{◌≡◌, ◌^◌, ◌-◌};
-ghost use Rattle.explain.specs.Rules.{number_rule, unset_rule, rule_text, is_signed, limit_bits, is_past};
+ghost use Rattle.explain.specs.Rules.{number_rule, unset_rule, rule_text, is_signed, limit_bits, is_past, passing};
 
 use absval::AbsVal;
-use insn::Insn;
+use insn::{Insn, Operand, Reg};
+use std::fmt;
 use word::{Condition, Operation, Width};
 
 /// Of one that left a number.
@@ -46,7 +47,7 @@ pub(crate) fn rule_text(insn: &Insn, value: AbsVal) -> &'static str
 }
 
 /// Whether a condition reads its numbers as signed.
-pub(crate) fn is_signed(condition: Condition) -> bool
+fn is_signed(condition: Condition) -> bool
     ensures { result ≡ is_signed condition }
 {
     match condition {
@@ -59,7 +60,7 @@ pub(crate) fn is_signed(condition: Condition) -> bool
 }
 
 /// A test tells of numbers that are known to be below 2 to so many.
-pub(crate) fn limit_bits(width: Width, signed: bool) -> u8
+fn limit_bits(width: Width, signed: bool) -> u8
     ensures { result ≡ limit_bits width signed }
 {
     match (width, signed) {
@@ -83,11 +84,74 @@ fn limit(width: Width, signed: bool) -> u64
 }
 
 /// Whether a number may be one of which a test does not tell.
-pub(crate) fn is_past(width: Width, signed: bool, value: AbsVal) -> bool
+fn is_past(width: Width, signed: bool, value: AbsVal) -> bool
     ensures { result ≡ is_past (limit_bits width signed) value }
 {
     let AbsVal::Number(numbers) = value else {
         return false;
     };
     numbers.greatest() > limit(width, signed)
+}
+
+/// An instruction that tells nothing of a register.
+#[derive(Clone, Copy, Debug, PartialEq, Eq)]
+pub(crate) enum Passing {
+    /// A test, which tells of numbers that are known to be below 2 to so many.
+    Test(u8),
+    /// A copy to this register.
+    Copied(Reg),
+}
+
+impl fmt::Display for Passing {
+    ghost use Rattle.std.specs.Prelude.{Some};
+    ghost use Rattle.explain.specs.Rules.{passing_text};
+
+    ghost output = { λ tells. Some (passing_text tells) };
+
+    fn fmt<W: fmt::Write>(&self, f: &mut fmt::Formatter<W>) -> fmt::Result {
+        match *self {
+            Passing::Test(bits) => {
+                write!(
+                    f,
+                    ": such a test tells only of numbers that are known to be below 2^{bits}"
+                )
+            }
+            Passing::Copied(dst) => {
+                let dst = dst.number();
+                write!(f, ": what is tested of r{dst} is not known of it")
+            }
+        }
+    }
+}
+
+/// A test of a register that tells nothing of it, or a copy of it, of which another test does not.
+pub(crate) fn passing(r: Reg, insn: &Insn, value: AbsVal) -> Option<Passing>
+    ensures { result ≡ passing r insn.now value }
+{
+    match insn {
+        Insn::Branch {
+            width,
+            condition,
+            dst,
+            ..
+        } => {
+            let signed = is_signed(*condition);
+            if dst.number() == r.number() && is_past(*width, signed, value) {
+                return Some(Passing::Test(limit_bits(*width, signed)));
+            }
+            None
+        }
+        Insn::Arithmetic {
+            width: Width::W64,
+            operation: Operation::Move,
+            dst,
+            operand: Operand::Register(src),
+        } => {
+            if src.number() == r.number() {
+                return Some(Passing::Copied(*dst));
+            }
+            None
+        }
+        _ => None,
+    }
 }

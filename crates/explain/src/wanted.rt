@@ -1,6 +1,6 @@
 //! Which edits are to be tried for a sentence.
 ghost use Rattle.std.specs.Prelude.{◌≡◌, ◌<◌, ◌≤◌, IfSome, slice_get};
-ghost use Rattle.explain.specs.Helps.{moving_mask, exchanged, for_misuse, for_misfit, is_set, last_set, moved_at, for_access, wanted};
+ghost use Rattle.explain.specs.Helps.{moving_mask, exchanged, for_misuse, for_argument, for_misfit, is_set, last_set, moved_at, for_access, wanted};
 
 use crate::sentence::{Access, Misfit, Misuse, Sentence};
 use absval::AbsVal;
@@ -66,13 +66,24 @@ fn for_misuse(unit: usize, insn: &Insn, misuse: Misuse) -> Option<(usize, Choice
     }
 }
 
+/// For an argument.
+fn for_argument(unit: usize, r: Reg, value: AbsVal) -> Option<(usize, Choice)>
+    ensures wanted { result ≡ for_argument unit r value }
+    ensures below { IfSome result (λ want. want.0 ≤ unit) }
+{
+    match value {
+        AbsVal::Number(_) => Some((unit, Choice::Mask(r))),
+        AbsVal::Unset | AbsVal::Pointer(..) => None,
+    }
+}
+
 /// For a call.
 fn for_misfit(unit: usize, misfit: Misfit) -> Option<(usize, Choice)>
     ensures wanted { result ≡ for_misfit unit misfit }
     ensures below { IfSome result (λ want. want.0 ≤ unit) }
 {
     match misfit {
-        Misfit::Above(r, AbsVal::Number(_), _) => Some((unit, Choice::Mask(r))),
+        Misfit::Above(r, value, _) => for_argument(unit, r, value),
         _ => None,
     }
 }
@@ -106,7 +117,9 @@ fn moved_at(program: &Program, unit: usize) -> Option<(usize, Choice)>
     ensures wanted { result ≡ moved_at program.now unit }
     ensures below { IfSome result (λ want. want.0 ≤ unit) }
 {
-    let insn = program.at(unit)?;
+    let Some(insn) = program.at(unit) else {
+        return None;
+    };
     moving_mask(unit, &insn)
 }
 
@@ -132,12 +145,12 @@ pub(crate) fn wanted(
     marks: &[Mark],
     unit: usize,
     insn: &Insn,
-    sentence: Sentence,
+    sentence: &Sentence,
 ) -> Option<(usize, Choice)>
-    ensures wanted { result ≡ wanted program.now marks.now unit insn.now sentence }
+    ensures wanted { result ≡ wanted program.now marks.now unit insn.now sentence.now }
     ensures below { IfSome result (λ want. want.0 ≤ unit) }
 {
-    match sentence {
+    match *sentence {
         Sentence::Structure(_) => None,
         Sentence::Register(misuse) => for_misuse(unit, insn, misuse),
         Sentence::Memory(access) => for_access(program, marks, unit, access),
