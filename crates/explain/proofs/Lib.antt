@@ -9,3 +9,4 @@ pub mod StructureTold
 pub mod RefusalsTold
 pub mod HelpLaws
 pub mod NoteLemmas
+pub mod AboutLemmas

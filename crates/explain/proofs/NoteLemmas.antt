@@ -1,6 +1,6 @@
 -- The notes grow with the units, and an instruction starts within the units of all.
 use Rattle.std.proofs.Common.{◌≡◌, ◌∙◌, ℕ, suc, ◌+◌, ◌<◌, List, ◌++◌, Option, Some, ap, append_assoc, arith, length, refl, subst}
-use Rattle.std.specs.Prelude.{slice_get}
+use Rattle.std.specs.Prelude.{IsSome, slice_get}
 use Rattle.insn.specs.declared.insn.Insn.{Insn}
 use Rattle.insn.specs.Program.{slots_of, instruction_at}
 use Rattle.verify.specs.declared.state.AbsState.{AbsState}
@@ -21,4 +21,4 @@ notes_more before out new program survey asked marked n insn known mark at here 
     (more ∙ ((λ i. out ++ note_text asked n (at i) (here i) (so i)) ∙ (ap (λ (l : List ℕ). l ++ note) so_far ∙ append_assoc before (notes_below program survey asked marked n) note)))
 
 pub starts_within : (program : List Insn) (unit : ℕ) (i : Insn) → Some i ≡ instruction_at program unit → unit < length (slots_of program)
-starts_within program unit i at = start_inside program unit (rw (← at) refl)
+starts_within program unit i at = start_inside program unit (subst (λ (o : Option Insn). IsSome o) at refl)

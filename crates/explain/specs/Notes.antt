@@ -23,7 +23,7 @@ use Rattle.explain.specs.declared.sentence.Misfit.TheVariants as misfit
 use Rattle.explain.specs.Sentences.{named_text}
 use Rattle.explain.specs.Cells.{run_text}
 use Rattle.explain.specs.declared.rules.Passing.{Passing}
-use Rattle.explain.specs.Rules.{rule_text, passing, passing_text}
+use Rattle.explain.specs.Rules.{rule_text, passed_by, passing_text}
 
 -- ---- what a sentence is about
 
@@ -80,7 +80,7 @@ noted_if unit i (Some tells) = noted_text unit i ++ passing_text tells
 
 -- an instruction on a way there that tells nothing of it
 abbrev pub passing_note : Subject → ℕ → Insn → AbsState → List ℕ
-passing_note (subject.Register r) unit i a = noted_if unit i (passing r i (known_at a.registers r))
+passing_note (subject.Register r) unit i a = noted_if unit i (passed_by r i (known_at a.registers r))
 passing_note (subject.Cell place) unit i a = []
 
 abbrev pub note_by : Subject → ℕ → Insn → AbsState → Option Mark → List ℕ

@@ -54,11 +54,11 @@ is_past bits (Number n) = nat_lt (2 ^ bits - 1) (greatest n)
 is_past bits value = false
 
 -- a test of the register that tells nothing of it, or a copy of it, of which another test does not
-abbrev pub passing : ℕ → Insn → AbsVal → Option Passing
-passing r (Branch w condition dst operand distance) value =
+abbrev pub passed_by : ℕ → Insn → AbsVal → Option Passing
+passed_by r (Branch w condition dst operand distance) value =
     if (dst == r) && is_past (limit_bits w (is_signed condition)) value then Some (Test (limit_bits w (is_signed condition))) else None
-passing r (Arithmetic W64 Move dst (Register src)) value = if src == r then Some (Copied dst) else None
-passing r i value = None
+passed_by r (Arithmetic W64 Move dst (Register src)) value = if src == r then Some (Copied dst) else None
+passed_by r i value = None
 
 abbrev pub passing_text : Passing → List ℕ
 passing_text (Test bits) = codes ": such a test tells only of numbers that are known to be below 2^" ++ decimal bits

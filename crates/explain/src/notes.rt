@@ -3,7 +3,7 @@ ghost use Rattle.std.specs.Prelude.{◌≡◌, ◌++◌, option_map, slice_get, 
 ghost use Rattle.explain.specs.Notes.{of_misuse, of_access, of_misfit, subject_of, found_text, noted_text, rule_behind, set_note, noted_if, passing_note, note_by, note_text, entry_note, notes_below};
 
 use crate::cells::put_run;
-use crate::rules::{Passing, passing, rule_text};
+use crate::rules::{Passing, passed_by, rule_text};
 use crate::sentence::{Access, Misfit, Misuse, Named, Sentence};
 use asm::put_instruction;
 use causes::{Mark, Subject, held_at, known_by, left_by, numbered};
@@ -143,7 +143,7 @@ fn put_passing(
     ensures { OnOk result (string_bytes out.new ≡ string_bytes out.old ++ passing_note asked.now unit insn.now state.now) }
 {
     match asked {
-        Subject::Register(r) => put_if(out, unit, insn, passing(*r, insn, state.known(*r))),
+        Subject::Register(r) => put_if(out, unit, insn, passed_by(*r, insn, state.known(*r))),
         Subject::Cell(_) => Ok(()),
     }
 }

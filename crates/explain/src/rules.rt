@@ -1,6 +1,6 @@
 //! Which rule of the verifier an instruction meets that leaves a register unknown, or tells nothing of it.
 ghost use Rattle.std.specs.Prelude.{◌≡◌, ◌^◌, ◌-◌};
-ghost use Rattle.explain.specs.Rules.{number_rule, unset_rule, rule_text, is_signed, limit_bits, is_past, passing};
+ghost use Rattle.explain.specs.Rules.{number_rule, unset_rule, rule_text, is_signed, limit_bits, is_past, passed_by};
 
 use absval::AbsVal;
 use insn::{Insn, Operand, Reg};
@@ -125,8 +125,8 @@ impl fmt::Display for Passing {
 }
 
 /// A test of a register that tells nothing of it, or a copy of it, of which another test does not.
-pub(crate) fn passing(r: Reg, insn: &Insn, value: AbsVal) -> Option<Passing>
-    ensures { result ≡ passing r insn.now value }
+pub(crate) fn passed_by(r: Reg, insn: &Insn, value: AbsVal) -> Option<Passing>
+    ensures { result ≡ passed_by r insn.now value }
 {
     match insn {
         Insn::Branch {
