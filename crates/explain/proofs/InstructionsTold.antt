@@ -15,8 +15,8 @@ use Rattle.verify.specs.Registers.{known_at, operand_known, first_known}
 use Rattle.verify.specs.Reasons.{first_reason, is_unset, is_pointer, arithmetic_checks, write_checks, compare_checks, exit_checks}
 use Rattle.verify.specs.Instructions.{straight_reason, reason_of}
 use Rattle.explain.specs.Reads.{of_operand, of_first}
-use Rattle.explain.specs.Shortfalls.{unset_at, pointer_at, first_unset, first_pointer, pointer_misuse}
-use Rattle.explain.proofs.RegistersTold.{or_first, or_second, Told, first_told, first_known_unset, operand_unset, register_unset, first_known_pointer, operand_pointer, register_pointer, computed_pointer, one_unset, made_told, one_pointer}
+use Rattle.explain.specs.Shortfalls.{unset_at, pointer_at, first_unset, first_pointer, compared_at, pointer_misuse}
+use Rattle.explain.proofs.RegistersTold.{or_first, or_second, Told, first_told, first_known_unset, operand_unset, register_unset, first_known_pointer, operand_pointer, register_pointer, computed_pointer, register_compared, operand_compared, one_unset, made_told, one_pointer}
 use Rattle.explain.proofs.MemoryTold.{load_told, signed_load_told, store_told}
 use Rattle.explain.proofs.CallsTold.{call_told}
 
@@ -68,8 +68,8 @@ instruction_told (Branch w condition dst operand distance) a =
       λ e. (
         λ f. second_unset a.registers (Some dst) operand f,
         λ f. (
-          λ g. or_first (pointer_at a.registers (Some dst)) _ (register_pointer a.registers dst g),
-          λ g. (λ h. second_pointer a.registers (Some dst) operand h, λ h. tt),
+          λ g. or_first (compared_at a.registers (Some dst)) _ (register_compared a.registers dst g),
+          λ g. (λ h. or_second (compared_at a.registers (Some dst)) _ (operand_compared a.registers operand h), λ h. tt),
         ),
       ),
     )

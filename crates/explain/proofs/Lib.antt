@@ -7,3 +7,6 @@ pub mod CallsTold
 pub mod InstructionsTold
 pub mod StructureTold
 pub mod RefusalsTold
+pub mod HelpLaws
+pub mod NoteLemmas
+pub mod AboutLemmas

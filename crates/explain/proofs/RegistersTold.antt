@@ -18,7 +18,7 @@ use Rattle.verify.specs.declared.state.AbsState.{AbsState}
 use Rattle.verify.specs.Registers.{known_at, operand_known, first_known}
 use Rattle.verify.specs.Reasons.{Check, first_reason, is_unset, is_pointer, made_checks}
 use Rattle.explain.specs.Reads.{of_operand, of_first}
-use Rattle.explain.specs.Shortfalls.{unset_if, unset_at, first_unset, pointer_if, pointer_at, first_pointer, shortfall}
+use Rattle.explain.specs.Shortfalls.{unset_if, unset_at, first_unset, pointer_if, pointer_at, first_pointer, compared_if, compared_at, shortfall}
 
 -- ---- one of two
 
@@ -85,6 +85,18 @@ first_known_pointer registers _ dst h = register_pointer registers dst h
 pub operand_pointer : (registers : List AbsVal) (operand : Operand) → is_pointer (operand_known registers operand) ≡ true → IsSome (pointer_at registers (of_operand operand))
 operand_pointer registers (Register r) h = register_pointer registers r h
 operand_pointer registers (Immediate n) h = absurd cc
+
+compared_found : (r : ℕ) (value : AbsVal) → is_pointer value ≡ true → IsSome (compared_if r value)
+compared_found r Unset h = absurd cc
+compared_found r (Number n) h = absurd cc
+compared_found r (Pointer region o) h = refl
+
+pub register_compared : (registers : List AbsVal) (r : ℕ) → is_pointer (known_at registers r) ≡ true → IsSome (compared_at registers (Some r))
+register_compared registers r h = compared_found r (known_at registers r) h
+
+pub operand_compared : (registers : List AbsVal) (operand : Operand) → is_pointer (operand_known registers operand) ≡ true → IsSome (compared_at registers (of_operand operand))
+operand_compared registers (Register r) h = register_compared registers r h
+operand_compared registers (Immediate n) h = absurd cc
 
 -- ---- where a table gives nothing, one is a pointer
 

@@ -1,5 +1,5 @@
 -- The explanation of a program: what is known at each unit to which the verifier comes, and why it is refused, if so (own).
-use Rattle.std.specs.Prelude.{ℕ, ℤ, pos, ◌+◌, ◌+ℤ◌, List, [], ◌∷◌, ◌++◌, Option, Some, None, option_map, option_and_then, codes, decimal, length}
+use Rattle.std.specs.Prelude.{ℕ, ℤ, pos, ◌+◌, ◌+ℤ◌, ◌==◌, nat_lt, Bool, false, if◌then◌else◌, List, [], ◌∷◌, ◌++◌, Option, Some, None, option_map, option_and_then, codes, decimal, length}
 use Rattle.insn.specs.declared.insn.Insn.{Insn}
 use Rattle.insn.specs.declared.insn.Insn.TheVariants.{Jump, LongJump, Branch}
 use Rattle.insn.specs.Insn.{units_of}
@@ -20,6 +20,12 @@ use Rattle.explain.specs.declared.sentence.Structure.TheVariants as structure
 use Rattle.explain.specs.Sentences.{named_text, sentence_text}
 use Rattle.explain.specs.Shortfalls.{shortfall}
 use Rattle.explain.specs.Reads.{read_by}
+use Rattle.explain.specs.Cells.{cells_read}
+use Rattle.explain.specs.Notes.{subject_of, notes_below}
+use Rattle.explain.specs.Helps.{wanted, help_on}
+use Rattle.causes.specs.declared.subject.Subject.{Subject}
+use Rattle.causes.specs.Left.{left, result_of}
+use Rattle.causes.specs.Marks.{KnownByUnit, known_by, marks}
 
 -- ---- what is known at a unit
 
@@ -34,7 +40,7 @@ reads_text registers _ = []
 
 abbrev pub known_text : Insn → Option AbsState → List ℕ
 known_text i None = codes " ; no way leads here"
-known_text i (Some a) = reads_text a.registers (read_by i)
+known_text i (Some a) = reads_text a.registers (read_by i) ++ cells_read i a
 
 -- `UNIT INSTRUCTION`, each line behind the end of the one before
 abbrev pub place_text : ℕ → Insn → List ℕ
@@ -43,19 +49,35 @@ place_text unit i = codes "\n" ++ decimal unit ++ codes " " ++ insn_text i
 abbrev pub unit_line : ℕ → Insn → Option AbsState → List ℕ
 unit_line unit i known = place_text unit i ++ known_text i known
 
--- of an instruction to which the verifier comes, with what is known there
-abbrev pub line_if : ℕ → Insn → Option (Option AbsState) → List ℕ
-line_if unit i None = []
-line_if unit i (Some known) = unit_line unit i known
+-- what the register that takes the result is known to be behind the instruction
+abbrev pub result_text : Option ℕ → AbsState → List ℕ
+result_text None a = []
+result_text (Some r) a = codes " -> " ++ named_text r (known_at a.registers r)
 
--- what is known at a unit: the outer None where the pass does not come there, for a fault of structure or at an earlier unit; the inner None where no path leads to it
-abbrev pub KnownByUnit : Type 0
-KnownByUnit = ℕ → Option (Option AbsState)
+abbrev pub given_text : Insn → Option AbsState → List ℕ
+given_text i None = []
+given_text i (Some a) = result_text (result_of i) (left i a)
+
+abbrev pub is_at : Option VerifyError → ℕ → Bool
+is_at (Some (At r place)) unit = place == unit
+is_at _ unit = false
+
+-- but where the fault stands
+abbrev pub behind_text : Option VerifyError → ℕ → Insn → Option AbsState → List ℕ
+behind_text fault unit i known = if is_at fault unit then [] else given_text i known
+
+abbrev pub whole_line : Option VerifyError → ℕ → Insn → Option AbsState → List ℕ
+whole_line fault unit i known = unit_line unit i known ++ behind_text fault unit i known
+
+-- of an instruction to which the verifier comes
+abbrev pub line_if : Option VerifyError → ℕ → Insn → Option (Option AbsState) → List ℕ
+line_if fault unit i None = []
+line_if fault unit i (Some known) = whole_line fault unit i known
 
 -- the lines of the instructions from a unit on
-abbrev pub known_lines : KnownByUnit → ℕ → List Insn → List ℕ
-known_lines survey unit [] = []
-known_lines survey unit (i ∷ is) = line_if unit i (survey unit) ++ known_lines survey (unit + units_of i) is
+abbrev pub known_lines : KnownByUnit → Option VerifyError → ℕ → List Insn → List ℕ
+known_lines survey fault unit [] = []
+known_lines survey fault unit (i ∷ is) = line_if fault unit i (survey unit) ++ known_lines survey fault (unit + units_of i) is
 
 -- ---- why it is refused
 
@@ -74,28 +96,36 @@ sentence_of units reason.LastNotExit unit i known = Some (sentence.Structure str
 sentence_of units r unit i known = option_and_then (λ a. shortfall r i a) known
 
 -- `UNIT INSTRUCTION: SENTENCE`
-abbrev pub sentence_line : ℕ → Insn → Option Sentence → List ℕ
-sentence_line unit i None = []
-sentence_line unit i (Some s) = place_text unit i ++ codes ": " ++ sentence_text s
+abbrev pub sentence_line : ℕ → Insn → Sentence → List ℕ
+sentence_line unit i s = place_text unit i ++ codes ": " ++ sentence_text s
 
-abbrev pub refused_at : ℕ → Option AbsState → Reason → ℕ → Option Insn → List ℕ
-refused_at units known r unit None = []
-refused_at units known r unit (Some i) = sentence_line unit i (sentence_of units r unit i known)
+-- where what it is about comes from, and an edit that mends it
+abbrev pub about_text : KnownByUnit → List Insn → ℕ → Insn → Sentence → Option Subject → List ℕ
+about_text survey program unit i s None = []
+about_text survey program unit i s (Some asked) =
+    notes_below program survey asked (marks program survey asked unit) unit ++ help_on program unit (wanted program (marks program survey asked unit) unit i s)
 
--- what is known there, if anything is
-abbrev pub known_by : Option (Option AbsState) → Option AbsState
-known_by None = None
-known_by (Some known) = known
+abbrev pub told_text : KnownByUnit → List Insn → ℕ → Insn → Option Sentence → List ℕ
+told_text survey program unit i None = []
+told_text survey program unit i (Some s) = sentence_line unit i s ++ about_text survey program unit i s (subject_of s)
 
-abbrev pub refused_line : KnownByUnit → List Insn → Option VerifyError → List ℕ
-refused_line survey program (Some (At r unit)) = refused_at (length (slots_of program)) (known_by (survey unit)) r unit (instruction_at program unit)
-refused_line survey program _ = []
+abbrev pub refused_at : KnownByUnit → List Insn → Reason → ℕ → Option Insn → List ℕ
+refused_at survey program r unit None = []
+refused_at survey program r unit (Some i) = told_text survey program unit i (sentence_of (length (slots_of program)) r unit i (known_by (survey unit)))
 
--- the lines of the units, and that of the refusal
+abbrev pub refused_text : KnownByUnit → List Insn → Option VerifyError → List ℕ
+refused_text survey program (Some (At r unit)) = refused_at survey program r unit (instruction_at program unit)
+refused_text survey program _ = []
+
+-- the lines of the units, and those of the refusal
 abbrev pub lines_by : KnownByUnit → List Insn → Option VerifyError → List ℕ
-lines_by survey program fault = known_lines survey 0 program ++ refused_line survey program fault
+lines_by survey program fault = known_lines survey fault 0 program ++ refused_text survey program fault
 
 -- ---- of a program
 
+-- what the verifier knows before each of its units; there is none behind its end
+abbrev pub known_in : List Insn → KnownByUnit
+known_in program unit = if nat_lt unit (length (slots_of program)) then known_before program unit else None
+
 abbrev pub explained : List Insn → List ℕ
-explained program = lines_by (known_before program) program (judged program)
+explained program = lines_by (known_in program) program (judged program)

@@ -2,5 +2,9 @@ pub mod Values
 pub mod Reads
 pub mod Sentences
 pub mod Shortfalls
+pub mod Cells
+pub mod Rules
+pub mod Notes
+pub mod Helps
 pub mod Explained
 pub mod Laws

@@ -1,5 +1,5 @@
 -- The sentence of a refusal (own).
-use Rattle.std.specs.Prelude.{ℕ, ℤ, pos, List, ◌++◌, codes, decimal, int_le, if◌then◌else◌}
+use Rattle.std.specs.Prelude.{ℕ, ℤ, pos, ◌-ℤ◌, List, ◌++◌, codes, decimal, int_le, if◌then◌else◌}
 use Rattle.std.specs.Fmt.{signed_decimal}
 use Rattle.semantics.specs.declared.value.Region.{Region}
 use Rattle.semantics.specs.declared.value.Region.TheVariants.{Stack, Context}
@@ -53,6 +53,7 @@ misuse_text misuse.Frame = codes "r10 is written, which marks the end of the sta
 misuse_text (misuse.Far r region span) = would_text r ++ codes " into " ++ place_text region span ++ codes ", past " ++ limit_text span.high
 misuse_text (misuse.EitherSign r value) = named_text r value ++ codes ": a number that moves a pointer is read as signed, and this one may be above or below 0"
 misuse_text (misuse.Computed r value) = named_text r value ++ codes ": of a pointer only a copy of 64 bits is made, or, in its own register, the 64-bit sum or difference with a number"
+misuse_text (misuse.Compared r value) = named_text r value ++ codes ": a comparison is of numbers only"
 misuse_text (misuse.Stored r value base at) =
     named_text r value ++ codes ", stored at " ++ named_text base at ++ codes ": a pointer is stored as 8 bytes, with one offset, at one address"
 misuse_text (misuse.NoBase r value) = named_text r value ++ codes ": memory is reached by a pointer only"
@@ -66,7 +67,7 @@ extent_text Context = codes "0 to 4095"
 -- what an access may touch
 abbrev pub access_text : Access → List ℕ
 access_text (access.Outside r region span) = reached_text r region span ++ codes ": it has " ++ extent_text region
-access_text (access.Empty r span at) = reached_text r Stack span ++ codes ": no byte is known at " ++ signed_decimal at
+access_text (access.Empty r span cell) = reached_text r Stack span ++ codes ": no byte is known at " ++ signed_decimal (pos cell -ℤ pos 512)
 access_text (access.Context r value) = named_text r value ++ codes ": the context is only read"
 
 -- what a call asks

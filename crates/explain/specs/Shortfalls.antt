@@ -1,13 +1,13 @@
 -- What an instruction misses where it is refused, from what is known there (own).
 use Rattle.std.specs.Prelude.{ℕ, ℤ, pos, negsuc, zero, suc, ◌+◌, ◌*◌, ◌^◌, ◌-◌, ◌+ℤ◌, ◌-ℤ◌, ◌&&◌, nat_lt, nat_le, int_le, Bool, true, false, if◌then◌else◌, List, [], ◌∷◌, Option, Some, None, option_map, option_and_then}
 use Rattle.std.specs.Option.{option_or}
-use Rattle.semantics.specs.Limits.{board_words, stack_size}
+use Rattle.semantics.specs.Limits.{board_words}
 use Rattle.word.specs.declared.Width.{Width}
 use Rattle.word.specs.declared.Width.TheVariants.{W64}
 use Rattle.word.specs.declared.Operation.{Operation}
 use Rattle.word.specs.declared.Operation.TheVariants.{Add, Sub}
 use Rattle.insn.specs.declared.insn.Insn.{Insn}
-use Rattle.insn.specs.declared.insn.Insn.TheVariants.{Arithmetic, Load, LoadSigned, Store, Call}
+use Rattle.insn.specs.declared.insn.Insn.TheVariants.{Arithmetic, Branch, Load, LoadSigned, Store, Call}
 use Rattle.insn.specs.declared.insn.Operand.{Operand}
 use Rattle.insn.specs.declared.insn.Size.{Size}
 use Rattle.insn.specs.declared.insn.Size.TheVariants.{Word, Double}
@@ -69,6 +69,16 @@ abbrev pub first_pointer : List AbsVal → List (Option ℕ) → Option Sentence
 first_pointer registers (first ∷ second ∷ third ∷ []) = option_or (pointer_at registers first) (option_or (pointer_at registers second) (pointer_at registers third))
 first_pointer registers _ = None
 
+-- of two that are compared
+abbrev pub compared_if : ℕ → AbsVal → Option Sentence
+compared_if r Unset = None
+compared_if r (Number n) = None
+compared_if r (Pointer region offsets) = Some (sentence.Register (misuse.Compared r (Pointer region offsets)))
+
+abbrev pub compared_at : List AbsVal → Option ℕ → Option Sentence
+compared_at registers None = None
+compared_at registers (Some r) = compared_if r (known_at registers r)
+
 -- ---- pointers that are moved
 
 -- whether an operation lowers a pointer, where it moves one
@@ -116,6 +126,7 @@ abbrev pub pointer_misuse : Insn → List AbsVal → Option Sentence
 pointer_misuse (Arithmetic w operation dst operand) registers =
     option_or (sum_misuse (lowers w operation) dst operand (known_at registers dst) (operand_known registers operand))
     (first_pointer registers (read_by (Arithmetic w operation dst operand)))
+pointer_misuse (Branch w condition dst operand distance) registers = option_or (compared_at registers (Some dst)) (compared_at registers (of_operand operand))
 pointer_misuse (Load size dst base offset) registers = no_base registers base
 pointer_misuse (LoadSigned part dst base offset) registers = no_base registers base
 pointer_misuse (Store size base offset source) registers = store_misuse registers base (of_operand source) (known_at registers base)
@@ -160,7 +171,7 @@ empty_in known (Some w) = first_empty known.bytes w.place w.size
 
 abbrev pub empty_cell : Known → Reach → AbsVal → Option Sentence
 empty_cell known reach (Pointer Stack o) =
-    option_map (λ k. sentence.Memory (access.Empty reach.base (touched o reach) (pos k -ℤ pos stack_size)))
+    option_map (λ k. sentence.Memory (access.Empty reach.base (touched o reach) k))
     (empty_in known (window_known Stack o.0 o.1 reach.distance reach.size))
 empty_cell known reach _ = None
 

@@ -1,5 +1,5 @@
 //! Accesses that are refused.
-ghost use Rattle.std.specs.Prelude.{◌≡◌, ◌≤◌, ◌+◌, ◌-◌, ◌-ℤ◌, pos, IfSome};
+ghost use Rattle.std.specs.Prelude.{◌≡◌, ◌≤◌, ◌+◌, ◌-◌, IfSome};
 ghost use Rattle.explain.specs.Shortfalls.{outside, first_empty, empty_in, empty_cell, context_written, reached};
 
 use crate::reach::{Reach, touched};
@@ -59,7 +59,7 @@ pub(crate) fn empty_cell(stack: &AbsStack, reach: Reach, value: AbsVal) -> Optio
     let window = window_of(Region::Stack, offsets, reach.distance, reach.size);
     let cell = empty_in(stack, window)?;
     let span = touched(offsets, &reach);
-    Some(Sentence::Memory(Access::Empty(reach.base, span, cell as i64 - 512)))
+    Some(Sentence::Memory(Access::Empty(reach.base, span, cell as u16)))
 }
 
 /// The context is written.

@@ -2,18 +2,23 @@
 #![tactic(auto)]
 
 mod accesses;
+mod cells;
+mod helps;
 mod laws;
 mod lines;
 mod misfits;
 mod misuse;
 mod moving;
+mod notes;
 mod reach;
 mod reads;
+mod rules;
 mod sentence;
 mod shortfall;
 mod values;
+mod wanted;
 
-pub use laws::refusals_are_told;
+pub use laws::{helps_mend, refusals_are_told};
 pub use lines::explanation;
 pub use sentence::{Access, Misfit, Misuse, Sentence, Structure};
 pub use values::{Known, Span};

@@ -1,13 +1,19 @@
 //! The explanation of a program.
 ghost use Rattle.std.specs.Prelude.{◌≡◌, ◌≤◌, ◌<◌, ◌++◌, length, option_map, slice_get, string_bytes, IfOk, OnOk};
 ghost use Rattle.insn.specs.Program.{slots_of};
-ghost use Rattle.explain.specs.Explained.{read_text, reads_text, known_text, place_text, unit_line, line_if, known_lines, target_of, sentence_of, sentence_line, known_by, refused_line, explained};
+ghost use Rattle.explain.specs.Notes.{subject_of};
+ghost use Rattle.explain.specs.Explained.{read_text, reads_text, known_text, place_text, unit_line, result_text, given_text, is_at, behind_text, whole_line, line_if, known_lines, target_of, sentence_of, sentence_line, about_text, told_text, refused_text, explained};
 
+use crate::cells::put_cells_read;
+use crate::helps::put_help;
+use crate::notes::{put_notes_below, subject_of};
 use crate::reads::{Registers, read_by};
 use crate::sentence::{Sentence, Structure};
 use crate::shortfall::shortfall;
 use crate::values::Known;
+use crate::wanted::wanted;
 use asm::put_instruction;
+use causes::{known_by, left_by, marks, result_of};
 use insn::{Insn, Program, Reg};
 use std::alloc::{AllocError, Global};
 use verify::{AbsState, Reason, VerifyError, known_at_units};
@@ -40,7 +46,10 @@ fn put_known(out: &mut String, insn: &Insn, state: Option<&AbsState>) -> Result<
 {
     match state {
         None => out.push_str(" ; no way leads here"),
-        Some(state) => put_reads(out, state, read_by(insn)),
+        Some(state) => {
+            put_reads(out, state, read_by(insn))?;
+            put_cells_read(out, insn, state)
+        }
     }
 }
 
@@ -65,17 +74,91 @@ fn put_unit(
     put_known(out, insn, state)
 }
 
+/// Adds a register that takes a result, and what is known of it behind an instruction.
+fn put_result(
+    out: &mut String,
+    register: Option<Reg>,
+    left: &AbsState,
+) -> Result<(), AllocError>
+    ensures { OnOk result (string_bytes out.new ≡ string_bytes out.old ++ result_text register left.now) }
+{
+    let Some(r) = register else {
+        return Ok(());
+    };
+    let known = Known(left.known(r));
+    let r = r.number();
+    write!(out, " -> r{r} {known}")
+}
+
+/// Adds what is known of the result of an instruction that may run.
+fn put_given(
+    out: &mut String,
+    insn: &Insn,
+    state: Option<&AbsState>,
+) -> Result<(), AllocError>
+    ensures { OnOk result (string_bytes out.new ≡ string_bytes out.old ++ given_text insn.now (option_map (λ a. a.now) state.entry)) }
+{
+    match state {
+        None => Ok(()),
+        Some(state) => {
+            let left = left_by(insn, state);
+            put_result(out, result_of(insn), &left)
+        }
+    }
+}
+
+/// Whether the fault stands at a unit.
+fn is_at(fault: &Option<VerifyError>, unit: usize) -> bool
+    ensures { result ≡ is_at fault.now unit }
+{
+    match fault {
+        Some(VerifyError::At(_, place)) => *place == unit,
+        _ => false,
+    }
+}
+
+/// Adds what is known of the result, but where the fault stands.
+fn put_behind(
+    out: &mut String,
+    fault: &Option<VerifyError>,
+    unit: usize,
+    insn: &Insn,
+    state: &Option<AbsState>,
+) -> Result<(), AllocError>
+    ensures { OnOk result (string_bytes out.new ≡ string_bytes out.old ++ behind_text fault.now unit insn.now state.now) }
+{
+    if is_at(fault, unit) {
+        return Ok(());
+    }
+    put_given(out, insn, state.as_ref())
+}
+
+/// Adds the line of a unit, with what is known of the result.
+fn put_line(
+    out: &mut String,
+    fault: &Option<VerifyError>,
+    unit: usize,
+    insn: &Insn,
+    state: &Option<AbsState>,
+) -> Result<(), AllocError>
+    ensures { OnOk result (string_bytes out.new ≡ string_bytes out.old ++ whole_line fault.now unit insn.now state.now) }
+{
+    put_unit(out, unit, insn, state.as_ref())?;
+    put_behind(out, fault, unit, insn, state)
+}
+
 /// Adds the line of a unit, if the pass comes there.
 fn put_reached(
     out: &mut String,
+    fault: &Option<VerifyError>,
     unit: usize,
     insn: &Insn,
     states: &[Option<AbsState>],
 ) -> Result<(), AllocError>
-    ensures { OnOk result (string_bytes out.new ≡ string_bytes out.old ++ line_if unit insn.now (slice_get states.now unit)) }
+    ensures { OnOk result (string_bytes out.new ≡ string_bytes out.old ++ line_if fault.now unit insn.now (slice_get states.now unit)) }
 {
     match states.get(unit) {
-        Some(state) => put_unit(out, unit, insn, state.as_ref()),
+        Some(state) => put_line(out, fault, unit, insn, state),
         None => Ok(()),
     }
 }
@@ -83,25 +166,19 @@ fn put_reached(
 /// Adds the lines of the units to which the pass comes.
 fn put_units(
     out: &mut String,
+    fault: &Option<VerifyError>,
     insns: &[Insn],
     states: &[Option<AbsState>],
 ) -> Result<(), AllocError>
     requires { length (slots_of insns.now) ≤ 4096 }
-    ensures { OnOk result (string_bytes out.new ≡ string_bytes out.old ++ known_lines (slice_get states.now) 0 insns.now) }
+    ensures { OnOk result (string_bytes out.new ≡ string_bytes out.old ++ known_lines (slice_get states.now) fault.now 0 insns.now) }
 {
     let mut unit = 0;
     for insn in insns {
-        put_reached(out, unit, insn, states)?;
+        put_reached(out, fault, unit, insn, states)?;
         unit += insn.units() as usize;
     }
     Ok(())
-}
-
-/// What is known at a unit, if anything is.
-fn known_by(states: &[Option<AbsState>], unit: usize) -> Option<&AbsState>
-    ensures { option_map (λ a. a.now) result ≡ known_by (slice_get states.now unit) }
-{
-    states.get(unit)?.as_ref()
 }
 
 /// Where a jump leads.
@@ -139,30 +216,72 @@ fn sentence_of(
     Some(Sentence::Structure(structure))
 }
 
-/// Adds the sentence of an instruction, if there is one.
+/// Adds the sentence of an instruction.
 fn put_sentence(
     out: &mut String,
     unit: usize,
     insn: &Insn,
-    sentence: Option<Sentence>,
+    sentence: Sentence,
 ) -> Result<(), AllocError>
     ensures { OnOk result (string_bytes out.new ≡ string_bytes out.old ++ sentence_line unit insn.now sentence) }
 {
-    let Some(sentence) = sentence else {
-        return Ok(());
-    };
     put_place(out, unit, insn)?;
     write!(out, ": {sentence}")
 }
 
+/// Adds where what a sentence is about comes from, and an edit that mends it.
+fn put_about(
+    alloc: Global,
+    out: &mut String,
+    program: &Program,
+    states: &[Option<AbsState>],
+    unit: usize,
+    insn: &Insn,
+    sentence: &Sentence,
+) -> Result<(), AllocError>
+    requires inside { unit < length (slots_of program.now) }
+    requires few { unit < 4096 }
+    ensures { OnOk result (string_bytes out.new ≡ string_bytes out.old ++ about_text (slice_get states.now) program.now unit insn.now sentence.now (subject_of sentence.now)) }
+{
+    let Some(asked) = subject_of(sentence) else {
+        return Ok(());
+    };
+    let marked = marks(alloc, program, states, &asked, unit)?;
+    put_notes_below(out, program, states, &asked, marked.as_slice(), unit)?;
+    let choice = wanted(program, marked.as_slice(), unit, insn, sentence);
+    put_help(alloc, out, program, unit, choice)
+}
+
+/// Adds the sentence of an instruction, if there is one, and what is said about it.
+fn put_told(
+    alloc: Global,
+    out: &mut String,
+    program: &Program,
+    states: &[Option<AbsState>],
+    unit: usize,
+    insn: &Insn,
+    sentence: &Option<Sentence>,
+) -> Result<(), AllocError>
+    requires inside { unit < length (slots_of program.now) }
+    requires few { unit < 4096 }
+    ensures { OnOk result (string_bytes out.new ≡ string_bytes out.old ++ told_text (slice_get states.now) program.now unit insn.now sentence.now) }
+{
+    let Some(sentence) = sentence else {
+        return Ok(());
+    };
+    put_sentence(out, unit, insn, *sentence)?;
+    put_about(alloc, out, program, states, unit, insn, sentence)
+}
+
 /// Adds why a program is refused, if it is.
 fn put_refused(
+    alloc: Global,
     out: &mut String,
     program: &Program,
     states: &[Option<AbsState>],
     fault: Option<VerifyError>,
 ) -> Result<(), AllocError>
-    ensures { OnOk result (string_bytes out.new ≡ string_bytes out.old ++ refused_line (slice_get states.now) program.now fault) }
+    ensures { OnOk result (string_bytes out.new ≡ string_bytes out.old ++ refused_text (slice_get states.now) program.now fault) }
 {
     let Some(VerifyError::At(reason, unit)) = fault else {
         return Ok(());
@@ -171,17 +290,17 @@ fn put_refused(
         return Ok(());
     };
     let sentence = sentence_of(program.units(), reason, unit, &insn, known_by(states, unit));
-    put_sentence(out, unit, &insn, sentence)
+    put_told(alloc, out, program, states, unit, &insn, &sentence)
 }
 
-/// What is known at each unit of a program to which the verifier comes, and why the program is refused, if so. Each line stands behind the end of one.
+/// What is known at each unit of a program to which the verifier comes, what each instruction gives, and why the program is refused, if so. Each line stands behind the end of one.
 pub fn explanation(alloc: Global, program: &Program) -> Result<String, AllocError>
     ensures { IfOk result (λ text. string_bytes text ≡ explained program.now) }
 {
     let survey = known_at_units(alloc, program)?;
-    let mut out = String::with_capacity(alloc, 32 * program.units())?;
+    let mut out = String::with_capacity(alloc, 48 * program.units())?;
     let states = survey.states.as_slice();
-    put_units(&mut out, program.instructions(), states)?;
-    put_refused(&mut out, program, states, survey.fault)?;
+    put_units(&mut out, &survey.fault, program.instructions(), states)?;
+    put_refused(alloc, &mut out, program, states, survey.fault)?;
     Ok(out)
 }

@@ -4,9 +4,9 @@ ghost use Rattle.insn.specs.declared.insn.Insn.{Insn};
 ghost use Rattle.helper.specs.Table.{bound_of, arguments_of};
 ghost use Rattle.explain.specs.Shortfalls.{misfit_of, misfit_at, past_board, arguments_misfit, call_misfit, no_helper};
 
-use crate::reads::numbered;
 use crate::sentence::{Misfit, Sentence};
 use absval::{AbsVal, NumberSet};
+use causes::numbered;
 use helper::{Argument, BOARD_WORDS};
 use insn::{Insn, Reg};
 use verify::AbsState;

@@ -1,15 +1,16 @@
 //! Registers that are used as they may not be.
-ghost use Rattle.std.specs.Prelude.{◌≡◌};
+ghost use Rattle.std.specs.Prelude.{◌≡◌, Some};
+ghost use Rattle.std.specs.Option.{option_or};
 ghost use Rattle.insn.specs.declared.insn.Insn.{Insn};
 ghost use Rattle.verify.specs.Registers.{known_at};
-ghost use Rattle.explain.specs.Reads.{read_by};
-ghost use Rattle.explain.specs.Shortfalls.{unset_if, unset_at, first_unset, pointer_if, pointer_at, first_pointer, no_base, stored_at, store_misuse, pointer_misuse};
+ghost use Rattle.explain.specs.Reads.{of_operand, read_by};
+ghost use Rattle.explain.specs.Shortfalls.{unset_if, unset_at, first_unset, pointer_if, pointer_at, first_pointer, compared_at, no_base, stored_at, store_misuse, pointer_misuse};
 
 use crate::moving::sum_misuse;
 use crate::reads::{Registers, of_operand, read_by};
 use crate::sentence::{Misuse, Sentence};
 use absval::AbsVal;
-use insn::{Insn, Reg};
+use insn::{Insn, Operand, Reg};
 use verify::AbsState;
 
 /// A register that may be unset.
@@ -61,6 +62,28 @@ fn first_pointer(state: &AbsState, read: Registers) -> Option<Sentence>
         return Some(sentence);
     }
     pointer_at(state, third)
+}
+
+/// A register that is compared, and a pointer.
+fn compared_at(state: &AbsState, register: Option<Reg>) -> Option<Sentence>
+    ensures { result ≡ compared_at state.now.registers register }
+{
+    let r = register?;
+    let value = state.known(r);
+    match value {
+        AbsVal::Pointer(..) => Some(Sentence::Register(Misuse::Compared(r, value))),
+        AbsVal::Unset | AbsVal::Number(_) => None,
+    }
+}
+
+/// The first of two that are compared that is a pointer.
+fn compared(state: &AbsState, dst: Reg, operand: Operand) -> Option<Sentence>
+    ensures { result ≡ option_or (compared_at state.now.registers (Some dst)) (compared_at state.now.registers (of_operand operand)) }
+{
+    if let Some(sentence) = compared_at(state, Some(dst)) {
+        return Some(sentence);
+    }
+    compared_at(state, of_operand(operand))
 }
 
 /// The base of an access is no pointer.
@@ -115,6 +138,7 @@ pub(crate) fn pointer_misuse(insn: &Insn, state: &AbsState) -> Option<Sentence>
             }
             first_pointer(state, read_by(insn))
         }
+        Insn::Branch { dst, operand, .. } => compared(state, *dst, *operand),
         Insn::Load { base, .. } | Insn::LoadSigned { base, .. } => no_base(state, *base),
         Insn::Store { base, source, .. } => { store_misuse(state, *base, of_operand(*source)) }
         _ => first_pointer(state, read_by(insn)),

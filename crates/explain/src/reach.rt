@@ -3,9 +3,9 @@ ghost use Rattle.std.specs.Prelude.{◌≡◌, ◌≤◌, ◌-◌, ◌+ℤ◌, p
 ghost use Rattle.semantics.specs.Call.{helper_of};
 ghost use Rattle.explain.specs.Shortfalls.{counted, call_reach, reach_of, touched};
 
-use crate::reads::numbered;
 use crate::values::{Span, between};
 use absval::{AbsVal, Offsets};
+use causes::numbered;
 use helper::{BOARD_WORDS, Helper};
 use insn::{Insn, Reg, Size, bytes_of_part};
 use verify::AbsState;

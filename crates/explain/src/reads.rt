@@ -4,6 +4,7 @@ ghost use Rattle.semantics.specs.Call.{helper_of};
 ghost use Rattle.helper.specs.declared.argument.Argument.{Argument};
 ghost use Rattle.explain.specs.Reads.{of_operand, of_first, of_argument, of_helper, read_by};
 
+use causes::numbered;
 use helper::Argument;
 use insn::{Insn, Operand, Reg};
 use word::Operation;
@@ -28,17 +29,6 @@ fn of_first(operation: Operation, dst: Reg) -> Option<Reg>
     match operation {
         Operation::Move => None,
         _ => Some(dst),
-    }
-}
-
-/// The register of a number.
-pub(crate) fn numbered(number: u8) -> Reg
-    requires { number ≤ 10 }
-    ensures { result ≡ number }
-{
-    match Reg::new(number) {
-        Some(r) => r,
-        None => unreachable!(),
     }
 }
 

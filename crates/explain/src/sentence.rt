@@ -43,6 +43,8 @@ pub enum Misuse {
     EitherSign(Reg, AbsVal),
     /// It is a pointer, of which something is computed.
     Computed(Reg, AbsVal),
+    /// It is a pointer that is compared.
+    Compared(Reg, AbsVal),
     /// It is a pointer that is stored at the second one, and not whole.
     Stored(Reg, AbsVal, Reg, AbsVal),
     /// It is a number, and the base of an access.
@@ -56,8 +58,8 @@ pub enum Misuse {
 pub enum Access {
     /// Bytes outside the region.
     Outside(Reg, Region, Span),
-    /// Cells of the stack, of which this one may hold no byte.
-    Empty(Reg, Span, i64),
+    /// Cells of the stack, of which this one may hold no byte, counted from the lowest.
+    Empty(Reg, Span, u16),
     /// The context, which is written.
     Context(Reg, AbsVal),
 }
@@ -119,7 +121,7 @@ impl fmt::Display for Structure {
 
 /// A register by its name, and what is known of it.
 #[derive(Clone, Copy)]
-struct Named(Reg, AbsVal);
+pub(crate) struct Named(pub Reg, pub AbsVal);
 
 impl fmt::Display for Named {
     ghost use Rattle.std.specs.Prelude.{Some};
@@ -230,6 +232,10 @@ impl fmt::Display for Misuse {
                     "{named}: of a pointer only a copy of 64 bits is made, or, in its own register, the 64-bit sum or difference with a number"
                 )
             }
+            Misuse::Compared(r, value) => {
+                let named = Named(r, value);
+                write!(f, "{named}: a comparison is of numbers only")
+            }
             Misuse::Stored(r, value, base, at) => {
                 let stored = Named(r, value);
                 let base = Named(base, at);
@@ -273,8 +279,9 @@ impl fmt::Display for Access {
                 let extent = extent(region);
                 write!(f, "{reached}: it has {extent}")
             }
-            Access::Empty(r, span, at) => {
+            Access::Empty(r, span, cell) => {
                 let reached = Reached(r, Place(Region::Stack, span));
+                let at = i64::from(cell) - 512;
                 write!(f, "{reached}: no byte is known at {at}")
             }
             Access::Context(r, value) => {

@@ -6,8 +6,9 @@ use crate::accesses::{context_written, empty_cell, outside};
 use crate::misfits::{call_misfit, no_helper};
 use crate::misuse::{first_unset, pointer_misuse};
 use crate::reach::reach_of;
-use crate::reads::{numbered, read_by};
+use crate::reads::read_by;
 use crate::sentence::{Misuse, Sentence};
+use causes::numbered;
 use insn::Insn;
 use verify::{AbsState, Reason};
 

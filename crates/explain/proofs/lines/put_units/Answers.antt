@@ -14,6 +14,6 @@ overflow_add-unit c =
 pub loop-insn-preserved : goal.loop-insn-preserved
 loop-insn-preserved c =
     let lt : c.loop-insn.insn-index < length c.args.insns.now = omega arith in (
-      known_lines_so_far (string_bytes c.args.out.now) _ _ c.args.insns.now (slice_get c.args.states.now) c.loop-insn.insn-index _ _ lt c.insn-item.is c.loop-insn.invariant.1 c.loop-insn.invariant.0 c.in_ok-put_reached.ensures,
+      known_lines_so_far (string_bytes c.args.out.now) _ _ c.args.insns.now (slice_get c.args.states.now) c.args.fault.now c.loop-insn.insn-index _ _ lt c.insn-item.is c.loop-insn.invariant.1 c.loop-insn.invariant.0 c.in_ok-put_reached.ensures,
       slots_so_far c.args.insns.now c.loop-insn.insn-index _ _ _ lt c.insn-item.is c.loop-insn.invariant.1 c.units.ensures.units,
     )

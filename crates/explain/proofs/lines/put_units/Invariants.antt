@@ -7,4 +7,4 @@ use Rattle.explain.proofs.lines.put_units.Given as goal
 
 abbrev pub invariant-loop-insn : goal.invariant-loop-insn
 invariant-loop-insn l =
-    (string_bytes l.out ≡ string_bytes l.fn.out ++ known_lines (slice_get l.states) 0 (take l.insn-index l.insns)) × (l.unit ≡ length (slots_of (take l.insn-index l.insns)))
+    (string_bytes l.out ≡ string_bytes l.fn.out ++ known_lines (slice_get l.states) l.fault 0 (take l.insn-index l.insns)) × (l.unit ≡ length (slots_of (take l.insn-index l.insns)))

@@ -1,0 +1,11 @@
+use Rattle.std.proofs.Common.{◌≡◌, length}
+use Rattle.std.specs.Prelude.{slice_get}
+use Rattle.insn.specs.Program.{slots_of}
+use Rattle.causes.specs.Marks.{marked}
+use Rattle.causes.proofs.marking.marks.Given as goal
+
+abbrev pub invariant-loop-below : goal.invariant-loop-below
+invariant-loop-below l = record {
+  room : length l.marks.items ≡ length (slots_of l.program);
+  so_far : l.marks.items ≡ marked l.program (slice_get l.states) l.subject l.unit l.below;
+}

@@ -1,0 +1,11 @@
+use Rattle.std.proofs.Common.{◌≡◌, ◌*◌, ◌≤◌, length, take}
+use Rattle.insn.specs.Program.{slots_of}
+use Rattle.causes.specs.Mends.{mended}
+use Rattle.causes.proofs.mends.mended.Given as goal
+
+abbrev pub invariant-loop-insn : goal.invariant-loop-insn
+invariant-loop-insn l = record {
+  so_far : l.out.items ≡ mended l.edit l.place 0 (take l.insn-index l.insns);
+  here : l.unit ≡ length (slots_of (take l.insn-index l.insns));
+  few : length l.out.items ≤ 2 * l.insn-index;
+}

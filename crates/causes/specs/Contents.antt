@@ -1,0 +1,36 @@
+-- What is known of one cell of a stack: that it is a byte, or a piece of a pointer that stands there whole, or nothing (own).
+use Rattle.std.specs.Prelude.{ℕ, ℤ, zero, suc, ◌+◌, ◌-◌, ◌/◌, ◌%◌, ◌&&◌, nat_le, nat_lt, Bool, true, false, if◌then◌else◌, Option, Some, None}
+use Rattle.std.specs.Option.{option_or}
+use Rattle.std.specs.Ordering.{int_eq}
+use Rattle.semantics.specs.Limits.{stack_size}
+use Rattle.semantics.specs.Memory.{is_same_region}
+use Rattle.semantics.specs.declared.value.Region.{Region}
+use Rattle.absmem.specs.Known.{Known, byte_at, spill_at, pointer_of}
+use Rattle.causes.specs.declared.cells.Content.{Content}
+use Rattle.causes.specs.declared.cells.Content.TheVariants.{Unset, Byte, Piece}
+
+-- the pointer that begins at a place
+abbrev pub pointer_from : Known → ℕ → Option (Region × ℤ)
+pointer_from known place = if nat_le place 504 then pointer_of (place % 8) (spill_at known.spills (place / 8)) else None
+
+-- the first that begins at a place, or up to so many cells before
+abbrev pub pointer_over : Known → ℕ → ℕ → Option (Region × ℤ)
+pointer_over known place zero = None
+pointer_over known place (suc n) = option_or (pointer_from known place) (pointer_over known (place - 1) n)
+
+abbrev pub piece_of : Option (Region × ℤ) → Content
+piece_of None = Unset
+piece_of (Some pointer) = Piece pointer.0 pointer.1
+
+-- a pointer takes eight cells
+abbrev pub content_in : Known → ℕ → Content
+content_in known place = if byte_at known.bytes place then Byte else piece_of (pointer_over known place 8)
+
+abbrev pub held_at : Known → ℕ → Content
+held_at known place = if nat_lt place stack_size then content_in known place else Unset
+
+abbrev pub same_content : Content → Content → Bool
+same_content Unset Unset = true
+same_content Byte Byte = true
+same_content (Piece region offset) (Piece second place) = is_same_region region second && int_eq offset place
+same_content _ _ = false

@@ -1,0 +1,11 @@
+-- Laws of causes.
+use Rattle.std.specs.Prelude.{◌≡◌, None}
+use Rattle.insn.specs.declared.insn.Insn.{Insn}
+use Rattle.verify.specs.declared.state.AbsState.{AbsState}
+use Rattle.verify.specs.Instructions.{reason_of}
+use Rattle.verify.specs.Transfer.{transfer}
+use Rattle.causes.specs.Left.{left}
+
+-- what is left by an instruction that may run is what the verifier's transfer leaves
+abbrev pub LeftIsTransfer : Type 0
+LeftIsTransfer = (i : Insn) (a : AbsState) → reason_of i a ≡ None → left i a ≡ transfer i a

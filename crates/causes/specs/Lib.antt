@@ -1,0 +1,6 @@
+pub mod Contents
+pub mod Left
+pub mod Setting
+pub mod Marks
+pub mod Laws
+pub mod Mends

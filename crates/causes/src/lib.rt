@@ -1,0 +1,23 @@
+//! Where what is known comes from: what each instruction leaves, what a cell holds, and which units set it last.
+#![tactic(auto)]
+
+mod cells;
+mod laws;
+mod left;
+mod loads;
+mod mark;
+mod marking;
+mod mends;
+mod register;
+mod stack_left;
+mod subject;
+mod ways;
+
+pub use cells::{Content, held_at};
+pub use laws::left_is_the_transfer;
+pub use left::left_by;
+pub use mark::Mark;
+pub use marking::{known_by, marks};
+pub use mends::{Edit, Trial, tried};
+pub use register::{numbered, result_of};
+pub use subject::Subject;

@@ -1,0 +1,76 @@
+//! Which units set a register or a cell last before a unit.
+ghost use Rattle.std.specs.Prelude.{◌≡◌, ◌<◌, length, replicate, slice_get, option_map, IfOk};
+ghost use Rattle.insn.specs.Program.{slots_of, instruction_at};
+ghost use Rattle.causes.specs.Marks.{known_by, mark_of, marks};
+
+use crate::mark::Mark;
+use crate::subject::Subject;
+use crate::ways::leads_open;
+use insn::Program;
+use std::alloc::{AllocError, Global};
+use verify::AbsState;
+
+/// What is known at a unit, if anything is.
+pub fn known_by(states: &[Option<AbsState>], unit: usize) -> Option<&AbsState>
+    ensures { option_map (λ a. a.now) result ≡ known_by (slice_get states.now unit) }
+{
+    states.get(unit)?.as_ref()
+}
+
+/// So many units of which none is open.
+fn closed(alloc: Global, units: usize) -> Result<Vec<Mark>, AllocError>
+    ensures { IfOk result (λ marks. marks.items ≡ replicate units Mark.Closed) }
+{
+    let mut marks = Vec::with_capacity(alloc, units)?;
+    for _unit in 0..units {
+        marks.push(Mark::Closed)?;
+    }
+    Ok(marks)
+}
+
+/// The mark of a unit, by those of the units behind it.
+fn mark_of(
+    subject: &Subject,
+    behind: &[Mark],
+    program: &Program,
+    states: &[Option<AbsState>],
+    unit: usize,
+) -> Mark
+    ensures { result ≡ mark_of subject.now behind.now unit (instruction_at program.now unit) (known_by (slice_get states.now unit)) }
+{
+    let Some(insn) = program.at(unit) else {
+        return Mark::Closed;
+    };
+    let Some(state) = known_by(states, unit) else {
+        return Mark::Closed;
+    };
+    if !leads_open(behind, &insn, unit) {
+        return Mark::Closed;
+    }
+    if subject.is_set_by(&insn, state) {
+        Mark::Sets
+    } else {
+        Mark::Open
+    }
+}
+
+/// The marks of the units of a program, of which this is known, for what is asked about at one of them.
+pub fn marks(
+    alloc: Global,
+    program: &Program,
+    states: &[Option<AbsState>],
+    subject: &Subject,
+    unit: usize,
+) -> Result<Vec<Mark>, AllocError>
+    requires { unit < length (slots_of program.now) }
+    ensures { IfOk result (λ vec. vec.items ≡ marks program.now (slice_get states.now) subject.now unit) }
+{
+    let mut marks = closed(alloc, program.units())?;
+    marks[unit] = Mark::Open;
+    for below in 0..unit {
+        let place = unit - (below + 1);
+        let mark = mark_of(subject, marks.as_slice(), program, states, place);
+        marks[place] = mark;
+    }
+    Ok(marks)
+}

@@ -1,0 +1,47 @@
+//! Registers by number, and the one that takes a result.
+ghost use Rattle.std.specs.Prelude.{◌≡◌, ◌≤◌, ◌<◌};
+ghost use Rattle.verify.specs.Registers.{known_at};
+ghost use Rattle.causes.specs.Left.{result_of};
+
+use absval::AbsVal;
+use insn::{Insn, Reg};
+
+/// The register of a number.
+pub fn numbered(number: u8) -> Reg
+    requires { number ≤ 10 }
+    ensures { result ≡ number }
+{
+    match Reg::new(number) {
+        Some(r) => r,
+        None => unreachable!(),
+    }
+}
+
+/// What is known of the register of a number.
+pub(crate) fn known_at(registers: &[AbsVal; 11], number: usize) -> AbsVal
+    requires { number < 11 }
+    ensures { result ≡ known_at registers.now number }
+{
+    registers[number]
+}
+
+/// The register that takes the result of an instruction.
+pub fn result_of(insn: &Insn) -> Option<Reg>
+    ensures { result ≡ result_of insn.now }
+{
+    match insn {
+        Insn::Arithmetic { dst, .. }
+        | Insn::Negate { dst, .. }
+        | Insn::SignExtend { dst, .. }
+        | Insn::Swap { dst, .. }
+        | Insn::LoadImmediate { dst, .. }
+        | Insn::Load { dst, .. }
+        | Insn::LoadSigned { dst, .. } => Some(*dst),
+        Insn::Call { .. } => Some(numbered(0)),
+        Insn::Jump { .. }
+        | Insn::LongJump { .. }
+        | Insn::Branch { .. }
+        | Insn::Store { .. }
+        | Insn::Exit => None,
+    }
+}

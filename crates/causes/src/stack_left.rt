@@ -1,0 +1,133 @@
+//! What is left of the stack by an instruction that writes it.
+ghost use Rattle.std.specs.Prelude.{◌≡◌, ◌+◌, ◌≤◌, IfSome};
+ghost use Rattle.absval.specs.Windows.{window_known};
+ghost use Rattle.semantics.specs.Call.{helper_of};
+ghost use Rattle.verify.specs.Transfer.{number_stored, pointer_stored, written, copied};
+ghost use Rattle.verify.specs.Calls.{is_certain, window_from};
+ghost use Rattle.causes.specs.Left.{stored_in_stack, copied_to_stack, behind_call};
+
+use absmem::AbsStack;
+use absval::{AbsVal, NumberSet, Offset, Offsets, Window, window_of};
+use helper::{BOARD_WORDS, Helper};
+use insn::Size;
+use semantics::Region;
+
+/// A number of so many bytes is stored somewhere in a window.
+fn put_number(stack: &mut AbsStack, size: usize, window: Option<Window>)
+    requires { IfSome window (λ w. w.place + w.size ≤ 512) }
+    ensures { stack.new ≡ number_stored size window stack.old }
+{
+    let Some(Window {
+        place,
+        size: wide,
+    }) = window
+    else {
+        return;
+    };
+    if wide == size {
+        stack.put_bytes(place, wide);
+    } else {
+        stack.spread_bytes(place, wide);
+    }
+}
+
+/// A pointer is stored where a window begins.
+fn put_pointer(stack: &mut AbsStack, region: Region, offset: Offset, window: Option<Window>)
+    requires { IfSome window (λ w. w.place + 8 ≤ 512) }
+    ensures { stack.new ≡ pointer_stored region offset window stack.old }
+{
+    let Some(Window { place, .. }) = window else {
+        return;
+    };
+    stack.put_pointer(place, region, offset);
+}
+
+/// The cells of the stack that eight bytes may take, a distance from an offset.
+fn eight_cells(offsets: Offsets, distance: i16) -> Option<Window>
+    ensures exact { result ≡ window_known Region.Stack offsets.0 offsets.1 distance 8 }
+    ensures fits { IfSome result (λ w. w.place + 8 ≤ 512) }
+{
+    window_of(Region::Stack, offsets, distance, 8)
+}
+
+/// What a store leaves of the stack.
+pub(crate) fn store(
+    stack: &mut AbsStack,
+    size: Size,
+    base: AbsVal,
+    distance: i16,
+    value: AbsVal,
+)
+    ensures { stack.new ≡ stored_in_stack size base distance value stack.old }
+{
+    let AbsVal::Pointer(region, at) = base else {
+        return;
+    };
+    let Region::Stack = region else {
+        return;
+    };
+    match value {
+        AbsVal::Unset => {}
+        AbsVal::Number(_) => {
+            let size = size.bytes();
+            let window = window_of(Region::Stack, at, distance, size);
+            put_number(stack, size, window);
+        }
+        AbsVal::Pointer(region, kept) => {
+            let window = eight_cells(at, distance);
+            put_pointer(stack, region, kept.least(), window);
+        }
+    }
+}
+
+/// Words are written to one place, or somewhere in a window.
+fn write_words(stack: &mut AbsStack, certain: bool, window: Option<Window>)
+    requires { IfSome window (λ w. w.place + w.size ≤ 512) }
+    ensures { stack.new ≡ written certain window stack.old }
+{
+    let Some(Window { place, size }) = window else {
+        return;
+    };
+    if certain {
+        stack.put_bytes(place, size);
+    } else {
+        stack.spread_bytes(place, size);
+    }
+}
+
+/// Whether words are written to one place: pointer and count are one number each.
+fn is_certain(offsets: Offsets, counts: NumberSet) -> bool
+    ensures { result ≡ is_certain offsets counts }
+{
+    offsets.is_one() && counts.is_one()
+}
+
+/// What a copy of words of the board leaves of the stack.
+fn copy(stack: &mut AbsStack, target: AbsVal, counts: AbsVal)
+    ensures { stack.new ≡ copied_to_stack target counts stack.old }
+{
+    let AbsVal::Pointer(region, at) = target else {
+        return;
+    };
+    let Region::Stack = region else {
+        return;
+    };
+    let AbsVal::Number(counts) = counts else {
+        return;
+    };
+    if counts.greatest() > BOARD_WORDS {
+        return;
+    }
+    let window = window_of(Region::Stack, at, 0, 8 * counts.greatest() as usize);
+    write_words(stack, is_certain(at, counts), window);
+}
+
+/// What a call leaves of the stack, of which r2 and r3 tell where and how much is written.
+pub(crate) fn call(stack: &mut AbsStack, helper: Option<Helper>, target: AbsVal, counts: AbsVal)
+    ensures { stack.new ≡ behind_call helper target counts stack.old }
+{
+    match helper {
+        Some(Helper::BoardCopy) => copy(stack, target, counts),
+        _ => {}
+    }
+}

@@ -1,0 +1,50 @@
+//! What is asked about, and whether an instruction sets it.
+ghost use Rattle.std.specs.Prelude.{◌≡◌};
+ghost use Rattle.causes.specs.Setting.{writes, sets};
+
+use crate::cells::held_at;
+use crate::left::left_by;
+use crate::register::result_of;
+use insn::{Insn, Reg};
+use verify::AbsState;
+
+/// A register, or a cell of the stack, counted from its lowest.
+#[derive(Clone, Copy, Debug, PartialEq, Eq)]
+pub enum Subject {
+    Register(Reg),
+    Cell(u16),
+}
+
+/// Whether an instruction writes a register: a call writes r0 to r5.
+fn writes(insn: &Insn, r: Reg) -> bool
+    ensures { result ≡ writes insn.now r }
+{
+    if let Insn::Call { .. } = insn {
+        return r.number() <= 5;
+    }
+    match result_of(insn) {
+        Some(dst) => dst.number() == r.number(),
+        None => false,
+    }
+}
+
+/// Whether an instruction leaves something else in a cell than was known of it.
+fn changes(insn: &Insn, cell: u16, state: &AbsState) -> bool
+    ensures { result ≡ sets (Subject.Cell cell) insn.now state.now }
+{
+    let place = usize::from(cell);
+    let before = held_at(&state.stack, place);
+    !before.is_same(held_at(&left_by(insn, state).stack, place))
+}
+
+impl Subject {
+    /// Whether an instruction sets it.
+    pub fn is_set_by(&self, insn: &Insn, state: &AbsState) -> bool
+        ensures { result ≡ sets self.now insn.now state.now }
+    {
+        match self {
+            Subject::Register(r) => writes(insn, *r),
+            Subject::Cell(cell) => changes(insn, *cell, state),
+        }
+    }
+}

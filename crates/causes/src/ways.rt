@@ -1,0 +1,57 @@
+//! Where an instruction may lead.
+ghost use Rattle.std.specs.Prelude.{◌≡◌, ◌≢◌, ◌<◌, ◌+◌, ◌+ℤ◌, pos, ℕ, IfSome, IfNone, slice_get};
+ghost use Rattle.semantics.specs.Plain.{leads_to};
+ghost use Rattle.causes.specs.Marks.{is_open, open_at, leads_open};
+
+use crate::mark::Mark;
+use insn::Insn;
+
+/// Whether the mark of a unit is open.
+fn is_open(marks: &[Mark], unit: usize) -> bool
+    ensures { result ≡ is_open (slice_get marks.now unit) }
+{
+    match marks.get(unit) {
+        Some(Mark::Open) => true,
+        _ => false,
+    }
+}
+
+/// The unit so far from the following one, if there is one.
+fn target(unit: usize, distance: i32) -> Option<usize>
+    requires { unit < 4096 }
+    ensures there { IfSome result (λ n. pos n ≡ pos (unit + 1) +ℤ distance) }
+    ensures nowhere { IfNone result ((n : ℕ) → pos n ≢ pos (unit + 1) +ℤ distance) }
+{
+    let to = unit as i64 + 1 + i64::from(distance);
+    if to < 0 {
+        return None;
+    }
+    Some(to as usize)
+}
+
+/// Whether the unit so far from the following one is open.
+fn is_open_to(marks: &[Mark], unit: usize, distance: i32) -> bool
+    requires { unit < 4096 }
+    ensures { result ≡ open_at marks.now (pos (unit + 1) +ℤ distance) }
+{
+    match target(unit, distance) {
+        Some(to) => is_open(marks, to),
+        None => false,
+    }
+}
+
+/// Whether an instruction may lead to an open unit.
+pub(crate) fn leads_open(marks: &[Mark], insn: &Insn, unit: usize) -> bool
+    requires { unit < 4096 }
+    ensures { result ≡ leads_open marks.now (leads_to insn.now unit) }
+{
+    match insn {
+        Insn::Jump { distance } => is_open_to(marks, unit, i32::from(*distance)),
+        Insn::LongJump { distance } => is_open_to(marks, unit, *distance),
+        Insn::Branch { distance, .. } => {
+            is_open(marks, unit + 1) || is_open_to(marks, unit, i32::from(*distance))
+        }
+        Insn::Exit => false,
+        _ => is_open(marks, unit + insn.units() as usize),
+    }
+}

@@ -1,0 +1,88 @@
+-- With each help that is said the verifier comes past the refused instruction.
+use Rattle.std.proofs.Common.{◌≡◌, ◌≢◌, ◌∙◌, ℕ, zero, suc, ◌+◌, ◌<◌, ◌≤◌, List, Bool, true, false, Option, Some, None, length, refl, ap, sym, subst}
+use Rattle.std.specs.Prelude.{◌&&◌, nat_lt, nat_le, if◌then◌else◌}
+use Rattle.std.proofs.lemmas.Bool.{ltb-true}
+use Rattle.insn.specs.declared.insn.Insn.{Insn}
+use Rattle.insn.specs.Program.{slots_of}
+use Rattle.verify.specs.declared.error.VerifyError.{VerifyError}
+use Rattle.verify.specs.declared.error.VerifyError.TheVariants.{At, Memory}
+use Rattle.verify.specs.declared.reason.Reason.{Reason}
+use Rattle.verify.specs.Judgement.{judged}
+use Rattle.causes.specs.declared.mends.Edit.{Edit}
+use Rattle.causes.specs.declared.mends.Trial.{Trial}
+use Rattle.causes.specs.declared.mends.Trial.TheVariants.{Refused, Passes, Accepted}
+use Rattle.causes.specs.Mends.{mended, comes, tried_with, tried}
+use Rattle.explain.specs.declared.wanted.Choice.{Choice}
+use Rattle.explain.specs.declared.wanted.Choice.TheVariants.{Mask, One}
+use Rattle.explain.specs.Helps.{unit_behind, Help, accepted_or, better, mask, best_mask, best}
+use Rattle.explain.specs.Laws.{Mends, HelpsMend}
+
+-- ---- a trial
+
+-- a trial is not refused: it passes, or is accepted
+abbrev IsGood : Trial → Type 0
+IsGood Refused = ⊥
+IsGood Passes = Unit {0}
+IsGood Accepted = Unit {0}
+
+come_past : (unit : ℕ) (r : Reason) (at : ℕ) → IsGood (comes unit (Some (At r at))) → unit < at
+come_past unit r at good = by_test (nat_lt unit at) refl good
+  where
+    by_test : (b : Bool) → nat_lt unit at ≡ b → IsGood (if b then Passes else Refused) → unit < at
+    by_test true e k = ltb-true unit at e
+    by_test false e k = absurd k
+
+come_through : (unit : ℕ) (o : Option VerifyError) → comes unit o ≡ Accepted → o ≡ None
+come_through unit None e = refl
+come_through unit (Some Memory) e = absurd cc
+come_through unit (Some (At r at)) e = by_test (nat_lt unit at) e
+  where
+    by_test : (b : Bool) → (if b then Passes else Refused) ≡ Accepted → Some (At r at) ≡ None
+    by_test true k = absurd cc
+    by_test false k = absurd cc
+
+-- a trial that is not refused is that of the verifier's one function
+come_so : (program : List Insn) (unit : ℕ) → IsGood (tried_with program unit) → tried_with program unit ≡ comes unit (judged program)
+come_so program unit good = by_test (nat_lt 0 (length (slots_of program)) && nat_le (length (slots_of program)) 4096) good
+  where
+    by_test : (b : Bool) → IsGood (if b then comes unit (judged program) else Refused) → (if b then comes unit (judged program) else Refused) ≡ comes unit (judged program)
+    by_test true k = refl
+    by_test false k = absurd k
+
+of_trial : (program : List Insn) (place unit : ℕ) (edit : Edit) (trial : Trial) → trial ≡ tried edit place program (unit_behind edit unit) → IsGood trial → Mends program place unit edit trial
+of_trial program place unit edit trial e good =
+    let whole : List Insn = mended edit place 0 program in
+    let behind : ℕ = unit_behind edit unit in
+    let so : trial ≡ comes behind (judged whole) = e ∙ come_so whole behind (subst IsGood e good) in
+    record {
+      past = λ r at h. come_past behind r at (subst (λ (o : Option VerifyError). IsGood (comes behind o)) h (subst IsGood so good));
+      accepted = λ h. come_through behind (judged whole) (sym so ∙ h);
+    }
+
+-- ---- the best of two
+
+-- a help is one of which so is true
+abbrev Helps : List Insn → ℕ → ℕ → Option Help → Type 0
+Helps program place unit None = Unit {0}
+Helps program place unit (Some help) = Mends program place unit help.0 help.1
+
+better_helps : (program : List Insn) (place unit : ℕ) (edit : Edit) (trial : Trial) (rest : Option Help) → trial ≡ tried edit place program (unit_behind edit unit) → Helps program place unit rest →
+    Helps program place unit (better edit trial rest)
+better_helps program place unit edit Accepted rest e h = of_trial program place unit edit Accepted e tt
+better_helps program place unit edit Refused rest e h = h
+better_helps program place unit edit Passes None e h = of_trial program place unit edit Passes e tt
+better_helps program place unit edit Passes (Some (other, Accepted)) e h = h
+better_helps program place unit edit Passes (Some (other, Passes)) e h = of_trial program place unit edit Passes e tt
+better_helps program place unit edit Passes (Some (other, Refused)) e h = of_trial program place unit edit Passes e tt
+
+masks_help : (program : List Insn) (place unit r bits : ℕ) → Helps program place unit (best_mask program place unit r bits)
+masks_help program place unit r zero = tt
+masks_help program place unit r (suc bits) =
+    better_helps program place unit (mask r (suc bits)) (tried (mask r (suc bits)) place program (unit + 1)) (best_mask program place unit r bits) refl (masks_help program place unit r bits)
+
+best_helps : (program : List Insn) (place unit : ℕ) (choice : Choice) → Helps program place unit (best program place unit choice)
+best_helps program place unit (Mask r) = masks_help program place unit r 6
+best_helps program place unit (One edit) = better_helps program place unit edit (tried edit place program (unit_behind edit unit)) None refl tt
+
+pub helps_mend : HelpsMend
+helps_mend program place unit choice edit trial e = subst (λ (o : Option Help). Helps program place unit o) e (best_helps program place unit choice)

@@ -1,0 +1,132 @@
+-- Edits that mend a refusal, each said only where the verifier comes past the refused instruction in the program with the edit (own).
+use Rattle.std.specs.Prelude.{ℕ, ℤ, zero, suc, pos, ◌+◌, ◌-◌, ◌^◌, ◌==◌, Bool, true, false, if◌then◌else◌, List, [], ◌++◌, Option, Some, None, option_map, option_and_then, codes, decimal, slice_get}
+use Rattle.word.specs.declared.Width.TheVariants.{W64}
+use Rattle.word.specs.declared.Operation.TheVariants.{Add, And, Move}
+use Rattle.insn.specs.declared.insn.Insn.{Insn}
+use Rattle.insn.specs.declared.insn.Insn.TheVariants.{Arithmetic}
+use Rattle.insn.specs.declared.insn.Operand.TheVariants.{Register, Immediate}
+use Rattle.insn.specs.Program.{instruction_at}
+use Rattle.asm.specs.Printing.{insn_text}
+use Rattle.absval.specs.declared.value.AbsVal.{AbsVal}
+use Rattle.absval.specs.declared.value.AbsVal.TheVariants.{Unset, Number, Pointer}
+use Rattle.causes.specs.declared.mark.Mark.{Mark}
+use Rattle.causes.specs.declared.mark.Mark.TheVariants.{Sets}
+use Rattle.causes.specs.declared.mends.Edit.{Edit}
+use Rattle.causes.specs.declared.mends.Edit.TheVariants.{Before, Instead}
+use Rattle.causes.specs.declared.mends.Trial.{Trial}
+use Rattle.causes.specs.declared.mends.Trial.TheVariants.{Refused, Passes, Accepted}
+use Rattle.causes.specs.Mends.{put_by, tried}
+use Rattle.explain.specs.declared.sentence.Sentence.{Sentence}
+use Rattle.explain.specs.declared.sentence.Sentence.TheVariants as sentence
+use Rattle.explain.specs.declared.sentence.Misuse.{Misuse}
+use Rattle.explain.specs.declared.sentence.Misuse.TheVariants as misuse
+use Rattle.explain.specs.declared.sentence.Access.{Access}
+use Rattle.explain.specs.declared.sentence.Access.TheVariants as access
+use Rattle.explain.specs.declared.sentence.Misfit.{Misfit}
+use Rattle.explain.specs.declared.sentence.Misfit.TheVariants as misfit
+use Rattle.explain.specs.declared.wanted.Choice.{Choice}
+use Rattle.explain.specs.declared.wanted.Choice.TheVariants.{Mask, One}
+
+-- ---- what is to be tried for a sentence, and before which unit
+
+abbrev pub mask_at : ℕ → ℕ → Option (ℕ × Choice)
+mask_at unit r = Some (unit, Mask r)
+
+-- the number that moves a pointer
+abbrev pub moving_mask : ℕ → Insn → Option (ℕ × Choice)
+moving_mask unit (Arithmetic w operation dst (Register src)) = mask_at unit src
+moving_mask unit i = None
+
+-- a pointer is moved in its own register
+abbrev pub exchanged : ℕ → Insn → Option (ℕ × Choice)
+exchanged unit (Arithmetic W64 Add dst (Register src)) = Some (unit, One (Instead Add src (Register dst)))
+exchanged unit i = None
+
+abbrev pub for_misuse : ℕ → Insn → Misuse → Option (ℕ × Choice)
+for_misuse unit i (misuse.EitherSign r value) = mask_at unit r
+for_misuse unit i (misuse.Far r region span) = moving_mask unit i
+for_misuse unit i (misuse.Computed r value) = exchanged unit i
+for_misuse unit i (misuse.Exit value) = Some (unit, One (Before Move 0 (Immediate (pos 0))))
+for_misuse unit i m = None
+
+abbrev pub for_argument : ℕ → ℕ → AbsVal → Option (ℕ × Choice)
+for_argument unit r (Number n) = mask_at unit r
+for_argument unit r value = None
+
+abbrev pub for_misfit : ℕ → Misfit → Option (ℕ × Choice)
+for_misfit unit (misfit.Above r value most) = for_argument unit r value
+for_misfit unit m = None
+
+abbrev pub is_set : Option Mark → Bool
+is_set (Some Sets) = true
+is_set _ = false
+
+-- the last of the units below one that set it
+abbrev pub last_set : List Mark → ℕ → Option ℕ
+last_set marks zero = None
+last_set marks (suc n) = if is_set (slice_get marks n) then Some n else last_set marks n
+
+abbrev pub moved_at : List Insn → ℕ → Option (ℕ × Choice)
+moved_at program unit = option_and_then (moving_mask unit) (instruction_at program unit)
+
+-- a pointer leads too far: the number that moved it last
+abbrev pub for_access : List Insn → List Mark → ℕ → Access → Option (ℕ × Choice)
+for_access program marks unit (access.Outside r region span) = option_and_then (moved_at program) (last_set marks unit)
+for_access program marks unit a = None
+
+abbrev pub wanted : List Insn → List Mark → ℕ → Insn → Sentence → Option (ℕ × Choice)
+wanted program marks unit i (sentence.Structure s) = None
+wanted program marks unit i (sentence.Register m) = for_misuse unit i m
+wanted program marks unit i (sentence.Memory a) = for_access program marks unit a
+wanted program marks unit i (sentence.Call m) = for_misfit unit m
+
+-- ---- trials
+
+-- the unit of the refused instruction in the program with the edit
+abbrev pub unit_behind : Edit → ℕ → ℕ
+unit_behind (Before operation dst operand) unit = unit + 1
+unit_behind (Instead operation dst operand) unit = unit
+
+abbrev pub mask : ℕ → ℕ → Edit
+mask r bits = Before And r (Immediate (pos (2 ^ bits - 1)))
+
+abbrev pub Help : Type 0
+Help = Edit × Trial
+
+abbrev pub accepted_or : Edit → Option Help → Option Help
+accepted_or edit (Some (other, Accepted)) = Some (other, Accepted)
+accepted_or edit rest = Some (edit, Passes)
+
+-- the first edit with which the program is accepted, else the first that mends this refusal
+abbrev pub better : Edit → Trial → Option Help → Option Help
+better edit Accepted rest = Some (edit, Accepted)
+better edit Passes rest = accepted_or edit rest
+better edit Refused rest = rest
+
+-- of the masks of up to so many bits, the widest first
+abbrev pub best_mask : List Insn → ℕ → ℕ → ℕ → ℕ → Option Help
+best_mask program place unit r zero = None
+best_mask program place unit r (suc bits) = better (mask r (suc bits)) (tried (mask r (suc bits)) place program (unit + 1)) (best_mask program place unit r bits)
+
+abbrev pub best : List Insn → ℕ → ℕ → Choice → Option Help
+best program place unit (Mask r) = best_mask program place unit r 6
+best program place unit (One edit) = better edit (tried edit place program (unit_behind edit unit)) None
+
+-- ---- text
+
+abbrev pub edit_text : ℕ → Edit → List ℕ
+edit_text place (Before operation dst operand) = codes "` before unit " ++ decimal place
+edit_text place (Instead operation dst operand) = codes "` in place of unit " ++ decimal place
+
+abbrev pub trial_text : Trial → List ℕ
+trial_text Accepted = codes " the program is accepted"
+trial_text Passes = codes " this passes"
+trial_text Refused = []
+
+abbrev pub told_help : ℕ → Option Help → List ℕ
+told_help place None = []
+told_help place (Some help) = codes "\nhelp: with `" ++ insn_text (put_by help.0) ++ edit_text place help.0 ++ trial_text help.1
+
+abbrev pub help_on : List Insn → ℕ → Option (ℕ × Choice) → List ℕ
+help_on program unit None = []
+help_on program unit (Some want) = told_help want.0 (best program want.0 unit want.1)

@@ -1,0 +1,233 @@
+//! Where what a refusal is about comes from, as notes.
+ghost use Rattle.std.specs.Prelude.{◌≡◌, ◌++◌, option_map, slice_get, string_bytes, OnOk};
+ghost use Rattle.explain.specs.Notes.{of_misuse, of_access, of_misfit, subject_of, found_text, noted_text, rule_behind, set_note, noted_if, passing_note, note_by, note_text, entry_note, notes_below};
+
+use crate::cells::put_run;
+use crate::rules::{Passing, passed_by, rule_text};
+use crate::sentence::{Access, Misfit, Misuse, Named, Sentence};
+use asm::put_instruction;
+use causes::{Mark, Subject, held_at, known_by, left_by, numbered};
+use insn::{Insn, Program};
+use std::alloc::AllocError;
+use verify::AbsState;
+
+/// What a misuse is about.
+fn of_misuse(misuse: Misuse) -> Option<Subject>
+    ensures { result ≡ of_misuse misuse }
+{
+    match misuse {
+        Misuse::Frame => None,
+        Misuse::Exit(_) => Some(Subject::Register(numbered(0))),
+        Misuse::Unset(r)
+        | Misuse::Far(r, _, _)
+        | Misuse::EitherSign(r, _)
+        | Misuse::Computed(r, _)
+        | Misuse::Compared(r, _)
+        | Misuse::Stored(r, _, _, _)
+        | Misuse::NoBase(r, _) => Some(Subject::Register(r)),
+    }
+}
+
+/// What an access is about.
+fn of_access(access: Access) -> Option<Subject>
+    ensures { result ≡ of_access access }
+{
+    match access {
+        Access::Empty(_, _, cell) => Some(Subject::Cell(cell)),
+        Access::Outside(r, _, _) | Access::Context(r, _) => Some(Subject::Register(r)),
+    }
+}
+
+/// What a call is about.
+fn of_misfit(misfit: Misfit) -> Option<Subject>
+    ensures { result ≡ of_misfit misfit }
+{
+    match misfit {
+        Misfit::Above(r, _, _) | Misfit::NoPointer(r, _) => Some(Subject::Register(r)),
+        Misfit::Helper(_) | Misfit::Board(_) => None,
+    }
+}
+
+/// What a sentence is about.
+pub(crate) fn subject_of(sentence: &Sentence) -> Option<Subject>
+    ensures { result ≡ subject_of sentence.now }
+{
+    match *sentence {
+        Sentence::Structure(_) => None,
+        Sentence::Register(misuse) => of_misuse(misuse),
+        Sentence::Memory(access) => of_access(access),
+        Sentence::Call(misfit) => of_misfit(misfit),
+    }
+}
+
+/// Adds what is known of it.
+fn put_found(out: &mut String, asked: &Subject, state: &AbsState) -> Result<(), AllocError>
+    ensures { OnOk result (string_bytes out.new ≡ string_bytes out.old ++ found_text asked.now state.now) }
+{
+    match asked {
+        Subject::Register(r) => {
+            let named = Named(*r, state.known(*r));
+            write!(out, "{named}")
+        }
+        Subject::Cell(cell) => {
+            let place = usize::from(*cell);
+            put_run(out, place, place + 1, held_at(&state.stack, place))
+        }
+    }
+}
+
+/// Adds that an instruction is noted.
+fn put_noted(out: &mut String, unit: usize, insn: &Insn) -> Result<(), AllocError>
+    ensures { OnOk result (string_bytes out.new ≡ string_bytes out.old ++ noted_text unit insn.now) }
+{
+    write!(out, "\nnote: {unit} ")?;
+    put_instruction(out, insn)
+}
+
+/// Adds by which rule it is what is known behind an instruction.
+fn put_rule(
+    out: &mut String,
+    asked: &Subject,
+    insn: &Insn,
+    left: &AbsState,
+) -> Result<(), AllocError>
+    ensures { OnOk result (string_bytes out.new ≡ string_bytes out.old ++ rule_behind asked.now insn.now left.now) }
+{
+    match asked {
+        Subject::Register(r) => out.push_str(rule_text(insn, left.known(*r))),
+        Subject::Cell(_) => Ok(()),
+    }
+}
+
+/// Adds what an instruction that set it left.
+fn put_set(
+    out: &mut String,
+    asked: &Subject,
+    unit: usize,
+    insn: &Insn,
+    state: &AbsState,
+) -> Result<(), AllocError>
+    ensures { OnOk result (string_bytes out.new ≡ string_bytes out.old ++ set_note asked.now unit insn.now state.now) }
+{
+    let left = left_by(insn, state);
+    put_noted(out, unit, insn)?;
+    out.push_str(" -> ")?;
+    put_found(out, asked, &left)?;
+    put_rule(out, asked, insn, &left)
+}
+
+/// Adds an instruction that tells nothing of a register, if it is one.
+fn put_if(
+    out: &mut String,
+    unit: usize,
+    insn: &Insn,
+    tells: Option<Passing>,
+) -> Result<(), AllocError>
+    ensures { OnOk result (string_bytes out.new ≡ string_bytes out.old ++ noted_if unit insn.now tells) }
+{
+    let Some(tells) = tells else {
+        return Ok(());
+    };
+    put_noted(out, unit, insn)?;
+    write!(out, "{tells}")
+}
+
+/// Adds an instruction on a way there that tells nothing of it.
+fn put_passing(
+    out: &mut String,
+    asked: &Subject,
+    unit: usize,
+    insn: &Insn,
+    state: &AbsState,
+) -> Result<(), AllocError>
+    ensures { OnOk result (string_bytes out.new ≡ string_bytes out.old ++ passing_note asked.now unit insn.now state.now) }
+{
+    match asked {
+        Subject::Register(r) => put_if(out, unit, insn, passed_by(*r, insn, state.known(*r))),
+        Subject::Cell(_) => Ok(()),
+    }
+}
+
+/// Adds what is noted of a unit by its mark.
+fn put_note(
+    out: &mut String,
+    asked: &Subject,
+    unit: usize,
+    insn: &Insn,
+    state: &AbsState,
+    mark: Option<Mark>,
+) -> Result<(), AllocError>
+    ensures { OnOk result (string_bytes out.new ≡ string_bytes out.old ++ note_by asked.now unit insn.now state.now mark) }
+{
+    match mark {
+        Some(Mark::Sets) => put_set(out, asked, unit, insn, state),
+        Some(Mark::Open) => put_passing(out, asked, unit, insn, state),
+        Some(Mark::Closed) | None => Ok(()),
+    }
+}
+
+/// The same where an instruction starts to which a path leads.
+fn put_note_at(
+    out: &mut String,
+    asked: &Subject,
+    unit: usize,
+    insn: Option<Insn>,
+    state: Option<&AbsState>,
+    mark: Option<Mark>,
+) -> Result<(), AllocError>
+    ensures { OnOk result (string_bytes out.new ≡ string_bytes out.old ++ note_text asked.now unit insn (option_map (λ a. a.now) state.entry) mark) }
+{
+    let Some(insn) = insn else {
+        return Ok(());
+    };
+    let Some(state) = state else {
+        return Ok(());
+    };
+    put_note(out, asked, unit, &insn, state, mark)
+}
+
+/// Adds what is known at the entry, where a way leads from there on which nothing sets it.
+fn put_entry(
+    out: &mut String,
+    asked: &Subject,
+    state: Option<&AbsState>,
+    mark: Option<Mark>,
+) -> Result<(), AllocError>
+    ensures { OnOk result (string_bytes out.new ≡ string_bytes out.old ++ entry_note asked.now (option_map (λ a. a.now) state.entry) mark) }
+{
+    let Some(state) = state else {
+        return Ok(());
+    };
+    let Some(Mark::Open) = mark else {
+        return Ok(());
+    };
+    out.push_str("\nnote: at the entry ")?;
+    put_found(out, asked, state)
+}
+
+/// The mark of a unit, if it has one.
+fn mark_at(marks: &[Mark], unit: usize) -> Option<Mark>
+    ensures { result ≡ slice_get marks.now unit }
+{
+    marks.get(unit).copied()
+}
+
+/// Adds the notes of the units below one.
+pub(crate) fn put_notes_below(
+    out: &mut String,
+    program: &Program,
+    states: &[Option<AbsState>],
+    asked: &Subject,
+    marks: &[Mark],
+    unit: usize,
+) -> Result<(), AllocError>
+    ensures { OnOk result (string_bytes out.new ≡ string_bytes out.old ++ notes_below program.now (slice_get states.now) asked.now marks.now unit) }
+{
+    put_entry(out, asked, known_by(states, 0), mark_at(marks, 0))?;
+    for place in 0..unit {
+        let insn = program.at(place);
+        let state = known_by(states, place);
+        put_note_at(out, asked, place, insn, state, mark_at(marks, place))?;
+    }
+    Ok(())
+}

@@ -1,0 +1,157 @@
+//! Which rule of the verifier an instruction meets that leaves a register unknown, or tells nothing of it.
+ghost use Rattle.std.specs.Prelude.{◌≡◌, ◌^◌, ◌-◌};
+ghost use Rattle.explain.specs.Rules.{number_rule, unset_rule, rule_text, is_signed, limit_bits, is_past, passed_by};
+
+use absval::AbsVal;
+use insn::{Insn, Operand, Reg};
+use std::fmt;
+use word::{Condition, Operation, Width};
+
+/// Of one that left a number.
+fn number_rule(insn: &Insn) -> &'static str
+    ensures { result.now ≡ number_rule insn.now }
+{
+    match insn {
+        Insn::Arithmetic {
+            operation: Operation::ArithmeticShiftRight,
+            ..
+        } => ": the sign is copied, so of numbers on both sides of 2^63 it is any number",
+        Insn::Negate { .. } => ": what was 0 and more becomes 0, and just below 2^64",
+        Insn::SignExtend { .. } | Insn::LoadSigned { .. } => {
+            ": the sign is extended, so it is small, or just below 2^64"
+        }
+        Insn::Load { .. } => ": a load gives any number of its size",
+        _ => "",
+    }
+}
+
+/// Of one that left nothing.
+fn unset_rule(insn: &Insn) -> &'static str
+    ensures { result.now ≡ unset_rule insn.now }
+{
+    match insn {
+        Insn::Call { .. } => ": behind a call r1 to r5 are unset",
+        _ => "",
+    }
+}
+
+/// Of an instruction that set a register, by what is known behind it.
+pub(crate) fn rule_text(insn: &Insn, value: AbsVal) -> &'static str
+    ensures { result.now ≡ rule_text insn.now value }
+{
+    match value {
+        AbsVal::Unset => unset_rule(insn),
+        AbsVal::Number(_) => number_rule(insn),
+        AbsVal::Pointer(..) => "",
+    }
+}
+
+/// Whether a condition reads its numbers as signed.
+fn is_signed(condition: Condition) -> bool
+    ensures { result ≡ is_signed condition }
+{
+    match condition {
+        Condition::SignedAbove
+        | Condition::SignedAtLeast
+        | Condition::SignedBelow
+        | Condition::SignedAtMost => true,
+        _ => false,
+    }
+}
+
+/// A test tells of numbers that are known to be below 2 to so many.
+fn limit_bits(width: Width, signed: bool) -> u8
+    ensures { result ≡ limit_bits width signed }
+{
+    match (width, signed) {
+        (Width::W32, true) => 31,
+        (Width::W32, false) => 32,
+        (Width::W64, true) => 63,
+        (Width::W64, false) => 64,
+    }
+}
+
+/// The greatest number of which a test tells.
+fn limit(width: Width, signed: bool) -> u64
+    ensures { result ≡ 2 ^ limit_bits width signed - 1 }
+{
+    match (width, signed) {
+        (Width::W32, true) => 0x7fff_ffff,
+        (Width::W32, false) => 0xffff_ffff,
+        (Width::W64, true) => 0x7fff_ffff_ffff_ffff,
+        (Width::W64, false) => u64::MAX,
+    }
+}
+
+/// Whether a number may be one of which a test does not tell.
+fn is_past(width: Width, signed: bool, value: AbsVal) -> bool
+    ensures { result ≡ is_past (limit_bits width signed) value }
+{
+    let AbsVal::Number(numbers) = value else {
+        return false;
+    };
+    numbers.greatest() > limit(width, signed)
+}
+
+/// An instruction that tells nothing of a register.
+#[derive(Clone, Copy, Debug, PartialEq, Eq)]
+pub(crate) enum Passing {
+    /// A test, which tells of numbers that are known to be below 2 to so many.
+    Test(u8),
+    /// A copy to this register.
+    Copied(Reg),
+}
+
+impl fmt::Display for Passing {
+    ghost use Rattle.std.specs.Prelude.{Some};
+    ghost use Rattle.explain.specs.Rules.{passing_text};
+
+    ghost output = { λ tells. Some (passing_text tells) };
+
+    fn fmt<W: fmt::Write>(&self, f: &mut fmt::Formatter<W>) -> fmt::Result {
+        match *self {
+            Passing::Test(bits) => {
+                write!(
+                    f,
+                    ": such a test tells only of numbers that are known to be below 2^{bits}"
+                )
+            }
+            Passing::Copied(dst) => {
+                let dst = dst.number();
+                write!(f, ": what is tested of r{dst} is not known of it")
+            }
+        }
+    }
+}
+
+/// A test of a register that tells nothing of it, or a copy of it, of which another test does not.
+pub(crate) fn passed_by(r: Reg, insn: &Insn, value: AbsVal) -> Option<Passing>
+    ensures { result ≡ passed_by r insn.now value }
+{
+    match insn {
+        Insn::Branch {
+            width,
+            condition,
+            dst,
+            ..
+        } => {
+            let signed = is_signed(*condition);
+            if dst.number() == r.number() && is_past(*width, signed, value) {
+                return Some(Passing::Test(limit_bits(*width, signed)));
+            }
+            None
+        }
+        Insn::Arithmetic {
+            width: Width::W64,
+            operation: Operation::Move,
+            dst,
+            operand: Operand::Register(src),
+        } => {
+            if src.number() == r.number() {
+                return Some(Passing::Copied(*dst));
+            }
+            None
+        }
+        _ => None,
+    }
+}

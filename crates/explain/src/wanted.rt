@@ -1,0 +1,159 @@
+//! Which edits are to be tried for a sentence.
+ghost use Rattle.std.specs.Prelude.{◌≡◌, ◌<◌, ◌≤◌, IfSome, slice_get};
+ghost use Rattle.explain.specs.Helps.{moving_mask, exchanged, for_misuse, for_argument, for_misfit, is_set, last_set, moved_at, for_access, wanted};
+
+use crate::sentence::{Access, Misfit, Misuse, Sentence};
+use absval::AbsVal;
+use causes::{Edit, Mark, numbered};
+use insn::{Insn, Operand, Program, Reg};
+use word::{Operation, Width};
+
+/// An edit, or one of several.
+#[derive(Clone, Copy, Debug, PartialEq, Eq)]
+pub(crate) enum Choice {
+    /// A mask of the register, put before an instruction.
+    Mask(Reg),
+    /// This one.
+    One(Edit),
+}
+
+/// The number that moves a pointer.
+fn moving_mask(unit: usize, insn: &Insn) -> Option<(usize, Choice)>
+    ensures wanted { result ≡ moving_mask unit insn.now }
+    ensures below { IfSome result (λ want. want.0 ≤ unit) }
+{
+    match insn {
+        Insn::Arithmetic {
+            operand: Operand::Register(src),
+            ..
+        } => Some((unit, Choice::Mask(*src))),
+        _ => None,
+    }
+}
+
+/// The sum of a number and a pointer, in the pointer's register.
+fn exchanged(unit: usize, insn: &Insn) -> Option<(usize, Choice)>
+    ensures wanted { result ≡ exchanged unit insn.now }
+    ensures below { IfSome result (λ want. want.0 ≤ unit) }
+{
+    let Insn::Arithmetic {
+        width: Width::W64,
+        operation: Operation::Add,
+        dst,
+        operand: Operand::Register(src),
+    } = insn
+    else {
+        return None;
+    };
+    let sum = Edit::Instead(Operation::Add, *src, Operand::Register(*dst));
+    Some((unit, Choice::One(sum)))
+}
+
+/// For a register that is used as it may not be.
+fn for_misuse(unit: usize, insn: &Insn, misuse: Misuse) -> Option<(usize, Choice)>
+    ensures wanted { result ≡ for_misuse unit insn.now misuse }
+    ensures below { IfSome result (λ want. want.0 ≤ unit) }
+{
+    match misuse {
+        Misuse::EitherSign(r, _) => Some((unit, Choice::Mask(r))),
+        Misuse::Far(_, _, _) => moving_mask(unit, insn),
+        Misuse::Computed(_, _) => exchanged(unit, insn),
+        Misuse::Exit(_) => {
+            let zero = Edit::Before(Operation::Move, numbered(0), Operand::Immediate(0));
+            Some((unit, Choice::One(zero)))
+        }
+        _ => None,
+    }
+}
+
+/// For an argument.
+fn for_argument(unit: usize, r: Reg, value: AbsVal) -> Option<(usize, Choice)>
+    ensures wanted { result ≡ for_argument unit r value }
+    ensures below { IfSome result (λ want. want.0 ≤ unit) }
+{
+    match value {
+        AbsVal::Number(_) => Some((unit, Choice::Mask(r))),
+        AbsVal::Unset | AbsVal::Pointer(..) => None,
+    }
+}
+
+/// For a call.
+fn for_misfit(unit: usize, misfit: Misfit) -> Option<(usize, Choice)>
+    ensures wanted { result ≡ for_misfit unit misfit }
+    ensures below { IfSome result (λ want. want.0 ≤ unit) }
+{
+    match misfit {
+        Misfit::Above(r, value, _) => for_argument(unit, r, value),
+        _ => None,
+    }
+}
+
+/// Whether the instruction of a unit sets it.
+fn is_set(marks: &[Mark], unit: usize) -> bool
+    ensures { result ≡ is_set (slice_get marks.now unit) }
+{
+    match marks.get(unit) {
+        Some(Mark::Sets) => true,
+        _ => false,
+    }
+}
+
+/// The last of the units below one that set it.
+fn last_set(marks: &[Mark], unit: usize) -> Option<usize>
+    ensures set { result ≡ last_set marks.now unit }
+    ensures below { IfSome result (λ n. n < unit) }
+{
+    if unit == 0 {
+        return None;
+    }
+    if is_set(marks, unit - 1) {
+        return Some(unit - 1);
+    }
+    last_set(marks, unit - 1)
+}
+
+/// The number that moves a pointer at a unit.
+fn moved_at(program: &Program, unit: usize) -> Option<(usize, Choice)>
+    ensures wanted { result ≡ moved_at program.now unit }
+    ensures below { IfSome result (λ want. want.0 ≤ unit) }
+{
+    let Some(insn) = program.at(unit) else {
+        return None;
+    };
+    moving_mask(unit, &insn)
+}
+
+/// For an access: a pointer that leads too far, by the number that moved it last.
+fn for_access(
+    program: &Program,
+    marks: &[Mark],
+    unit: usize,
+    access: Access,
+) -> Option<(usize, Choice)>
+    ensures wanted { result ≡ for_access program.now marks.now unit access }
+    ensures below { IfSome result (λ want. want.0 ≤ unit) }
+{
+    let Access::Outside(_, _, _) = access else {
+        return None;
+    };
+    moved_at(program, last_set(marks, unit)?)
+}
+
+/// What is to be tried for a sentence, and at which unit.
+pub(crate) fn wanted(
+    program: &Program,
+    marks: &[Mark],
+    unit: usize,
+    insn: &Insn,
+    sentence: &Sentence,
+) -> Option<(usize, Choice)>
+    ensures wanted { result ≡ wanted program.now marks.now unit insn.now sentence.now }
+    ensures below { IfSome result (λ want. want.0 ≤ unit) }
+{
+    match *sentence {
+        Sentence::Structure(_) => None,
+        Sentence::Register(misuse) => for_misuse(unit, insn, misuse),
+        Sentence::Memory(access) => for_access(program, marks, unit, access),
+        Sentence::Call(misfit) => for_misfit(unit, misfit),
+    }
+}
