@@ -10,7 +10,7 @@ use Rattle.clap.specs.Walk.{Held, Row, Rule, Text, Waiting, Walk, after_flag, af
 use Rattle.clap.specs.Walk as clap
 use Rattle.clap.specs.Faults.{long_fault, option_fault, positional_fault, settle_fault, step_fault, stray_fault, turn_fault, use_fault}
 use Rattle.clap.specs.declared.parser.matches.ValueSource.TheVariants.{CommandLine}
-use Rattle.command_line.specs.Usage.{Flag, Look, Next, State, after, anything, end_of_flags, flag_met, is_long, is_short, letter, long, look_of, met_at_end, met_once, option, placed_in, plain, read_from, read_on, short, switch, value_at, value_of, valued, words}
+use Rattle.command_line.specs.Usage.{Flag, Look, Next, State, after, anything, end_of_flags, flag_met, is_long, is_short, letter, long, look_of, met_at_end, met_once, option, placed_in, plain, read_from, read_on, short, switch, value_at, value_of, valued, only_places}
 use Rattle.command_line.proofs.FlagLemmas.{none_long_fails, none_short_fails}
 use Rattle.command_line.proofs.LevelLemmas.{AgreesFrom, Holds, ended, level_from, now, rules, s, stepped, stuck_dashes, stuck_end, stuck_idle, stuck_long, stuck_short, turn_stops}
 use Rattle.command_line.proofs.PlaceLemmas.{AllApart, AllFree, Places, flag_apart, place_apart, places_more, places_next}
@@ -76,7 +76,7 @@ module _ (own : Text) (ps : List Text) (fs : List Flag) (distinct : is_distinct 
       record { held = held rows pending; waiting = clap.idle; position = position; is_trailing = behind; stopped = None }
 
   abbrev next_of : Bool → Next
-  next_of true = words
+  next_of true = only_places
   next_of false = anything
 
   -- the rest of the words is taken as it should, wherever the walk stands
@@ -377,7 +377,7 @@ module _ (own : Text) (ps : List Text) (fs : List Flag) (distinct : is_distinct 
     word_goes : GoesOn true rest → (look : Look) → Looks word look → result (read_on fs look word (state left met anything))
     word_goes behind end_of_flags seen =
         let passes = dashes_pass (s own ps fs) [] (past 1 gone) clap.idle rows pending word refl seen in
-        stepped own ps fs from (there true (past 1 gone) rows pending) word rest (told_from (state left met words) rest) passes.0 passes.1
+        stepped own ps fs from (there true (past 1 gone) rows pending) word rest (told_from (state left met only_places) rest) passes.0 passes.1
         (behind rows pending gone left met holds)
     word_goes behind (long name v) seen = long_goes name (find (is_long name) fs) refl v seen
     word_goes behind (short c more) seen = short_goes c more seen (find (is_short c) fs) refl
@@ -397,7 +397,7 @@ module _ (own : Text) (ps : List Text) (fs : List Flag) (distinct : is_distinct 
 
   goes_end : (behind : Bool) → GoesOn behind []
   unfolding read_from
-  goes_end true rows pending gone left met holds = ended own ps fs rows pending gone met (there true (past 1 gone) rows pending) refl left holds words refl
+  goes_end true rows pending gone left met holds = ended own ps fs rows pending gone met (there true (past 1 gone) rows pending) refl left holds only_places refl
   goes_end false rows pending gone left met holds = ended own ps fs rows pending gone met (there false (past 1 gone) rows pending) refl left holds anything refl
 
   record All (rest : List Text) : Type 0 where

@@ -54,7 +54,7 @@ look_of word = if bytes_eq word (codes "--") then end_of_flags
 pub data Next : Type 0 where
   anything : Next
   value_of : Text → Next
-  words : Next
+  only_places : Next
 
 -- the places that are left, what was met by now with its name (of a switch `true`), and what may come next
 pub record State : Type 0 where
@@ -91,7 +91,7 @@ flag_met (Some (switch name)) (Some value) state = None
 flag_met None value state = None
 
 abbrev pub read_on : List Flag → Look → Text → State → Option State
-read_on flags end_of_flags word state = Some (record state { next = words })
+read_on flags end_of_flags word state = Some (record state { next = only_places })
 read_on flags (long name value) word state = flag_met (find (is_long name) flags) value state
 read_on flags (short c rest) word state = flag_met (find (is_short c) flags) (attached_value rest) state
 read_on flags plain word state = placed word state
@@ -104,7 +104,7 @@ valued _ name word state = None
 abbrev pub after_next : List Flag → Next → Text → State → Option State
 after_next flags anything word state = read_on flags (look_of word) word state
 after_next flags (value_of name) word state = valued (look_of word) name word state
-after_next flags words word state = placed word state
+after_next flags only_places word state = placed word state
 
 abbrev pub after : List Flag → Text → State → Option State
 after flags word state = after_next flags state.next word state

@@ -32,7 +32,7 @@ impl<'m, 'a> Met<'m, 'a> {
 
     /// The word at the place of this name, the value of the option, `true` of the switch.
     fn value(self, name: &str) -> Option<&'a str>
-        ensures { word_of name.now (told_by self) ≡ option_map (λ t. t.now) result }
+        ensures { word_of name.now (told_by self.entry) ≡ option_map (λ t. t.now) result }
     {
         match self.found.value_source(name) {
             Some(ValueSource::CommandLine) => self.found.get_str(name),
@@ -42,7 +42,7 @@ impl<'m, 'a> Met<'m, 'a> {
 
     /// Whether what has this name was met.
     fn has(self, name: &str) -> bool
-        ensures { result ≡ has name.now (told_by self) }
+        ensures { result ≡ has name.now (told_by self.entry) }
     {
         self.value(name).is_some()
     }
@@ -50,7 +50,7 @@ impl<'m, 'a> Met<'m, 'a> {
     /// The word at the place of this name.
     fn required(self, alloc: Global, name: &str) -> Result<String, AllocError>
         requires { has name.now (told_by self) ≡ true }
-        ensures { IfOk result (λ own. word_of name.now (told_by self) ≡ Some (string_bytes own)) }
+        ensures { IfOk result (λ own. word_of name.now (told_by self.entry) ≡ Some (string_bytes own)) }
     {
         let Some(word) = self.value(name) else {
             unreachable!();
@@ -60,7 +60,7 @@ impl<'m, 'a> Met<'m, 'a> {
 
     /// The value of the option of this name, where it was met.
     fn optional(self, alloc: Global, name: &str) -> Result<Option<String>, AllocError>
-        ensures { IfOk result (λ own. word_of name.now (told_by self) ≡ option_map string_bytes own) }
+        ensures { IfOk result (λ own. word_of name.now (told_by self.entry) ≡ option_map string_bytes own) }
     {
         Ok(match self.value(name) {
             Some(word) => Some(String::from_str(alloc, word)?),
@@ -71,8 +71,8 @@ impl<'m, 'a> Met<'m, 'a> {
     /// The task of the subcommand.
     pub(crate) fn task(self, alloc: Global) -> Result<Task, TaskError>
         requires { has_places (told_by self) ≡ true }
-        ensures task { IfOk result (Says (told_by self)) }
-        ensures refused { IfErr result (IsErrorOf (told_by self)) }
+        ensures task { IfOk result (Says (told_by self.entry)) }
+        ensures refused { IfErr result (IsErrorOf (told_by self.entry)) }
     {
         match self.name {
             "check" => self.check(alloc),
@@ -91,8 +91,8 @@ impl<'m, 'a> Met<'m, 'a> {
     fn check(self, alloc: Global) -> Result<Task, TaskError>
         requires name { self.name.now ≡ codes "check" }
         requires file { has (codes "FILE") (told_by self) ≡ true }
-        ensures task { IfOk result (Says (told_by self)) }
-        ensures refused { IfErr result (IsErrorOf (told_by self)) }
+        ensures task { IfOk result (Says (told_by self.entry)) }
+        ensures refused { IfErr result (IsErrorOf (told_by self.entry)) }
     {
         Ok(Task::Check {
             program: self.required(alloc, "FILE")?,
@@ -107,8 +107,8 @@ impl<'m, 'a> Met<'m, 'a> {
     fn assemble(self, alloc: Global) -> Result<Task, TaskError>
         requires name { self.name.now ≡ codes "asm" }
         requires file { has (codes "FILE") (told_by self) ≡ true }
-        ensures task { IfOk result (Says (told_by self)) }
-        ensures refused { IfErr result (IsErrorOf (told_by self)) }
+        ensures task { IfOk result (Says (told_by self.entry)) }
+        ensures refused { IfErr result (IsErrorOf (told_by self.entry)) }
     {
         Ok(Task::Assemble {
             text: self.required(alloc, "FILE")?,
@@ -122,8 +122,8 @@ impl<'m, 'a> Met<'m, 'a> {
     fn disassemble(self, alloc: Global) -> Result<Task, TaskError>
         requires name { self.name.now ≡ codes "dis" }
         requires file { has (codes "FILE") (told_by self) ≡ true }
-        ensures task { IfOk result (Says (told_by self)) }
-        ensures refused { IfErr result (IsErrorOf (told_by self)) }
+        ensures task { IfOk result (Says (told_by self.entry)) }
+        ensures refused { IfErr result (IsErrorOf (told_by self.entry)) }
     {
         Ok(Task::Disassemble {
             program: self.required(alloc, "FILE")?,
@@ -137,8 +137,8 @@ impl<'m, 'a> Met<'m, 'a> {
     fn book(self, alloc: Global) -> Result<Task, TaskError>
         requires name { self.name.now ≡ codes "book" }
         requires file { has (codes "FILE") (told_by self) ≡ true }
-        ensures task { IfOk result (Says (told_by self)) }
-        ensures refused { IfErr result (IsErrorOf (told_by self)) }
+        ensures task { IfOk result (Says (told_by self.entry)) }
+        ensures refused { IfErr result (IsErrorOf (told_by self.entry)) }
     {
         let table = self.required(alloc, "FILE")?;
         let Some(word) = self.value("traitors") else {
@@ -166,8 +166,8 @@ impl<'m, 'a> Met<'m, 'a> {
         requires generals { has (codes "GENERALS") (told_by self) ≡ true }
         requires bound { has (codes "BOUND") (told_by self) ≡ true }
         requires commander { has (codes "COMMANDER") (told_by self) ≡ true }
-        ensures task { IfOk result (Says (told_by self)) }
-        ensures refused { IfErr result (IsErrorOf (told_by self)) }
+        ensures task { IfOk result (Says (told_by self.entry)) }
+        ensures refused { IfErr result (IsErrorOf (told_by self.entry)) }
     {
         Ok(Task::Form {
             generals: self.required(alloc, "GENERALS")?,
@@ -181,8 +181,8 @@ impl<'m, 'a> Met<'m, 'a> {
     fn play(self, alloc: Global) -> Result<Task, TaskError>
         requires name { self.name.now ≡ codes "play" }
         requires scenario { has (codes "SCENARIO") (told_by self) ≡ true }
-        ensures task { IfOk result (Says (told_by self)) }
-        ensures refused { IfErr result (IsErrorOf (told_by self)) }
+        ensures task { IfOk result (Says (told_by self.entry)) }
+        ensures refused { IfErr result (IsErrorOf (told_by self.entry)) }
     {
         Ok(Task::Play {
             scenario: self.required(alloc, "SCENARIO")?,
@@ -196,8 +196,8 @@ impl<'m, 'a> Met<'m, 'a> {
     fn muster(self, alloc: Global) -> Result<Task, TaskError>
         requires name { self.name.now ≡ codes "muster" }
         requires scenario { has (codes "SCENARIO") (told_by self) ≡ true }
-        ensures task { IfOk result (Says (told_by self)) }
-        ensures refused { IfErr result (IsErrorOf (told_by self)) }
+        ensures task { IfOk result (Says (told_by self.entry)) }
+        ensures refused { IfErr result (IsErrorOf (told_by self.entry)) }
     {
         Ok(Task::Muster {
             scenario: self.required(alloc, "SCENARIO")?,
@@ -210,8 +210,8 @@ impl<'m, 'a> Met<'m, 'a> {
         requires name { self.name.now ≡ codes "audit" }
         requires scenario { has (codes "SCENARIO") (told_by self) ≡ true }
         requires chronicle { has (codes "CHRONICLE") (told_by self) ≡ true }
-        ensures task { IfOk result (Says (told_by self)) }
-        ensures refused { IfErr result (IsErrorOf (told_by self)) }
+        ensures task { IfOk result (Says (told_by self.entry)) }
+        ensures refused { IfErr result (IsErrorOf (told_by self.entry)) }
     {
         Ok(Task::Audit {
             scenario: self.required(alloc, "SCENARIO")?,
@@ -223,8 +223,8 @@ impl<'m, 'a> Met<'m, 'a> {
     /// How the program is written.
     fn notation(self, alloc: Global) -> Result<Notation, TaskError>
         requires { is_of programs (told_by self) ≡ true }
-        ensures notation { IfOk result (IsNotation (told_by self)) }
-        ensures refused { IfErr result (IsErrorOf (told_by self)) }
+        ensures notation { IfOk result (IsNotation (told_by self.entry)) }
+        ensures refused { IfErr result (IsErrorOf (told_by self.entry)) }
     {
         let entry = self.optional(alloc, "entry")?;
         if self.has("elf") {
@@ -244,7 +244,7 @@ impl<'m, 'a> Met<'m, 'a> {
 
     /// How bytecode is written.
     fn spelling(self) -> Spelling
-        ensures { has (codes "raw") (told_by self) ≡ is_raw result }
+        ensures { has (codes "raw") (told_by self.entry) ≡ is_raw result }
     {
         if self.has("raw") {
             Spelling::Raw
@@ -255,7 +255,7 @@ impl<'m, 'a> Met<'m, 'a> {
 
     /// How a campaign is told.
     fn account(self) -> Account
-        ensures { has (codes "table") (told_by self) ≡ is_table result }
+        ensures { has (codes "table") (told_by self.entry) ≡ is_table result }
     {
         if self.has("table") {
             Account::Table
@@ -267,8 +267,8 @@ impl<'m, 'a> Met<'m, 'a> {
     /// Whose decisions are explained.
     fn lieutenants(self, alloc: Global) -> Result<Option<Lieutenants>, TaskError>
         requires { is_of campaigns (told_by self) ≡ true }
-        ensures explained { IfOk result (AreExplained (told_by self)) }
-        ensures refused { IfErr result (IsErrorOf (told_by self)) }
+        ensures explained { IfOk result (AreExplained (told_by self.entry)) }
+        ensures refused { IfErr result (IsErrorOf (told_by self.entry)) }
     {
         let explained = self.has("explain");
         let Some(word) = self.value("of") else {
@@ -289,8 +289,8 @@ impl<'m, 'a> Met<'m, 'a> {
     /// How a table is filled in.
     fn filling(self, alloc: Global) -> Result<Option<Filling>, TaskError>
         requires { is_of (codes "table" ∷ []) (told_by self) ≡ true }
-        ensures filling { IfOk result (IsFilling (told_by self)) }
-        ensures refused { IfErr result (IsErrorOf (told_by self)) }
+        ensures filling { IfOk result (IsFilling (told_by self.entry)) }
+        ensures refused { IfErr result (IsErrorOf (told_by self.entry)) }
     {
         let Some(word) = self.value("loyal") else {
             if self.has("lie") {
@@ -310,8 +310,8 @@ impl<'m, 'a> Met<'m, 'a> {
     /// The general whose lines of a table are left to be edited.
     fn liar(self, alloc: Global) -> Result<Option<u8>, TaskError>
         requires { is_of (codes "table" ∷ []) (told_by self) ≡ true }
-        ensures named { IfOk result (NamesGeneral (codes "lie") (told_by self)) }
-        ensures refused { IfErr result (IsErrorOf (told_by self)) }
+        ensures named { IfOk result (NamesGeneral (codes "lie") (told_by self.entry)) }
+        ensures refused { IfErr result (IsErrorOf (told_by self.entry)) }
     {
         let Some(word) = self.value("lie") else {
             return Ok(None);

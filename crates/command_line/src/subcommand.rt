@@ -1,5 +1,6 @@
 ghost use Rattle.std.specs.Prelude.{◌≡◌, IfOk, Some, false};
-ghost use Rattle.clap.specs.Words.{app_of, fields_of, rule_of};
+ghost use Rattle.clap.specs.Words.{app_of, rule_of};
+ghost use Rattle.clap.specs.declared.builder.command.Command.TheViews.{out-Command};
 ghost use Rattle.command_line.specs.Lab.{flag_rule, leaf, place_rule};
 ghost use Rattle.command_line.specs.Subcommand.{flag_of, help_of, usage_of};
 
@@ -46,7 +47,7 @@ impl<'a> Subcommand<'a> {
     /// The subcommand as `clap` is told of it.
     pub(crate) fn command(&self, alloc: Global) -> Result<Command<'a>, AllocError>
         ensures app { IfOk result (λ c. app_of c ≡ leaf (usage_of self.now)) }
-        ensures local { IfOk result (λ c. (fields_of c).has_globals ≡ false) }
+        ensures local { IfOk result (λ c. (out-Command c).has_globals ≡ false) }
     {
         let mut command = Command::new(alloc, self.name).about(self.about);
         for place in self.places {
