@@ -248,21 +248,19 @@ module _ (own : Text) (ps : List Text) (fs : List Flag) (distinct : is_distinct 
   unfolding read_from
   waits_step word rest then name is apart rows gone left met stands places = go (look_of word) (looks word)
     where
-      abbrev waiting : Walk
-      waiting = walk_in (past 1 gone) (clap.option name) (held rows (Some (name, [])))
-
       bad : Fails (settle_fault R false (held rows (Some (name, []))))
       bad = fails_as (settle_is name is rows []) (use_none name is.long is.short is.index is.required rows)
 
-      go : (look : Look) → Looks word look → Answers waiting (word ∷ rest) (told_then (valued look name word (state left met (value_of name))) rest)
+      go : (look : Look) → Looks word look → Answers (walk_in (past 1 gone) (clap.option name) (held rows (Some (name, [])))) (word ∷ rest) (told_then (valued look name word (state left met (value_of name))) rest)
       go end_of_flags seen = stuck_dashes own ps fs rows (Some (name, [])) bad (past 1 gone) (clap.option name) word rest refl seen
       go (long flag v) seen = stuck_long own ps fs rows (Some (name, [])) bad (past 1 gone) (clap.option name) word rest refl flag v seen
       go (short c more) seen = stuck_short own ps fs rows (Some (name, [])) bad (past 1 gone) (clap.option name) word rest refl c more seen
       go plain seen =
           let turn = plain_turn (s own ps fs) [] (past 1 gone) (clap.option name) rows (Some (name, [])) word refl seen in
-          let walks : walked R [] waiting word ≡ walk_in (past 1 gone) clap.idle (held rows (Some (name, word ∷ []))) =
+          let walks : walked R [] (walk_in (past 1 gone) (clap.option name) (held rows (Some (name, [])))) word ≡ walk_in (past 1 gone) clap.idle (held rows (Some (name, word ∷ []))) =
           turn.1 ∙ rw (is.found_is, same_text name name refl) refl in
-          stepped own ps fs waiting (walk_in (past 1 gone) clap.idle (held rows (Some (name, word ∷ [])))) word rest _ turn.0 walks
+          stepped own ps fs (walk_in (past 1 gone) (clap.option name) (held rows (Some (name, [])))) (walk_in (past 1 gone) clap.idle (held rows (Some (name, word ∷ [])))) word rest
+          (told_then (met_once name word (state left met (value_of name))) rest) turn.0 walks
           (value_goes name is apart word rest then rows gone left met stands places)
 
   waits_end : OptionWaits []
