@@ -40,7 +40,7 @@ abbrev built_usage : Usage → Shape
 built_usage usage = built_shape usage.name usage.places usage.flags
 
 abbrev built_subs : List Usage → List Shape
-built_subs [] = built_leaf (inherited above help_shape) ∷ []
+built_subs [] = built_leaf help_shape ∷ []
 built_subs (usage ∷ rest) = built_usage usage ∷ built_subs rest
 
 abbrev built_app : List Usage → App
@@ -113,7 +113,7 @@ module _ (us : List Usage) (clear : list_all is_clear us ≡ true) where
   name_met : (rest : List Usage) (word : Text) → subcommand_met (map label_of (built_subs rest)) idle word ≡ known (usage_in rest word) (bytes_eq (codes "help") word)
   name_met [] word = go (bytes_eq (codes "help") word)
     where
-      go : (b : Bool) → option_map (λ s. s.0) (cond (b || false) (Some (label_of (built_leaf (inherited above help_shape)))) None) ≡ known None b
+      go : (b : Bool) → option_map (λ s. s.0) (cond (b || false) (Some (label_of (built_leaf help_shape))) None) ≡ known None b
       go true = refl
       go false = refl
   name_met (usage ∷ rest) word = go (name_met rest word) (bytes_eq usage.name word)

@@ -1,11 +1,11 @@
 -- What `clap` is told of a subcommand, and of all of them, row by row.
 use Rattle.std.proofs.Common.{◌≡◌, ◌∙◌, ◌++◌, List, [], ◌∷◌, ap, append-nil, append_assoc, false, map, refl, sym}
-use Rattle.clap.specs.Words.{AddsSubcommand, App, Rule, Text, app_of, new_app, shape_of, with_rule, with_subcommand}
+use Rattle.clap.specs.Words.{AddsArg, AddsSubcommand, App, Rule, Text, app_of, new_app, rule_of, with_rule, with_subcommand}
+use Rattle.clap.specs.declared.builder.arg.Arg.{Arg}
 use Rattle.clap.specs.declared.builder.command.Command.{Command}
 use Rattle.clap.specs.declared.builder.command.Command.TheViews.{out-Command}
-use Rattle.command_line.specs.Lab.{flag_rule, leaf, place_rule, shape}
-use Rattle.command_line.specs.Subcommand.{flag_of, usage_of}
-use Rattle.command_line.specs.Usage.{Usage}
+use Rattle.command_line.specs.Lab.{flag_rule, leaf, place_rule}
+use Rattle.command_line.specs.Subcommand.{flag_of, usage_of, with_subcommands}
 use Rattle.command_line.specs.declared.subcommand.Flag.{Flag}
 use Rattle.command_line.specs.declared.subcommand.Place.{Place}
 use Rattle.command_line.specs.declared.subcommand.Subcommand.{Subcommand}
@@ -17,10 +17,6 @@ with_places app (place ∷ rest) = with_places (with_rule app (place_rule place.
 abbrev pub with_flags : App → List Flag → App
 with_flags app [] = app
 with_flags app (flag ∷ rest) = with_flags (with_rule app (flag_rule (flag_of flag))) rest
-
-abbrev pub with_subcommands : App → List Subcommand → App
-with_subcommands app [] = app
-with_subcommands app (subcommand ∷ rest) = with_subcommands (with_subcommand app (shape (usage_of subcommand))) rest
 
 abbrev with_rules : App → List Rule → App
 with_rules app rules = record app { top = record app.top { rules = app.top.rules ++ rules } }
@@ -43,6 +39,13 @@ flags_are app (flag ∷ rest) = flags_are (with_rule app (flag_rule (flag_of fla
 pub row_is : (s : Subcommand) (app : App) → app ≡ with_places (new_app s.name.now) s.places.now → with_flags app s.flags.now ≡ leaf (usage_of s)
 row_is s app is = flags_are app s.flags.now ∙ ap (λ (a : App). with_rules a (map flag_rule (map flag_of s.flags.now))) (is ∙ places_are (new_app s.name.now) s.places.now)
 
-pub subcommand_is : (old sub new : Command) (s : Subcommand) → AddsSubcommand old sub new → (out-Command sub).has_globals ≡ false → app_of sub ≡ leaf (usage_of s)
-    → app_of new ≡ with_subcommand (app_of old) (shape (usage_of s))
-subcommand_is old sub new s adds local is = adds.shape local ∙ ap (λ (a : App). with_subcommand (app_of old) a.top) is
+pub subcommand_goes : (old sub new : Command) (s : Subcommand) (rest : List Subcommand) (all : App) → AddsSubcommand old sub new → (out-Command sub).has_globals ≡ false
+    → app_of sub ≡ leaf (usage_of s) → with_subcommands (app_of old) (s ∷ rest) ≡ all → with_subcommands (app_of new) rest ≡ all
+subcommand_goes old sub new s rest all adds local is goes =
+    ap (λ (a : App). with_subcommands a rest) (adds.shape local ∙ ap (λ (a : App). with_subcommand (app_of old) a.top) is) ∙ goes
+
+-- one more flag
+pub flag_goes : (old new : Command) (arg : Arg) (flag : Flag) (rest : List Flag) (all : App) → AddsArg old arg new → arg.global ≡ false
+    → rule_of arg ≡ flag_rule (flag_of flag) → with_flags (app_of old) (flag ∷ rest) ≡ all → with_flags (app_of new) rest ≡ all
+flag_goes old new arg flag rest all adds local is goes =
+    ap (λ (a : App). with_flags a rest) (adds.shape local ∙ ap (with_rule (app_of old)) is) ∙ goes

@@ -322,7 +322,7 @@ impl<'m, 'a> Met<'m, 'a> {
 
 /// The text of what the words gave, and not a default.
 fn given<'a>(source: Option<ValueSource>, text: Option<&'a str>) -> Option<&'a str>
-    ensures { option_map (λ t. t.now) result ≡ (if is_given source then option_map (λ t. t.now) text else None) }
+    ensures { option_map (λ t. t.now) result ≡ (if is_given source then option_map (λ t. t.now) text.entry else None) }
 {
     match source? {
         ValueSource::CommandLine => text,

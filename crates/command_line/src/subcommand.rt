@@ -45,7 +45,6 @@ pub(crate) enum Flag<'a> {
 
 impl<'a> Subcommand<'a> {
     /// The subcommand as `clap` is told of it.
-    #[tactic(auto, using(crate::proofs::CommandLemmas::row_is))]
     pub(crate) fn command(&self, alloc: Global) -> Result<Command<'a>, AllocError>
         ensures app { IfOk result (λ c. app_of c ≡ leaf (usage_of self.now)) }
         ensures local { IfOk result (λ c. (out-Command c).has_globals ≡ false) }
