@@ -12,6 +12,7 @@ use std::alloc::{AllocError, Global};
 const VERSION: &str = "1.0.0, proved with Rattle, logic dac8208d650f15bf";
 
 /// The program's command line.
+#[tactic(auto, unfolding(crate::specs::Subcommand::shape_for))]
 pub(crate) fn lab_command<'a>(alloc: Global) -> Result<Command<'a>, AllocError>
     ensures { IfOk result (λ c. app_of c ≡ lab_app) }
 {
@@ -19,7 +20,6 @@ pub(crate) fn lab_command<'a>(alloc: Global) -> Result<Command<'a>, AllocError>
 }
 
 /// The program with these subcommands.
-#[tactic(auto, using(crate::proofs::CommandLemmas::subcommand_goes))]
 fn with_subcommands<'a>(
     alloc: Global,
     mut lab: Command<'a>,

@@ -1,8 +1,7 @@
 use Rattle.std.proofs.Common.{◌≡◌, drop, false}
 use Rattle.clap.specs.Words.{app_of, new_app}
 use Rattle.clap.specs.declared.builder.command.Command.TheViews.{out-Command}
-use Rattle.command_line.specs.Lab.{leaf}
-use Rattle.command_line.specs.Subcommand.{usage_of}
+use Rattle.command_line.specs.Subcommand.{shape_for}
 use Rattle.command_line.proofs.CommandLemmas.{with_flags, with_places}
 use Rattle.command_line.proofs.subcommand.Subcommand.command.Given as goal
 
@@ -14,6 +13,6 @@ invariant-loop-place l = record {
 
 abbrev pub invariant-loop-flag : goal.invariant-loop-flag
 invariant-loop-flag l = record {
-  app : with_flags (app_of l.command) (drop l.flag-index l.self.flags.now) ≡ leaf (usage_of l.self);
+  shape : (with_flags (app_of l.command) (drop l.flag-index l.self.flags.now)).top ≡ shape_for l.self;
   local : (out-Command l.command).has_globals ≡ false;
 }
