@@ -138,5 +138,6 @@ const AUDIT: Subcommand<'static> = Subcommand {
 };
 
 /// All subcommands, as help lists them.
-pub(crate) const SUBCOMMANDS: &[Subcommand<'static>] =
-    &[CHECK, ASM, DIS, BOOK, TABLE, MUSTER, PLAY, AUDIT];
+pub(crate) const SUBCOMMANDS: &[Subcommand<'static>] = &[
+    CHECK, ASM, DIS, BOOK, TABLE, MUSTER, PLAY, AUDIT,
+];
