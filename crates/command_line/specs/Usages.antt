@@ -14,14 +14,14 @@ abbrev pub asm : Usage
 asm = record {
   name = codes "asm";
   places = codes "FILE" ∷ [];
-  flags = switch (codes "raw") ∷ letter (codes "target") 111 ∷ [];
+  flags = switch (codes "raw") ∷ switch (codes "explain") ∷ letter (codes "target") 111 ∷ [];
 }
 
 abbrev pub dis : Usage
 dis = record {
   name = codes "dis";
   places = codes "FILE" ∷ [];
-  flags = switch (codes "units") ∷ [];
+  flags = switch (codes "units") ∷ switch (codes "explain") ∷ [];
 }
 
 abbrev pub book : Usage
@@ -39,20 +39,20 @@ table = record {
 }
 
 abbrev pub muster : Usage
-muster = record { name = codes "muster"; places = codes "SCENARIO" ∷ []; flags = [] }
+muster = record { name = codes "muster"; places = codes "SCENARIO" ∷ []; flags = switch (codes "explain") ∷ [] }
 
 abbrev pub play : Usage
 play = record {
   name = codes "play";
   places = codes "SCENARIO" ∷ [];
-  flags = option (codes "schedule") ∷ [];
+  flags = switch (codes "explain") ∷ option (codes "schedule") ∷ [];
 }
 
 abbrev pub audit : Usage
 audit = record {
   name = codes "audit";
   places = codes "SCENARIO" ∷ codes "CHRONICLE" ∷ [];
-  flags = [];
+  flags = switch (codes "explain") ∷ [];
 }
 
 abbrev pub usages : List Usage

@@ -4,6 +4,9 @@ use crate::subcommand::{Flag, Place, Subcommand};
 const EXPLAIN: &str =
     "Tells what is known of the registers that are read, and what a refused instruction misses";
 
+const EXPLAIN_DECISIONS: &str =
+    "Tells how each decision comes about, or why a file is refused";
+
 const BYTECODE: Place<'static> = Place {
     name: "FILE",
     help: "The program, as raw bytecode",
@@ -47,6 +50,10 @@ const ASM: Subcommand<'static> = Subcommand {
             name: "raw",
             help: "Writes the bytes themselves",
         },
+        Flag::Switch {
+            name: "explain",
+            help: "Shows a refused line, and says what was wanted there",
+        },
         Flag::Letter {
             name: "target",
             letter: 'o',
@@ -60,10 +67,16 @@ const DIS: Subcommand<'static> = Subcommand {
     name: "dis",
     about: "Translates raw bytecode into assembly",
     places: &[BYTECODE],
-    flags: &[Flag::Switch {
-        name: "units",
-        help: "Prints the unit before each instruction",
-    }],
+    flags: &[
+        Flag::Switch {
+            name: "units",
+            help: "Prints the unit before each instruction",
+        },
+        Flag::Switch {
+            name: "explain",
+            help: "Says what is wrong with refused bytes",
+        },
+    ],
 };
 
 const BOOK: Subcommand<'static> = Subcommand {
@@ -110,18 +123,27 @@ const MUSTER: Subcommand<'static> = Subcommand {
     name: "muster",
     about: "Runs a campaign with a thread for each general and prints its chronicle",
     places: &[SCENARIO],
-    flags: &[],
+    flags: &[Flag::Switch {
+        name: "explain",
+        help: EXPLAIN_DECISIONS,
+    }],
 };
 
 const PLAY: Subcommand<'static> = Subcommand {
     name: "play",
     about: "Plays a campaign and prints its chronicle",
     places: &[SCENARIO],
-    flags: &[Flag::Option {
-        name: "schedule",
-        value: "FILE",
-        help: "The order of the turns; without it each round is punctual",
-    }],
+    flags: &[
+        Flag::Switch {
+            name: "explain",
+            help: EXPLAIN_DECISIONS,
+        },
+        Flag::Option {
+            name: "schedule",
+            value: "FILE",
+            help: "The order of the turns; without it each round is punctual",
+        },
+    ],
 };
 
 const AUDIT: Subcommand<'static> = Subcommand {
@@ -134,7 +156,10 @@ const AUDIT: Subcommand<'static> = Subcommand {
             help: "What `play` or `muster` has printed of this campaign",
         },
     ],
-    flags: &[],
+    flags: &[Flag::Switch {
+        name: "explain",
+        help: EXPLAIN_DECISIONS,
+    }],
 };
 
 /// All subcommands, as help lists them.
