@@ -230,6 +230,18 @@ fn flags_are_told(rt: HostRuntime) -> Result<(), Fail> {
             Task::Audit { explained: Some(Lieutenants::All), .. }
         )
     );
+    assert!(rt;
+        matches!(
+            task(alloc, &["check", "--elf", "o"])?,
+            Task::Check { notation: Notation::Object { entry: None }, .. }
+        )
+    );
+    assert!(rt;
+        matches!(
+            task(alloc, &["dis", "--elf", "o", "--entry=f"])?,
+            Task::Disassemble { notation: Notation::Object { entry: Some(_) }, .. }
+        )
+    );
     Ok(())
 }
 

@@ -7,7 +7,7 @@ abbrev pub check : Usage
 check = record {
   name = codes "check";
   places = codes "FILE" ∷ [];
-  flags = switch (codes "asm") ∷ switch (codes "explain") ∷ option (codes "context") ∷ [];
+  flags = switch (codes "asm") ∷ switch (codes "elf") ∷ switch (codes "explain") ∷ option (codes "context") ∷ option (codes "entry") ∷ [];
 }
 
 abbrev pub asm : Usage
@@ -21,7 +21,7 @@ abbrev pub dis : Usage
 dis = record {
   name = codes "dis";
   places = codes "FILE" ∷ [];
-  flags = switch (codes "units") ∷ switch (codes "explain") ∷ [];
+  flags = switch (codes "elf") ∷ switch (codes "units") ∷ switch (codes "explain") ∷ option (codes "entry") ∷ [];
 }
 
 abbrev pub book : Usage

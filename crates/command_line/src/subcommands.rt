@@ -7,6 +7,8 @@ const EXPLAIN: &str =
 const EXPLAIN_DECISIONS: &str =
     "Tells how each decision comes about, or why a file is refused";
 
+const ENTRY: &str = "The function of the object; without it, its only global one";
+
 const BYTECODE: Place<'static> = Place {
     name: "FILE",
     help: "The program, as raw bytecode",
@@ -27,6 +29,10 @@ const CHECK: Subcommand<'static> = Subcommand {
             help: "FILE is assembly text",
         },
         Flag::Switch {
+            name: "elf",
+            help: "FILE is an ELF object",
+        },
+        Flag::Switch {
             name: "explain",
             help: EXPLAIN,
         },
@@ -34,6 +40,11 @@ const CHECK: Subcommand<'static> = Subcommand {
             name: "context",
             value: "CONTEXT",
             help: "Runs it in the context that this TOML tells, and prints what it put and changed",
+        },
+        Flag::Option {
+            name: "entry",
+            value: "NAME",
+            help: ENTRY,
         },
     ],
 };
@@ -69,12 +80,21 @@ const DIS: Subcommand<'static> = Subcommand {
     places: &[BYTECODE],
     flags: &[
         Flag::Switch {
+            name: "elf",
+            help: "FILE is an ELF object",
+        },
+        Flag::Switch {
             name: "units",
             help: "Prints the unit before each instruction",
         },
         Flag::Switch {
             name: "explain",
             help: "Says what is wrong with refused bytes",
+        },
+        Flag::Option {
+            name: "entry",
+            value: "NAME",
+            help: ENTRY,
         },
     ],
 };
