@@ -1,7 +1,7 @@
 //! The task that the words name.
 
 use clap::error::ErrorKind;
-use command_line::{Lieutenants, Misuse, Notation, Spelling, Task, TaskError, task};
+use command_line::{Account, Lieutenants, Misuse, Notation, Spelling, Task, TaskError, task};
 use std::alloc::Global;
 use std::process::Abort;
 use std::test::Fail;
@@ -240,6 +240,12 @@ fn flags_are_told(rt: HostRuntime) -> Result<(), Fail> {
         matches!(
             task(alloc, &["dis", "--elf", "o", "--entry=f"])?,
             Task::Disassemble { notation: Notation::Object { entry: Some(_) }, .. }
+        )
+    );
+    assert!(rt;
+        matches!(
+            task(alloc, &["play", "s", "--table"])?,
+            Task::Play { account: Account::Table, .. }
         )
     );
     Ok(())

@@ -45,7 +45,7 @@ abbrev pub play : Usage
 play = record {
   name = codes "play";
   places = codes "SCENARIO" ∷ [];
-  flags = switch (codes "explain") ∷ option (codes "schedule") ∷ [];
+  flags = switch (codes "table") ∷ switch (codes "explain") ∷ option (codes "schedule") ∷ [];
 }
 
 abbrev pub audit : Usage

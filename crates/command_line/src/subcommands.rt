@@ -155,6 +155,10 @@ const PLAY: Subcommand<'static> = Subcommand {
     places: &[SCENARIO],
     flags: &[
         Flag::Switch {
+            name: "table",
+            help: "Prints the message table of the campaign in place of its chronicle",
+        },
+        Flag::Switch {
             name: "explain",
             help: EXPLAIN_DECISIONS,
         },
