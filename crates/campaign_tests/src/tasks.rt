@@ -1,7 +1,7 @@
 //! The task that the words name.
 
 use clap::error::ErrorKind;
-use command_line::{Account, Lieutenants, Misuse, Notation, Spelling, Task, TaskError, task};
+use command_line::{Account, Filling, Lieutenants, Misuse, Notation, Spelling, Task, TaskError, task};
 use std::alloc::Global;
 use std::process::Abort;
 use std::test::Fail;
@@ -246,6 +246,18 @@ fn flags_are_told(rt: HostRuntime) -> Result<(), Fail> {
         matches!(
             task(alloc, &["play", "s", "--table"])?,
             Task::Play { account: Account::Table, .. }
+        )
+    );
+    assert!(rt;
+        matches!(
+            task(alloc, &["table", "4", "1", "0", "--loyal", "7"])?,
+            Task::Form { filling: Some(Filling { order: 7, liar: None }), .. }
+        )
+    );
+    assert!(rt;
+        matches!(
+            task(alloc, &["table", "--lie=2", "--loyal=7", "4", "1", "0"])?,
+            Task::Form { filling: Some(Filling { order: 7, liar: Some(2) }), .. }
         )
     );
     Ok(())

@@ -35,7 +35,7 @@ abbrev pub table : Usage
 table = record {
   name = codes "table";
   places = codes "GENERALS" ∷ codes "BOUND" ∷ codes "COMMANDER" ∷ [];
-  flags = [];
+  flags = option (codes "loyal") ∷ option (codes "lie") ∷ [];
 }
 
 abbrev pub muster : Usage

@@ -136,7 +136,18 @@ const TABLE: Subcommand<'static> = Subcommand {
             help: "The commander's number, from 0",
         },
     ],
-    flags: &[],
+    flags: &[
+        Flag::Option {
+            name: "loyal",
+            value: "V",
+            help: "Fills it in as loyal generals would, behind this order",
+        },
+        Flag::Option {
+            name: "lie",
+            value: "G",
+            help: "Leaves what this general says to be edited",
+        },
+    ],
 };
 
 const MUSTER: Subcommand<'static> = Subcommand {
