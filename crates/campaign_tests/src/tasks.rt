@@ -260,6 +260,18 @@ fn flags_are_told(rt: HostRuntime) -> Result<(), Fail> {
             Task::Form { filling: Some(Filling { order: 7, liar: Some(2) }), .. }
         )
     );
+    assert!(rt;
+        matches!(
+            task(alloc, &["play", "s", "--explain", "--of", "3"])?,
+            Task::Play { explained: Some(Lieutenants::One(3)), .. }
+        )
+    );
+    assert!(rt;
+        matches!(
+            task(alloc, &["audit", "--of=12", "--explain", "s", "c"])?,
+            Task::Audit { explained: Some(Lieutenants::One(12)), .. }
+        )
+    );
     Ok(())
 }
 

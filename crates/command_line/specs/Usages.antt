@@ -39,20 +39,20 @@ table = record {
 }
 
 abbrev pub muster : Usage
-muster = record { name = codes "muster"; places = codes "SCENARIO" ∷ []; flags = switch (codes "explain") ∷ [] }
+muster = record { name = codes "muster"; places = codes "SCENARIO" ∷ []; flags = switch (codes "explain") ∷ option (codes "of") ∷ [] }
 
 abbrev pub play : Usage
 play = record {
   name = codes "play";
   places = codes "SCENARIO" ∷ [];
-  flags = switch (codes "table") ∷ switch (codes "explain") ∷ option (codes "schedule") ∷ [];
+  flags = switch (codes "table") ∷ switch (codes "explain") ∷ option (codes "schedule") ∷ option (codes "of") ∷ [];
 }
 
 abbrev pub audit : Usage
 audit = record {
   name = codes "audit";
   places = codes "SCENARIO" ∷ codes "CHRONICLE" ∷ [];
-  flags = switch (codes "explain") ∷ [];
+  flags = switch (codes "explain") ∷ option (codes "of") ∷ [];
 }
 
 abbrev pub usages : List Usage

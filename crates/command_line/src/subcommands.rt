@@ -9,6 +9,8 @@ const EXPLAIN_DECISIONS: &str =
 
 const ENTRY: &str = "The function of the object; without it, its only global one";
 
+const OF: &str = "Explains this lieutenant's decision alone";
+
 const BYTECODE: Place<'static> = Place {
     name: "FILE",
     help: "The program, as raw bytecode",
@@ -154,10 +156,17 @@ const MUSTER: Subcommand<'static> = Subcommand {
     name: "muster",
     about: "Runs a campaign with a thread for each general and prints its chronicle",
     places: &[SCENARIO],
-    flags: &[Flag::Switch {
-        name: "explain",
-        help: EXPLAIN_DECISIONS,
-    }],
+    flags: &[
+        Flag::Switch {
+            name: "explain",
+            help: EXPLAIN_DECISIONS,
+        },
+        Flag::Option {
+            name: "of",
+            value: "G",
+            help: OF,
+        },
+    ],
 };
 
 const PLAY: Subcommand<'static> = Subcommand {
@@ -178,6 +187,11 @@ const PLAY: Subcommand<'static> = Subcommand {
             value: "FILE",
             help: "The order of the turns; without it each round is punctual",
         },
+        Flag::Option {
+            name: "of",
+            value: "G",
+            help: OF,
+        },
     ],
 };
 
@@ -191,10 +205,17 @@ const AUDIT: Subcommand<'static> = Subcommand {
             help: "What `play` or `muster` has printed of this campaign",
         },
     ],
-    flags: &[Flag::Switch {
-        name: "explain",
-        help: EXPLAIN_DECISIONS,
-    }],
+    flags: &[
+        Flag::Switch {
+            name: "explain",
+            help: EXPLAIN_DECISIONS,
+        },
+        Flag::Option {
+            name: "of",
+            value: "G",
+            help: OF,
+        },
+    ],
 };
 
 /// All subcommands, as help lists them.
