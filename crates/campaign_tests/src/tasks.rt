@@ -272,6 +272,12 @@ fn flags_are_told(rt: HostRuntime) -> Result<(), Fail> {
             Task::Audit { explained: Some(Lieutenants::One(12)), .. }
         )
     );
+    assert!(rt;
+        matches!(
+            task(alloc, &["check", "p", "--trace"])?,
+            Task::Check { traced: true, .. }
+        )
+    );
     Ok(())
 }
 

@@ -38,6 +38,10 @@ const CHECK: Subcommand<'static> = Subcommand {
             name: "explain",
             help: EXPLAIN,
         },
+        Flag::Switch {
+            name: "trace",
+            help: "Tells each step of the run",
+        },
         Flag::Option {
             name: "context",
             value: "CONTEXT",
