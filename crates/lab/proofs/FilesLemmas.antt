@@ -5,7 +5,7 @@ use Rattle.std.specs.Prelude.{true, false, is_some, Option, None, Some, Ok, opti
 use Rattle.insn.specs.declared.insn.Insn.{Insn}
 use Rattle.command_line.specs.Told.{file_of, second_of}
 use Rattle.command_line.specs.declared.tasks.Task.{Task}
-use Rattle.command_line.specs.declared.tasks.Task.TheVariants.{Check, Assemble, Disassemble, DisassembleUnits, Book, ExplainDecisions, Form, Play, Muster, Audit}
+use Rattle.command_line.specs.declared.tasks.Task.TheVariants.{Check, Assemble, Disassemble, Book, ExplainDecisions, Form, Play, Muster, Audit}
 use Rattle.round.specs.Scenario.{Scenario}
 use Rattle.scenario.specs.declared.messages.Campaign.{Campaign}
 use Rattle.world.specs.declared.schedule.Repeat.{Repeat}
@@ -46,71 +46,72 @@ second_bytes (Some known) bytes are = (Some bytes, are, refl)
 -- an answer by the second file's schedule
 pub answered_played : (task : Task) (files : Files) (first text : List ℕ) (s : Campaign) → AreBytes files.first first
     → ComesTo task first (answer.Play s) → IsPlayedBy files.second s text → IsAnswer task files text
-answered_played (Check file notation None explained) files first text s are comes by = absurd comes
-answered_played (Check file notation (Some context) explained) files first text s are comes by = absurd comes
-answered_played (Assemble file spelling target) files first text s are comes by = absurd comes
-answered_played (Disassemble file) files first text s are comes by = absurd comes
-answered_played (DisassembleUnits file) files first text s are comes by = absurd comes
+answered_played (Check file notation None explained traced) files first text s are comes by = absurd comes
+answered_played (Check file notation (Some context) explained traced) files first text s are comes by = absurd comes
+answered_played (Assemble file spelling target explained) files first text s are comes by = absurd comes
+answered_played (Disassemble file notation units explained) files first text s are comes by = absurd comes
 answered_played (Book file) files first text s are comes by = absurd comes
 answered_played (ExplainDecisions file traitors) files first text s are comes by = absurd comes
-answered_played (Form n m c) files first text s are comes by = absurd comes
-answered_played (Play scenario listing) files first text s are comes (schedule, told, played) =
+answered_played (Form n m c filling) files first text s are comes by = absurd comes
+answered_played (Play scenario listing account explained) files first text s are comes (schedule, told, played) =
     (first, are, (told.0, told.1, (s, comes, (schedule, told.2, played))))
-answered_played (Muster scenario) files first text s are comes by = absurd comes
-answered_played (Audit scenario chronicle) files first text s are comes by = absurd comes
+answered_played (Muster scenario explained) files first text s are comes by = absurd comes
+answered_played (Audit scenario chronicle explained) files first text s are comes by = absurd comes
 
 -- an answer of threads
 pub answered_mustered : (task : Task) (files : Files) (first text : List ℕ) (s : Scenario) → AreBytes files.first first
     → ComesTo task first (answer.Muster s) → IsMustered s text → IsAnswer task files text
-answered_mustered (Check file notation None explained) files first text s are comes mustered = absurd comes
-answered_mustered (Check file notation (Some context) explained) files first text s are comes mustered = absurd comes
-answered_mustered (Assemble file spelling target) files first text s are comes mustered = absurd comes
-answered_mustered (Disassemble file) files first text s are comes mustered = absurd comes
-answered_mustered (DisassembleUnits file) files first text s are comes mustered = absurd comes
+answered_mustered (Check file notation None explained traced) files first text s are comes mustered = absurd comes
+answered_mustered (Check file notation (Some context) explained traced) files first text s are comes mustered = absurd comes
+answered_mustered (Assemble file spelling target explained) files first text s are comes mustered = absurd comes
+answered_mustered (Disassemble file notation units explained) files first text s are comes mustered = absurd comes
 answered_mustered (Book file) files first text s are comes mustered = absurd comes
 answered_mustered (ExplainDecisions file traitors) files first text s are comes mustered = absurd comes
-answered_mustered (Form n m c) files first text s are comes mustered = absurd comes
-answered_mustered (Play scenario listing) files first text s are comes mustered = absurd comes
-answered_mustered (Muster scenario) files first text s are comes mustered =
+answered_mustered (Form n m c filling) files first text s are comes mustered = absurd comes
+answered_mustered (Play scenario listing account explained) files first text s are comes mustered = absurd comes
+answered_mustered (Muster scenario explained) files first text s are comes mustered =
     let some = some_second files.second in (first, are, (some.0, some.1, (s, comes, mustered)))
-answered_mustered (Audit scenario chronicle) files first text s are comes mustered = absurd comes
+answered_mustered (Audit scenario chronicle explained) files first text s are comes mustered = absurd comes
 
 -- an answer on the second file
 pub answered_audited : (task : Task) (files : Files) (first text : List ℕ) (s : Campaign) → AreBytes files.first first
     → ComesTo task first (answer.Audit s) → IsAuditOf files.second s text → IsAnswer task files text
-answered_audited (Check file notation None explained) files first text s are comes audit = absurd comes
-answered_audited (Check file notation (Some context) explained) files first text s are comes audit = absurd comes
-answered_audited (Assemble file spelling target) files first text s are comes audit = absurd comes
-answered_audited (Disassemble file) files first text s are comes audit = absurd comes
-answered_audited (DisassembleUnits file) files first text s are comes audit = absurd comes
+answered_audited (Check file notation None explained traced) files first text s are comes audit = absurd comes
+answered_audited (Check file notation (Some context) explained traced) files first text s are comes audit = absurd comes
+answered_audited (Assemble file spelling target explained) files first text s are comes audit = absurd comes
+answered_audited (Disassemble file notation units explained) files first text s are comes audit = absurd comes
 answered_audited (Book file) files first text s are comes audit = absurd comes
 answered_audited (ExplainDecisions file traitors) files first text s are comes audit = absurd comes
-answered_audited (Form n m c) files first text s are comes audit = absurd comes
-answered_audited (Play scenario listing) files first text s are comes audit = absurd comes
-answered_audited (Muster scenario) files first text s are comes audit = absurd comes
-answered_audited (Audit scenario chronicle) files first text s are comes (bytes, known, audited) =
+answered_audited (Form n m c filling) files first text s are comes audit = absurd comes
+answered_audited (Play scenario listing account explained) files first text s are comes audit = absurd comes
+answered_audited (Muster scenario explained) files first text s are comes audit = absurd comes
+answered_audited (Audit scenario chronicle explained) files first text s are comes (bytes, known, audited) =
     let second = second_bytes files.second bytes known in
     (first, are, (second.0, second.1, (s, comes, subst (λ (own : List ℕ). IsAudited s own text) second.2 audited)))
+
+-- what is there is there of its parts
+pub mapped : {A B : Type 0} (f : A → B) (o : Option A) → is_some o ≡ is_some (option_map f o)
+mapped f None = refl
+mapped f (Some x) = refl
 
 -- an answer in the second file's setting
 pub answered_tried : (task : Task) (files : Files) (first text : List ℕ) (program : List Insn) → AreBytes files.first first
     → ComesTo task first (answer.Trial program) → IsTrialOf files.second (is_some (explained_in task)) program text → IsAnswer task files text
-answered_tried (Check file notation None explained) files first text program are comes tried = absurd comes
-answered_tried (Check file notation (Some context) true) files first text program are comes (bytes, known, (lines, tried, behind)) =
+answered_tried (Check file notation None explained traced) files first text program are comes tried = absurd comes
+answered_tried (Check file notation (Some context) true traced) files first text program are comes (bytes, known, (lines, tried, behind)) =
     let second = second_bytes files.second bytes known in
     (first, are, (second.0, second.1, (program, comes.0, comes.1, comes.2, (lines, subst (λ (own : List ℕ). IsTriedBy own program lines) second.2 tried, behind))))
-answered_tried (Check file notation (Some context) false) files first text program are comes (bytes, known, (lines, tried, behind)) =
+answered_tried (Check file notation (Some context) false traced) files first text program are comes (bytes, known, (lines, tried, behind)) =
     let second = second_bytes files.second bytes known in
     (first, are, (second.0, second.1, (program, comes.0, comes.1, comes.2, (lines, subst (λ (own : List ℕ). IsTriedBy own program lines) second.2 tried, behind))))
-answered_tried (Assemble file spelling target) files first text program are comes tried = absurd comes
-answered_tried (Disassemble file) files first text program are comes tried = absurd comes
-answered_tried (DisassembleUnits file) files first text program are comes tried = absurd comes
+answered_tried (Assemble file spelling target explained) files first text program are comes tried = absurd comes
+answered_tried (Disassemble file notation units explained) files first text program are comes tried = absurd comes
 answered_tried (Book file) files first text program are comes tried = absurd comes
 answered_tried (ExplainDecisions file traitors) files first text program are comes tried = absurd comes
-answered_tried (Form n m c) files first text program are comes tried = absurd comes
-answered_tried (Play scenario listing) files first text program are comes tried = absurd comes
-answered_tried (Muster scenario) files first text program are comes tried = absurd comes
-answered_tried (Audit scenario chronicle) files first text program are comes tried = absurd comes
+answered_tried (Form n m c filling) files first text program are comes tried = absurd comes
+answered_tried (Play scenario listing account explained) files first text program are comes tried = absurd comes
+answered_tried (Muster scenario explained) files first text program are comes tried = absurd comes
+answered_tried (Audit scenario chronicle explained) files first text program are comes tried = absurd comes
 
 -- why a task has no answer behind a first file with which it goes on
 pub prevented_later : (task : Task) (files : Files) (unread second_unread : Type 0) (first name : List ℕ) (more : FirstAnswer) (fault : Failure)

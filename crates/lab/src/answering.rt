@@ -2,7 +2,7 @@ ghost use Rattle.std.specs.Prelude.{◌≡◌, IfOk, IfErr, None, string_bytes};
 ghost use Rattle.lab.specs.Answers.{ComesTo, IsChecked};
 ghost use Rattle.lab.specs.Refusals.{Refuses, RefusesCheckIn};
 
-use crate::assembling::{assembled, assembled_raw, disassembled, disassembled_units};
+use crate::assembling::{assembled, assembled_raw, disassembled};
 use crate::checking::{accepted_in, check, checked_text};
 use crate::deciding::{decided, explained};
 use crate::explaining::with_explanation;
@@ -29,12 +29,12 @@ pub fn answer(alloc: Global, task: &Task, bytes: &[u8]) -> Result<FirstAnswer, R
             context: None,
             explained,
             ..
-        } => checked_in(alloc, *notation, *explained, bytes)?,
+        } => checked_in(alloc, notation, *explained, bytes)?,
         Task::Check {
             notation,
             context: Some(_),
             ..
-        } => return Ok(FirstAnswer::Trial(accepted_in(alloc, *notation, bytes)?)),
+        } => return Ok(FirstAnswer::Trial(accepted_in(alloc, notation, bytes)?)),
         Task::Assemble {
             spelling: Spelling::Hex,
             ..
@@ -43,8 +43,11 @@ pub fn answer(alloc: Global, task: &Task, bytes: &[u8]) -> Result<FirstAnswer, R
             spelling: Spelling::Raw,
             ..
         } => return Ok(FirstAnswer::Bytes(assembled_raw(alloc, as_text(bytes)?)?)),
-        Task::Disassemble(_) => disassembled(alloc, bytes)?,
-        Task::DisassembleUnits(_) => disassembled_units(alloc, bytes)?,
+        Task::Disassemble {
+            notation,
+            units,
+            ..
+        } => disassembled(alloc, notation, *units, bytes)?,
         Task::Book(_) => decided(alloc, as_text(bytes)?)?,
         Task::ExplainDecisions { traitors, .. } => {
             explained(alloc, as_text(bytes)?, traitors.as_slice())?
@@ -53,9 +56,10 @@ pub fn answer(alloc: Global, task: &Task, bytes: &[u8]) -> Result<FirstAnswer, R
             generals,
             bound,
             commander,
+            ..
         } => formed(alloc, generals.as_str(), bound.as_str(), commander.as_str())?,
         Task::Play { .. } => return Ok(FirstAnswer::Play(any_campaign(alloc, bytes)?)),
-        Task::Muster(_) => return Ok(FirstAnswer::Muster(campaign(alloc, bytes)?)),
+        Task::Muster { .. } => return Ok(FirstAnswer::Muster(campaign(alloc, bytes)?)),
         Task::Audit { .. } => return Ok(FirstAnswer::Audit(any_campaign(alloc, bytes)?)),
     };
     Ok(FirstAnswer::Text(text))
@@ -64,12 +68,12 @@ pub fn answer(alloc: Global, task: &Task, bytes: &[u8]) -> Result<FirstAnswer, R
 /// What a check prints of a file with a program in this notation, with its explanation or without it.
 fn checked_in(
     alloc: Global,
-    notation: Notation,
+    notation: &Notation,
     explained: bool,
     bytes: &[u8],
 ) -> Result<String, Refusal>
-    ensures checked { IfOk result (λ text. IsChecked notation explained bytes.now (string_bytes text)) }
-    ensures refused { IfErr result (RefusesCheckIn notation bytes.now) }
+    ensures checked { IfOk result (λ text. IsChecked notation.now explained bytes.now (string_bytes text)) }
+    ensures refused { IfErr result (RefusesCheckIn notation.now bytes.now) }
 {
     let (verified, checked) = check(alloc, notation, bytes)?;
     let lines = checked_text(alloc, &checked)?;

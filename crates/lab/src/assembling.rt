@@ -1,11 +1,14 @@
-ghost use Rattle.std.specs.Prelude.{IfOk, IfErr, string_bytes};
-ghost use Rattle.lab.specs.Answers.{Assembles, AssemblesRaw, Disassembles, DisassemblesUnits};
-ghost use Rattle.lab.specs.Refusals.{RefusesAssembly, RefusesDisassembly};
+ghost use Rattle.std.specs.Prelude.{◌≡◌, IfOk, IfErr, string_bytes};
+ghost use Rattle.lab.specs.Answers.{Assembles, AssemblesRaw, Disassembles, listing};
+ghost use Rattle.lab.specs.Refusals.{RefusesAssembly, RefusesNotation};
 
+use crate::programs::program_in;
 use crate::refusal::Refusal;
 use asm::{assemble, disassemble, disassemble_units};
-use codec::{decode, encode};
-use std::alloc::Global;
+use codec::encode;
+use command_line::Notation;
+use insn::Program;
+use std::alloc::{AllocError, Global};
 
 /// The bytecode that the assembly says, in lower-case hex on one line.
 ///
@@ -36,28 +39,31 @@ pub fn assembled_raw(alloc: Global, text: &str) -> Result<Vec<u8>, Refusal>
     Ok(encode(alloc, &program)?)
 }
 
-/// The assembly of raw bytecode.
+/// The assembly of the program in this notation that a file has, with the unit before each instruction or without it.
 ///
 /// # Errors
 ///
-/// What the codec refuses, or want of memory.
-pub fn disassembled(alloc: Global, bytes: &[u8]) -> Result<String, Refusal>
-    ensures disassembled { IfOk result (λ text. Disassembles bytes.now (string_bytes text)) }
-    ensures refused { IfErr result (RefusesDisassembly bytes.now) }
+/// What the codec or the assembler refuses, what of an object is refused, or want of memory.
+pub fn disassembled(
+    alloc: Global,
+    notation: &Notation,
+    units: bool,
+    bytes: &[u8],
+) -> Result<String, Refusal>
+    ensures disassembled { IfOk result (λ text. Disassembles notation.now units bytes.now (string_bytes text)) }
+    ensures refused { IfErr result (RefusesNotation notation.now bytes.now) }
 {
-    let program = decode(alloc, bytes)?;
-    Ok(disassemble(alloc, &program)?)
+    let program = program_in(alloc, notation, bytes)?;
+    Ok(listed(alloc, units, &program)?)
 }
 
-/// The assembly of raw bytecode, with the unit before each instruction.
-///
-/// # Errors
-///
-/// What the codec refuses, or want of memory.
-pub fn disassembled_units(alloc: Global, bytes: &[u8]) -> Result<String, Refusal>
-    ensures disassembled { IfOk result (λ text. DisassemblesUnits bytes.now (string_bytes text)) }
-    ensures refused { IfErr result (RefusesDisassembly bytes.now) }
+/// The program as text.
+fn listed(alloc: Global, units: bool, program: &Program) -> Result<String, AllocError>
+    ensures { IfOk result (λ text. string_bytes text ≡ listing units program.now) }
 {
-    let program = decode(alloc, bytes)?;
-    Ok(disassemble_units(alloc, &program)?)
+    if units {
+        disassemble_units(alloc, program)
+    } else {
+        disassemble(alloc, program)
+    }
 }
