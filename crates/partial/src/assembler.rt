@@ -47,7 +47,7 @@ fn bytes_in(alloc: Global, number: u64, line: &str) -> Result<Vec<u8>, AsmError>
         return bytes_alone(alloc, number, line);
     }
     match raw(solid) {
-        Ok(unit) => Ok(unit.as_slice().to_vec(alloc)?),
+        Ok(unit) => Ok(unit.to_vec(alloc)?),
         Err(fault) => Err(AsmError::At(fault, number)),
     }
 }

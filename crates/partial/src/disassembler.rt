@@ -39,7 +39,7 @@ fn text_of(alloc: Global, bytes: &[u8]) -> Result<String, AllocError>
     let mut text = String::new(alloc);
     let mut rest = bytes;
     while !rest.is_empty() {
-        let size = put_piece(alloc, &mut text, rest)?;
+        let size = put_line(alloc, &mut text, rest)?;
         rest = behind(rest, size);
     }
     Ok(text)
@@ -54,26 +54,38 @@ fn behind(bytes: &[u8], size: usize) -> &[u8]
 }
 
 /// Adds the line of what the bytes begin with: how many bytes that is.
+fn put_line(alloc: Global, text: &mut String, bytes: &[u8]) -> Result<usize, AllocError>
+    requires { 8 ≤ length bytes.now }
+    ensures some { IfOk result (λ size. 0 < size) }
+    ensures inside { IfOk result (λ size. size ≤ length bytes.now) }
+    ensures whole { IfOk result (λ size. size % 8 ≡ 0) }
+    ensures piece { IfOk result (λ size. (piece : Piece) × IsFirst bytes.now piece (drop size bytes.now)
+        × (string_bytes text.new ≡ string_bytes text.old ++ (piece_text piece ++ codes "\n"))) }
+{
+    let size = put_piece(alloc, text, bytes)?;
+    text.push_str("\n")?;
+    Ok(size)
+}
+
+/// Adds what the bytes begin with: how many bytes that is.
 fn put_piece(alloc: Global, text: &mut String, bytes: &[u8]) -> Result<usize, AllocError>
     requires { 8 ≤ length bytes.now }
     ensures some { IfOk result (λ size. 0 < size) }
     ensures inside { IfOk result (λ size. size ≤ length bytes.now) }
     ensures whole { IfOk result (λ size. size % 8 ≡ 0) }
     ensures piece { IfOk result (λ size. (piece : Piece) × IsFirst bytes.now piece (drop size bytes.now)
-        × (string_bytes text.new ≡ string_bytes text.old ++ piece_text piece ++ codes "\n")) }
+        × (string_bytes text.new ≡ string_bytes text.old ++ piece_text piece)) }
 {
-    let size = match instruction(bytes) {
+    match instruction(bytes) {
         Ok(insn) => {
             put_instruction(text, &insn)?;
-            8 * insn.units() as usize
+            Ok(8 * insn.units() as usize)
         }
         Err(fault) => {
             put_raw(alloc, text, &bytes[..8], fault)?;
-            8
+            Ok(8)
         }
-    };
-    text.push_str("\n")?;
-    Ok(size)
+    }
 }
 
 /// Adds a unit with which no instruction begins, by this fault.
@@ -83,8 +95,7 @@ fn put_raw(alloc: Global, text: &mut String, unit: &[u8], fault: Fault) -> Resul
 {
     let digits = hex::encode(alloc, unit)?;
     let kind = kind(fault, unit[0]);
-    let line = format!(in alloc; ".unit 0x{digits} ; {fault}{kind}")?;
-    text.push_str(line.as_str())
+    write!(text, ".unit 0x{digits} ; {fault}{kind}")
 }
 
 /// Which instruction is left out, by its opcode.
