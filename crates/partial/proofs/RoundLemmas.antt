@@ -2,8 +2,10 @@
 use Rattle.std.proofs.Common.{◌≡◌, ◌∙◌, ◌<◌, ◌≤◌, ◌+◌, ℕ, Bool, true, false, List, [], ◌∷◌, ◌++◌, length, refl, sym, ap, subst, append_assoc, append-nil, arith}
 use Rattle.std.specs.Prelude.{◌==◌, not, if◌then◌else◌, codes, Option, None, Some, Result, Ok, Err, slice_index}
 use Rattle.std.specs.Result.{result_ok}
-use Rattle.text.specs.Stop.{feed}
+use Rattle.text.specs.declared.stop.Stop.TheVariants.{Solid}
+use Rattle.text.specs.Stop.{feed, semicolon}
 use Rattle.text.specs.Parts as parts
+use Rattle.text.specs.Parts.{before, from}
 use Rattle.text.proofs.CutLemmas.{Lacks, lines_of-append, pieces-all, pieces-append}
 use Rattle.hex.specs.Hex.{encode_lower}
 use Rattle.insn.specs.declared.insn.Insn.{Insn}
@@ -15,7 +17,8 @@ use Rattle.codec.specs.Spelling.{instruction_bytes}
 use Rattle.codec.specs.Telling.{code_of}
 use Rattle.codec.proofs.FrontLemmas.{units_few}
 use Rattle.asm.specs.declared.fault.AsmError.{AsmError}
-use Rattle.asm.specs.Faults.{◌>>=◌}
+use Rattle.asm.specs.declared.fault.Fault.{Fault as AsmFault}
+use Rattle.asm.specs.Faults.{at_line, ◌>>=◌}
 use Rattle.asm.specs.Printing.{insn_text, text_of}
 use Rattle.asm.specs.Program.{ended, lines_of, nothing, program_in, program_of, read_on, said, without_return}
 use Rattle.asm.proofs.KeepingLemmas.{lines_first}
@@ -23,7 +26,7 @@ use Rattle.asm.proofs.OutlineLemmas.{insn_lacks_feed, without_return-insn}
 use Rattle.asm.proofs.RoundLemmas.{program_of-text}
 use Rattle.partial.specs.Pieces.{Piece, Spelled, Raw, IsFirst, ArePieces}
 use Rattle.partial.specs.Printing.{IsTextOf, kind_of, piece_text, pieces_text}
-use Rattle.partial.specs.Reading.{alone, bytes_on, bytes_said, is_dotted, line_bytes}
+use Rattle.partial.specs.Reading.{alone, bytes_on, bytes_said, is_dotted, line_bytes, raw_in}
 use Rattle.partial.proofs.ByteLemmas.{AreBytes, parts_bytes}
 use Rattle.partial.proofs.NameLemmas.{begins_insn, begins_some, undotted}
 use Rattle.partial.proofs.RawLemmas.{raw_lacks_feed, raw_says}
@@ -60,7 +63,7 @@ said_alone insn is =
     ∙ ok_from (said (text_of (insn ∷ []))) (insn ∷ []) (one_unit insn is)
 
 undotted_line : (line : List ℕ) → is_dotted line ≡ false → line_bytes line ≡ alone (said line)
-undotted_line line un = rw un refl
+undotted_line line un = ap (λ (b : Bool). if b then raw_in (before semicolon (from Solid line)) else alone (said line)) un
 
 insn_says : (insn : Insn) → IsInsn insn → line_bytes (insn_text insn) ≡ Ok (instruction_bytes insn)
 insn_says insn is =
@@ -107,6 +110,11 @@ piece_lacks (Raw unit fault) bytes rest are first =
 
 -- ---- all pieces
 
+says_step : (line own done : List ℕ) (number : ℕ) (lines : List (List ℕ)) → line_bytes line ≡ Ok own
+    → bytes_on done number (line ∷ lines) ≡ bytes_on (done ++ own) (number + 1) lines
+says_step line own done number lines says =
+    ap (λ (r : Result (List ℕ) AsmFault). at_line number r >>= λ bytes. bytes_on (done ++ bytes) (number + 1) lines) says
+
 says_on : (pieces : List Piece) (bytes done : List ℕ) (number : ℕ) → AreBytes bytes → ArePieces pieces bytes
     → bytes_on done number (parts.lines_of (pieces_text pieces)) ≡ Ok (done ++ bytes)
 says_on [] bytes done number small are = ap Ok (sym (append-nil done)) ∙ ap (λ (b : List ℕ). Ok (done ++ b)) (sym are)
@@ -118,8 +126,9 @@ says_on (piece ∷ pieces) bytes done number small (rest, first, are) =
     ap parts.lines_of (append_assoc (piece_text piece) (10 ∷ []) (pieces_text pieces))
     ∙ lines_of-append (piece_text piece) (pieces_text pieces) (piece_lacks piece bytes rest both.0 first) in
     ap (bytes_on done number) lines
-    ∙ (rw (piece_says piece bytes rest both.0 first) (says_on pieces rest (done ++ own) (number + 1) both.1 are)
-    ∙ ap Ok (append_assoc done own rest ∙ ap (λ (b : List ℕ). done ++ b) (sym is)))
+    ∙ (says_step (piece_text piece) own done number (parts.lines_of (pieces_text pieces)) (piece_says piece bytes rest both.0 first)
+    ∙ (says_on pieces rest (done ++ own) (number + 1) both.1 are
+    ∙ ap Ok (append_assoc done own rest ∙ ap (λ (b : List ℕ). done ++ b) (sym is))))
 
 -- the text of bytes says them
 pub says_again : (bytes text : List ℕ) → AreBytes bytes → IsTextOf bytes text → bytes_said text ≡ Ok bytes
