@@ -1,7 +1,7 @@
 //! The task that the words name.
 
 use clap::error::ErrorKind;
-use command_line::{Notation, Spelling, Task, TaskError, task};
+use command_line::{Misuse, Notation, Spelling, Task, TaskError, task};
 use std::alloc::Global;
 use std::process::Abort;
 use std::test::Fail;
@@ -107,6 +107,10 @@ fn subcommand(task: &Task) -> &'static str {
         } else {
             "check --asm"
         },
+        Task::Check {
+            notation: Notation::Object { .. },
+            ..
+        } => "check --elf",
         Task::Assemble {
             spelling: Spelling::Hex,
             ..
@@ -115,13 +119,13 @@ fn subcommand(task: &Task) -> &'static str {
             spelling: Spelling::Raw,
             ..
         } => "asm --raw",
-        Task::Disassemble(_) => "dis",
-        Task::DisassembleUnits(_) => "dis --units",
+        Task::Disassemble { units: false, .. } => "dis",
+        Task::Disassemble { units: true, .. } => "dis --units",
         Task::Book(_) => "book",
         Task::ExplainDecisions { .. } => "book --explain",
         Task::Form { .. } => "table",
         Task::Play { .. } => "play",
-        Task::Muster(_) => "muster",
+        Task::Muster { .. } => "muster",
         Task::Audit { .. } => "audit",
     }
 }
@@ -186,7 +190,7 @@ fn no_generals_are_refused(rt: HostRuntime) -> Result<(), Fail> {
         let option = format!(in rt.alloc(); "--traitors={word}")?;
         let words = ["book", "t", option.as_str()];
         assert!(rt;
-            matches!(task(rt.alloc(), &words), Err(TaskError::Traitors(_))),
+            matches!(task(rt.alloc(), &words), Err(TaskError::Misuse(Misuse::Traitors(_)))),
             "{word}"
         );
     }
@@ -201,6 +205,7 @@ fn tables_have_three_numbers(rt: HostRuntime) -> Result<(), Fail> {
         generals,
         bound,
         commander,
+        filling: None,
     } = &task
     else {
         return Err("no table")?;

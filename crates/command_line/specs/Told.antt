@@ -1,10 +1,12 @@
 -- What a task and its refusal say.
-use Rattle.std.specs.Prelude.{⊤, ℕ, ◌≡◌, Bool, true, false, List, Option, None, Some, codes, is_some, option_map}
+use Rattle.std.specs.Prelude.{⊤, ℕ, ◌≡◌, Bool, true, false, List, [], ◌∷◌, Option, None, Some, codes, is_some, option_map}
+use Rattle.std.specs.List.{list_any}
+use Rattle.std.specs.Str.{bytes_eq}
 use Rattle.std.specs.String.{string_bytes}
 use Rattle.text.specs.Options.{◌>>=◌}
 use Rattle.clap.specs.declared.error.Error.{Error}
 use Rattle.command_line.specs.Generals.{general_in, generals_in, order_in}
-use Rattle.command_line.specs.Usage.{Text, value_at}
+use Rattle.command_line.specs.Usage.{Text}
 use Rattle.command_line.specs.declared.tasks.Account.{Account}
 use Rattle.command_line.specs.declared.tasks.Account.TheVariants.{Chronicle, Table}
 use Rattle.command_line.specs.declared.tasks.Filling.{Filling}
@@ -21,18 +23,27 @@ use Rattle.command_line.specs.declared.errors.Misuse.TheVariants.{Traitors, Of, 
 use Rattle.command_line.specs.declared.errors.TaskError.{TaskError}
 use Rattle.command_line.specs.declared.errors.TaskError.TheVariants as error
 
--- a subcommand's name, and what was met behind it, each with its name: words at places, values of options, and switches
+-- a subcommand's name, and what was met behind it by each name: the word at a place, the value of an option, `true` of a switch
 pub record Told : Type 0 where
   pub name : Text
-  pub met : List (Text × Text)
+  pub value : Text → Option Text
 
--- the word at the place of this name, or the value of the option
 abbrev pub word_of : Text → Told → Option Text
-word_of name told = value_at name told.met
+word_of name told = told.value name
 
 -- whether what has this name was met
 abbrev pub has : Text → Told → Bool
 has name told = is_some (word_of name told)
+
+-- the subcommand is one of these
+abbrev pub is_of : List Text → Told → Bool
+is_of names told = list_any (λ name. bytes_eq name told.name) names
+
+abbrev pub programs : List Text
+programs = codes "check" ∷ codes "dis" ∷ []
+
+abbrev pub campaigns : List Text
+campaigns = codes "play" ∷ codes "muster" ∷ codes "audit" ∷ []
 
 -- ---- what the words say of a part of a task
 
@@ -80,7 +91,7 @@ Says told (Check file notation context explained traced) = (told.name ≡ codes 
     × (has (codes "explain") told ≡ explained) × (has (codes "trace") told ≡ traced)
 Says told (Assemble file spelling target explained) = (told.name ≡ codes "asm")
     × (word_of (codes "FILE") told ≡ Some (string_bytes file)) × (has (codes "raw") told ≡ is_raw spelling)
-    × (word_of (codes "o") told ≡ option_map string_bytes target) × (has (codes "explain") told ≡ explained)
+    × (word_of (codes "target") told ≡ option_map string_bytes target) × (has (codes "explain") told ≡ explained)
 Says told (Disassemble file notation units explained) = (told.name ≡ codes "dis")
     × (word_of (codes "FILE") told ≡ Some (string_bytes file)) × IsNotation told notation
     × (has (codes "units") told ≡ units) × (has (codes "explain") told ≡ explained)
@@ -130,14 +141,24 @@ target_of _ = None
 
 -- the words are misused so
 abbrev pub IsMisused : Told → Misuse → Type 0
-IsMisused told (Traitors word) = (word_of (codes "traitors") told ≡ Some (string_bytes word)) × (generals_in (string_bytes word) ≡ None)
-IsMisused told (Of word) = (word_of (codes "of") told ≡ Some (string_bytes word)) × (general_in (string_bytes word) ≡ None)
-IsMisused told (Lie word) = (word_of (codes "lie") told ≡ Some (string_bytes word)) × (general_in (string_bytes word) ≡ None)
-IsMisused told (Loyal word) = (word_of (codes "loyal") told ≡ Some (string_bytes word)) × (order_in (string_bytes word) ≡ None)
-IsMisused told TwoNotations = (has (codes "asm") told ≡ true) × (has (codes "elf") told ≡ true)
-IsMisused told EntryAlone = (has (codes "entry") told ≡ true) × (has (codes "elf") told ≡ false)
-IsMisused told OfAlone = (has (codes "of") told ≡ true) × (has (codes "explain") told ≡ false)
-IsMisused told LieAlone = (has (codes "lie") told ≡ true) × (has (codes "loyal") told ≡ false)
+IsMisused told (Traitors word) = (is_of (codes "book" ∷ []) told ≡ true)
+    × (word_of (codes "traitors") told ≡ Some (string_bytes word)) × (generals_in (string_bytes word) ≡ None)
+IsMisused told (Of word) = (is_of campaigns told ≡ true)
+    × (word_of (codes "of") told ≡ Some (string_bytes word)) × (general_in (string_bytes word) ≡ None)
+IsMisused told (Lie word) = (is_of (codes "table" ∷ []) told ≡ true)
+    × (word_of (codes "lie") told ≡ Some (string_bytes word)) × (general_in (string_bytes word) ≡ None)
+IsMisused told (Loyal word) = (is_of (codes "table" ∷ []) told ≡ true)
+    × (word_of (codes "loyal") told ≡ Some (string_bytes word)) × (order_in (string_bytes word) ≡ None)
+IsMisused told TwoNotations = (is_of programs told ≡ true) × (has (codes "asm") told ≡ true) × (has (codes "elf") told ≡ true)
+IsMisused told EntryAlone = (is_of programs told ≡ true) × (has (codes "entry") told ≡ true) × (has (codes "elf") told ≡ false)
+IsMisused told OfAlone = (is_of campaigns told ≡ true) × (has (codes "of") told ≡ true) × (has (codes "explain") told ≡ false)
+IsMisused told LieAlone = (is_of (codes "table" ∷ []) told ≡ true) × (has (codes "lie") told ≡ true) × (has (codes "loyal") told ≡ false)
+
+-- an error of words that `clap` takes: they are misused so, or memory is wanting
+abbrev pub IsErrorOf : Told → TaskError → Type 0
+IsErrorOf told (error.Words refusal) = ⊥
+IsErrorOf told (error.Misuse misuse) = IsMisused told misuse
+IsErrorOf told error.Memory = ⊤
 
 -- the fact holds of `clap`'s error, where it refused the words
 abbrev pub IfWords : TaskError → (Error → Type 0) → Type 0

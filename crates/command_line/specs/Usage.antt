@@ -1,5 +1,5 @@
 -- How a subcommand is used, and what it takes of the words behind its name.
-use Rattle.std.specs.Prelude.{ℕ, ◌==◌, ◌&&◌, ◌++◌, Bool, true, false, List, [], ◌∷◌, Option, Some, None}
+use Rattle.std.specs.Prelude.{ℕ, ◌==◌, ◌++◌, Bool, true, false, List, [], ◌∷◌, Option, Some, None}
 use Rattle.std.specs.Prelude.{codes, drop, encode_utf8, find, if◌then◌else◌, is_some, length, option_and_then, option_map, slice_get}
 use Rattle.std.specs.Option.{option_map_or}
 use Rattle.std.specs.Str.{bytes_eq, chars}
@@ -9,11 +9,12 @@ use Rattle.clap.specs.Walk.{attached_value}
 abbrev pub Text : Type 0
 Text = List ℕ
 
--- a switch `--NAME`, which has no value; an option `--NAME VALUE` or `--NAME=VALUE`; one of a letter, `-L VALUE`, `-LVALUE` or `-L=VALUE`
+-- a switch `--NAME`, which has no value; an option `--NAME VALUE` or `--NAME=VALUE`; an option of this name and a letter, `-L VALUE`,
+-- `-LVALUE` or `-L=VALUE`
 pub data Flag : Type 0 where
   switch : Text → Flag
   option : Text → Flag
-  letter : ℕ → Flag
+  letter : Text → ℕ → Flag
 
 -- a subcommand: its name, the names of its places, each of which a word has to fill, and its flags, each of which may stand once
 pub record Usage : Type 0 where
@@ -24,11 +25,12 @@ pub record Usage : Type 0 where
 abbrev pub is_long : Text → Flag → Bool
 is_long name (switch own) = bytes_eq own name
 is_long name (option own) = bytes_eq own name
-is_long name (letter c) = false
+is_long name (letter own c) = false
 
 abbrev pub is_short : ℕ → Flag → Bool
-is_short c (letter own) = own == c
-is_short c _ = false
+is_short c (switch name) = false
+is_short c (option name) = false
+is_short c (letter name own) = own == c
 
 -- ---- what a word looks like: `--`; `--NAME` or `--NAME=VALUE`; a hyphen, a letter and what stands behind it; or no flag
 
@@ -42,7 +44,7 @@ pub data Look : Type 0 where
 abbrev pub short_look : Text → Look
 short_look flags = option_map_or (λ c. short c (drop (length (encode_utf8 c)) flags)) (slice_get (chars flags) 0) plain
 
-abbrev pub look_of : Text → Look
+unfoldable pub look_of : Text → Look
 look_of word = if bytes_eq word (codes "--") then end_of_flags
     else option_map_or (λ p. long p.0 p.1) (long_of word) (option_map_or short_look (short_of word) plain)
 
@@ -52,7 +54,7 @@ look_of word = if bytes_eq word (codes "--") then end_of_flags
 pub data Next : Type 0 where
   anything : Next
   value_of : Text → Next
-  words : Next
+  only_places : Next
 
 -- the places that are left, what was met by now with its name (of a switch `true`), and what may come next
 pub record State : Type 0 where
@@ -83,12 +85,13 @@ abbrev pub flag_met : Option Flag → Option Text → State → Option State
 flag_met (Some (switch name)) None state = met_once name (codes "true") state
 flag_met (Some (option name)) None state = Some (record state { next = value_of name })
 flag_met (Some (option name)) (Some value) state = met_once name value state
-flag_met (Some (letter c)) None state = Some (record state { next = value_of (c ∷ []) })
-flag_met (Some (letter c)) (Some value) state = met_once (c ∷ []) value state
-flag_met _ value state = None
+flag_met (Some (letter name c)) None state = Some (record state { next = value_of name })
+flag_met (Some (letter name c)) (Some value) state = met_once name value state
+flag_met (Some (switch name)) (Some value) state = None
+flag_met None value state = None
 
 abbrev pub read_on : List Flag → Look → Text → State → Option State
-read_on flags end_of_flags word state = Some (record state { next = words })
+read_on flags end_of_flags word state = Some (record state { next = only_places })
 read_on flags (long name value) word state = flag_met (find (is_long name) flags) value state
 read_on flags (short c rest) word state = flag_met (find (is_short c) flags) (attached_value rest) state
 read_on flags plain word state = placed word state
@@ -101,7 +104,7 @@ valued _ name word state = None
 abbrev pub after_next : List Flag → Next → Text → State → Option State
 after_next flags anything word state = read_on flags (look_of word) word state
 after_next flags (value_of name) word state = valued (look_of word) name word state
-after_next flags words word state = placed word state
+after_next flags only_places word state = placed word state
 
 abbrev pub after : List Flag → Text → State → Option State
 after flags word state = after_next flags state.next word state

@@ -14,7 +14,7 @@ abbrev pub asm : Usage
 asm = record {
   name = codes "asm";
   places = codes "FILE" ∷ [];
-  flags = switch (codes "raw") ∷ letter 111 ∷ [];
+  flags = switch (codes "raw") ∷ letter (codes "target") 111 ∷ [];
 }
 
 abbrev pub dis : Usage

@@ -6,6 +6,8 @@ mod generals;
 mod lab;
 mod met;
 mod reading;
+mod subcommand;
+mod subcommands;
 mod tasks;
 
 pub use errors::{Misuse, TaskError};
