@@ -91,6 +91,12 @@ kind_lacks fault.LeftOut opcode = left_lacks (opcode == 24) (opcode == 133) (opc
 kind_lacks fault.Operand opcode = refl
 kind_lacks fault.Count opcode = refl
 
+regroup : (a h s c k : List ℕ) → (((a ++ h) ++ s) ++ c) ++ k ≡ a ++ (h ++ (s ++ (c ++ k)))
+regroup a h s c k = simp append_assoc
+
+raw_text : (unit : List ℕ) (fault : Fault) → piece_text (Raw unit fault) ≡ codes ".unit 0x" ++ (encode_lower unit ++ 32 ∷ 59 ∷ 32 ∷ (code_of fault ++ kind_of fault (slice_index unit 0)))
+raw_text unit fault = regroup (codes ".unit 0x") (encode_lower unit) (codes " ; ") (code_of fault) (kind_of fault (slice_index unit 0))
+
 abbrev pub piece_bytes : Piece → List ℕ
 piece_bytes (Spelled insn) = instruction_bytes insn
 piece_bytes (Raw unit fault) = unit
@@ -101,12 +107,14 @@ piece_is (Raw unit fault) bytes rest first = first.2
 
 piece_says : (piece : Piece) (bytes rest : List ℕ) → AreBytes (piece_bytes piece) → IsFirst bytes piece rest → line_bytes (piece_text piece) ≡ Ok (piece_bytes piece)
 piece_says (Spelled insn) bytes rest are first = insn_says insn first.0
-piece_says (Raw unit fault) bytes rest are first = raw_says unit (32 ∷ (code_of fault ++ kind_of fault (slice_index unit 0))) first.0 are
+piece_says (Raw unit fault) bytes rest are first =
+    ap line_bytes (raw_text unit fault) ∙ raw_says unit (32 ∷ (code_of fault ++ kind_of fault (slice_index unit 0))) first.0 are
 
 piece_lacks : (piece : Piece) (bytes rest : List ℕ) → AreBytes (piece_bytes piece) → IsFirst bytes piece rest → Lacks feed (piece_text piece)
 piece_lacks (Spelled insn) bytes rest are first = insn_lacks_feed insn first.0
 piece_lacks (Raw unit fault) bytes rest are first =
-    raw_lacks_feed unit (32 ∷ (code_of fault ++ kind_of fault (slice_index unit 0))) are (kind_lacks fault (slice_index unit 0))
+    subst (λ (t : List ℕ). Lacks feed t) (sym (raw_text unit fault))
+    (raw_lacks_feed unit (32 ∷ (code_of fault ++ kind_of fault (slice_index unit 0))) are (kind_lacks fault (slice_index unit 0)))
 
 -- ---- all pieces
 

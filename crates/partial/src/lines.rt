@@ -12,7 +12,7 @@ pub fn first_line(text: &str) -> Option<(&str, &str)>
         return None;
     }
     match text.split_once('\n') {
-        Some((line, behind)) => Some((line, behind)),
+        Some(cut) => Some(cut),
         None => Some((text, "")),
     }
 }

@@ -83,24 +83,35 @@ pub nothing_told : (program : List Insn) (context : List ℕ) (relay : Relay) (r
     → told_at program context relay rest words s ≡ []
 nothing_told program context relay rest words s none = ap (λ (found : Option Insn). told rest words s found (step program context relay s)) none
 
+regroup_next : (old b a n r new : List ℕ) → new ≡ ((old ++ b) ++ a) ++ n → old ++ (b ++ (a ++ (n ++ r))) ≡ new ++ r
+regroup_next old b a n r new is =
+    let same : (((old ++ b) ++ a) ++ n) ++ r ≡ old ++ (b ++ (a ++ (n ++ r))) = simp append_assoc in
+    sym same ∙ ap (λ (l : List ℕ). l ++ r) (sym is)
+
+regroup_asks : (old b a q n r mid new : List ℕ) → mid ≡ old ++ b → new ≡ ((mid ++ a) ++ q) ++ n → old ++ (b ++ (a ++ (q ++ (n ++ r)))) ≡ new ++ r
+regroup_asks old b a q n r mid new begun is =
+    let same : ((((old ++ b) ++ a) ++ q) ++ n) ++ r ≡ old ++ (b ++ (a ++ (q ++ (n ++ r)))) = simp append_assoc in
+    sym same ∙ (ap (λ (m : List ℕ). (((m ++ a) ++ q) ++ n) ++ r) (sym begun) ∙ ap (λ (l : List ℕ). l ++ r) (sym is))
+
 pub told_next : (program : List Insn) (context : List ℕ) (relay : Relay) (rest : Rest) (words : List ℕ) (s t : State) (i : Insn) (old new : List ℕ)
     → instruction_at program s.unit ≡ Some i → step program context relay s ≡ Next t
     → new ≡ ((old ++ before_told s.unit s.registers i) ++ after_told t.unit t.registers i) ++ codes "\n"
     → old ++ told_at program context relay rest words s ≡ new ++ rest words t
 told_next program context relay rest words s t i old new here steps is =
     ap (λ (l : List ℕ). old ++ l) (told_by program context relay rest words s i (Next t) here steps)
-    ∙ (sym (simp append_assoc) ∙ ap (λ (l : List ℕ). l ++ rest words t) (sym is))
+    ∙ regroup_next old (before_told s.unit s.registers i) (after_told t.unit t.registers i) (codes "\n") (rest words t) new is
 
-pub told_asks : (program : List Insn) (context : List ℕ) (relay : Relay) (rest : Rest) (words left : List ℕ) (s t u : State) (i : Insn) (request : Request) (old new : List ℕ)
+pub told_asks : (program : List Insn) (context : List ℕ) (relay : Relay) (rest : Rest) (words left : List ℕ) (s t u : State) (i : Insn) (request : Request) (old mid new : List ℕ)
     → instruction_at program s.unit ≡ Some i → step program context relay s ≡ Ask request t
     → u ≡ resumed request (reply words request) t → left ≡ next words request
-    → new ≡ (old ++ before_told s.unit s.registers i) ++ (after_told u.unit u.registers i ++ (request_told request words left ++ codes "\n"))
+    → mid ≡ old ++ before_told s.unit s.registers i
+    → new ≡ ((mid ++ after_told u.unit u.registers i) ++ request_told request words left) ++ codes "\n"
     → old ++ told_at program context relay rest words s ≡ new ++ rest left u
-told_asks program context relay rest words left s t u i request old new here steps resumes leaves is =
+told_asks program context relay rest words left s t u i request old mid new here steps resumes leaves begun is =
     ap (λ (l : List ℕ). old ++ l) (told_by program context relay rest words s i (Ask request t) here steps)
     ∙ (ap (λ (v : State). old ++ (before_told s.unit s.registers i ++ (after_told v.unit v.registers i ++ (request_told request words (next words request) ++ (codes "\n" ++ rest (next words request) v))))) (sym resumes)
     ∙ (ap (λ (w : List ℕ). old ++ (before_told s.unit s.registers i ++ (after_told u.unit u.registers i ++ (request_told request words w ++ (codes "\n" ++ rest w u))))) (sym leaves)
-    ∙ (sym (simp append_assoc) ∙ ap (λ (l : List ℕ). l ++ rest left u) (sym is))))
+    ∙ regroup_asks old (before_told s.unit s.registers i) (after_told u.unit u.registers i) (request_told request words left) (codes "\n") (rest left u) mid new begun is))
 
 pub told_exit : (program : List Insn) (context : List ℕ) (relay : Relay) (rest : Rest) (words : List ℕ) (s t : State) (i : Insn) (r0 : ℕ) (old new : List ℕ)
     → instruction_at program s.unit ≡ Some i → step program context relay s ≡ Exit r0 t
