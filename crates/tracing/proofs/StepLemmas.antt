@@ -93,6 +93,18 @@ regroup_asks old b a q n r mid new begun is =
     let same : ((((old ++ b) ++ a) ++ q) ++ n) ++ r ≡ old ++ (b ++ (a ++ (q ++ (n ++ r)))) = simp append_assoc in
     sym same ∙ (ap (λ (m : List ℕ). (((m ++ a) ++ q) ++ n) ++ r) (sym begun) ∙ ap (λ (l : List ℕ). l ++ r) (sym is))
 
+-- lines that grew in two or three parts
+pub grew_twice : (new middle old b n : List ℕ) → new ≡ middle ++ n → middle ≡ old ++ b → new ≡ (old ++ b) ++ n
+grew_twice new middle old b n last first = last ∙ ap (λ (l : List ℕ). l ++ n) first
+
+pub grew_thrice : (new second first old b a n : List ℕ) → new ≡ second ++ n → second ≡ first ++ a → first ≡ old ++ b → new ≡ ((old ++ b) ++ a) ++ n
+grew_thrice new second first old b a n last middle begun = last ∙ ap (λ (l : List ℕ). l ++ n) (middle ∙ ap (λ (l : List ℕ). l ++ a) begun)
+
+-- the instruction that was found stands there
+pub found_here : (program own : List Insn) (unit at : ℕ) (i : Insn) → Some i ≡ instruction_at own at → own ≡ program → at ≡ unit → instruction_at program unit ≡ Some i
+found_here program own unit at i found same is =
+    sym (found ∙ (ap (λ (p : List Insn). instruction_at p at) same ∙ ap (λ (u : ℕ). instruction_at program u) is))
+
 pub told_next : (program : List Insn) (context : List ℕ) (relay : Relay) (rest : Rest) (words : List ℕ) (s t : State) (i : Insn) (old new : List ℕ)
     → instruction_at program s.unit ≡ Some i → step program context relay s ≡ Next t
     → new ≡ ((old ++ before_told s.unit s.registers i) ++ after_told t.unit t.registers i) ++ codes "\n"

@@ -1,5 +1,5 @@
 //! The run that is told.
-ghost use Rattle.std.specs.Prelude.{◌≡◌, ◌+◌, ◌++◌, ℕ, List, codes, string_bytes, true, false, IfOk, OnOk};
+ghost use Rattle.std.specs.Prelude.{◌≡◌, ◌≤◌, ◌+◌, ◌++◌, ℕ, List, codes, length, string_bytes, true, false, IfOk, OnOk};
 ghost use Rattle.insn.specs.declared.insn.Insn.{Insn as InsnValue};
 ghost use Rattle.label.specs.Relay.{IsShape};
 ghost use Rattle.semantics.specs.Relay.{oral};
@@ -35,7 +35,7 @@ pub fn traced(
     requires { IsShape shape }
     ensures { IfOk result (λ text. string_bytes text ≡ trace verified.now context.now (oral shape)) }
 {
-    let mut text = String::new(alloc);
+    let mut text = String::with_capacity(alloc, 32 * verified.program().len())?;
     let mut board = Board::new(alloc, [0; 64]);
     let mut activation = Activation::start(verified, context, Outbox::new(alloc, shape)?);
     loop {
@@ -55,6 +55,7 @@ fn turn(
     board: &mut Board,
 ) -> Result<bool, AllocError>
     requires of_run { IsOfRun verified.now context.now activation.old }
+    requires few { length verified.now ≤ 4096 }
     ensures relay { activation.new.relay ≡ activation.old.relay }
     ensures on { IfOk result (λ ended. ended ≡ false → IsOfRun verified.now context.now activation.new) }
     ensures counted { IfOk result (λ ended. ended ≡ false → activation.new.state.steps ≡ activation.old.state.steps + 1) }
