@@ -123,7 +123,7 @@ checks_in (task.Check file own context true traced) notation bytes refusal is re
     let same : notation ≡ own = cc in subst (λ (n : Notation). RefusesCheckIn n bytes refusal) same refuses
 checks_in (task.Check file own context false traced) notation bytes refusal is refuses = absurd cc
 checks_in (task.Assemble file spelling target explained) notation bytes refusal is refuses = absurd cc
-checks_in (task.Disassemble file notation units explained) notation bytes refusal is refuses = absurd cc
+checks_in (task.Disassemble file own units explained) notation bytes refusal is refuses = absurd cc
 checks_in (task.Book file) notation bytes refusal is refuses = absurd cc
 checks_in (task.ExplainDecisions file traitors) notation bytes refusal is refuses = absurd cc
 checks_in (task.Form n m c filling) notation bytes refusal is refuses = absurd cc
