@@ -40,7 +40,7 @@ abbrev built_usage : Usage → Shape
 built_usage usage = built_shape usage.name usage.places usage.flags
 
 abbrev built_subs : List Usage → List Shape
-built_subs [] = built_leaf (inherited above help_shape) ∷ []
+built_subs [] = built_leaf help_shape ∷ []
 built_subs (usage ∷ rest) = built_usage usage ∷ built_subs rest
 
 abbrev built_app : List Usage → App
@@ -80,11 +80,12 @@ AgreesWith us kinds met (Some told) = (kinds ≡ []) × (task_met met ≡ Some t
 
 all_filled : (met : Met) (ps : List Text) → list_any (lacks_place met) ps ≡ false → list_all (λ p. is_some (value_at p met)) ps ≡ true
 all_filled met [] none = refl
-all_filled met (p ∷ ps) none = go (is_some (value_at p met)) none
+all_filled met (p ∷ ps) none = go (all_filled met ps) (is_some (value_at p met)) none
   where
-    go : (b : Bool) → (not b || list_any (lacks_place met) ps) ≡ false → (b && list_all (λ p. is_some (value_at p met)) ps) ≡ true
-    go true none = all_filled met ps none
-    go false none = absurd cc
+    go : (list_any (lacks_place met) ps ≡ false → list_all (λ p. is_some (value_at p met)) ps ≡ true) → (b : Bool)
+        → (not b || list_any (lacks_place met) ps) ≡ false → (b && list_all (λ p. is_some (value_at p met)) ps) ≡ true
+    go rest true none = rest none
+    go rest false none = absurd cc
 
 module _ (us : List Usage) (clear : list_all is_clear us ≡ true) where
   abbrev names : Names
@@ -112,35 +113,35 @@ module _ (us : List Usage) (clear : list_all is_clear us ≡ true) where
   name_met : (rest : List Usage) (word : Text) → subcommand_met (map label_of (built_subs rest)) idle word ≡ known (usage_in rest word) (bytes_eq (codes "help") word)
   name_met [] word = go (bytes_eq (codes "help") word)
     where
-      go : (b : Bool) → option_map (λ s. s.0) (cond (b || false) (Some (label_of (built_leaf (inherited above help_shape)))) None) ≡ known None b
+      go : (b : Bool) → option_map (λ s. s.0) (cond (b || false) (Some (label_of (built_leaf help_shape))) None) ≡ known None b
       go true = refl
       go false = refl
-  name_met (usage ∷ rest) word = go (bytes_eq usage.name word)
+  name_met (usage ∷ rest) word = go (name_met rest word) (bytes_eq usage.name word)
     where
-      go : (b : Bool) → option_map (λ s. s.0) (cond (b || false) (Some (usage.name, [])) (find (answers_to word) (map label_of (built_subs rest))))
+      go : subcommand_met (map label_of (built_subs rest)) idle word ≡ known (usage_in rest word) (bytes_eq (codes "help") word)
+          → (b : Bool) → option_map (λ s. s.0) (cond (b || false) (Some (usage.name, [])) (find (answers_to word) (map label_of (built_subs rest))))
           ≡ known (cond b (Some usage) (usage_in rest word)) (bytes_eq (codes "help") word)
-      go true = refl
-      go false = name_met rest word
+      go later true = refl
+      go later false = later
 
   shape_met : (rest : List Usage) (name : Text) (usage : Usage) → usage_in rest name ≡ Some usage → find (λ s. answers_to name (label_of s)) (built_subs rest) ≡ Some (built_usage usage)
   shape_met [] name usage is = absurd cc
-  shape_met (first ∷ rest) name usage is = go (bytes_eq first.name name) is
+  shape_met (first ∷ rest) name usage is = go (shape_met rest name usage) (bytes_eq first.name name) is
     where
-      go : (b : Bool) → cond b (Some first) (usage_in rest name) ≡ Some usage
+      go : (usage_in rest name ≡ Some usage → find (λ s. answers_to name (label_of s)) (built_subs rest) ≡ Some (built_usage usage)) → (b : Bool) → cond b (Some first) (usage_in rest name) ≡ Some usage
           → cond (b || false) (Some (built_usage first)) (find (λ s. answers_to name (label_of s)) (built_subs rest)) ≡ Some (built_usage usage)
-      go true is = let same : first ≡ usage = cc in ap (λ (u : Usage). Some (built_usage u)) same
-      go false is = shape_met rest name usage is
+      go later true is = let same : first ≡ usage = cc in ap (λ (u : Usage). Some (built_usage u)) same
+      go later false is = later is
 
   clear_in : (rest : List Usage) (name : Text) (usage : Usage) → list_all is_clear rest ≡ true → usage_in rest name ≡ Some usage → is_clear usage ≡ true
   clear_in [] name usage all is = absurd cc
-  clear_in (first ∷ rest) name usage all is = go (bytes_eq first.name name) is
+  clear_in (first ∷ rest) name usage all is =
+      let parts = and_parts (is_clear first) (list_all is_clear rest) all in
+      go parts.0 (clear_in rest name usage parts.1) (bytes_eq first.name name) is
     where
-      parts : (is_clear first ≡ true) × (list_all is_clear rest ≡ true)
-      parts = and_parts (is_clear first) (list_all is_clear rest) all
-
-      go : (b : Bool) → cond b (Some first) (usage_in rest name) ≡ Some usage → is_clear usage ≡ true
-      go true is = let same : first ≡ usage = cc in subst (λ (u : Usage). is_clear u ≡ true) same parts.0
-      go false is = clear_in rest name usage parts.1 is
+      go : is_clear first ≡ true → (usage_in rest name ≡ Some usage → is_clear usage ≡ true) → (b : Bool) → cond b (Some first) (usage_in rest name) ≡ Some usage → is_clear usage ≡ true
+      go here later true is = let same : first ≡ usage = cc in subst (λ (u : Usage). is_clear u ≡ true) same here
+      go here later false is = later is
 
   -- what the level answers past its words, and past its subcommand
   abbrev after_level : Bool → Kinds

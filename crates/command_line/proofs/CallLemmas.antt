@@ -1,5 +1,5 @@
 -- What a call of `clap` tells of the rule.
-use Rattle.std.proofs.Common.{Result, Ok, Err, IfOk, IfErr, IsSomeAnd, ◌||◌, ◌&&◌, not, Bool, true, false, codes, is_some, ◌≡◌, ◌∙◌, ◌⊎◌, inl, inr, List, [], ◌∷◌, Option, Some, None, ap, refl, subst, sym}
+use Rattle.std.proofs.Common.{Result, Ok, Err, IfOk, IfErr, IsSome, IsSomeAnd, ◌||◌, ◌&&◌, not, Bool, true, false, codes, is_some, ◌≡◌, ◌∙◌, ◌⊎◌, inl, inr, List, [], ◌∷◌, Option, Some, None, ap, refl, subst, sym}
 use Rattle.clap.specs.Words.{App, IsAmong, Row, Text, fault_of, is_simple, is_simple_and_free, subcommand_of}
 use Rattle.clap.specs.declared.error.kind.ErrorKind.{ErrorKind}
 use Rattle.clap.specs.declared.error.kind.ErrorKind.TheVariants.{OutOfMemory}
@@ -45,6 +45,11 @@ task_found app words met lab passes meets =
     let met_is : met ≡ subcommand_of lab_app words =
     meets (ap is_simple lab ∙ is_simple_lab) ∙ ap (λ (a : App). subcommand_of a words) lab in
     subst (IsFound words) (sym met_is) (found_by words (spelt words) refl none (rule_agrees words))
+
+-- and so a subcommand was met
+pub some_met : (met : Option (Text × List Row)) (told : Told) → task_met met ≡ Some told → IsSome met
+some_met None told is = absurd cc
+some_met (Some p) told is = refl
 
 none_by : (words : List Text) (task : Option Told) (k : ErrorKind) → IsAmong k (fault_of lab_app words)
     → LabAgrees (fault_of lab_app words) (subcommand_of lab_app words) task → task ≡ None

@@ -1,8 +1,10 @@
 pub mod AskedLemmas
 pub mod CallLemmas
+pub mod CommandLemmas
 pub mod FlagLemmas
 pub mod LevelLemmas
 pub mod MeantLemmas
+pub mod MetLemmas
 pub mod PlaceLemmas
 pub mod ReadLemmas
 pub mod RowLemmas

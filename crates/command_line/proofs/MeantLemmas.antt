@@ -1,5 +1,5 @@
 -- Words that say a task are no misuse, and words that are misused say none.
-use Rattle.std.proofs.Common.{◌≡◌, ◌∙◌, ◌||◌, ◌&&◌, not, Bool, true, false, codes, is_some, List, [], ◌∷◌, Option, Some, None, ap, refl, string_bytes, subst, sym}
+use Rattle.std.proofs.Common.{◌≡◌, ◌∙◌, ◌||◌, ◌&&◌, not, Bool, true, false, codes, is_some, ℕ, List, [], ◌∷◌, Option, Some, None, ap, refl, string_bytes, subst, sym}
 use Rattle.std.proofs.lemmas.Bool.{and_from, and_left, and_right, or_right}
 use Rattle.std.specs.Option.{option_map_or}
 use Rattle.text.specs.Options.{◌>>=◌}
@@ -29,17 +29,17 @@ module _ (told : Told) where
   notation_holds Assembly is = rw (is.0, is.1, is.2) refl
   notation_holds (Object entry) is = rw (is.0, is.1) (or_right (not (has (codes "entry") told)) true refl)
 
-  general_holds : (name : Text) (g : Option _) → NamesGeneral name told g → reads general_in name told ≡ true
+  general_holds : (name : Text) (g : Option ℕ) → NamesGeneral name told g → reads general_in name told ≡ true
   general_holds name None is = rw is refl
   general_holds name (Some g) is = read_where general_in (word_of name told) g is
 
   filling_holds : (filling : Option Filling) → IsFilling told filling → has_filling told ≡ true
   filling_holds None is = rw (is.0, is.1) refl
   filling_holds (Some filling) is =
-      and_from (reads order_in (codes "loyal") told) (reads general_in (codes "lie") told && wants (codes "lie") (codes "loyal") told)
-      (read_where order_in (word_of (codes "loyal") told) filling.order is.0)
-      (and_from (reads general_in (codes "lie") told) (wants (codes "lie") (codes "loyal") told) (general_holds (codes "lie") filling.liar is.1)
-      (or_right (not (has (codes "lie") told)) (has (codes "loyal") told) (loyal (word_of (codes "loyal") told) is.0)))
+      and_from (reads order_in (codes "loyal") told && reads general_in (codes "lie") told) (wants (codes "lie") (codes "loyal") told)
+      (and_from (reads order_in (codes "loyal") told) (reads general_in (codes "lie") told)
+      (read_where order_in (word_of (codes "loyal") told) filling.order is.0) (general_holds (codes "lie") filling.liar is.1))
+      (or_right (not (has (codes "lie") told)) (has (codes "loyal") told) (loyal (word_of (codes "loyal") told) is.0))
     where
       loyal : (word : Option Text) → (word >>= order_in) ≡ Some filling.order → is_some word ≡ true
       loyal None e = absurd cc
@@ -52,14 +52,9 @@ module _ (told : Told) where
       and_from (reads general_in (codes "of") told) (wants (codes "of") (codes "explain") told) (general_holds (codes "of") (Some g) is.1)
       (or_right (not (has (codes "of") told)) (has (codes "explain") told) is.0)
 
-  traitors_hold : (explained : Bool) (word : Option Text) (traitors : List _) → named explained word ≡ Some traitors → option_map_or (λ w. is_some (generals_in w)) word true ≡ true
+  traitors_hold : (explained : Bool) (word : Option Text) (traitors : List ℕ) → named explained word ≡ Some traitors → option_map_or (λ w. is_some (generals_in w)) word true ≡ true
   traitors_hold explained None traitors is = refl
   traitors_hold explained (Some word) traitors is = ap (λ o. is_some o) is
-
-  -- of one kind of subcommand alone
-  program_meant : is_of programs told ≡ true → is_of (codes "book" ∷ []) told ≡ false → is_of (codes "table" ∷ []) told ≡ false → is_of campaigns told ≡ false
-      → has_notation told ≡ true → is_meant told ≡ true
-  program_meant a b c d holds = rw (b, c, d, holds) (rw a refl)
 
 pub says_meant : (told : Told) (task : Task) → Says told task → is_meant told ≡ true
 says_meant told (Check file notation context explained traced) says = rw says.0 (rw (notation_holds told notation says.2) refl)
@@ -79,7 +74,7 @@ not_read : {X : Type 0} (read : Text → Option X) (told : Told) (name word : Te
 not_read read told name word is none = rw (is, none) refl
 
 broken : (names : List Text) (told : Told) (holds : Bool) → is_of names told ≡ true → holds ≡ false → if_of names told holds ≡ false
-broken names told holds of no = rw (of, no) refl
+broken names told holds of fails = rw (of, fails) refl
 
 module _ (a b c d : Bool) where
   first_broken : a ≡ false → a && b && c && d ≡ false
@@ -123,16 +118,16 @@ module _ (told : Told) where
   of_campaign = if_of campaigns told (has_lieutenants told)
 
   program_broken : is_of programs told ≡ true → has_notation told ≡ false → is_meant told ≡ false
-  program_broken of no = first_broken of_program of_book of_table of_campaign (broken programs told (has_notation told) of no)
+  program_broken of fails = first_broken of_program of_book of_table of_campaign (broken programs told (has_notation told) of fails)
 
   book_broken : is_of (codes "book" ∷ []) told ≡ true → reads generals_in (codes "traitors") told ≡ false → is_meant told ≡ false
-  book_broken of no = second_broken of_program of_book of_table of_campaign (broken (codes "book" ∷ []) told (reads generals_in (codes "traitors") told) of no)
+  book_broken of fails = second_broken of_program of_book of_table of_campaign (broken (codes "book" ∷ []) told (reads generals_in (codes "traitors") told) of fails)
 
   table_broken : is_of (codes "table" ∷ []) told ≡ true → has_filling told ≡ false → is_meant told ≡ false
-  table_broken of no = third_broken of_program of_book of_table of_campaign (broken (codes "table" ∷ []) told (has_filling told) of no)
+  table_broken of fails = third_broken of_program of_book of_table of_campaign (broken (codes "table" ∷ []) told (has_filling told) of fails)
 
   campaign_broken : is_of campaigns told ≡ true → has_lieutenants told ≡ false → is_meant told ≡ false
-  campaign_broken of no = fourth_broken of_program of_book of_table of_campaign (broken campaigns told (has_lieutenants told) of no)
+  campaign_broken of fails = fourth_broken of_program of_book of_table of_campaign (broken campaigns told (has_lieutenants told) of fails)
 
   not_wanted : (name other : Text) → has name told ≡ true → has other told ≡ false → wants name other told ≡ false
   not_wanted name other there lacks = rw (there, lacks) refl
@@ -142,12 +137,14 @@ misused_not_meant told (Traitors word) is = book_broken told is.0 (not_read gene
 misused_not_meant told (Of word) is = campaign_broken told is.0
     (and_left (reads general_in (codes "of") told) (wants (codes "of") (codes "explain") told) (not_read general_in told (codes "of") (string_bytes word) is.1 is.2))
 misused_not_meant told (Lie word) is = table_broken told is.0
-    (and_right (reads order_in (codes "loyal") told) _ (and_left (reads general_in (codes "lie") told) (wants (codes "lie") (codes "loyal") told) (not_read general_in told (codes "lie") (string_bytes word) is.1 is.2)))
+    (and_left (reads order_in (codes "loyal") told && reads general_in (codes "lie") told) (wants (codes "lie") (codes "loyal") told)
+    (and_right (reads order_in (codes "loyal") told) (reads general_in (codes "lie") told) (not_read general_in told (codes "lie") (string_bytes word) is.1 is.2)))
 misused_not_meant told (Loyal word) is = table_broken told is.0
-    (and_left (reads order_in (codes "loyal") told) _ (not_read order_in told (codes "loyal") (string_bytes word) is.1 is.2))
+    (and_left (reads order_in (codes "loyal") told && reads general_in (codes "lie") told) (wants (codes "lie") (codes "loyal") told)
+    (and_left (reads order_in (codes "loyal") told) (reads general_in (codes "lie") told) (not_read order_in told (codes "loyal") (string_bytes word) is.1 is.2)))
 misused_not_meant told TwoNotations is = program_broken told is.0 (rw (is.1, is.2) refl)
-misused_not_meant told EntryAlone is = program_broken told is.0 (and_right _ (wants (codes "entry") (codes "elf") told) (not_wanted told (codes "entry") (codes "elf") is.1 is.2))
+misused_not_meant told EntryAlone is = program_broken told is.0 (and_right (not (has (codes "asm") told && has (codes "elf") told)) (wants (codes "entry") (codes "elf") told) (not_wanted told (codes "entry") (codes "elf") is.1 is.2))
 misused_not_meant told OfAlone is = campaign_broken told is.0
     (and_right (reads general_in (codes "of") told) (wants (codes "of") (codes "explain") told) (not_wanted told (codes "of") (codes "explain") is.1 is.2))
 misused_not_meant told LieAlone is = table_broken told is.0
-    (and_right (reads order_in (codes "loyal") told) _ (and_right (reads general_in (codes "lie") told) (wants (codes "lie") (codes "loyal") told) (not_wanted told (codes "lie") (codes "loyal") is.1 is.2)))
+    (and_right (reads order_in (codes "loyal") told && reads general_in (codes "lie") told) (wants (codes "lie") (codes "loyal") told) (not_wanted told (codes "lie") (codes "loyal") is.1 is.2))

@@ -136,11 +136,11 @@ none_lacks met (p ∷ ps) filled = ap (λ (b : Bool). not b || list_any (lacks_p
 
 one_lacks : (met : Met) (gone : List Text) (p : Text) (left : List Text) → value_at p met ≡ None → list_any (lacks_place met) (gone ++ p ∷ left) ≡ true
 one_lacks met [] p left none = ap (λ (o : Option Text). not (is_some o) || list_any (lacks_place met) left) none
-one_lacks met (g ∷ gone) p left none = go (lacks_place met g)
+one_lacks met (g ∷ gone) p left none = go (one_lacks met gone p left none) (lacks_place met g)
   where
-    go : (b : Bool) → (b || list_any (lacks_place met) (gone ++ p ∷ left)) ≡ true
-    go true = refl
-    go false = one_lacks met gone p left none
+    go : list_any (lacks_place met) (gone ++ p ∷ left) ≡ true → (b : Bool) → (b || list_any (lacks_place met) (gone ++ p ∷ left)) ≡ true
+    go rest true = refl
+    go rest false = rest
 
 pub whole : (ps gone : List Text) (met : Met) → Places ps gone [] met → list_any (lacks_place met) ps ≡ false
 whole ps gone met places = none_lacks met ps (subst (λ (qs : List Text). AllMet qs met) (sym (append-nil gone) ∙ places.split) places.filled)

@@ -1,12 +1,12 @@
 -- A subcommand takes its words where the rule takes them, and what was met is the same.
-use Rattle.std.proofs.Common.{◌≡◌, ◌∙◌, ◌++◌, ◌&&◌, ◌||◌, ◌<◌, ◌≤◌, ◌+◌, arith, Bool, cond, true, false, List, ℕ, suc, [], ◌∷◌, Option, Some, None, ap, append-nil, codes, find, is_some, min, nat_lt, refl, subst, sym}
+use Rattle.std.proofs.Common.{◌≡◌, ◌∙◌, ◌==◌, ◌++◌, ◌&&◌, ◌||◌, ◌<◌, ◌≤◌, ◌+◌, arith, Bool, cond, true, false, List, ℕ, suc, [], ◌∷◌, Option, Some, None, ap, append-nil, codes, find, is_some, min, nat_lt, refl, subst, sym}
 use Rattle.std.proofs.lemmas.Bool.{ltb-true}
 use Rattle.std.specs.Option.{option_map_or}
 use Rattle.std.specs.Prelude.{option_and_then}
 use Rattle.std.specs.Str.{bytes_eq}
 use Rattle.clap.specs.Kinds.{Kinds, or_else}
 use Rattle.clap.specs.Lexer.{usize_max}
-use Rattle.clap.specs.Walk.{Held, Row, Rule, Text, Waiting, Walk, after_flag, after_step, arg_by_id, arg_by_index, arg_by_long, arg_by_short, attached_value, has_row, is_pending, option_met, positional_held, pushed, reading_by, settled, to_positional, used, used_by_id, value, walked, with_values, without}
+use Rattle.clap.specs.Walk.{Held, Row, Rule, Text, Waiting, Walk, after_flag, after_step, arg_by_id, arg_by_index, arg_by_long, arg_by_short, attached_value, has_row, is_pending, option_met, positional_held, pushed, reading_by, settled, to_positional, used, used_by_id, walked, with_values, without}
 use Rattle.clap.specs.Walk as clap
 use Rattle.clap.specs.Faults.{long_fault, option_fault, positional_fault, settle_fault, step_fault, stray_fault, turn_fault, use_fault}
 use Rattle.clap.specs.declared.parser.matches.ValueSource.TheVariants.{CommandLine}
@@ -33,8 +33,8 @@ module _ (name : Text) (long : Option Text) (short index : Option ℕ) (required
   use_again : has_row name rows ≡ true → Fails (use_fault false taker (value ∷ []) rows)
   use_again there = rw there (λ e. cc)
 
-use_none : (name : Text) (long : Option Text) (short index : Option ℕ) (required : Bool) (rows : List Row) → Fails (use_fault false (valued_rule name long short index required) [] rows)
-use_none name long short index required rows = λ e. cc
+use_none : (name : Text) (l : Option Text) (c index : Option ℕ) (required : Bool) (rows : List Row) → Fails (use_fault false (valued_rule name l c index required) [] rows)
+use_none name l c index required rows = λ e. cc
 
 switch_new : (name : Text) (rows : List Row) → has_row name rows ≡ false → use_fault false (switch_rule name) [] rows ≡ []
 switch_new name rows new = rw new refl
@@ -45,6 +45,10 @@ switch_again name rows there = rw there (λ e. cc)
 and_false : {X : Type 0} (b : Bool) (x y : X) → cond (b && false) x y ≡ y
 and_false true x y = refl
 and_false false x y = refl
+
+or_nothing : (k : Kinds) → Fails k → Fails (or_else k [])
+or_nothing [] fails = fails
+or_nothing (x ∷ xs) fails = λ e. cc
 
 or_false : (b : Bool) → (b || false) ≡ b
 or_false true = refl
@@ -113,13 +117,13 @@ module _ (own : Text) (ps : List Text) (fs : List Flag) (distinct : is_distinct 
     settle_is values = ap (λ (o : Option Rule). option_map_or (λ a. use_fault false a values rows) o []) is.found_is
 
     module _ (value : Text) (met : Met) (stands : Stands rows met) where
-      pub pending_good : value_at name met ≡ None → settle_fault R false (held rows (Some (name, value ∷ []))) ≡ []
+      pending_good : value_at name met ≡ None → settle_fault R false (held rows (Some (name, value ∷ []))) ≡ []
       pending_good none = settle_is (value ∷ []) ∙ use_new name is.long is.short is.index is.required rows value (new_row rows met stands name none)
 
-      pub pending_bad : (old : Text) → value_at name met ≡ Some old → Fails (settle_fault R false (held rows (Some (name, value ∷ []))))
+      pending_bad : (old : Text) → value_at name met ≡ Some old → Fails (settle_fault R false (held rows (Some (name, value ∷ []))))
       pending_bad old some = fails_as (settle_is (value ∷ [])) (use_again name is.long is.short is.index is.required rows value (old_row rows met stands name old some))
 
-      pub pending_stands : value_at name met ≡ None → Stands (now own ps fs rows (Some (name, value ∷ []))) (met ++ (name, value) ∷ [])
+      pending_stands : value_at name met ≡ None → Stands (now own ps fs rows (Some (name, value ∷ []))) (met ++ (name, value) ∷ [])
       pending_stands none = subst (λ (rs : List Row). Stands rs (met ++ (name, value) ∷ []))
           (sym (ap (λ (o : Option Rule). used_by_id o (value ∷ []) rows) is.found_is ∙ first_use name (reading_by (rule_by name is)) (value ∷ []) rows (lacks rows met stands name none)))
           (stands_more rows met (reading_by (rule_by name is)) name value stands)
@@ -158,8 +162,8 @@ module _ (own : Text) (ps : List Text) (fs : List Flag) (distinct : is_distinct 
     here = there behind (past 1 gone) rows pending
 
     placed_by : (left : List Text) → Holding rows pending gone left met
-        → turn_fault (s own ps fs) [] here word ≡ step_fault (s own ps fs) (past 1 gone) (held rows pending) value
-        → walked R [] here word ≡ after_step R word here (held rows pending) value
+        → turn_fault (s own ps fs) [] here word ≡ step_fault (s own ps fs) (past 1 gone) (held rows pending) clap.value
+        → walked R [] here word ≡ after_step R word here (held rows pending) clap.value
         → Answers here (word ∷ rest) (told_then (placed_in left word (state left met (next_of behind))) rest)
     placed_by [] holds turn walks = turn_stops own ps fs here word rest
         (fails_as (turn ∙ ap (λ (o : Option Rule). option_map_or (λ a. positional_fault R false a (held rows pending)) o (stray_fault (s own ps fs))) (no_place_at gone holds.places.split)) (λ e. cc))
@@ -223,10 +227,6 @@ module _ (own : Text) (ps : List Text) (fs : List Flag) (distinct : is_distinct 
         go (Some old) some = turn_stops own ps fs before word rest
             (fails_as turn (or_nothing (use_fault false a values R_now) (again R_now (old_row R_now met holds.stands name old some))))
 
-        or_nothing : (k : Kinds) → Fails k → Fails (or_else k [])
-        or_nothing [] fails = fails
-        or_nothing (x ∷ xs) fails = λ e. cc
-
   -- ---- an option waits
 
   -- with a value it is idle again
@@ -248,21 +248,19 @@ module _ (own : Text) (ps : List Text) (fs : List Flag) (distinct : is_distinct 
   unfolding read_from
   waits_step word rest then name is apart rows gone left met stands places = go (look_of word) (looks word)
     where
-      abbrev waiting : Walk
-      waiting = walk_in (past 1 gone) (clap.option name) (held rows (Some (name, [])))
-
       bad : Fails (settle_fault R false (held rows (Some (name, []))))
       bad = fails_as (settle_is name is rows []) (use_none name is.long is.short is.index is.required rows)
 
-      go : (look : Look) → Looks word look → Answers waiting (word ∷ rest) (told_then (valued look name word (state left met (value_of name))) rest)
+      go : (look : Look) → Looks word look → Answers (walk_in (past 1 gone) (clap.option name) (held rows (Some (name, [])))) (word ∷ rest) (told_then (valued look name word (state left met (value_of name))) rest)
       go end_of_flags seen = stuck_dashes own ps fs rows (Some (name, [])) bad (past 1 gone) (clap.option name) word rest refl seen
       go (long flag v) seen = stuck_long own ps fs rows (Some (name, [])) bad (past 1 gone) (clap.option name) word rest refl flag v seen
       go (short c more) seen = stuck_short own ps fs rows (Some (name, [])) bad (past 1 gone) (clap.option name) word rest refl c more seen
       go plain seen =
           let turn = plain_turn (s own ps fs) [] (past 1 gone) (clap.option name) rows (Some (name, [])) word refl seen in
-          let walks : walked R [] waiting word ≡ walk_in (past 1 gone) clap.idle (held rows (Some (name, word ∷ []))) =
+          let walks : walked R [] (walk_in (past 1 gone) (clap.option name) (held rows (Some (name, [])))) word ≡ walk_in (past 1 gone) clap.idle (held rows (Some (name, word ∷ []))) =
           turn.1 ∙ rw (is.found_is, same_text name name refl) refl in
-          stepped own ps fs waiting (walk_in (past 1 gone) clap.idle (held rows (Some (name, word ∷ [])))) word rest _ turn.0 walks
+          stepped own ps fs (walk_in (past 1 gone) (clap.option name) (held rows (Some (name, [])))) (walk_in (past 1 gone) clap.idle (held rows (Some (name, word ∷ [])))) word rest
+          (told_then (met_once name word (state left met (value_of name))) rest) turn.0 walks
           (value_goes name is apart word rest then rows gone left met stands places)
 
   waits_end : OptionWaits []
@@ -281,8 +279,8 @@ module _ (own : Text) (ps : List Text) (fs : List Flag) (distinct : is_distinct 
 
   -- ---- a flag
 
-  flag_is_valued : (f : Flag) → Among f fs → (long : Option Text) (short : Option ℕ) → arg_by_id R (name_of f) ≡ Some (valued_rule (name_of f) long short None false) → IsValued (name_of f)
-  flag_is_valued f among long short found_is = record { long = long; short = short; index = None; required = false; found_is = found_is }
+  flag_is_valued : (f : Flag) → Among f fs → (l : Option Text) (c : Option ℕ) → arg_by_id R (name_of f) ≡ Some (valued_rule (name_of f) l c None false) → IsValued (name_of f)
+  flag_is_valued f among l c found_is = record { long = l; short = c; index = None; required = false; found_is = found_is }
 
   flag_off : (f : Flag) → Among f fs → (gone left : List Text) → gone ++ left ≡ ps → AllApart (name_of f) left
   flag_off f among gone left split = subst (λ (qs : List Text). is_distinct (ids qs fs) ≡ true → AllApart (name_of f) left) split

@@ -18,20 +18,21 @@ found id rows = find (λ r. bytes_eq r.id id) rows
 
 pub has_is : (id : Text) (rows : List Row) → has_row id rows ≡ is_some (found id rows)
 has_is id [] = refl
-has_is id (r ∷ rows) = go (bytes_eq r.id id)
+has_is id (r ∷ rows) = go (has_is id rows) (bytes_eq r.id id)
   where
-    go : (b : Bool) → (b || has_row id rows) ≡ is_some (cond b (Some r) (found id rows))
-    go true = refl
-    go false = has_is id rows
+    go : has_row id rows ≡ is_some (found id rows) → (b : Bool) → (b || has_row id rows) ≡ is_some (cond b (Some r) (found id rows))
+    go rest true = refl
+    go rest false = rest
 
 -- a change at a name that is not there adds what is missing
 at_new : (id : Text) (change : Row → List Row) (new rows : List Row) → found id rows ≡ None → at_row id change new rows ≡ rows ++ new
 at_new id change new [] none = refl
-at_new id change new (r ∷ rows) none = go (bytes_eq r.id id) none
+at_new id change new (r ∷ rows) none = go (at_new id change new rows) (bytes_eq r.id id) none
   where
-    go : (b : Bool) → cond b (Some r) (found id rows) ≡ None → cond b (change r ++ rows) (r ∷ at_row id change new rows) ≡ r ∷ (rows ++ new)
-    go true e = absurd cc
-    go false e = ap (λ (rs : List Row). r ∷ rs) (at_new id change new rows e)
+    go : (found id rows ≡ None → at_row id change new rows ≡ rows ++ new) → (b : Bool) → cond b (Some r) (found id rows) ≡ None
+        → cond b (change r ++ rows) (r ∷ at_row id change new rows) ≡ r ∷ (rows ++ new)
+    go rest true e = absurd cc
+    go rest false e = ap (λ (rs : List Row). r ∷ rs) (rest e)
 
 abbrev pub row_with : Text → Reading → ValueSource → List Text → Row
 row_with id how source values = record { id = id; values = values; count = None; source = Some source; reading = how }

@@ -105,11 +105,11 @@ Among x (y ∷ ys) = (y ≡ x) ⊎ Among x ys
 
 pub find_among : {X : Type 0} (test : X → Bool) (xs : List X) (x : X) → find test xs ≡ Some x → Among x xs × (test x ≡ true)
 find_among test [] x e = absurd cc
-find_among {X} test (y ∷ ys) x e = go (test y) refl e
+find_among {X} test (y ∷ ys) x e = go (find_among test ys x) (test y) refl e
   where
-    go : (b : Bool) → test y ≡ b → cond b (Some y) (find test ys) ≡ Some x → Among x (y ∷ ys) × (test x ≡ true)
-    go true is e = let same : y ≡ x = cc in (inl same, subst (λ (z : X). test z ≡ true) same is)
-    go false is e = let rest = find_among test ys x e in (inr rest.0, rest.1)
+    go : (find test ys ≡ Some x → Among x ys × (test x ≡ true)) → (b : Bool) → test y ≡ b → cond b (Some y) (find test ys) ≡ Some x → Among x (y ∷ ys) × (test x ≡ true)
+    go later true is e = let same : y ≡ x = cc in (inl same, subst (λ (z : X). test z ≡ true) same is)
+    go later false is e = let rest = later e in (inr rest.0, rest.1)
 
 -- ---- names
 

@@ -1,7 +1,7 @@
-ghost use Rattle.std.specs.Prelude.{◌≡◌, IfOk, map};
+ghost use Rattle.std.specs.Prelude.{◌≡◌, IfOk};
 ghost use Rattle.clap.specs.Words.{app_of};
-ghost use Rattle.command_line.specs.Lab.{app_before, app_with, lab_app};
-ghost use Rattle.command_line.specs.Subcommand.{usage_of};
+ghost use Rattle.command_line.specs.Lab.{app_before, lab_app};
+ghost use Rattle.command_line.specs.Subcommand.{with_subcommands};
 
 use crate::subcommand::Subcommand;
 use crate::subcommands::SUBCOMMANDS;
@@ -12,11 +12,22 @@ use std::alloc::{AllocError, Global};
 const VERSION: &str = "1.0.0, proved with Rattle, logic dac8208d650f15bf";
 
 /// The program's command line.
+#[tactic(auto, unfolding(crate::specs::Subcommand::shape_for))]
 pub(crate) fn lab_command<'a>(alloc: Global) -> Result<Command<'a>, AllocError>
     ensures { IfOk result (λ c. app_of c ≡ lab_app) }
 {
-    let mut lab = bare_command(alloc)?;
-    for subcommand in SUBCOMMANDS {
+    with_subcommands(alloc, bare_command(alloc)?, SUBCOMMANDS)
+}
+
+/// The program with these subcommands.
+fn with_subcommands<'a>(
+    alloc: Global,
+    mut lab: Command<'a>,
+    subcommands: &[Subcommand<'a>],
+) -> Result<Command<'a>, AllocError>
+    ensures { IfOk result (λ c. app_of c ≡ with_subcommands (app_of lab.entry) subcommands.now) }
+{
+    for subcommand in subcommands {
         lab = lab.subcommand(subcommand.command(alloc)?)?;
     }
     Ok(lab)

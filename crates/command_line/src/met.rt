@@ -1,6 +1,6 @@
-ghost use Rattle.std.specs.Prelude.{◌≡◌, IfOk, IfErr, IsSome, Some, [], ◌∷◌, codes, option_map, string_bytes, true};
+ghost use Rattle.std.specs.Prelude.{◌≡◌, if◌then◌else◌, IfOk, IfErr, IsSome, None, Some, [], ◌∷◌, codes, option_map, string_bytes, true};
 ghost use Rattle.clap.specs.Words.{subcommand_rows_of};
-ghost use Rattle.command_line.specs.Lab.{task_met};
+ghost use Rattle.command_line.specs.Lab.{is_given, task_met};
 ghost use Rattle.command_line.specs.Met.{has_places, told_by};
 ghost use Rattle.command_line.specs.Told.{AreExplained, IsErrorOf, IsFilling, IsNotation, NamesGeneral, Says, campaigns, has, is_of, is_raw, is_table, programs, word_of};
 
@@ -34,10 +34,7 @@ impl<'m, 'a> Met<'m, 'a> {
     fn value(self, name: &str) -> Option<&'a str>
         ensures { word_of name.now (told_by self.entry) ≡ option_map (λ t. t.now) result }
     {
-        match self.found.value_source(name) {
-            Some(ValueSource::CommandLine) => self.found.get_str(name),
-            _ => None,
-        }
+        given(self.found.value_source(name), self.found.get_str(name))
     }
 
     /// Whether what has this name was met.
@@ -320,5 +317,15 @@ impl<'m, 'a> Met<'m, 'a> {
             Some(general) => Ok(Some(general)),
             None => Err(TaskError::Misuse(Misuse::Lie(String::from_str(alloc, word)?))),
         }
+    }
+}
+
+/// The text of what the words gave, and not a default.
+fn given<'a>(source: Option<ValueSource>, text: Option<&'a str>) -> Option<&'a str>
+    ensures { option_map (λ t. t.now) result ≡ (if is_given source then option_map (λ t. t.now) text.entry else None) }
+{
+    match source? {
+        ValueSource::CommandLine => text,
+        ValueSource::DefaultValue => None,
     }
 }

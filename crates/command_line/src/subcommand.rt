@@ -1,8 +1,8 @@
 ghost use Rattle.std.specs.Prelude.{◌≡◌, IfOk, Some, false};
-ghost use Rattle.clap.specs.Words.{app_of, rule_of};
+ghost use Rattle.clap.specs.Words.{rule_of, shape_of};
 ghost use Rattle.clap.specs.declared.builder.command.Command.TheViews.{out-Command};
-ghost use Rattle.command_line.specs.Lab.{flag_rule, leaf, place_rule};
-ghost use Rattle.command_line.specs.Subcommand.{flag_of, help_of, usage_of};
+ghost use Rattle.command_line.specs.Lab.{place_rule};
+ghost use Rattle.command_line.specs.Subcommand.{help_of, rule_for, shape_for};
 
 use clap::{Arg, ArgAction, Command};
 use std::alloc::{AllocError, Global};
@@ -46,7 +46,7 @@ pub(crate) enum Flag<'a> {
 impl<'a> Subcommand<'a> {
     /// The subcommand as `clap` is told of it.
     pub(crate) fn command(&self, alloc: Global) -> Result<Command<'a>, AllocError>
-        ensures app { IfOk result (λ c. app_of c ≡ leaf (usage_of self.now)) }
+        ensures shape { IfOk result (λ c. shape_of c ≡ shape_for self.now) }
         ensures local { IfOk result (λ c. (out-Command c).has_globals ≡ false) }
     {
         let mut command = Command::new(alloc, self.name).about(self.about);
@@ -76,8 +76,9 @@ impl<'a> Place<'a> {
 
 impl<'a> Flag<'a> {
     /// The flag as `clap` is told of it.
+    #[tactic(auto, unfolding(crate::specs::Subcommand::rule_for))]
     fn argument(&self, alloc: Global) -> Arg<'a>
-        ensures rule { rule_of result ≡ flag_rule (flag_of self.now) }
+        ensures rule { rule_of result ≡ rule_for self.now }
         ensures help { result.help ≡ Some (help_of self.now) }
         ensures local { result.global ≡ false }
     {

@@ -1,17 +1,17 @@
-use Rattle.std.proofs.Common.{rules, ◌≡◌, ◌≢◌, ◌∙◌, Option, Some, ap, is_some, subst, sym, true}
+use Rattle.std.proofs.Common.{rules, ◌≡◌, ◌≢◌, ◌∙◌, Some, subst, sym, true}
 use Rattle.clap.specs.Words.{kind_of, subcommand_rows_of}
 use Rattle.clap.specs.declared.error.kind.ErrorKind.TheVariants.{OutOfMemory}
 use Rattle.command_line.specs.Asked.{words_of}
 use Rattle.command_line.specs.Met.{has_places, told_by}
 use Rattle.command_line.specs.Told.{Told}
-use Rattle.command_line.proofs.CallLemmas.{error_is_refused, kind_among, misuse_is_told, none_found, task_found, task_is_asked}
+use Rattle.command_line.proofs.CallLemmas.{error_is_refused, kind_among, misuse_is_told, none_found, some_met, task_found, task_is_asked}
 use Rattle.command_line.proofs.reading.task.Goals as goal
 
 pub of-requires : goal.of-requires
 of-requires c =
     let found = task_found _ (words_of c.args.words.now) (subcommand_rows_of c.in-Ok.matches) c.in_ok-lab.ensures
     c.in-Ok.ensures.kinds (λ e. (c.in-Ok.ensures.matches e).1) in
-    ap (λ (o : Option Told). is_some o) found.met_is
+    some_met (subcommand_rows_of c.in-Ok.matches) found.task found.met_is
 
 pub task-requires : goal.task-requires
 task-requires c =
