@@ -4,6 +4,7 @@ use Rattle.insn.specs.Program.{instruction_at}
 use Rattle.semantics.specs.State.{State}
 use Rattle.semantics.proofs.StepLaws.{resumed_counts}
 use Rattle.machine.proofs.AdvanceLemmas.{fewer}
+use Rattle.tracing.specs.Lines.{after_told, before_told}
 use Rattle.tracing.proofs.StepLemmas.{ask_of, exit_of, found_here, grew_thrice, grew_twice, next_of, told_asks, told_exit, told_next}
 use Rattle.tracing.proofs.running.turn.Goals as goal
 
@@ -22,7 +23,8 @@ returns-in_ok-push_str-in-Limit-clause-told c same rest =
     let next = next_of program c.args.context.now a.relay c.requires.of_run.answers (c.steps-limit.result + 1) a.state c.run.new.self (ap (λ n. n + 1) c.steps-limit.ensures)
     (c.in-Limit.ensures.advances c.requires.of_run.answers c.requires.of_run.reached) in
     told_next program c.args.context.now a.relay rest c.args.board.now.words a.state c.run.new.self.state c.in-Some.insn (string_bytes c.args.out.now) (string_bytes c.push_str.new.self) here next.0
-    (grew_thrice _ _ _ _ _ _ (codes "\n") c.in_ok-push_str-in-Limit.ensures.bytes c.in_ok-put_after-in-Limit.ensures c.in_ok-put_before.ensures)
+    (grew_thrice (string_bytes c.push_str.new.self) (string_bytes c.put_after.new.out) (string_bytes c.put_before.new.out) (string_bytes c.args.out.now)
+    (before_told a.state.unit a.state.registers c.in-Some.insn) (after_told c.run.new.self.state.unit c.run.new.self.state.registers c.in-Some.insn) (codes "\n") c.in_ok-push_str-in-Limit.ensures.bytes c.in_ok-put_after-in-Limit.ensures c.in_ok-put_before.ensures)
 
 pub returns-in_ok-serve-in-Asked-clause-counted : goal.returns-in_ok-serve-in-Asked-clause-counted
 returns-in_ok-serve-in-Asked-clause-counted c same =
@@ -50,4 +52,5 @@ returns-in_ok-push_str-in-Exited-clause-ended c same rest =
     let exit = exit_of program c.args.context.now a.relay c.requires.of_run.answers (c.steps-limit.result + 1) a.state c.in-Exited.field-0 c.run.new.self (ap (λ n. n + 1) c.steps-limit.ensures)
     (c.in-Exited.ensures.advances c.requires.of_run.answers c.requires.of_run.reached) in
     told_exit program c.args.context.now a.relay rest c.args.board.now.words a.state c.run.new.self.state c.in-Some.insn c.in-Exited.field-0 (string_bytes c.args.out.now) (string_bytes c.push_str-in-Exited.new.self) here exit
-    (grew_twice _ _ _ _ (codes "\n") c.in_ok-push_str-in-Exited.ensures.bytes c.in_ok-put_before.ensures)
+    (grew_twice (string_bytes c.push_str-in-Exited.new.self) (string_bytes c.put_before.new.out) (string_bytes c.args.out.now)
+    (before_told a.state.unit a.state.registers c.in-Some.insn) (codes "\n") c.in_ok-push_str-in-Exited.ensures.bytes c.in_ok-put_before.ensures)
