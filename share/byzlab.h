@@ -2,7 +2,7 @@
  * The sandbox of byzlab for programs in C: the context, which is the only argument, and the helpers. See docs/SANDBOX.md, "From C".
  *
  *     clang -O2 --target=bpf -mcpu=v3 -I share -c traitor.c -o traitor.o
- *     llvm-objcopy -O binary --only-section=.text traitor.o traitor.bin
+ *     ./byzlab check --elf traitor.o
  */
 #ifndef BYZLAB_H
 #define BYZLAB_H

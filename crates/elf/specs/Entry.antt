@@ -1,6 +1,5 @@
 -- The code that an object has for an entry, or the first fault.
 use Rattle.std.specs.Prelude.{ℕ, ◌+◌, ◌/◌, List, length, not, if◌then◌else◌, Option, Some, None, Result, Ok, Err}
-use Rattle.std.proofs.Common.{Bor}
 use Rattle.elf.specs.declared.symbol.Symbol.{Symbol}
 use Rattle.elf.specs.declared.fault.Damage.{Damage}
 use Rattle.elf.specs.declared.fault.Fault.{Fault}
@@ -66,11 +65,11 @@ first_only None beside = Err NoFunction
 first_only (Some index) beside = only index (beside (index + 1))
 
 -- the functions that fit, from a least number on: the first
-abbrev pub entry_from : List ℕ → List ℕ → List ℕ → Option (Bor (List ℕ)) → ℕ → Option ℕ
+abbrev pub entry_from : List ℕ → List ℕ → List ℕ → Option (List ℕ) → ℕ → Option ℕ
 entry_from table symbols strings name least = first_some (entry_here table symbols strings name least) (length symbols / 24)
 
 -- the one function that fits
-abbrev pub chosen : List ℕ → List ℕ → List ℕ → Option (Bor (List ℕ)) → Result ℕ Fault
+abbrev pub chosen : List ℕ → List ℕ → List ℕ → Option (List ℕ) → Result ℕ Fault
 chosen table symbols strings name =
     first_only (entry_from table symbols strings name 0) (entry_from table symbols strings name)
 
@@ -95,15 +94,15 @@ then_by (Ok a) next = next a
 then_by (Err fault) next = Err fault
 
 -- the function that is the entry
-abbrev pub found_in : List ℕ → Parts → Option (Bor (List ℕ)) → Result Symbol Fault
+abbrev pub found_in : List ℕ → Parts → Option (List ℕ) → Result Symbol Fault
 found_in object parts name =
     then_by (chosen parts.table parts.symbols parts.strings name) (λ index.
     unless (function_fault object parts.table parts.count parts.symbols (symbol_at index parts.symbols)) (symbol_at index parts.symbols))
 
 -- what is wrong with the object, then with the entry; else the function
-abbrev pub function_of : List ℕ → Option (Bor (List ℕ)) → Result Symbol Fault
+abbrev pub function_of : List ℕ → Option (List ℕ) → Result Symbol Fault
 function_of object name = then_by (unless (object_fault object) (parts_of object)) (λ parts. found_in object parts name)
 
 -- its code
-abbrev pub entry_of : List ℕ → Option (Bor (List ℕ)) → Result (List ℕ) Fault
+abbrev pub entry_of : List ℕ → Option (List ℕ) → Result (List ℕ) Fault
 entry_of object name = then_by (function_of object name) (λ function. Ok (code_in object (section_table object) function))

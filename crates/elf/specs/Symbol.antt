@@ -1,8 +1,8 @@
 -- The symbols of an object, as far as they are looked at (System V ABI, "Symbol Table": Elf64_Sym).
 use Rattle.std.specs.Prelude.{ℕ, ◌+◌, ◌*◌, ◌/◌, ◌%◌, List, length, take, drop, slice_index, Bool, ◌==◌, ◌&&◌}
-use Rattle.std.specs.Prelude.{◌||◌, nat_lt, nat_le, if◌then◌else◌, Option, Some, None, unwrap_or}
+use Rattle.std.specs.Prelude.{◌||◌, nat_lt, nat_le, if◌then◌else◌, Option, Some, None, option_map, unwrap_or}
 use Rattle.std.specs.Str.{bytes_eq}
-use Rattle.std.proofs.Common.{Bor}
+use Rattle.std.specs.Borrow.{Bor}
 use Rattle.elf.specs.declared.symbol.Symbol.{Symbol}
 use Rattle.elf.specs.Number.{number_at}
 use Rattle.elf.specs.First.{first_some}
@@ -39,12 +39,16 @@ abbrev pub begins_with_name : List ℕ → List ℕ → Bool
 begins_with_name bytes name =
     nat_lt (length name) (length bytes) && bytes_eq (take (length name) bytes) name && (slice_index bytes (length name) == 0)
 
+-- the name behind a reference, where one is asked
+abbrev pub asked : Option (Bor (List ℕ)) → Option (List ℕ)
+asked = option_map (λ name. name.now)
+
 -- the symbol has this name among the strings; where none is asked, it is global
-abbrev pub fits : List ℕ → Symbol → Option (Bor (List ℕ)) → Bool
+abbrev pub fits : List ℕ → Symbol → Option (List ℕ) → Bool
 fits strings symbol None = is_global symbol
-fits strings symbol (Some name) = begins_with_name (drop symbol.name strings) name.now
+fits strings symbol (Some name) = begins_with_name (drop symbol.name strings) name
 
 -- the number of the symbol, from a least one on, if it is a function that fits
-abbrev pub entry_here : List ℕ → List ℕ → List ℕ → Option (Bor (List ℕ)) → ℕ → ℕ → Option ℕ
+abbrev pub entry_here : List ℕ → List ℕ → List ℕ → Option (List ℕ) → ℕ → ℕ → Option ℕ
 entry_here table symbols strings name least index =
     if nat_le least index && is_function table (symbol_at index symbols) && fits strings (symbol_at index symbols) name then Some index else None

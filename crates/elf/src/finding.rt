@@ -1,7 +1,7 @@
 ghost use Rattle.std.specs.Prelude.{◌≡◌, ◌<◌, ◌≤◌, ◌+◌, ◌*◌, ◌/◌, ◌^◌, length, Ok, Err, IfSome, IfOk, MatchResult};
 ghost use Rattle.elf.specs.First.{first_some};
 ghost use Rattle.elf.specs.Section.{section_table};
-ghost use Rattle.elf.specs.Symbol.{entry_here};
+ghost use Rattle.elf.specs.Symbol.{asked, entry_here};
 ghost use Rattle.elf.specs.Entry.{object_fault, entry_from, chosen, code_in, function_fault, symbols_in, strings_in, function_of, entry_of, found_in, parts_of};
 
 use crate::damage::first_damage;
@@ -59,7 +59,7 @@ fn entry_at(
     index: usize,
 ) -> Option<usize>
     requires { 24 * index + 24 < 2 ^ 64 }
-    ensures here { result ≡ entry_here table.now symbols.now strings.now name.entry least index }
+    ensures here { result ≡ entry_here table.now symbols.now strings.now (asked name.entry) least index }
     ensures same { IfSome result (λ found. found ≡ index) }
 {
     let symbol = Symbol::read(symbols, index);
@@ -78,7 +78,7 @@ fn first_entry(
     name: Option<&[u8]>,
     least: usize,
 ) -> Option<usize>
-    ensures first { result ≡ entry_from table.now symbols.now strings.now name.entry least }
+    ensures first { result ≡ entry_from table.now symbols.now strings.now (asked name.entry) least }
     ensures bound { IfSome result (λ index. index < length symbols.now / 24) }
 {
     for index in 0..symbols.len() / 24 {
@@ -92,7 +92,7 @@ fn first_entry(
 
 /// The one function that fits.
 fn choose(table: &[u8], symbols: &[u8], strings: &[u8], name: Option<&[u8]>) -> Result<usize, Fault>
-    ensures chosen { result ≡ chosen table.now symbols.now strings.now name.entry }
+    ensures chosen { result ≡ chosen table.now symbols.now strings.now (asked name.entry) }
     ensures bound { IfOk result (λ index. index < length symbols.now / 24) }
 {
     let Some(index) = first_entry(table, symbols, strings, name, 0) else {
@@ -135,7 +135,7 @@ fn fault_in(
 
 /// The entry of a whole object.
 fn find_entry(object: &[u8], name: Option<&[u8]>) -> Result<Symbol, Fault>
-    ensures { result ≡ found_in object.now (parts_of object.now) name.entry }
+    ensures { result ≡ found_in object.now (parts_of object.now) (asked name.entry) }
 {
     let table = read_table(object);
     let count = count_sections(object);
@@ -157,7 +157,7 @@ fn find_entry(object: &[u8], name: Option<&[u8]>) -> Result<Symbol, Fault>
 /// The first fault: no object, what is damaged of it, no such function or several, the first relocation of its code,
 /// the first call of a function of the object.
 pub fn function(object: &[u8], name: Option<&[u8]>) -> Result<Symbol, Fault>
-    ensures { result ≡ function_of object.now name.entry }
+    ensures { result ≡ function_of object.now (asked name.entry) }
 {
     match fault_of(object) {
         Some(fault) => Err(fault),
@@ -171,7 +171,7 @@ pub fn function(object: &[u8], name: Option<&[u8]>) -> Result<Symbol, Fault>
 ///
 /// The first fault, as of [`function`].
 pub fn entry<'a>(object: &'a [u8], name: Option<&[u8]>) -> Result<&'a [u8], Fault>
-    ensures { MatchResult result (λ code. entry_of object.now name.entry ≡ Ok code.now) (λ fault. entry_of object.now name.entry ≡ Err fault) }
+    ensures { MatchResult result (λ code. entry_of object.now (asked name.entry) ≡ Ok code.now) (λ fault. entry_of object.now (asked name.entry) ≡ Err fault) }
 {
     let function = function(object, name)?;
     Ok(code_of(object, read_table(object), function))

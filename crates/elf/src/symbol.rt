@@ -22,7 +22,7 @@ pub struct Symbol {
 
 impl Symbol {
     ghost use Rattle.std.specs.Prelude.{◌≡◌, ◌<◌, ◌+◌, ◌*◌, ◌^◌};
-    ghost use Rattle.elf.specs.Symbol.{symbol_at, is_function, is_global, fits};
+    ghost use Rattle.elf.specs.Symbol.{symbol_at, is_function, is_global, asked, fits};
     ghost use Rattle.elf.specs.Section.{section_at};
 
     /// The symbol of this number; zeros past the table.
@@ -63,7 +63,7 @@ impl Symbol {
 
     /// Whether it has this name; where none is asked, whether it is global.
     pub fn answers(self, strings: &[u8], name: Option<&[u8]>) -> bool
-        ensures { result ≡ fits strings.now self name.entry }
+        ensures { result ≡ fits strings.now self (asked name.entry) }
     {
         match name {
             None => self.is_seen(),

@@ -25,6 +25,7 @@ written (Err e) P Q p q = inl q
 refusal_told : (name : List ℕ) (tells : List ℕ → Type 0) (cause : Refusal) (hint : Option Hint) → cause ≢ refusal.NotText
     → tells (codes "refused " ++ refusal_text cause ++ hint_behind hint) → TellsRefusal name tells cause hint
 refusal_told name tells (refusal.Codec error) hint other told = told
+refusal_told name tells (refusal.Object fault) hint other told = told
 refusal_told name tells (refusal.Verifier fault) hint other told = told
 refusal_told name tells (refusal.Assembly error) hint other told = told
 refusal_told name tells (refusal.Table error) hint other told = told

@@ -89,6 +89,11 @@ answered_audited (Audit scenario chronicle explained) files first text s are com
     let second = second_bytes files.second bytes known in
     (first, are, (second.0, second.1, (s, comes, subst (λ (own : List ℕ). IsAudited s own text) second.2 audited)))
 
+-- what is there is there of its parts
+pub mapped : {A B : Type 0} (f : A → B) (o : Option A) → is_some o ≡ is_some (option_map f o)
+mapped f None = refl
+mapped f (Some x) = refl
+
 -- an answer in the second file's setting
 pub answered_tried : (task : Task) (files : Files) (first text : List ℕ) (program : List Insn) → AreBytes files.first first
     → ComesTo task first (answer.Trial program) → IsTrialOf files.second (is_some (explained_in task)) program text → IsAnswer task files text

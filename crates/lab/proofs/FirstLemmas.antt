@@ -1,15 +1,15 @@
 -- A first file that is refused.
-use Rattle.std.proofs.Common.{ℕ, ◌≡◌, ◌≢◌, List, inl, refl, subst, true, false}
+use Rattle.std.proofs.Common.{ℕ, ◌≡◌, ◌≢◌, List, inl, inr, refl, subst, sym, true, false}
 use Rattle.std.specs.Borrow.{Bor}
 use Rattle.std.specs.declared.alloc.Global.{Global}
 use Rattle.std.specs.Prelude.{Option, None, Some, IfSome, String, string_bytes}
 use Rattle.command_line.specs.declared.tasks.Notation.{Notation}
-use Rattle.command_line.specs.declared.tasks.Notation.TheVariants.{Bytecode, Assembly as Texts, Object}
+use Rattle.command_line.specs.declared.tasks.Notation.TheVariants.{Bytecode, Assembly as Texts, Object as Objects}
 use Rattle.command_line.specs.declared.tasks.Task.{Task}
 use Rattle.command_line.specs.declared.tasks.Task.TheVariants as task
 use Rattle.lab.specs.Faults.{Prevents, Stops, StopsFirst, fault_of_bytes}
-use Rattle.lab.specs.Hints.{IsHint, IsWhy, asked_of, explained_in, seems_behind}
-use Rattle.lab.specs.Refusals.{Refuses, RefusesCheckIn, RefusesNotation}
+use Rattle.lab.specs.Hints.{IsHint, IsWhy, asked_of, bytecode_in, explained_in, seems_behind}
+use Rattle.lab.specs.Refusals.{Refuses, RefusesCheck, RefusesCheckIn, RefusesDisassembly, RefusesNotation}
 use Rattle.lab.specs.Serving.{Files, IsRefused, first_name}
 use Rattle.streams.specs.Reading.{AreBytes}
 use Rattle.lab.specs.declared.failure.Failure.{Failure}
@@ -17,7 +17,7 @@ use Rattle.lab.specs.declared.failure.Failure.TheVariants.{Read, Text, Refused, 
 use Rattle.lab.specs.declared.hint.Hint.{Hint}
 use Rattle.lab.specs.declared.hint.Hint.TheVariants.{Explained}
 use Rattle.lab.specs.declared.refusal.Refusal.{Refusal}
-use Rattle.lab.specs.declared.refusal.Refusal.TheVariants.{Codec, Verifier, Assembly, Table, Scenario, Setting, Trace, Threads, NotText, Memory}
+use Rattle.lab.specs.declared.refusal.Refusal.TheVariants.{Codec, Object, Verifier, Assembly, Table, Scenario, Setting, Trace, Threads, NotText, Memory}
 
 -- what is said behind it
 hint_known : (task : Task) (known : Option (List ℕ)) (bytes : List ℕ) (refusal : Refusal) (hint : Option Hint) → AreBytes known bytes → IsHint refusal task bytes hint
@@ -31,19 +31,20 @@ pub refused_first : (task : Task) (known : Option (List ℕ)) (bytes : List ℕ)
 refused_first task known bytes refusal hint are refuses other is = (other, (bytes, are, refuses), hint_known task known bytes refusal hint are is)
 
 -- the same of a file of which no more is said than what its bytes seem to be
-pub stopped_first : (task : Task) (known : Option (List ℕ)) (bytes : List ℕ) (refusal : Refusal) (file : Bor (List ℕ)) → AreBytes known bytes
-    → file.now ≡ first_name task → Refuses task bytes refusal → IsHint refusal task bytes (seems_behind refusal bytes)
-    → Stops ⊥ (IsRefused task known) (first_name task) (fault_of_bytes refusal file bytes)
-stopped_first task known bytes (Codec error) file are named refuses is = ((λ e. cc), refused_first task known bytes (Codec error) _ are refuses (λ e. cc) is)
-stopped_first task known bytes (Verifier error) file are named refuses is = ((λ e. cc), refused_first task known bytes (Verifier error) _ are refuses (λ e. cc) is)
-stopped_first task known bytes (Assembly error) file are named refuses is = ((λ e. cc), refused_first task known bytes (Assembly error) _ are refuses (λ e. cc) is)
-stopped_first task known bytes (Table error) file are named refuses is = ((λ e. cc), refused_first task known bytes (Table error) _ are refuses (λ e. cc) is)
-stopped_first task known bytes (Scenario error) file are named refuses is = ((λ e. cc), refused_first task known bytes (Scenario error) _ are refuses (λ e. cc) is)
-stopped_first task known bytes (Setting error) file are named refuses is = ((λ e. cc), refused_first task known bytes (Setting error) _ are refuses (λ e. cc) is)
-stopped_first task known bytes (Trace error) file are named refuses is = ((λ e. cc), refused_first task known bytes (Trace error) _ are refuses (λ e. cc) is)
-stopped_first task known bytes (Threads error) file are named refuses is = ((λ e. cc), refused_first task known bytes (Threads error) _ are refuses (λ e. cc) is)
-stopped_first task known bytes NotText file are named refuses is = (refused_first task known bytes NotText _ are refuses (λ e. cc) is, named)
-stopped_first task known bytes Memory file are named refuses is = tt
+pub stopped_first : (task : Task) (known : Option (List ℕ)) (bytes own : List ℕ) (refusal : Refusal) (file : Bor (List ℕ)) → AreBytes known bytes
+    → file.now ≡ first_name task → Refuses task bytes refusal → IsHint refusal task bytes (seems_behind refusal own)
+    → Stops ⊥ (IsRefused task known) (first_name task) (fault_of_bytes refusal file own)
+stopped_first task known bytes own (Codec error) file are named refuses is = ((λ e. cc), refused_first task known bytes (Codec error) _ are refuses (λ e. cc) is)
+stopped_first task known bytes own (Object fault) file are named refuses is = ((λ e. cc), refused_first task known bytes (Object fault) _ are refuses (λ e. cc) is)
+stopped_first task known bytes own (Verifier error) file are named refuses is = ((λ e. cc), refused_first task known bytes (Verifier error) _ are refuses (λ e. cc) is)
+stopped_first task known bytes own (Assembly error) file are named refuses is = ((λ e. cc), refused_first task known bytes (Assembly error) _ are refuses (λ e. cc) is)
+stopped_first task known bytes own (Table error) file are named refuses is = ((λ e. cc), refused_first task known bytes (Table error) _ are refuses (λ e. cc) is)
+stopped_first task known bytes own (Scenario error) file are named refuses is = ((λ e. cc), refused_first task known bytes (Scenario error) _ are refuses (λ e. cc) is)
+stopped_first task known bytes own (Setting error) file are named refuses is = ((λ e. cc), refused_first task known bytes (Setting error) _ are refuses (λ e. cc) is)
+stopped_first task known bytes own (Trace error) file are named refuses is = ((λ e. cc), refused_first task known bytes (Trace error) _ are refuses (λ e. cc) is)
+stopped_first task known bytes own (Threads error) file are named refuses is = ((λ e. cc), refused_first task known bytes (Threads error) _ are refuses (λ e. cc) is)
+stopped_first task known bytes own NotText file are named refuses is = (refused_first task known bytes NotText _ are refuses (λ e. cc) is, named)
+stopped_first task known bytes own Memory file are named refuses is = tt
 
 -- ---- an explanation that is asked for
 
@@ -54,6 +55,7 @@ pub explained_first : (task : Task) (notation : Notation) (known : Option (List 
 explained_first task notation known bytes (Verifier fault) text are refuses is why =
     ((λ e. cc), refused_first task known bytes (Verifier fault) (Some (Explained text)) are refuses (λ e. cc) (rw is why))
 explained_first task notation known bytes (Codec error) text are refuses is why = absurd cc
+explained_first task notation known bytes (Object fault) text are refuses is why = absurd cc
 explained_first task notation known bytes (Assembly error) text are refuses is why = absurd cc
 explained_first task notation known bytes (Table error) text are refuses is why = absurd cc
 explained_first task notation known bytes (Scenario error) text are refuses is why = absurd cc
@@ -64,13 +66,14 @@ explained_first task notation known bytes NotText text are refuses is why = absu
 explained_first task notation known bytes Memory text are refuses is why = absurd cc
 
 -- none is asked for
-pub unexplained : (task : Task) (bytes : List ℕ) (refusal : Refusal) → asked_of refusal task ≡ None → IsHint refusal task bytes (seems_behind refusal bytes)
+pub unexplained : (task : Task) (bytes : List ℕ) (refusal : Refusal) → asked_of refusal task ≡ None → IsHint refusal task bytes (seems_behind refusal (bytecode_in task bytes))
 unexplained task bytes refusal none = rw none refl
 
 -- it is asked for of a program that the verifier refuses
 asked_in : (task : Task) (notation : Notation) (refusal : Refusal) → asked_of refusal task ≡ Some notation → explained_in task ≡ Some notation
 asked_in task notation (Verifier fault) is = is
 asked_in task notation (Codec error) is = absurd cc
+asked_in task notation (Object fault) is = absurd cc
 asked_in task notation (Assembly error) is = absurd cc
 asked_in task notation (Table error) is = absurd cc
 asked_in task notation (Scenario error) is = absurd cc
@@ -80,39 +83,40 @@ asked_in task notation (Threads error) is = absurd cc
 asked_in task notation NotText is = absurd cc
 asked_in task notation Memory is = absurd cc
 
+-- bytes that spell no program
+unspelt : (code : List ℕ) (refusal : Refusal) → RefusesDisassembly code refusal
+    → RefusesCheck code refusal × ((task : Task) (bytes : List ℕ) → IsHint refusal task bytes (seems_behind refusal (bytecode_in task bytes)))
+unspelt code (Codec error) refuses = (refuses, λ task bytes. refl)
+unspelt code Memory refuses = (tt, λ task bytes. refl)
+unspelt code (Object fault) refuses = absurd refuses
+unspelt code (Verifier fault) refuses = absurd refuses
+unspelt code (Assembly error) refuses = absurd refuses
+unspelt code (Table error) refuses = absurd refuses
+unspelt code (Scenario error) refuses = absurd refuses
+unspelt code (Setting error) refuses = absurd refuses
+unspelt code (Trace error) refuses = absurd refuses
+unspelt code (Threads error) refuses = absurd refuses
+unspelt code NotText refuses = absurd refuses
+
 -- the file has no program
 by_notation : (notation : Notation) (bytes : List ℕ) (refusal : Refusal) → RefusesNotation notation bytes refusal
-    → RefusesCheckIn notation bytes refusal × ((task : Task) → IsHint refusal task bytes (seems_behind refusal bytes))
-by_notation Bytecode bytes (Codec error) refuses = (refuses, λ task. refl)
-by_notation Bytecode bytes Memory refuses = (tt, λ task. refl)
-by_notation Bytecode bytes (Verifier fault) refuses = absurd refuses
-by_notation Bytecode bytes (Assembly error) refuses = absurd refuses
-by_notation Bytecode bytes (Table error) refuses = absurd refuses
-by_notation Bytecode bytes (Scenario error) refuses = absurd refuses
-by_notation Bytecode bytes (Setting error) refuses = absurd refuses
-by_notation Bytecode bytes (Trace error) refuses = absurd refuses
-by_notation Bytecode bytes (Threads error) refuses = absurd refuses
-by_notation Bytecode bytes NotText refuses = absurd refuses
-by_notation (Object entry) bytes (Codec error) refuses = (refuses, λ task. refl)
-by_notation (Object entry) bytes Memory refuses = (tt, λ task. refl)
-by_notation (Object entry) bytes (Verifier fault) refuses = absurd refuses
-by_notation (Object entry) bytes (Assembly error) refuses = absurd refuses
-by_notation (Object entry) bytes (Table error) refuses = absurd refuses
-by_notation (Object entry) bytes (Scenario error) refuses = absurd refuses
-by_notation (Object entry) bytes (Setting error) refuses = absurd refuses
-by_notation (Object entry) bytes (Trace error) refuses = absurd refuses
-by_notation (Object entry) bytes (Threads error) refuses = absurd refuses
-by_notation (Object entry) bytes NotText refuses = absurd refuses
+    → RefusesCheckIn notation bytes refusal × ((task : Task) → IsHint refusal task bytes (seems_behind refusal (bytecode_in task bytes)))
+by_notation Bytecode bytes refusal refuses = let both = unspelt bytes refusal refuses in (both.0, λ task. both.1 task bytes)
 by_notation Texts bytes (Assembly error) refuses = (refuses, λ task. refl)
 by_notation Texts bytes NotText refuses = (refuses, λ task. refl)
 by_notation Texts bytes Memory refuses = (tt, λ task. refl)
 by_notation Texts bytes (Codec error) refuses = absurd refuses
+by_notation Texts bytes (Object fault) refuses = absurd refuses
 by_notation Texts bytes (Verifier fault) refuses = absurd refuses
 by_notation Texts bytes (Table error) refuses = absurd refuses
 by_notation Texts bytes (Scenario error) refuses = absurd refuses
 by_notation Texts bytes (Setting error) refuses = absurd refuses
 by_notation Texts bytes (Trace error) refuses = absurd refuses
 by_notation Texts bytes (Threads error) refuses = absurd refuses
+by_notation (Objects entry) bytes refusal (inl (fault, is, none)) =
+    (inl (fault, is, none), λ task. subst (λ (r : Refusal). IsHint r task bytes (seems_behind r (bytecode_in task bytes))) (sym is) refl)
+by_notation (Objects entry) bytes refusal (inr (code, is, refuses)) =
+    let both = unspelt code refusal refuses in (inr (code, is, both.0), λ task. both.1 task bytes)
 
 checks_in : (task : Task) (notation : Notation) (bytes : List ℕ) (refusal : Refusal) → explained_in task ≡ Some notation → RefusesCheckIn notation bytes refusal → Refuses task bytes refusal
 checks_in (task.Check file own context true traced) notation bytes refusal is refuses =
@@ -130,10 +134,10 @@ checks_in (task.Audit scenario chronicle explained) notation bytes refusal is re
 -- it cannot be told, since the file has no program
 pub stopped_unspelt : (task : Task) (notation : Notation) (known : Option (List ℕ)) (bytes : List ℕ) (first refusal : Refusal) (file : Bor (List ℕ)) → AreBytes known bytes
     → file.now ≡ first_name task → asked_of first task ≡ Some notation → RefusesNotation notation bytes refusal
-    → Stops ⊥ (IsRefused task known) (first_name task) (fault_of_bytes refusal file bytes)
+    → Stops ⊥ (IsRefused task known) (first_name task) (fault_of_bytes refusal file (bytecode_in task bytes))
 stopped_unspelt task notation known bytes first refusal file are named is refuses =
     let both = by_notation notation bytes refusal refuses in
-    stopped_first task known bytes refusal file are named (checks_in task notation bytes refusal (asked_in task notation first is) both.0) (both.1 task)
+    stopped_first task known bytes (bytecode_in task bytes) refusal file are named (checks_in task notation bytes refusal (asked_in task notation first is) both.0) (both.1 task)
 
 -- ---- why the task has no answer then
 

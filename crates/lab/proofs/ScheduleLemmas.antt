@@ -48,6 +48,7 @@ front_told bytes second own front schedule is begins told =
 refused_as : (unread : Type 0) (known : Option (List ℕ)) (all : List ℕ) (file : Bor (List ℕ)) (refusal : Refusal)
     → AreBytes known all → RefusesText RefusesSchedule all refusal → Stops unread (NoHint (IsScheduleRefused (Some known))) file.now (fault_of refusal file)
 refused_as unread known all file (refusal.Codec error) are refuses = absurd refuses
+refused_as unread known all file (refusal.Object fault) are refuses = absurd refuses
 refused_as unread known all file (refusal.Verifier fault) are refuses = absurd refuses
 refused_as unread known all file (refusal.Assembly error) are refuses = absurd refuses
 refused_as unread known all file (refusal.Table error) are refuses = absurd refuses

@@ -62,15 +62,15 @@ abbrev pub Assembles : List ℕ → List ℕ → Type 0
 Assembles text line =
     (program : List Insn) × (program_of text ≡ Some program) × (line ≡ hex_line program)
 
--- the file has a program in its notation, and this is its text
-abbrev pub Disassembles : Notation → List ℕ → List ℕ → Type 0
-Disassembles notation bytes text =
-    (program : List Insn) × HasProgram notation bytes program × (text ≡ text_of program)
+-- the program as text, with the units or without them
+abbrev pub listing : Bool → List Insn → List ℕ
+listing false program = text_of program
+listing true program = unit_lines 0 program
 
--- the file has a program in its notation, and this is its text with the units
-abbrev pub DisassemblesUnits : Notation → List ℕ → List ℕ → Type 0
-DisassemblesUnits notation bytes text =
-    (program : List Insn) × HasProgram notation bytes program × (text ≡ unit_lines 0 program)
+-- the file has a program in its notation, and this is its text
+abbrev pub Disassembles : Notation → Bool → List ℕ → List ℕ → Type 0
+Disassembles notation units bytes text =
+    (program : List Insn) × HasProgram notation bytes program × (text ≡ listing units program)
 
 -- the task prints this text on files of these bytes
 abbrev pub Prints : Task → List ℕ → Option (List ℕ) → List ℕ → Type 0
@@ -78,8 +78,7 @@ Prints (Check file notation None explained traced) first second text = IsChecked
 Prints (Check file notation (Some context) explained traced) first second text = Tries notation explained first second text
 Prints (Assemble file Hex target explained) first second text = Assembles first text
 Prints (Assemble file Raw target explained) first second text = AssemblesRaw first text
-Prints (Disassemble file notation false explained) first second text = Disassembles notation first text
-Prints (Disassemble file notation true explained) first second text = DisassemblesUnits notation first text
+Prints (Disassemble file notation units explained) first second text = Disassembles notation units first text
 Prints (Book file) first second text = DecidesTable first text
 Prints (ExplainDecisions file traitors) first second text = ExplainsTable first traitors.items text
 Prints (Form n m c filling) first second text = IsFormOf (string_bytes n) (string_bytes m) (string_bytes c) text

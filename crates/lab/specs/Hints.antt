@@ -1,24 +1,31 @@
--- What is said behind what a check says of a file: of a program its explanation, where it is asked for; of bytes that spell none what they seem to be.
-use Rattle.std.specs.Prelude.{ℕ, ◌≡◌, Bool, true, false, List, [], ◌++◌, Option, None, Some, codes, option_map, string_bytes}
+-- What is said behind what a check says of a file: of a program its explanation, where it is asked for; of bytes that spell none what they
+-- seem to be; of an object without a program the sentence of its fault.
+use Rattle.std.specs.Prelude.{ℕ, ◌≡◌, Bool, true, false, List, [], ◌++◌, Option, None, Some, Ok, codes, option_map, string_bytes}
 use Rattle.insn.specs.declared.insn.Insn.{Insn}
 use Rattle.asm.specs.Program.{program_of}
 use Rattle.codec.specs.Program.{SpellsProgram}
+use Rattle.elf.specs.Entry.{entry_of}
+use Rattle.elf.specs.Sentences.{sentence_of}
 use Rattle.explain.specs.Explained.{explained}
 use Rattle.command_line.specs.declared.tasks.Notation.{Notation}
 use Rattle.command_line.specs.declared.tasks.Notation.TheVariants.{Bytecode, Assembly, Object}
 use Rattle.command_line.specs.declared.tasks.Task.{Task}
-use Rattle.command_line.specs.declared.tasks.Task.TheVariants.{Check}
+use Rattle.command_line.specs.declared.tasks.Task.TheVariants.{Check, Disassemble}
 use Rattle.lab.specs.Seeming.{likeness_of, seems_text}
 use Rattle.lab.specs.declared.hint.Hint.{Hint}
-use Rattle.lab.specs.declared.hint.Hint.TheVariants.{Seems, Explained}
+use Rattle.lab.specs.declared.hint.Hint.TheVariants.{Seems, Fault, Explained}
 use Rattle.lab.specs.declared.refusal.Refusal.{Refusal}
-use Rattle.lab.specs.declared.refusal.Refusal.TheVariants.{Verifier}
+use Rattle.lab.specs.declared.refusal.Refusal.TheVariants.{Verifier, Object as NoEntry}
 
--- the file has this program in its notation: the bytes spell it, or the text says it
+-- the code of the object's entry, which has this name where it is named, spells the program
+abbrev pub HasEntry : Option (List ℕ) → List ℕ → List Insn → Type 0
+HasEntry name object program = (code : List ℕ) × (entry_of object name ≡ Ok code) × SpellsProgram code program
+
+-- the file has this program in its notation: the bytes spell it, the text says it, or the object's entry has it
 abbrev pub HasProgram : Notation → List ℕ → List Insn → Type 0
 HasProgram Bytecode bytes program = SpellsProgram bytes program
 HasProgram Assembly text program = program_of text ≡ Some program
-HasProgram (Object entry) bytes program = SpellsProgram bytes program
+HasProgram (Object entry) object program = HasEntry (option_map string_bytes entry) object program
 
 -- the notation of the program that the task is to explain, where it is to explain one
 abbrev pub explained_in : Task → Option Notation
@@ -33,6 +40,7 @@ behind_lines false program = []
 -- behind the line of a refusal: nothing, or further lines
 abbrev pub hint_text : Hint → List ℕ
 hint_text (Seems likeness) = codes "\n" ++ seems_text likeness
+hint_text (Fault fault) = codes "\n" ++ sentence_of fault
 hint_text (Explained text) = string_bytes text
 
 abbrev pub hint_behind : Option Hint → List ℕ
@@ -43,8 +51,15 @@ hint_behind (Some hint) = hint_text hint
 abbrev pub IsWhy : Notation → List ℕ → List ℕ → Type 0
 IsWhy notation bytes text = (program : List Insn) × HasProgram notation bytes program × (text ≡ explained program)
 
--- what bytes seem to be that are refused so
+-- the bytes of the task's first file that are to be bytecode themselves: none of those of an object
+abbrev pub bytecode_in : Task → List ℕ → List ℕ
+bytecode_in (Check file (Object entry) context explained traced) bytes = []
+bytecode_in (Disassemble file (Object entry) units explained) bytes = []
+bytecode_in task bytes = bytes
+
+-- behind a refusal: of an object the sentence of its fault, and what bytes seem to be that are refused so
 abbrev pub seems_behind : Refusal → List ℕ → Option Hint
+seems_behind (NoEntry fault) bytes = Some (Fault fault)
 seems_behind refusal bytes = option_map Seems (likeness_of refusal bytes)
 
 -- the notation in which a refused program is read once more: that of the task, where the verifier refused it and an explanation is asked for
@@ -60,4 +75,4 @@ IsSaid (Some notation) bytes otherwise _ = ⊥
 
 -- what is said behind this refusal of the task's first file
 abbrev pub IsHint : Refusal → Task → List ℕ → Option Hint → Type 0
-IsHint refusal task bytes hint = IsSaid (asked_of refusal task) bytes (seems_behind refusal bytes) hint
+IsHint refusal task bytes hint = IsSaid (asked_of refusal task) bytes (seems_behind refusal (bytecode_in task bytes)) hint

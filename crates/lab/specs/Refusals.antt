@@ -1,10 +1,12 @@
 -- Why a task does not take a file of some bytes.
-use Rattle.std.specs.Prelude.{ℕ, ◌≡◌, ◌≢◌, List, None, Some, Err, string_bytes}
+use Rattle.std.specs.Prelude.{ℕ, ◌≡◌, ◌≢◌, ◌⊎◌, List, Option, None, Some, Ok, Err, option_map, string_bytes}
 use Rattle.std.specs.Str.{IsUtf8}
 use Rattle.insn.specs.declared.insn.Insn.{Insn}
 use Rattle.codec.specs.Program.{IsFirstFault, SpellsProgram}
 use Rattle.codec.specs.declared.fault.CodecError.{CodecError}
 use Rattle.codec.specs.declared.fault.CodecError.TheVariants as codec
+use Rattle.elf.specs.Entry.{entry_of}
+use Rattle.elf.specs.declared.fault.Fault.{Fault}
 use Rattle.asm.specs.Program.{program_of, said}
 use Rattle.asm.specs.declared.fault.AsmError.{AsmError}
 use Rattle.asm.specs.declared.fault.AsmError.TheVariants as asm
@@ -37,7 +39,7 @@ use Rattle.command_line.specs.declared.tasks.Task.{Task}
 use Rattle.command_line.specs.declared.tasks.Task.TheVariants.{Check, Assemble, Disassemble, Book, ExplainDecisions, Form, Play, Muster, Audit}
 use Rattle.tables.specs.Numbers.{numbers_in}
 use Rattle.lab.specs.declared.refusal.Refusal.{Refusal}
-use Rattle.lab.specs.declared.refusal.Refusal.TheVariants.{Codec, Verifier, Assembly, Table, Scenario, Setting, Trace, Threads, NotText, Memory}
+use Rattle.lab.specs.declared.refusal.Refusal.TheVariants.{Codec, Object, Verifier, Assembly, Table, Scenario, Setting, Trace, Threads, NotText, Memory}
 
 -- the refusal of each error: want of memory is the same everywhere
 abbrev pub codec_refusal : CodecError → Refusal
@@ -162,17 +164,23 @@ abbrev pub RefusesText : (List ℕ → Refusal → Type 0) → List ℕ → Refu
 RefusesText refuses bytes NotText = IsUtf8 bytes → ⊥
 RefusesText refuses bytes refusal = refuses bytes refusal
 
+-- the object has no code for the entry, by this first fault, or its code is refused
+abbrev pub RefusesObject : (List ℕ → Refusal → Type 0) → Option (List ℕ) → List ℕ → Refusal → Type 0
+RefusesObject refuses name object refusal =
+    ((fault : Fault) × (refusal ≡ Object fault) × (entry_of object name ≡ Err fault))
+    ⊎ ((code : List ℕ) × (entry_of object name ≡ Ok code) × refuses code refusal)
+
 -- the file has no program in its notation, or the verifier refuses the program
 abbrev pub RefusesCheckIn : Notation → List ℕ → Refusal → Type 0
 RefusesCheckIn notation.Bytecode bytes refusal = RefusesCheck bytes refusal
 RefusesCheckIn notation.Assembly bytes refusal = RefusesText RefusesCheckAssembly bytes refusal
-RefusesCheckIn (notation.Object entry) bytes refusal = RefusesCheck bytes refusal
+RefusesCheckIn (notation.Object entry) bytes refusal = RefusesObject RefusesCheck (option_map string_bytes entry) bytes refusal
 
 -- the file has no program in its notation
 abbrev pub RefusesNotation : Notation → List ℕ → Refusal → Type 0
 RefusesNotation notation.Bytecode bytes refusal = RefusesDisassembly bytes refusal
 RefusesNotation notation.Assembly bytes refusal = RefusesText RefusesAssembly bytes refusal
-RefusesNotation (notation.Object entry) bytes refusal = RefusesDisassembly bytes refusal
+RefusesNotation (notation.Object entry) bytes refusal = RefusesObject RefusesDisassembly (option_map string_bytes entry) bytes refusal
 
 -- the task does not take an only or first file of these bytes
 abbrev pub Refuses : Task → List ℕ → Refusal → Type 0

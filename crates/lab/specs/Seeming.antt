@@ -40,5 +40,5 @@ likeness_of _ bytes = None
 -- the line that says so
 abbrev pub seems_text : Likeness → List ℕ
 seems_text Hex = codes "it seems to be bytecode in hex, of which `xxd -r -p` makes bytes"
-seems_text Object = codes "it seems to be an ELF object, of which `llvm-objcopy -O binary -j .text` takes the bytes"
+seems_text Object = codes "it seems to be an ELF object, which `--elf` reads"
 seems_text Text = codes "it seems to be text, and no bytecode: assembly is checked by `check --asm`"

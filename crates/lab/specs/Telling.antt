@@ -3,16 +3,18 @@ use Rattle.std.specs.Prelude.{ℕ, List, codes}
 use Rattle.asm.specs.Telling as asm
 use Rattle.book.specs.Telling as book
 use Rattle.codec.specs.Telling as codec
+use Rattle.elf.specs.Telling as elf
 use Rattle.scenario.specs.Telling as scenario
 use Rattle.threads.specs.Telling as threads
 use Rattle.trace.specs.Telling as trace
 use Rattle.trial.specs.Telling as trial
 use Rattle.verify.specs.Telling as verify
 use Rattle.lab.specs.declared.refusal.Refusal.{Refusal}
-use Rattle.lab.specs.declared.refusal.Refusal.TheVariants.{Codec, Verifier, Assembly, Table, Scenario, Setting, Trace, Threads, NotText, Memory}
+use Rattle.lab.specs.declared.refusal.Refusal.TheVariants.{Codec, Object, Verifier, Assembly, Table, Scenario, Setting, Trace, Threads, NotText, Memory}
 
 abbrev pub refusal_text : Refusal → List ℕ
 refusal_text (Codec error) = codec.told error
+refusal_text (Object fault) = elf.told fault
 refusal_text (Verifier fault) = verify.told fault
 refusal_text (Assembly error) = asm.told error
 refusal_text (Table error) = book.told error

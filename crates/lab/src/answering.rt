@@ -2,7 +2,7 @@ ghost use Rattle.std.specs.Prelude.{◌≡◌, IfOk, IfErr, None, string_bytes};
 ghost use Rattle.lab.specs.Answers.{ComesTo, IsChecked};
 ghost use Rattle.lab.specs.Refusals.{Refuses, RefusesCheckIn};
 
-use crate::assembling::{assembled, assembled_raw, disassembled, disassembled_units};
+use crate::assembling::{assembled, assembled_raw, disassembled};
 use crate::checking::{accepted_in, check, checked_text};
 use crate::deciding::{decided, explained};
 use crate::explaining::with_explanation;
@@ -45,14 +45,9 @@ pub fn answer(alloc: Global, task: &Task, bytes: &[u8]) -> Result<FirstAnswer, R
         } => return Ok(FirstAnswer::Bytes(assembled_raw(alloc, as_text(bytes)?)?)),
         Task::Disassemble {
             notation,
-            units: false,
+            units,
             ..
-        } => disassembled(alloc, notation, bytes)?,
-        Task::Disassemble {
-            notation,
-            units: true,
-            ..
-        } => disassembled_units(alloc, notation, bytes)?,
+        } => disassembled(alloc, notation, *units, bytes)?,
         Task::Book(_) => decided(alloc, as_text(bytes)?)?,
         Task::ExplainDecisions { traitors, .. } => {
             explained(alloc, as_text(bytes)?, traitors.as_slice())?

@@ -1,15 +1,14 @@
-ghost use Rattle.std.specs.Prelude.{IfOk, IfErr, string_bytes};
-ghost use Rattle.lab.specs.Answers.{Assembles, AssemblesRaw, Disassembles, DisassemblesUnits};
-ghost use Rattle.lab.specs.Hints.{HasProgram};
+ghost use Rattle.std.specs.Prelude.{◌≡◌, IfOk, IfErr, string_bytes};
+ghost use Rattle.lab.specs.Answers.{Assembles, AssemblesRaw, Disassembles, listing};
 ghost use Rattle.lab.specs.Refusals.{RefusesAssembly, RefusesNotation};
 
+use crate::programs::program_in;
 use crate::refusal::Refusal;
-use crate::texts::as_text;
 use asm::{assemble, disassemble, disassemble_units};
-use codec::{decode, encode};
+use codec::encode;
 use command_line::Notation;
 use insn::Program;
-use std::alloc::Global;
+use std::alloc::{AllocError, Global};
 
 /// The bytecode that the assembly says, in lower-case hex on one line.
 ///
@@ -40,51 +39,31 @@ pub fn assembled_raw(alloc: Global, text: &str) -> Result<Vec<u8>, Refusal>
     Ok(encode(alloc, &program)?)
 }
 
-/// The program in this notation that a file has.
-pub(crate) fn program_in(
-    alloc: Global,
-    notation: &Notation,
-    bytes: &[u8],
-) -> Result<Program, Refusal>
-    ensures program { IfOk result (λ program. HasProgram notation.now bytes.now program) }
-    ensures refused { IfErr result (RefusesNotation notation.now bytes.now) }
-{
-    match notation {
-        Notation::Bytecode | Notation::Object { .. } => Ok(decode(alloc, bytes)?),
-        Notation::Assembly => Ok(assemble(alloc, as_text(bytes)?)?),
-    }
-}
-
-/// The assembly of a program in this notation.
+/// The assembly of the program in this notation that a file has, with the unit before each instruction or without it.
 ///
 /// # Errors
 ///
-/// What the codec or the assembler refuses, or want of memory.
+/// What the codec or the assembler refuses, what of an object is refused, or want of memory.
 pub fn disassembled(
     alloc: Global,
     notation: &Notation,
+    units: bool,
     bytes: &[u8],
 ) -> Result<String, Refusal>
-    ensures disassembled { IfOk result (λ text. Disassembles notation.now bytes.now (string_bytes text)) }
+    ensures disassembled { IfOk result (λ text. Disassembles notation.now units bytes.now (string_bytes text)) }
     ensures refused { IfErr result (RefusesNotation notation.now bytes.now) }
 {
     let program = program_in(alloc, notation, bytes)?;
-    Ok(disassemble(alloc, &program)?)
+    Ok(listed(alloc, units, &program)?)
 }
 
-/// The assembly of a program in this notation, with the unit before each instruction.
-///
-/// # Errors
-///
-/// What the codec or the assembler refuses, or want of memory.
-pub fn disassembled_units(
-    alloc: Global,
-    notation: &Notation,
-    bytes: &[u8],
-) -> Result<String, Refusal>
-    ensures disassembled { IfOk result (λ text. DisassemblesUnits notation.now bytes.now (string_bytes text)) }
-    ensures refused { IfErr result (RefusesNotation notation.now bytes.now) }
+/// The program as text.
+fn listed(alloc: Global, units: bool, program: &Program) -> Result<String, AllocError>
+    ensures { IfOk result (λ text. string_bytes text ≡ listing units program.now) }
 {
-    let program = program_in(alloc, notation, bytes)?;
-    Ok(disassemble_units(alloc, &program)?)
+    if units {
+        disassemble_units(alloc, program)
+    } else {
+        disassemble(alloc, program)
+    }
 }

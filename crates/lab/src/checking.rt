@@ -4,10 +4,12 @@ ghost use Rattle.codec.specs.Program.{SpellsProgram};
 ghost use Rattle.semantics.specs.Run.{IsSound};
 ghost use Rattle.verify.specs.Judgement.{judged};
 ghost use Rattle.lab.specs.Answers.{IsRun};
-ghost use Rattle.lab.specs.Hints.{HasProgram};
+ghost use Rattle.elf.specs.Symbol.{asked};
+ghost use Rattle.lab.specs.Hints.{HasEntry, HasProgram};
 ghost use Rattle.lab.specs.Lines.{checked_lines};
-ghost use Rattle.lab.specs.Refusals.{RefusesCheck, RefusesCheckAssembly, RefusesCheckIn, RefusesProgram};
+ghost use Rattle.lab.specs.Refusals.{RefusesCheck, RefusesCheckAssembly, RefusesCheckIn, RefusesObject, RefusesProgram};
 
+use crate::programs::code_in;
 use crate::refusal::Refusal;
 use crate::texts::as_text;
 use asm::assemble;
@@ -34,7 +36,7 @@ pub struct Checked {
 ///
 /// # Errors
 ///
-/// What the codec, the assembler or the verifier refuses, or want of memory.
+/// What the codec, the assembler or the verifier refuses, what of an object is refused, or want of memory.
 pub fn check(
     alloc: Global,
     notation: &Notation,
@@ -61,8 +63,22 @@ pub(crate) fn accepted_in(
     ensures refused { IfErr result (RefusesCheckIn notation.now bytes.now) }
 {
     match notation {
-        Notation::Bytecode | Notation::Object { .. } => accepted(alloc, bytes),
+        Notation::Bytecode => accepted(alloc, bytes),
         Notation::Assembly => accepted_text(alloc, as_text(bytes)?),
+        Notation::Object { entry } => accepted_object(alloc, bytes, entry.as_deref()),
+    }
+}
+
+/// Verifies the program that an object's entry has.
+fn accepted_object(alloc: Global, object: &[u8], entry: Option<&str>) -> Result<Verified, Refusal>
+    ensures program { IfOk result (λ program. HasEntry (asked entry.entry) object.now program) }
+    ensures accepted { IfOk result (λ program. judged program ≡ None) }
+    ensures sound { IfOk result (λ program. IsSound program) }
+    ensures refused { IfErr result (RefusesObject RefusesCheck (asked entry.entry) object.now) }
+{
+    match code_in(object, entry) {
+        Ok(code) => accepted(alloc, code),
+        Err(fault) => Err(Refusal::Object(fault)),
     }
 }
 

@@ -1,12 +1,12 @@
 //! What `check --explain` says of a program behind what `check` says of it.
 ghost use Rattle.std.specs.Prelude.{◌≡◌, ◌++◌, IfOk, IfErr, option_map, string_bytes};
 ghost use Rattle.lab.specs.Faults.{StopsFirst};
-ghost use Rattle.lab.specs.Hints.{IsWhy, asked_of, behind_lines, explained_in};
+ghost use Rattle.lab.specs.Hints.{IsWhy, asked_of, behind_lines, bytecode_in, explained_in};
 ghost use Rattle.lab.specs.Refusals.{Refuses, RefusesNotation};
 
-use crate::assembling::program_in;
 use crate::failure::Failure;
 use crate::hint::Hint;
+use crate::programs::program_in;
 use crate::refusal::Refusal;
 use command_line::{Notation, Task};
 use explain::explanation;
@@ -54,6 +54,23 @@ fn why(alloc: Global, notation: &Notation, bytes: &[u8]) -> Result<String, Refus
     Ok(explanation(alloc, &program)?)
 }
 
+/// The bytes of the task's first file that are to be bytecode themselves: none of those of an object.
+fn bytecode_in<'a>(task: &Task, bytes: &'a [u8]) -> &'a [u8]
+    ensures { result.now ≡ bytecode_in task.now bytes.now }
+{
+    match task {
+        Task::Check {
+            notation: Notation::Object { .. },
+            ..
+        }
+        | Task::Disassemble {
+            notation: Notation::Object { .. },
+            ..
+        } => &[],
+        _ => bytes,
+    }
+}
+
 /// The notation in which a refused program is read once more: that of the task, where the verifier refused it and an
 /// explanation is asked for.
 fn asked_of<'a>(refusal: &Refusal, task: &'a Task) -> Option<&'a Notation>
@@ -77,11 +94,11 @@ pub(crate) fn refused<'a>(
 {
     let file = task.file().unwrap_or("");
     let Some(notation) = asked_of(&refusal, task) else {
-        return Failure::of_bytes(refusal, file, bytes);
+        return Failure::of_bytes(refusal, file, bytecode_in(task, bytes));
     };
     match why(alloc, notation, bytes) {
         Ok(text) => Failure::Refused(refusal, Some(Hint::Explained(text))),
         // It was read before, so this is want of memory.
-        Err(unread) => Failure::of_bytes(unread, file, bytes),
+        Err(unread) => Failure::of_bytes(unread, file, bytecode_in(task, bytes)),
     }
 }

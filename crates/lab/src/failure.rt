@@ -50,12 +50,16 @@ impl<'a> Failure<'a> {
         }
     }
 
-    /// The fault of a file of these bytes: where they spell no program, with what they seem to be.
+    /// The fault of a file of these bytes: where they spell no program, with what they seem to be, and where they are an
+    /// object without one, with the sentence of its fault.
     pub(crate) fn of_bytes(refusal: Refusal, file: &'a str, bytes: &[u8]) -> Failure<'a>
         ensures { result ≡ fault_of_bytes refusal file.entry bytes.now }
     {
         match refusal {
             Refusal::Codec(error) => Failure::Refused(Refusal::Codec(error), Hint::of_bytes(bytes)),
+            Refusal::Object(fault) => {
+                Failure::Refused(Refusal::Object(fault), Some(Hint::Fault(fault)))
+            }
             refusal => Failure::of(refusal, file),
         }
     }

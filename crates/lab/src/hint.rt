@@ -6,6 +6,8 @@ use std::fmt;
 pub(crate) enum Hint {
     /// What the bytes seem to be.
     Seems(Likeness),
+    /// Why an object has no code for the entry.
+    Fault(elf::Fault),
     /// Why the program is refused: its explanation.
     Explained(String),
 }
@@ -19,6 +21,10 @@ impl fmt::Display for Hint {
     fn fmt<W: fmt::Write>(&self, f: &mut fmt::Formatter<W>) -> fmt::Result {
         match self {
             Hint::Seems(likeness) => write!(f, "\n{likeness}"),
+            Hint::Fault(fault) => {
+                f.write_str("\n")?;
+                f.write_str(elf::sentence(*fault))
+            }
             Hint::Explained(text) => f.write_str(text.as_str()),
         }
     }

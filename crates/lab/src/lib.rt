@@ -13,6 +13,7 @@ mod forming;
 mod hint;
 mod mustering;
 mod playing;
+mod programs;
 mod reading;
 mod refusal;
 mod seeming;
@@ -21,7 +22,7 @@ mod texts;
 mod trying;
 
 pub use answering::answer;
-pub use assembling::{assembled, assembled_raw, disassembled, disassembled_units};
+pub use assembling::{assembled, assembled_raw, disassembled};
 pub use auditing::audited;
 pub use checking::{Checked, accepted, accepted_text, check};
 pub use deciding::{decided, explained};

@@ -15,6 +15,8 @@ use verify::VerifyError;
 pub enum Refusal {
     /// The bytes spell no program.
     Codec(CodecError),
+    /// The object has no code for the entry.
+    Object(elf::Fault),
     /// The program is not accepted.
     Verifier(VerifyError),
     /// The text says no program.
@@ -44,6 +46,7 @@ impl fmt::Display for Refusal {
     fn fmt<W: fmt::Write>(&self, f: &mut fmt::Formatter<W>) -> fmt::Result {
         match self {
             Refusal::Codec(error) => write!(f, "{error}"),
+            Refusal::Object(fault) => write!(f, "{fault}"),
             Refusal::Verifier(fault) => write!(f, "{fault}"),
             Refusal::Assembly(error) => write!(f, "{error}"),
             Refusal::Table(error) => write!(f, "{error}"),
@@ -81,6 +84,17 @@ impl From<CodecError> for Refusal {
             CodecError::Memory => Refusal::Memory,
             error => Refusal::Codec(error),
         }
+    }
+}
+
+impl From<elf::Fault> for Refusal {
+    ghost use Rattle.std.specs.Prelude.{◌≡◌};
+    ghost use Rattle.lab.specs.declared.refusal.Refusal.TheVariants.{Object};
+
+    ghost from_gives = { λ fault refusal. refusal ≡ Object fault };
+
+    fn from(fault: elf::Fault) -> Refusal {
+        Refusal::Object(fault)
     }
 }
 

@@ -1,4 +1,4 @@
-use Rattle.std.proofs.Common.{ℕ, ◌≡◌, ◌∙◌, Bool, List, Option, ap, refl, subst, sym}
+use Rattle.std.proofs.Common.{ℕ, ◌≡◌, ◌∙◌, Bool, Bor, List, Option, ap, refl, subst, sym}
 use Rattle.std.specs.Prelude.{is_some}
 use Rattle.std.proofs.lemmas.Result.{IfErr-weaker, IfOk-weaker}
 use Rattle.lab.specs.Answers.{ComesTo, Prints}
@@ -7,7 +7,7 @@ use Rattle.command_line.specs.declared.tasks.Notation.{Notation}
 use Rattle.lab.specs.Hints.{explained_in}
 use Rattle.lab.specs.Serving.{Files, IsTrialOf, files}
 use Rattle.lab.specs.declared.first_answer.FirstAnswer.TheVariants.{Text, Bytes, Trial, Play, Muster, Audit}
-use Rattle.lab.proofs.FilesLemmas.{answered_alone, answered_audited, answered_mustered, answered_played, answered_tried, first_named, prevented_later, second_named}
+use Rattle.lab.proofs.FilesLemmas.{answered_alone, answered_audited, answered_mustered, answered_played, answered_tried, first_named, mapped, prevented_later, second_named}
 use Rattle.lab.proofs.FirstLemmas.{prevented_first}
 use Rattle.lab.proofs.serving.answered.Goals as goal
 
@@ -32,7 +32,7 @@ returns-in-Ok-Trial-clause-answer g c =
     let both : Files = files g.R.Source.bytes c.args.first c.args.second in
     let is : c.in-Ok-Trial.field-0 ≡ Trial c.in-Ok-Trial.program = c.in-Ok-Trial.field-0-is in
     let comes : ComesTo c.args.task.now c.in_ok-bytes.bytes.items (Trial c.in-Ok-Trial.program) = rw (c.as_slice.ensures.value, is) at c.in-Ok-Trial.ensures.answered in
-    let asked : c.is_some.result ≡ is_some (explained_in c.args.task.now) = c.is_some.ensures ∙ ap (λ (o : Option Notation). is_some o) c.explained_in.ensures in
+    let asked : c.is_some.result ≡ is_some (explained_in c.args.task.now) = c.is_some.ensures ∙ (mapped (λ (n : Bor Notation). n.now) c.explained_in.result ∙ ap (λ (o : Option Notation). is_some o) c.explained_in.ensures) in
     IfOk-weaker c.trial_of.result _ _
     (λ text tried. answered_tried c.args.task.now both c.in_ok-bytes.bytes.items text.items c.in-Ok-Trial.program c.in_ok-bytes.ensures.whole comes
     (subst (λ (own : Bool). IsTrialOf both.second own c.in-Ok-Trial.program text.items) asked tried))
