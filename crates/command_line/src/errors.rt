@@ -1,7 +1,6 @@
 use clap::Error;
 use std::alloc::AllocError;
-use std::error;
-use std::fmt;
+use std::{error, fmt};
 
 /// Why there is no task.
 #[derive(Debug, Drop)]

@@ -1,7 +1,7 @@
 ghost use Rattle.std.specs.Prelude.{◌≡◌, IfOk};
-ghost use Rattle.clap.specs.Words.{app_of};
+ghost use Rattle.clap.specs.Words.{app_of, with_subcommand};
 ghost use Rattle.command_line.specs.Lab.{app_before, lab_app};
-ghost use Rattle.command_line.specs.Subcommand.{with_subcommands};
+ghost use Rattle.command_line.specs.Subcommand.{shape_for, with_subcommands};
 
 use crate::subcommand::Subcommand;
 use crate::subcommands::SUBCOMMANDS;
@@ -28,9 +28,20 @@ fn with_subcommands<'a>(
     ensures { IfOk result (λ c. app_of c ≡ with_subcommands (app_of lab.entry) subcommands.now) }
 {
     for subcommand in subcommands {
-        lab = lab.subcommand(subcommand.command(alloc)?)?;
+        lab = with_subcommand(alloc, lab, subcommand)?;
     }
     Ok(lab)
+}
+
+/// The program with one more subcommand.
+fn with_subcommand<'a>(
+    alloc: Global,
+    lab: Command<'a>,
+    subcommand: &Subcommand<'a>,
+) -> Result<Command<'a>, AllocError>
+    ensures { IfOk result (λ c. app_of c ≡ with_subcommand (app_of lab.entry) (shape_for subcommand.now)) }
+{
+    lab.subcommand(subcommand.command(alloc)?)
 }
 
 /// The program without its subcommands.

@@ -27,7 +27,10 @@ pub(crate) struct Place<'a> {
 #[derive(Clone, Copy)]
 pub(crate) enum Flag<'a> {
     /// `--NAME`.
-    Switch { name: &'a str, help: &'a str },
+    Switch {
+        name: &'a str,
+        help: &'a str,
+    },
     /// `--NAME VALUE`.
     Option {
         name: &'a str,

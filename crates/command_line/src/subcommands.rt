@@ -4,6 +4,13 @@ use crate::subcommand::{Flag, Place, Subcommand};
 const EXPLAIN: &str =
     "Tells what is known of the registers that are read, and what a refused instruction misses";
 
+const EXPLAIN_DECISIONS: &str =
+    "Tells how each decision comes about, or why a file is refused";
+
+const ENTRY: &str = "The function of the object; without it, its only global one";
+
+const OF: &str = "Explains this lieutenant's decision alone";
+
 const BYTECODE: Place<'static> = Place {
     name: "FILE",
     help: "The program, as raw bytecode",
@@ -24,13 +31,26 @@ const CHECK: Subcommand<'static> = Subcommand {
             help: "FILE is assembly text",
         },
         Flag::Switch {
+            name: "elf",
+            help: "FILE is an ELF object",
+        },
+        Flag::Switch {
             name: "explain",
             help: EXPLAIN,
+        },
+        Flag::Switch {
+            name: "trace",
+            help: "Tells each step of the run",
         },
         Flag::Option {
             name: "context",
             value: "CONTEXT",
             help: "Runs it in the context that this TOML tells, and prints what it put and changed",
+        },
+        Flag::Option {
+            name: "entry",
+            value: "NAME",
+            help: ENTRY,
         },
     ],
 };
@@ -47,6 +67,10 @@ const ASM: Subcommand<'static> = Subcommand {
             name: "raw",
             help: "Writes the bytes themselves",
         },
+        Flag::Switch {
+            name: "explain",
+            help: "Shows a refused line, and says what was wanted there",
+        },
         Flag::Letter {
             name: "target",
             letter: 'o',
@@ -60,10 +84,25 @@ const DIS: Subcommand<'static> = Subcommand {
     name: "dis",
     about: "Translates raw bytecode into assembly",
     places: &[BYTECODE],
-    flags: &[Flag::Switch {
-        name: "units",
-        help: "Prints the unit before each instruction",
-    }],
+    flags: &[
+        Flag::Switch {
+            name: "elf",
+            help: "FILE is an ELF object",
+        },
+        Flag::Switch {
+            name: "units",
+            help: "Prints the unit before each instruction",
+        },
+        Flag::Switch {
+            name: "explain",
+            help: "Says what is wrong with refused bytes",
+        },
+        Flag::Option {
+            name: "entry",
+            value: "NAME",
+            help: ENTRY,
+        },
+    ],
 };
 
 const BOOK: Subcommand<'static> = Subcommand {
@@ -103,25 +142,61 @@ const TABLE: Subcommand<'static> = Subcommand {
             help: "The commander's number, from 0",
         },
     ],
-    flags: &[],
+    flags: &[
+        Flag::Option {
+            name: "loyal",
+            value: "V",
+            help: "Fills it in as loyal generals would, behind this order",
+        },
+        Flag::Option {
+            name: "lie",
+            value: "G",
+            help: "Leaves what this general says to be edited",
+        },
+    ],
 };
 
 const MUSTER: Subcommand<'static> = Subcommand {
     name: "muster",
     about: "Runs a campaign with a thread for each general and prints its chronicle",
     places: &[SCENARIO],
-    flags: &[],
+    flags: &[
+        Flag::Switch {
+            name: "explain",
+            help: EXPLAIN_DECISIONS,
+        },
+        Flag::Option {
+            name: "of",
+            value: "G",
+            help: OF,
+        },
+    ],
 };
 
 const PLAY: Subcommand<'static> = Subcommand {
     name: "play",
     about: "Plays a campaign and prints its chronicle",
     places: &[SCENARIO],
-    flags: &[Flag::Option {
-        name: "schedule",
-        value: "FILE",
-        help: "The order of the turns; without it each round is punctual",
-    }],
+    flags: &[
+        Flag::Switch {
+            name: "table",
+            help: "Prints the message table of the campaign in place of its chronicle",
+        },
+        Flag::Switch {
+            name: "explain",
+            help: EXPLAIN_DECISIONS,
+        },
+        Flag::Option {
+            name: "schedule",
+            value: "FILE",
+            help: "The order of the turns; without it each round is punctual",
+        },
+        Flag::Option {
+            name: "of",
+            value: "G",
+            help: OF,
+        },
+    ],
 };
 
 const AUDIT: Subcommand<'static> = Subcommand {
@@ -134,9 +209,20 @@ const AUDIT: Subcommand<'static> = Subcommand {
             help: "What `play` or `muster` has printed of this campaign",
         },
     ],
-    flags: &[],
+    flags: &[
+        Flag::Switch {
+            name: "explain",
+            help: EXPLAIN_DECISIONS,
+        },
+        Flag::Option {
+            name: "of",
+            value: "G",
+            help: OF,
+        },
+    ],
 };
 
 /// All subcommands, as help lists them.
-pub(crate) const SUBCOMMANDS: &[Subcommand<'static>] =
-    &[CHECK, ASM, DIS, BOOK, TABLE, MUSTER, PLAY, AUDIT];
+pub(crate) const SUBCOMMANDS: &[Subcommand<'static>] = &[
+    CHECK, ASM, DIS, BOOK, TABLE, MUSTER, PLAY, AUDIT,
+];

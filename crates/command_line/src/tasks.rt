@@ -27,7 +27,10 @@ pub enum Task {
     /// Compute the decisions of a message table.
     Book(String),
     /// Tell how they come about, where these generals are named as traitors.
-    ExplainDecisions { table: String, traitors: Vec<u8> },
+    ExplainDecisions {
+        table: String,
+        traitors: Vec<u8>,
+    },
     /// Print a message table for these numbers of a campaign: to fill in, or filled in.
     Form {
         generals: String,
