@@ -39,7 +39,14 @@ pub fn traced(
     let mut board = Board::new(alloc, [0; 64]);
     let mut activation = Activation::start(verified, context, Outbox::new(alloc, shape)?);
     loop {
-        if turn(&mut text, verified, context, shape, &mut activation, &mut board)? {
+        if turn(
+            &mut text,
+            verified,
+            context,
+            shape,
+            &mut activation,
+            &mut board,
+        )? {
             return Ok(text);
         }
     }
