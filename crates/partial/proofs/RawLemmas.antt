@@ -1,11 +1,10 @@
 -- The line of a unit with which no instruction begins says its bytes.
-use Rattle.std.proofs.Common.{◌≡◌, ◌∙◌, ℕ, true, List, [], ◌∷◌, ◌++◌, length, refl, sym, ap, append_assoc, arith}
-use Rattle.std.specs.Prelude.{◌==◌, not, codes, Ok}
-use Rattle.std.specs.List.{list_all}
+use Rattle.std.proofs.Common.{◌≡◌, ◌∙◌, ℕ, List, [], ◌∷◌, ◌++◌, length, refl, sym, ap, append_assoc}
+use Rattle.std.specs.Prelude.{not, codes, Ok}
 use Rattle.hex.specs.Hex.{encode_lower, lower_digits, decode_sized}
 use Rattle.hex.proofs.HexLemmas.{decode_sized-encode_lower}
 use Rattle.text.specs.declared.stop.Stop.TheVariants.{Blank}
-use Rattle.text.specs.Stop.{is_stop, is_blank, semicolon, feed}
+use Rattle.text.specs.Stop.{is_stop, semicolon, feed}
 use Rattle.text.specs.Parts.{before}
 use Rattle.text.proofs.BytesLemmas.{all-append}
 use Rattle.text.proofs.CutLemmas.{Lacks, before-append, from-append}

@@ -1,6 +1,6 @@
 -- The text of bytes says those bytes.
-use Rattle.std.proofs.Common.{◌≡◌, ◌∙◌, ◌<◌, ◌≤◌, ◌+◌, ℕ, Bool, true, false, List, [], ◌∷◌, ◌++◌, length, refl, sym, ap, subst, append_assoc, append-nil, arith}
-use Rattle.std.specs.Prelude.{◌==◌, not, if◌then◌else◌, codes, Option, None, Some, Result, Ok, Err, slice_index}
+use Rattle.std.proofs.Common.{◌≡◌, ◌∙◌, ◌<◌, ◌+◌, ℕ, Bool, true, false, List, [], ◌∷◌, ◌++◌, length, refl, sym, ap, subst, append_assoc, append-nil, arith}
+use Rattle.std.specs.Prelude.{◌==◌, if◌then◌else◌, codes, Some, Result, Ok, Err, slice_index}
 use Rattle.std.specs.Result.{result_ok}
 use Rattle.text.specs.declared.stop.Stop.TheVariants.{Solid}
 use Rattle.text.specs.Stop.{feed, semicolon}
@@ -9,7 +9,7 @@ use Rattle.text.specs.Parts.{before, from}
 use Rattle.text.proofs.CutLemmas.{Lacks, lines_of-append, pieces-all, pieces-append}
 use Rattle.hex.specs.Hex.{encode_lower}
 use Rattle.insn.specs.declared.insn.Insn.{Insn}
-use Rattle.insn.specs.Insn.{IsInsn, units_of}
+use Rattle.insn.specs.Insn.{IsInsn}
 use Rattle.insn.proofs.SlotLemmas.{length-slots_of-cons}
 use Rattle.codec.specs.declared.fault.Fault.{Fault}
 use Rattle.codec.specs.declared.fault.Fault.TheVariants as fault
@@ -20,7 +20,7 @@ use Rattle.asm.specs.declared.fault.AsmError.{AsmError}
 use Rattle.asm.specs.declared.fault.Fault.{Fault as AsmFault}
 use Rattle.asm.specs.Faults.{at_line, ◌>>=◌}
 use Rattle.asm.specs.Printing.{insn_text, text_of}
-use Rattle.asm.specs.Program.{ended, lines_of, nothing, program_in, program_of, read_on, said, without_return}
+use Rattle.asm.specs.Program.{ended, lines_of, nothing, program_in, program_of, read_on, said}
 use Rattle.asm.proofs.KeepingLemmas.{lines_first}
 use Rattle.asm.proofs.OutlineLemmas.{insn_lacks_feed, without_return-insn}
 use Rattle.asm.proofs.RoundLemmas.{program_of-text}

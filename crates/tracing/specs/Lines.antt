@@ -5,8 +5,7 @@ use Rattle.insn.specs.declared.insn.Insn.TheVariants.{Arithmetic, Negate, SignEx
 use Rattle.semantics.specs.declared.value.Value.{Value}
 use Rattle.semantics.specs.declared.request.Request.{Request}
 use Rattle.semantics.specs.declared.request.Request.TheVariants as request
-use Rattle.semantics.specs.State.{State, value_at}
-use Rattle.board.specs.Board.{next}
+use Rattle.semantics.specs.State.{value_at}
 use Rattle.asm.specs.Printing.{insn_text}
 use Rattle.tracing.specs.Reads.{read_by}
 use Rattle.tracing.specs.Values.{register_told, place_told}
