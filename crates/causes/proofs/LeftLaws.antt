@@ -1,11 +1,8 @@
 -- What is left by an instruction that may run is what the transfer leaves.
-use Rattle.std.proofs.Common.{◌≡◌, ℕ, ◌+◌, ◌*◌, ◌<◌, ◌≤◌, List, Bool, true, false, Option, Some, None, refl, ap, sym, subst, arith}
-use Rattle.std.specs.Prelude.{ℤ, nat_le, nat_lt, if◌then◌else◌}
-use Rattle.std.specs.Option.{option_or}
+use Rattle.std.proofs.Common.{◌≡◌, ◌+◌, ◌*◌, ◌≤◌, Bool, true, false, Option, Some, None, refl, ap, arith}
+use Rattle.std.specs.Prelude.{ℤ, nat_lt, if◌then◌else◌}
 use Rattle.std.proofs.lemmas.Bool.{le-leb}
-use Rattle.insn.specs.declared.insn.Insn.{Insn}
 use Rattle.insn.specs.declared.insn.Insn.TheVariants.{Store, Call}
-use Rattle.insn.specs.declared.insn.Operand.{Operand}
 use Rattle.insn.specs.declared.insn.Size.{Size}
 use Rattle.semantics.specs.declared.value.Region.{Region}
 use Rattle.semantics.specs.declared.value.Region.TheVariants.{Stack, Context}
@@ -20,7 +17,6 @@ use Rattle.absval.specs.declared.value.AbsVal.TheVariants.{Unset, Number, Pointe
 use Rattle.absval.specs.Windows.{window_known}
 use Rattle.absmem.specs.Known.{Known}
 use Rattle.helper.specs.Table.{arguments_of}
-use Rattle.verify.specs.declared.reason.Reason.{Reason}
 use Rattle.verify.specs.declared.reason.Reason.TheVariants as reason
 use Rattle.verify.specs.declared.state.AbsState.{AbsState}
 use Rattle.verify.specs.Registers.{known_at, operand_known}
@@ -28,7 +24,7 @@ use Rattle.verify.specs.MemoryTable.{is_storable, write_refused, store_refused, 
 use Rattle.verify.specs.Calls.{reason_if, arguments_reason, IsBelow, window_from, copy_reason, helper_reason}
 use Rattle.verify.specs.Transfer.{stored, copied, called, transfer}
 use Rattle.verify.proofs.CallArguments.{or_parts, copy_arguments}
-use Rattle.causes.specs.Left.{stored_in_stack, copied_to_stack, behind_call, left}
+use Rattle.causes.specs.Left.{stored_in_stack, copied_to_stack, behind_call}
 use Rattle.causes.specs.Laws.{LeftIsTransfer}
 
 -- ---- stores

@@ -59,12 +59,7 @@ fn stack_given(stack: &AbsStack, size: Size, window: Window) -> Option<AbsVal>
 }
 
 /// What a load from a window of a region gives.
-fn load_from(
-    stack: &AbsStack,
-    size: Size,
-    region: Region,
-    window: Option<Window>,
-) -> Option<AbsVal>
+fn load_from(stack: &AbsStack, size: Size, region: Region, window: Option<Window>) -> Option<AbsVal>
     requires { IfSome window (λ w. w.place + w.size ≤ room_of region) }
     ensures { result ≡ result_ok (load_from stack.now size region window) }
 {
@@ -76,12 +71,7 @@ fn load_from(
 }
 
 /// What a load gives.
-pub(crate) fn load(
-    stack: &AbsStack,
-    size: Size,
-    base: AbsVal,
-    distance: i16,
-) -> Option<AbsVal>
+pub(crate) fn load(stack: &AbsStack, size: Size, base: AbsVal, distance: i16) -> Option<AbsVal>
     ensures { result ≡ result_ok (load_given stack.now size base distance) }
 {
     let AbsVal::Pointer(region, at) = base else {

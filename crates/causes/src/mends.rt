@@ -149,12 +149,7 @@ fn push_edited(
 }
 
 /// The instructions of a program with an edit.
-fn mended(
-    alloc: Global,
-    insns: &[Insn],
-    edit: &Edit,
-    place: usize,
-) -> Result<Vec<Insn>, AllocError>
+fn mended(alloc: Global, insns: &[Insn], edit: &Edit, place: usize) -> Result<Vec<Insn>, AllocError>
     requires place { place < 4096 }
     requires units { length (slots_of insns.now) ≤ 4096 }
     ensures mended { IfOk result (λ vec. vec.items ≡ mended edit.now place 0 insns.now) }

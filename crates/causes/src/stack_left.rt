@@ -17,11 +17,7 @@ fn put_number(stack: &mut AbsStack, size: usize, window: Option<Window>)
     requires { IfSome window (λ w. w.place + w.size ≤ 512) }
     ensures { stack.new ≡ number_stored size window stack.old }
 {
-    let Some(Window {
-        place,
-        size: wide,
-    }) = window
-    else {
+    let Some(Window { place, size: wide }) = window else {
         return;
     };
     if wide == size {
@@ -51,13 +47,7 @@ fn eight_cells(offsets: Offsets, distance: i16) -> Option<Window>
 }
 
 /// What a store leaves of the stack.
-pub(crate) fn store(
-    stack: &mut AbsStack,
-    size: Size,
-    base: AbsVal,
-    distance: i16,
-    value: AbsVal,
-)
+pub(crate) fn store(stack: &mut AbsStack, size: Size, base: AbsVal, distance: i16, value: AbsVal)
     ensures { stack.new ≡ stored_in_stack size base distance value stack.old }
 {
     let AbsVal::Pointer(region, at) = base else {

@@ -59,30 +59,30 @@ last_says u m n (Some reason.Unset) h = h
 last_says u m n (Some reason.Argument) h = or_first m n h
 last_says u m n (Some r) h = absurd h
 
-argument_says : (r : ℕ) (bound : Option ℕ) (value : AbsVal) → Says (unset_if r value) (misfit_of r bound value) (argument_reason bound value)
-argument_says r bound Unset = refl
-argument_says r (Some bound) (Number n) = by_test (nat_lt (greatest n) bound)
+argument_says : (helper : Helper) (r : ℕ) (bound : Option ℕ) (value : AbsVal) → Says (unset_if r value) (misfit_of helper r bound value) (argument_reason bound value)
+argument_says helper r bound Unset = refl
+argument_says helper r (Some bound) (Number n) = by_test (nat_lt (greatest n) bound)
   where
-    by_test : (t : Bool) → Says None (if t then None else Some (sentence.Call (misfit.Above r (Number n) (bound - 1)))) (reason_if (not t) reason.Argument)
+    by_test : (t : Bool) → Says None (if t then None else Some (sentence.Call (misfit.Above helper r (Number n) (bound - 1)))) (reason_if (not t) reason.Argument)
     by_test true = tt
     by_test false = refl
-argument_says r (Some bound) (Pointer region o) = refl
-argument_says r None (Number n) = refl
-argument_says r None (Pointer region o) = tt
+argument_says helper r (Some bound) (Pointer region o) = refl
+argument_says helper r None (Number n) = refl
+argument_says helper r None (Pointer region o) = tt
 
-taken_says : (registers : List AbsVal) (r : ℕ) (argument : Option Argument) →
-    Says (unset_at registers (of_argument r argument)) (misfit_at registers r argument) (taken_reason argument (known_at registers r))
-taken_says registers r None = tt
-taken_says registers r (Some argument) = argument_says r (bound_of argument) (known_at registers r)
+taken_says : (helper : Helper) (registers : List AbsVal) (r : ℕ) (argument : Option Argument) →
+    Says (unset_at registers (of_argument r argument)) (misfit_at helper registers r argument) (taken_reason argument (known_at registers r))
+taken_says helper registers r None = tt
+taken_says helper registers r (Some argument) = argument_says helper r (bound_of argument) (known_at registers r)
 
-three_say : (registers : List AbsVal) (arguments : List (Option Argument)) → length arguments ≡ 3 →
-    Says (first_unset registers (of_arguments arguments)) (arguments_misfit registers arguments) (arguments_reason arguments 1 registers)
-three_say registers [] e = absurd (omega arith)
-three_say registers (first ∷ []) e = absurd (omega arith)
-three_say registers (first ∷ second ∷ []) e = absurd (omega arith)
-three_say registers (first ∷ second ∷ third ∷ []) e =
-    or_says _ _ _ _ _ _ (taken_says registers 1 first) (or_says _ _ _ _ _ _ (taken_says registers 2 second) (last_says _ _ (past_board (known_at registers 1) (known_at registers 3)) _ (taken_says registers 3 third)))
-three_say registers (first ∷ second ∷ third ∷ more ∷ others) e = absurd (omega arith)
+three_say : (helper : Helper) (registers : List AbsVal) (arguments : List (Option Argument)) → length arguments ≡ 3 →
+    Says (first_unset registers (of_arguments arguments)) (arguments_misfit helper registers arguments) (arguments_reason arguments 1 registers)
+three_say helper registers [] e = absurd (omega arith)
+three_say helper registers (first ∷ []) e = absurd (omega arith)
+three_say helper registers (first ∷ second ∷ []) e = absurd (omega arith)
+three_say helper registers (first ∷ second ∷ third ∷ []) e =
+    or_says _ _ _ _ _ _ (taken_says helper registers 1 first) (or_says _ _ _ _ _ _ (taken_says helper registers 2 second) (last_says _ _ (past_board (known_at registers 1) (known_at registers 3)) _ (taken_says helper registers 3 third)))
+three_say helper registers (first ∷ second ∷ third ∷ more ∷ others) e = absurd (omega arith)
 
 three_taken : (helper : Helper) → length (arguments_of helper) ≡ 3
 three_taken BoardGet = refl
@@ -107,19 +107,19 @@ past_found slots counts le few =
     subst (λ (t : Bool). IsSome (if t then Some (sentence.Call (misfit.Board (greatest slots + greatest counts))) else None))
     (sym (and_from (nat_le (greatest slots) 64) (nat_le (greatest counts) 64) (le-leb (greatest slots) 64 le) (le-leb (greatest counts) 64 few))) refl
 
-board_says : (registers : List AbsVal) (first second third : Option Argument) → IsSome (past_board (known_at registers 1) (known_at registers 3)) →
-    IsSome (arguments_misfit registers (first ∷ second ∷ third ∷ []))
-board_says registers first second third h =
+board_says : (helper : Helper) (registers : List AbsVal) (first second third : Option Argument) → IsSome (past_board (known_at registers 1) (known_at registers 3)) →
+    IsSome (arguments_misfit helper registers (first ∷ second ∷ third ∷ []))
+board_says helper registers first second third h =
     let past : Option Sentence = past_board (known_at registers 1) (known_at registers 3) in
-    let last : Option Sentence = option_or (misfit_at registers 3 third) past in
-    or_second (misfit_at registers 1 first) (option_or (misfit_at registers 2 second) last)
-    (or_second (misfit_at registers 2 second) last (or_second (misfit_at registers 3 third) past h))
+    let last : Option Sentence = option_or (misfit_at helper registers 3 third) past in
+    or_second (misfit_at helper registers 1 first) (option_or (misfit_at helper registers 2 second) last)
+    (or_second (misfit_at helper registers 2 second) last (or_second (misfit_at helper registers 3 third) past h))
 
 board_told : (number : ℤ) (a : AbsState) (slots counts : NumberSet) → helper_of number ≡ Some BoardCopy → known_at a.registers 1 ≡ Number slots → known_at a.registers 3 ≡ Number counts →
     greatest slots ≤ 64 → greatest counts ≤ 64 → IsSome (shortfall reason.Argument (Call number) a)
 board_told number a slots counts e one three le few =
-    subst (λ (o : Option Helper). IsSome (option_and_then (λ (helper : Helper). arguments_misfit a.registers (arguments_of helper)) o)) (sym e)
-    (board_says a.registers (Some Slot) (Some StackPointer) (Some Words) past)
+    subst (λ (o : Option Helper). IsSome (option_and_then (λ (helper : Helper). arguments_misfit helper a.registers (arguments_of helper)) o)) (sym e)
+    (board_says BoardCopy a.registers (Some Slot) (Some StackPointer) (Some Words) past)
   where
     past : IsSome (past_board (known_at a.registers 1) (known_at a.registers 3))
     past =
@@ -165,12 +165,12 @@ window_told number a helper e f = tt
 
 pub call_told : (number : ℤ) (a : AbsState) (o : Option Helper) → helper_of number ≡ o → Told (Call number) a (helper_reason o a)
 call_told number a None e = refl
-call_told number a (Some helper) e = by_arguments (arguments_reason (arguments_of helper) 1 a.registers) refl (three_say a.registers (arguments_of helper) (three_taken helper))
+call_told number a (Some helper) e = by_arguments (arguments_reason (arguments_of helper) 1 a.registers) refl (three_say helper a.registers (arguments_of helper) (three_taken helper))
   where
     by_arguments : (x : Option Reason) → arguments_reason (arguments_of helper) 1 a.registers ≡ x →
-        Says (first_unset a.registers (of_arguments (arguments_of helper))) (arguments_misfit a.registers (arguments_of helper)) x → Told (Call number) a (option_or x (window_reason helper a))
+        Says (first_unset a.registers (of_arguments (arguments_of helper))) (arguments_misfit helper a.registers (arguments_of helper)) x → Told (Call number) a (option_or x (window_reason helper a))
     by_arguments None f h = window_told number a helper e f
     by_arguments (Some reason.Unset) f h = subst (λ (o : Option Helper). IsSome (first_unset a.registers (of_helper o))) (sym e) h
     by_arguments (Some reason.Argument) f h =
-        subst (λ (o : Option Helper). IsSome (option_and_then (λ (taken : Helper). arguments_misfit a.registers (arguments_of taken)) o)) (sym e) h
+        subst (λ (o : Option Helper). IsSome (option_and_then (λ (taken : Helper). arguments_misfit taken a.registers (arguments_of taken)) o)) (sym e) h
     by_arguments (Some r) f h = absurd h

@@ -54,7 +54,7 @@ for_argument unit r (Number n) = mask_at unit r
 for_argument unit r value = None
 
 abbrev pub for_misfit : ℕ → Misfit → Option (ℕ × Choice)
-for_misfit unit (misfit.Above r value most) = for_argument unit r value
+for_misfit unit (misfit.Above called r value most) = for_argument unit r value
 for_misfit unit m = None
 
 abbrev pub is_set : Option Mark → Bool

@@ -45,8 +45,8 @@ of_access (access.Context r value) = Some (subject.Register r)
 
 abbrev pub of_misfit : Misfit → Option Subject
 of_misfit (misfit.Helper number) = None
-of_misfit (misfit.Above r value most) = Some (subject.Register r)
-of_misfit (misfit.NoPointer r value) = Some (subject.Register r)
+of_misfit (misfit.Above called r value most) = Some (subject.Register r)
+of_misfit (misfit.NoPointer called r value) = Some (subject.Register r)
 of_misfit (misfit.Board sum) = None
 
 abbrev pub subject_of : Sentence → Option Subject

@@ -3,6 +3,8 @@ use Rattle.std.specs.Prelude.{ℕ, ℤ, pos, ◌-ℤ◌, List, ◌++◌, codes, 
 use Rattle.std.specs.Fmt.{signed_decimal}
 use Rattle.semantics.specs.declared.value.Region.{Region}
 use Rattle.semantics.specs.declared.value.Region.TheVariants.{Stack, Context}
+use Rattle.semantics.specs.declared.request.Helper.{Helper}
+use Rattle.semantics.specs.declared.request.Helper.TheVariants as helper
 use Rattle.absval.specs.declared.value.AbsVal.{AbsVal}
 use Rattle.explain.specs.declared.values.Span.{Span}
 use Rattle.explain.specs.declared.sentence.Sentence.{Sentence}
@@ -70,11 +72,25 @@ access_text (access.Outside r region span) = reached_text r region span ++ codes
 access_text (access.Empty r span cell) = reached_text r Stack span ++ codes ": no byte is known at " ++ signed_decimal (pos cell -ℤ pos 512)
 access_text (access.Context r value) = named_text r value ++ codes ": the context is only read"
 
+-- the name of a helper, as in assembly
+abbrev pub helper_text : Helper → List ℕ
+helper_text helper.BoardGet = codes "board_get"
+helper_text helper.BoardSwap = codes "board_swap"
+helper_text helper.BoardAdd = codes "board_add"
+helper_text helper.BoardCas = codes "board_cas"
+helper_text helper.BoardCopy = codes "board_copy"
+helper_text helper.Send = codes "send"
+helper_text helper.SendRow = codes "send_row"
+helper_text helper.Sway = codes "sway"
+helper_text helper.Honest = codes "honest"
+helper_text helper.SignOrder = codes "sign_order"
+helper_text helper.PassOn = codes "pass_on"
+
 -- what a call asks
 abbrev pub misfit_text : Misfit → List ℕ
 misfit_text (misfit.Helper number) = codes "no helper has the number " ++ signed_decimal number ++ codes ": they are 1 to 11"
-misfit_text (misfit.Above r value most) = named_text r value ++ codes ": the helper takes a number up to " ++ decimal most ++ codes " there"
-misfit_text (misfit.NoPointer r value) = named_text r value ++ codes ": the helper takes a pointer there"
+misfit_text (misfit.Above called r value most) = named_text r value ++ codes ": " ++ helper_text called ++ codes " takes a number up to " ++ decimal most ++ codes " there"
+misfit_text (misfit.NoPointer called r value) = named_text r value ++ codes ": " ++ helper_text called ++ codes " takes a pointer there"
 misfit_text (misfit.Board sum) = codes "r1 and r3 together may be " ++ decimal sum ++ codes ", and the board has 64 words"
 
 abbrev pub sentence_text : Sentence → List ℕ

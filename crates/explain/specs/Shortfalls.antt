@@ -181,15 +181,15 @@ context_written reach value = Some (sentence.Memory (access.Context reach.base v
 -- ---- calls
 
 -- an argument that is to be a number below the bound, or a pointer where there is none
-abbrev pub misfit_of : ℕ → Option ℕ → AbsVal → Option Sentence
-misfit_of r (Some bound) (Number n) = if nat_lt (greatest n) bound then None else Some (sentence.Call (misfit.Above r (Number n) (bound - 1)))
-misfit_of r (Some bound) value = Some (sentence.Call (misfit.Above r value (bound - 1)))
-misfit_of r None (Number n) = Some (sentence.Call (misfit.NoPointer r (Number n)))
-misfit_of r None value = None
+abbrev pub misfit_of : Helper → ℕ → Option ℕ → AbsVal → Option Sentence
+misfit_of helper r (Some bound) (Number n) = if nat_lt (greatest n) bound then None else Some (sentence.Call (misfit.Above helper r (Number n) (bound - 1)))
+misfit_of helper r (Some bound) value = Some (sentence.Call (misfit.Above helper r value (bound - 1)))
+misfit_of helper r None (Number n) = Some (sentence.Call (misfit.NoPointer helper r (Number n)))
+misfit_of helper r None value = None
 
-abbrev pub misfit_at : List AbsVal → ℕ → Option Argument → Option Sentence
-misfit_at registers r None = None
-misfit_at registers r (Some argument) = misfit_of r (bound_of argument) (known_at registers r)
+abbrev pub misfit_at : Helper → List AbsVal → ℕ → Option Argument → Option Sentence
+misfit_at helper registers r None = None
+misfit_at helper registers r (Some argument) = misfit_of helper r (bound_of argument) (known_at registers r)
 
 -- slot and count together
 abbrev pub past_board : AbsVal → AbsVal → Option Sentence
@@ -197,14 +197,14 @@ past_board (Number slots) (Number counts) =
     if nat_le (greatest slots) board_words && nat_le (greatest counts) board_words then Some (sentence.Call (misfit.Board (greatest slots + greatest counts))) else None
 past_board _ _ = None
 
-abbrev pub arguments_misfit : List AbsVal → List (Option Argument) → Option Sentence
-arguments_misfit registers (first ∷ second ∷ third ∷ []) =
-    option_or (misfit_at registers 1 first) (option_or (misfit_at registers 2 second) (option_or (misfit_at registers 3 third)
+abbrev pub arguments_misfit : Helper → List AbsVal → List (Option Argument) → Option Sentence
+arguments_misfit helper registers (first ∷ second ∷ third ∷ []) =
+    option_or (misfit_at helper registers 1 first) (option_or (misfit_at helper registers 2 second) (option_or (misfit_at helper registers 3 third)
     (past_board (known_at registers 1) (known_at registers 3))))
-arguments_misfit registers _ = None
+arguments_misfit helper registers _ = None
 
 abbrev pub call_misfit : Insn → List AbsVal → Option Sentence
-call_misfit (Call number) registers = option_and_then (λ helper. arguments_misfit registers (arguments_of helper)) (helper_of number)
+call_misfit (Call number) registers = option_and_then (λ helper. arguments_misfit helper registers (arguments_of helper)) (helper_of number)
 call_misfit i registers = None
 
 abbrev pub no_helper : Insn → Option Sentence

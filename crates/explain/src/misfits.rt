@@ -7,39 +7,46 @@ ghost use Rattle.explain.specs.Shortfalls.{misfit_of, misfit_at, past_board, arg
 use crate::sentence::{Misfit, Sentence};
 use absval::{AbsVal, NumberSet};
 use causes::numbered;
-use helper::{Argument, BOARD_WORDS};
+use helper::{Argument, BOARD_WORDS, Helper};
 use insn::{Insn, Reg};
 use verify::AbsState;
 
 /// A number that is to be at most so great.
-fn above(r: Reg, numbers: NumberSet, most: u64) -> Option<Sentence>
-    ensures { result ≡ misfit_of r (Some (most + 1)) (AbsVal.Number numbers) }
+fn above(helper: Helper, r: Reg, numbers: NumberSet, most: u64) -> Option<Sentence>
+    ensures { result ≡ misfit_of helper r (Some (most + 1)) (AbsVal.Number numbers) }
 {
     if numbers.greatest() <= most {
         return None;
     }
     let value = AbsVal::Number(numbers);
-    Some(Sentence::Call(Misfit::Above(r, value, most)))
+    Some(Sentence::Call(Misfit::Above(helper, r, value, most)))
 }
 
 /// An argument that is to be a number up to this one, or a pointer where there is none.
-fn misfit_of(r: Reg, argument: Argument, value: AbsVal) -> Option<Sentence>
-    ensures { result ≡ misfit_of r (bound_of argument) value }
+fn misfit_of(helper: Helper, r: Reg, argument: Argument, value: AbsVal) -> Option<Sentence>
+    ensures { result ≡ misfit_of helper r (bound_of argument) value }
 {
     match (argument.greatest(), value) {
-        (Some(most), AbsVal::Number(numbers)) => above(r, numbers, most),
-        (Some(most), _) => Some(Sentence::Call(Misfit::Above(r, value, most))),
-        (None, AbsVal::Number(_)) => Some(Sentence::Call(Misfit::NoPointer(r, value))),
+        (Some(most), AbsVal::Number(numbers)) => above(helper, r, numbers, most),
+        (Some(most), _) => Some(Sentence::Call(Misfit::Above(helper, r, value, most))),
+        (None, AbsVal::Number(_)) => {
+            Some(Sentence::Call(Misfit::NoPointer(helper, r, value)))
+        }
         (None, _) => None,
     }
 }
 
 /// The same of an argument, where the helper takes one there.
-fn misfit_at(state: &AbsState, r: Reg, argument: Option<Argument>) -> Option<Sentence>
-    ensures { result ≡ misfit_at state.now.registers r argument }
+fn misfit_at(
+    helper: Helper,
+    state: &AbsState,
+    r: Reg,
+    argument: Option<Argument>,
+) -> Option<Sentence>
+    ensures { result ≡ misfit_at helper state.now.registers r argument }
 {
     let argument = argument?;
-    misfit_of(r, argument, state.known(r))
+    misfit_of(helper, r, argument, state.known(r))
 }
 
 /// Slot and count together.
@@ -60,17 +67,21 @@ fn past_board(slots: AbsVal, counts: AbsVal) -> Option<Sentence>
 }
 
 /// The arguments in their order, then slot and count together.
-fn arguments_misfit(state: &AbsState, arguments: [Option<Argument>; 3]) -> Option<Sentence>
-    ensures { result ≡ arguments_misfit state.now.registers arguments }
+fn arguments_misfit(
+    helper: Helper,
+    state: &AbsState,
+    arguments: [Option<Argument>; 3],
+) -> Option<Sentence>
+    ensures { result ≡ arguments_misfit helper state.now.registers arguments }
 {
     let [first, second, third] = arguments;
-    if let Some(sentence) = misfit_at(state, numbered(1), first) {
+    if let Some(sentence) = misfit_at(helper, state, numbered(1), first) {
         return Some(sentence);
     }
-    if let Some(sentence) = misfit_at(state, numbered(2), second) {
+    if let Some(sentence) = misfit_at(helper, state, numbered(2), second) {
         return Some(sentence);
     }
-    if let Some(sentence) = misfit_at(state, numbered(3), third) {
+    if let Some(sentence) = misfit_at(helper, state, numbered(3), third) {
         return Some(sentence);
     }
     let slots = state.known(numbered(1));
@@ -85,7 +96,7 @@ pub(crate) fn call_misfit(insn: &Insn, state: &AbsState) -> Option<Sentence>
         return None;
     };
     let helper = helper::helper_of(*number)?;
-    arguments_misfit(state, helper::arguments(helper))
+    arguments_misfit(helper, state, helper::arguments(helper))
 }
 
 /// The number of a call that no helper has.

@@ -43,7 +43,7 @@ fn of_misfit(misfit: Misfit) -> Option<Subject>
     ensures { result ≡ of_misfit misfit }
 {
     match misfit {
-        Misfit::Above(r, _, _) | Misfit::NoPointer(r, _) => Some(Subject::Register(r)),
+        Misfit::Above(_, r, _, _) | Misfit::NoPointer(_, r, _) => Some(Subject::Register(r)),
         Misfit::Helper(_) | Misfit::Board(_) => None,
     }
 }

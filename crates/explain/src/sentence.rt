@@ -1,9 +1,10 @@
 //! Why a program is refused, as a sentence.
 ghost use Rattle.std.specs.Prelude.{◌≡◌};
-ghost use Rattle.explain.specs.Sentences.{limit_text, extent_text};
+ghost use Rattle.explain.specs.Sentences.{limit_text, extent_text, helper_text};
 
 use crate::values::{Known, Span, region_name};
 use absval::AbsVal;
+use helper::Helper;
 use insn::Reg;
 use semantics::Region;
 use std::fmt;
@@ -69,10 +70,10 @@ pub enum Access {
 pub enum Misfit {
     /// No helper has the number.
     Helper(i32),
-    /// The register is to be a number up to this one.
-    Above(Reg, AbsVal, u64),
-    /// The register is to be a pointer.
-    NoPointer(Reg, AbsVal),
+    /// The helper takes a number up to this one in the register.
+    Above(Helper, Reg, AbsVal, u64),
+    /// The helper takes a pointer in the register.
+    NoPointer(Helper, Reg, AbsVal),
     /// Slot and count together may be so much.
     Board(u64),
 }
@@ -292,6 +293,25 @@ impl fmt::Display for Access {
     }
 }
 
+/// The name of a helper, as in assembly.
+fn helper_name(helper: Helper) -> &'static str
+    ensures { result.now ≡ helper_text helper }
+{
+    match helper {
+        Helper::BoardGet => "board_get",
+        Helper::BoardSwap => "board_swap",
+        Helper::BoardAdd => "board_add",
+        Helper::BoardCas => "board_cas",
+        Helper::BoardCopy => "board_copy",
+        Helper::Send => "send",
+        Helper::SendRow => "send_row",
+        Helper::Sway => "sway",
+        Helper::Honest => "honest",
+        Helper::SignOrder => "sign_order",
+        Helper::PassOn => "pass_on",
+    }
+}
+
 impl fmt::Display for Misfit {
     ghost use Rattle.std.specs.Prelude.{Some};
     ghost use Rattle.explain.specs.Sentences.{misfit_text};
@@ -303,13 +323,15 @@ impl fmt::Display for Misfit {
             Misfit::Helper(number) => {
                 write!(f, "no helper has the number {number}: they are 1 to 11")
             }
-            Misfit::Above(r, value, most) => {
+            Misfit::Above(helper, r, value, most) => {
                 let named = Named(r, value);
-                write!(f, "{named}: the helper takes a number up to {most} there")
+                let name = helper_name(helper);
+                write!(f, "{named}: {name} takes a number up to {most} there")
             }
-            Misfit::NoPointer(r, value) => {
+            Misfit::NoPointer(helper, r, value) => {
                 let named = Named(r, value);
-                write!(f, "{named}: the helper takes a pointer there")
+                let name = helper_name(helper);
+                write!(f, "{named}: {name} takes a pointer there")
             }
             Misfit::Board(sum) => {
                 write!(

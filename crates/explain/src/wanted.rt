@@ -83,7 +83,7 @@ fn for_misfit(unit: usize, misfit: Misfit) -> Option<(usize, Choice)>
     ensures below { IfSome result (λ want. want.0 ≤ unit) }
 {
     match misfit {
-        Misfit::Above(r, value, _) => for_argument(unit, r, value),
+        Misfit::Above(_, r, value, _) => for_argument(unit, r, value),
         _ => None,
     }
 }

@@ -1,4 +1,4 @@
-use Rattle.std.proofs.Common.{◌≤◌, ◌<◌, ◌+◌, ◌*◌, arith, length}
+use Rattle.std.proofs.Common.{◌≤◌, ◌<◌, ◌+◌, arith, length}
 use Rattle.insn.specs.Program.{slots_of}
 use Rattle.insn.proofs.SlotLemmas.{slots_so_far, units_bound, length-le-slots_of}
 use Rattle.causes.proofs.MendLemmas.{mended_so_far, starts_inside}

@@ -1,4 +1,4 @@
-use Rattle.std.proofs.Common.{◌≤◌, ◌<◌, ◌+◌, ◌*◌, arith, length}
+use Rattle.std.proofs.Common.{◌<◌, arith, length}
 use Rattle.insn.proofs.SlotLemmas.{slots_so_far}
 use Rattle.causes.proofs.mends.units_of.Goals as goal
 
