@@ -1,5 +1,5 @@
 -- What a task prints on files of some bytes.
-use Rattle.std.specs.Prelude.{ℕ, ◌≡◌, ◌++◌, Bool, true, false, List, [], Option, None, Some, Ok, length, string_bytes, unwrap_or}
+use Rattle.std.specs.Prelude.{ℕ, ◌≡◌, ◌++◌, Bool, true, false, List, [], Option, None, Some, length, string_bytes, unwrap_or}
 use Rattle.insn.specs.declared.insn.Insn.{Insn}
 use Rattle.insn.specs.Program.{slots_of}
 use Rattle.semantics.specs.Relay.{oral}

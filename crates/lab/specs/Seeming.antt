@@ -1,5 +1,5 @@
 -- What bytes that spell no program seem to be in its place.
-use Rattle.std.specs.Prelude.{ℕ, Bool, ◌||◌, ◌==◌, nat_eq, List, ◌∷◌, ◌++◌, length, take, Option, None, Some, codes, if◌then◌else◌}
+use Rattle.std.specs.Prelude.{ℕ, Bool, ◌||◌, ◌==◌, nat_eq, List, ◌∷◌, length, take, Option, None, Some, codes, if◌then◌else◌}
 use Rattle.std.specs.List.{list_all, starts_with}
 use Rattle.std.specs.Char.{is_ascii_graphic, is_ascii_hexdigit, is_ascii_whitespace}
 use Rattle.lab.specs.declared.seeming.Likeness.{Likeness}

@@ -1,5 +1,5 @@
 -- The trial on the bench.
-use Rattle.std.proofs.Common.{◌≡◌, ◌∙◌, List, length, ap, sym, refl}
+use Rattle.std.proofs.Common.{◌∙◌, List, length, ap, sym, refl}
 use Rattle.insn.specs.declared.insn.Insn.{Insn}
 use Rattle.insn.specs.Program.{slots_of}
 use Rattle.semantics.specs.Relay.{oral}

@@ -2,12 +2,11 @@ use Rattle.std.proofs.Common.{ℕ, ◌≡◌, ◌∙◌, Bool, Bor, List, Option
 use Rattle.std.specs.Prelude.{is_some}
 use Rattle.std.proofs.lemmas.Result.{IfErr-weaker, IfOk-weaker}
 use Rattle.lab.specs.Answers.{ComesTo, Prints}
-use Rattle.lab.specs.Refusals.{Refuses}
 use Rattle.command_line.specs.declared.tasks.Notation.{Notation}
 use Rattle.lab.specs.Hints.{explained_in}
 use Rattle.lab.specs.Serving.{Files, IsTrialOf, files}
 use Rattle.lab.specs.declared.first_answer.FirstAnswer.TheVariants.{Text, Bytes, Trial, Play, Muster, Audit}
-use Rattle.lab.proofs.FilesLemmas.{answered_alone, answered_audited, answered_mustered, answered_played, answered_tried, first_named, mapped, prevented_later, second_named}
+use Rattle.lab.proofs.FilesLemmas.{answered_alone, answered_audited, answered_mustered, answered_played, answered_tried, mapped, prevented_later, second_named}
 use Rattle.lab.proofs.FirstLemmas.{prevented_first}
 use Rattle.lab.proofs.serving.answered.Goals as goal
 
