@@ -11,23 +11,18 @@
 #include <stdio.h>
 #include <string.h>
 
-#define CONTEXT 4096
-#define PROGRAM 32768
-
 static int digit(int c) {
     return isdigit(c) ? c - '0' : isxdigit(c) ? tolower(c) - 'a' + 10 : -1;
 }
 
 /* Reads bytes in hex, with white space between them; -1 where they are none, or more than there is room for. */
 static long from_hex(const char *text, uint8_t *bytes, size_t room) {
-    size_t count = 0;
-    for (;;) {
+    for (size_t count = 0;; text += 2) {
         while (isspace((unsigned char)*text)) text++;
         if (!*text) return (long)count;
         int high = digit((unsigned char)text[0]), low = high < 0 ? -1 : digit((unsigned char)text[1]);
         if (low < 0 || count == room) return -1;
         bytes[count++] = (uint8_t)(high << 4 | low);
-        text += 2;
     }
 }
 
@@ -36,31 +31,31 @@ static int failed(const char *what) {
     return 1;
 }
 
+static int told(uint32_t status, const struct byzlab_fault *fault) {
+    if (status == BYZLAB_MEMORY) return failed("out of memory");
+    int is_misspelt = status == BYZLAB_MISSPELT;
+    fprintf(stderr, "refused %c%u unit %zu\n", is_misspelt ? 'C' : 'V', fault->number - (is_misspelt ? 0 : 100), fault->unit);
+    return 1;
+}
+
 int main(int count, char **words) {
-    static uint8_t program[PROGRAM + 8], context[CONTEXT];
-    static char text[4 * PROGRAM];
+    static uint8_t program[BYZLAB_MOST_BYTES + 8], context[BYZLAB_CONTEXT_BYTES];
+    static char text[4 * BYZLAB_MOST_BYTES];
+    uint64_t board[BYZLAB_BOARD_WORDS] = {0};
     const char *given = NULL;
-    struct byzlab_fault fault = {0, 0};
-    struct byzlab_outcome outcome = {0, 0};
     for (int i = 1; i < count; i++) {
         if (!strcmp(words[i], "--program") && i + 1 < count) given = words[++i];
         else if (!strcmp(words[i], "--elf")) return failed("no ELF is read");
-        else if (strncmp(words[i], "--", 2) && from_hex(words[i], context, CONTEXT) < 0) return failed("the memory is no hex");
+        else if (strncmp(words[i], "--", 2) && from_hex(words[i], context, sizeof context) < 0)
+            return failed("the memory is no hex of at most 4,096 bytes");
     }
     if (!given) text[fread(text, 1, sizeof text - 1, stdin)] = 0;
     long length = from_hex(given ? given : text, program, sizeof program);
-    if (length < 0) return failed("the program is no hex");
-    switch (byzlab_run_many(program, (size_t)length, context, CONTEXT, &fault, &outcome, 1)) {
-    case 0:
-        printf("%llx\n", (unsigned long long)outcome.r0);
-        return 0;
-    case 1:
-        fprintf(stderr, "refused C%u unit %zu\n", (unsigned)fault.number, fault.unit);
-        return 1;
-    case 2:
-        fprintf(stderr, "refused V%u unit %zu\n", (unsigned)fault.number - 100, fault.unit);
-        return 1;
-    default:
-        return failed("out of memory");
-    }
+    if (length < 0) return failed("the program is no hex of at most 32,776 bytes");
+    struct byzlab_fault fault;
+    struct byzlab_outcome outcome;
+    uint32_t status = byzlab_run(program, (size_t)length, context, sizeof context, board, &fault, &outcome);
+    if (status) return told(status, &fault);
+    printf("%llx\n", (unsigned long long)outcome.r0);
+    return 0;
 }

@@ -68,7 +68,7 @@ int main(void) {
                 wrong += fault.number != 777 || fault.unit != 888 || needed != 55 || text[0] != '#' || board[3] != 0
                     || (which == 1 && outcomes[0].r0 != 111);
         }
-        wrong += status != last[which];
+        wrong += status != last[which] || refused < 2;
         printf("%s: status 3 at each of %ld requests, then %u\n", names[which], refused - 1, status);
     }
     printf("%s\n", wrong ? "wrong" : "nothing written at 3, each block given back");

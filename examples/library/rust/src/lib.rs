@@ -1,5 +1,5 @@
-//! Safe calls of the proved verifier and machine of byzlab: the pointers and lengths that C hands over are made here from
-//! slices, so that nothing of what the header leaves to its caller is left to yours.
+//! Safe calls of the proved verifier and machine of byzlab. The pointers and lengths that C hands over are made here of slices,
+//! so that nothing of what the header leaves to its caller is left to yours, but for signal handlers and forked children.
 use std::fmt;
 
 /// How many bytes a program is given to read.
@@ -31,7 +31,7 @@ impl fmt::Display for Error {
 
 impl std::error::Error for Error {}
 
-/// How a run has ended.
+/// How a run has ended: r0 at the exit, and how many instructions were run.
 #[repr(C)]
 #[derive(Clone, Copy, Debug, Default, PartialEq, Eq)]
 pub struct Outcome {
@@ -45,6 +45,20 @@ struct Fault {
     number: u32,
     unit: usize,
 }
+
+impl Fault {
+    fn result<T>(&self, status: u32, value: T) -> Result<T, Error> {
+        let Fault { number, unit } = *self;
+        match status {
+            0 => Ok(value),
+            1 => Err(Error::Misspelt { number, unit }),
+            2 => Err(Error::Refused { number, unit }),
+            _ => Err(Error::Memory),
+        }
+    }
+}
+
+type Teller = unsafe extern "C" fn(*const u8, usize, *mut u8, usize, *mut usize, *mut Fault) -> u32;
 
 extern "C" {
     fn byzlab_verify(program: *const u8, length: usize, fault: *mut Fault) -> u32;
@@ -74,24 +88,22 @@ extern "C" {
         needed: *mut usize,
         fault: *mut Fault,
     ) -> u32;
+    fn byzlab_disassemble(
+        program: *const u8,
+        length: usize,
+        text: *mut u8,
+        room: usize,
+        needed: *mut usize,
+        fault: *mut Fault,
+    ) -> u32;
     fn byzlab_version() -> u32;
-}
-
-fn answer(status: u32, fault: &Fault) -> Result<(), Error> {
-    let Fault { number, unit } = *fault;
-    match status {
-        0 => Ok(()),
-        1 => Err(Error::Misspelt { number, unit }),
-        2 => Err(Error::Refused { number, unit }),
-        _ => Err(Error::Memory),
-    }
 }
 
 /// Whether the program is accepted.
 pub fn verify(program: &[u8]) -> Result<(), Error> {
     let mut fault = Fault::default();
     let status = unsafe { byzlab_verify(program.as_ptr(), program.len(), &mut fault) };
-    answer(status, &fault)
+    fault.result(status, ())
 }
 
 /// Verifies the program and runs it once; the board is left as the program left it.
@@ -108,7 +120,7 @@ pub fn run(program: &[u8], context: &[u8; CONTEXT_BYTES], board: &mut Board) -> 
             &mut outcome,
         )
     };
-    answer(status, &fault).map(|()| outcome)
+    fault.result(status, outcome)
 }
 
 /// Verifies the program once and runs it in each context, each time with a board of zeros.
@@ -126,23 +138,36 @@ pub fn run_many(program: &[u8], contexts: &[[u8; CONTEXT_BYTES]]) -> Result<Vec<
             outcomes.len(),
         )
     };
-    answer(status, &fault).map(|()| outcomes)
+    fault.result(status, outcomes)
+}
+
+/// The text that a function writes, asked once for its length and once for itself; with its verdict.
+fn told(teller: Teller, program: &[u8]) -> (String, Result<(), Error>) {
+    let (mut text, mut needed, mut fault) = (Vec::new(), 0, Fault::default());
+    loop {
+        let room = text.len();
+        let status =
+            unsafe { teller(program.as_ptr(), program.len(), text.as_mut_ptr(), room, &mut needed, &mut fault) };
+        if status == 1 || status == 3 {
+            return (String::new(), fault.result(status, ()));
+        }
+        if needed <= room {
+            text.truncate(needed);
+            return (String::from_utf8_lossy(&text).into_owned(), fault.result(status, ()));
+        }
+        text.resize(needed, 0);
+    }
 }
 
 /// What the verifier knows at each unit, and why it refuses the program, if so; with its verdict.
 pub fn explain(program: &[u8]) -> (String, Result<(), Error>) {
-    let (mut text, mut needed, mut fault) = (Vec::new(), 0, Fault::default());
-    loop {
-        let room = text.len();
-        let status = unsafe {
-            byzlab_explain(program.as_ptr(), program.len(), text.as_mut_ptr(), room, &mut needed, &mut fault)
-        };
-        if needed <= room || status == 1 || status == 3 {
-            text.truncate(needed);
-            return (String::from_utf8_lossy(&text).into_owned(), answer(status, &fault));
-        }
-        text.resize(needed, 0);
-    }
+    told(byzlab_explain, program)
+}
+
+/// The assembly text of the program, accepted or not.
+pub fn disassemble(program: &[u8]) -> Result<String, Error> {
+    let (text, verdict) = told(byzlab_disassemble, program);
+    verdict.map(|()| text)
 }
 
 /// 10,000 * major + 100 * minor + patch.

@@ -1,5 +1,5 @@
-//! A program is verified, run, run many times, and one that is refused is explained.
-use byzlab_sandbox::{explain, run, run_many, verify, version, Error, CONTEXT_BYTES};
+//! A program is verified, run, and run many times; one that is refused is explained and shown.
+use byzlab_sandbox::{disassemble, explain, run, run_many, verify, version, Error, CONTEXT_BYTES};
 
 const ANSWER: [u8; 16] = [0xb7, 0, 0, 0, 42, 0, 0, 0, 0x95, 0, 0, 0, 0, 0, 0, 0];
 /// r0 = the context's first byte; exit
@@ -20,8 +20,9 @@ fn main() -> Result<(), Error> {
     println!("r0 {each:?}");
     let (text, verdict) = explain(&UNSET);
     if let Err(error) = verdict {
-        println!("refused {error}{text}");
+        println!("{text}\nrefused {error}");
     }
+    print!("{}", disassemble(&UNSET)?);
     println!("{:?}", verify(&ANSWER[..15]));
     Ok(())
 }
