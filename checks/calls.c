@@ -1,5 +1,5 @@
-/* Each function and each status once, with the values that are wanted, and what is not to be written; by as many threads at
- * once as the first word says. */
+/* Each function and each status once, with the values that are wanted, and what is not to be written; by as many
+ * threads at once as the first word says. */
 #include <byzlab_sandbox.h>
 #include <pthread.h>
 #include <stdatomic.h>
@@ -61,7 +61,8 @@ static void misspelt(void) {
 static void refused(void) {
     VERIFIED(BYZLAB_REFUSED, BYZLAB_V1_BACK_JUMP, 0, 0x05, 0, 0xff, 0xff, 0, 0, 0, 0, EXIT);
     VERIFIED(BYZLAB_REFUSED, BYZLAB_V2_JUMP_OUT, 0, UNIT(0x05, 0, 9, 0), EXIT);
-    VERIFIED(BYZLAB_REFUSED, BYZLAB_V3_JUMP_IN_WIDE, 0, UNIT(0x05, 0, 1, 0), UNIT(0x18, 0, 0, 0), UNIT(0, 0, 0, 0), EXIT);
+    VERIFIED(BYZLAB_REFUSED, BYZLAB_V3_JUMP_IN_WIDE, 0, UNIT(0x05, 0, 1, 0), UNIT(0x18, 0, 0, 0), UNIT(0, 0, 0, 0),
+             EXIT);
     VERIFIED(BYZLAB_REFUSED, BYZLAB_V4_LAST_NOT_EXIT, 0, UNIT(0xb7, 0, 0, 42));
     verified(unset, 16, BYZLAB_REFUSED, BYZLAB_V5_UNSET, 0);
     VERIFIED(BYZLAB_REFUSED, BYZLAB_V6_FRAME_WRITE, 0, UNIT(0xb7, 10, 0, 0), EXIT);

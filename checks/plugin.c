@@ -1,10 +1,10 @@
 /*
- * A plugin in the convention of the project bpf_conformance: the program in hex on standard input, or behind --program; the
- * memory in hex as an argument; r0 in hex on standard output. Status 0, or 1 with a line on standard error: the code and unit
- * of a refusal, or what is wrong with the words.
+ * A plugin in the convention of the project bpf_conformance: the program in hex on standard input, or behind --program;
+ * the memory in hex as an argument; r0 in hex on standard output. Status 0, or 1 with a line on standard error: the
+ * code and unit of a refusal, or what is wrong with the words.
  *
- * The memory is the context: its bytes, and zeros up to 4,096. r1 points to it; r2, in which the convention has its length,
- * is unset.
+ * The memory is the context: its bytes, and zeros up to 4,096. r1 points to it; r2, in which the convention has its
+ * length, is unset.
  */
 #include <byzlab_sandbox.h>
 #include <ctype.h>
@@ -33,8 +33,8 @@ static int failed(const char *what) {
 
 static int told(uint32_t status, const struct byzlab_fault *fault) {
     if (status == BYZLAB_MEMORY) return failed("out of memory");
-    int is_misspelt = status == BYZLAB_MISSPELT;
-    fprintf(stderr, "refused %c%u unit %zu\n", is_misspelt ? 'C' : 'V', fault->number - (is_misspelt ? 0 : 100), fault->unit);
+    if (status == BYZLAB_MISSPELT) fprintf(stderr, "refused C%u unit %zu\n", fault->number, fault->unit);
+    else fprintf(stderr, "refused V%u unit %zu\n", fault->number - 100, fault->unit);
     return 1;
 }
 

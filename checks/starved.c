@@ -26,8 +26,10 @@ void __wrap_free(void *block) {
 }
 
 /* r0 = board_add(3, 5), with a jump that is taken or not; exit */
-static const uint8_t program[56] = {0x71, 0x16, 0, 0, 0, 0, 0, 0, 0xb7, 1, 0, 0, 3, 0, 0, 0, 0xb7, 2, 0, 0, 5, 0, 0, 0,
-                                    0x25, 0x06, 1, 0, 9, 0, 0, 0, 0x07, 2, 0, 0, 1, 0, 0, 0, 0x85, 0, 0, 0, 3, 0, 0, 0, 0x95};
+static const uint8_t program[56] = {
+    0x71, 0x16, 0, 0, 0, 0, 0, 0, 0xb7, 1, 0, 0, 3, 0, 0, 0, 0xb7, 2, 0, 0, 5, 0, 0, 0, 0x25, 0x06, 1, 0, 9, 0, 0, 0,
+    0x07, 2,    0, 0, 1, 0, 0, 0, 0x85, 0, 0, 0, 3, 0, 0, 0, 0x95,
+};
 static const uint8_t unset[16] = {0xbf, 0x20, 0, 0, 0, 0, 0, 0, 0x95};
 static uint8_t contexts[3 * 4096];
 static uint64_t board[64];

@@ -3,7 +3,6 @@
 #ifdef WITH_DPDK
 #include <rte_bpf.h>
 #include <rte_log.h>
-#include <stdlib.h>
 
 static const char *absent(void) { return NULL; }
 
@@ -29,10 +28,18 @@ static uint64_t interpret(void *loaded, const struct program *program, unsigned 
     return r0;
 }
 
+/* What is accepted and has machine code. */
+static void *translate(const struct program *program) {
+    struct rte_bpf_jit jit;
+    void *loaded = load(program);
+    if (loaded && (rte_bpf_get_jit(loaded, &jit) || !jit.func)) return rte_bpf_destroy(loaded), NULL;
+    return loaded;
+}
+
 static uint64_t jump(void *loaded, const struct program *program, unsigned times) {
     struct rte_bpf_jit jit;
     uint64_t r0 = 0;
-    if (rte_bpf_get_jit(loaded, &jit) || !jit.func) abort();
+    rte_bpf_get_jit(loaded, &jit);
     while (times--) r0 = jit.func(program->context);
     return r0;
 }
@@ -43,8 +50,9 @@ static const char *absent(void) { return "librte_bpf is not installed (Debian: l
 #define load 0
 #define unload 0
 #define interpret 0
+#define translate 0
 #define jump 0
 #endif
 
-const struct engine dpdk_engine = {"dpdk", absent, begin, end, load, unload, interpret};
-const struct engine dpdk_jit_engine = {"dpdk-jit", absent, begin, end, load, unload, jump};
+const struct engine dpdk_engine = {"dpdk", absent, begin, end, load, unload, interpret, NULL, NULL, 0};
+const struct engine dpdk_jit_engine = {"dpdk-jit", absent, begin, end, translate, unload, jump, NULL, NULL, 1};

@@ -29,9 +29,15 @@ struct engine {
     void (*unload)(void *);
     /* Runs it so many times; r0 of the last. */
     uint64_t (*run)(void *, const struct program *, unsigned times);
+    /* Why the last program was refused, in a line; NULL where the engine does not say. */
+    const char *(*why)(const struct program *);
+    /* The nanoseconds that its loads and runs have taken so far, where another process does them; else NULL. */
+    double (*clock)(void);
+    /* A program runs as code of the processor in the caller's memory: each gets a process of its own. */
+    int is_native;
 };
 
-extern const struct engine byzlab_engine, linux_engine, linux_lenient_engine, pcap_engine;
+extern const struct engine byzlab_engine, linux_engine, linux_lenient_engine, pcap_engine, go_engine;
 extern const struct engine dpdk_engine, dpdk_jit_engine;
 
 #endif

@@ -1,7 +1,8 @@
 /*
- * The kernel's verifier, by bpf(): programs of the type that is run by a system call, whose context is 4,096 bytes. `linux`
- * loads with CAP_BPF alone, as a sandbox that does not trust its programs; `linux-perfmon` with CAP_PERFMON too, by which the
- * kernel lets a program read stack that nothing has written, and does not look at what a processor guesses.
+ * The kernel's verifier, by bpf(): programs of the type that is run by a system call, whose context is 4,096 bytes.
+ * `linux` loads with CAP_BPF alone, as a sandbox that does not trust its programs; `linux-perfmon` with CAP_PERFMON
+ * too, by which the kernel lets a program read stack that nothing has written, and does not look at what a processor
+ * guesses.
  */
 #include "engine.h"
 #include <linux/bpf.h>
@@ -28,8 +29,16 @@ static void keep(uint64_t mask) {
     syscall(SYS_capset, &head, some);
 }
 
-static void begin(const struct program *program) { (void)program; keep(CAP_OF(39)); }
-static void begin_lenient(const struct program *program) { (void)program; keep(CAP_OF(38) | CAP_OF(39)); }
+static void begin(const struct program *program) {
+    (void)program;
+    keep(CAP_OF(39));
+}
+
+static void begin_lenient(const struct program *program) {
+    (void)program;
+    keep(CAP_OF(38) | CAP_OF(39));
+}
+
 static void end(void) { syscall(SYS_capset, &head, all); }
 
 static long load_bytes(const uint8_t *bytes, size_t length) {
@@ -72,5 +81,7 @@ static const char *absent(void) {
     return file >= 0 ? NULL : why == EPERM ? "bpf() is not allowed" : strerror(why);
 }
 
-const struct engine linux_engine = {"linux", absent, begin, end, load, unload, run};
-const struct engine linux_lenient_engine = {"linux-perfmon", absent, begin_lenient, end, load, unload, run};
+const struct engine linux_engine = {"linux", absent, begin, end, load, unload, run, NULL, NULL, 0};
+const struct engine linux_lenient_engine = {
+    "linux-perfmon", absent, begin_lenient, end, load, unload, run, NULL, NULL, 0,
+};

@@ -4,12 +4,13 @@
  *     engines verdicts FILE SECONDS    in processes that may die
  *     engines times FILE ROUNDS        in this process, the engines in turn in each round
  *
- * FILE: 4,096 bytes of context, then of each program a mask of engines (one bit each, in the order below; the highest: ask it in a process of its own), and its bytes and
- * those of its classic filter, each behind their length; all numbers have 32 bits.
+ * FILE: 4,096 bytes of context, then of each program a mask of engines (one bit each, in the order below; the
+ * highest: ask it in a process of its own), and its bytes and those of its classic filter, each behind their length;
+ * all numbers have 32 bits.
  *
  * A line for each answer: the program's number, the engine, and
- *     absent WHY | refused | accepted R0 | died SIGNAL loading | died SIGNAL running | late loading | late running
- *     load NS .. | run NS ..            (a round each, in nanoseconds of the processor; a load with its unload)
+ *     absent WHY | refused [WHY] | accepted R0 | died SIGNAL loading or running | late loading or running
+ *     load NS .. | run NS ..      (a round each, in nanoseconds of the processor; a load with its unload)
  */
 #define _GNU_SOURCE
 #include "engine.h"
@@ -26,13 +27,16 @@
 #include <unistd.h>
 
 static const struct engine *const engines[] = {
-    &byzlab_engine, &dpdk_engine, &dpdk_jit_engine, &linux_engine, &linux_lenient_engine, &pcap_engine,
+    &byzlab_engine,        &dpdk_engine, &dpdk_jit_engine, &linux_engine,
+    &linux_lenient_engine, &pcap_engine, &go_engine,
 };
 #define ENGINES (sizeof engines / sizeof *engines)
 #define ROUNDS 64
 /* How long one measured stretch lasts at least, in nanoseconds. */
 #define STRETCH 100000.0
-/* How long all rounds of one engine and one program may take by the wall's clock; three rounds are taken in any case. */
+/* As many runs stand in a call as take so many times what loading takes, where the call allows so many. */
+#define SHARE 20
+/* How long all rounds of one engine and one program may take by the wall's clock; three are taken in any case. */
 #define ALLOWANCE 250e6
 
 static int fails(const char *what) {
@@ -62,6 +66,7 @@ enum stage { UNASKED, LOADING, REFUSED, RUNNING, ENDED };
 struct answer {
     enum stage stage;
     uint64_t r0;
+    char why[160]; /* of a refusal, with a space before it */
 };
 
 struct question {
@@ -86,13 +91,18 @@ static void ask(const struct engine *engine, const struct program *program, stru
         answer->r0 = engine->run(loaded, program, 1);
         answer->stage = ENDED;
         engine->unload(loaded);
+    } else {
+        const char *why = engine->why ? engine->why(program) : NULL;
+        if (why) snprintf(answer->why, sizeof answer->why, " %s", why);
     }
     engine->end();
 }
 
+static int is_answered(enum stage stage) { return stage == REFUSED || stage == ENDED; }
+
 /* Asks from one question up to another in a process; gives its status, and where it stood at the end. */
-static unsigned asked(const struct engine *engine, const struct question *questions, unsigned bit, unsigned from, unsigned to,
-                      const uint8_t *kept, unsigned seconds, struct answer *answers, int *status) {
+static unsigned asked(const struct engine *engine, const struct question *questions, unsigned bit, unsigned from,
+                      unsigned to, const uint8_t *kept, unsigned seconds, struct answer *answers, int *status) {
     pid_t child = fork();
     if (child < 0) fails("fork");
     if (child == 0) {
@@ -107,27 +117,29 @@ static unsigned asked(const struct engine *engine, const struct question *questi
         _exit(0);
     }
     if (waitpid(child, status, 0) != child) fails("waitpid");
-    while (from < to && *status && (answers[from].stage == UNASKED || answers[from].stage == REFUSED || answers[from].stage == ENDED)) from++;
-    return *status ? from : to;
+    if (!*status) return to;
+    while (from < to && (answers[from].stage == UNASKED || is_answered(answers[from].stage))) from++;
+    return from;
 }
 
 static void tell(unsigned number, const struct engine *engine, const struct answer *answer, int status) {
     const char *when = answer->stage == RUNNING ? "running" : "loading";
-    if (answer->stage == REFUSED) printf("%u %s refused\n", number, engine->name);
+    if (answer->stage == REFUSED) printf("%u %s refused%s\n", number, engine->name, answer->why);
     else if (answer->stage == ENDED) printf("%u %s accepted %" PRIx64 "\n", number, engine->name, answer->r0);
-    else if (WIFSIGNALED(status) && WTERMSIG(status) == SIGPROF) printf("%u %s late %s\n", number, engine->name, when);
-    else if (WIFSIGNALED(status)) printf("%u %s died %s %s\n", number, engine->name, sigabbrev_np(WTERMSIG(status)), when);
-    else printf("%u %s died status %s\n", number, engine->name, when);
+    else if (!WIFSIGNALED(status)) printf("%u %s died status %s\n", number, engine->name, when);
+    else if (WTERMSIG(status) == SIGPROF) printf("%u %s late %s\n", number, engine->name, when);
+    else printf("%u %s died %s %s\n", number, engine->name, sigabbrev_np(WTERMSIG(status)), when);
 }
 
-static void verdicts(const struct engine *engine, unsigned bit, const struct question *questions, unsigned count, const uint8_t *kept, unsigned seconds) {
+static void verdicts(const struct engine *engine, unsigned bit, const struct question *questions, unsigned count,
+                     const uint8_t *kept, unsigned seconds) {
     size_t size = (count + 1) * sizeof(struct answer);
     struct answer *answers = mmap(NULL, size, PROT_READ | PROT_WRITE, MAP_SHARED | MAP_ANONYMOUS, -1, 0);
     if (answers == MAP_FAILED) fails("mmap");
     for (unsigned from = 0; from < count;) {
         unsigned to = from + 1;
         int status = 0;
-        if (!(questions[from].mask & ALONE))
+        if (!engine->is_native && !(questions[from].mask & ALONE))
             while (to < count && !(questions[to].mask & ALONE)) to++;
         unsigned at = asked(engine, questions, bit, from, to, kept, seconds, answers, &status);
         for (unsigned number = from; number < at; number++)
@@ -146,27 +158,27 @@ static double clocked(clockid_t clock) {
     return (double)t.tv_sec * 1e9 + (double)t.tv_nsec;
 }
 
-static double now(void) { return clocked(CLOCK_THREAD_CPUTIME_ID); }
-
-static double loads(const struct engine *engine, const struct program *program, unsigned times) {
-    double begun = now();
-    for (unsigned i = 0; i < times; i++) engine->unload(engine->load(program));
-    return (now() - begun) / times;
+static double now(const struct engine *engine) {
+    return engine->clock ? engine->clock() : clocked(CLOCK_THREAD_CPUTIME_ID);
 }
 
-/* The time of a run, by that of many runs less that of one. */
+static double loads(const struct engine *engine, const struct program *program, unsigned times) {
+    double begun = now(engine);
+    for (unsigned i = 0; i < times; i++) engine->unload(engine->load(program));
+    return (now(engine) - begun) / times;
+}
+
+/* The time of one of so many runs, with its share of what a call does before the first. */
 static double runs(const struct engine *engine, void *loaded, const struct program *program, unsigned times) {
-    double begun = now();
-    engine->run(loaded, program, 1);
-    double between = now();
-    engine->run(loaded, program, times + 1);
-    return (now() - between - (between - begun)) / times;
+    double begun = now(engine);
+    engine->run(loaded, program, times);
+    return (now(engine) - begun) / times;
 }
 
 /* How often something of this time is to be done for a stretch. */
-static unsigned often(double once) {
-    double times = once > 0 ? STRETCH / once + 1 : MOST_RUNS - 1;
-    return times < 1 ? 1 : times > MOST_RUNS - 1 ? MOST_RUNS - 1 : (unsigned)times;
+static unsigned often(double once, double stretch) {
+    double times = once > 0 ? stretch / once + 1 : MOST_RUNS;
+    return times < 1 ? 1 : times > MOST_RUNS ? MOST_RUNS : (unsigned)times;
 }
 
 static void timed(unsigned number, uint32_t mask, const struct program *program, unsigned rounds) {
@@ -176,10 +188,11 @@ static void timed(unsigned number, uint32_t mask, const struct program *program,
     for (unsigned e = 0; e < ENGINES; e++) {
         if (!(mask >> e & 1)) continue;
         engines[e]->begin(program);
-        load_times[e] = often(loads(engines[e], program, 1));
+        double once = loads(engines[e], program, 1);
+        load_times[e] = often(once, STRETCH);
         void *loaded = engines[e]->load(program);
-        run_times[e] = often(runs(engines[e], loaded, program, 1));
-        run_times[e] = often(runs(engines[e], loaded, program, run_times[e]));
+        runs(engines[e], loaded, program, 1);
+        run_times[e] = often(runs(engines[e], loaded, program, MOST_RUNS / 4), SHARE * once);
         engines[e]->unload(loaded);
         engines[e]->end();
     }

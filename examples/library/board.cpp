@@ -27,7 +27,8 @@ int main() {
         byzlab_fault fault{};
         byzlab_outcome outcome{};
         context[0] = static_cast<std::uint8_t>(value);
-        auto status = byzlab_run(filter.data(), filter.size(), context.data(), context.size(), board.data(), &fault, &outcome);
+        auto status = byzlab_run(filter.data(), filter.size(), context.data(), context.size(), board.data(), &fault,
+                                 &outcome);
         if (status != BYZLAB_DONE) {
             std::printf("status %u number %u unit %zu\n", status, fault.number, fault.unit);
             return 1;

@@ -19,8 +19,8 @@ func Run(program []byte, context []byte) (uint64, error) {
 	if len(program) == 0 || len(context) != C.BYZLAB_CONTEXT_BYTES {
 		return 0, errors.New("no program, or a context of another length")
 	}
-	status := C.byzlab_run((*C.uint8_t)(&program[0]), C.size_t(len(program)), (*C.uint8_t)(&context[0]), C.size_t(len(context)),
-		&board[0], &fault, &outcome)
+	status := C.byzlab_run((*C.uint8_t)(&program[0]), C.size_t(len(program)), (*C.uint8_t)(&context[0]),
+		C.size_t(len(context)), &board[0], &fault, &outcome)
 	switch status {
 	case C.BYZLAB_DONE:
 		return uint64(outcome.r0), nil

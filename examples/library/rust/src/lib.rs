@@ -1,5 +1,6 @@
-//! Safe calls of the proved verifier and machine of byzlab. The pointers and lengths that C hands over are made here of slices,
-//! so that nothing of what the header leaves to its caller is left to yours, but for signal handlers and forked children.
+//! Safe calls of the proved verifier and machine of byzlab. The pointers and lengths that C hands over are made here of
+//! slices, so that nothing of what the header leaves to its caller is left to yours, but for signal handlers and forked
+//! children.
 use std::fmt;
 
 /// How many bytes a program is given to read.
