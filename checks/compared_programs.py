@@ -240,6 +240,12 @@ def starts(program):
     return found
 
 
+def computing(program):
+    """The opcodes that neither load, store nor move."""
+    moves = {0x18, 0x95, 0xB4, 0xB7, 0xBC, 0xBF}
+    return frozenset(program[8 * at] for at in starts(program) if program[8 * at] & 7 > 3) - moves
+
+
 def is_jump(opcode):
     return opcode & 7 in (5, 6) and opcode not in (0x85, 0x95, 0x06)
 
