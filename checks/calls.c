@@ -104,6 +104,23 @@ static void run_once(void) {
     free(board);
 }
 
+/* board_swap(0, 5); board_cas(0, 5, 9); board_copy(60, r10 - 32, 4); r6 = word 63; r0 = board_get(0); r0 += r6; exit */
+static const uint8_t exchanges[] = {
+    UNIT(0xb7, 1, 0, 0),  UNIT(0xb7, 2, 0, 5),    UNIT(0x85, 0, 0, 2), UNIT(0xb7, 1, 0, 0),
+    UNIT(0xb7, 2, 0, 5),  UNIT(0xb7, 3, 0, 9),    UNIT(0x85, 0, 0, 4), UNIT(0xb7, 1, 0, 60),
+    UNIT(0xbf, 0xa2, 0, 0), 0x07, 2, 0, 0, 0xe0, 0xff, 0xff, 0xff, UNIT(0xb7, 3, 0, 4), UNIT(0x85, 0, 0, 5),
+    0x79, 0xa6, 0xf8, 0xff, 0, 0, 0, 0, UNIT(0xb7, 1, 0, 0), UNIT(0x85, 0, 0, 1), UNIT(0x0f, 0x60, 0, 0), EXIT,
+};
+
+static void exchange(void) {
+    uint8_t context[BYZLAB_CONTEXT_BYTES] = {0};
+    uint64_t board[BYZLAB_BOARD_WORDS] = {[0] = 1000, [1] = 2000, [63] = 7};
+    struct byzlab_fault fault = {777, 888};
+    struct byzlab_outcome outcome = {111, 222};
+    WANT(byzlab_run(exchanges, sizeof exchanges, context, 4096, board, &fault, &outcome) == BYZLAB_DONE);
+    WANT(outcome.r0 == 16 && outcome.steps == 17 && board[0] == 9 && board[1] == 2000 && board[63] == 7);
+}
+
 static void run_many(void) {
     uint8_t *program = copied(adds, 56), *contexts = calloc(3, BYZLAB_CONTEXT_BYTES);
     struct byzlab_outcome none[3] = {{111, 222}, {111, 222}, {111, 222}}, *outcomes = copied(none, sizeof none);
@@ -155,6 +172,7 @@ static void *all(void *none) {
     misspelt();
     refused();
     run_once();
+    exchange();
     run_many();
     texts();
     WANT(byzlab_version() == BYZLAB_VERSION);
