@@ -1,4 +1,4 @@
-//! Where the library is: BYZLAB_PREFIX, under which it was installed.
+//! Where the library is: `BYZLAB_PREFIX`, under which it was installed.
 fn main() {
     println!("cargo:rerun-if-env-changed=BYZLAB_PREFIX");
     if let Ok(prefix) = std::env::var("BYZLAB_PREFIX") {

@@ -108,7 +108,11 @@ pub fn verify(program: &[u8]) -> Result<(), Error> {
 }
 
 /// Verifies the program and runs it once; the board is left as the program left it.
-pub fn run(program: &[u8], context: &[u8; CONTEXT_BYTES], board: &mut Board) -> Result<Outcome, Error> {
+pub fn run(
+    program: &[u8],
+    context: &[u8; CONTEXT_BYTES],
+    board: &mut Board,
+) -> Result<Outcome, Error> {
     let (mut fault, mut outcome) = (Fault::default(), Outcome::default());
     let status = unsafe {
         byzlab_run(
@@ -147,14 +151,25 @@ fn told(teller: Teller, program: &[u8]) -> (String, Result<(), Error>) {
     let (mut text, mut needed, mut fault) = (Vec::new(), 0, Fault::default());
     loop {
         let room = text.len();
-        let status =
-            unsafe { teller(program.as_ptr(), program.len(), text.as_mut_ptr(), room, &mut needed, &mut fault) };
+        let status = unsafe {
+            teller(
+                program.as_ptr(),
+                program.len(),
+                text.as_mut_ptr(),
+                room,
+                &mut needed,
+                &mut fault,
+            )
+        };
         if status == 1 || status == 3 {
             return (String::new(), fault.result(status, ()));
         }
         if needed <= room {
             text.truncate(needed);
-            return (String::from_utf8_lossy(&text).into_owned(), fault.result(status, ()));
+            return (
+                String::from_utf8_lossy(&text).into_owned(),
+                fault.result(status, ()),
+            );
         }
         text.resize(needed, 0);
     }

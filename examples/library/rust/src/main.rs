@@ -16,7 +16,10 @@ fn main() -> Result<(), Error> {
     for (context, byte) in contexts.iter_mut().zip([7, 0, 255]) {
         context[0] = byte;
     }
-    let each: Vec<u64> = run_many(&FIRST, &contexts)?.iter().map(|outcome| outcome.r0).collect();
+    let each: Vec<u64> = run_many(&FIRST, &contexts)?
+        .iter()
+        .map(|outcome| outcome.r0)
+        .collect();
     println!("r0 {each:?}");
     let (text, verdict) = explain(&UNSET);
     if let Err(error) = verdict {
