@@ -294,15 +294,15 @@ PROBES = [
     "ldb r2, [r1+0]; mov r3, r10; add r3, -200; add r3, r2; stb [r3+0], 1; mov r0, 0; exit",
     "ldd r2, [r1+0]; mov r3, r10; mov r0, 0; jgt r2, 8, +3; sub r3, r2; stb [r3+0], 1; mov r0, 1; exit",
     "ldd r2, [r1+0]; mov r0, 0; jsgt r2, 8, +3; mov r3, r1; add r3, r2; ldb r0, [r3+0]; exit",
-    "ldd r2, [r1+0]; mov r0, 0; jslt r2, 0, +4; jsgt r2, 4095, +3; mul r2, 2; mov r3, r1; add r3, r2; ldb r0, [r3+0];"
+    "ldd r2, [r1+0]; mov r0, 0; jslt r2, 0, +4; jsgt r2, 4095, +3; mul r2, 2; mov r3, r1; add r3, r2; ldb r0, [r3+0]; "
     "exit",
     "ldb r2, [r1+0]; neg r2; mov r3, r1; add r3, r2; ldb r0, [r3+0]; exit",
-    "ldb r2, [r1+0]; neg r2; mov r3, r1; add r3, 255; add r3, r2; ldd r0, [r3+0]; mov r0, 0; ldb r2, [r1+0];"
+    "ldb r2, [r1+0]; neg r2; mov r3, r1; add r3, 255; add r3, r2; ldd r0, [r3+0]; mov r0, 0; ldb r2, [r1+0]; "
     "sub r2, 128; mov r3, r1; add r3, r2; ldb r0, [r3+0]; exit",
     "ldw r2, [r1+0]; mul r2, r2; and r2, 8191; mov r3, r1; add r3, r2; ldb r0, [r3+0]; exit",
     "ldb r2, [r1+0]; ldb r4, [r1+1]; mul r2, r4; mov r3, r1; add r3, r2; ldb r0, [r3+0]; exit",
     "ldd r2, [r1+0]; mov r4, 4095; mov r0, 0; jgt r2, r4, +0; mov r3, r1; add r3, r2; ldb r0, [r3+0]; exit",
-    "ldd r2, [r1+0]; ldd r4, [r1+8]; mov r0, 0; jgt r4, 4095, +4; jge r2, r4, +3; mov r3, r1; add r3, r4;"
+    "ldd r2, [r1+0]; ldd r4, [r1+8]; mov r0, 0; jgt r4, 4095, +4; jge r2, r4, +3; mov r3, r1; add r3, r4; "
     "ldb r0, [r3+1]; exit",
     "ldd r2, [r1+0]; mov r0, 0; jeq r2, 5, +0; mov r3, r1; add r3, r2; ldb r0, [r3+0]; exit",
     "ldd r2, [r1+0]; mod r2, 4097; mov r3, r1; add r3, r2; ldb r0, [r3+0]; exit",
@@ -312,6 +312,19 @@ PROBES = [
     "ldd r2, [r1+0]; rsh r2, 52; xor r2, -1; mov r3, r1; add r3, r2; ldb r0, [r3+0]; exit",
     "stxd [r10-8], r1; stb [r10-8], 0; ldd r2, [r10-8]; ldb r0, [r2+0]; exit",
     "ldd r2, [r1+0]; and r2, 8; mov r3, r10; add r3, -16; add r3, r2; std [r3+0], 1; ldd r0, [r10-8]; exit",
+    "mov r3, r10; add r3, r1; std [r3+0], 1; mov r0, 0; exit",
+    "mov r3, r1; sub r3, r10; ldb r0, [r3+0]; exit",
+    "mov.w r3, r1; ldb r0, [r3+0]; exit",
+    "mov r3, r10; add.w r3, -8; std [r3+0], 1; mov r0, 0; exit",
+    "mov r3, r1; neg r3; ldb r0, [r3+0]; exit",
+    "mov r3, r1; and r3, -256; ldb r0, [r3+0]; exit",
+    "mov r3, r1; lsh r3, 1; ldb r0, [r3+0]; exit",
+    "ldd r2, [r1+0]; mov r3, r1; mul r3, r2; ldb r0, [r3+0]; exit",
+    "mov r2, 8; sub r2, r10; std [r2+0], 1; mov r0, 0; exit",
+    "movsx32 r3, r1; ldb r0, [r3+0]; exit",
+    "mov r3, r1; swap64 r3; ldb r0, [r3+0]; exit",
+    "stxd [r10-8], r1; ldw r2, [r10-8]; ldb r0, [r2+0]; exit",
+    "stxd [r10-8], r1; stb [r10-8], 1; ldd r2, [r10-8]; ldb r0, [r2+0]; exit",
 ]
 
 
