@@ -35,7 +35,7 @@ static uint64_t run(void *loaded, const struct program *program, unsigned times)
 
 /* The code, and the last line of the explanation; of bytes that spell no program the code and the unit. */
 static const char *why(const struct program *program) {
-    static char text[1 << 20], line[160];
+    static char text[1 << 20], line[256];
     struct byzlab_fault fault;
     size_t needed;
     uint32_t status = byzlab_explain(program->bytes, program->length, text, sizeof text - 1, &needed, &fault);
@@ -43,7 +43,7 @@ static const char *why(const struct program *program) {
     if (status != BYZLAB_REFUSED || needed >= sizeof text) return NULL;
     text[needed] = 0;
     const char *last = strrchr(text, '\n');
-    return snprintf(line, sizeof line, "V%u %.150s", fault.number - 100, last ? last + 1 : text), line;
+    return snprintf(line, sizeof line, "V%u %.240s", fault.number - 100, last ? last + 1 : text), line;
 }
 #else
 static const char *absent(void) { return "no --library, and no checks/library"; }

@@ -66,7 +66,7 @@ enum stage { UNASKED, LOADING, REFUSED, RUNNING, ENDED };
 struct answer {
     enum stage stage;
     uint64_t r0;
-    char why[160]; /* of a refusal, with a space before it */
+    char why[264]; /* of a refusal, with a space before it */
 };
 
 struct question {
