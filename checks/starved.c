@@ -6,16 +6,20 @@
 void *__real_malloc(size_t);
 void *__real_realloc(void *, size_t);
 void __real_free(void *);
+/* How many requests are still granted, how many blocks are held, and whether a request was refused. */
 static long left, held;
+static int is_refused;
 
 void *__wrap_malloc(size_t size) {
-    void *block = left-- == 0 ? NULL : __real_malloc(size);
+    if (left-- == 0) return is_refused = 1, NULL;
+    void *block = __real_malloc(size);
     held += block != NULL;
     return block;
 }
 
 void *__wrap_realloc(void *before, size_t size) {
-    void *block = left-- == 0 ? NULL : __real_realloc(before, size);
+    if (left-- == 0) return is_refused = 1, NULL;
+    void *block = __real_realloc(before, size);
     held += block != NULL && before == NULL;
     return block;
 }
@@ -62,10 +66,10 @@ int main(void) {
             memset(board, 0, sizeof board);
             memset(text, '#', sizeof text);
             left = refused;
-            held = 0;
+            held = is_refused = 0;
             status = call(which, &fault, outcomes, &needed);
             left = -1;
-            wrong += held != 0;
+            wrong += held != 0 || is_refused != (status == BYZLAB_MEMORY);
             if (status == BYZLAB_MEMORY)
                 wrong += fault.number != 777 || fault.unit != 888 || needed != 55 || text[0] != '#' || board[3] != 0
                     || (which == 1 && outcomes[0].r0 != 111);
