@@ -1,4 +1,7 @@
-/* Each request for memory is refused in turn. Link with -Wl,--wrap=malloc,--wrap=realloc,--wrap=free. */
+/* Each request for memory is refused in turn. Link with -Wl,--wrap=malloc,--wrap=realloc,--wrap=free.
+ *
+ * A refused request gives status 3, with nothing written, or is done without: then all is as if it had been granted. No
+ * block stays behind. */
 #include <byzlab_sandbox.h>
 #include <stdio.h>
 #include <string.h>
@@ -6,20 +9,18 @@
 void *__real_malloc(size_t);
 void *__real_realloc(void *, size_t);
 void __real_free(void *);
-/* How many requests are still granted, how many blocks are held, and whether a request was refused. */
-static long left, held;
-static int is_refused;
+
+/* How many requests there were, which one is refused, and how many blocks are held. */
+static long requests, refused, held;
 
 void *__wrap_malloc(size_t size) {
-    if (left-- == 0) return is_refused = 1, NULL;
-    void *block = __real_malloc(size);
+    void *block = requests++ == refused ? NULL : __real_malloc(size);
     held += block != NULL;
     return block;
 }
 
 void *__wrap_realloc(void *before, size_t size) {
-    if (left-- == 0) return is_refused = 1, NULL;
-    void *block = __real_realloc(before, size);
+    void *block = requests++ == refused ? NULL : __real_realloc(before, size);
     held += block != NULL && before == NULL;
     return block;
 }
@@ -35,47 +36,68 @@ static const uint8_t program[56] = {
     0x07, 2,    0, 0, 1, 0, 0, 0, 0x85, 0, 0, 0, 3, 0, 0, 0, 0x95,
 };
 static const uint8_t unset[16] = {0xbf, 0x20, 0, 0, 0, 0, 0, 0, 0x95};
-static uint8_t contexts[3 * 4096];
-static uint64_t board[64];
-static char text[4096];
+static const uint8_t contexts[3 * 4096] = {[0] = 9, [4096] = 10};
 
-static uint32_t call(int which, struct byzlab_fault *fault, struct byzlab_outcome *outcomes, size_t *needed) {
+/* All that a call may write. */
+struct written {
+    struct byzlab_fault fault;
+    struct byzlab_outcome outcomes[3];
+    uint64_t board[BYZLAB_BOARD_WORDS];
+    size_t needed;
+    char text[4096];
+};
+
+static uint32_t call(int which, struct written *all) {
+    struct byzlab_fault *fault = &all->fault;
     switch (which) {
     case 0: return byzlab_verify(program, 56, fault);
-    case 1: return byzlab_run(program, 56, contexts, 4096, board, fault, outcomes);
-    case 2: return byzlab_run_many(program, 56, contexts, sizeof contexts, fault, outcomes, 3);
-    case 3: return byzlab_explain(program, 56, text, sizeof text, needed, fault);
-    case 4: return byzlab_explain(unset, 16, text, sizeof text, needed, fault);
-    case 5: return byzlab_disassemble(program, 56, text, sizeof text, needed, fault);
+    case 1: return byzlab_run(program, 56, contexts, 4096, all->board, fault, all->outcomes);
+    case 2: return byzlab_run_many(program, 56, contexts, sizeof contexts, fault, all->outcomes, 3);
+    case 3: return byzlab_explain(program, 56, all->text, sizeof all->text, &all->needed, fault);
+    case 4: return byzlab_explain(unset, 16, all->text, sizeof all->text, &all->needed, fault);
+    case 5: return byzlab_disassemble(program, 56, all->text, sizeof all->text, &all->needed, fault);
     default: return byzlab_verify(unset, 16, fault);
     }
 }
 
+/* Status of a call of which so many requests are granted before one is refused, and what is written. */
+static uint32_t asked(int which, long granted, struct written *all) {
+    memset(all, '#', sizeof *all);
+    refused = granted;
+    requests = held = 0;
+    uint32_t status = call(which, all);
+    refused = -1;
+    return status;
+}
+
+/* Whether nothing is written; of run_many the first outcomes may be. */
+static int is_untouched(int which, const struct written *all) {
+    static struct written none;
+    memset(&none, '#', sizeof none);
+    if (which == 2) memcpy(none.outcomes, all->outcomes, sizeof none.outcomes);
+    return !memcmp(all, &none, sizeof none);
+}
+
 int main(void) {
-    static const char *const names[] = {"byzlab_verify", "byzlab_run", "byzlab_run_many", "byzlab_explain",
-                                        "byzlab_explain, refused", "byzlab_disassemble", "byzlab_verify, refused"};
-    static const uint32_t last[] = {0, 0, 0, 0, 2, 0, 2};
+    static const char *const names[] = {
+        "byzlab_verify",           "byzlab_run",         "byzlab_run_many",        "byzlab_explain",
+        "byzlab_explain, refused", "byzlab_disassemble", "byzlab_verify, refused",
+    };
+    static const uint32_t wanted[] = {0, 0, 0, 0, 2, 0, 2};
+    static struct written full, all;
     int wrong = 0;
     for (int which = 0; which < 7; which++) {
-        uint32_t status = BYZLAB_MEMORY;
-        long refused = 0;
-        for (; status == BYZLAB_MEMORY && refused < 10000; refused++) {
-            struct byzlab_fault fault = {777, 888};
-            struct byzlab_outcome outcomes[3] = {{111, 222}};
-            size_t needed = 55;
-            memset(board, 0, sizeof board);
-            memset(text, '#', sizeof text);
-            left = refused;
-            held = is_refused = 0;
-            status = call(which, &fault, outcomes, &needed);
-            left = -1;
-            wrong += held != 0 || is_refused != (status == BYZLAB_MEMORY);
-            if (status == BYZLAB_MEMORY)
-                wrong += fault.number != 777 || fault.unit != 888 || needed != 55 || text[0] != '#' || board[3] != 0
-                    || (which == 1 && outcomes[0].r0 != 111);
+        uint32_t last = asked(which, -1, &full);
+        long count = requests, without = 0;
+        wrong += last != wanted[which] || count == 0 || held != 0;
+        for (long granted = 0; granted < count; granted++) {
+            uint32_t status = asked(which, granted, &all);
+            int is_done = status == last && !memcmp(&all, &full, sizeof all);
+            wrong += held != 0 || !(is_done || (status == BYZLAB_MEMORY && is_untouched(which, &all)));
+            without += is_done;
         }
-        wrong += status != last[which] || refused < 2;
-        printf("%s: status 3 at each of %ld requests, then %u\n", names[which], refused - 1, status);
+        printf("%s: %ld requests, status 3 at %ld", names[which], count, count - without);
+        printf(", done without at %ld\n", without);
     }
     printf("%s\n", wrong ? "wrong" : "nothing written at 3, each block given back");
     return wrong != 0;
