@@ -1,0 +1,193 @@
+/* Each function and each status once, with the values that are wanted, and what is not to be written; by as many
+ * threads at once as the first word says. */
+#include <byzlab_sandbox.h>
+#include <pthread.h>
+#include <stdatomic.h>
+#include <stdio.h>
+#include <stdlib.h>
+#include <string.h>
+
+static atomic_int wrong;
+#define WANT(what) ((what) ? (void)0 : missed(__LINE__, #what))
+
+static void missed(int line, const char *what) {
+    wrong++;
+    printf("line %d: %s\n", line, what);
+}
+
+/* An instruction: its opcode, its registers, and the low bytes of its offset and its immediate. */
+#define UNIT(opcode, registers, offset, immediate) opcode, registers, offset, 0, immediate, 0, 0, 0
+#define EXIT UNIT(0x95, 0, 0, 0)
+
+static const uint8_t answer[16] = {UNIT(0xb7, 0, 0, 42), EXIT};
+static const uint8_t unset[16] = {UNIT(0xbf, 0x20, 0, 0), EXIT}; /* r0 = r2, which nothing has set */
+
+/* A block of its own for each call, so that what is read or written past its end is seen. */
+static void *copied(const void *bytes, size_t length) {
+    void *block = malloc(length ? length : 1);
+    if (!block) exit(2);
+    return memcpy(block, bytes, length);
+}
+
+/* Status, number and unit of byzlab_verify, which writes the fault at 1 and 2 alone. */
+static void verified(const uint8_t *bytes, size_t length, uint32_t status, uint32_t number, size_t unit) {
+    struct byzlab_fault fault = {777, 888};
+    uint8_t *program = copied(bytes, length);
+    uint32_t got = byzlab_verify(program, length, &fault);
+    int is_told = status == BYZLAB_MISSPELT || status == BYZLAB_REFUSED;
+    WANT(got == status);
+    WANT(fault.number == (is_told ? number : 777));
+    WANT(fault.unit == (is_told ? unit : 888));
+    free(program);
+}
+
+#define VERIFIED(status, number, unit, ...) \
+    verified((const uint8_t[]){__VA_ARGS__}, sizeof((const uint8_t[]){__VA_ARGS__}), status, number, unit)
+
+static void misspelt(void) {
+    static uint8_t long_one[BYZLAB_MOST_BYTES + 8];
+    verified(answer, 16, BYZLAB_DONE, 0, 0);
+    verified(answer, 15, BYZLAB_MISSPELT, BYZLAB_C1_LENGTH, 1);
+    VERIFIED(BYZLAB_MISSPELT, BYZLAB_C2_OPCODE, 0, UNIT(0xff, 0, 0, 42), EXIT);
+    VERIFIED(BYZLAB_MISSPELT, BYZLAB_C3_RESERVED, 1, UNIT(0xb7, 0, 0, 42), UNIT(0x95, 0, 1, 0));
+    VERIFIED(BYZLAB_MISSPELT, BYZLAB_C4_WIDE_CUT, 0, UNIT(0x18, 0, 0, 42));
+    VERIFIED(BYZLAB_MISSPELT, BYZLAB_C5_REGISTER, 0, UNIT(0xb7, 11, 0, 42), EXIT);
+    VERIFIED(BYZLAB_MISSPELT, BYZLAB_C6_LEFT_OUT, 0, UNIT(0xdb, 0, 0, 42), EXIT); /* an atomic */
+    VERIFIED(BYZLAB_MISSPELT, BYZLAB_C7_OPERAND, 0, UNIT(0xbf, 0x10, 3, 0), EXIT); /* a move that extends 3 bits */
+    verified(answer, 0, BYZLAB_MISSPELT, BYZLAB_C8_COUNT, 0);
+    verified(long_one, sizeof long_one, BYZLAB_MISSPELT, BYZLAB_C8_COUNT, 0);
+}
+
+static void refused(void) {
+    VERIFIED(BYZLAB_REFUSED, BYZLAB_V1_BACK_JUMP, 0, 0x05, 0, 0xff, 0xff, 0, 0, 0, 0, EXIT);
+    VERIFIED(BYZLAB_REFUSED, BYZLAB_V2_JUMP_OUT, 0, UNIT(0x05, 0, 9, 0), EXIT);
+    VERIFIED(BYZLAB_REFUSED, BYZLAB_V3_JUMP_IN_WIDE, 0, UNIT(0x05, 0, 1, 0), UNIT(0x18, 0, 0, 0), UNIT(0, 0, 0, 0),
+             EXIT);
+    VERIFIED(BYZLAB_REFUSED, BYZLAB_V4_LAST_NOT_EXIT, 0, UNIT(0xb7, 0, 0, 42));
+    verified(unset, 16, BYZLAB_REFUSED, BYZLAB_V5_UNSET, 0);
+    VERIFIED(BYZLAB_REFUSED, BYZLAB_V6_FRAME_WRITE, 0, UNIT(0xb7, 10, 0, 0), EXIT);
+    VERIFIED(BYZLAB_REFUSED, BYZLAB_V7_POINTER_USE, 0, UNIT(0x27, 1, 0, 2), EXIT);
+    VERIFIED(BYZLAB_REFUSED, BYZLAB_V8_BOUNDS, 0, 0x79, 0x10, 0xf9, 0x0f, 0, 0, 0, 0, EXIT); /* 8 bytes at 4,089 */
+    VERIFIED(BYZLAB_DONE, 0, 0, 0x79, 0x10, 0xf8, 0x0f, 0, 0, 0, 0, EXIT);                   /* 8 bytes at 4,088 */
+    VERIFIED(BYZLAB_REFUSED, BYZLAB_V9_STACK_UNSET, 0, 0x79, 0xa0, 0xf8, 0xff, 0, 0, 0, 0, EXIT);
+    VERIFIED(BYZLAB_REFUSED, BYZLAB_V10_CONTEXT_WRITE, 0, UNIT(0x72, 1, 0, 0), EXIT);
+    VERIFIED(BYZLAB_REFUSED, BYZLAB_V11_HELPER, 0, UNIT(0x85, 0, 0, 99), EXIT);
+    VERIFIED(BYZLAB_REFUSED, BYZLAB_V12_ARGUMENT, 1, UNIT(0xb7, 1, 0, 64), UNIT(0x85, 0, 0, 1), EXIT);
+    VERIFIED(BYZLAB_REFUSED, BYZLAB_V13_EXIT_POINTER, 1, UNIT(0xbf, 0x10, 0, 0), EXIT);
+}
+
+/* r7 = the context; r0 = board_add(3, 5); r6 = the context's first byte; r0 += r6; exit */
+static const uint8_t adds[56] = {
+    UNIT(0xbf, 0x17, 0, 0), UNIT(0xb7, 1, 0, 3),    UNIT(0xb7, 2, 0, 5), UNIT(0x85, 0, 0, 3),
+    UNIT(0x71, 0x76, 0, 0), UNIT(0x0f, 0x60, 0, 0), EXIT,
+};
+
+static void run_once(void) {
+    uint8_t *program = copied(adds, 56), context[BYZLAB_CONTEXT_BYTES] = {9}, *lent = copied(context, sizeof context);
+    uint64_t words[BYZLAB_BOARD_WORDS] = {[3] = 1000, [63] = UINT64_MAX}, *board = copied(words, sizeof words);
+    struct byzlab_fault fault = {777, 888};
+    struct byzlab_outcome outcome = {111, 222};
+    WANT(byzlab_run(program, 56, lent, 4096, board, &fault, &outcome) == BYZLAB_DONE);
+    WANT(outcome.r0 == 1009 && outcome.steps == 7 && board[3] == 1005 && board[63] == UINT64_MAX && board[0] == 0);
+    WANT(byzlab_run(program, 56, lent, 4096, board, &fault, &outcome) == BYZLAB_DONE);
+    WANT(outcome.r0 == 1014 && board[3] == 1010 && fault.number == 777 && fault.unit == 888);
+    outcome.r0 = 111;
+    WANT(byzlab_run(program, 56, lent, 4095, board, &fault, &outcome) == BYZLAB_LENGTH);
+    WANT(byzlab_run(program, 56, lent, 0, board, &fault, &outcome) == BYZLAB_LENGTH);
+    WANT(fault.number == 777 && fault.unit == 888);
+    WANT(byzlab_run(program, 48, lent, 4096, board, &fault, &outcome) == BYZLAB_REFUSED);
+    WANT(outcome.r0 == 111 && board[3] == 1010 && fault.number == BYZLAB_V4_LAST_NOT_EXIT && fault.unit == 5);
+    WANT(byzlab_run(program, 55, lent, 4096, board, &fault, &outcome) == BYZLAB_MISSPELT && fault.unit == 6);
+    WANT(outcome.r0 == 111 && board[3] == 1010 && !memcmp(lent, context, sizeof context));
+    free(program);
+    free(lent);
+    free(board);
+}
+
+/* board_swap(0, 5); board_cas(0, 5, 9); board_copy(60, r10 - 32, 4); r6 = word 63; r0 = board_get(0); r0 += r6; exit */
+static const uint8_t exchanges[] = {
+    UNIT(0xb7, 1, 0, 0),  UNIT(0xb7, 2, 0, 5),    UNIT(0x85, 0, 0, 2), UNIT(0xb7, 1, 0, 0),
+    UNIT(0xb7, 2, 0, 5),  UNIT(0xb7, 3, 0, 9),    UNIT(0x85, 0, 0, 4), UNIT(0xb7, 1, 0, 60),
+    UNIT(0xbf, 0xa2, 0, 0), 0x07, 2, 0, 0, 0xe0, 0xff, 0xff, 0xff, UNIT(0xb7, 3, 0, 4), UNIT(0x85, 0, 0, 5),
+    0x79, 0xa6, 0xf8, 0xff, 0, 0, 0, 0, UNIT(0xb7, 1, 0, 0), UNIT(0x85, 0, 0, 1), UNIT(0x0f, 0x60, 0, 0), EXIT,
+};
+
+static void exchange(void) {
+    uint8_t context[BYZLAB_CONTEXT_BYTES] = {0};
+    uint64_t board[BYZLAB_BOARD_WORDS] = {[0] = 1000, [1] = 2000, [63] = 7};
+    struct byzlab_fault fault = {777, 888};
+    struct byzlab_outcome outcome = {111, 222};
+    WANT(byzlab_run(exchanges, sizeof exchanges, context, 4096, board, &fault, &outcome) == BYZLAB_DONE);
+    WANT(outcome.r0 == 16 && outcome.steps == 17 && board[0] == 9 && board[1] == 2000 && board[63] == 7);
+}
+
+static void run_many(void) {
+    uint8_t *program = copied(adds, 56), *contexts = calloc(3, BYZLAB_CONTEXT_BYTES);
+    struct byzlab_outcome none[3] = {{111, 222}, {111, 222}, {111, 222}}, *outcomes = copied(none, sizeof none);
+    struct byzlab_fault fault = {777, 888};
+    if (!contexts) exit(2);
+    contexts[0] = 9;
+    contexts[4096] = 200;
+    WANT(byzlab_run_many(program, 56, contexts, 3 * 4096, &fault, outcomes, 2) == BYZLAB_LENGTH);
+    WANT(byzlab_run_many(program, 56, contexts, 3 * 4096 - 1, &fault, outcomes, 3) == BYZLAB_LENGTH);
+    WANT(byzlab_run_many(program, 56, contexts, 0, &fault, outcomes, 0) == BYZLAB_DONE && fault.number == 777);
+    WANT(outcomes[0].r0 == 111 && outcomes[2].steps == 222);
+    WANT(byzlab_run_many(program, 56, contexts, 3 * 4096, &fault, outcomes, 3) == BYZLAB_DONE);
+    WANT(outcomes[0].r0 == 9 && outcomes[1].r0 == 200 && outcomes[2].r0 == 0 && outcomes[2].steps == 7);
+    WANT(byzlab_run_many(program, 48, contexts, 0, &fault, outcomes, 0) == BYZLAB_REFUSED && fault.unit == 5);
+    WANT(byzlab_run_many(program, 55, contexts, 3 * 4096, &fault, outcomes, 3) == BYZLAB_MISSPELT && fault.unit == 6);
+    WANT(outcomes[0].r0 == 9 && outcomes[1].r0 == 200);
+    free(program);
+    free(contexts);
+    free(outcomes);
+}
+
+static void texts(void) {
+    static const char whole[] = "mov r0, 42\nexit\n";
+    struct byzlab_fault fault = {777, 888};
+    size_t needed = 0;
+    for (size_t room = 0; room < 40; room++) {
+        char *text = malloc(room ? room : 1);
+        if (!text) exit(2);
+        memset(text, '#', room);
+        needed = 0;
+        WANT(byzlab_disassemble(answer, 16, text, room, &needed, &fault) == BYZLAB_DONE);
+        WANT(needed == sizeof whole - 1);
+        for (size_t i = 0; i < room; i++) WANT(text[i] == (i < needed ? whole[i] : '#'));
+        free(text);
+    }
+    char text[256] = {0};
+    WANT(byzlab_explain(unset, 16, text, sizeof text, &needed, &fault) == BYZLAB_REFUSED);
+    WANT(fault.number == BYZLAB_V5_UNSET && fault.unit == 0 && needed < sizeof text && text[0] == '\n');
+    WANT(strstr(text, "r2 is read, and may be unset") && strlen(text) == needed);
+    fault.number = 777;
+    WANT(byzlab_explain(answer, 16, text, 0, &needed, &fault) == BYZLAB_DONE && fault.number == 777 && needed > 10);
+    needed = 55;
+    WANT(byzlab_explain(answer, 15, text, sizeof text, &needed, &fault) == BYZLAB_MISSPELT && needed == 55);
+    WANT(byzlab_disassemble(answer, 15, text, sizeof text, &needed, &fault) == BYZLAB_MISSPELT && needed == 55);
+    WANT(byzlab_disassemble(unset, 16, text, sizeof text, &needed, &fault) == BYZLAB_DONE);
+}
+
+static void *all(void *none) {
+    misspelt();
+    refused();
+    run_once();
+    exchange();
+    run_many();
+    texts();
+    WANT(byzlab_version() == BYZLAB_VERSION);
+    return none;
+}
+
+int main(int count, char **words) {
+    enum { MOST = 64 };
+    pthread_t threads[MOST];
+    int further = count > 1 ? atoi(words[1]) - 1 : 0;
+    if (further < 0 || further > MOST) return 2;
+    for (int i = 0; i < further; i++)
+        if (pthread_create(threads + i, NULL, all, NULL)) return 2;
+    all(NULL);
+    for (int i = 0; i < further; i++) pthread_join(threads[i], NULL);
+    printf("%s\n", wrong ? "wrong" : "as wanted");
+    return wrong != 0;
+}

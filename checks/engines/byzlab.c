@@ -1,0 +1,58 @@
+/* This project's library. */
+#include "engine.h"
+#ifdef WITH_BYZLAB
+#include <byzlab_sandbox.h>
+#include <stdio.h>
+#include <stdlib.h>
+#include <string.h>
+
+static uint8_t contexts[MOST_RUNS * CONTEXT];
+static struct byzlab_outcome outcomes[MOST_RUNS];
+
+static const char *absent(void) { return NULL; }
+
+static void begin(const struct program *program) {
+    for (size_t i = 0; i < MOST_RUNS; i++) memcpy(contexts + i * CONTEXT, program->context, CONTEXT);
+}
+
+static void end(void) {}
+
+static void *load(const struct program *program) {
+    struct byzlab_fault fault;
+    return byzlab_verify(program->bytes, program->length, &fault) == BYZLAB_DONE ? (void *)program->bytes : NULL;
+}
+
+static void unload(void *loaded) { (void)loaded; }
+
+/* Verifies the program once more, and runs it in so many contexts. */
+static uint64_t run(void *loaded, const struct program *program, unsigned times) {
+    struct byzlab_fault fault;
+    size_t length = (size_t)times * CONTEXT;
+    (void)loaded;
+    if (byzlab_run_many(program->bytes, program->length, contexts, length, &fault, outcomes, times)) abort();
+    return outcomes[times - 1].r0;
+}
+
+/* The code, and the last line of the explanation; of bytes that spell no program the code and the unit. */
+static const char *why(const struct program *program) {
+    static char text[1 << 20], line[256];
+    struct byzlab_fault fault;
+    size_t needed;
+    uint32_t status = byzlab_explain(program->bytes, program->length, text, sizeof text - 1, &needed, &fault);
+    if (status == BYZLAB_MISSPELT) return snprintf(line, sizeof line, "C%u unit %zu", fault.number, fault.unit), line;
+    if (status != BYZLAB_REFUSED || needed >= sizeof text) return NULL;
+    text[needed] = 0;
+    const char *last = strrchr(text, '\n');
+    return snprintf(line, sizeof line, "V%u %.240s", fault.number - 100, last ? last + 1 : text), line;
+}
+#else
+static const char *absent(void) { return "no --library, and no checks/library"; }
+#define begin 0
+#define end 0
+#define load 0
+#define unload 0
+#define run 0
+#define why 0
+#endif
+
+const struct engine byzlab_engine = {"byzlab", absent, begin, end, load, unload, run, why, NULL, 0};

@@ -1,0 +1,32 @@
+"""A refused program, explained, by ctypes. LIBRARY is the path of libbyzlab.so."""
+import ctypes
+import os
+
+
+class Fault(ctypes.Structure):
+    _fields_ = [("number", ctypes.c_uint32), ("unit", ctypes.c_size_t)]
+
+
+library = ctypes.CDLL(os.environ.get("LIBRARY", "libbyzlab.so"))
+SIZE, TEXT = ctypes.c_size_t, ctypes.c_char_p
+for name in ("byzlab_explain", "byzlab_disassemble"):
+    function = getattr(library, name)
+    function.restype = ctypes.c_uint32
+    function.argtypes = [TEXT, SIZE, TEXT, SIZE, ctypes.POINTER(SIZE), ctypes.POINTER(Fault)]
+
+
+def text_of(function, program):
+    """Status, text and fault: asked once for the length, and once for the text."""
+    needed, fault = SIZE(0), Fault()
+    room = ctypes.create_string_buffer(1)
+    function(program, len(program), room, 0, ctypes.byref(needed), ctypes.byref(fault))
+    room = ctypes.create_string_buffer(needed.value + 1)
+    status = function(program, len(program), room, needed.value, ctypes.byref(needed), ctypes.byref(fault))
+    return status, room.raw[: needed.value].decode("ascii"), fault
+
+
+# r0 = r2, which nothing has set; exit
+program = bytes.fromhex("bf20000000000000 9500000000000000")
+status, text, fault = text_of(library.byzlab_explain, program)
+print(f"status {status} number {fault.number} unit {fault.unit}{text}")
+print(text_of(library.byzlab_disassemble, program)[1], end="")

@@ -1,0 +1,3 @@
+module byzlab/answer
+
+go 1.19

@@ -1,0 +1,192 @@
+//! Safe calls of the proved verifier and machine of byzlab. The pointers and lengths that C hands over are made here of
+//! slices, so that nothing of what the header leaves to its caller is left to yours, but for signal handlers and forked
+//! children.
+use std::fmt;
+
+/// How many bytes a program is given to read.
+pub const CONTEXT_BYTES: usize = 4096;
+
+/// The words that the helpers 1 to 5 read and write.
+pub type Board = [u64; 64];
+
+/// Why there is no answer.
+#[derive(Clone, Copy, Debug, PartialEq, Eq)]
+pub enum Error {
+    /// The bytes spell no program: 1 to 8 for C1 to C8, and the unit.
+    Misspelt { number: u32, unit: usize },
+    /// The program is not accepted: 101 to 113 for V1 to V13, and the unit.
+    Refused { number: u32, unit: usize },
+    /// Memory was refused.
+    Memory,
+}
+
+impl fmt::Display for Error {
+    fn fmt(&self, f: &mut fmt::Formatter<'_>) -> fmt::Result {
+        match self {
+            Error::Misspelt { number, unit } => write!(f, "C{number} unit {unit}"),
+            Error::Refused { number, unit } => write!(f, "V{} unit {unit}", number - 100),
+            Error::Memory => f.write_str("out of memory"),
+        }
+    }
+}
+
+impl std::error::Error for Error {}
+
+/// How a run has ended: r0 at the exit, and how many instructions were run.
+#[repr(C)]
+#[derive(Clone, Copy, Debug, Default, PartialEq, Eq)]
+pub struct Outcome {
+    pub r0: u64,
+    pub steps: u32,
+}
+
+#[repr(C)]
+#[derive(Default)]
+struct Fault {
+    number: u32,
+    unit: usize,
+}
+
+impl Fault {
+    fn result<T>(&self, status: u32, value: T) -> Result<T, Error> {
+        let Fault { number, unit } = *self;
+        match status {
+            0 => Ok(value),
+            1 => Err(Error::Misspelt { number, unit }),
+            2 => Err(Error::Refused { number, unit }),
+            _ => Err(Error::Memory),
+        }
+    }
+}
+
+type Teller = unsafe extern "C" fn(*const u8, usize, *mut u8, usize, *mut usize, *mut Fault) -> u32;
+
+extern "C" {
+    fn byzlab_verify(program: *const u8, length: usize, fault: *mut Fault) -> u32;
+    fn byzlab_run(
+        program: *const u8,
+        length: usize,
+        context: *const u8,
+        context_length: usize,
+        board: *mut u64,
+        fault: *mut Fault,
+        outcome: *mut Outcome,
+    ) -> u32;
+    fn byzlab_run_many(
+        program: *const u8,
+        length: usize,
+        contexts: *const u8,
+        contexts_length: usize,
+        fault: *mut Fault,
+        outcomes: *mut Outcome,
+        count: usize,
+    ) -> u32;
+    fn byzlab_explain(
+        program: *const u8,
+        length: usize,
+        text: *mut u8,
+        room: usize,
+        needed: *mut usize,
+        fault: *mut Fault,
+    ) -> u32;
+    fn byzlab_disassemble(
+        program: *const u8,
+        length: usize,
+        text: *mut u8,
+        room: usize,
+        needed: *mut usize,
+        fault: *mut Fault,
+    ) -> u32;
+    fn byzlab_version() -> u32;
+}
+
+/// Whether the program is accepted.
+pub fn verify(program: &[u8]) -> Result<(), Error> {
+    let mut fault = Fault::default();
+    let status = unsafe { byzlab_verify(program.as_ptr(), program.len(), &mut fault) };
+    fault.result(status, ())
+}
+
+/// Verifies the program and runs it once; the board is left as the program left it.
+pub fn run(
+    program: &[u8],
+    context: &[u8; CONTEXT_BYTES],
+    board: &mut Board,
+) -> Result<Outcome, Error> {
+    let (mut fault, mut outcome) = (Fault::default(), Outcome::default());
+    let status = unsafe {
+        byzlab_run(
+            program.as_ptr(),
+            program.len(),
+            context.as_ptr(),
+            context.len(),
+            board.as_mut_ptr(),
+            &mut fault,
+            &mut outcome,
+        )
+    };
+    fault.result(status, outcome)
+}
+
+/// Verifies the program once and runs it in each context, each time with a board of zeros.
+pub fn run_many(program: &[u8], contexts: &[[u8; CONTEXT_BYTES]]) -> Result<Vec<Outcome>, Error> {
+    let mut fault = Fault::default();
+    let mut outcomes = vec![Outcome::default(); contexts.len()];
+    let status = unsafe {
+        byzlab_run_many(
+            program.as_ptr(),
+            program.len(),
+            contexts.as_ptr().cast(),
+            CONTEXT_BYTES * contexts.len(),
+            &mut fault,
+            outcomes.as_mut_ptr(),
+            outcomes.len(),
+        )
+    };
+    fault.result(status, outcomes)
+}
+
+/// The text that a function writes, asked once for its length and once for itself; with its verdict.
+fn told(teller: Teller, program: &[u8]) -> (String, Result<(), Error>) {
+    let (mut text, mut needed, mut fault) = (Vec::new(), 0, Fault::default());
+    loop {
+        let room = text.len();
+        let status = unsafe {
+            teller(
+                program.as_ptr(),
+                program.len(),
+                text.as_mut_ptr(),
+                room,
+                &mut needed,
+                &mut fault,
+            )
+        };
+        if status == 1 || status == 3 {
+            return (String::new(), fault.result(status, ()));
+        }
+        if needed <= room {
+            text.truncate(needed);
+            return (
+                String::from_utf8_lossy(&text).into_owned(),
+                fault.result(status, ()),
+            );
+        }
+        text.resize(needed, 0);
+    }
+}
+
+/// What the verifier knows at each unit, and why it refuses the program, if so; with its verdict.
+pub fn explain(program: &[u8]) -> (String, Result<(), Error>) {
+    told(byzlab_explain, program)
+}
+
+/// The assembly text of the program, accepted or not.
+pub fn disassemble(program: &[u8]) -> Result<String, Error> {
+    let (text, verdict) = told(byzlab_disassemble, program);
+    verdict.map(|()| text)
+}
+
+/// 10,000 * major + 100 * minor + patch.
+pub fn version() -> u32 {
+    unsafe { byzlab_version() }
+}

@@ -1,0 +1,31 @@
+//! A program is verified, run, and run many times; one that is refused is explained and shown.
+use byzlab_sandbox::{disassemble, explain, run, run_many, verify, version, Error, CONTEXT_BYTES};
+
+const ANSWER: [u8; 16] = [0xb7, 0, 0, 0, 42, 0, 0, 0, 0x95, 0, 0, 0, 0, 0, 0, 0];
+/// r0 = the context's first byte; exit
+const FIRST: [u8; 16] = [0x71, 0x10, 0, 0, 0, 0, 0, 0, 0x95, 0, 0, 0, 0, 0, 0, 0];
+/// r0 = r2, which nothing has set; exit
+const UNSET: [u8; 16] = [0xbf, 0x20, 0, 0, 0, 0, 0, 0, 0x95, 0, 0, 0, 0, 0, 0, 0];
+
+fn main() -> Result<(), Error> {
+    println!("version {}", version());
+    verify(&ANSWER)?;
+    let outcome = run(&ANSWER, &[0; CONTEXT_BYTES], &mut [0; 64])?;
+    println!("r0 {} steps {}", outcome.r0, outcome.steps);
+    let mut contexts = vec![[0; CONTEXT_BYTES]; 3];
+    for (context, byte) in contexts.iter_mut().zip([7, 0, 255]) {
+        context[0] = byte;
+    }
+    let each: Vec<u64> = run_many(&FIRST, &contexts)?
+        .iter()
+        .map(|outcome| outcome.r0)
+        .collect();
+    println!("r0 {each:?}");
+    let (text, verdict) = explain(&UNSET);
+    if let Err(error) = verdict {
+        println!("{text}\nrefused {error}");
+    }
+    print!("{}", disassemble(&UNSET)?);
+    println!("{:?}", verify(&ANSWER[..15]));
+    Ok(())
+}
