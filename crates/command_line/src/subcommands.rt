@@ -4,12 +4,7 @@ use crate::subcommand::{Flag, Place, Subcommand};
 const EXPLAIN: &str =
     "Tells what is known of the registers that are read, and what a refused instruction misses";
 
-const EXPLAIN_DECISIONS: &str =
-    "Tells how each decision comes about, or why a file is refused";
-
 const ENTRY: &str = "The function of the object; without it, its only global one";
-
-const OF: &str = "Explains this lieutenant's decision alone";
 
 const BYTECODE: Place<'static> = Place {
     name: "FILE",
@@ -38,10 +33,6 @@ const CHECK: Subcommand<'static> = Subcommand {
             name: "explain",
             help: EXPLAIN,
         },
-        Flag::Switch {
-            name: "trace",
-            help: "Tells each step of the run",
-        },
         Flag::Option {
             name: "context",
             value: "CONTEXT",
@@ -67,10 +58,6 @@ const ASM: Subcommand<'static> = Subcommand {
             name: "raw",
             help: "Writes the bytes themselves",
         },
-        Flag::Switch {
-            name: "explain",
-            help: "Shows a refused line, and says what was wanted there",
-        },
         Flag::Letter {
             name: "target",
             letter: 'o',
@@ -92,10 +79,6 @@ const DIS: Subcommand<'static> = Subcommand {
         Flag::Switch {
             name: "units",
             help: "Prints the unit before each instruction",
-        },
-        Flag::Switch {
-            name: "explain",
-            help: "Says what is wrong with refused bytes",
         },
         Flag::Option {
             name: "entry",
@@ -142,61 +125,25 @@ const TABLE: Subcommand<'static> = Subcommand {
             help: "The commander's number, from 0",
         },
     ],
-    flags: &[
-        Flag::Option {
-            name: "loyal",
-            value: "V",
-            help: "Fills it in as loyal generals would, behind this order",
-        },
-        Flag::Option {
-            name: "lie",
-            value: "G",
-            help: "Leaves what this general says to be edited",
-        },
-    ],
+    flags: &[],
 };
 
 const MUSTER: Subcommand<'static> = Subcommand {
     name: "muster",
     about: "Runs a campaign with a thread for each general and prints its chronicle",
     places: &[SCENARIO],
-    flags: &[
-        Flag::Switch {
-            name: "explain",
-            help: EXPLAIN_DECISIONS,
-        },
-        Flag::Option {
-            name: "of",
-            value: "G",
-            help: OF,
-        },
-    ],
+    flags: &[],
 };
 
 const PLAY: Subcommand<'static> = Subcommand {
     name: "play",
     about: "Plays a campaign and prints its chronicle",
     places: &[SCENARIO],
-    flags: &[
-        Flag::Switch {
-            name: "table",
-            help: "Prints the message table of the campaign in place of its chronicle",
-        },
-        Flag::Switch {
-            name: "explain",
-            help: EXPLAIN_DECISIONS,
-        },
-        Flag::Option {
-            name: "schedule",
-            value: "FILE",
-            help: "The order of the turns; without it each round is punctual",
-        },
-        Flag::Option {
-            name: "of",
-            value: "G",
-            help: OF,
-        },
-    ],
+    flags: &[Flag::Option {
+        name: "schedule",
+        value: "FILE",
+        help: "The order of the turns; without it each round is punctual",
+    }],
 };
 
 const AUDIT: Subcommand<'static> = Subcommand {
@@ -209,17 +156,7 @@ const AUDIT: Subcommand<'static> = Subcommand {
             help: "What `play` or `muster` has printed of this campaign",
         },
     ],
-    flags: &[
-        Flag::Switch {
-            name: "explain",
-            help: EXPLAIN_DECISIONS,
-        },
-        Flag::Option {
-            name: "of",
-            value: "G",
-            help: OF,
-        },
-    ],
+    flags: &[],
 };
 
 /// All subcommands, as help lists them.

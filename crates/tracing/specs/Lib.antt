@@ -1,4 +1,0 @@
-pub mod Values
-pub mod Reads
-pub mod Lines
-pub mod Trace
