@@ -18,9 +18,9 @@ _byzlab() {
     2:help:*) offered=$commands ;;
     *:help:*) offered= ;;
     *:play:-*) offered="--schedule -h --help" ;;
-    *:check:-*) offered="--asm --explain --context -h --help" ;;
+    *:check:-*) offered="--asm --elf --explain --context --entry -h --help" ;;
     *:asm:-*) offered="--raw -o -h --help" ;;
-    *:dis:-*) offered="--units -h --help" ;;
+    *:dis:-*) offered="--elf --units --entry -h --help" ;;
     *:book:-*) offered="--explain --traitors -h --help" ;;
     *:table:-* | *:muster:-* | *:audit:-*) offered="-h --help" ;;
     *) offered= ;;
