@@ -1,0 +1,3 @@
+pub mod Heard
+pub mod Rounds
+pub mod Tables
