@@ -1,6 +1,6 @@
 use Rattle.std.proofs.Common.{sym}
 use Rattle.trace.proofs.AuditLemmas.{found_sound, refused_different, refused_unnamed}
-use Rattle.trace.proofs.auditing.check.Goals as goal
+use Rattle.trace.proofs.auditing.sound_chronicle.Goals as goal
 
 pub returns-in_default-clause-unsound : goal.returns-in_default-clause-unsound
 returns-in_default-clause-unsound c =
