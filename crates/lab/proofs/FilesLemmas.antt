@@ -4,6 +4,8 @@ use Rattle.std.specs.Borrow.{Bor}
 use Rattle.std.specs.Prelude.{true, false, is_some, Option, None, Some, Ok, option_map, unwrap_or}
 use Rattle.insn.specs.declared.insn.Insn.{Insn}
 use Rattle.command_line.specs.Told.{file_of, second_of}
+use Rattle.command_line.specs.declared.tasks.Account.{Account}
+use Rattle.command_line.specs.declared.tasks.Lieutenants.{Lieutenants}
 use Rattle.command_line.specs.declared.tasks.Task.{Task}
 use Rattle.command_line.specs.declared.tasks.Task.TheVariants.{Check, Assemble, Disassemble, DisassembleUnits, Book, ExplainDecisions, Form, Play, Muster, Audit}
 use Rattle.round.specs.Scenario.{Scenario}
@@ -12,7 +14,7 @@ use Rattle.world.specs.declared.schedule.Repeat.{Repeat}
 use Rattle.trace.specs.Schedules.{schedule_told}
 use Rattle.lab.specs.Answers.{ComesTo, GoesOn, IsTriedBy, Prints}
 use Rattle.lab.specs.Hints.{explained_in}
-use Rattle.lab.specs.Campaigns.{IsAudited, IsMustered}
+use Rattle.lab.specs.Campaigns.{IsAudited, IsMustered, IsPlayed}
 use Rattle.lab.specs.Faults.{Prevents, Stops}
 use Rattle.lab.specs.Serving.{AreSecond, AreSecondBytes, Files, IsAnswer, IsAuditOf, IsPlayedBy, IsRefusedLater, IsScheduleOf, IsTrialOf, NoHint, first_name, second_name}
 use Rattle.streams.specs.Reading.{AreBytes}
@@ -44,53 +46,55 @@ second_bytes None bytes are = (None, refl, are)
 second_bytes (Some known) bytes are = (Some bytes, are, refl)
 
 -- an answer by the second file's schedule
-pub answered_played : (task : Task) (files : Files) (first text : List ℕ) (s : Campaign) → AreBytes files.first first
-    → ComesTo task first (answer.Play s) → IsPlayedBy files.second s text → IsAnswer task files text
-answered_played (Check file notation None explained) files first text s are comes by = absurd comes
-answered_played (Check file notation (Some context) explained) files first text s are comes by = absurd comes
-answered_played (Assemble file spelling target) files first text s are comes by = absurd comes
-answered_played (Disassemble file) files first text s are comes by = absurd comes
-answered_played (DisassembleUnits file) files first text s are comes by = absurd comes
-answered_played (Book file) files first text s are comes by = absurd comes
-answered_played (ExplainDecisions file traitors) files first text s are comes by = absurd comes
-answered_played (Form n m c) files first text s are comes by = absurd comes
-answered_played (Play scenario listing) files first text s are comes (schedule, told, played) =
-    (first, are, (told.0, told.1, (s, comes, (schedule, told.2, played))))
-answered_played (Muster scenario) files first text s are comes by = absurd comes
-answered_played (Audit scenario chronicle) files first text s are comes by = absurd comes
+pub answered_played : (task : Task) (files : Files) (first text : List ℕ) (s : Campaign) (told : Account) (why : Option Lieutenants) → AreBytes files.first first
+    → ComesTo task first (answer.Play s told why) → IsPlayedBy files.second s told why text → IsAnswer task files text
+answered_played (Check file notation None explained) files first text s told why are comes by = absurd comes
+answered_played (Check file notation (Some context) explained) files first text s told why are comes by = absurd comes
+answered_played (Assemble file spelling target) files first text s told why are comes by = absurd comes
+answered_played (Disassemble file) files first text s told why are comes by = absurd comes
+answered_played (DisassembleUnits file) files first text s told why are comes by = absurd comes
+answered_played (Book file) files first text s told why are comes by = absurd comes
+answered_played (ExplainDecisions file traitors) files first text s told why are comes by = absurd comes
+answered_played (Form n m c filling) files first text s told why are comes by = absurd comes
+answered_played (Play scenario listing account explained) files first text s told why are comes (schedule, listed, played) =
+    let same = subst (λ (a : Account). IsPlayed s schedule a why text) comes.1 played in
+    (first, are, (listed.0, listed.1, (s, comes.0, (schedule, listed.2, subst (λ (e : Option Lieutenants). IsPlayed s schedule account e text) comes.2 same))))
+answered_played (Muster scenario explained) files first text s told why are comes by = absurd comes
+answered_played (Audit scenario chronicle explained) files first text s told why are comes by = absurd comes
 
 -- an answer of threads
-pub answered_mustered : (task : Task) (files : Files) (first text : List ℕ) (s : Scenario) → AreBytes files.first first
-    → ComesTo task first (answer.Muster s) → IsMustered s text → IsAnswer task files text
-answered_mustered (Check file notation None explained) files first text s are comes mustered = absurd comes
-answered_mustered (Check file notation (Some context) explained) files first text s are comes mustered = absurd comes
-answered_mustered (Assemble file spelling target) files first text s are comes mustered = absurd comes
-answered_mustered (Disassemble file) files first text s are comes mustered = absurd comes
-answered_mustered (DisassembleUnits file) files first text s are comes mustered = absurd comes
-answered_mustered (Book file) files first text s are comes mustered = absurd comes
-answered_mustered (ExplainDecisions file traitors) files first text s are comes mustered = absurd comes
-answered_mustered (Form n m c) files first text s are comes mustered = absurd comes
-answered_mustered (Play scenario listing) files first text s are comes mustered = absurd comes
-answered_mustered (Muster scenario) files first text s are comes mustered =
-    let some = some_second files.second in (first, are, (some.0, some.1, (s, comes, mustered)))
-answered_mustered (Audit scenario chronicle) files first text s are comes mustered = absurd comes
+pub answered_mustered : (task : Task) (files : Files) (first text : List ℕ) (s : Scenario) (why : Option Lieutenants) → AreBytes files.first first
+    → ComesTo task first (answer.Muster s why) → IsMustered s why text → IsAnswer task files text
+answered_mustered (Check file notation None explained) files first text s why are comes mustered = absurd comes
+answered_mustered (Check file notation (Some context) explained) files first text s why are comes mustered = absurd comes
+answered_mustered (Assemble file spelling target) files first text s why are comes mustered = absurd comes
+answered_mustered (Disassemble file) files first text s why are comes mustered = absurd comes
+answered_mustered (DisassembleUnits file) files first text s why are comes mustered = absurd comes
+answered_mustered (Book file) files first text s why are comes mustered = absurd comes
+answered_mustered (ExplainDecisions file traitors) files first text s why are comes mustered = absurd comes
+answered_mustered (Form n m c filling) files first text s why are comes mustered = absurd comes
+answered_mustered (Play scenario listing account explained) files first text s why are comes mustered = absurd comes
+answered_mustered (Muster scenario explained) files first text s why are comes mustered =
+    let some = some_second files.second in (first, are, (some.0, some.1, (s, comes.0, subst (λ (e : Option Lieutenants). IsMustered s e text) comes.1 mustered)))
+answered_mustered (Audit scenario chronicle explained) files first text s why are comes mustered = absurd comes
 
 -- an answer on the second file
-pub answered_audited : (task : Task) (files : Files) (first text : List ℕ) (s : Campaign) → AreBytes files.first first
-    → ComesTo task first (answer.Audit s) → IsAuditOf files.second s text → IsAnswer task files text
-answered_audited (Check file notation None explained) files first text s are comes audit = absurd comes
-answered_audited (Check file notation (Some context) explained) files first text s are comes audit = absurd comes
-answered_audited (Assemble file spelling target) files first text s are comes audit = absurd comes
-answered_audited (Disassemble file) files first text s are comes audit = absurd comes
-answered_audited (DisassembleUnits file) files first text s are comes audit = absurd comes
-answered_audited (Book file) files first text s are comes audit = absurd comes
-answered_audited (ExplainDecisions file traitors) files first text s are comes audit = absurd comes
-answered_audited (Form n m c) files first text s are comes audit = absurd comes
-answered_audited (Play scenario listing) files first text s are comes audit = absurd comes
-answered_audited (Muster scenario) files first text s are comes audit = absurd comes
-answered_audited (Audit scenario chronicle) files first text s are comes (bytes, known, audited) =
+pub answered_audited : (task : Task) (files : Files) (first text : List ℕ) (s : Campaign) (why : Option Lieutenants) → AreBytes files.first first
+    → ComesTo task first (answer.Audit s why) → IsAuditOf files.second s why text → IsAnswer task files text
+answered_audited (Check file notation None explained) files first text s why are comes audit = absurd comes
+answered_audited (Check file notation (Some context) explained) files first text s why are comes audit = absurd comes
+answered_audited (Assemble file spelling target) files first text s why are comes audit = absurd comes
+answered_audited (Disassemble file) files first text s why are comes audit = absurd comes
+answered_audited (DisassembleUnits file) files first text s why are comes audit = absurd comes
+answered_audited (Book file) files first text s why are comes audit = absurd comes
+answered_audited (ExplainDecisions file traitors) files first text s why are comes audit = absurd comes
+answered_audited (Form n m c filling) files first text s why are comes audit = absurd comes
+answered_audited (Play scenario listing account explained) files first text s why are comes audit = absurd comes
+answered_audited (Muster scenario explained) files first text s why are comes audit = absurd comes
+answered_audited (Audit scenario chronicle explained) files first text s why are comes (bytes, known, audited) =
     let second = second_bytes files.second bytes known in
-    (first, are, (second.0, second.1, (s, comes, subst (λ (own : List ℕ). IsAudited s own text) second.2 audited)))
+    let same = subst (λ (own : List ℕ). IsAudited s why own text) second.2 audited in
+    (first, are, (second.0, second.1, (s, comes.0, subst (λ (e : Option Lieutenants). IsAudited s e (unwrap_or second.0 []) text) comes.1 same)))
 
 -- an answer in the second file's setting
 pub answered_tried : (task : Task) (files : Files) (first text : List ℕ) (program : List Insn) → AreBytes files.first first
@@ -107,10 +111,10 @@ answered_tried (Disassemble file) files first text program are comes tried = abs
 answered_tried (DisassembleUnits file) files first text program are comes tried = absurd comes
 answered_tried (Book file) files first text program are comes tried = absurd comes
 answered_tried (ExplainDecisions file traitors) files first text program are comes tried = absurd comes
-answered_tried (Form n m c) files first text program are comes tried = absurd comes
-answered_tried (Play scenario listing) files first text program are comes tried = absurd comes
-answered_tried (Muster scenario) files first text program are comes tried = absurd comes
-answered_tried (Audit scenario chronicle) files first text program are comes tried = absurd comes
+answered_tried (Form n m c filling) files first text program are comes tried = absurd comes
+answered_tried (Play scenario listing account explained) files first text program are comes tried = absurd comes
+answered_tried (Muster scenario explained) files first text program are comes tried = absurd comes
+answered_tried (Audit scenario chronicle explained) files first text program are comes tried = absurd comes
 
 -- why a task has no answer behind a first file with which it goes on
 pub prevented_later : (task : Task) (files : Files) (unread second_unread : Type 0) (first name : List ℕ) (more : FirstAnswer) (fault : Failure)

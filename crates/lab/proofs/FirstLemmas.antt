@@ -113,10 +113,10 @@ checks_in (task.Disassemble file) notation bytes refusal is refuses = absurd cc
 checks_in (task.DisassembleUnits file) notation bytes refusal is refuses = absurd cc
 checks_in (task.Book file) notation bytes refusal is refuses = absurd cc
 checks_in (task.ExplainDecisions file traitors) notation bytes refusal is refuses = absurd cc
-checks_in (task.Form n m c) notation bytes refusal is refuses = absurd cc
-checks_in (task.Play scenario schedule) notation bytes refusal is refuses = absurd cc
-checks_in (task.Muster scenario) notation bytes refusal is refuses = absurd cc
-checks_in (task.Audit scenario chronicle) notation bytes refusal is refuses = absurd cc
+checks_in (task.Form n m c filling) notation bytes refusal is refuses = absurd cc
+checks_in (task.Play scenario schedule account explained) notation bytes refusal is refuses = absurd cc
+checks_in (task.Muster scenario explained) notation bytes refusal is refuses = absurd cc
+checks_in (task.Audit scenario chronicle explained) notation bytes refusal is refuses = absurd cc
 
 -- it cannot be told, since the file has no program
 pub stopped_unspelt : (task : Task) (notation : Notation) (known : Option (List ℕ)) (bytes : List ℕ) (first refusal : Refusal) (file : Bor (List ℕ)) → AreBytes known bytes

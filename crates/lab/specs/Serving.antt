@@ -2,6 +2,8 @@
 use Rattle.std.specs.Prelude.{ℕ, ◌≡◌, ◌≢◌, ◌⊎◌, Bool, List, [], ◌∷◌, ◌++◌, Option, None, Some, IfSome, IsSomeAnd, codes, option_map, unwrap_or}
 use Rattle.std.specs.Io.KnownBytes.{Appends}
 use Rattle.command_line.specs.Told.{file_of, second_of}
+use Rattle.command_line.specs.declared.tasks.Account.{Account}
+use Rattle.command_line.specs.declared.tasks.Lieutenants.{Lieutenants}
 use Rattle.command_line.specs.declared.tasks.Task.{Task}
 use Rattle.insn.specs.declared.insn.Insn.{Insn}
 use Rattle.scenario.specs.declared.messages.Campaign.{Campaign}
@@ -55,12 +57,12 @@ abbrev pub IsScheduleOf : Option (Option (List ℕ)) → List (List Repeat) → 
 IsScheduleOf known schedule = (second : Option (List ℕ)) × AreSecond known second × IsSchedule second schedule
 
 -- the text is that of the campaign by the second file's schedule
-abbrev pub IsPlayedBy : Option (Option (List ℕ)) → Campaign → List ℕ → Type 0
-IsPlayedBy known c text = (schedule : List (List Repeat)) × IsScheduleOf known schedule × IsPlayed c schedule text
+abbrev pub IsPlayedBy : Option (Option (List ℕ)) → Campaign → Account → Option Lieutenants → List ℕ → Type 0
+IsPlayedBy known c account explained text = (schedule : List (List Repeat)) × IsScheduleOf known schedule × IsPlayed c schedule account explained text
 
 -- the lines are those of the audit of the second file
-abbrev pub IsAuditOf : Option (Option (List ℕ)) → Campaign → List ℕ → Type 0
-IsAuditOf known c text = (bytes : List ℕ) × AreSecondBytes known bytes × IsAudited c bytes text
+abbrev pub IsAuditOf : Option (Option (List ℕ)) → Campaign → Option Lieutenants → List ℕ → Type 0
+IsAuditOf known c explained text = (bytes : List ℕ) × AreSecondBytes known bytes × IsAudited c explained bytes text
 
 -- the lines are those of the program's trial in the second file's setting, and behind them its explanation, if it is asked for
 abbrev pub IsTrialOf : Option (Option (List ℕ)) → Bool → List Insn → List ℕ → Type 0
@@ -111,9 +113,9 @@ IsUnmustered refusal = (refusal ≢ Memory) × RefusesMuster refusal
 -- behind a first file with which a task goes on so, it refuses so
 abbrev pub IsRefusedLater : FirstAnswer → Option (Option (List ℕ)) → Refusal → Type 0
 IsRefusedLater (answer.Trial program) known refusal = IsSettingRefused known refusal
-IsRefusedLater (answer.Play c) known refusal = IsScheduleRefused known refusal
-IsRefusedLater (answer.Muster s) known refusal = IsUnmustered refusal
-IsRefusedLater (answer.Audit c) known refusal = IsChronicleRefused c known refusal
+IsRefusedLater (answer.Play c account explained) known refusal = IsScheduleRefused known refusal
+IsRefusedLater (answer.Muster s explained) known refusal = IsUnmustered refusal
+IsRefusedLater (answer.Audit c explained) known refusal = IsChronicleRefused c known refusal
 IsRefusedLater _ known refusal = ⊥
 
 -- the stream has grown by this line, or it failed

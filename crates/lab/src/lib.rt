@@ -26,7 +26,7 @@ pub use auditing::audited;
 pub use checking::{Checked, accepted, accepted_text, check};
 pub use deciding::{decided, explained};
 pub use first_answer::FirstAnswer;
-pub use forming::formed;
+pub use forming::{filled, formed};
 pub use mustering::mustered;
 pub use playing::{any_campaign, campaign, played, schedule};
 pub use refusal::Refusal;

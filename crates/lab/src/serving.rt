@@ -12,7 +12,7 @@ use crate::mustering::mustered;
 use crate::playing::{played, schedule_of};
 use crate::reading::{read_first, read_schedule, read_second};
 use crate::trying::tried_by;
-use command_line::Task;
+use command_line::{Account, Lieutenants, Task};
 use scenario::Campaign;
 use std::alloc::Global;
 use std::sync::Wait;
@@ -111,12 +111,18 @@ where
         Ok(FirstAnswer::Trial(program)) => {
             trial_of(alloc, &program, explained_in(task).is_some(), file, second)
         }
-        Ok(FirstAnswer::Play(campaign)) => play_by(alloc, campaign, file, second),
-        Ok(FirstAnswer::Muster(scenario)) => match mustered(rt, alloc, scenario) {
-            Ok(text) => Ok(text),
-            Err(refusal) => Err(Failure::of(refusal, file)),
-        },
-        Ok(FirstAnswer::Audit(campaign)) => audit_of(alloc, &campaign, file, second),
+        Ok(FirstAnswer::Play(campaign, account, explained)) => {
+            play_by(alloc, campaign, account, explained, file, second)
+        }
+        Ok(FirstAnswer::Muster(scenario, explained)) => {
+            match mustered(rt, alloc, scenario, explained) {
+                Ok(text) => Ok(text),
+                Err(refusal) => Err(Failure::of(refusal, file)),
+            }
+        }
+        Ok(FirstAnswer::Audit(campaign, explained)) => {
+            audit_of(alloc, &campaign, explained, file, second)
+        }
         Err(refusal) => Err(refused(alloc, task, refusal, bytes.as_slice())),
     }
 }
@@ -143,19 +149,21 @@ fn trial_of<'a, R: Source>(
     }
 }
 
-/// The text of the campaign by the schedule of the second file.
+/// The text of the campaign by the schedule of the second file: this account of it, and how these decisions come about.
 fn play_by<'a, R: Source>(
     alloc: Global,
     campaign: Campaign,
+    account: Account,
+    explained: Option<Lieutenants>,
     file: &'a str,
     second: Option<R>,
 ) -> Result<Vec<u8>, Failure<'a>>
-    ensures played { IfOk result (λ text. IsPlayedBy (option_map R.bytes second) campaign text.items) }
+    ensures played { IfOk result (λ text. IsPlayedBy (option_map R.bytes second) campaign account explained text.items) }
     ensures fault { IfErr result
         (Stops (IsSomeAnd second R.fails) (NoHint (IsScheduleRefused (option_map R.bytes second))) file.entry.now) }
 {
     let schedule = scheduled(alloc, file, second)?;
-    match played(alloc, campaign, &schedule) {
+    match played(alloc, campaign, &schedule, account, explained) {
         Ok(text) => Ok(text),
         Err(_) => Err(Failure::Memory),
     }
@@ -183,19 +191,20 @@ fn scheduled<'a, R: Source>(
     }
 }
 
-/// The audit of the second file as a chronicle of the campaign.
+/// The audit of the second file as a chronicle of the campaign, and how these decisions come about.
 fn audit_of<'a, R: Source>(
     alloc: Global,
     campaign: &Campaign,
+    explained: Option<Lieutenants>,
     file: &'a str,
     second: Option<R>,
 ) -> Result<Vec<u8>, Failure<'a>>
-    ensures audited { IfOk result (λ text. IsAuditOf (option_map R.bytes second) campaign.now text.items) }
+    ensures audited { IfOk result (λ text. IsAuditOf (option_map R.bytes second) campaign.now explained text.items) }
     ensures fault { IfErr result
         (Stops (IsSomeAnd second R.fails) (NoHint (IsChronicleRefused campaign.now (option_map R.bytes second))) file.entry.now) }
 {
     let bytes = read_second(alloc, file, second)?;
-    match audited(alloc, campaign, bytes.as_slice()) {
+    match audited(alloc, campaign, bytes.as_slice(), explained) {
         Ok(text) => Ok(text),
         Err(refusal) => Err(Failure::of(refusal, file)),
     }

@@ -8,10 +8,11 @@ use Rattle.round.specs.Letters.{Letter}
 use Rattle.round.specs.Told.{AreLettersOf, AreRoundsOf}
 use Rattle.world.specs.declared.event.Event.{Event}
 use Rattle.world.specs.Accounted.{IsLetterOf, IsAccountedRound, AreAccounted}
-use Rattle.world.specs.Chronicle.{chronicle_of}
-use Rattle.world.specs.Lists.{IsComplete}
+use Rattle.world.specs.Chronicle.{Chronicle, chronicle_of}
+use Rattle.world.specs.Lists.{IsComplete, listed, replayed}
 use Rattle.world.specs.World.{World, oral_kind, opening, run}
 use Rattle.world.proofs.Campaigns.{oral_campaigns}
+use Rattle.world.proofs.Lasting.{lists_are_complete}
 use Rattle.world.proofs.Punctual.{run_scenario}
 use Rattle.world.proofs.Replaying.{runs_are_accounted}
 use Rattle.retold.specs.Retold.{IsWhole}
@@ -67,3 +68,11 @@ proved_runs_are_whole s events inside complete =
       letters = subst (λ (t : Scenario). AreRoundsOf t (run (opening s) events).closed) (sym same) (rounds_are s (run (opening s) events).ledger (run (opening s) events).closed accounted);
       decisions = refl;
     }
+
+-- that of a campaign by a schedule
+pub played_whole : (s : Scenario) (lines : List (List ℕ)) (c : Chronicle) → IsScenario s → c ≡ chronicle_of (run (opening s) (listed s lines)) → IsWhole c
+played_whole s lines c inside is = subst IsWhole (sym is) (proved_runs_are_whole s (listed s lines) inside ((lists_are_complete oral_kind oral_campaigns).listed s lines inside))
+
+-- and that of a replay
+pub replayed_whole : (s : Scenario) (names : List (List ℕ)) (c : Chronicle) → IsScenario s → c ≡ chronicle_of (run (opening s) (replayed s names)) → IsWhole c
+replayed_whole s names c inside is = subst IsWhole (sym is) (proved_runs_are_whole s (replayed s names) inside ((lists_are_complete oral_kind oral_campaigns).replayed s names inside))

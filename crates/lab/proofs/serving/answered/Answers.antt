@@ -52,47 +52,47 @@ returns-in-Ok-Trial-clause-fault g c =
 pub returns-in-Ok-Play-clause-answer : goal.returns-in-Ok-Play-clause-answer
 returns-in-Ok-Play-clause-answer g c =
     let both : Files = files g.R.Source.bytes c.args.first c.args.second in
-    let is : c.in-Ok-Play.field-0 ≡ Play c.in-Ok-Play.campaign = c.in-Ok-Play.field-0-is in
-    let comes : ComesTo c.args.task.now c.in_ok-bytes.bytes.items (Play c.in-Ok-Play.campaign) = rw (c.as_slice.ensures.value, is) at c.in-Ok-Play.ensures.answered in
+    let is : c.in-Ok-Play.field-0 ≡ Play c.in-Ok-Play.campaign c.in-Ok-Play.account c.in-Ok-Play.explained = c.in-Ok-Play.field-0-is in
+    let comes : ComesTo c.args.task.now c.in_ok-bytes.bytes.items (Play c.in-Ok-Play.campaign c.in-Ok-Play.account c.in-Ok-Play.explained) = rw (c.as_slice.ensures.value, is) at c.in-Ok-Play.ensures.answered in
     IfOk-weaker c.play_by.result _ _
-    (λ text by. answered_played c.args.task.now both c.in_ok-bytes.bytes.items text.items c.in-Ok-Play.campaign c.in_ok-bytes.ensures.whole comes by)
+    (λ text by. answered_played c.args.task.now both c.in_ok-bytes.bytes.items text.items c.in-Ok-Play.campaign c.in-Ok-Play.account c.in-Ok-Play.explained c.in_ok-bytes.ensures.whole comes by)
     c.play_by.ensures.played
 
 pub returns-in-Ok-Play-clause-fault : goal.returns-in-Ok-Play-clause-fault
 returns-in-Ok-Play-clause-fault g c =
     let both : Files = files g.R.Source.bytes c.args.first c.args.second in
-    let is : c.in-Ok-Play.field-0 ≡ Play c.in-Ok-Play.campaign = c.in-Ok-Play.field-0-is in
-    let comes : ComesTo c.args.task.now c.in_ok-bytes.bytes.items (Play c.in-Ok-Play.campaign) = rw (c.as_slice.ensures.value, is) at c.in-Ok-Play.ensures.answered in
+    let is : c.in-Ok-Play.field-0 ≡ Play c.in-Ok-Play.campaign c.in-Ok-Play.account c.in-Ok-Play.explained = c.in-Ok-Play.field-0-is in
+    let comes : ComesTo c.args.task.now c.in_ok-bytes.bytes.items (Play c.in-Ok-Play.campaign c.in-Ok-Play.account c.in-Ok-Play.explained) = rw (c.as_slice.ensures.value, is) at c.in-Ok-Play.ensures.answered in
     IfErr-weaker c.play_by.result _ _
     (λ fault why.
-    prevented_later c.args.task.now both _ _ c.in_ok-bytes.bytes.items c.unwrap_or-file.result.now (Play c.in-Ok-Play.campaign) fault c.in_ok-bytes.ensures.whole comes
+    prevented_later c.args.task.now both _ _ c.in_ok-bytes.bytes.items c.unwrap_or-file.result.now (Play c.in-Ok-Play.campaign c.in-Ok-Play.account c.in-Ok-Play.explained) fault c.in_ok-bytes.ensures.whole comes
     (second_named c.args.task.now c.second.result c.unwrap_or-file.result _ c.second.ensures c.unwrap_or-file.ensures refl) why)
     c.play_by.ensures.fault
 
 pub returns-in-Ok-clause-answer : goal.returns-in-Ok-clause-answer
 returns-in-Ok-clause-answer g c =
     let both : Files = files g.R.Source.bytes c.args.first c.args.second in
-    let is : c.in-Ok-Muster.field-0 ≡ Muster c.in-Ok-Muster.scenario = c.in-Ok-Muster.field-0-is in
-    let comes : ComesTo c.args.task.now c.in_ok-bytes.bytes.items (Muster c.in-Ok-Muster.scenario) = rw (c.as_slice.ensures.value, is) at c.in-Ok-Muster.ensures.answered in
-    answered_mustered c.args.task.now both c.in_ok-bytes.bytes.items c.in-Ok.text.items c.in-Ok-Muster.scenario c.in_ok-bytes.ensures.whole comes c.in-Ok.ensures.mustered
+    let is : c.in-Ok-Muster.field-0 ≡ Muster c.in-Ok-Muster.scenario c.in-Ok-Muster.explained = c.in-Ok-Muster.field-0-is in
+    let comes : ComesTo c.args.task.now c.in_ok-bytes.bytes.items (Muster c.in-Ok-Muster.scenario c.in-Ok-Muster.explained) = rw (c.as_slice.ensures.value, is) at c.in-Ok-Muster.ensures.answered in
+    answered_mustered c.args.task.now both c.in_ok-bytes.bytes.items c.in-Ok.text.items c.in-Ok-Muster.scenario c.in-Ok-Muster.explained c.in_ok-bytes.ensures.whole comes c.in-Ok.ensures.mustered
 
 pub returns-in-Ok-Audit-clause-answer : goal.returns-in-Ok-Audit-clause-answer
 returns-in-Ok-Audit-clause-answer g c =
     let both : Files = files g.R.Source.bytes c.args.first c.args.second in
-    let is : c.in-Ok-Audit.field-0 ≡ Audit c.in-Ok-Audit.campaign = c.in-Ok-Audit.field-0-is in
-    let comes : ComesTo c.args.task.now c.in_ok-bytes.bytes.items (Audit c.in-Ok-Audit.campaign) = rw (c.as_slice.ensures.value, is) at c.in-Ok-Audit.ensures.answered in
+    let is : c.in-Ok-Audit.field-0 ≡ Audit c.in-Ok-Audit.campaign c.in-Ok-Audit.explained = c.in-Ok-Audit.field-0-is in
+    let comes : ComesTo c.args.task.now c.in_ok-bytes.bytes.items (Audit c.in-Ok-Audit.campaign c.in-Ok-Audit.explained) = rw (c.as_slice.ensures.value, is) at c.in-Ok-Audit.ensures.answered in
     IfOk-weaker c.audit_of.result _ _
-    (λ text audit. answered_audited c.args.task.now both c.in_ok-bytes.bytes.items text.items c.in-Ok-Audit.campaign c.in_ok-bytes.ensures.whole comes audit)
+    (λ text audit. answered_audited c.args.task.now both c.in_ok-bytes.bytes.items text.items c.in-Ok-Audit.campaign c.in-Ok-Audit.explained c.in_ok-bytes.ensures.whole comes audit)
     c.audit_of.ensures.audited
 
 pub returns-in-Ok-Audit-clause-fault : goal.returns-in-Ok-Audit-clause-fault
 returns-in-Ok-Audit-clause-fault g c =
     let both : Files = files g.R.Source.bytes c.args.first c.args.second in
-    let is : c.in-Ok-Audit.field-0 ≡ Audit c.in-Ok-Audit.campaign = c.in-Ok-Audit.field-0-is in
-    let comes : ComesTo c.args.task.now c.in_ok-bytes.bytes.items (Audit c.in-Ok-Audit.campaign) = rw (c.as_slice.ensures.value, is) at c.in-Ok-Audit.ensures.answered in
+    let is : c.in-Ok-Audit.field-0 ≡ Audit c.in-Ok-Audit.campaign c.in-Ok-Audit.explained = c.in-Ok-Audit.field-0-is in
+    let comes : ComesTo c.args.task.now c.in_ok-bytes.bytes.items (Audit c.in-Ok-Audit.campaign c.in-Ok-Audit.explained) = rw (c.as_slice.ensures.value, is) at c.in-Ok-Audit.ensures.answered in
     IfErr-weaker c.audit_of.result _ _
     (λ fault why.
-    prevented_later c.args.task.now both _ _ c.in_ok-bytes.bytes.items c.unwrap_or-file.result.now (Audit c.in-Ok-Audit.campaign) fault c.in_ok-bytes.ensures.whole comes
+    prevented_later c.args.task.now both _ _ c.in_ok-bytes.bytes.items c.unwrap_or-file.result.now (Audit c.in-Ok-Audit.campaign c.in-Ok-Audit.explained) fault c.in_ok-bytes.ensures.whole comes
     (second_named c.args.task.now c.second.result c.unwrap_or-file.result _ c.second.ensures c.unwrap_or-file.ensures refl) why)
     c.audit_of.ensures.fault
 
