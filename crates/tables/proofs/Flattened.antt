@@ -1,21 +1,13 @@
 -- The text of a table, place by place.
 use Rattle.std.proofs.Common.{ℕ, zero, suc, ◌+◌, ◌<◌, ◌≡◌, true, List, [], ◌∷◌, ◌++◌, refl, sym, ap, ◌∙◌, append-nil}
 use Rattle.std.specs.List.{flat_map, range_with_len, AllByRecursion}
-use Rattle.std.proofs.lemmas.Grind.{flat_map-append}
 use Rattle.combine.specs.declared.chosen.Rule.{Rule}
 use Rattle.label.specs.Labels.{others}
 use Rattle.label.specs.Oral.{Messages}
 use Rattle.book.specs.Explained.{dotted}
+use Rattle.book.proofs.FormLemmas.{flat_flat, flat_same}
 use Rattle.book.proofs.Places.{Place, places, places_from, is_place_of, are_places}
 use Rattle.tables.specs.Written.{Marking, first_line, line_of, lines_from, mark_of, telling, table_text, written}
-
-pub flat_flat : (G : Place → List ℕ) (F : ℕ → List Place) (xs : List ℕ) → flat_map G (flat_map F xs) ≡ flat_map (λ x. flat_map G (F x)) xs
-flat_flat G F [] = refl
-flat_flat G F (x ∷ xs) = flat_map-append G (F x) (flat_map F xs) ∙ ap (λ ys. flat_map G (F x) ++ ys) (flat_flat G F xs)
-
-flat_same : (F G : ℕ → List ℕ) (xs : List ℕ) → ((x : ℕ) → F x ≡ G x) → flat_map F xs ≡ flat_map G xs
-flat_same F G [] h = refl
-flat_same F G (x ∷ xs) h = rw (h x, flat_same F G xs h) refl
 
 -- the line of a place
 abbrev pub placed : Marking → Place → List ℕ

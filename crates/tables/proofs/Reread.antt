@@ -13,17 +13,17 @@ use Rattle.label.specs.Space.{begins_with}
 use Rattle.label.proofs.Same.{om-same}
 use Rattle.text.specs.Stop.{feed}
 use Rattle.text.specs.Parts.{lines_of}
-use Rattle.text.proofs.BytesLemmas.{all-weaker}
 use Rattle.text.proofs.CutLemmas.{Lacks}
 use Rattle.book.specs.declared.message.Message.{Message}
 use Rattle.book.specs.Table.{MessageTable, AreNumbersWithin, is_about, told}
 use Rattle.book.specs.Decisions.{decision_of}
 use Rattle.book.specs.Explained.{dotted}
 use Rattle.book.specs.Grammar.{is_place, is_within, message_of, checked, with_message, lines_told, table_told}
+use Rattle.book.proofs.FormLemmas.{AreFew, begun_some, few_all, lines_read, message_read, tell}
 use Rattle.book.proofs.Places.{Place, places, is_in, AllDiffer, fits, is_place_of, are_places, places_differ, all_found}
 use Rattle.tables.specs.Written.{first_line, line_of, mark_of, telling, table_text}
 use Rattle.tables.specs.Laws.{AreOrders, IsTableOf, TablesAreRead}
-use Rattle.tables.proofs.Telling.{AreFew, tell, tell_of, message_read, tell_lacks, head, head_read, head_lacks, lines_read}
+use Rattle.tables.proofs.Telling.{tell_of, tell_lacks, head, head_read, head_lacks}
 use Rattle.tables.proofs.Flattened.{placed, written_is}
 
 -- the message of a place
@@ -68,13 +68,6 @@ record IsSmall (x : Message) : Type 0 where
   few : AreFew x.label
   receiver : x.receiver < 13
   order : x.order < 2 ^ 32
-
-begun_some : (c : ℕ) (w : List ℕ) → begins_with c w ≡ true → (g : ℕ) × (gs : List ℕ) × (w ≡ g ∷ gs)
-begun_some c [] e = absurd (true≢false (sym e))
-begun_some c (x ∷ xs) e = (x, xs, refl)
-
-few_all : (n : ℕ) (w : List ℕ) → n ≤ 13 → list_all (λ x. nat_lt x n) w ≡ true → AreFew w
-few_all n w l h = all-weaker (λ x. nat_lt x n) (λ x. nat_lt x 13) (λ x i. let j : x < n = ltb-true x n i in lt-ltb x 13 (omega arith)) w h
 
 small : (n m c : ℕ) (z : Place) (v : ℕ) → n ≤ 13 → v < 2 ^ 32 → is_place_of n m c z.0 z.1 ≡ true → IsSmall (message z v)
 small n m c z v l lv e =
