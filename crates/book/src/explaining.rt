@@ -48,7 +48,8 @@ pub fn explain_one(
     if is_lieutenant(table, general) {
         push_lieutenant(alloc, &mut lines, table, traitors, general)?;
     }
-    push_conditions(alloc, &mut lines, table, &judge(table, traitors))?;
+    let met = judge(table, traitors);
+    push_conditions(alloc, &mut lines, table, &met)?;
     Ok(lines)
 }
 
