@@ -4,7 +4,7 @@ use crate::playing::played;
 use crate::signing;
 use crate::writer::{Failure, Writer};
 use anyhow::{Result, bail};
-use command_line::Task;
+use command_line::{Account, Task};
 use lab::serve;
 use signed::SignedChronicle;
 use std::alloc::Global;
@@ -115,6 +115,8 @@ fn is_told<R: Threads + Wait + Sync>(
     let task = Task::Play {
         scenario: String::from_str(alloc, "seven.toml")?,
         schedule: None,
+        account: Account::Chronicle,
+        explained: None,
     };
     let mut faults = Vec::new(alloc);
     let status = serve(rt, alloc, &task, scenario, None, sink, &mut faults);

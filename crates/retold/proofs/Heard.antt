@@ -16,7 +16,7 @@ use Rattle.tables.specs.Hearing.{heard}
 use Rattle.tables.proofs.Hearing.{heard_at, value_told}
 
 -- none of the first trees is the general's
-none_upto : (p : ℕ) (trees : List LieutenantTree) (i : ℕ) → ((j : ℕ) (t : LieutenantTree) → j < i → slice_get trees j ≡ Some t → t.general == p ≡ false) → find (λ t. t.general == p) (take i trees) ≡ None
+none_upto : (p : ℕ) (trees : List LieutenantTree) (i : ℕ) → ((j : ℕ) (t : LieutenantTree) → j < i → slice_get trees j ≡ Some t → (t.general == p) ≡ false) → find (λ t. t.general == p) (take i trees) ≡ None
 none_upto p [] zero h = refl
 none_upto p [] (suc i) h = refl
 none_upto p (u ∷ trees) zero h = refl

@@ -137,7 +137,7 @@ found_here p (u ∷ trees) (suc i) t none at e = elim (cases_Bool (u.general == 
       ∙ found_here p trees i t (sym (cond-false (u.general == p) (Some u) (find (λ v. v.general == p) (take i trees)) apart) ∙ none) at e
 ]
 
-pub none_more : (p : ℕ) (trees : List LieutenantTree) (i : ℕ) (t : LieutenantTree) → find (λ u. u.general == p) (take i trees) ≡ None → slice_get trees i ≡ Some t → t.general == p ≡ false → find (λ u. u.general == p) (take (suc i) trees) ≡ None
+pub none_more : (p : ℕ) (trees : List LieutenantTree) (i : ℕ) (t : LieutenantTree) → find (λ u. u.general == p) (take i trees) ≡ None → slice_get trees i ≡ Some t → (t.general == p) ≡ false → find (λ u. u.general == p) (take (suc i) trees) ≡ None
 none_more p [] i t none at e = cc
 none_more p (u ∷ trees) zero t none at e =
     let same : u ≡ t = cc in

@@ -2,7 +2,7 @@
 use Rattle.std.proofs.Common.{ℕ, suc, ◌+◌, ◌^◌, ◌<◌, ◌≤◌, ◌≡◌, ◌≢◌, Bool, true, false, not, ◌&&◌, ◌||◌, cond, List, [], ◌∷◌, ◌++◌, map, length, refl, sym, ap, ◌∙◌, arith, inl, inr, append_assoc, append-nil, Option, None, Some}
 use Rattle.std.specs.Prelude.{◌==◌, nat_lt, nat_le, bytes_eq, find, option_map, Ok}
 use Rattle.std.specs.List.{flat_map, list_all, list_any, AllByRecursion}
-use Rattle.std.proofs.lemmas.Bool.{cases_Bool, cond-true, cond-false, and_parts, and_from, or_from, eqb-true, lt-ltb, ltb-true, le-leb, leb-true, true≢false, eq-eqb}
+use Rattle.std.proofs.lemmas.Bool.{cases_Bool, cond-true, cond-false, and_parts, and_from, or_from, eqb-true, lt-ltb, ltb-true, le-leb, leb-true, ne_eqb, eq-eqb}
 use Rattle.std.proofs.lemmas.List.Folds.{list_any-append}
 use Rattle.std.proofs.lemmas.Slice.Eq.{bytes_eq-Decides}
 use Rattle.combine.specs.declared.chosen.Rule.{Rule}
@@ -147,7 +147,7 @@ lines_are_told (x ∷ xs) t number places smalls apart new =
     rw good (rest ∙ ap (λ ms. Ok (record t { messages = ms })) (append_assoc t.messages (x ∷ []) xs))
 
 -- the place itself
-same_place : (z : Place) (w : List ℕ) (p : ℕ) → z.1 == p && bytes_eq z.0 w ≡ true → (z.0 ≡ w) × (z.1 ≡ p)
+same_place : (z : Place) (w : List ℕ) (p : ℕ) → (z.1 == p && bytes_eq z.0 w) ≡ true → (z.0 ≡ w) × (z.1 ≡ p)
 same_place z w p it =
     let both = and_parts (z.1 == p) (bytes_eq z.0 w) it in
     ((bytes_eq-Decides z.0 w).0 both.1, eqb-true z.1 p both.0)
@@ -204,10 +204,7 @@ pub first_label : (n c : ℕ) → c < n → IsLabel n c (c ∷ [])
 first_label n c l = record { first = refl; below = (l, tt); distinct = refl }
 
 pub apart_first : (c p : ℕ) → p ≢ c → on (c ∷ []) p ≡ false
-apart_first c p ne = elim (cases_Bool (on (c ∷ []) p)) [
-  | inl it ↦ elim (cases_Bool (c == p)) [ inl same ↦ absurd (ne (sym (eqb-true c p same))) | inr fails ↦ absurd (true≢false (sym it ∙ or_from (c == p) false fails refl)) ]
-  | inr off ↦ off
-]
+apart_first c p ne = or_from (c == p) false (ne_eqb c p (λ e. ne (sym e))) refl
 
 -- decisions read no more than what is told at places
 pub decides_same : (f : List ℕ → ℕ) (n m c p : ℕ) (M N : Messages) → c < n → p < n → p ≢ c → ((w : List ℕ) (q : ℕ) → is_place_of n m c w q ≡ true → M w q ≡ N w q) → om f n M m (c ∷ []) p ≡ om f n N m (c ∷ []) p

@@ -6,6 +6,7 @@ use crate::mark::{Mark, Marks};
 use label::Label;
 
 /// All tell this order, and what the liar tells is open.
+#[derive(Clone, Copy)]
 pub(crate) struct LoyalMarks {
     pub(crate) order: u32,
     pub(crate) liar: Option<u8>,

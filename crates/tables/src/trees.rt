@@ -37,6 +37,7 @@ pub fn table_of(
 }
 
 /// Each lieutenant's tree has what he was told.
+#[derive(Clone, Copy)]
 struct TreeMarks<'a> {
     trees: &'a [Tree],
 }
