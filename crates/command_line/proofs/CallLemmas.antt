@@ -85,10 +85,10 @@ names_well told (ExplainDecisions file traitors) says = by_value told.value told
         → not (is_named (codes "book") told.name) || option_map_or (λ word. is_some (generals_in word)) value true ≡ true
     by_value None switched is name = rw name refl
     by_value (Some word) switched is name = rw (name, is) refl
-names_well told (Form n m c) says = rw says refl
-names_well told (Play scenario schedule) says = rw says refl
-names_well told (Muster scenario) says = rw says refl
-names_well told (Audit scenario chronicle) says = rw says refl
+names_well told (Form n m c filling) says = rw says refl
+names_well told (Play scenario schedule account explained) says = rw says refl
+names_well told (Muster scenario explained) says = rw says refl
+names_well told (Audit scenario chronicle explained) says = rw says refl
 
 pub says_asked : (words : List Text) (told : Told) (task : Task) → spelt words ≡ Some told → Says told task → asked words ≡ Some told
 says_asked words told task is says = let well : names_generals told ≡ true = names_well told task says in rw (is, well) refl

@@ -84,11 +84,11 @@ Says told (Disassemble file) = told ≡ one_file (codes "dis") (string_bytes fil
 Says told (DisassembleUnits file) = told ≡ one_file_with (codes "dis") true None (string_bytes file)
 Says told (Book file) = told ≡ one_file (codes "book") (string_bytes file)
 Says told (ExplainDecisions file traitors) = IsExplained told (string_bytes file) traitors.items
-Says told (Form n m c) = told ≡ formed (string_bytes n) (string_bytes m) (string_bytes c)
-Says told (Play scenario schedule) =
+Says told (Form n m c filling) = told ≡ formed (string_bytes n) (string_bytes m) (string_bytes c)
+Says told (Play scenario schedule account explained) =
     told ≡ played (option_map string_bytes schedule) (string_bytes scenario)
-Says told (Muster scenario) = told ≡ one_file (codes "muster") (string_bytes scenario)
-Says told (Audit scenario chronicle) = told ≡ audited (string_bytes scenario) (string_bytes chronicle)
+Says told (Muster scenario explained) = told ≡ one_file (codes "muster") (string_bytes scenario)
+Says told (Audit scenario chronicle explained) = told ≡ audited (string_bytes scenario) (string_bytes chronicle)
 
 -- the names of the task's files: of its only or first, of the second, and of the one that it writes
 abbrev pub file_of : Task → Option Text
@@ -98,15 +98,15 @@ file_of (Disassemble file) = Some (string_bytes file)
 file_of (DisassembleUnits file) = Some (string_bytes file)
 file_of (Book file) = Some (string_bytes file)
 file_of (ExplainDecisions file traitors) = Some (string_bytes file)
-file_of (Form n m c) = None
-file_of (Play scenario schedule) = Some (string_bytes scenario)
-file_of (Muster scenario) = Some (string_bytes scenario)
-file_of (Audit scenario chronicle) = Some (string_bytes scenario)
+file_of (Form n m c filling) = None
+file_of (Play scenario schedule account explained) = Some (string_bytes scenario)
+file_of (Muster scenario explained) = Some (string_bytes scenario)
+file_of (Audit scenario chronicle explained) = Some (string_bytes scenario)
 
 abbrev pub second_of : Task → Option Text
 second_of (Check file notation context explained) = option_map string_bytes context
-second_of (Play scenario schedule) = option_map string_bytes schedule
-second_of (Audit scenario chronicle) = Some (string_bytes chronicle)
+second_of (Play scenario schedule account explained) = option_map string_bytes schedule
+second_of (Audit scenario chronicle explained) = Some (string_bytes chronicle)
 second_of _ = None
 
 abbrev pub target_of : Task → Option Text

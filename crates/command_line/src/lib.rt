@@ -8,4 +8,4 @@ mod reading;
 mod tasks;
 
 pub use reading::task;
-pub use tasks::{Notation, Spelling, Task, TaskError};
+pub use tasks::{Account, Filling, Lieutenants, Notation, Spelling, Task, TaskError};

@@ -9,7 +9,7 @@ ghost use Rattle.command_line.specs.Met.{told_by};
 ghost use Rattle.command_line.specs.Told.{IsRefusedWord, Says, is_assembly, is_raw};
 
 use crate::generals::{GeneralsError, generals};
-use crate::tasks::{Notation, Spelling, Task, TaskError};
+use crate::tasks::{Account, Notation, Spelling, Task, TaskError};
 use clap::ArgMatches;
 use std::alloc::{AllocError, Global};
 
@@ -79,15 +79,22 @@ impl<'a> Met<'a> {
                 generals: file,
                 bound: required(alloc, self.second)?,
                 commander: required(alloc, self.third)?,
+                filling: None,
             },
             "play" => Task::Play {
                 scenario: file,
                 schedule: copied(alloc, self.second)?,
+                account: Account::Chronicle,
+                explained: None,
             },
-            "muster" => Task::Muster(file),
+            "muster" => Task::Muster {
+                scenario: file,
+                explained: None,
+            },
             "audit" => Task::Audit {
                 scenario: file,
                 chronicle: required(alloc, self.second)?,
+                explained: None,
             },
             _ => unreachable!(),
         })

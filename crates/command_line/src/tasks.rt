@@ -28,23 +28,30 @@ pub enum Task {
         table: String,
         traitors: Vec<u8>,
     },
-    /// Print a message table to fill in, for these numbers of a campaign.
+    /// Print a message table for these numbers of a campaign: to fill in, or filled in.
     Form {
         generals: String,
         bound: String,
         commander: String,
+        filling: Option<Filling>,
     },
     /// Play a campaign, by the schedule of a second file where one is named.
     Play {
         scenario: String,
         schedule: Option<String>,
+        account: Account,
+        explained: Option<Lieutenants>,
     },
     /// Run a campaign with a thread for each general.
-    Muster(String),
+    Muster {
+        scenario: String,
+        explained: Option<Lieutenants>,
+    },
     /// Replay the chronicle of a campaign.
     Audit {
         scenario: String,
         chronicle: String,
+        explained: Option<Lieutenants>,
     },
 }
 
@@ -66,6 +73,32 @@ pub enum Spelling {
     Raw,
 }
 
+/// How a message table is filled in: as loyal generals would, behind this order of the commander.
+#[derive(Clone, Copy, Debug, PartialEq, Eq)]
+pub struct Filling {
+    pub order: u32,
+    /// The general whose lines are left to be edited.
+    pub liar: Option<u8>,
+}
+
+/// How a campaign that is played is told.
+#[derive(Clone, Copy, Debug, PartialEq, Eq)]
+pub enum Account {
+    /// By its chronicle.
+    Chronicle,
+    /// By its message table.
+    Table,
+}
+
+/// Whose decisions of a campaign are explained.
+#[derive(Clone, Copy, Debug, PartialEq, Eq)]
+pub enum Lieutenants {
+    /// Those of all lieutenants.
+    All,
+    /// That of this one.
+    One(u8),
+}
+
 impl Task {
     ghost use Rattle.std.specs.Prelude.{◌≡◌, option_map};
     ghost use Rattle.command_line.specs.Told.{file_of, second_of, target_of};
@@ -82,7 +115,7 @@ impl Task {
             | Task::Book(file)
             | Task::ExplainDecisions { table: file, .. }
             | Task::Play { scenario: file, .. }
-            | Task::Muster(file)
+            | Task::Muster { scenario: file, .. }
             | Task::Audit { scenario: file, .. } => Some(file.as_str()),
             Task::Form { .. } => None,
         }

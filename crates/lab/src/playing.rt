@@ -63,7 +63,9 @@ pub(crate) fn asked_campaign(
 {
     match (account, explained) {
         (Account::Chronicle, None) => any_campaign(alloc, bytes),
-        _ => Ok(Campaign::Oral(campaign(alloc, bytes)?)),
+        (Account::Chronicle, Some(_)) | (Account::Table, _) => {
+            Ok(Campaign::Oral(campaign(alloc, bytes)?))
+        }
     }
 }
 
