@@ -1,5 +1,5 @@
 -- Texts of several parts.
-use Rattle.std.proofs.Common.{ℕ, ◌≡◌, Bool, true, false, List, [], ◌∷◌, ◌++◌, refl, ap, ◌∙◌, append_assoc}
+use Rattle.std.proofs.Common.{ℕ, ◌≡◌, Bool, List, [], ◌∷◌, ◌++◌, refl, ap, ◌∙◌, append_assoc}
 use Rattle.std.specs.Prelude.{Result, Ok, Err, OnOk, is_ok, if◌then◌else◌, codes}
 use Rattle.std.specs.Fmt.{decimal}
 use Rattle.std.specs.List.{flat_map}
@@ -8,7 +8,7 @@ use Rattle.book.specs.declared.conditions.Conditions.{Conditions}
 use Rattle.book.specs.Table.{MessageTable}
 use Rattle.book.specs.Conditions.{judged}
 use Rattle.book.specs.Decisions.{decision_of}
-use Rattle.book.specs.Explained.{yes_no, enough_words, few_words, enough_part, few_part, head_line, list_lines, decision_line, lieutenant_lines, bound_line, alike_line, obedience_line, condition_lines, explained, explained_one, is_lieutenant}
+use Rattle.book.specs.Explained.{yes_no, enough_words, few_words, enough_part, few_part, head_line, list_lines, decision_line, lieutenant_lines, bound_line, alike_line, obedience_line, condition_lines, explained}
 
 -- a push that succeeded
 pub pushed : {E : Type 0} (r : Result (Unit {0}) E) (new old more : List ℕ) → new ≡ (if is_ok r then old ++ more else old) → OnOk r (new ≡ old ++ more)
@@ -39,18 +39,6 @@ pub explained_whole : (t : MessageTable) (traitors : List ℕ) (j : ℕ) (met : 
     → new ≡ lines ++ condition_lines t met → new ≡ explained t traitors
 unfolding explained
 explained_whole t traitors j met lines new all el em e = rw (e, el, em, all) refl
-
--- those of one general, where he is a lieutenant
-pub one_lieutenant : (t : MessageTable) (traitors : List ℕ) (g : ℕ) (met : Conditions) (lines new : List ℕ) → is_lieutenant t g ≡ true
-    → lines ≡ lieutenant_lines t traitors g → met ≡ judged t traitors → new ≡ lines ++ condition_lines t met → new ≡ explained_one t traitors g
-unfolding explained_one
-one_lieutenant t traitors g met lines new is el em e = rw (e, el, em, is) refl
-
--- and where he is none
-pub no_lieutenant : (t : MessageTable) (traitors : List ℕ) (g : ℕ) (met : Conditions) (new : List ℕ) → is_lieutenant t g ≡ false
-    → met ≡ judged t traitors → new ≡ [] ++ condition_lines t met → new ≡ explained_one t traitors g
-unfolding explained_one
-no_lieutenant t traitors g met new is em e = rw (e, em, is) refl
 
 -- the parts of the bound's line, as they are printed
 pub enough_is : (t : MessageTable) (met : Conditions) (text holds enough : List ℕ) (n m : ℕ) → holds ≡ yes_no met.bound → enough ≡ enough_words met.enough → n ≡ t.generals → m ≡ t.bound

@@ -10,29 +10,19 @@ use round::Scenario;
 use std::alloc::{AllocError, Global};
 use world::Chronicle;
 
-/// How the lieutenants of a campaign come to their decisions, or this one of them: what `book` says of its message table,
-/// where the scenario's traitors are named.
+/// How the lieutenants of a campaign come to their decisions: what `book` says of its message table, where the scenario's
+/// traitors are named.
 ///
 /// # Errors
 ///
 /// `AllocError` where memory is refused.
-pub fn explained(
-    alloc: Global,
-    chronicle: &Chronicle,
-    lieutenant: Option<u8>,
-) -> Result<String, AllocError>
+pub fn explained(alloc: Global, chronicle: &Chronicle) -> Result<String, AllocError>
     requires { IsWhole chronicle.now }
-    ensures { IfOk result (λ lines. Explains chronicle.now lieutenant (string_bytes lines)) }
+    ensures { IfOk result (λ lines. Explains chronicle.now (string_bytes lines)) }
 {
-    let table = table(alloc, chronicle)?;
+    let text = table(alloc, chronicle)?;
     let traitors = traitors(alloc, chronicle.scenario())?;
-    let lines = match lieutenant {
-        None => tables::explained(alloc, table.as_str(), traitors.as_slice()),
-        Some(general) => {
-            tables::explained_one(alloc, table.as_str(), traitors.as_slice(), general)
-        }
-    };
-    match lines {
+    match tables::explained(alloc, text.as_str(), traitors.as_slice()) {
         Ok(lines) => Ok(lines),
         Err(TableError::Memory) => Err(AllocError),
         // The table is one that `book` reads.

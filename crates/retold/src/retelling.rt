@@ -20,7 +20,7 @@ pub fn table(alloc: Global, chronicle: &Chronicle) -> Result<String, AllocError>
 {
     let scenario = chronicle.scenario();
     scenario.recall();
-    let told = told(alloc, scenario, chronicle.letters())?;
+    let told = hear(alloc, scenario, chronicle.letters())?;
     table_of(
         alloc,
         told.trees(),
@@ -32,7 +32,7 @@ pub fn table(alloc: Global, chronicle: &Chronicle) -> Result<String, AllocError>
 }
 
 /// What the letters of all rounds have told the lieutenants.
-fn told(alloc: Global, scenario: &Scenario, letters: &[Round]) -> Result<Told, AllocError>
+fn hear(alloc: Global, scenario: &Scenario, letters: &[Round]) -> Result<Told, AllocError>
     requires rounds { length letters.now ≡ suc scenario.now.bound }
     requires letters { AreRoundsOf scenario.now letters.now }
     ensures { IfOk result (WasTold scenario.now letters.now) }
