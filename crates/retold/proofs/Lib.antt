@@ -1,3 +1,4 @@
 pub mod Heard
+pub mod Named
 pub mod Rounds
 pub mod Tables

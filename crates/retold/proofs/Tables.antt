@@ -1,5 +1,6 @@
 -- The table of a whole chronicle.
-use Rattle.std.proofs.Common.{ℕ, ◌<◌, ◌≡◌, ◌≢◌, true, false, List, [], ◌∷◌, map, refl, sym, ap, subst, ◌∙◌, inl, inr, Ok}
+use Rattle.std.proofs.Common.{ℕ, ◌<◌, ◌≡◌, ◌≢◌, true, false, List, [], ◌∷◌, map, sym, ap, subst, ◌∙◌, Ok, Err, IfOk, Result, String, string_bytes}
+use Rattle.std.specs.declared.alloc.AllocError.{AllocError}
 use Rattle.std.specs.Prelude.{◌==◌}
 use Rattle.std.proofs.lemmas.Bool.{eq-eqb, or_left, true≢false}
 use Rattle.combine.specs.declared.chosen.Rule.{Rule}
@@ -12,7 +13,8 @@ use Rattle.book.specs.Decisions.{decision_of, decisions_of}
 use Rattle.book.specs.Grammar.{table_told}
 use Rattle.book.specs.Table.{AreNumbersWithin, MessageTable}
 use Rattle.book.proofs.Places.{is_place_of}
-use Rattle.round.specs.Letters.{messages}
+use Rattle.tree.specs.LieutenantTree.{LieutenantTree}
+use Rattle.round.specs.Letters.{Letter, messages}
 use Rattle.round.specs.Scenario.{Scenario, IsScenario}
 use Rattle.round.specs.Told.{ToldSeen, WasTold}
 use Rattle.world.specs.Chronicle.{Chronicle, decision, decisions}
@@ -66,3 +68,25 @@ retold c h text inside whole told written read =
       (λ p l ne. is.decides p l ne ∙ decides_same (combined_by c.scenario.rule) c.scenario.generals c.scenario.bound c.scenario.commander p (heard h.trees) (messages c.letters) inside.commander l ne same))
       whole.decisions;
     }
+
+-- the same of what writing it has given, by what is known of its arguments
+pub retold_or_error : (c : Chronicle) (h : ToldSeen) (s : Scenario) (letters : List (List Letter)) (trees : List LieutenantTree) (n m k : ℕ) (by : Rule)
+    → IsScenario s → s ≡ c.scenario → letters ≡ c.letters → trees ≡ h.trees → n ≡ s.generals → m ≡ s.bound → k ≡ s.commander → by ≡ s.rule → IsWhole c → WasTold s letters h
+    → (r : Result String AllocError) → IfOk r (λ text. string_bytes text ≡ table_text (heard trees) n m k by)
+    → IfOk r (λ text. (t : MessageTable) × (table_told (string_bytes text) ≡ Ok t) × IsTableOf (heard trees) n m k by t) → IfOk r (λ text. IsRetold c (string_bytes text))
+retold_or_error c h s letters trees n m k by inside es el et en em ek eb whole told (Err e) written read = tt
+retold_or_error c h s letters trees n m k by inside es el et en em ek eb whole told (Ok text) written read =
+    let gn : n ≡ c.scenario.generals = en ∙ ap (λ (x : Scenario). x.generals) es in
+    let gm : m ≡ c.scenario.bound = em ∙ ap (λ (x : Scenario). x.bound) es in
+    let gk : k ≡ c.scenario.commander = ek ∙ ap (λ (x : Scenario). x.commander) es in
+    let gb : by ≡ c.scenario.rule = eb ∙ ap (λ (x : Scenario). x.rule) es in
+    let same : table_text (heard trees) n m k by ≡ table_text (heard h.trees) c.scenario.generals c.scenario.bound c.scenario.commander c.scenario.rule =
+    (λ i. table_text (heard (et i)) (gn i) (gm i) (gk i) (gb i))
+    in
+    let R : List LieutenantTree → ℕ → ℕ → ℕ → Rule → Type 0 = λ ts a b d rule. (t : MessageTable) × (table_told (string_bytes text) ≡ Ok t) × IsTableOf (heard ts) a b d rule t in
+    let first : R h.trees n m k by = subst (λ (ts : List LieutenantTree). R ts n m k by) et read in
+    let second : R h.trees c.scenario.generals m k by = subst (λ (a : ℕ). R h.trees a m k by) gn first in
+    let third : R h.trees c.scenario.generals c.scenario.bound k by = subst (λ (b : ℕ). R h.trees c.scenario.generals b k by) gm second in
+    let fourth : R h.trees c.scenario.generals c.scenario.bound c.scenario.commander by = subst (λ (d : ℕ). R h.trees c.scenario.generals c.scenario.bound d by) gk third in
+    let fifth : R h.trees c.scenario.generals c.scenario.bound c.scenario.commander c.scenario.rule = subst (λ (rule : Rule). R h.trees c.scenario.generals c.scenario.bound c.scenario.commander rule) gb fourth in
+    retold c h (string_bytes text) (subst IsScenario es inside) whole (subst (λ (x : Scenario). WasTold x c.letters h) es (subst (λ (ls : List (List Letter)). WasTold s ls h) el told)) (written ∙ same) fifth

@@ -12,7 +12,10 @@ use Rattle.tree.proofs.Levels.{levels-long, levels-at}
 use Rattle.tables.specs.Hearing.{beside, value_of, heard}
 use Rattle.tables.specs.Laws.{AreOrders}
 
-empty_get : (i v : ℕ) → slice_get {A = Option ℕ} [] i ≡ Some (Some v) → ⊥
+abbrev no_level : List (Option ℕ)
+no_level = []
+
+empty_get : (i v : ℕ) → slice_get no_level i ≡ Some (Some v) → ⊥
 empty_get i v e = cc
 
 -- the label is one of these
@@ -108,6 +111,7 @@ module _ (t : LieutenantTree) (M : Messages) (w : List ℕ) (told : Option ℕ) 
 
   -- of the empty list
   with_none : length w ≡ 0 → told ≡ beside w (labels t.generals t.commander t.general 0) (level_of t 0)
+  unfolding labels
   with_none e = strange (λ own. let some = begins_long t.commander w own.label.first in absurd (omega arith))
 
   pub value_is : told ≡ value_of (Some t) w
@@ -153,6 +157,11 @@ none_more p (u ∷ trees) (suc i) t none at e = elim (cases_Bool (u.general == p
 pub heard_at : (trees : List LieutenantTree) (w : List ℕ) (p i : ℕ) (t : LieutenantTree) → find (λ u. u.general == p) (take i trees) ≡ None → slice_get trees i ≡ Some t → t.general ≡ p → heard trees w p ≡ value_of (Some t) w
 unfolding heard
 heard_at trees w p i t none at e = ap (λ o. value_of o w) (found_here p trees i t none at e)
+
+-- where none is his
+pub heard_nowhere : (trees : List LieutenantTree) (w : List ℕ) (p : ℕ) → find (λ u. u.general == p) trees ≡ None → heard trees w p ≡ None
+unfolding heard
+heard_nowhere trees w p none = ap (λ o. value_of o w) none
 
 -- each level's orders have 32 bits
 abbrev pub AreSmall : List (Option ℕ) → Type 0

@@ -1,3 +1,4 @@
+pub mod Endings
 pub mod Flattened
 pub mod FormLemmas
 pub mod Hearing

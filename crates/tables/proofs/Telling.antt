@@ -63,13 +63,26 @@ pieces_rule c l =
     (pieces-append space (codes "rule") 32 (codes "median") refl refl
     ∙ ap (λ ps. codes "rule" ∷ ps) (pieces-all space (codes "median") refl))
 
+-- what is behind the commander's number
+abbrev rule_parts_of : Rule → List (List ℕ)
+rule_parts_of Majority = []
+rule_parts_of Median = codes "rule" ∷ codes "median" ∷ []
+
+pieces_head : (n m c : ℕ) (rule : Rule) → n < 2 ^ 64 → m < 2 ^ 64 → c < 2 ^ 64 → pieces space (head n m c rule) ≡ codes "generals" ∷ decimal n ∷ codes "bound" ∷ decimal m ∷ codes "commander" ∷ decimal c ∷ rule_parts_of rule
+pieces_head n m c Majority ln lm lc =
+    ap (pieces space) (append-nil (codes "generals " ++ decimal n ++ codes " bound " ++ decimal m ++ codes " commander " ++ decimal c))
+    ∙ (pieces_front n m (decimal c) ln lm
+    ∙ ap (λ ps. codes "generals" ∷ decimal n ∷ codes "bound" ∷ decimal m ∷ codes "commander" ∷ ps) (pieces-all space (decimal c) (digits_lack space no_space c lc)))
+pieces_head n m c Median ln lm lc =
+    ap (pieces space) (rule_parted n m c (codes " rule median"))
+    ∙ (pieces_front n m (decimal c ++ codes " rule median") ln lm
+    ∙ ap (λ ps. codes "generals" ∷ decimal n ∷ codes "bound" ∷ decimal m ∷ codes "commander" ∷ ps) (pieces_rule c lc))
+
 -- what a first line that is written says
 pub head_read : (n m c : ℕ) (rule : Rule) → n < 2 ^ 64 → m < 2 ^ 64 → c < 2 ^ 64 → head_of (head n m c rule) ≡ Some (n, m, c, rule)
 unfolding head_of
-head_read n m c Majority ln lm lc =
-    rw (rule_parted n m c [], append-nil, pieces_front n m (decimal c) ln lm, pieces-all space (decimal c) (digits_lack space no_space c lc), decimal_of-decimal n ln, decimal_of-decimal m lm, decimal_of-decimal c lc) refl
-head_read n m c Median ln lm lc =
-    rw (rule_parted n m c (codes " rule median"), pieces_front n m (decimal c ++ codes " rule median") ln lm, pieces_rule c lc, decimal_of-decimal n ln, decimal_of-decimal m lm, decimal_of-decimal c lc) refl
+head_read n m c Majority ln lm lc = rw (pieces_head n m c Majority ln lm lc, decimal_of-decimal n ln, decimal_of-decimal m lm, decimal_of-decimal c lc) refl
+head_read n m c Median ln lm lc = rw (pieces_head n m c Median ln lm lc, decimal_of-decimal n ln, decimal_of-decimal m lm, decimal_of-decimal c lc) refl
 
 rule_lacks : (rule : Rule) → Lacks feed (rule_words rule)
 rule_lacks Majority = refl

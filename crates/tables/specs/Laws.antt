@@ -14,13 +14,13 @@ abbrev pub AreOrders : Messages → Type 0
 AreOrders M = (w : List ℕ) (p order : ℕ) → M w p ≡ Some order → order < 2 ^ 32
 
 -- the table has these numbers and this rule, tells these messages at all places of its campaign, and decides by them
-pub record IsTableOf (M : Messages) (n m c : ℕ) (rule : Rule) (t : MessageTable) : Type 0 where
+pub record IsTableOf (M : Messages) (n m c : ℕ) (by : Rule) (t : MessageTable) : Type 0 where
   pub generals : t.generals ≡ n
   pub bound : t.bound ≡ m
   pub commander : t.commander ≡ c
-  pub rule : t.rule ≡ rule
+  pub rule : t.rule ≡ by
   pub told : (w : List ℕ) (p : ℕ) → is_place t w p ≡ true → told t.messages w p ≡ M w p
-  pub decides : (p : ℕ) → p < n → p ≢ c → decision_of t p ≡ om (combined_by rule) n M m (c ∷ []) p
+  pub decides : (p : ℕ) → p < n → p ≢ c → decision_of t p ≡ om (combined_by by) n M m (c ∷ []) p
 
 -- a table that is written is read again: it tells the same messages
 abbrev pub TablesAreRead : Type 0

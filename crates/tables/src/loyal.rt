@@ -29,8 +29,9 @@ impl Marks for LoyalMarks {
 fn ends_in(label: &[u8], general: u8) -> bool
     ensures { result ≡ ends_in label.now general }
 {
-    match label.last() {
-        Some(last) => *last == general,
-        None => false,
+    let mut is_last = false;
+    for other in label {
+        is_last = *other == general;
     }
+    is_last
 }

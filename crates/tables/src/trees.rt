@@ -101,6 +101,22 @@ fn recall_level(level: &[Option<u32>])
     ensures { (i v : ℕ) → slice_get level.now i ≡ Some (Some v) → v < 2 ^ 32 }
 {
     for told in level {
-        let _told = *told;
+        recall_told(*told);
     }
+}
+
+/// Does nothing. An order has 32 bits.
+fn recall_told(told: Option<u32>)
+    ensures { (v : ℕ) → told ≡ Some v → v < 2 ^ 32 }
+{
+    if let Some(order) = told {
+        recall_order(order);
+    }
+}
+
+/// Does nothing. An order has 32 bits.
+fn recall_order(order: u32)
+    ensures { order < 2 ^ 32 }
+{
+    let _order = order;
 }

@@ -1,5 +1,5 @@
 //! Message tables, written line by line.
-ghost use Rattle.std.specs.Prelude.{◌≡◌, ◌≤◌, ◌+◌, ◌++◌, length, IfOk, OnOk, string_bytes};
+ghost use Rattle.std.specs.Prelude.{◌≡◌, ◌≤◌, ◌+◌, ◌++◌, ◌∷◌, [], length, IfOk, OnOk, string_bytes};
 ghost use Rattle.book.specs.Explained.{dotted};
 ghost use Rattle.book.specs.Table.{AreNumbersWithin};
 ghost use Rattle.tables.specs.Written.{first_line, line_of, lines_from, rule_words, written};
@@ -28,11 +28,32 @@ pub(crate) fn write<M: Marks>(
 {
     let mut text = first_line(alloc, generals, bound, commander, rule)?;
     let label = Label::of(commander);
-    let name = format!(in alloc; "{commander}")?;
+    let name = alone(alloc, commander)?;
     for more in 0..bound + 1 {
         push_labels(alloc, &mut text, marks, generals, &label, name.as_str(), more)?;
     }
     Ok(text)
+}
+
+/// How the label of one general is written.
+fn alone(alloc: Global, general: u8) -> Result<String, AllocError>
+    ensures { IfOk result (λ name. string_bytes name ≡ dotted (general ∷ [])) }
+{
+    format!(in alloc; "{general}")
+}
+
+/// How a label that is written so is written with one general more.
+fn prolonged(
+    alloc: Global,
+    label: &Label,
+    name: &str,
+    general: u8,
+) -> Result<String, AllocError>
+    requires { name.now ≡ dotted label.now }
+    ensures { IfOk result (λ name. string_bytes name ≡ dotted (label.now ++ general ∷ [])) }
+{
+    let _generals = label.len();
+    format!(in alloc; "{name}.{general}")
 }
 
 /// The campaign's numbers, and its rule where it is not the majority.
@@ -79,7 +100,7 @@ fn push_labels<M: Marks>(
     }
     for general in 0..generals {
         if !label.has(general) {
-            let longer = format!(in alloc; "{name}.{general}")?;
+            let longer = prolonged(alloc, label, name, general)?;
             let next = label.with(general);
             push_labels(alloc, text, marks, generals, &next, longer.as_str(), more - 1)?;
         }

@@ -17,13 +17,13 @@ loop-general-preserved g t c =
           rw (w.text-is, c.loop-general.invariant) (text_no line c.args.label.now c.loop-general.general (string_bytes c.args.text.now) (sym c.has.ensures ∙ w.if-not-has.false))
     ]
 
-longer : (mark : Marking) (n r k : ℕ) (w : List ℕ) → r ≡ suc k → flat_map (λ j. lines_from mark n k (w ++ j ∷ [])) (others n w) ≡ lines_from mark n r w
+more_lines : (mark : Marking) (n r k : ℕ) (w : List ℕ) → r ≡ suc k → flat_map (λ j. lines_from mark n k (w ++ j ∷ [])) (others n w) ≡ lines_from mark n r w
 unfolding lines_from
-longer mark n r k w e = sym (ap (λ (i : ℕ). lines_from mark n i w) e)
+more_lines mark n r k w e = sym (ap (λ (i : ℕ). lines_from mark n i w) e)
 
 pub returns : goal.returns
 returns g t c =
     let all : c.loop-general.general ≡ c.args.generals = omega arith in
     c.loop-general.invariant
     ∙ (ap (λ (n : ℕ). string_bytes c.args.text.now ++ flat_map (λ j. lines_from (g.M.Marks.marking c.args.marks.now) c.args.generals (c.args.more - 1) (c.args.label.now ++ j ∷ [])) (others n c.args.label.now)) all
-    ∙ ap (λ xs. string_bytes c.args.text.now ++ xs) (longer (g.M.Marks.marking c.args.marks.now) c.args.generals c.args.more (c.args.more - 1) c.args.label.now (let ne = c.if-more-eq0.false in omega arith)))
+    ∙ ap (λ xs. string_bytes c.args.text.now ++ xs) (more_lines (g.M.Marks.marking c.args.marks.now) c.args.generals c.args.more (c.args.more - 1) c.args.label.now (let ne = c.if-more-eq0.false in omega arith)))
