@@ -1,5 +1,5 @@
 -- The chronicle of a complete run is whole.
-use Rattle.std.proofs.Common.{ℕ, zero, suc, ◌+◌, ◌≡◌, List, [], ◌∷◌, ◌++◌, length, length-append, take, drop, refl, sym, ap, subst, ◌∙◌, arith, Option, None, Some}
+use Rattle.std.proofs.Common.{ℕ, zero, suc, ◌+◌, ◌≡◌, List, [], ◌∷◌, ◌++◌, length, length-append, take, drop, refl, sym, ap, subst, ◌∙◌, arith, zero-add, Option, None, Some}
 use Rattle.std.specs.Prelude.{slice_get, sum_by}
 use Rattle.insn.specs.declared.insn.Insn.{Insn}
 use Rattle.board.specs.Board.{Access}
@@ -64,7 +64,7 @@ proved_runs_are_whole s events inside complete =
     let same : (run (opening s) events).scenario ≡ s = run_scenario oral_kind events (opening s) in
     let accounted = ((runs_are_accounted oral_kind oral_campaigns).rounds s events inside complete).1 in
     record {
-      rounds = subst (λ (t : Scenario). length (run (opening s) events).closed ≡ suc t.bound) (sym same) (rounds_long s [] (run (opening s) events).closed (run (opening s) events).ledger accounted);
+      rounds = subst (λ (t : Scenario). length (run (opening s) events).closed ≡ suc t.bound) (sym same) (sym (zero-add (length (run (opening s) events).closed)) ∙ rounds_long s [] (run (opening s) events).closed (run (opening s) events).ledger accounted);
       letters = subst (λ (t : Scenario). AreRoundsOf t (run (opening s) events).closed) (sym same) (rounds_are s (run (opening s) events).ledger (run (opening s) events).closed accounted);
       decisions = refl;
     }

@@ -1,6 +1,7 @@
 -- The table of a whole chronicle.
 use Rattle.std.proofs.Common.{ℕ, ◌<◌, ◌≡◌, ◌≢◌, true, false, List, [], ◌∷◌, map, sym, ap, subst, ◌∙◌, Ok, Err, IfOk, Result, String, string_bytes}
 use Rattle.std.specs.declared.alloc.AllocError.{AllocError}
+use Rattle.std.specs.declared.alloc.Global.{Global}
 use Rattle.std.specs.Prelude.{◌==◌}
 use Rattle.std.proofs.lemmas.Bool.{eq-eqb, or_left, true≢false}
 use Rattle.combine.specs.declared.chosen.Rule.{Rule}
@@ -72,7 +73,7 @@ retold c h text inside whole told written read =
 -- the same of what writing it has given, by what is known of its arguments
 pub retold_or_error : (c : Chronicle) (h : ToldSeen) (s : Scenario) (letters : List (List Letter)) (trees : List LieutenantTree) (n m k : ℕ) (by : Rule)
     → IsScenario s → s ≡ c.scenario → letters ≡ c.letters → trees ≡ h.trees → n ≡ s.generals → m ≡ s.bound → k ≡ s.commander → by ≡ s.rule → IsWhole c → WasTold s letters h
-    → (r : Result String AllocError) → IfOk r (λ text. string_bytes text ≡ table_text (heard trees) n m k by)
+    → (r : Result (String Global) AllocError) → IfOk r (λ text. string_bytes text ≡ table_text (heard trees) n m k by)
     → IfOk r (λ text. (t : MessageTable) × (table_told (string_bytes text) ≡ Ok t) × IsTableOf (heard trees) n m k by t) → IfOk r (λ text. IsRetold c (string_bytes text))
 retold_or_error c h s letters trees n m k by inside es el et en em ek eb whole told (Err e) written read = tt
 retold_or_error c h s letters trees n m k by inside es el et en em ek eb whole told (Ok text) written read =
