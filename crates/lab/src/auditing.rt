@@ -36,6 +36,7 @@ pub fn audited(
 }
 
 /// The audit of an oral campaign's.
+#[tactic(auto, using(crate::proofs::CampaignLemmas::is_audited, crate::proofs::CampaignLemmas::told_wholly))]
 fn oral_audited(
     alloc: Global,
     scenario: &Scenario,

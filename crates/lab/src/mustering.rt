@@ -17,6 +17,7 @@ use threads::{Open, muster};
 /// # Errors
 ///
 /// That the threads gave no chronicle, or want of memory.
+#[tactic(auto, using(crate::proofs::CampaignLemmas::is_mustered, crate::proofs::CampaignLemmas::mustered_wholly))]
 pub fn mustered<T: Threads + Wait + Sync>(
     rt: &T,
     alloc: Global,

@@ -4,7 +4,7 @@ ghost use Rattle.trace.specs.Schedules.{schedule_told};
 ghost use Rattle.trace.specs.SignedText.{signed_text};
 ghost use Rattle.trace.specs.Text.{chronicle_text};
 ghost use Rattle.retold.specs.Retold.{IsWhole};
-ghost use Rattle.lab.specs.Campaigns.{IsFollowed, IsOralPlayed, IsPlayed, IsSignedPlayed, TellsCampaign, is_plain};
+ghost use Rattle.lab.specs.Campaigns.{IsAccount, IsFollowed, IsOralPlayed, IsPlayed, IsSignedPlayed, TellsCampaign, is_plain};
 ghost use Rattle.streams.specs.Reading.{IsFront};
 ghost use Rattle.lab.specs.Refusals.{RefusesAsked, RefusesCampaign, RefusesScenario, RefusesSchedule, RefusesText};
 
@@ -122,6 +122,7 @@ pub fn played(
 }
 
 /// That of an oral campaign.
+#[tactic(auto, using(crate::proofs::CampaignLemmas::played_wholly))]
 fn oral_played(
     alloc: Global,
     scenario: Scenario,
@@ -133,11 +134,23 @@ fn oral_played(
 {
     scenario.recall();
     let chronicle = play(alloc, scenario, schedule)?;
-    let front = match account {
-        Account::Chronicle => chronicle_text(alloc, &chronicle)?,
-        Account::Table => table(alloc, &chronicle)?.into_bytes(),
-    };
+    let front = account_text(alloc, &chronicle, account)?;
     with_decisions(alloc, front, &chronicle, explained)
+}
+
+/// This account of an oral campaign.
+fn account_text(
+    alloc: Global,
+    chronicle: &Chronicle,
+    account: Account,
+) -> Result<Vec<u8>, AllocError>
+    requires { IsWhole chronicle.now }
+    ensures { IfOk result (λ text. IsAccount account chronicle.now text.items) }
+{
+    match account {
+        Account::Chronicle => chronicle_text(alloc, chronicle),
+        Account::Table => Ok(table(alloc, chronicle)?.into_bytes()),
+    }
 }
 
 /// That of a signed one.
@@ -164,6 +177,7 @@ pub(crate) fn chronicle_text(alloc: Global, chronicle: &Chronicle) -> Result<Vec
 }
 
 /// The text, and behind it an empty line and how these decisions of the campaign come about, if it is asked for.
+#[tactic(auto, using(crate::proofs::CampaignLemmas::alone, crate::proofs::CampaignLemmas::followed))]
 pub(crate) fn with_decisions(
     alloc: Global,
     front: Vec<u8>,
