@@ -76,7 +76,7 @@ fn prepare(rt: &HostRuntime) -> io::Result<Ready> {
             error.print(rt)?;
             return Ok(Ready::Done(0));
         }
-        Err(error @ TaskError::Traitors(_)) => {
+        Err(error @ TaskError::Misuse(_)) => {
             let _ = rt.eprintln(error);
             return Ok(Ready::Done(2));
         }

@@ -1,7 +1,7 @@
 //! The task that the words name.
 
 use clap::error::ErrorKind;
-use command_line::{Notation, Spelling, Task, TaskError, task};
+use command_line::{Account, Filling, Lieutenants, Misuse, Notation, Spelling, Task, TaskError, task};
 use std::alloc::Global;
 use std::process::Abort;
 use std::test::Fail;
@@ -107,6 +107,10 @@ fn subcommand(task: &Task) -> &'static str {
         } else {
             "check --asm"
         },
+        Task::Check {
+            notation: Notation::Object { .. },
+            ..
+        } => "check --elf",
         Task::Assemble {
             spelling: Spelling::Hex,
             ..
@@ -115,13 +119,13 @@ fn subcommand(task: &Task) -> &'static str {
             spelling: Spelling::Raw,
             ..
         } => "asm --raw",
-        Task::Disassemble(_) => "dis",
-        Task::DisassembleUnits(_) => "dis --units",
+        Task::Disassemble { units: false, .. } => "dis",
+        Task::Disassemble { units: true, .. } => "dis --units",
         Task::Book(_) => "book",
         Task::ExplainDecisions { .. } => "book --explain",
         Task::Form { .. } => "table",
         Task::Play { .. } => "play",
-        Task::Muster(_) => "muster",
+        Task::Muster { .. } => "muster",
         Task::Audit { .. } => "audit",
     }
 }
@@ -186,10 +190,94 @@ fn no_generals_are_refused(rt: HostRuntime) -> Result<(), Fail> {
         let option = format!(in rt.alloc(); "--traitors={word}")?;
         let words = ["book", "t", option.as_str()];
         assert!(rt;
-            matches!(task(rt.alloc(), &words), Err(TaskError::Traitors(_))),
+            matches!(task(rt.alloc(), &words), Err(TaskError::Misuse(Misuse::Traitors(_)))),
             "{word}"
         );
     }
+    Ok(())
+}
+
+#[test]
+fn flags_are_told(rt: HostRuntime) -> Result<(), Fail> {
+    let alloc = rt.alloc();
+    assert!(rt;
+        matches!(
+            task(alloc, &["asm", "p", "--explain"])?,
+            Task::Assemble { explained: true, .. }
+        )
+    );
+    assert!(rt;
+        matches!(
+            task(alloc, &["dis", "--explain", "p"])?,
+            Task::Disassemble { explained: true, .. }
+        )
+    );
+    assert!(rt;
+        matches!(
+            task(alloc, &["play", "s", "--explain"])?,
+            Task::Play { explained: Some(Lieutenants::All), .. }
+        )
+    );
+    assert!(rt;
+        matches!(
+            task(alloc, &["muster", "--explain", "s"])?,
+            Task::Muster { explained: Some(Lieutenants::All), .. }
+        )
+    );
+    assert!(rt;
+        matches!(
+            task(alloc, &["audit", "s", "c", "--explain"])?,
+            Task::Audit { explained: Some(Lieutenants::All), .. }
+        )
+    );
+    assert!(rt;
+        matches!(
+            task(alloc, &["check", "--elf", "o"])?,
+            Task::Check { notation: Notation::Object { entry: None }, .. }
+        )
+    );
+    assert!(rt;
+        matches!(
+            task(alloc, &["dis", "--elf", "o", "--entry=f"])?,
+            Task::Disassemble { notation: Notation::Object { entry: Some(_) }, .. }
+        )
+    );
+    assert!(rt;
+        matches!(
+            task(alloc, &["play", "s", "--table"])?,
+            Task::Play { account: Account::Table, .. }
+        )
+    );
+    assert!(rt;
+        matches!(
+            task(alloc, &["table", "4", "1", "0", "--loyal", "7"])?,
+            Task::Form { filling: Some(Filling { order: 7, liar: None }), .. }
+        )
+    );
+    assert!(rt;
+        matches!(
+            task(alloc, &["table", "--lie=2", "--loyal=7", "4", "1", "0"])?,
+            Task::Form { filling: Some(Filling { order: 7, liar: Some(2) }), .. }
+        )
+    );
+    assert!(rt;
+        matches!(
+            task(alloc, &["play", "s", "--explain", "--of", "3"])?,
+            Task::Play { explained: Some(Lieutenants::One(3)), .. }
+        )
+    );
+    assert!(rt;
+        matches!(
+            task(alloc, &["audit", "--of=12", "--explain", "s", "c"])?,
+            Task::Audit { explained: Some(Lieutenants::One(12)), .. }
+        )
+    );
+    assert!(rt;
+        matches!(
+            task(alloc, &["check", "p", "--trace"])?,
+            Task::Check { traced: true, .. }
+        )
+    );
     Ok(())
 }
 
@@ -201,6 +289,7 @@ fn tables_have_three_numbers(rt: HostRuntime) -> Result<(), Fail> {
         generals,
         bound,
         commander,
+        filling: None,
     } = &task
     else {
         return Err("no table")?;
@@ -241,7 +330,7 @@ const REFUSED: &[(&[&str], ErrorKind, i32)] = &[
         ErrorKind::TooManyValues,
         2,
     ),
-    (&["dis", "--explain", "p"], ErrorKind::UnknownArgument, 2),
+    (&["dis", "--raw", "p"], ErrorKind::UnknownArgument, 2),
     (&["asm", "-of", "p", "-og"], ErrorKind::ArgumentConflict, 2),
     (&["check", "--asm=1", "p"], ErrorKind::TooManyValues, 2),
     (&["asm", "p", "-o"], ErrorKind::InvalidValue, 2),

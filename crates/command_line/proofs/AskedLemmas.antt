@@ -1,206 +1,314 @@
 -- `clap` takes the words where the rule finds a task in them, and meets that task.
-use Rattle.std.proofs.Common.{◌≡◌, ◌∙◌, ◌==◌, inl, inr, Bool, true, false, List, ℕ, [], ◌∷◌, Option, Some, None, ap, ap₂, codes, refl, subst, sym, find, is_some, option_map}
-use Rattle.std.specs.List.{fold}
-use Rattle.std.specs.Str.{bytes_eq}
+use Rattle.std.proofs.Common.{◌≡◌, ◌∙◌, ◌==◌, ◌++◌, ◌&&◌, ◌||◌, Bool, cond, true, false, not, List, ℕ, [], ◌∷◌, Option, Some, None, ap, ap₂, codes, refl, subst, sym, find, is_some, map, nat_lt, option_map}
+use Rattle.std.proofs.lemmas.Bool.{and_parts, not-true}
 use Rattle.std.proofs.lemmas.Slice.Eq.{bytes_eq-Decides}
+use Rattle.std.specs.List.{fold, list_all, list_any}
+use Rattle.std.specs.Option.{option_map_or}
+use Rattle.std.specs.Prelude.{option_and_then}
+use Rattle.std.specs.Str.{bytes_eq}
 use Rattle.clap.specs.Kinds.{Kinds, or_else}
-use Rattle.clap.specs.Walk.{Names, Row, Text, Walk, answers_to, arg_by_long, arg_by_short, finished, idle, nothing_held, rows_after, settled, subcommand_met, walk, walk_from, walked}
-use Rattle.clap.specs.Simple.{Shape, built, entered, label_of, names_of, subcommand_of}
-use Rattle.clap.specs.Faults.{check_fault, defaults_fault, entered_fault, fault_of, level_fault, settle_fault, walk_fault}
+use Rattle.clap.specs.Lexer.{usize_max}
+use Rattle.clap.specs.Walk.{Held, Names, Row, Rule, Text, Walk, answers_to, arg_by_long, arg_by_short, finished, idle, nothing_held, rows_after, settled, stop_after, subcommand_met, walk, walk_from, walked}
+use Rattle.clap.specs.Simple.{App, Shape, built, built_leaf, entered, filled, help_rule, help_shape, inherited, label_of, marked_built, names_of, new_shape, version_rule, with_leaf_noted}
+use Rattle.clap.specs.Faults.{built_fault, check_fault, defaults_fault, entered_fault, fault_of, level_fault, long_fault, settle_fault, short_fault, turn_fault, walk_fault}
+use Rattle.clap.specs.Words.{subcommand_of}
 use Rattle.clap.proofs.FaultLemmas.{stopped_fault}
 use Rattle.clap.proofs.OnLiterals.{clap_on_literals}
-use Rattle.command_line.specs.Asked.{file_in, spelt}
-use Rattle.command_line.specs.Flags.{is_end_of_flags, is_flag, long, short}
-use Rattle.command_line.specs.Lab.{lab_app}
-use Rattle.command_line.specs.Told.{Told, one_file}
-use Rattle.command_line.proofs.AgreeLemmas.{Agrees, Fails, is_text, or_else-first, true_or_false}
-use Rattle.command_line.proofs.WordLemmas.{HasRequestsAlone, IsRequestOrUnknown, request_word_fails}
-use Rattle.command_line.proofs.TurnLemmas.{flag_turn, fold_stopped, plain_turn, turn_fails}
-use Rattle.command_line.proofs.FileLemmas.{FileAgrees, faults, file_agrees, file_shape, rows}
-use Rattle.command_line.proofs.AuditLemmas.{audit_agrees, audit_shape}
-use Rattle.command_line.proofs.PlayLemmas.{campaign_agrees, play_shape}
-use Rattle.command_line.proofs.FlaggedLemmas.{asm_agrees, book_agrees, check_agrees, dis_agrees}
-use Rattle.command_line.proofs.FlagRules.{flagged_shape}
-use Rattle.command_line.proofs.TableLemmas.{form_agrees, table_shape}
+use Rattle.command_line.specs.Asked.{spelt, told_in}
+use Rattle.command_line.specs.Lab.{app_before, app_with, given, lab_app, shape, task_met}
+use Rattle.command_line.specs.Met.{has_places}
+use Rattle.command_line.specs.Told.{Told, has}
+use Rattle.command_line.specs.Usage.{Look, Usage, end_of_flags, long, look_of, plain, short, taken_in, value_at}
+use Rattle.command_line.specs.Usages.{usages}
+use Rattle.command_line.proofs.FlagLemmas.{none_long_fails, none_short_fails, version_long_fails, version_short_fails}
+use Rattle.command_line.proofs.LevelLemmas.{Agrees, built_shape}
+use Rattle.command_line.proofs.PlaceLemmas.{lacks_place}
+use Rattle.command_line.proofs.ReadLemmas.{taken_agrees}
+use Rattle.command_line.proofs.RowLemmas.{Met}
+use Rattle.command_line.proofs.RuleLemmas.{find_among, ids, is_clear, is_distinct, past, takers, takers_filled}
+use Rattle.command_line.proofs.WordLemmas.{Fails, Looks, dashes_pass, fails_as, fold_stopped, held, long_fails, looks, or_else-first, plain_turn, short_fails, trailing_in, turn_fails, walk_in}
+
+-- ---- what is built of the program
+
+abbrev above : Shape
+above = with_leaf_noted (marked_built (record app_before.top { is_leaf = false }))
 
 abbrev top : Shape
-top = (built lab_app).top
+top = record above { rules = filled help_rule ∷ filled version_rule ∷ [] }
 
-abbrev names : Names
-names = names_of (built lab_app)
+abbrev built_usage : Usage → Shape
+built_usage usage = built_shape usage.name usage.places usage.flags
 
-abbrev start : Walk
-start = walk_from nothing_held
+abbrev built_subs : List Usage → List Shape
+built_subs [] = built_leaf help_shape ∷ []
+built_subs (usage ∷ rest) = built_usage usage ∷ built_subs rest
 
-by_long : (word : Text) (b v : Bool) → bytes_eq (codes "help") word ≡ b → bytes_eq (codes "version") word ≡ v
-    → IsRequestOrUnknown (arg_by_long top.rules word)
-by_long word true v e f = inr (inr (rw e refl))
-by_long word false true e f = inl (rw (e, f) refl)
-by_long word false false e f = inr (inl (rw (e, f) refl))
+abbrev built_app : List Usage → App
+built_app us = record { top = top; subs = built_subs us }
 
-by_short : (c : ℕ) (b v : Bool) → (104 == c) ≡ b → (86 == c) ≡ v → IsRequestOrUnknown (arg_by_short top.rules c)
-by_short c true v e f = inr (inr (rw e refl))
-by_short c false true e f = inl (rw (e, f) refl)
-by_short c false false e f = inr (inl (rw (e, f) refl))
+leaf_built : (usage : Usage) → nat_lt (past 1 usage.places) usize_max ≡ true → built_leaf (inherited above (shape usage)) ≡ built_usage usage
+leaf_built usage few = ap (λ (rules : List Rule). record (built_usage usage) { rules = rules }) (takers_filled 1 usage.places usage.flags few)
 
-alone : HasRequestsAlone top.rules
-alone = record { by_long = λ word. by_long word _ _ refl refl; by_short = λ c. by_short c _ _ refl refl }
+subs_built : (us : List Usage) → list_all is_clear us ≡ true → map built_leaf (map (inherited above) (map shape us) ++ help_shape ∷ []) ≡ built_subs us
+subs_built [] clear = refl
+subs_built (usage ∷ rest) clear =
+    let parts = and_parts (is_clear usage) (list_all is_clear rest) clear in
+    let more = and_parts (is_distinct (ids usage.places usage.flags)) (nat_lt (past 1 usage.places) usize_max && not (bytes_eq usage.name (codes "help"))) parts.0 in
+    let few = and_parts (nat_lt (past 1 usage.places) usize_max) (not (bytes_eq usage.name (codes "help"))) more.1 in
+    λ i. leaf_built usage few.0 i ∷ subs_built rest parts.1 i
 
-lab_fails : (words : List Text) → Fails (walk_fault top names start words) → Fails (fault_of lab_app words)
-lab_fails words fails = or_else-first _ _ fails
+lab_built : (us : List Usage) → list_all is_clear us ≡ true → built (app_with us) ≡ built_app us
+lab_built us clear = ap (λ (subs : List Shape). record { top = top; subs = subs }) (subs_built us clear)
 
--- what the level answers past its words, and past its subcommand
-abbrev after_level : Bool → Kinds
-after_level met = or_else (settle_fault top.rules false nothing_held)
-    (or_else (defaults_fault (settled top.rules nothing_held).rows top.rules)
-    (check_fault top (finished top.rules nothing_held) met))
+-- ---- what the program answers, and what it meets
 
-nothing_left : after_level true ≡ []
-unfolding clap_on_literals
-nothing_left = refl
+abbrev usage_in : List Usage → Text → Option Usage
+usage_in us name = find (λ usage. bytes_eq usage.name name) us
 
-abbrev after_walk : Kinds → Walk → Kinds
-after_walk kinds w = or_else kinds (or_else (entered_fault (built lab_app) w.stopped)
-    (or_else (settle_fault top.rules false w.held)
-    (or_else (defaults_fault (settled top.rules w.held).rows top.rules)
-    (check_fault top (finished top.rules w.held) (is_some (entered (built lab_app) w.stopped))))))
+abbrev spelt_in : List Usage → List Text → Option Told
+spelt_in us [] = None
+spelt_in us (name ∷ words) = option_and_then (λ usage. told_in usage words) (usage_in us name)
 
--- ---- a subcommand
+-- the places of the subcommand were filled
+abbrev are_filled : List Usage → Told → Bool
+are_filled us told = option_map_or (λ usage. list_all (λ name. has name told) usage.places) (usage_in us told.name) false
 
-abbrev below : Shape → List Text → Kinds
-below s rest = level_fault s [] nothing_held rest false []
+-- the words fail where the rule finds no task, and else their task is met
+abbrev AgreesWith : List Usage → Kinds → Option (Text × List Row) → Option Told → Type 0
+AgreesWith us kinds met None = Fails kinds
+AgreesWith us kinds met (Some told) = (kinds ≡ []) × (task_met met ≡ Some told) × (are_filled us told ≡ true)
 
-and_nothing : (kinds : Kinds) (met : Option (Text × List Row)) (told : Option Told) → Agrees kinds met told
-    → Agrees (or_else kinds []) met told
-and_nothing kinds met None fails = or_else-first _ _ fails
-and_nothing kinds met (Some told) passes = (ap (λ (k : Kinds). or_else k []) passes.0, passes.1, passes.2)
+all_filled : (met : Met) (ps : List Text) → list_any (lacks_place met) ps ≡ false → list_all (λ p. is_some (value_at p met)) ps ≡ true
+all_filled met [] none = refl
+all_filled met (p ∷ ps) none = go (all_filled met ps) (is_some (value_at p met)) none
+  where
+    go : (list_any (lacks_place met) ps ≡ false → list_all (λ p. is_some (value_at p met)) ps ≡ true) → (b : Bool)
+        → (not b || list_any (lacks_place met) ps) ≡ false → (b && list_all (λ p. is_some (value_at p met)) ps) ≡ true
+    go rest true none = rest none
+    go rest false none = absurd cc
 
-module _ (name : Text) (rest : List Text) (s : Shape) (told : Option Told)
-    (meets : walked top.rules names start name ≡ record start { stopped = Some (name, []) })
-    (passes : walk_fault top names start (name ∷ rest) ≡ walk_fault top names (record start { stopped = Some (name, []) }) rest)
-    (found : find (λ s. answers_to name (label_of s)) (built lab_app).subs ≡ Some s)
-    (agrees : Agrees (below s rest) (Some (s.name, rows_after s.rules [] rest)) told) where
-  stop_is : walk top.rules names nothing_held (name ∷ rest) ≡ record start { stopped = Some (name, rest) }
-  stop_is = ap (λ w. fold (walked top.rules names) w rest) meets ∙ fold_stopped top.rules names start name [] rest
+module _ (us : List Usage) (clear : list_all is_clear us ≡ true) where
+  abbrev names : Names
+  names = names_of (built_app us)
 
-  met_is : entered (built lab_app) (Some (name, rest)) ≡ Some (s.name, rows_after s.rules [] rest)
-  met_is = rw found refl
+  abbrev start : Walk
+  start = walk_from nothing_held
 
-  below_is : entered_fault (built lab_app) (Some (name, rest)) ≡ below s rest
-  below_is = rw found refl
+  abbrev faults : List Text → Kinds
+  faults words = built_fault (built_app us) nothing_held words
 
-  faults_are : fault_of lab_app (name ∷ rest) ≡ or_else (below s rest) []
-  faults_are =
-      ap₂ after_walk (passes ∙ stopped_fault top names start (name, []) rest) stop_is
-      ∙ ap₂ (λ (k : Kinds) (m : Option (Text × List Row)). or_else k (after_level (is_some m))) below_is met_is
-      ∙ ap (or_else (below s rest)) nothing_left
+  abbrev met_in : List Text → Option (Text × List Row)
+  met_in words = entered (built_app us) (stop_after top.rules names words)
 
-  named : Agrees (fault_of lab_app (name ∷ rest)) (subcommand_of lab_app (name ∷ rest)) told
-  named =
-      let met = ap (λ (w : Walk). entered (built lab_app) w.stopped) stop_is ∙ met_is in
-      subst (λ (k : Kinds). Agrees k (subcommand_of lab_app (name ∷ rest)) told) (sym faults_are)
-      (subst (λ (m : Option (Text × List Row)). Agrees (or_else (below s rest) []) m told) (sym met) (and_nothing (below s rest) (Some (s.name, rows_after s.rules [] rest)) told agrees))
+  abbrev RuleAt : List Text → Option Told → Type 0
+  RuleAt words told = AgreesWith us (faults words) (met_in words) told
 
--- ---- a subcommand of one file
+  -- ---- a word as a subcommand's name
 
-as_told : (kinds : Kinds) (found : List Row) (file : Option Text)
-    → FileAgrees kinds found file → Agrees kinds (Some (codes "muster", found)) (option_map (one_file (codes "muster")) file)
-as_told kinds found None fails = fails
-as_told kinds found (Some file) passes = let others = passes.2 in (passes.0, rw (passes.1, others.second, others.third, others.switch, others.also, others.value) refl, refl)
+  abbrev known : Option Usage → Bool → Option Text
+  known (Some usage) help = Some usage.name
+  known None true = Some (codes "help")
+  known None false = None
 
-muster_agrees : (rest : List Text)
-    → Agrees (below (file_shape (codes "muster")) rest) (Some (codes "muster", rows (codes "muster") rest)) (option_map (one_file (codes "muster")) (file_in rest))
-muster_agrees rest = as_told (faults (codes "muster") rest) (rows (codes "muster") rest) (file_in rest) (file_agrees (codes "muster") rest)
+  name_met : (rest : List Usage) (word : Text) → subcommand_met (map label_of (built_subs rest)) idle word ≡ known (usage_in rest word) (bytes_eq (codes "help") word)
+  name_met [] word = go (bytes_eq (codes "help") word)
+    where
+      go : (b : Bool) → option_map (λ s. s.0) (cond (b || false) (Some (label_of (built_leaf help_shape))) None) ≡ known None b
+      go true = refl
+      go false = refl
+  name_met (usage ∷ rest) word = go (name_met rest word) (bytes_eq usage.name word)
+    where
+      go : subcommand_met (map label_of (built_subs rest)) idle word ≡ known (usage_in rest word) (bytes_eq (codes "help") word)
+          → (b : Bool) → option_map (λ s. s.0) (cond (b || false) (Some (usage.name, [])) (find (answers_to word) (map label_of (built_subs rest))))
+          ≡ known (cond b (Some usage) (usage_in rest word)) (bytes_eq (codes "help") word)
+      go later true = refl
+      go later false = later
 
--- ---- the words by their cases
+  shape_met : (rest : List Usage) (name : Text) (usage : Usage) → usage_in rest name ≡ Some usage → find (λ s. answers_to name (label_of s)) (built_subs rest) ≡ Some (built_usage usage)
+  shape_met [] name usage is = absurd cc
+  shape_met (first ∷ rest) name usage is = go (shape_met rest name usage) (bytes_eq first.name name) is
+    where
+      go : (usage_in rest name ≡ Some usage → find (λ s. answers_to name (label_of s)) (built_subs rest) ≡ Some (built_usage usage)) → (b : Bool) → cond b (Some first) (usage_in rest name) ≡ Some usage
+          → cond (b || false) (Some (built_usage first)) (find (λ s. answers_to name (label_of s)) (built_subs rest)) ≡ Some (built_usage usage)
+      go later true is = let same : first ≡ usage = cc in ap (λ (u : Usage). Some (built_usage u)) same
+      go later false is = later is
 
-abbrev RuleAt : Text → List Text → Type 0
-RuleAt name rest = Agrees (fault_of lab_app (name ∷ rest)) (subcommand_of lab_app (name ∷ rest)) (spelt (name ∷ rest))
+  clear_in : (rest : List Usage) (name : Text) (usage : Usage) → list_all is_clear rest ≡ true → usage_in rest name ≡ Some usage → is_clear usage ≡ true
+  clear_in [] name usage all is = absurd cc
+  clear_in (first ∷ rest) name usage all is =
+      let parts = and_parts (is_clear first) (list_all is_clear rest) all in
+      go parts.0 (clear_in rest name usage parts.1) (bytes_eq first.name name) is
+    where
+      go : is_clear first ≡ true → (usage_in rest name ≡ Some usage → is_clear usage ≡ true) → (b : Bool) → cond b (Some first) (usage_in rest name) ≡ Some usage → is_clear usage ≡ true
+      go here later true is = let same : first ≡ usage = cc in subst (λ (u : Usage). is_clear u ≡ true) same here
+      go here later false is = later is
 
-at_check : (rest : List Text) → RuleAt (codes "check") rest
-unfolding clap_on_literals
-at_check rest = named (codes "check") rest (flagged_shape (codes "check") (codes "asm") (Some (codes "explain")) (Some (long (codes "context")))) _ refl refl refl (check_agrees rest)
+  -- what the level answers past its words, and past its subcommand
+  abbrev after_level : Bool → Kinds
+  after_level met = or_else (settle_fault top.rules false nothing_held)
+      (or_else (defaults_fault (settled top.rules nothing_held).rows top.rules)
+      (check_fault top (finished top.rules nothing_held) met))
 
-at_asm : (rest : List Text) → RuleAt (codes "asm") rest
-unfolding clap_on_literals
-at_asm rest = named (codes "asm") rest (flagged_shape (codes "asm") (codes "raw") None (Some (short 111))) _ refl refl refl (asm_agrees rest)
+  nothing_left : after_level true ≡ []
+  unfolding clap_on_literals
+  nothing_left = refl
 
-at_dis : (rest : List Text) → RuleAt (codes "dis") rest
-unfolding clap_on_literals
-at_dis rest = named (codes "dis") rest (flagged_shape (codes "dis") (codes "units") None None) _ refl refl refl (dis_agrees rest)
+  abbrev after_walk : Kinds → Walk → Kinds
+  after_walk kinds w = or_else kinds (or_else (entered_fault (built_app us) w.stopped)
+      (or_else (settle_fault top.rules false w.held)
+      (or_else (defaults_fault (settled top.rules w.held).rows top.rules)
+      (check_fault top (finished top.rules w.held) (is_some (entered (built_app us) w.stopped))))))
 
-at_book : (rest : List Text) → RuleAt (codes "book") rest
-unfolding clap_on_literals
-at_book rest = named (codes "book") rest (flagged_shape (codes "book") (codes "explain") None (Some (long (codes "traitors")))) _ refl refl refl (book_agrees rest)
+  and_nothing : (kinds : Kinds) → Fails kinds → Fails (or_else kinds [])
+  and_nothing [] fails = fails
+  and_nothing (k ∷ ks) fails = λ e. cc
 
-at_table : (rest : List Text) → RuleAt (codes "table") rest
-unfolding clap_on_literals
-at_table rest = named (codes "table") rest table_shape _ refl refl refl (form_agrees rest)
+  -- ---- a subcommand
 
-at_muster : (rest : List Text) → RuleAt (codes "muster") rest
-unfolding clap_on_literals
-at_muster rest = named (codes "muster") rest (file_shape (codes "muster")) _ refl refl refl (muster_agrees rest)
+  module _ (word : Text) (rest : List Text) (usage : Usage) (is : usage_in us word ≡ Some usage) where
+    abbrev below : Kinds
+    below = level_fault (built_usage usage) [] nothing_held rest false []
 
-at_play : (rest : List Text) → RuleAt (codes "play") rest
-unfolding clap_on_literals
-at_play rest = named (codes "play") rest play_shape _ refl refl refl (campaign_agrees rest)
+    abbrev rows : List Row
+    rows = rows_after (takers 1 usage.places usage.flags) [] rest
 
-at_audit : (rest : List Text) → RuleAt (codes "audit") rest
-unfolding clap_on_literals
-at_audit rest = named (codes "audit") rest audit_shape _ refl refl refl (audit_agrees rest)
+    word_is : usage.name ≡ word
+    word_is = (bytes_eq-Decides usage.name word).0 (find_among (λ usage. bytes_eq usage.name word) us usage is).1
 
-no_words : Fails (fault_of lab_app [])
-unfolding clap_on_literals
-no_words = λ e. cc
+    same_is : usage_in us usage.name ≡ Some usage
+    same_is = ap (usage_in us) word_is ∙ is
 
-at_help : (rest : List Text) → Fails (fault_of lab_app (codes "help" ∷ rest))
-unfolding clap_on_literals
-at_help rest = λ e. cc
+    clears : is_clear usage ≡ true
+    clears = clear_in us word usage clear is
 
-at_dashes : (rest : List Text) → Fails (fault_of lab_app (codes "--" ∷ rest))
-unfolding clap_on_literals
-at_dashes [] = λ e. cc
-at_dashes (word ∷ rest) = λ e. cc
+    parts : (is_distinct (ids usage.places usage.flags) ≡ true) × (nat_lt (past 1 usage.places) usize_max && not (bytes_eq usage.name (codes "help")) ≡ true)
+    parts = and_parts (is_distinct (ids usage.places usage.flags)) (nat_lt (past 1 usage.places) usize_max && not (bytes_eq usage.name (codes "help"))) clears
 
--- a word that is no subcommand
-at_other : (word : Text) (rest : List Text) → subcommand_met names idle word ≡ None → Fails (fault_of lab_app (word ∷ rest))
-at_other word rest other = elim (true_or_false (is_end_of_flags word)) [
-  | inl dashes ↦
-      subst (λ (w : Text). Fails (fault_of lab_app (w ∷ rest))) (sym ((bytes_eq-Decides word (codes "--")).0 dashes)) (at_dashes rest)
-  | inr ends ↦ lab_fails (word ∷ rest) (turn_fails top names start word rest (elim (true_or_false (is_flag word)) [
-    | inl flag ↦ flag_turn top names 1 idle [] None word other ends (request_word_fails top.rules alone top.args_override_self [] None word ends flag)
-    | inr plain ↦ rw (plain_turn top names 1 idle [] None word other ends plain) (λ e. cc)
-  ]))
-]
+    few : (nat_lt (past 1 usage.places) usize_max ≡ true) × (not (bytes_eq usage.name (codes "help")) ≡ true)
+    few = and_parts (nat_lt (past 1 usage.places) usize_max) (not (bytes_eq usage.name (codes "help"))) parts.1
+
+    met_is : subcommand_met names idle word ≡ Some usage.name
+    met_is = name_met us word ∙ ap (λ (o : Option Usage). known o (bytes_eq (codes "help") word)) is
+
+    no_help : bytes_eq usage.name (codes "help") ≡ false
+    no_help = not-true (bytes_eq usage.name (codes "help")) few.1
+
+    turns : turn_fault top names start word ≡ []
+    turns = rw (met_is, no_help) refl
+
+    meets : walked top.rules names start word ≡ record start { stopped = Some (usage.name, []) }
+    unfolding walked
+    meets = rw met_is refl
+
+    passes : walk_fault top names start (word ∷ rest) ≡ []
+    unfolding walk_fault
+    passes = ap₂ (λ (k : Kinds) (w : Walk). or_else k (walk_fault top names w rest)) turns meets ∙ stopped_fault top names start (usage.name, []) rest
+
+    stop_is : walk top.rules names nothing_held (word ∷ rest) ≡ record start { stopped = Some (usage.name, rest) }
+    stop_is = ap (λ (w : Walk). fold (walked top.rules names) w rest) meets ∙ fold_stopped top.rules names start usage.name [] rest
+
+    entered_is : entered (built_app us) (Some (usage.name, rest)) ≡ Some (usage.name, rows)
+    entered_is = ap (λ (o : Option Shape). option_map (λ s. (s.name, rows_after s.rules [] rest)) o) (shape_met us usage.name usage same_is)
+
+    below_is : entered_fault (built_app us) (Some (usage.name, rest)) ≡ below
+    below_is = ap (λ (o : Option Shape). option_map_or (λ s. level_fault s [] nothing_held rest false []) o []) (shape_met us usage.name usage same_is)
+
+    faults_are : faults (word ∷ rest) ≡ or_else below []
+    faults_are =
+        ap₂ after_walk passes stop_is
+        ∙ ap₂ (λ (k : Kinds) (m : Option (Text × List Row)). or_else k (after_level (is_some m))) below_is entered_is
+        ∙ ap (or_else below) nothing_left
+
+    met_are : met_in (word ∷ rest) ≡ Some (usage.name, rows)
+    met_are = ap (λ (w : Walk). entered (built_app us) w.stopped) stop_is ∙ entered_is
+
+    as_told : (taken : Option Met) → Agrees usage.places below rows taken
+        → AgreesWith us (or_else below []) (Some (usage.name, rows)) (option_map (λ met. record { name = usage.name; value = λ name. value_at name met }) taken)
+    as_told None fails = and_nothing below fails
+    as_told (Some met) agrees = (
+      ap (λ (k : Kinds). or_else k []) agrees.0,
+      (λ i. Some (record { name = usage.name; value = λ name. agrees.1 name i })),
+      ap (λ (o : Option Usage). option_map_or (λ u. list_all (λ p. is_some (value_at p met)) u.places) o false) same_is ∙ all_filled met usage.places agrees.2,
+    )
+
+    at_usage : RuleAt (word ∷ rest) (told_in usage rest)
+    at_usage =
+        subst (λ (k : Kinds). AgreesWith us k (met_in (word ∷ rest)) (told_in usage rest)) (sym faults_are)
+        (subst (λ (m : Option (Text × List Row)). AgreesWith us (or_else below []) m (told_in usage rest)) (sym met_are)
+        (as_told (taken_in usage rest) (taken_agrees usage.name usage.places usage.flags parts.0 few.0 rest)))
+
+  -- ---- another word
+
+  lab_fails : (words : List Text) → Fails (walk_fault top names start words) → Fails (faults words)
+  lab_fails words fails = or_else-first _ _ fails
+
+  word_fails : (word : Text) (rest : List Text) → Fails (turn_fault top names start word) → Fails (faults (word ∷ rest))
+  word_fails word rest fails = lab_fails (word ∷ rest) (turn_fails top names start word rest fails)
+
+  no_words : Fails (faults [])
+  unfolding clap_on_literals
+  no_words = λ e. cc
+
+  module _ (word : Text) (rest : List Text) (other : subcommand_met names idle word ≡ None) where
+    dashes : bytes_eq word (codes "--") ≡ true → Fails (faults (word ∷ rest))
+    unfolding clap_on_literals
+    dashes ends =
+        let passes = dashes_pass top names 1 idle [] None word other ends in
+        fails_as (ap₂ (λ (k : Kinds) (w : Walk). after_walk (or_else k (walk_fault top names w rest)) (fold (walked top.rules names) w rest)) passes.0 passes.1) (behind rest)
+      where
+        behind : (rest : List Text) → Fails (after_walk (walk_fault top names (trailing_in 1 idle nothing_held) rest) (fold (walked top.rules names) (trailing_in 1 idle nothing_held) rest))
+        behind [] = λ e. cc
+        behind (more ∷ rest) = λ e. cc
+
+    by_long : (name : Text) (v : Option Text) → Fails (long_fault top.rules false (arg_by_long top.rules name) v nothing_held)
+    by_long name v = go (bytes_eq (codes "help") name) (bytes_eq (codes "version") name)
+      where
+        go : (help version : Bool) → Fails (long_fault top.rules false (cond (help || false) (Some (filled help_rule)) (cond (version || false) (Some (filled version_rule)) None)) v nothing_held)
+        go true version = none_long_fails top.rules false nothing_held true v
+        go false true = version_long_fails top.rules false nothing_held v
+        go false false = none_long_fails top.rules false nothing_held false v
+
+    by_short : (c : ℕ) (behind : Text) (then : Held → Kinds) → Fails (short_fault top.rules false (arg_by_short top.rules c) behind nothing_held then)
+    by_short c behind then = go (104 == c) (86 == c)
+      where
+        go : (help version : Bool) → Fails (short_fault top.rules false (cond (help || false) (Some (filled help_rule)) (cond (version || false) (Some (filled version_rule)) None)) behind nothing_held then)
+        go true version = none_short_fails top.rules false nothing_held true behind then
+        go false true = version_short_fails top.rules false nothing_held behind then
+        go false false = none_short_fails top.rules false nothing_held false behind then
+
+    at_other : (look : Look) → Looks word look → Fails (faults (word ∷ rest))
+    at_other end_of_flags seen = dashes seen
+    at_other (long name v) seen = word_fails word rest (long_fails top names 1 idle [] None word other name v seen (by_long name v))
+    at_other (short c behind) seen = word_fails word rest (short_fails top names 1 idle [] None word other c behind seen (arg_by_short top.rules c) refl (by_short c behind))
+    at_other plain seen = word_fails word rest (fails_as (plain_turn top names 1 idle [] None word other seen).0 (λ e. cc))
+
+  at_help : (word : Text) (rest : List Text) → subcommand_met names idle word ≡ Some (codes "help") → Fails (faults (word ∷ rest))
+  at_help word rest met = word_fails word rest (rw met (λ e. cc))
+
+  agrees_in : (words : List Text) → RuleAt words (spelt_in us words)
+  agrees_in [] = no_words
+  agrees_in (word ∷ rest) = go (usage_in us word) refl (bytes_eq (codes "help") word) refl
+    where
+      go : (o : Option Usage) → usage_in us word ≡ o → (help : Bool) → bytes_eq (codes "help") word ≡ help → RuleAt (word ∷ rest) (option_and_then (λ usage. told_in usage rest) o)
+      go (Some usage) is help e = at_usage word rest usage is
+      go None is true e = at_help word rest (name_met us word ∙ (λ i. known (is i) (e i)))
+      go None is false e = at_other word rest (name_met us word ∙ (λ i. known (is i) (e i))) (look_of word) (looks word)
+
+-- ---- the program
+
+abbrev pub LabAgrees : Kinds → Option (Text × List Row) → Option Told → Type 0
+LabAgrees kinds met None = Fails kinds
+LabAgrees kinds met (Some told) = (kinds ≡ []) × (task_met met ≡ Some told) × (has_places told ≡ true)
+
+all_clear : list_all is_clear usages ≡ true
+all_clear = refl
+
+as_lab : (kinds : Kinds) (met : Option (Text × List Row)) (told : Option Told) → AgreesWith usages kinds met told → LabAgrees kinds met told
+as_lab kinds met None fails = fails
+as_lab kinds met (Some told) agrees = agrees
 
 -- `clap` takes the words where the rule finds a task in them, and meets that task
-pub rule_agrees : (words : List Text) → Agrees (fault_of lab_app words) (subcommand_of lab_app words) (spelt words)
-rule_agrees [] = no_words
-rule_agrees (word ∷ rest) = elim (is_text (codes "check") word) [
-  | inl is ↦ subst (λ (w : Text). RuleAt w rest) (sym is) (at_check rest)
-  | inr no_check ↦ elim (is_text (codes "asm") word) [
-    | inl is ↦ subst (λ (w : Text). RuleAt w rest) (sym is) (at_asm rest)
-    | inr no_asm ↦ elim (is_text (codes "dis") word) [
-      | inl is ↦ subst (λ (w : Text). RuleAt w rest) (sym is) (at_dis rest)
-      | inr no_dis ↦ elim (is_text (codes "book") word) [
-        | inl is ↦ subst (λ (w : Text). RuleAt w rest) (sym is) (at_book rest)
-        | inr no_book ↦ elim (is_text (codes "table") word) [
-          | inl is ↦ subst (λ (w : Text). RuleAt w rest) (sym is) (at_table rest)
-          | inr no_table ↦ elim (is_text (codes "muster") word) [
-            | inl is ↦ subst (λ (w : Text). RuleAt w rest) (sym is) (at_muster rest)
-            | inr no_muster ↦ elim (is_text (codes "play") word) [
-              | inl is ↦ subst (λ (w : Text). RuleAt w rest) (sym is) (at_play rest)
-              | inr no_play ↦ elim (is_text (codes "audit") word) [
-                | inl is ↦ subst (λ (w : Text). RuleAt w rest) (sym is) (at_audit rest)
-                | inr no_audit ↦ elim (is_text (codes "help") word) [
-                  | inl is ↦ rw (no_check, no_asm, no_dis, no_book, no_table, no_muster, no_play, no_audit) (subst (λ (w : Text). Fails (fault_of lab_app (w ∷ rest))) (sym is) (at_help rest))
-                  | inr no_help ↦ rw (no_check, no_asm, no_dis, no_book, no_table, no_muster, no_play, no_audit) (at_other word rest (rw (no_check, no_asm, no_dis, no_book, no_table, no_muster, no_play, no_audit, no_help) refl))
-                ]
-              ]
-            ]
-          ]
-        ]
-      ]
-    ]
-  ]
-]
+pub rule_agrees : (words : List Text) → LabAgrees (fault_of lab_app words) (subcommand_of lab_app words) (spelt words)
+rule_agrees words = as_lab (fault_of lab_app words) (subcommand_of lab_app words) (spelt words)
+    (subst (λ (a : App). AgreesWith usages (built_fault a nothing_held words) (entered a (stop_after a.top.rules (names_of a) words)) (spelt words))
+    (sym (lab_built usages all_clear)) (agrees_in usages all_clear words))

@@ -1,59 +1,53 @@
 -- What was met, by its parts.
-use Rattle.std.proofs.Common.{◌≡◌, ◌∙◌, Bor, List, Option, Some, None, Box, Global, codes, false, refl, sym, option_map, IsSome}
+use Rattle.std.proofs.Common.{◌≡◌, ◌∙◌, inl, inr, Bool, cond, Bor, List, [], ◌∷◌, Option, Some, None, ap, codes, false, find, true, refl, sym, option_map}
+use Rattle.std.proofs.lemmas.Bool.{cases_Bool}
+use Rattle.std.proofs.lemmas.Slice.Eq.{bytes_eq-Decides}
 use Rattle.std.specs.Option.{option_map_or}
+use Rattle.std.specs.Prelude.{option_and_then, slice_get}
 use Rattle.std.specs.Str.{bytes_eq}
 use Rattle.clap.specs.declared.parser.matches.Found.{Found}
-use Rattle.clap.proofs.WalkLemmas.{first_value-rows}
-use Rattle.std.specs.Box.{box_value}
-use Rattle.clap.specs.Words.{Row, Text, first_of, first_value, rows_of, subcommand_rows}
-use Rattle.clap.specs.declared.parser.matches.ArgMatches.TheViews.{out-SubCommand}
-use Rattle.clap.specs.declared.parser.matches.SubCommand.{SubCommand}
-use Rattle.command_line.specs.Lab.{task_met}
+use Rattle.clap.specs.Facts.{Entry}
+use Rattle.clap.specs.Matches.{matched_of}
+use Rattle.clap.specs.Walk.{Text, row_of, rows_of, texts}
+use Rattle.clap.specs.Words.{first_value}
+use Rattle.clap.proofs.WalkLemmas.{find_row}
+use Rattle.command_line.specs.Lab.{given, given_value, is_given}
+use Rattle.command_line.specs.Met.{has_places}
 use Rattle.command_line.specs.Told.{Told}
 
-abbrev pub told_of : Text → Option Text → Option Text → Option Text → Option Text → Option Text → Text → Told
-told_of name second third switch also value file = record {
-  name = name;
-  file = file;
-  second = second;
-  third = third;
-  switched = option_map_or (bytes_eq (codes "true")) switch false;
-  also = option_map_or (bytes_eq (codes "true")) also false;
-  value = value;
-}
+first_text : (vs : List (Bor Text)) → option_map (λ s. s.now) (slice_get vs 0) ≡ slice_get (texts vs) 0
+first_text [] = refl
+first_text (v ∷ vs) = refl
 
--- what the rows of a subcommand tell
-abbrev pub told_from : Text → List Row → Option Told
-told_from name rows = option_map (told_of name (first_of (codes "second") rows) (first_of (codes "third") rows) (first_of (codes "switch") rows) (first_of (codes "also") rows) (first_of (codes "value") rows))
-    (first_of (codes "file") rows)
+-- what the words gave to a name is its first value, if that is no default
+pub value_given : (f : Found) (id : Text)
+    → given id (rows_of f) ≡ cond (is_given (option_and_then (λ a. a.source) (matched_of f id))) (first_value f id) None
+value_given f id = ap (λ o. option_map_or given_value o None) (find_row f.entries.items id) ∙ go (find (λ e. bytes_eq e.0.now id) f.entries.items)
+  where
+    go : (o : Option Entry) → option_map_or given_value (option_map row_of o) None
+        ≡ cond (is_given (option_and_then (λ a. a.source) (option_map (λ e. e.1) o)))
+        (option_and_then (λ a. option_map (λ s. s.now) (slice_get a.vals.items 0)) (option_map (λ e. e.1) o)) None
+    go None = refl
+    go (Some e) = ap (λ (text : Option Text). cond (is_given e.1.source) text None) (sym (first_text e.1.vals.items))
 
--- a text behind a reference is what `clap` has of it
-pub read_is : (found : Found) (id : Text) (text : Option (Bor Text)) → option_map (λ s. s.now) text ≡ first_value found id
-    → first_of id (rows_of found) ≡ option_map (λ s. s.now) text
-read_is found id text is = sym (first_value-rows found id) ∙ sym is
+off : (known name : Text) → (name ≡ known → ⊥) → bytes_eq known name ≡ false
+off known name apart = elim (cases_Bool (bytes_eq known name)) [
+  | inl same ↦ absurd (apart (sym ((bytes_eq-Decides known name).0 same)))
+  | inr other ↦ other
+]
 
-pub switch_read : (text : Option (Bor Text))
-    → option_map_or (bytes_eq (codes "true")) (option_map (λ t. t.now) text) false ≡ option_map_or (λ t. bytes_eq (codes "true") t.now) text false
-switch_read None = refl
-switch_read (Some text) = refl
-
-pub task_met-parts : (met : Option (Text × List Row)) (name : Text) (rows : List Row)
-    → option_map (λ p. p.0) met ≡ Some name → option_map (λ p. p.1) met ≡ Some rows
-    → task_met met ≡ told_from name rows
-task_met-parts None name rows a b = absurd cc
-task_met-parts (Some p) name rows a b =
-    let x : p.0 ≡ name = cc in
-    let y : p.1 ≡ rows = cc in
-    (λ i. told_from (x i) (y i))
-
--- the name of the rows is the name of the subcommand
-pub subcommand_rows-name : (o : Option (Box SubCommand Global))
-    → option_map (λ p. p.0) (subcommand_rows o)
-    ≡ option_map (λ b. (out-SubCommand (box_value b)).name.now) o
-subcommand_rows-name None = refl
-subcommand_rows-name (Some b) = refl
-
--- what is none is not some
-pub not_some : {X : Type 0} (o : Option X) → o ≡ None → IsSome o → ⊥
-not_some None e h = cc
-not_some (Some x) e h = cc
+-- each task has one of the names
+pub no_other_task : (told : Told) → has_places told ≡ true
+    → (told.name ≡ codes "check" → ⊥) → (told.name ≡ codes "asm" → ⊥) → (told.name ≡ codes "dis" → ⊥) → (told.name ≡ codes "book" → ⊥)
+    → (told.name ≡ codes "table" → ⊥) → (told.name ≡ codes "muster" → ⊥) → (told.name ≡ codes "play" → ⊥) → (told.name ≡ codes "audit" → ⊥) → ⊥
+no_other_task told is check asm dis book table muster play audit =
+    let bad : false ≡ true = rw (
+      off (codes "check") told.name check,
+      off (codes "asm") told.name asm,
+      off (codes "dis") told.name dis,
+      off (codes "book") told.name book,
+      off (codes "table") told.name table,
+      off (codes "muster") told.name muster,
+      off (codes "play") told.name play,
+      off (codes "audit") told.name audit,
+    ) at is in absurd cc

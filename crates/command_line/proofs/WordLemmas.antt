@@ -1,236 +1,225 @@
--- What `clap` makes of one word, by the rule's tests.
-use Rattle.std.proofs.Common.{◌≡◌, ◌∙◌, ◌==◌, ◌⊎◌, inl, inr, Bool, true, false, List, ℕ, suc, [], ◌∷◌, Option, Some, None, refl, sym, is_some, length, drop, eqb-true, subst}
-use Rattle.std.specs.Prelude.{⊤, slice_get, encode_utf8}
-use Rattle.std.specs.Str.{chars}
-use Rattle.clap.specs.Lexer.{long_of}
-use Rattle.clap.specs.Kinds.{Kinds}
-use Rattle.clap.specs.Walk.{Held, Row, Rule, Text, Waiting, Walk, idle, plain, after_flag, bundle_met, arg_by_long, arg_by_short, long_or_other, plain_word, settled, takes_values}
-use Rattle.clap.specs.Simple.{filled, help_rule, version_rule}
-use Rattle.clap.specs.Faults.{flag_word_fault, flags_fault, long_fault, option_fault, react_fault, settle_fault, short_fault, use_fault}
-use Rattle.command_line.specs.Flags.{is_end_of_flags, is_flag}
-use Rattle.command_line.proofs.AgreeLemmas.{Fails, or_else-first, or_else-second, true_or_false}
+-- What `clap` makes of one word, by what it looks like.
+use Rattle.std.proofs.Common.{◌≡◌, ◌∙◌, ◌⊎◌, inl, inr, Bool, cond, true, false, List, ℕ, suc, [], ◌∷◌, ◌++◌, Option, Some, None, ap, append_assoc, append-nil, codes, refl, sym, is_some, length, drop}
+use Rattle.std.specs.List.{fold}
+use Rattle.std.specs.Option.{option_map_or}
+use Rattle.std.specs.Prelude.{slice_get, encode_utf8}
+use Rattle.std.specs.Str.{bytes_eq, chars}
+use Rattle.clap.specs.Lexer.{long_of, short_of}
+use Rattle.clap.specs.Kinds.{Kinds, or_else}
+use Rattle.clap.specs.Walk.{Held, Names, Outcome, Row, Rule, Step, Text, Waiting, Walk, after_flag, after_step, arg_by_long, arg_by_short, attached_value, bundle_met, long_met, long_or_other, next, option_met, plain_word, reacted, subcommand_met, takes_values, walked}
+use Rattle.clap.specs.Walk as clap
+use Rattle.clap.specs.Simple.{Shape}
+use Rattle.clap.specs.Faults.{flag_word_fault, flags_fault, long_fault, option_fault, react_fault, short_fault, step_fault, turn_fault, walk_fault}
+use Rattle.command_line.specs.Usage.{Look, end_of_flags, long, look_of, plain, short, short_look}
 
--- what is held between two words, and where the walk stands there
+-- some error comes
+abbrev pub Fails : Kinds → Type 0
+Fails kinds = kinds ≡ [] → ⊥
+
+pub or_else-first : (a b : Kinds) → Fails a → Fails (or_else a b)
+or_else-first [] b f = absurd (f refl)
+or_else-first (k ∷ ks) b f = f
+
+pub or_else-second : (a b : Kinds) → Fails b → Fails (or_else a b)
+or_else-second [] b f = f
+or_else-second (k ∷ ks) b f = λ e. cc
+
+pub fails_as : {a b : Kinds} → a ≡ b → Fails b → Fails a
+fails_as same fails = λ e. fails (sym same ∙ e)
+
+-- ---- looks
+
+-- the word begins with a hyphen and this letter
+pub record IsShort (word : Text) (c : ℕ) (rest : Text) : Type 0 where
+  pub flags : Text
+  pub short_is : short_of word ≡ Some flags
+  pub first : slice_get (chars flags) 0 ≡ Some c
+  pub rest_is : drop (length (encode_utf8 c)) flags ≡ rest
+
+-- the word has a hyphen, and no character behind it
+pub record IsBare (word : Text) : Type 0 where
+  pub flags : Text
+  pub short_is : short_of word ≡ Some flags
+  pub none : slice_get (chars flags) 0 ≡ None
+
+abbrev pub Looks : Text → Look → Type 0
+Looks word end_of_flags = bytes_eq word (codes "--") ≡ true
+Looks word (long name value) = (bytes_eq word (codes "--") ≡ false) × (long_of word ≡ Some (name, value))
+Looks word (short c rest) = (bytes_eq word (codes "--") ≡ false) × (long_of word ≡ None) × IsShort word c rest
+Looks word plain = (bytes_eq word (codes "--") ≡ false) × (long_of word ≡ None) × ((short_of word ≡ None) ⊎ IsBare word)
+
+pub looks : (word : Text) → Looks word (look_of word)
+unfolding look_of
+looks word = go (bytes_eq word (codes "--")) refl (long_of word) refl (short_of word) refl
+  where
+    by_letter : (flags : Text) → bytes_eq word (codes "--") ≡ false → long_of word ≡ None → short_of word ≡ Some flags → (x : Option ℕ) → slice_get (chars flags) 0 ≡ x
+        → Looks word (option_map_or (λ c. short c (drop (length (encode_utf8 c)) flags)) x plain)
+    by_letter flags a b c None e = (a, b, inr (record { flags = flags; short_is = c; none = e }))
+    by_letter flags a b c (Some x) e = (a, b, record { flags = flags; short_is = c; first = e; rest_is = refl })
+
+    go : (b : Bool) → bytes_eq word (codes "--") ≡ b → (l : Option (Text × Option Text)) → long_of word ≡ l → (f : Option Text) → short_of word ≡ f
+        → Looks word (cond b end_of_flags (option_map_or (λ p. long p.0 p.1) l (option_map_or short_look f plain)))
+    go true a l b f c = a
+    go false a (Some p) b f c = (a, b)
+    go false a None b None c = (a, b, inl c)
+    go false a None b (Some flags) c = by_letter flags a b c (slice_get (chars flags) 0) refl
+
+-- ---- where the walk stands
+
 abbrev pub held : List Row → Option (Text × List Text) → Held
 held rows pending = record { rows = rows; pending = pending; skip = 0 }
 
 abbrev pub walk_in : ℕ → Waiting → Held → Walk
-walk_in position waiting h =
-    record { held = h; waiting = waiting; position = position; is_trailing = false; stopped = None }
+walk_in position waiting h = record { held = h; waiting = waiting; position = position; is_trailing = false; stopped = None }
 
-abbrev pub walk_at : ℕ → Held → Walk
-walk_at position h = walk_in position idle h
+-- behind `--`
+abbrev pub trailing_in : ℕ → Waiting → Held → Walk
+trailing_in position waiting h = record { held = h; waiting = waiting; position = position; is_trailing = true; stopped = None }
 
--- ---- a flag that fails
-
-abbrev pub IsHelpOrUnknown : Option Rule → Type 0
-IsHelpOrUnknown rule = (rule ≡ None) ⊎ (rule ≡ Some (filled help_rule))
-
-module _ (c : List Rule) (again : Bool) (h : Held) where
-  help_fails : Fails (react_fault c again (filled help_rule) [] h)
-  help_fails = or_else-second (settle_fault c again h) _ (λ e. cc)
-
-  help_long : (v : Option Text) → Fails (long_fault c again (Some (filled help_rule)) v h)
-  help_long None = help_fails
-  help_long (Some v) = λ e. cc
-
-  pub help_long_fails : (rule : Option Rule) (v : Option Text) → IsHelpOrUnknown rule → Fails (long_fault c again rule v h)
-  help_long_fails rule v known = elim known [
-    | inl none ↦ rw none (λ e. cc)
-    | inr help ↦ rw help (help_long v)
-  ]
-
-  pub help_short_fails : (rule : Option Rule) (rest : Text) (next : Held → Kinds) → IsHelpOrUnknown rule
-      → Fails (short_fault c again rule rest h next)
-  help_short_fails rule rest next known = elim known [
-    | inl none ↦ rw none (λ e. cc)
-    | inr help ↦ rw help (or_else-first _ _ help_fails)
-  ]
-
-  -- where what waits cannot be settled, each flag fails
-  module _ (bad : Fails (settle_fault c again h)) where
-    unsettled_option : (a : Rule) (v : Option Text) → Fails (option_fault c again a v h)
-    unsettled_option a None = bad
-    unsettled_option a (Some v) = or_else-first _ (use_fault again a (v ∷ []) (settled c h).rows) bad
-
-    unsettled_known : (a : Rule) (v : Option Text) (b : Bool) → takes_values a ≡ b → Fails (long_fault c again (Some a) v h)
-    unsettled_known a v true e = rw e (unsettled_option a v)
-    unsettled_known a None false e = rw e (or_else-first _ (use_fault again a [] (settled c h).rows) bad)
-    unsettled_known a (Some v) false e = rw e (λ e. cc)
-
-    pub unsettled_long : (rule : Option Rule) (v : Option Text) → Fails (long_fault c again rule v h)
-    unsettled_long None v = λ e. cc
-    unsettled_long (Some a) v = unsettled_known a v _ refl
-
-    unsettled_letter : (a : Rule) (rest : Text) (next : Held → Kinds) (b : Bool) → takes_values a ≡ b
-        → Fails (short_fault c again (Some a) rest h next)
-    unsettled_letter a rest next true e = rw e (unsettled_option a _)
-    unsettled_letter a rest next false e =
-        rw e (or_else-first _ _ (or_else-first _ (use_fault again a [] (settled c h).rows) bad))
-
-    pub unsettled_short : (rule : Option Rule) (rest : Text) (next : Held → Kinds) → Fails (short_fault c again rule rest h next)
-    unsettled_short None rest next = λ e. cc
-    unsettled_short (Some a) rest next = unsettled_letter a rest next _ refl
-
-no_first : (cs : List ℕ) → is_some (slice_get cs 0) ≡ false → slice_get cs 0 ≡ None
-no_first [] e = refl
-no_first (x ∷ cs) e = absurd cc
-
--- a hyphen with no character behind it comes to nothing
-no_flags : (c : List Rule) (again : Bool) (h : Held) (k : ℕ) (flags : Text) → slice_get (chars flags) 0 ≡ None
-    → flags_fault c again (suc k) flags 0 h ≡ []
-unfolding flags_fault
-no_flags c again h k flags none = rw none refl
-
-no_bundle : (c : List Rule) (waiting : Waiting) (h : Held) (k : ℕ) (flags word : Text) → slice_get (chars flags) 0 ≡ None
-    → after_flag c waiting word (bundle_met c (suc k) flags 0 plain h).0 (bundle_met c (suc k) flags 0 plain h).1 ≡ plain_word c waiting word h
-unfolding bundle_met
-no_bundle c waiting h k flags word none = rw none refl
-
-no_chars : is_some (slice_get (chars []) 0) ≡ false
+nothing_first : slice_get (chars []) 0 ≡ None
 unfolding chars
-no_chars = refl
+nothing_first = refl
 
-pub dash_is_char : (rest : Text) → is_some (slice_get (chars (45 ∷ rest)) 0) ≡ true
-unfolding chars
-dash_is_char [] = refl
-dash_is_char (b ∷ bs) = refl
+some_first : (x : ℕ) → None ≡ Some x → ⊥
+some_first x e = cc
 
-module _ (c : List Rule) (again : Bool) (rows : List Row) (pending : Option (Text × List Text)) where
-  -- each `--name` that the word may be fails, and each letter behind a hyphen
-  abbrev pub LongFails : Text → Type 0
-  LongFails word = (p : Text × Option Text) → long_of word ≡ Some p → Fails (long_fault c again (arg_by_long c p.0) p.1 (held rows pending))
+module _ (s : Shape) (names : Names) (position : ℕ) (waiting : Waiting) (rows : List Row) (pending : Option (Text × List Text)) (word : Text) (other : subcommand_met names waiting word ≡ None) where
+  abbrev h : Held
+  h = held rows pending
 
-  abbrev pub LettersFail : Text → Type 0
-  LettersFail flags = (x : ℕ) (rest : Text) (next : Held → Kinds) → slice_get (chars flags) 0 ≡ Some x
-      → Fails (short_fault c again (arg_by_short c x) rest (held rows pending) next)
+  abbrev here : Walk
+  here = walk_in position waiting h
 
-  abbrev pub WordLettersFail : Text → Type 0
-  WordLettersFail [] = ⊤
-  WordLettersFail (hyphen ∷ flags) = LettersFail flags
+  abbrev flag_kinds : Kinds
+  flag_kinds = flag_word_fault s.rules s.args_override_self (long_of word) word h
 
-  flags_fail : (k : ℕ) (flags : Text) → LettersFail flags → is_some (slice_get (chars flags) 0) ≡ true
-      → Fails (flags_fault c again (suc k) flags 0 (held rows pending))
+  abbrev flag_made : Held × Step
+  flag_made = long_or_other s.rules waiting word (long_of word) h
+
+  -- `--`
+  pub dashes_pass : bytes_eq word (codes "--") ≡ true
+      → (turn_fault s names here word ≡ []) × (walked s.rules names here word ≡ trailing_in position waiting h)
+  unfolding walked
+  dashes_pass ends = (rw (other, ends) refl, rw (other, ends) refl)
+
+  -- another word, by what it comes to as a flag
+  turn_is : bytes_eq word (codes "--") ≡ false → (kinds : Kinds) (made : Held × Step) → flag_kinds ≡ kinds → flag_made ≡ made
+      → (turn_fault s names here word ≡ or_else kinds (step_fault s position made.0 made.1)) × (walked s.rules names here word ≡ after_step s.rules word here made.0 made.1)
+  unfolding walked
+  turn_is ends kinds made faults makes = (rw (other, ends, faults, makes) refl, rw (other, ends, makes) refl)
+
+  flag_fails : bytes_eq word (codes "--") ≡ false → Fails flag_kinds → Fails (turn_fault s names here word)
+  flag_fails ends fails = fails_as (turn_is ends flag_kinds flag_made refl refl).0 (or_else-first flag_kinds _ fails)
+
+  -- a flag, with its name or its letter
+  module _ (name : Text) (value : Option Text) (looks : Looks word (long name value)) where
+    long_kinds : flag_kinds ≡ long_fault s.rules s.args_override_self (arg_by_long s.rules name) value h
+    long_kinds = ap (λ (o : Option (Text × Option Text)). flag_word_fault s.rules s.args_override_self o word h) looks.1
+
+    pub long_fails : Fails (long_fault s.rules s.args_override_self (arg_by_long s.rules name) value h) → Fails (turn_fault s names here word)
+    long_fails fails = flag_fails looks.0 (fails_as long_kinds fails)
+
+    pub long_turn : (rule : Option Rule) → arg_by_long s.rules name ≡ rule → (kinds : Kinds) (made : Held) (waits : Waiting)
+        → long_fault s.rules s.args_override_self rule value h ≡ kinds
+        → after_flag s.rules waiting word (long_met s.rules rule value h).0 (long_met s.rules rule value h).1 ≡ (made, next waits)
+        → (turn_fault s names here word ≡ or_else kinds []) × (walked s.rules names here word ≡ walk_in position waits made)
+    long_turn rule is kinds made waits faults makes = turn_is looks.0 kinds (made, next waits)
+        (long_kinds ∙ ap (λ (r : Option Rule). long_fault s.rules s.args_override_self r value h) is ∙ faults)
+        (ap (λ (o : Option (Text × Option Text)). long_or_other s.rules waiting word o h) looks.1
+        ∙ ap (λ (r : Option Rule). after_flag s.rules waiting word (long_met s.rules r value h).0 (long_met s.rules r value h).1) is ∙ makes)
+
+  module _ (c : ℕ) (rest : Text) (looks : Looks word (short c rest)) where
+    letter_kinds : (flags : Text) → slice_get (chars flags) 0 ≡ Some c → drop (length (encode_utf8 c)) flags ≡ rest
+        → (rule : Option Rule) → arg_by_short s.rules c ≡ rule → (kinds : Kinds)
+        → ((then : Held → Kinds) → short_fault s.rules s.args_override_self rule rest h then ≡ kinds)
+        → flags_fault s.rules s.args_override_self (length flags) flags 0 h ≡ kinds
+    unfolding flags_fault
+    letter_kinds [] first behind rule is kinds faults = absurd (some_first c (sym nothing_first ∙ first))
+    letter_kinds (x ∷ xs) first behind rule is kinds faults = rw (first, behind, is) (faults _)
+
+    letter_fails : (flags : Text) → slice_get (chars flags) 0 ≡ Some c → drop (length (encode_utf8 c)) flags ≡ rest
+        → (rule : Option Rule) → arg_by_short s.rules c ≡ rule
+        → ((then : Held → Kinds) → Fails (short_fault s.rules s.args_override_self rule rest h then))
+        → Fails (flags_fault s.rules s.args_override_self (length flags) flags 0 h)
+    unfolding flags_fault
+    letter_fails [] first behind rule is fails = absurd (some_first c (sym nothing_first ∙ first))
+    letter_fails (x ∷ xs) first behind rule is fails = rw (first, behind, is) (fails _)
+
+    letter_met : (flags : Text) → slice_get (chars flags) 0 ≡ Some c → drop (length (encode_utf8 c)) flags ≡ rest
+        → (a : Rule) → arg_by_short s.rules c ≡ Some a → takes_values a ≡ true
+        → bundle_met s.rules (length flags) flags 0 clap.plain h ≡ option_met s.rules a (attached_value rest) h
+    unfolding bundle_met
+    letter_met [] first behind a is takes = absurd (some_first c (sym nothing_first ∙ first))
+    letter_met (x ∷ xs) first behind a is takes = rw (first, behind, is, takes) refl
+
+    short_kinds : flag_kinds ≡ flags_fault s.rules s.args_override_self (length looks.2.flags) looks.2.flags 0 h
+    short_kinds = ap (λ (o : Option (Text × Option Text)). flag_word_fault s.rules s.args_override_self o word h) looks.1
+        ∙ ap (λ (o : Option Text). option_map_or (λ flags. flags_fault s.rules s.args_override_self (length flags) flags 0 h) o []) looks.2.short_is
+
+    pub short_fails : (rule : Option Rule) → arg_by_short s.rules c ≡ rule
+        → ((then : Held → Kinds) → Fails (short_fault s.rules s.args_override_self rule rest h then)) → Fails (turn_fault s names here word)
+    short_fails rule is fails = flag_fails looks.0 (fails_as short_kinds (letter_fails looks.2.flags looks.2.first looks.2.rest_is rule is fails))
+
+    option_kinds : (a : Rule) → takes_values a ≡ true → (then : Held → Kinds)
+        → short_fault s.rules s.args_override_self (Some a) rest h then ≡ option_fault s.rules s.args_override_self a (attached_value rest) h
+    option_kinds a takes then = ap (λ (b : Bool). cond b (option_fault s.rules s.args_override_self a (attached_value rest) h)
+        (or_else (react_fault s.rules s.args_override_self a [] h) (then (reacted s.rules a [] h)))) takes
+
+    pub short_turn : (a : Rule) → arg_by_short s.rules c ≡ Some a → takes_values a ≡ true → (kinds : Kinds) (made : Held) (waits : Waiting)
+        → option_fault s.rules s.args_override_self a (attached_value rest) h ≡ kinds
+        → after_flag s.rules waiting word (option_met s.rules a (attached_value rest) h).0 (option_met s.rules a (attached_value rest) h).1 ≡ (made, next waits)
+        → (turn_fault s names here word ≡ or_else kinds []) × (walked s.rules names here word ≡ walk_in position waits made)
+    short_turn a is takes kinds made waits faults makes = turn_is looks.0 kinds (made, next waits)
+        (short_kinds ∙ letter_kinds looks.2.flags looks.2.first looks.2.rest_is (Some a) is kinds (λ then. option_kinds a takes then ∙ faults))
+        (ap (λ (o : Option (Text × Option Text)). long_or_other s.rules waiting word o h) looks.1
+        ∙ ap (λ (o : Option Text). clap.short_or_plain s.rules waiting word o h) looks.2.short_is
+        ∙ ap (λ (m : Held × Outcome). after_flag s.rules waiting word m.0 m.1) (letter_met looks.2.flags looks.2.first looks.2.rest_is a is takes)
+        ∙ makes)
+
+  -- a word that is no flag goes to what waits, or to the positional of its place
+  bare_kinds : (flags : Text) → slice_get (chars flags) 0 ≡ None → flags_fault s.rules s.args_override_self (length flags) flags 0 h ≡ []
   unfolding flags_fault
-  flags_fail k flags letters some = go (slice_get (chars flags) 0) refl some
-    where
-      go : (first : Option ℕ) → slice_get (chars flags) 0 ≡ first → is_some first ≡ true
-          → Fails (flags_fault c again (suc k) flags 0 (held rows pending))
-      go None is some = absurd cc
-      go (Some x) is some = rw is (letters x (drop (length (encode_utf8 x)) flags)
-          (flags_fault c again k (drop (length (encode_utf8 x)) flags) 0) is)
+  bare_kinds [] none = refl
+  bare_kinds (x ∷ xs) none = rw none refl
 
-  pub flag_word_fails : (word : Text) → LongFails word → WordLettersFail word → is_end_of_flags word ≡ false → is_flag word ≡ true
-      → Fails (flag_word_fault c again (long_of word) word (held rows pending))
-  flag_word_fails [] long letters ends flag = absurd cc
-  flag_word_fails (x ∷ rest) long letters ends flag = elim (true_or_false (x == 45)) [
-    | inl dash ↦
-        let x_is : x ≡ 45 = eqb-true x 45 dash in
-        subst (λ (y : ℕ). LongFails (y ∷ rest) → is_end_of_flags (y ∷ rest) ≡ false → is_flag (y ∷ rest) ≡ true → Fails (flag_word_fault c again (long_of (y ∷ rest)) (y ∷ rest) (held rows pending))) (sym x_is) (after_dash rest letters) long ends flag
-    | inr other ↦ let bad : false ≡ true = rw other at flag in absurd cc
-  ]
+  bare_met : (flags : Text) → slice_get (chars flags) 0 ≡ None → bundle_met s.rules (length flags) flags 0 clap.plain h ≡ (h, clap.plain)
+  unfolding bundle_met
+  bare_met [] none = refl
+  bare_met (x ∷ xs) none = rw none refl
+
+  pub plain_turn : Looks word plain → (turn_fault s names here word ≡ step_fault s position (plain_word s.rules waiting word h).0 (plain_word s.rules waiting word h).1)
+      × (walked s.rules names here word ≡ after_step s.rules word here (plain_word s.rules waiting word h).0 (plain_word s.rules waiting word h).1)
+  plain_turn looks = turn_is looks.0 [] (plain_word s.rules waiting word h)
+      (ap (λ (o : Option (Text × Option Text)). flag_word_fault s.rules s.args_override_self o word h) looks.1 ∙ kinds looks.2)
+      (ap (λ (o : Option (Text × Option Text)). long_or_other s.rules waiting word o h) looks.1 ∙ made looks.2)
     where
-      after_dash : (rest : Text) → LettersFail rest → LongFails (45 ∷ rest) → is_end_of_flags (45 ∷ rest) ≡ false → is_flag (45 ∷ rest) ≡ true
-          → Fails (flag_word_fault c again (long_of (45 ∷ rest)) (45 ∷ rest) (held rows pending))
-      after_dash [] letters long ends flag = let bad : false ≡ true = sym no_chars ∙ flag in absurd cc
-      after_dash (d ∷ []) letters long ends flag = elim (true_or_false (d == 45)) [
-        | inl dash ↦ let bad : true ≡ false = rw dash at ends in absurd cc
-        | inr other ↦ rw (other, other) (flags_fail 0 (d ∷ []) letters flag)
-      ]
-      after_dash (d ∷ e ∷ more) letters long ends flag = elim (true_or_false (d == 45)) [
-        | inl dash ↦
-            let d_is : d ≡ 45 = eqb-true d 45 dash in
-            subst (λ (y : ℕ). LongFails (45 ∷ y ∷ e ∷ more) → Fails (flag_word_fault c again (long_of (45 ∷ y ∷ e ∷ more)) (45 ∷ y ∷ e ∷ more) (held rows pending)))
-            (sym d_is) (λ fails. fails _ refl) long
-        | inr other ↦ rw (other, other) (flags_fail _ (d ∷ e ∷ more) letters flag)
+      kinds : (short_of word ≡ None) ⊎ IsBare word → flag_word_fault s.rules s.args_override_self None word h ≡ []
+      kinds bare = elim bare [
+        | inl none ↦ ap (λ (o : Option Text). option_map_or (λ flags. flags_fault s.rules s.args_override_self (length flags) flags 0 h) o []) none
+        | inr is ↦ ap (λ (o : Option Text). option_map_or (λ flags. flags_fault s.rules s.args_override_self (length flags) flags 0 h) o []) is.short_is ∙ bare_kinds is.flags is.none
       ]
 
-  -- each letter at all
-  pub each_letter : (word : Text)
-      → ((x : ℕ) (rest : Text) (next : Held → Kinds) → Fails (short_fault c again (arg_by_short c x) rest (held rows pending) next)) → WordLettersFail word
-  each_letter [] fails = tt
-  each_letter (hyphen ∷ flags) fails = λ x rest next is. fails x rest next
-
-  -- what is no flag is a value
-  pub plain_word_passes : (waiting : Waiting) (word : Text) → is_end_of_flags word ≡ false → is_flag word ≡ false
-      → (flag_word_fault c again (long_of word) word (held rows pending) ≡ [])
-      × (long_or_other c waiting word (long_of word) (held rows pending) ≡ plain_word c waiting word (held rows pending))
-  plain_word_passes waiting [] ends flag = (refl, refl)
-  plain_word_passes waiting (x ∷ rest) ends flag = elim (true_or_false (x == 45)) [
-    | inl dash ↦
-        let x_is : x ≡ 45 = eqb-true x 45 dash in
-        subst (λ (y : ℕ). is_flag (y ∷ rest) ≡ false
-        → (flag_word_fault c again (long_of (y ∷ rest)) (y ∷ rest) (held rows pending) ≡ [])
-        × (long_or_other c waiting (y ∷ rest) (long_of (y ∷ rest)) (held rows pending) ≡ plain_word c waiting (y ∷ rest) (held rows pending)))
-        (sym x_is) (after_dash rest) flag
-    | inr other ↦ (rw (other, other) refl, rw (other, other) refl)
-  ]
-    where
-      after_dash : (rest : Text) → is_flag (45 ∷ rest) ≡ false
-          → (flag_word_fault c again (long_of (45 ∷ rest)) (45 ∷ rest) (held rows pending) ≡ [])
-          × (long_or_other c waiting (45 ∷ rest) (long_of (45 ∷ rest)) (held rows pending) ≡ plain_word c waiting (45 ∷ rest) (held rows pending))
-      after_dash [] flag = (refl, refl)
-      after_dash (d ∷ more) flag = elim (true_or_false (d == 45)) [
-        | inl dash ↦
-            let d_is : d ≡ 45 = eqb-true d 45 dash in
-            let some : is_some (slice_get (chars (d ∷ more)) 0) ≡ true =
-            subst (λ (y : ℕ). is_some (slice_get (chars (y ∷ more)) 0) ≡ true) (sym d_is) (dash_is_char more) in
-            let bad : true ≡ false = sym some ∙ flag in absurd cc
-        | inr other ↦
-            let none = no_first (chars (d ∷ more)) flag in (
-              rw (other, other) (no_flags c again (held rows pending) (length more) (d ∷ more) none),
-              rw (other, other) (no_bundle c waiting (held rows pending) (length more) (d ∷ more) (45 ∷ d ∷ more) none),
-            )
+      made : (short_of word ≡ None) ⊎ IsBare word → long_or_other s.rules waiting word None h ≡ plain_word s.rules waiting word h
+      made bare = elim bare [
+        | inl none ↦ ap (λ (o : Option Text). clap.short_or_plain s.rules waiting word o h) none
+        | inr is ↦ ap (λ (o : Option Text). clap.short_or_plain s.rules waiting word o h) is.short_is
+            ∙ ap (λ (m : Held × Outcome). after_flag s.rules waiting word m.0 m.1) (bare_met is.flags is.none)
       ]
 
--- ---- the one flag is `--help`, or `-h`
+-- ---- walks
 
-pub record HasHelpAlone (rules : List Rule) : Type 0 where
-  pub by_long : (name : Text) → IsHelpOrUnknown (arg_by_long rules name)
-  pub by_short : (c : ℕ) → IsHelpOrUnknown (arg_by_short rules c)
+-- a walk fails where one of its turns does
+pub turn_fails : (s : Shape) (names : Names) (w : Walk) (word : Text) (rest : List Text)
+    → Fails (turn_fault s names w word) → Fails (walk_fault s names w (word ∷ rest))
+unfolding walk_fault
+turn_fails s names w word rest fails = or_else-first _ _ fails
 
-pub help_word_fails : (c : List Rule) → HasHelpAlone c → (again : Bool) (rows : List Row) (pending : Option (Text × List Text)) (word : Text)
-    → is_end_of_flags word ≡ false → is_flag word ≡ true
-    → Fails (flag_word_fault c again (long_of word) word (held rows pending))
-help_word_fails c alone again rows pending word =
-    flag_word_fails c again rows pending word
-    (λ p is. help_long_fails c again (held rows pending) (arg_by_long c p.0) p.1 (alone.by_long p.0))
-    (each_letter c again rows pending word (λ x rest next. help_short_fails c again (held rows pending) (arg_by_short c x) rest next (alone.by_short x)))
-
--- ---- the flags are `--help` and `--version`, or `-h` and `-V`
-
-abbrev pub IsRequestOrUnknown : Option Rule → Type 0
-IsRequestOrUnknown rule = (rule ≡ Some (filled version_rule)) ⊎ IsHelpOrUnknown rule
-
-module _ (c : List Rule) (again : Bool) (h : Held) where
-  version_fails : Fails (react_fault c again (filled version_rule) [] h)
-  version_fails = or_else-second (settle_fault c again h) _ (λ e. cc)
-
-  version_long : (v : Option Text) → Fails (long_fault c again (Some (filled version_rule)) v h)
-  version_long None = version_fails
-  version_long (Some v) = λ e. cc
-
-  request_long_fails : (rule : Option Rule) (v : Option Text) → IsRequestOrUnknown rule → Fails (long_fault c again rule v h)
-  request_long_fails rule v known = elim known [
-    | inl version ↦ rw version (version_long v)
-    | inr other ↦ help_long_fails c again h rule v other
-  ]
-
-  request_short_fails : (rule : Option Rule) (rest : Text) (next : Held → Kinds) → IsRequestOrUnknown rule
-      → Fails (short_fault c again rule rest h next)
-  request_short_fails rule rest next known = elim known [
-    | inl version ↦ rw version (or_else-first _ _ version_fails)
-    | inr other ↦ help_short_fails c again h rule rest next other
-  ]
-
-pub record HasRequestsAlone (rules : List Rule) : Type 0 where
-  pub by_long : (name : Text) → IsRequestOrUnknown (arg_by_long rules name)
-  pub by_short : (c : ℕ) → IsRequestOrUnknown (arg_by_short rules c)
-
-pub request_word_fails : (c : List Rule) → HasRequestsAlone c → (again : Bool) (rows : List Row) (pending : Option (Text × List Text)) (word : Text)
-    → is_end_of_flags word ≡ false → is_flag word ≡ true
-    → Fails (flag_word_fault c again (long_of word) word (held rows pending))
-request_word_fails c alone again rows pending word =
-    flag_word_fails c again rows pending word
-    (λ p is. request_long_fails c again (held rows pending) (arg_by_long c p.0) p.1 (alone.by_long p.0))
-    (each_letter c again rows pending word (λ x rest next. request_short_fails c again (held rows pending) (arg_by_short c x) rest next (alone.by_short x)))
+-- past a subcommand the words are its own
+pub fold_stopped : (c : List Rule) (names : Names) (w : Walk) (name : Text) (before words : List Text)
+    → fold (walked c names) (record w { stopped = Some (name, before) }) words
+    ≡ record w { stopped = Some (name, before ++ words) }
+unfolding walked
+fold_stopped c names w name before [] = ap (λ (ws : List Text). record w { stopped = Some (name, ws) }) (sym (append-nil before))
+fold_stopped c names w name before (word ∷ words) =
+    fold_stopped c names w name (before ++ word ∷ []) words
+    ∙ ap (λ (ws : List Text). record w { stopped = Some (name, ws) }) (append_assoc before (word ∷ []) words)

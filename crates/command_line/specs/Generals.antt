@@ -1,13 +1,21 @@
--- Generals that a word names.
-use Rattle.std.specs.Prelude.{ℕ, nat_lt, if◌then◌else◌, List, [], ◌∷◌, ◌++◌, Option, Some, None}
+-- Generals and orders that a word names.
+use Rattle.std.specs.Prelude.{ℕ, nat_lt, ◌^◌, if◌then◌else◌, List, [], ◌∷◌, ◌++◌, Option, Some, None}
 use Rattle.text.specs.Options.{◌>>=◌}
 use Rattle.text.specs.Stop.{comma}
 use Rattle.text.specs.Parts.{pieces}
 use Rattle.text.specs.Number.{decimal_of}
 
+-- a decimal number below this one
+abbrev pub below : ℕ → List ℕ → Option ℕ
+below most word = decimal_of word >>= λ n. if nat_lt n most then Some n else None
+
 -- the number of a general, 0 to 12
 unfoldable pub general_in : List ℕ → Option ℕ
-general_in part = decimal_of part >>= λ g. if nat_lt g 13 then Some g else None
+general_in word = below 13 word
+
+-- an order, 0 to 4294967295
+unfoldable pub order_in : List ℕ → Option ℕ
+order_in word = below (2 ^ 32) word
 
 -- the generals of some parts, behind those before
 abbrev pub generals_behind : List ℕ → List (List ℕ) → Option (List ℕ)

@@ -1,6 +1,9 @@
 pub mod Asked
-pub mod Flags
 pub mod Generals
 pub mod Lab
 pub mod Met
+pub mod Subcommand
+pub mod Telling
 pub mod Told
+pub mod Usage
+pub mod Usages

@@ -1,15 +1,16 @@
--- The words of a subcommand, as they were met.
-use Rattle.std.specs.Prelude.{option_map}
-use Rattle.command_line.specs.Told.{Told}
+-- A subcommand, as it was met.
+use Rattle.std.specs.Prelude.{Bool, false}
+use Rattle.std.specs.List.{list_all}
+use Rattle.std.specs.Option.{option_map_or}
+use Rattle.clap.specs.Words.{found_of, rows_of}
+use Rattle.command_line.specs.Lab.{told_of}
+use Rattle.command_line.specs.Told.{Told, has}
+use Rattle.command_line.specs.Usages.{usage_named}
 use Rattle.command_line.specs.declared.met.Met.{Met}
 
 abbrev pub told_by : Met → Told
-told_by met = record {
-  name = met.name.now;
-  file = met.file.now;
-  second = option_map (λ word. word.now) met.second;
-  third = option_map (λ word. word.now) met.third;
-  switched = met.switched;
-  also = met.also;
-  value = option_map (λ word. word.now) met.value;
-}
+told_by met = told_of (met.name.now, rows_of (found_of met.found.now))
+
+-- all places of the subcommand were filled
+abbrev pub has_places : Told → Bool
+has_places told = option_map_or (λ usage. list_all (λ name. has name told) usage.places) (usage_named told.name) false

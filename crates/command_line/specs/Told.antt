@@ -1,101 +1,125 @@
 -- What a task and its refusal say.
-use Rattle.std.specs.Prelude.{⊤, ℕ, ◌≡◌, Bool, true, false, List, [], Option, None, Some, codes, option_map}
+use Rattle.std.specs.Prelude.{⊤, ℕ, ◌≡◌, Bool, true, false, List, [], ◌∷◌, Option, None, Some, codes, is_some, option_map}
+use Rattle.std.specs.List.{list_any}
+use Rattle.std.specs.Str.{bytes_eq}
 use Rattle.std.specs.String.{string_bytes}
+use Rattle.text.specs.Options.{◌>>=◌}
 use Rattle.clap.specs.declared.error.Error.{Error}
-use Rattle.command_line.specs.Generals.{generals_in}
+use Rattle.command_line.specs.Generals.{general_in, generals_in, order_in}
+use Rattle.command_line.specs.Usage.{Text}
+use Rattle.command_line.specs.declared.tasks.Account.{Account}
+use Rattle.command_line.specs.declared.tasks.Account.TheVariants.{Chronicle, Table}
+use Rattle.command_line.specs.declared.tasks.Filling.{Filling}
+use Rattle.command_line.specs.declared.tasks.Lieutenants.{Lieutenants}
+use Rattle.command_line.specs.declared.tasks.Lieutenants.TheVariants.{All, One}
 use Rattle.command_line.specs.declared.tasks.Notation.{Notation}
-use Rattle.command_line.specs.declared.tasks.Notation.TheVariants.{Bytecode, Assembly}
+use Rattle.command_line.specs.declared.tasks.Notation.TheVariants.{Bytecode, Assembly, Object}
 use Rattle.command_line.specs.declared.tasks.Spelling.{Spelling}
 use Rattle.command_line.specs.declared.tasks.Spelling.TheVariants.{Hex, Raw}
 use Rattle.command_line.specs.declared.tasks.Task.{Task}
-use Rattle.command_line.specs.declared.tasks.Task.TheVariants.{Check, Assemble, Disassemble, DisassembleUnits, Book, ExplainDecisions, Form, Play, Muster, Audit}
-use Rattle.command_line.specs.declared.tasks.TaskError.{TaskError}
-use Rattle.command_line.specs.declared.tasks.TaskError.TheVariants.{Words, Traitors, Memory}
+use Rattle.command_line.specs.declared.tasks.Task.TheVariants.{Check, Assemble, Disassemble, Book, ExplainDecisions, Form, Play, Muster, Audit}
+use Rattle.command_line.specs.declared.errors.Misuse.{Misuse}
+use Rattle.command_line.specs.declared.errors.Misuse.TheVariants.{Traitors, Of, Lie, Loyal, TwoNotations, EntryAlone, OfAlone, LieAlone}
+use Rattle.command_line.specs.declared.errors.TaskError.{TaskError}
+use Rattle.command_line.specs.declared.errors.TaskError.TheVariants as error
 
-abbrev pub Text : Type 0
-Text = List ℕ
-
--- a subcommand's name, its words that are no flags, up to three, whether its switch stands in the words, and its second one, and the
--- value of its option (the schedule of `play` counts as its second word)
+-- a subcommand's name, and what was met behind it by each name: the word at a place, the value of an option, `true` of a switch
 pub record Told : Type 0 where
   pub name : Text
-  pub file : Text
-  pub second : Option Text
-  pub third : Option Text
-  pub switched : Bool
-  pub also : Bool
-  pub value : Option Text
+  pub value : Text → Option Text
 
--- a subcommand of one file, with its switches or without them, and perhaps with its option
-abbrev pub one_file_with_both : Text → Bool → Bool → Option Text → Text → Told
-one_file_with_both name switched also value file =
-    record { name = name; file = file; second = None; third = None; switched = switched; also = also; value = value }
+abbrev pub word_of : Text → Told → Option Text
+word_of name told = told.value name
 
--- the same without a second switch
-abbrev pub one_file_with : Text → Bool → Option Text → Text → Told
-one_file_with name switched value file = one_file_with_both name switched false value file
+-- whether what has this name was met
+abbrev pub has : Text → Told → Bool
+has name told = is_some (word_of name told)
 
--- a subcommand of one file
-abbrev pub one_file : Text → Text → Told
-one_file name file = one_file_with name false None file
+-- the subcommand is one of these
+abbrev pub is_of : List Text → Told → Bool
+is_of names told = list_any (λ name. bytes_eq name told.name) names
 
--- `table`
-abbrev pub formed : Text → Text → Text → Told
-formed n m c =
-    record { name = codes "table"; file = n; second = Some m; third = Some c; switched = false; also = false; value = None }
+abbrev pub programs : List Text
+programs = codes "check" ∷ codes "dis" ∷ []
 
--- `play`, perhaps with a schedule
-abbrev pub played : Option Text → Text → Told
-played schedule scenario =
-    record { name = codes "play"; file = scenario; second = schedule; third = None; switched = false; also = false; value = None }
+abbrev pub campaigns : List Text
+campaigns = codes "play" ∷ codes "muster" ∷ codes "audit" ∷ []
 
--- `audit`
-abbrev pub audited : Text → Text → Told
-audited scenario chronicle =
-    record { name = codes "audit"; file = scenario; second = Some chronicle; third = None; switched = false; also = false; value = None }
+-- ---- what the words say of a part of a task
 
--- whom the words of `book` name as traitors, where they ask for an explanation
-abbrev pub named : Bool → Option Text → Option (List ℕ)
-named switched (Some word) = generals_in word
-named true None = Some []
-named false None = None
-
-abbrev pub is_assembly : Notation → Bool
-is_assembly Bytecode = false
-is_assembly Assembly = true
+abbrev pub IsNotation : Told → Notation → Type 0
+IsNotation told Bytecode = (has (codes "asm") told ≡ false) × (has (codes "elf") told ≡ false) × (word_of (codes "entry") told ≡ None)
+IsNotation told Assembly = (has (codes "asm") told ≡ true) × (has (codes "elf") told ≡ false) × (word_of (codes "entry") told ≡ None)
+IsNotation told (Object entry) = (has (codes "asm") told ≡ false) × (has (codes "elf") told ≡ true)
+    × (word_of (codes "entry") told ≡ option_map string_bytes entry)
 
 abbrev pub is_raw : Spelling → Bool
 is_raw Hex = false
 is_raw Raw = true
 
--- the words of an explanation: the option's value names these generals, and without it the switch stands there, and none is named
-abbrev pub IsExplained : Told → Text → List ℕ → Type 0
-IsExplained told file traitors =
-    (told ≡ one_file_with (codes "book") told.switched told.value file)
-    × (named told.switched told.value ≡ Some traitors)
+-- whom `--explain` or `--traitors` names as traitors, where an explanation is asked for
+abbrev pub named : Bool → Option Text → Option (List ℕ)
+named explained (Some word) = generals_in word
+named true None = Some []
+named false None = None
 
--- the words say this task; of an explanation any words that name the same generals, with the switch or without it
+-- the option names this general, and is not there where there is none
+abbrev pub NamesGeneral : Text → Told → Option ℕ → Type 0
+NamesGeneral name told None = word_of name told ≡ None
+NamesGeneral name told (Some g) = (word_of name told >>= general_in) ≡ Some g
+
+abbrev pub IsFilling : Told → Option Filling → Type 0
+IsFilling told None = (word_of (codes "loyal") told ≡ None) × (word_of (codes "lie") told ≡ None)
+IsFilling told (Some filling) =
+    ((word_of (codes "loyal") told >>= order_in) ≡ Some filling.order) × NamesGeneral (codes "lie") told filling.liar
+
+abbrev pub is_table : Account → Bool
+is_table Chronicle = false
+is_table Table = true
+
+abbrev pub AreExplained : Told → Option Lieutenants → Type 0
+AreExplained told None = (has (codes "explain") told ≡ false) × (word_of (codes "of") told ≡ None)
+AreExplained told (Some All) = (has (codes "explain") told ≡ true) × (word_of (codes "of") told ≡ None)
+AreExplained told (Some (One g)) = (has (codes "explain") told ≡ true) × NamesGeneral (codes "of") told (Some g)
+
+-- ---- the words say this task
+
 abbrev pub Says : Told → Task → Type 0
-Says told (Check file notation context explained) =
-    told ≡ one_file_with_both (codes "check") (is_assembly notation) explained (option_map string_bytes context) (string_bytes file)
-Says told (Assemble file spelling target) =
-    told ≡ one_file_with (codes "asm") (is_raw spelling) (option_map string_bytes target) (string_bytes file)
-Says told (Disassemble file) = told ≡ one_file (codes "dis") (string_bytes file)
-Says told (DisassembleUnits file) = told ≡ one_file_with (codes "dis") true None (string_bytes file)
-Says told (Book file) = told ≡ one_file (codes "book") (string_bytes file)
-Says told (ExplainDecisions file traitors) = IsExplained told (string_bytes file) traitors.items
-Says told (Form n m c filling) = told ≡ formed (string_bytes n) (string_bytes m) (string_bytes c)
-Says told (Play scenario schedule account explained) =
-    told ≡ played (option_map string_bytes schedule) (string_bytes scenario)
-Says told (Muster scenario explained) = told ≡ one_file (codes "muster") (string_bytes scenario)
-Says told (Audit scenario chronicle explained) = told ≡ audited (string_bytes scenario) (string_bytes chronicle)
+Says told (Check file notation context explained traced) = (told.name ≡ codes "check")
+    × (word_of (codes "FILE") told ≡ Some (string_bytes file)) × IsNotation told notation
+    × (word_of (codes "context") told ≡ option_map string_bytes context)
+    × (has (codes "explain") told ≡ explained) × (has (codes "trace") told ≡ traced)
+Says told (Assemble file spelling target explained) = (told.name ≡ codes "asm")
+    × (word_of (codes "FILE") told ≡ Some (string_bytes file)) × (has (codes "raw") told ≡ is_raw spelling)
+    × (word_of (codes "target") told ≡ option_map string_bytes target) × (has (codes "explain") told ≡ explained)
+Says told (Disassemble file notation units explained) = (told.name ≡ codes "dis")
+    × (word_of (codes "FILE") told ≡ Some (string_bytes file)) × IsNotation told notation
+    × (has (codes "units") told ≡ units) × (has (codes "explain") told ≡ explained)
+Says told (Book file) = (told.name ≡ codes "book")
+    × (word_of (codes "FILE") told ≡ Some (string_bytes file))
+    × (has (codes "explain") told ≡ false) × (word_of (codes "traitors") told ≡ None)
+Says told (ExplainDecisions file traitors) = (told.name ≡ codes "book")
+    × (word_of (codes "FILE") told ≡ Some (string_bytes file))
+    × (named (has (codes "explain") told) (word_of (codes "traitors") told) ≡ Some traitors.items)
+Says told (Form n m c filling) = (told.name ≡ codes "table")
+    × (word_of (codes "GENERALS") told ≡ Some (string_bytes n)) × (word_of (codes "BOUND") told ≡ Some (string_bytes m))
+    × (word_of (codes "COMMANDER") told ≡ Some (string_bytes c)) × IsFilling told filling
+Says told (Play scenario schedule account explained) = (told.name ≡ codes "play")
+    × (word_of (codes "SCENARIO") told ≡ Some (string_bytes scenario))
+    × (word_of (codes "schedule") told ≡ option_map string_bytes schedule)
+    × (has (codes "table") told ≡ is_table account) × AreExplained told explained
+Says told (Muster scenario explained) = (told.name ≡ codes "muster")
+    × (word_of (codes "SCENARIO") told ≡ Some (string_bytes scenario)) × AreExplained told explained
+Says told (Audit scenario chronicle explained) = (told.name ≡ codes "audit")
+    × (word_of (codes "SCENARIO") told ≡ Some (string_bytes scenario))
+    × (word_of (codes "CHRONICLE") told ≡ Some (string_bytes chronicle)) × AreExplained told explained
 
--- the names of the task's files: of its only or first, of the second, and of the one that it writes
+-- ---- the names of the task's files: of its only or first, of the second, and of the one that it writes
+
 abbrev pub file_of : Task → Option Text
-file_of (Check file notation context explained) = Some (string_bytes file)
-file_of (Assemble file spelling target) = Some (string_bytes file)
-file_of (Disassemble file) = Some (string_bytes file)
-file_of (DisassembleUnits file) = Some (string_bytes file)
+file_of (Check file notation context explained traced) = Some (string_bytes file)
+file_of (Assemble file spelling target explained) = Some (string_bytes file)
+file_of (Disassemble file notation units explained) = Some (string_bytes file)
 file_of (Book file) = Some (string_bytes file)
 file_of (ExplainDecisions file traitors) = Some (string_bytes file)
 file_of (Form n m c filling) = None
@@ -104,34 +128,49 @@ file_of (Muster scenario explained) = Some (string_bytes scenario)
 file_of (Audit scenario chronicle explained) = Some (string_bytes scenario)
 
 abbrev pub second_of : Task → Option Text
-second_of (Check file notation context explained) = option_map string_bytes context
+second_of (Check file notation context explained traced) = option_map string_bytes context
 second_of (Play scenario schedule account explained) = option_map string_bytes schedule
 second_of (Audit scenario chronicle explained) = Some (string_bytes chronicle)
 second_of _ = None
 
 abbrev pub target_of : Task → Option Text
-target_of (Assemble file spelling target) = option_map string_bytes target
+target_of (Assemble file spelling target explained) = option_map string_bytes target
 target_of _ = None
 
--- the words of `book` whose option names no generals: the error has the word
-abbrev pub IsRefusedWord : Told → TaskError → Type 0
-IsRefusedWord told (Words error) = ⊥
-IsRefusedWord told (Traitors word) =
-    (told.name ≡ codes "book") × (told.value ≡ Some (string_bytes word)) × (generals_in (string_bytes word) ≡ None)
-IsRefusedWord told Memory = ⊤
+-- ---- refusals
+
+-- the words are misused so
+abbrev pub IsMisused : Told → Misuse → Type 0
+IsMisused told (Traitors word) = (is_of (codes "book" ∷ []) told ≡ true)
+    × (word_of (codes "traitors") told ≡ Some (string_bytes word)) × (generals_in (string_bytes word) ≡ None)
+IsMisused told (Of word) = (is_of campaigns told ≡ true)
+    × (word_of (codes "of") told ≡ Some (string_bytes word)) × (general_in (string_bytes word) ≡ None)
+IsMisused told (Lie word) = (is_of (codes "table" ∷ []) told ≡ true)
+    × (word_of (codes "lie") told ≡ Some (string_bytes word)) × (general_in (string_bytes word) ≡ None)
+IsMisused told (Loyal word) = (is_of (codes "table" ∷ []) told ≡ true)
+    × (word_of (codes "loyal") told ≡ Some (string_bytes word)) × (order_in (string_bytes word) ≡ None)
+IsMisused told TwoNotations = (is_of programs told ≡ true) × (has (codes "asm") told ≡ true) × (has (codes "elf") told ≡ true)
+IsMisused told EntryAlone = (is_of programs told ≡ true) × (has (codes "entry") told ≡ true) × (has (codes "elf") told ≡ false)
+IsMisused told OfAlone = (is_of campaigns told ≡ true) × (has (codes "of") told ≡ true) × (has (codes "explain") told ≡ false)
+IsMisused told LieAlone = (is_of (codes "table" ∷ []) told ≡ true) × (has (codes "lie") told ≡ true) × (has (codes "loyal") told ≡ false)
+
+-- an error of words that `clap` takes: they are misused so, or memory is wanting
+abbrev pub IsErrorOf : Told → TaskError → Type 0
+IsErrorOf told (error.Words refusal) = ⊥
+IsErrorOf told (error.Misuse misuse) = IsMisused told misuse
+IsErrorOf told error.Memory = ⊤
 
 -- the fact holds of `clap`'s error, where it refused the words
 abbrev pub IfWords : TaskError → (Error → Type 0) → Type 0
-IfWords (Words error) P = P error
-IfWords (Traitors word) P = ⊤
-IfWords Memory P = ⊤
+IfWords (error.Words refusal) P = P refusal
+IfWords _ P = ⊤
 
--- the fact holds where the word behind `--traitors` was refused
-abbrev pub IfTraitors : TaskError → Type 0 → Type 0
-IfTraitors (Traitors word) P = P
-IfTraitors _ P = ⊤
+-- the fact holds of the misuse, where `clap` took the words
+abbrev pub IfMisuse : TaskError → (Misuse → Type 0) → Type 0
+IfMisuse (error.Misuse misuse) P = P misuse
+IfMisuse _ P = ⊤
 
 -- the words are refused, and not for want of memory
 abbrev pub IfRefused : TaskError → Type 0 → Type 0
-IfRefused Memory P = ⊤
+IfRefused error.Memory P = ⊤
 IfRefused _ P = P

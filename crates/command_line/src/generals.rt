@@ -1,5 +1,5 @@
 ghost use Rattle.std.specs.Prelude.{◌≡◌, ◌≢◌, IfOk, IfErr, Some, None};
-ghost use Rattle.command_line.specs.Generals.{general_in, generals_in};
+ghost use Rattle.command_line.specs.Generals.{general_in, generals_in, order_in};
 ghost use Rattle.command_line.specs.declared.generals.GeneralsError.TheVariants.{Memory};
 
 use std::alloc::{AllocError, Global};
@@ -46,12 +46,25 @@ pub(crate) fn generals(alloc: Global, word: &str) -> Result<Vec<u8>, GeneralsErr
 
 /// The number of a general.
 #[tactic(auto, unfolding(crate::specs::Generals::general_in))]
-fn general(part: &[u8]) -> Option<u8>
-    ensures { result ≡ general_in part.now }
+pub(crate) fn general(word: &[u8]) -> Option<u8>
+    ensures { result ≡ general_in word.now }
 {
-    let number = decimal(part)?;
+    let number = decimal(word)?;
     if number < 13 {
         Some(number as u8)
+    } else {
+        None
+    }
+}
+
+/// An order.
+#[tactic(auto, unfolding(crate::specs::Generals::order_in))]
+pub(crate) fn order(word: &[u8]) -> Option<u32>
+    ensures { result ≡ order_in word.now }
+{
+    let number = decimal(word)?;
+    if number < 4_294_967_296 {
+        Some(number as u32)
     } else {
         None
     }

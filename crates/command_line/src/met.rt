@@ -1,115 +1,145 @@
-ghost use Rattle.std.specs.Prelude.{◌≡◌, IfOk, IfErr, IsSome, None, Some, codes, false, option_map, true};
-ghost use Rattle.std.specs.Option.{option_map_or};
-ghost use Rattle.std.specs.Str.{bytes_eq};
-ghost use Rattle.std.specs.String.{string_bytes};
+ghost use Rattle.std.specs.Prelude.{◌≡◌, if◌then◌else◌, IfOk, IfErr, IsSome, None, Some, [], ◌∷◌, codes, option_map, string_bytes, true};
 ghost use Rattle.clap.specs.Words.{subcommand_rows_of};
-ghost use Rattle.command_line.specs.Asked.{is_named, is_task};
-ghost use Rattle.command_line.specs.Lab.{task_met};
-ghost use Rattle.command_line.specs.Met.{told_by};
-ghost use Rattle.command_line.specs.Told.{IsRefusedWord, Says, is_assembly, is_raw};
+ghost use Rattle.command_line.specs.Lab.{is_given, task_met};
+ghost use Rattle.command_line.specs.Met.{has_places, told_by};
+ghost use Rattle.command_line.specs.Told.{AreExplained, IsErrorOf, IsFilling, IsNotation, NamesGeneral, Says, campaigns, has, is_of, is_raw, is_table, programs, word_of};
 
-use crate::generals::{GeneralsError, generals};
-use crate::tasks::{Account, Notation, Spelling, Task, TaskError};
+use crate::errors::{Misuse, TaskError};
+use crate::generals::{GeneralsError, general, generals, order};
+use crate::tasks::{Account, Filling, Lieutenants, Notation, Spelling, Task};
 use clap::ArgMatches;
+use clap::parser::ValueSource;
 use std::alloc::{AllocError, Global};
 
-/// The words of a subcommand, as they were met.
+/// A subcommand that was met, and what was met behind it.
 #[derive(Clone, Copy)]
-pub(crate) struct Met<'a> {
+pub(crate) struct Met<'m, 'a> {
     name: &'a str,
-    file: &'a str,
-    /// The second file or number, where there is one.
-    second: Option<&'a str>,
-    /// The third number, where there is one.
-    third: Option<&'a str>,
-    /// Whether the subcommand's switch stands in the words.
-    switched: bool,
-    /// Whether its second switch does.
-    also: bool,
-    /// The value of its option.
-    value: Option<&'a str>,
+    found: &'m ArgMatches<'a>,
 }
 
-impl<'a> Met<'a> {
-    /// The subcommand that was met, with its files.
-    pub(crate) fn of(matches: &ArgMatches<'a>) -> Met<'a>
-        requires { IsSome (task_met (subcommand_rows_of matches.now)) }
+impl<'m, 'a> Met<'m, 'a> {
+    /// The subcommand that was met.
+    pub(crate) fn of(matches: &'m ArgMatches<'a>) -> Met<'m, 'a>
+        requires { IsSome (subcommand_rows_of matches.now) }
         ensures { Some (told_by result) ≡ task_met (subcommand_rows_of matches.now) }
     {
         let Some((name, found)) = matches.subcommand() else {
             unreachable!();
         };
-        let Some(file) = found.get_str("file") else {
+        Met { name, found }
+    }
+
+    /// The word at the place of this name, the value of the option, `true` of the switch.
+    fn value(self, name: &str) -> Option<&'a str>
+        ensures { word_of name.now (told_by self.entry) ≡ option_map (λ t. t.now) result }
+    {
+        given(self.found.value_source(name), self.found.get_str(name))
+    }
+
+    /// Whether what has this name was met.
+    fn has(self, name: &str) -> bool
+        ensures { result ≡ has name.now (told_by self.entry) }
+    {
+        self.value(name).is_some()
+    }
+
+    /// The word at the place of this name.
+    fn required(self, alloc: Global, name: &str) -> Result<String, AllocError>
+        requires { has name.now (told_by self) ≡ true }
+        ensures { IfOk result (λ own. word_of name.now (told_by self.entry) ≡ Some (string_bytes own)) }
+    {
+        let Some(word) = self.value(name) else {
             unreachable!();
         };
-        Met {
-            name,
-            file,
-            second: found.get_str("second"),
-            third: found.get_str("third"),
-            switched: is_true(found.get_str("switch")),
-            also: is_true(found.get_str("also")),
-            value: found.get_str("value"),
-        }
+        String::from_str(alloc, word)
+    }
+
+    /// The value of the option of this name, where it was met.
+    fn optional(self, alloc: Global, name: &str) -> Result<Option<String>, AllocError>
+        ensures { IfOk result (λ own. word_of name.now (told_by self.entry) ≡ option_map string_bytes own) }
+    {
+        Ok(match self.value(name) {
+            Some(word) => Some(String::from_str(alloc, word)?),
+            None => None,
+        })
     }
 
     /// The task of the subcommand.
     pub(crate) fn task(self, alloc: Global) -> Result<Task, TaskError>
-        requires { is_task (told_by self) ≡ true }
+        requires { has_places (told_by self) ≡ true }
         ensures task { IfOk result (Says (told_by self.entry)) }
-        ensures refused { IfErr result (IsRefusedWord (told_by self.entry)) }
+        ensures refused { IfErr result (IsErrorOf (told_by self.entry)) }
     {
-        let file = String::from_str(alloc, self.file)?;
-        Ok(match self.name {
-            "check" => Task::Check {
-                program: file,
-                notation: notation(self.switched),
-                context: copied(alloc, self.value)?,
-                explained: self.also,
-            },
-            "asm" => Task::Assemble {
-                text: file,
-                spelling: spelling(self.switched),
-                target: copied(alloc, self.value)?,
-            },
-            "dis" if self.switched => Task::DisassembleUnits(file),
-            "dis" => Task::Disassemble(file),
-            "book" => return self.book(alloc, file),
-            "table" => Task::Form {
-                generals: file,
-                bound: required(alloc, self.second)?,
-                commander: required(alloc, self.third)?,
-                filling: None,
-            },
-            "play" => Task::Play {
-                scenario: file,
-                schedule: copied(alloc, self.second)?,
-                account: Account::Chronicle,
-                explained: None,
-            },
-            "muster" => Task::Muster {
-                scenario: file,
-                explained: None,
-            },
-            "audit" => Task::Audit {
-                scenario: file,
-                chronicle: required(alloc, self.second)?,
-                explained: None,
-            },
+        match self.name {
+            "check" => self.check(alloc),
+            "asm" => self.assemble(alloc),
+            "dis" => self.disassemble(alloc),
+            "book" => self.book(alloc),
+            "table" => self.form(alloc),
+            "muster" => self.muster(alloc),
+            "play" => self.play(alloc),
+            "audit" => self.audit(alloc),
             _ => unreachable!(),
+        }
+    }
+
+    /// The task of `check`.
+    fn check(self, alloc: Global) -> Result<Task, TaskError>
+        requires name { self.name.now ≡ codes "check" }
+        requires file { has (codes "FILE") (told_by self) ≡ true }
+        ensures task { IfOk result (Says (told_by self.entry)) }
+        ensures refused { IfErr result (IsErrorOf (told_by self.entry)) }
+    {
+        Ok(Task::Check {
+            program: self.required(alloc, "FILE")?,
+            notation: self.notation(alloc)?,
+            context: self.optional(alloc, "context")?,
+            explained: self.has("explain"),
+            traced: self.has("trace"),
         })
     }
 
-    /// The task of `book` on the table of this file: an explanation where its switch or its option is there.
-    fn book(self, alloc: Global, table: String) -> Result<Task, TaskError>
-        requires name { is_named (codes "book") self.name.now ≡ true }
-        requires file { string_bytes table ≡ self.file.now }
-        requires alone { (self.second ≡ None) × (self.third ≡ None) × (self.also ≡ false) }
+    /// The task of `asm`.
+    fn assemble(self, alloc: Global) -> Result<Task, TaskError>
+        requires name { self.name.now ≡ codes "asm" }
+        requires file { has (codes "FILE") (told_by self) ≡ true }
         ensures task { IfOk result (Says (told_by self.entry)) }
-        ensures refused { IfErr result (IsRefusedWord (told_by self.entry)) }
+        ensures refused { IfErr result (IsErrorOf (told_by self.entry)) }
     {
-        let Some(word) = self.value else {
-            if !self.switched {
+        Ok(Task::Assemble {
+            text: self.required(alloc, "FILE")?,
+            spelling: self.spelling(),
+            target: self.optional(alloc, "target")?,
+            explained: self.has("explain"),
+        })
+    }
+
+    /// The task of `dis`.
+    fn disassemble(self, alloc: Global) -> Result<Task, TaskError>
+        requires name { self.name.now ≡ codes "dis" }
+        requires file { has (codes "FILE") (told_by self) ≡ true }
+        ensures task { IfOk result (Says (told_by self.entry)) }
+        ensures refused { IfErr result (IsErrorOf (told_by self.entry)) }
+    {
+        Ok(Task::Disassemble {
+            program: self.required(alloc, "FILE")?,
+            notation: self.notation(alloc)?,
+            units: self.has("units"),
+            explained: self.has("explain"),
+        })
+    }
+
+    /// The task of `book`: an explanation where its switch or its option is there.
+    fn book(self, alloc: Global) -> Result<Task, TaskError>
+        requires name { self.name.now ≡ codes "book" }
+        requires file { has (codes "FILE") (told_by self) ≡ true }
+        ensures task { IfOk result (Says (told_by self.entry)) }
+        ensures refused { IfErr result (IsErrorOf (told_by self.entry)) }
+    {
+        let table = self.required(alloc, "FILE")?;
+        let Some(word) = self.value("traitors") else {
+            if !self.has("explain") {
                 return Ok(Task::Book(table));
             }
             return Ok(Task::ExplainDecisions {
@@ -120,59 +150,182 @@ impl<'a> Met<'a> {
         match generals(alloc, word) {
             Ok(traitors) => Ok(Task::ExplainDecisions { table, traitors }),
             Err(GeneralsError::NoGeneral) => {
-                Err(TaskError::Traitors(String::from_str(alloc, word)?))
+                let word = String::from_str(alloc, word)?;
+                Err(TaskError::Misuse(Misuse::Traitors(word)))
             }
             Err(GeneralsError::Memory) => Err(TaskError::Memory),
         }
     }
-}
 
-/// Whether a switch that is read so stands in the words.
-fn is_true(text: Option<&str>) -> bool
-    ensures { result ≡ option_map_or (λ t. bytes_eq (codes "true") t.now) text.entry false }
-{
-    text == Some("true")
-}
+    /// The task of `table`.
+    fn form(self, alloc: Global) -> Result<Task, TaskError>
+        requires name { self.name.now ≡ codes "table" }
+        requires generals { has (codes "GENERALS") (told_by self) ≡ true }
+        requires bound { has (codes "BOUND") (told_by self) ≡ true }
+        requires commander { has (codes "COMMANDER") (told_by self) ≡ true }
+        ensures task { IfOk result (Says (told_by self.entry)) }
+        ensures refused { IfErr result (IsErrorOf (told_by self.entry)) }
+    {
+        Ok(Task::Form {
+            generals: self.required(alloc, "GENERALS")?,
+            bound: self.required(alloc, "BOUND")?,
+            commander: self.required(alloc, "COMMANDER")?,
+            filling: self.filling(alloc)?,
+        })
+    }
 
-/// How a program is written with the switch, and without it.
-fn notation(switched: bool) -> Notation
-    ensures { is_assembly result ≡ switched }
-{
-    if switched {
-        Notation::Assembly
-    } else {
-        Notation::Bytecode
+    /// The task of `play`.
+    fn play(self, alloc: Global) -> Result<Task, TaskError>
+        requires name { self.name.now ≡ codes "play" }
+        requires scenario { has (codes "SCENARIO") (told_by self) ≡ true }
+        ensures task { IfOk result (Says (told_by self.entry)) }
+        ensures refused { IfErr result (IsErrorOf (told_by self.entry)) }
+    {
+        Ok(Task::Play {
+            scenario: self.required(alloc, "SCENARIO")?,
+            schedule: self.optional(alloc, "schedule")?,
+            account: self.account(),
+            explained: self.lieutenants(alloc)?,
+        })
+    }
+
+    /// The task of `muster`.
+    fn muster(self, alloc: Global) -> Result<Task, TaskError>
+        requires name { self.name.now ≡ codes "muster" }
+        requires scenario { has (codes "SCENARIO") (told_by self) ≡ true }
+        ensures task { IfOk result (Says (told_by self.entry)) }
+        ensures refused { IfErr result (IsErrorOf (told_by self.entry)) }
+    {
+        Ok(Task::Muster {
+            scenario: self.required(alloc, "SCENARIO")?,
+            explained: self.lieutenants(alloc)?,
+        })
+    }
+
+    /// The task of `audit`.
+    fn audit(self, alloc: Global) -> Result<Task, TaskError>
+        requires name { self.name.now ≡ codes "audit" }
+        requires scenario { has (codes "SCENARIO") (told_by self) ≡ true }
+        requires chronicle { has (codes "CHRONICLE") (told_by self) ≡ true }
+        ensures task { IfOk result (Says (told_by self.entry)) }
+        ensures refused { IfErr result (IsErrorOf (told_by self.entry)) }
+    {
+        Ok(Task::Audit {
+            scenario: self.required(alloc, "SCENARIO")?,
+            chronicle: self.required(alloc, "CHRONICLE")?,
+            explained: self.lieutenants(alloc)?,
+        })
+    }
+
+    /// How the program is written.
+    fn notation(self, alloc: Global) -> Result<Notation, TaskError>
+        requires { is_of programs (told_by self) ≡ true }
+        ensures notation { IfOk result (IsNotation (told_by self.entry)) }
+        ensures refused { IfErr result (IsErrorOf (told_by self.entry)) }
+    {
+        let entry = self.optional(alloc, "entry")?;
+        if self.has("elf") {
+            if self.has("asm") {
+                return Err(TaskError::Misuse(Misuse::TwoNotations));
+            }
+            return Ok(Notation::Object { entry });
+        }
+        if entry.is_some() {
+            return Err(TaskError::Misuse(Misuse::EntryAlone));
+        }
+        if self.has("asm") {
+            return Ok(Notation::Assembly);
+        }
+        Ok(Notation::Bytecode)
+    }
+
+    /// How bytecode is written.
+    fn spelling(self) -> Spelling
+        ensures { has (codes "raw") (told_by self.entry) ≡ is_raw result }
+    {
+        if self.has("raw") {
+            Spelling::Raw
+        } else {
+            Spelling::Hex
+        }
+    }
+
+    /// How a campaign is told.
+    fn account(self) -> Account
+        ensures { has (codes "table") (told_by self.entry) ≡ is_table result }
+    {
+        if self.has("table") {
+            Account::Table
+        } else {
+            Account::Chronicle
+        }
+    }
+
+    /// Whose decisions are explained.
+    fn lieutenants(self, alloc: Global) -> Result<Option<Lieutenants>, TaskError>
+        requires { is_of campaigns (told_by self) ≡ true }
+        ensures explained { IfOk result (AreExplained (told_by self.entry)) }
+        ensures refused { IfErr result (IsErrorOf (told_by self.entry)) }
+    {
+        let explained = self.has("explain");
+        let Some(word) = self.value("of") else {
+            if explained {
+                return Ok(Some(Lieutenants::All));
+            }
+            return Ok(None);
+        };
+        if !explained {
+            return Err(TaskError::Misuse(Misuse::OfAlone));
+        }
+        match general(word.as_bytes()) {
+            Some(general) => Ok(Some(Lieutenants::One(general))),
+            None => Err(TaskError::Misuse(Misuse::Of(String::from_str(alloc, word)?))),
+        }
+    }
+
+    /// How a table is filled in.
+    fn filling(self, alloc: Global) -> Result<Option<Filling>, TaskError>
+        requires { is_of (codes "table" ∷ []) (told_by self) ≡ true }
+        ensures filling { IfOk result (IsFilling (told_by self.entry)) }
+        ensures refused { IfErr result (IsErrorOf (told_by self.entry)) }
+    {
+        let Some(word) = self.value("loyal") else {
+            if self.has("lie") {
+                return Err(TaskError::Misuse(Misuse::LieAlone));
+            }
+            return Ok(None);
+        };
+        let Some(order) = order(word.as_bytes()) else {
+            return Err(TaskError::Misuse(Misuse::Loyal(String::from_str(alloc, word)?)));
+        };
+        Ok(Some(Filling {
+            order,
+            liar: self.liar(alloc)?,
+        }))
+    }
+
+    /// The general whose lines of a table are left to be edited.
+    fn liar(self, alloc: Global) -> Result<Option<u8>, TaskError>
+        requires { is_of (codes "table" ∷ []) (told_by self) ≡ true }
+        ensures named { IfOk result (NamesGeneral (codes "lie") (told_by self.entry)) }
+        ensures refused { IfErr result (IsErrorOf (told_by self.entry)) }
+    {
+        let Some(word) = self.value("lie") else {
+            return Ok(None);
+        };
+        match general(word.as_bytes()) {
+            Some(general) => Ok(Some(general)),
+            None => Err(TaskError::Misuse(Misuse::Lie(String::from_str(alloc, word)?))),
+        }
     }
 }
 
-/// How bytecode is written with the switch, and without it.
-fn spelling(switched: bool) -> Spelling
-    ensures { is_raw result ≡ switched }
+/// The text of what the words gave, and not a default.
+fn given<'a>(source: Option<ValueSource>, text: Option<&'a str>) -> Option<&'a str>
+    ensures { option_map (λ t. t.now) result ≡ (if is_given source then option_map (λ t. t.now) text.entry else None) }
 {
-    if switched {
-        Spelling::Raw
-    } else {
-        Spelling::Hex
+    match source? {
+        ValueSource::CommandLine => text,
+        ValueSource::DefaultValue => None,
     }
-}
-
-/// A text of its own.
-fn required(alloc: Global, text: Option<&str>) -> Result<String, AllocError>
-    requires { IsSome text }
-    ensures { IfOk result (λ own. Some (string_bytes own) ≡ option_map (λ t. t.now) text.entry) }
-{
-    let Some(text) = text else {
-        unreachable!();
-    };
-    String::from_str(alloc, text)
-}
-
-/// A text of its own for what may be there.
-fn copied(alloc: Global, text: Option<&str>) -> Result<Option<String>, AllocError>
-    ensures { IfOk result (λ own. option_map string_bytes own ≡ option_map (λ t. t.now) text.entry) }
-{
-    Ok(match text {
-        Some(text) => Some(String::from_str(alloc, text)?),
-        None => None,
-    })
 }

@@ -2,11 +2,12 @@ ghost use Rattle.std.specs.Prelude.{◌≡◌, ◌≢◌, IfOk, IfErr, IsSomeAnd
 ghost use Rattle.clap.specs.Words.{IsAmong, fault_of, kind_of};
 ghost use Rattle.command_line.specs.Asked.{asked, spelt, words_of};
 ghost use Rattle.command_line.specs.Lab.{lab_app};
-ghost use Rattle.command_line.specs.Told.{IfRefused, IfTraitors, IfWords, IsRefusedWord, Says};
+ghost use Rattle.command_line.specs.Told.{IfMisuse, IfRefused, IfWords, IsMisused, Says};
 
+use crate::errors::TaskError;
 use crate::lab::lab_command;
 use crate::met::Met;
-use crate::tasks::{Task, TaskError};
+use crate::tasks::Task;
 use clap::error::ErrorKind;
 use std::alloc::Global;
 
@@ -20,8 +21,8 @@ pub fn task(alloc: Global, words: &[&str]) -> Result<Task, TaskError>
         IsAmong (kind_of refusal) (fault_of lab_app (words_of words.now)))) }
     ensures not_memory { IfErr result (λ error. IfWords error (λ refusal.
         kind_of refusal ≢ ErrorKind.OutOfMemory)) }
-    ensures traitors { IfErr result (λ error. IfTraitors error
-        (IsSomeAnd (spelt (words_of words.now)) (λ told. IsRefusedWord told error))) }
+    ensures misused { IfErr result (λ error. IfMisuse error (λ misuse.
+        IsSomeAnd (spelt (words_of words.now)) (λ told. IsMisused told misuse))) }
 {
     let lab = lab_command(alloc)?;
     match lab.try_get_matches_from(words) {

@@ -1,26 +1,29 @@
-use clap::Error;
-use std::alloc::AllocError;
-
 /// What the words ask for: a subcommand with the names of its files, and what its flags say.
 #[derive(Debug, Drop, PartialEq, Eq)]
 pub enum Task {
-    /// Verify and run a program, in the context that a second file tells where one is named, and explain it if it is asked for.
+    /// Verify a program and run it, in the context that a second file tells where one is named. Where it is asked for,
+    /// each step of the run is told, and the program explained.
     Check {
         program: String,
         notation: Notation,
         context: Option<String>,
         explained: bool,
+        traced: bool,
     },
     /// Translate assembly into bytecode, and write it in this spelling to another file where one is named.
     Assemble {
         text: String,
         spelling: Spelling,
         target: Option<String>,
+        explained: bool,
     },
-    /// Translate raw bytecode into assembly.
-    Disassemble(String),
-    /// The same, with the unit before each instruction.
-    DisassembleUnits(String),
+    /// Translate a program into assembly, with the unit before each instruction where `units` is set.
+    Disassemble {
+        program: String,
+        notation: Notation,
+        units: bool,
+        explained: bool,
+    },
     /// Compute the decisions of a message table.
     Book(String),
     /// Tell how they come about, where these generals are named as traitors.
@@ -56,12 +59,14 @@ pub enum Task {
 }
 
 /// How a program is written.
-#[derive(Clone, Copy, Debug, PartialEq, Eq)]
+#[derive(Debug, Drop, PartialEq, Eq)]
 pub enum Notation {
     /// As raw bytecode.
     Bytecode,
     /// As assembly text.
     Assembly,
+    /// As an ELF object: its function of this name or, where none is named, its only one.
+    Object { entry: Option<String> },
 }
 
 /// How bytecode is written.
@@ -110,8 +115,7 @@ impl Task {
         match self {
             Task::Check { program: file, .. }
             | Task::Assemble { text: file, .. }
-            | Task::Disassemble(file)
-            | Task::DisassembleUnits(file)
+            | Task::Disassemble { program: file, .. }
             | Task::Book(file)
             | Task::ExplainDecisions { table: file, .. }
             | Task::Play { scenario: file, .. }
@@ -141,30 +145,5 @@ impl Task {
             Task::Assemble { target, .. } => target.as_deref(),
             _ => None,
         }
-    }
-}
-
-/// Why there is no task.
-#[derive(Debug, Drop, thiserror::Error)]
-pub enum TaskError {
-    /// The words were refused, or they ask for help: `clap`'s text and exit status.
-    #[error("{0}")]
-    Words(Error),
-    /// The word behind `--traitors` names no generals.
-    #[error("error: invalid value {0:?} for '--traitors <G,H>': the numbers of generals, 0 to 12, joined by commas")]
-    Traitors(String),
-    /// Want of memory, here or in `clap`.
-    #[error("out of memory")]
-    Memory,
-}
-
-impl From<AllocError> for TaskError {
-    ghost use Rattle.std.specs.Prelude.{◌≡◌};
-    ghost use Rattle.command_line.specs.declared.tasks.TaskError.TheVariants.{Memory};
-
-    ghost from_gives = { λ _ e. e ≡ Memory };
-
-    fn from(_error: AllocError) -> TaskError {
-        TaskError::Memory
     }
 }

@@ -45,7 +45,7 @@ pub fn is_answered(alloc: Global, bytes: &[u8]) -> Result<bool> {
         Err(CodecError::Memory) => bail!("out of memory"),
         Err(_) => return Ok(true),
     }
-    match check(alloc, Notation::Bytecode, bytes) {
+    match check(alloc, &Notation::Bytecode, bytes) {
         Ok((_, checked)) => Ok(checked.steps as usize <= checked.instructions),
         Err(Refusal::Verifier(_)) => Ok(true),
         Err(_) => Ok(false),

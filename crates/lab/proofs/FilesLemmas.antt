@@ -7,7 +7,7 @@ use Rattle.command_line.specs.Told.{file_of, second_of}
 use Rattle.command_line.specs.declared.tasks.Account.{Account}
 use Rattle.command_line.specs.declared.tasks.Lieutenants.{Lieutenants}
 use Rattle.command_line.specs.declared.tasks.Task.{Task}
-use Rattle.command_line.specs.declared.tasks.Task.TheVariants.{Check, Assemble, Disassemble, DisassembleUnits, Book, ExplainDecisions, Form, Play, Muster, Audit}
+use Rattle.command_line.specs.declared.tasks.Task.TheVariants.{Check, Assemble, Disassemble, Book, ExplainDecisions, Form, Play, Muster, Audit}
 use Rattle.round.specs.Scenario.{Scenario}
 use Rattle.scenario.specs.declared.messages.Campaign.{Campaign}
 use Rattle.world.specs.declared.schedule.Repeat.{Repeat}
@@ -48,11 +48,10 @@ second_bytes (Some known) bytes are = (Some bytes, are, refl)
 -- an answer by the second file's schedule
 pub answered_played : (task : Task) (files : Files) (first text : List ℕ) (s : Campaign) (told : Account) (why : Option Lieutenants) → AreBytes files.first first
     → ComesTo task first (answer.Play s told why) → IsPlayedBy files.second s told why text → IsAnswer task files text
-answered_played (Check file notation None explained) files first text s told why are comes by = absurd comes
-answered_played (Check file notation (Some context) explained) files first text s told why are comes by = absurd comes
-answered_played (Assemble file spelling target) files first text s told why are comes by = absurd comes
-answered_played (Disassemble file) files first text s told why are comes by = absurd comes
-answered_played (DisassembleUnits file) files first text s told why are comes by = absurd comes
+answered_played (Check file notation None explained traced) files first text s told why are comes by = absurd comes
+answered_played (Check file notation (Some context) explained traced) files first text s told why are comes by = absurd comes
+answered_played (Assemble file spelling target explained) files first text s told why are comes by = absurd comes
+answered_played (Disassemble file notation units explained) files first text s told why are comes by = absurd comes
 answered_played (Book file) files first text s told why are comes by = absurd comes
 answered_played (ExplainDecisions file traitors) files first text s told why are comes by = absurd comes
 answered_played (Form n m c filling) files first text s told why are comes by = absurd comes
@@ -65,11 +64,10 @@ answered_played (Audit scenario chronicle explained) files first text s told why
 -- an answer of threads
 pub answered_mustered : (task : Task) (files : Files) (first text : List ℕ) (s : Scenario) (why : Option Lieutenants) → AreBytes files.first first
     → ComesTo task first (answer.Muster s why) → IsMustered s why text → IsAnswer task files text
-answered_mustered (Check file notation None explained) files first text s why are comes mustered = absurd comes
-answered_mustered (Check file notation (Some context) explained) files first text s why are comes mustered = absurd comes
-answered_mustered (Assemble file spelling target) files first text s why are comes mustered = absurd comes
-answered_mustered (Disassemble file) files first text s why are comes mustered = absurd comes
-answered_mustered (DisassembleUnits file) files first text s why are comes mustered = absurd comes
+answered_mustered (Check file notation None explained traced) files first text s why are comes mustered = absurd comes
+answered_mustered (Check file notation (Some context) explained traced) files first text s why are comes mustered = absurd comes
+answered_mustered (Assemble file spelling target explained) files first text s why are comes mustered = absurd comes
+answered_mustered (Disassemble file notation units explained) files first text s why are comes mustered = absurd comes
 answered_mustered (Book file) files first text s why are comes mustered = absurd comes
 answered_mustered (ExplainDecisions file traitors) files first text s why are comes mustered = absurd comes
 answered_mustered (Form n m c filling) files first text s why are comes mustered = absurd comes
@@ -81,11 +79,10 @@ answered_mustered (Audit scenario chronicle explained) files first text s why ar
 -- an answer on the second file
 pub answered_audited : (task : Task) (files : Files) (first text : List ℕ) (s : Campaign) (why : Option Lieutenants) → AreBytes files.first first
     → ComesTo task first (answer.Audit s why) → IsAuditOf files.second s why text → IsAnswer task files text
-answered_audited (Check file notation None explained) files first text s why are comes audit = absurd comes
-answered_audited (Check file notation (Some context) explained) files first text s why are comes audit = absurd comes
-answered_audited (Assemble file spelling target) files first text s why are comes audit = absurd comes
-answered_audited (Disassemble file) files first text s why are comes audit = absurd comes
-answered_audited (DisassembleUnits file) files first text s why are comes audit = absurd comes
+answered_audited (Check file notation None explained traced) files first text s why are comes audit = absurd comes
+answered_audited (Check file notation (Some context) explained traced) files first text s why are comes audit = absurd comes
+answered_audited (Assemble file spelling target explained) files first text s why are comes audit = absurd comes
+answered_audited (Disassemble file notation units explained) files first text s why are comes audit = absurd comes
 answered_audited (Book file) files first text s why are comes audit = absurd comes
 answered_audited (ExplainDecisions file traitors) files first text s why are comes audit = absurd comes
 answered_audited (Form n m c filling) files first text s why are comes audit = absurd comes
@@ -99,16 +96,15 @@ answered_audited (Audit scenario chronicle explained) files first text s why are
 -- an answer in the second file's setting
 pub answered_tried : (task : Task) (files : Files) (first text : List ℕ) (program : List Insn) → AreBytes files.first first
     → ComesTo task first (answer.Trial program) → IsTrialOf files.second (is_some (explained_in task)) program text → IsAnswer task files text
-answered_tried (Check file notation None explained) files first text program are comes tried = absurd comes
-answered_tried (Check file notation (Some context) true) files first text program are comes (bytes, known, (lines, tried, behind)) =
+answered_tried (Check file notation None explained traced) files first text program are comes tried = absurd comes
+answered_tried (Check file notation (Some context) true traced) files first text program are comes (bytes, known, (lines, tried, behind)) =
     let second = second_bytes files.second bytes known in
     (first, are, (second.0, second.1, (program, comes.0, comes.1, comes.2, (lines, subst (λ (own : List ℕ). IsTriedBy own program lines) second.2 tried, behind))))
-answered_tried (Check file notation (Some context) false) files first text program are comes (bytes, known, (lines, tried, behind)) =
+answered_tried (Check file notation (Some context) false traced) files first text program are comes (bytes, known, (lines, tried, behind)) =
     let second = second_bytes files.second bytes known in
     (first, are, (second.0, second.1, (program, comes.0, comes.1, comes.2, (lines, subst (λ (own : List ℕ). IsTriedBy own program lines) second.2 tried, behind))))
-answered_tried (Assemble file spelling target) files first text program are comes tried = absurd comes
-answered_tried (Disassemble file) files first text program are comes tried = absurd comes
-answered_tried (DisassembleUnits file) files first text program are comes tried = absurd comes
+answered_tried (Assemble file spelling target explained) files first text program are comes tried = absurd comes
+answered_tried (Disassemble file notation units explained) files first text program are comes tried = absurd comes
 answered_tried (Book file) files first text program are comes tried = absurd comes
 answered_tried (ExplainDecisions file traitors) files first text program are comes tried = absurd comes
 answered_tried (Form n m c filling) files first text program are comes tried = absurd comes

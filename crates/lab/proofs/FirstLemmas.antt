@@ -4,7 +4,7 @@ use Rattle.std.specs.Borrow.{Bor}
 use Rattle.std.specs.declared.alloc.Global.{Global}
 use Rattle.std.specs.Prelude.{Option, None, Some, IfSome, String, string_bytes}
 use Rattle.command_line.specs.declared.tasks.Notation.{Notation}
-use Rattle.command_line.specs.declared.tasks.Notation.TheVariants.{Bytecode, Assembly as Texts}
+use Rattle.command_line.specs.declared.tasks.Notation.TheVariants.{Bytecode, Assembly as Texts, Object}
 use Rattle.command_line.specs.declared.tasks.Task.{Task}
 use Rattle.command_line.specs.declared.tasks.Task.TheVariants as task
 use Rattle.lab.specs.Faults.{Prevents, Stops, StopsFirst, fault_of_bytes}
@@ -93,6 +93,16 @@ by_notation Bytecode bytes (Setting error) refuses = absurd refuses
 by_notation Bytecode bytes (Trace error) refuses = absurd refuses
 by_notation Bytecode bytes (Threads error) refuses = absurd refuses
 by_notation Bytecode bytes NotText refuses = absurd refuses
+by_notation (Object entry) bytes (Codec error) refuses = (refuses, λ task. refl)
+by_notation (Object entry) bytes Memory refuses = (tt, λ task. refl)
+by_notation (Object entry) bytes (Verifier fault) refuses = absurd refuses
+by_notation (Object entry) bytes (Assembly error) refuses = absurd refuses
+by_notation (Object entry) bytes (Table error) refuses = absurd refuses
+by_notation (Object entry) bytes (Scenario error) refuses = absurd refuses
+by_notation (Object entry) bytes (Setting error) refuses = absurd refuses
+by_notation (Object entry) bytes (Trace error) refuses = absurd refuses
+by_notation (Object entry) bytes (Threads error) refuses = absurd refuses
+by_notation (Object entry) bytes NotText refuses = absurd refuses
 by_notation Texts bytes (Assembly error) refuses = (refuses, λ task. refl)
 by_notation Texts bytes NotText refuses = (refuses, λ task. refl)
 by_notation Texts bytes Memory refuses = (tt, λ task. refl)
@@ -105,12 +115,11 @@ by_notation Texts bytes (Trace error) refuses = absurd refuses
 by_notation Texts bytes (Threads error) refuses = absurd refuses
 
 checks_in : (task : Task) (notation : Notation) (bytes : List ℕ) (refusal : Refusal) → explained_in task ≡ Some notation → RefusesCheckIn notation bytes refusal → Refuses task bytes refusal
-checks_in (task.Check file own context true) notation bytes refusal is refuses =
+checks_in (task.Check file own context true traced) notation bytes refusal is refuses =
     let same : notation ≡ own = cc in subst (λ (n : Notation). RefusesCheckIn n bytes refusal) same refuses
-checks_in (task.Check file own context false) notation bytes refusal is refuses = absurd cc
-checks_in (task.Assemble file spelling target) notation bytes refusal is refuses = absurd cc
-checks_in (task.Disassemble file) notation bytes refusal is refuses = absurd cc
-checks_in (task.DisassembleUnits file) notation bytes refusal is refuses = absurd cc
+checks_in (task.Check file own context false traced) notation bytes refusal is refuses = absurd cc
+checks_in (task.Assemble file spelling target explained) notation bytes refusal is refuses = absurd cc
+checks_in (task.Disassemble file own units explained) notation bytes refusal is refuses = absurd cc
 checks_in (task.Book file) notation bytes refusal is refuses = absurd cc
 checks_in (task.ExplainDecisions file traitors) notation bytes refusal is refuses = absurd cc
 checks_in (task.Form n m c filling) notation bytes refusal is refuses = absurd cc

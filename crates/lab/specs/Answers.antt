@@ -1,17 +1,16 @@
 -- What a task prints on files of some bytes.
-use Rattle.std.specs.Prelude.{ℕ, ◌≡◌, ◌++◌, Bool, true, List, [], Option, None, Some, Ok, length, string_bytes, unwrap_or}
+use Rattle.std.specs.Prelude.{ℕ, ◌≡◌, ◌++◌, Bool, true, false, List, [], Option, None, Some, Ok, length, string_bytes, unwrap_or}
 use Rattle.insn.specs.declared.insn.Insn.{Insn}
 use Rattle.insn.specs.Program.{slots_of}
 use Rattle.semantics.specs.Relay.{oral}
 use Rattle.semantics.specs.Run.{IsSound}
-use Rattle.codec.specs.Program.{SpellsProgram}
 use Rattle.codec.specs.Spelling.{program_bytes}
 use Rattle.asm.specs.Program.{program_of}
 use Rattle.asm.specs.Printing.{text_of, unit_lines}
 use Rattle.command_line.specs.declared.tasks.Notation.{Notation}
 use Rattle.command_line.specs.declared.tasks.Spelling.TheVariants.{Hex, Raw}
 use Rattle.command_line.specs.declared.tasks.Task.{Task}
-use Rattle.command_line.specs.declared.tasks.Task.TheVariants.{Check, Assemble, Disassemble, DisassembleUnits, Book, ExplainDecisions, Form, Play, Muster, Audit}
+use Rattle.command_line.specs.declared.tasks.Task.TheVariants.{Check, Assemble, Disassemble, Book, ExplainDecisions, Form, Play, Muster, Audit}
 use Rattle.command_line.specs.declared.tasks.Account.TheVariants.{Chronicle}
 use Rattle.scenario.specs.Told.{Tells}
 use Rattle.tables.specs.Answers.{DecidesTable, ExplainsTable, IsFilled, IsFormOf}
@@ -64,24 +63,24 @@ abbrev pub Assembles : List ℕ → List ℕ → Type 0
 Assembles text line =
     (program : List Insn) × (program_of text ≡ Some program) × (line ≡ hex_line program)
 
--- the bytes spell a program, and this is its text
-abbrev pub Disassembles : List ℕ → List ℕ → Type 0
-Disassembles bytes text =
-    (program : List Insn) × SpellsProgram bytes program × (text ≡ text_of program)
+-- the file has a program in its notation, and this is its text
+abbrev pub Disassembles : Notation → List ℕ → List ℕ → Type 0
+Disassembles notation bytes text =
+    (program : List Insn) × HasProgram notation bytes program × (text ≡ text_of program)
 
--- the bytes spell a program, and this is its text with the units
-abbrev pub DisassemblesUnits : List ℕ → List ℕ → Type 0
-DisassemblesUnits bytes text =
-    (program : List Insn) × SpellsProgram bytes program × (text ≡ unit_lines 0 program)
+-- the file has a program in its notation, and this is its text with the units
+abbrev pub DisassemblesUnits : Notation → List ℕ → List ℕ → Type 0
+DisassemblesUnits notation bytes text =
+    (program : List Insn) × HasProgram notation bytes program × (text ≡ unit_lines 0 program)
 
 -- the task prints this text on files of these bytes
 abbrev pub Prints : Task → List ℕ → Option (List ℕ) → List ℕ → Type 0
-Prints (Check file notation None explained) first second text = IsChecked notation explained first text
-Prints (Check file notation (Some context) explained) first second text = Tries notation explained first second text
-Prints (Assemble file Hex target) first second text = Assembles first text
-Prints (Assemble file Raw target) first second text = AssemblesRaw first text
-Prints (Disassemble file) first second text = Disassembles first text
-Prints (DisassembleUnits file) first second text = DisassemblesUnits first text
+Prints (Check file notation None explained traced) first second text = IsChecked notation explained first text
+Prints (Check file notation (Some context) explained traced) first second text = Tries notation explained first second text
+Prints (Assemble file Hex target explained) first second text = Assembles first text
+Prints (Assemble file Raw target explained) first second text = AssemblesRaw first text
+Prints (Disassemble file notation false explained) first second text = Disassembles notation first text
+Prints (Disassemble file notation true explained) first second text = DisassemblesUnits notation first text
 Prints (Book file) first second text = DecidesTable first text
 Prints (ExplainDecisions file traitors) first second text = ExplainsTable first traitors.items text
 Prints (Form n m c None) first second text = IsFormOf (string_bytes n) (string_bytes m) (string_bytes c) text
@@ -92,7 +91,7 @@ Prints (Audit scenario chronicle explained) first second text = Audits explained
 
 -- the task goes on with this behind its first file: a program to try, or a campaign
 abbrev pub GoesOn : Task → List ℕ → FirstAnswer → Type 0
-GoesOn (Check file notation (Some context) explained) first (answer.Trial program) =
+GoesOn (Check file notation (Some context) explained traced) first (answer.Trial program) =
     HasProgram notation first program × (judged program ≡ None) × IsSound program
 GoesOn (Play scenario schedule account explained) first (answer.Play c told why) =
     TellsCampaign (is_plain account explained) first c × (told ≡ account) × (why ≡ explained)

@@ -5,7 +5,7 @@ use Rattle.asm.specs.Program.{program_of}
 use Rattle.codec.specs.Program.{SpellsProgram}
 use Rattle.explain.specs.Explained.{explained}
 use Rattle.command_line.specs.declared.tasks.Notation.{Notation}
-use Rattle.command_line.specs.declared.tasks.Notation.TheVariants.{Bytecode, Assembly}
+use Rattle.command_line.specs.declared.tasks.Notation.TheVariants.{Bytecode, Assembly, Object}
 use Rattle.command_line.specs.declared.tasks.Task.{Task}
 use Rattle.command_line.specs.declared.tasks.Task.TheVariants.{Check}
 use Rattle.lab.specs.Seeming.{likeness_of, seems_text}
@@ -18,10 +18,11 @@ use Rattle.lab.specs.declared.refusal.Refusal.TheVariants.{Verifier}
 abbrev pub HasProgram : Notation → List ℕ → List Insn → Type 0
 HasProgram Bytecode bytes program = SpellsProgram bytes program
 HasProgram Assembly text program = program_of text ≡ Some program
+HasProgram (Object entry) bytes program = SpellsProgram bytes program
 
 -- the notation of the program that the task is to explain, where it is to explain one
 abbrev pub explained_in : Task → Option Notation
-explained_in (Check file notation context true) = Some notation
+explained_in (Check file notation context true traced) = Some notation
 explained_in _ = None
 
 -- behind the lines of an accepted program: nothing, or an empty line and its explanation

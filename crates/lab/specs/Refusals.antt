@@ -35,7 +35,7 @@ use Rattle.command_line.specs.declared.tasks.Account.TheVariants as accounts
 use Rattle.command_line.specs.declared.tasks.Notation.{Notation}
 use Rattle.command_line.specs.declared.tasks.Notation.TheVariants as notation
 use Rattle.command_line.specs.declared.tasks.Task.{Task}
-use Rattle.command_line.specs.declared.tasks.Task.TheVariants.{Check, Assemble, Disassemble, DisassembleUnits, Book, ExplainDecisions, Form, Play, Muster, Audit}
+use Rattle.command_line.specs.declared.tasks.Task.TheVariants.{Check, Assemble, Disassemble, Book, ExplainDecisions, Form, Play, Muster, Audit}
 use Rattle.tables.specs.Numbers.{numbers_in}
 use Rattle.lab.specs.Campaigns.{is_plain}
 use Rattle.lab.specs.declared.refusal.Refusal.{Refusal}
@@ -173,18 +173,19 @@ RefusesText refuses bytes refusal = refuses bytes refusal
 abbrev pub RefusesCheckIn : Notation → List ℕ → Refusal → Type 0
 RefusesCheckIn notation.Bytecode bytes refusal = RefusesCheck bytes refusal
 RefusesCheckIn notation.Assembly bytes refusal = RefusesText RefusesCheckAssembly bytes refusal
+RefusesCheckIn (notation.Object entry) bytes refusal = RefusesCheck bytes refusal
 
 -- the file has no program in its notation
 abbrev pub RefusesNotation : Notation → List ℕ → Refusal → Type 0
 RefusesNotation notation.Bytecode bytes refusal = RefusesDisassembly bytes refusal
 RefusesNotation notation.Assembly bytes refusal = RefusesText RefusesAssembly bytes refusal
+RefusesNotation (notation.Object entry) bytes refusal = RefusesDisassembly bytes refusal
 
 -- the task does not take an only or first file of these bytes
 abbrev pub Refuses : Task → List ℕ → Refusal → Type 0
-Refuses (Check file notation context explained) bytes refusal = RefusesCheckIn notation bytes refusal
-Refuses (Assemble file spelling target) bytes refusal = RefusesText RefusesAssembly bytes refusal
-Refuses (Disassemble file) bytes refusal = RefusesDisassembly bytes refusal
-Refuses (DisassembleUnits file) bytes refusal = RefusesDisassembly bytes refusal
+Refuses (Check file notation context explained traced) bytes refusal = RefusesCheckIn notation bytes refusal
+Refuses (Assemble file spelling target explained) bytes refusal = RefusesText RefusesAssembly bytes refusal
+Refuses (Disassemble file notation units explained) bytes refusal = RefusesNotation notation bytes refusal
 Refuses (Book file) bytes refusal = RefusesText RefusesTable bytes refusal
 Refuses (ExplainDecisions file traitors) bytes refusal = RefusesText RefusesTable bytes refusal
 Refuses (Form n m c filling) bytes refusal = RefusesForm (string_bytes n) (string_bytes m) (string_bytes c) refusal

@@ -29,12 +29,12 @@ pub fn answer(alloc: Global, task: &Task, bytes: &[u8]) -> Result<FirstAnswer, R
             context: None,
             explained,
             ..
-        } => checked_in(alloc, *notation, *explained, bytes)?,
+        } => checked_in(alloc, notation, *explained, bytes)?,
         Task::Check {
             notation,
             context: Some(_),
             ..
-        } => return Ok(FirstAnswer::Trial(accepted_in(alloc, *notation, bytes)?)),
+        } => return Ok(FirstAnswer::Trial(accepted_in(alloc, notation, bytes)?)),
         Task::Assemble {
             spelling: Spelling::Hex,
             ..
@@ -43,8 +43,16 @@ pub fn answer(alloc: Global, task: &Task, bytes: &[u8]) -> Result<FirstAnswer, R
             spelling: Spelling::Raw,
             ..
         } => return Ok(FirstAnswer::Bytes(assembled_raw(alloc, as_text(bytes)?)?)),
-        Task::Disassemble(_) => disassembled(alloc, bytes)?,
-        Task::DisassembleUnits(_) => disassembled_units(alloc, bytes)?,
+        Task::Disassemble {
+            notation,
+            units: false,
+            ..
+        } => disassembled(alloc, notation, bytes)?,
+        Task::Disassemble {
+            notation,
+            units: true,
+            ..
+        } => disassembled_units(alloc, notation, bytes)?,
         Task::Book(_) => decided(alloc, as_text(bytes)?)?,
         Task::ExplainDecisions { traitors, .. } => {
             explained(alloc, as_text(bytes)?, traitors.as_slice())?
@@ -87,12 +95,12 @@ pub fn answer(alloc: Global, task: &Task, bytes: &[u8]) -> Result<FirstAnswer, R
 /// What a check prints of a file with a program in this notation, with its explanation or without it.
 fn checked_in(
     alloc: Global,
-    notation: Notation,
+    notation: &Notation,
     explained: bool,
     bytes: &[u8],
 ) -> Result<String, Refusal>
-    ensures checked { IfOk result (λ text. IsChecked notation explained bytes.now (string_bytes text)) }
-    ensures refused { IfErr result (RefusesCheckIn notation bytes.now) }
+    ensures checked { IfOk result (λ text. IsChecked notation.now explained bytes.now (string_bytes text)) }
+    ensures refused { IfErr result (RefusesCheckIn notation.now bytes.now) }
 {
     let (verified, checked) = check(alloc, notation, bytes)?;
     let lines = checked_text(alloc, &checked)?;

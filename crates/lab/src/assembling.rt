@@ -1,10 +1,14 @@
 ghost use Rattle.std.specs.Prelude.{IfOk, IfErr, string_bytes};
 ghost use Rattle.lab.specs.Answers.{Assembles, AssemblesRaw, Disassembles, DisassemblesUnits};
-ghost use Rattle.lab.specs.Refusals.{RefusesAssembly, RefusesDisassembly};
+ghost use Rattle.lab.specs.Hints.{HasProgram};
+ghost use Rattle.lab.specs.Refusals.{RefusesAssembly, RefusesNotation};
 
 use crate::refusal::Refusal;
+use crate::texts::as_text;
 use asm::{assemble, disassemble, disassemble_units};
 use codec::{decode, encode};
+use command_line::Notation;
+use insn::Program;
 use std::alloc::Global;
 
 /// The bytecode that the assembly says, in lower-case hex on one line.
@@ -36,28 +40,51 @@ pub fn assembled_raw(alloc: Global, text: &str) -> Result<Vec<u8>, Refusal>
     Ok(encode(alloc, &program)?)
 }
 
-/// The assembly of raw bytecode.
+/// The program in this notation that a file has.
+pub(crate) fn program_in(
+    alloc: Global,
+    notation: &Notation,
+    bytes: &[u8],
+) -> Result<Program, Refusal>
+    ensures program { IfOk result (λ program. HasProgram notation.now bytes.now program) }
+    ensures refused { IfErr result (RefusesNotation notation.now bytes.now) }
+{
+    match notation {
+        Notation::Bytecode | Notation::Object { .. } => Ok(decode(alloc, bytes)?),
+        Notation::Assembly => Ok(assemble(alloc, as_text(bytes)?)?),
+    }
+}
+
+/// The assembly of a program in this notation.
 ///
 /// # Errors
 ///
-/// What the codec refuses, or want of memory.
-pub fn disassembled(alloc: Global, bytes: &[u8]) -> Result<String, Refusal>
-    ensures disassembled { IfOk result (λ text. Disassembles bytes.now (string_bytes text)) }
-    ensures refused { IfErr result (RefusesDisassembly bytes.now) }
+/// What the codec or the assembler refuses, or want of memory.
+pub fn disassembled(
+    alloc: Global,
+    notation: &Notation,
+    bytes: &[u8],
+) -> Result<String, Refusal>
+    ensures disassembled { IfOk result (λ text. Disassembles notation.now bytes.now (string_bytes text)) }
+    ensures refused { IfErr result (RefusesNotation notation.now bytes.now) }
 {
-    let program = decode(alloc, bytes)?;
+    let program = program_in(alloc, notation, bytes)?;
     Ok(disassemble(alloc, &program)?)
 }
 
-/// The assembly of raw bytecode, with the unit before each instruction.
+/// The assembly of a program in this notation, with the unit before each instruction.
 ///
 /// # Errors
 ///
-/// What the codec refuses, or want of memory.
-pub fn disassembled_units(alloc: Global, bytes: &[u8]) -> Result<String, Refusal>
-    ensures disassembled { IfOk result (λ text. DisassemblesUnits bytes.now (string_bytes text)) }
-    ensures refused { IfErr result (RefusesDisassembly bytes.now) }
+/// What the codec or the assembler refuses, or want of memory.
+pub fn disassembled_units(
+    alloc: Global,
+    notation: &Notation,
+    bytes: &[u8],
+) -> Result<String, Refusal>
+    ensures disassembled { IfOk result (λ text. DisassemblesUnits notation.now bytes.now (string_bytes text)) }
+    ensures refused { IfErr result (RefusesNotation notation.now bytes.now) }
 {
-    let program = decode(alloc, bytes)?;
+    let program = program_in(alloc, notation, bytes)?;
     Ok(disassemble_units(alloc, &program)?)
 }

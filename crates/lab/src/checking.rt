@@ -37,12 +37,12 @@ pub struct Checked {
 /// What the codec, the assembler or the verifier refuses, or want of memory.
 pub fn check(
     alloc: Global,
-    notation: Notation,
+    notation: &Notation,
     bytes: &[u8],
 ) -> Result<(Verified, Checked), Refusal>
-    ensures program { IfOk result (λ c. HasProgram notation bytes.now c.0) }
+    ensures program { IfOk result (λ c. HasProgram notation.now bytes.now c.0) }
     ensures run { IfOk result (λ c. IsRun c.0 c.1) }
-    ensures refused { IfErr result (RefusesCheckIn notation bytes.now) }
+    ensures refused { IfErr result (RefusesCheckIn notation.now bytes.now) }
 {
     let verified = accepted_in(alloc, notation, bytes)?;
     let checked = run(alloc, &verified)?;
@@ -52,16 +52,16 @@ pub fn check(
 /// The program in this notation that a file has, verified.
 pub(crate) fn accepted_in(
     alloc: Global,
-    notation: Notation,
+    notation: &Notation,
     bytes: &[u8],
 ) -> Result<Verified, Refusal>
-    ensures program { IfOk result (λ program. HasProgram notation bytes.now program) }
+    ensures program { IfOk result (λ program. HasProgram notation.now bytes.now program) }
     ensures accepted { IfOk result (λ program. judged program ≡ None) }
     ensures sound { IfOk result (λ program. IsSound program) }
-    ensures refused { IfErr result (RefusesCheckIn notation bytes.now) }
+    ensures refused { IfErr result (RefusesCheckIn notation.now bytes.now) }
 {
     match notation {
-        Notation::Bytecode => accepted(alloc, bytes),
+        Notation::Bytecode | Notation::Object { .. } => accepted(alloc, bytes),
         Notation::Assembly => accepted_text(alloc, as_text(bytes)?),
     }
 }

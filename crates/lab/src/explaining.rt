@@ -1,30 +1,28 @@
 //! What `check --explain` says of a program behind what `check` says of it.
-ghost use Rattle.std.specs.Prelude.{◌≡◌, ◌++◌, IfOk, IfErr, string_bytes};
+ghost use Rattle.std.specs.Prelude.{◌≡◌, ◌++◌, IfOk, IfErr, option_map, string_bytes};
 ghost use Rattle.lab.specs.Faults.{StopsFirst};
 ghost use Rattle.lab.specs.Hints.{IsWhy, asked_of, behind_lines, explained_in};
-ghost use Rattle.lab.specs.Refusals.{Refuses, RefusesAssembly, RefusesDisassembly, RefusesNotation};
+ghost use Rattle.lab.specs.Refusals.{Refuses, RefusesNotation};
 
+use crate::assembling::program_in;
 use crate::failure::Failure;
 use crate::hint::Hint;
 use crate::refusal::Refusal;
-use crate::texts::as_text;
-use asm::assemble;
-use codec::decode;
 use command_line::{Notation, Task};
 use explain::explanation;
 use insn::Program;
 use std::alloc::{AllocError, Global};
 
 /// The notation of the program that the task is to explain, where it is to explain one.
-pub(crate) fn explained_in(task: &Task) -> Option<Notation>
-    ensures { result ≡ explained_in task.now }
+pub(crate) fn explained_in(task: &Task) -> Option<&Notation>
+    ensures { option_map (λ notation. notation.now) result ≡ explained_in task.now }
 {
     match task {
         Task::Check {
             notation,
             explained: true,
             ..
-        } => Some(*notation),
+        } => Some(notation),
         _ => None,
     }
 }
@@ -47,39 +45,19 @@ pub(crate) fn with_explanation(
     Ok(text)
 }
 
-/// The explanation of the program that the bytes spell.
-fn why_of_bytes(alloc: Global, bytes: &[u8]) -> Result<String, Refusal>
-    ensures why { IfOk result (λ text. IsWhy Notation.Bytecode bytes.now (string_bytes text)) }
-    ensures refused { IfErr result (RefusesDisassembly bytes.now) }
+/// The explanation of the program in this notation that a file of these bytes has.
+fn why(alloc: Global, notation: &Notation, bytes: &[u8]) -> Result<String, Refusal>
+    ensures why { IfOk result (λ text. IsWhy notation.now bytes.now (string_bytes text)) }
+    ensures refused { IfErr result (RefusesNotation notation.now bytes.now) }
 {
-    let program = decode(alloc, bytes)?;
+    let program = program_in(alloc, notation, bytes)?;
     Ok(explanation(alloc, &program)?)
-}
-
-/// That of the program that the assembly says.
-fn why_of_text(alloc: Global, text: &str) -> Result<String, Refusal>
-    ensures why { IfOk result (λ own. IsWhy Notation.Assembly text.now (string_bytes own)) }
-    ensures refused { IfErr result (RefusesAssembly text.now) }
-{
-    let program = assemble(alloc, text)?;
-    Ok(explanation(alloc, &program)?)
-}
-
-/// That of the program in this notation that a file of these bytes has.
-fn why(alloc: Global, notation: Notation, bytes: &[u8]) -> Result<String, Refusal>
-    ensures why { IfOk result (λ text. IsWhy notation bytes.now (string_bytes text)) }
-    ensures refused { IfErr result (RefusesNotation notation bytes.now) }
-{
-    match notation {
-        Notation::Bytecode => why_of_bytes(alloc, bytes),
-        Notation::Assembly => why_of_text(alloc, as_text(bytes)?),
-    }
 }
 
 /// The notation in which a refused program is read once more: that of the task, where the verifier refused it and an
 /// explanation is asked for.
-fn asked_of(refusal: &Refusal, task: &Task) -> Option<Notation>
-    ensures { result ≡ asked_of refusal.now task.now }
+fn asked_of<'a>(refusal: &Refusal, task: &'a Task) -> Option<&'a Notation>
+    ensures { option_map (λ notation. notation.now) result ≡ asked_of refusal.now task.now }
 {
     match refusal {
         Refusal::Verifier(_) => explained_in(task),

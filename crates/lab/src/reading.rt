@@ -36,8 +36,11 @@ pub(crate) fn read_first<'a, R: Source>(
             notation: Notation::Bytecode,
             ..
         }
-        | Task::Disassemble(file)
-        | Task::DisassembleUnits(file) => read_program(alloc, file.as_str(), first),
+        | Task::Disassemble {
+            program: file,
+            notation: Notation::Bytecode,
+            ..
+        } => read_program(alloc, file.as_str(), first),
         _ => read(alloc, task.file().unwrap_or(""), first),
     }
 }

@@ -1,17 +1,17 @@
-use Rattle.std.proofs.Common.{rules, ◌≡◌, ◌≢◌, ◌∙◌, Option, Some, ap, is_some, subst, sym, true}
+use Rattle.std.proofs.Common.{rules, ◌≡◌, ◌≢◌, ◌∙◌, Some, subst, sym, true}
 use Rattle.clap.specs.Words.{kind_of, subcommand_rows_of}
 use Rattle.clap.specs.declared.error.kind.ErrorKind.TheVariants.{OutOfMemory}
-use Rattle.command_line.specs.Asked.{is_task, words_of}
-use Rattle.command_line.specs.Met.{told_by}
+use Rattle.command_line.specs.Asked.{words_of}
+use Rattle.command_line.specs.Met.{has_places, told_by}
 use Rattle.command_line.specs.Told.{Told}
-use Rattle.command_line.proofs.CallLemmas.{error_is_refused, kind_among, none_found, task_found, task_is_asked, traitors_are_refused}
+use Rattle.command_line.proofs.CallLemmas.{error_is_refused, kind_among, misuse_is_told, none_found, some_met, task_found, task_is_asked}
 use Rattle.command_line.proofs.reading.task.Goals as goal
 
 pub of-requires : goal.of-requires
 of-requires c =
     let found = task_found _ (words_of c.args.words.now) (subcommand_rows_of c.in-Ok.matches) c.in_ok-lab.ensures
     c.in-Ok.ensures.kinds (λ e. (c.in-Ok.ensures.matches e).1) in
-    ap (λ (o : Option Told). is_some o) found.met_is
+    some_met (subcommand_rows_of c.in-Ok.matches) found.task found.met_is
 
 pub task-requires : goal.task-requires
 task-requires c =
@@ -19,7 +19,7 @@ task-requires c =
     c.in-Ok.ensures.kinds (λ e. (c.in-Ok.ensures.matches e).1) in
     let task_is : Some (told_by c.of.result) ≡ Some found.task = c.of.ensures ∙ found.met_is in
     let told_is : found.task ≡ told_by c.of.result = cc in
-    subst (λ (told : Told). is_task told ≡ true) told_is found.known
+    subst (λ (told : Told). has_places told ≡ true) told_is found.filled
 
 pub returns-in-Ok-clause-found : goal.returns-in-Ok-clause-found
 returns-in-Ok-clause-found c =
@@ -33,11 +33,11 @@ returns-in-Ok-clause-refused c =
     c.in-Ok.ensures.kinds (λ e. (c.in-Ok.ensures.matches e).1) in
     error_is_refused (words_of c.args.words.now) (told_by c.of.result) (found.spelt_is ∙ sym (c.of.ensures ∙ found.met_is)) c.task.result c.task.ensures.refused
 
-pub returns-in-Ok-clause-traitors : goal.returns-in-Ok-clause-traitors
-returns-in-Ok-clause-traitors c =
+pub returns-in-Ok-clause-misused : goal.returns-in-Ok-clause-misused
+returns-in-Ok-clause-misused c =
     let found = task_found _ (words_of c.args.words.now) (subcommand_rows_of c.in-Ok.matches) c.in_ok-lab.ensures
     c.in-Ok.ensures.kinds (λ e. (c.in-Ok.ensures.matches e).1) in
-    traitors_are_refused (words_of c.args.words.now) (told_by c.of.result) (found.spelt_is ∙ sym (c.of.ensures ∙ found.met_is)) c.task.result c.task.ensures.refused
+    misuse_is_told (words_of c.args.words.now) (told_by c.of.result) (found.spelt_is ∙ sym (c.of.ensures ∙ found.met_is)) c.task.result c.task.ensures.refused
 
 pub returns-else-eq-clause-refused : goal.returns-else-eq-clause-refused
 returns-else-eq-clause-refused c =

@@ -1,0 +1,150 @@
+-- Words that say a task are no misuse, and words that are misused say none.
+use Rattle.std.proofs.Common.{◌≡◌, ◌∙◌, ◌||◌, ◌&&◌, not, Bool, true, false, codes, is_some, ℕ, List, [], ◌∷◌, Option, Some, None, ap, refl, string_bytes, subst, sym}
+use Rattle.std.proofs.lemmas.Bool.{and_from, and_left, and_right, or_right}
+use Rattle.std.specs.Option.{option_map_or}
+use Rattle.text.specs.Options.{◌>>=◌}
+use Rattle.clap.specs.Walk.{Text}
+use Rattle.command_line.specs.Asked.{has_filling, has_lieutenants, has_notation, if_of, is_meant, reads, wants}
+use Rattle.command_line.specs.Generals.{general_in, generals_in, order_in}
+use Rattle.command_line.specs.Told.{AreExplained, IsFilling, IsMisused, IsNotation, NamesGeneral, Says, Told, campaigns, has, is_of, named, programs, word_of}
+use Rattle.command_line.specs.declared.tasks.Filling.{Filling}
+use Rattle.command_line.specs.declared.tasks.Lieutenants.{Lieutenants}
+use Rattle.command_line.specs.declared.tasks.Lieutenants.TheVariants.{All, One}
+use Rattle.command_line.specs.declared.tasks.Notation.{Notation}
+use Rattle.command_line.specs.declared.tasks.Notation.TheVariants.{Bytecode, Assembly, Object}
+use Rattle.command_line.specs.declared.tasks.Task.{Task}
+use Rattle.command_line.specs.declared.tasks.Task.TheVariants.{Check, Assemble, Disassemble, Book, ExplainDecisions, Form, Play, Muster, Audit}
+use Rattle.command_line.specs.declared.errors.Misuse.{Misuse}
+use Rattle.command_line.specs.declared.errors.Misuse.TheVariants.{Traitors, Of, Lie, Loyal, TwoNotations, EntryAlone, OfAlone, LieAlone}
+
+-- ---- the rules hold
+
+read_where : {X : Type 0} (read : Text → Option X) (word : Option Text) (x : X) → (word >>= read) ≡ Some x → option_map_or (λ w. is_some (read w)) word true ≡ true
+read_where read None x is = refl
+read_where read (Some word) x is = ap (λ o. is_some o) is
+
+module _ (told : Told) where
+  notation_holds : (notation : Notation) → IsNotation told notation → has_notation told ≡ true
+  notation_holds Bytecode is = rw (is.0, is.1, is.2) refl
+  notation_holds Assembly is = rw (is.0, is.1, is.2) refl
+  notation_holds (Object entry) is = rw (is.0, is.1) (or_right (not (has (codes "entry") told)) true refl)
+
+  general_holds : (name : Text) (g : Option ℕ) → NamesGeneral name told g → reads general_in name told ≡ true
+  general_holds name None is = rw is refl
+  general_holds name (Some g) is = read_where general_in (word_of name told) g is
+
+  filling_holds : (filling : Option Filling) → IsFilling told filling → has_filling told ≡ true
+  filling_holds None is = rw (is.0, is.1) refl
+  filling_holds (Some filling) is =
+      and_from (reads order_in (codes "loyal") told && reads general_in (codes "lie") told) (wants (codes "lie") (codes "loyal") told)
+      (and_from (reads order_in (codes "loyal") told) (reads general_in (codes "lie") told)
+      (read_where order_in (word_of (codes "loyal") told) filling.order is.0) (general_holds (codes "lie") filling.liar is.1))
+      (or_right (not (has (codes "lie") told)) (has (codes "loyal") told) (loyal (word_of (codes "loyal") told) is.0))
+    where
+      loyal : (word : Option Text) → (word >>= order_in) ≡ Some filling.order → is_some word ≡ true
+      loyal None e = absurd cc
+      loyal (Some word) e = refl
+
+  lieutenants_hold : (explained : Option Lieutenants) → AreExplained told explained → has_lieutenants told ≡ true
+  lieutenants_hold None is = rw (is.0, is.1) refl
+  lieutenants_hold (Some All) is = rw (is.0, is.1) refl
+  lieutenants_hold (Some (One g)) is =
+      and_from (reads general_in (codes "of") told) (wants (codes "of") (codes "explain") told) (general_holds (codes "of") (Some g) is.1)
+      (or_right (not (has (codes "of") told)) (has (codes "explain") told) is.0)
+
+  traitors_hold : (explained : Bool) (word : Option Text) (traitors : List ℕ) → named explained word ≡ Some traitors → option_map_or (λ w. is_some (generals_in w)) word true ≡ true
+  traitors_hold explained None traitors is = refl
+  traitors_hold explained (Some word) traitors is = ap (λ o. is_some o) is
+
+pub says_meant : (told : Told) (task : Task) → Says told task → is_meant told ≡ true
+says_meant told (Check file notation context explained traced) says = rw says.0 (rw (notation_holds told notation says.2) refl)
+says_meant told (Assemble file spelling target explained) says = rw says.0 refl
+says_meant told (Disassemble file notation units explained) says = rw says.0 (rw (notation_holds told notation says.2) refl)
+says_meant told (Book file) says = rw says.0 (rw says.3 refl)
+says_meant told (ExplainDecisions file traitors) says =
+    rw says.0 (rw (traitors_hold told (has (codes "explain") told) (word_of (codes "traitors") told) traitors.items says.2) refl)
+says_meant told (Form n m c filling) says = rw says.0 (rw (filling_holds told filling says.4) refl)
+says_meant told (Play scenario schedule account explained) says = rw says.0 (rw (lieutenants_hold told explained says.4) refl)
+says_meant told (Muster scenario explained) says = rw says.0 (rw (lieutenants_hold told explained says.2) refl)
+says_meant told (Audit scenario chronicle explained) says = rw says.0 (rw (lieutenants_hold told explained says.3) refl)
+
+-- ---- a rule is broken
+
+not_read : {X : Type 0} (read : Text → Option X) (told : Told) (name word : Text) → word_of name told ≡ Some word → read word ≡ None → reads read name told ≡ false
+not_read read told name word is none = rw (is, none) refl
+
+broken : (names : List Text) (told : Told) (holds : Bool) → is_of names told ≡ true → holds ≡ false → if_of names told holds ≡ false
+broken names told holds of fails = rw (of, fails) refl
+
+module _ (a b c d : Bool) where
+  first_broken : a ≡ false → a && b && c && d ≡ false
+  first_broken e = rw e refl
+
+  second_broken : b ≡ false → a && b && c && d ≡ false
+  second_broken e = rw e (go a)
+    where
+      go : (a : Bool) → a && false && c && d ≡ false
+      go true = refl
+      go false = refl
+
+  third_broken : c ≡ false → a && b && c && d ≡ false
+  third_broken e = rw e (go a b)
+    where
+      go : (a b : Bool) → a && b && false && d ≡ false
+      go true true = refl
+      go true false = refl
+      go false b = refl
+
+  fourth_broken : d ≡ false → a && b && c && d ≡ false
+  fourth_broken e = rw e (go a b c)
+    where
+      go : (a b c : Bool) → a && b && c && false ≡ false
+      go true true true = refl
+      go true true false = refl
+      go true false c = refl
+      go false b c = refl
+
+module _ (told : Told) where
+  abbrev of_program : Bool
+  of_program = if_of programs told (has_notation told)
+
+  abbrev of_book : Bool
+  of_book = if_of (codes "book" ∷ []) told (reads generals_in (codes "traitors") told)
+
+  abbrev of_table : Bool
+  of_table = if_of (codes "table" ∷ []) told (has_filling told)
+
+  abbrev of_campaign : Bool
+  of_campaign = if_of campaigns told (has_lieutenants told)
+
+  program_broken : is_of programs told ≡ true → has_notation told ≡ false → is_meant told ≡ false
+  program_broken of fails = first_broken of_program of_book of_table of_campaign (broken programs told (has_notation told) of fails)
+
+  book_broken : is_of (codes "book" ∷ []) told ≡ true → reads generals_in (codes "traitors") told ≡ false → is_meant told ≡ false
+  book_broken of fails = second_broken of_program of_book of_table of_campaign (broken (codes "book" ∷ []) told (reads generals_in (codes "traitors") told) of fails)
+
+  table_broken : is_of (codes "table" ∷ []) told ≡ true → has_filling told ≡ false → is_meant told ≡ false
+  table_broken of fails = third_broken of_program of_book of_table of_campaign (broken (codes "table" ∷ []) told (has_filling told) of fails)
+
+  campaign_broken : is_of campaigns told ≡ true → has_lieutenants told ≡ false → is_meant told ≡ false
+  campaign_broken of fails = fourth_broken of_program of_book of_table of_campaign (broken campaigns told (has_lieutenants told) of fails)
+
+  not_wanted : (name other : Text) → has name told ≡ true → has other told ≡ false → wants name other told ≡ false
+  not_wanted name other there lacks = rw (there, lacks) refl
+
+pub misused_not_meant : (told : Told) (misuse : Misuse) → IsMisused told misuse → is_meant told ≡ false
+misused_not_meant told (Traitors word) is = book_broken told is.0 (not_read generals_in told (codes "traitors") (string_bytes word) is.1 is.2)
+misused_not_meant told (Of word) is = campaign_broken told is.0
+    (and_left (reads general_in (codes "of") told) (wants (codes "of") (codes "explain") told) (not_read general_in told (codes "of") (string_bytes word) is.1 is.2))
+misused_not_meant told (Lie word) is = table_broken told is.0
+    (and_left (reads order_in (codes "loyal") told && reads general_in (codes "lie") told) (wants (codes "lie") (codes "loyal") told)
+    (and_right (reads order_in (codes "loyal") told) (reads general_in (codes "lie") told) (not_read general_in told (codes "lie") (string_bytes word) is.1 is.2)))
+misused_not_meant told (Loyal word) is = table_broken told is.0
+    (and_left (reads order_in (codes "loyal") told && reads general_in (codes "lie") told) (wants (codes "lie") (codes "loyal") told)
+    (and_left (reads order_in (codes "loyal") told) (reads general_in (codes "lie") told) (not_read order_in told (codes "loyal") (string_bytes word) is.1 is.2)))
+misused_not_meant told TwoNotations is = program_broken told is.0 (rw (is.1, is.2) refl)
+misused_not_meant told EntryAlone is = program_broken told is.0 (and_right (not (has (codes "asm") told && has (codes "elf") told)) (wants (codes "entry") (codes "elf") told) (not_wanted told (codes "entry") (codes "elf") is.1 is.2))
+misused_not_meant told OfAlone is = campaign_broken told is.0
+    (and_right (reads general_in (codes "of") told) (wants (codes "of") (codes "explain") told) (not_wanted told (codes "of") (codes "explain") is.1 is.2))
+misused_not_meant told LieAlone is = table_broken told is.0
+    (and_right (reads order_in (codes "loyal") told && reads general_in (codes "lie") told) (wants (codes "lie") (codes "loyal") told) (not_wanted told (codes "lie") (codes "loyal") is.1 is.2))

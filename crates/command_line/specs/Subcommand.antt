@@ -1,0 +1,34 @@
+-- The rows of the code, as usages.
+use Rattle.std.specs.Prelude.{ℕ, List, [], ◌∷◌, map}
+use Rattle.std.specs.Borrow.{Bor}
+use Rattle.clap.specs.Words.{App, Rule, Shape, with_subcommand}
+use Rattle.command_line.specs.Lab.{flag_rule, shape}
+use Rattle.command_line.specs.Usage.{Flag, Usage, letter, option, switch}
+use Rattle.command_line.specs.declared.subcommand.Flag as declared
+use Rattle.command_line.specs.declared.subcommand.Flag.TheVariants as variant
+use Rattle.command_line.specs.declared.subcommand.Subcommand.{Subcommand}
+
+abbrev pub flag_of : declared.Flag → Flag
+flag_of (variant.Switch name help) = switch name.now
+flag_of (variant.Option name value help) = option name.now
+flag_of (variant.Letter name c value help) = letter name.now c
+
+abbrev pub help_of : declared.Flag → Bor (List ℕ)
+help_of (variant.Switch name help) = help
+help_of (variant.Option name value help) = help
+help_of (variant.Letter name c value help) = help
+
+abbrev pub usage_of : Subcommand → Usage
+usage_of s = record { name = s.name.now; places = map (λ place. place.name.now) s.places.now; flags = map flag_of s.flags.now }
+
+-- the rule of a flag, and the shape of a subcommand
+unfoldable pub rule_for : declared.Flag → Rule
+rule_for flag = flag_rule (flag_of flag)
+
+unfoldable pub shape_for : Subcommand → Shape
+shape_for s = shape (usage_of s)
+
+-- the program with these subcommands, one behind the other
+abbrev pub with_subcommands : App → List Subcommand → App
+with_subcommands app [] = app
+with_subcommands app (subcommand ∷ rest) = with_subcommands (with_subcommand app (shape_for subcommand)) rest

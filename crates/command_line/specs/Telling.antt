@@ -1,0 +1,26 @@
+-- What is said of an error: of refused words what `clap` says, of which it promises nothing.
+use Rattle.std.specs.Prelude.{ℕ, ◌++◌, List, Option, Some, None, codes, option_map, string_bytes}
+use Rattle.std.specs.Fmt.{debug_str}
+use Rattle.command_line.specs.declared.errors.TaskError.{TaskError}
+use Rattle.command_line.specs.declared.errors.TaskError.TheVariants as error
+use Rattle.command_line.specs.declared.errors.Misuse.{Misuse}
+use Rattle.command_line.specs.declared.errors.Misuse.TheVariants.{Traitors, Of, Lie, Loyal, TwoNotations, EntryAlone, OfAlone, LieAlone}
+
+-- the word is none that the option takes, and this is what it takes
+abbrev pub invalid : List ℕ → List ℕ → List ℕ → Option (List ℕ)
+invalid word option wanted = option_map (λ quoted. codes "invalid value " ++ quoted ++ codes " for '" ++ option ++ codes "': " ++ wanted) (debug_str word)
+
+abbrev pub misuse_text : Misuse → Option (List ℕ)
+misuse_text (Traitors word) = invalid (string_bytes word) (codes "--traitors <G,H>") (codes "the numbers of generals, 0 to 12, joined by commas")
+misuse_text (Of word) = invalid (string_bytes word) (codes "--of <G>") (codes "the number of a general, 0 to 12")
+misuse_text (Lie word) = invalid (string_bytes word) (codes "--lie <G>") (codes "the number of a general, 0 to 12")
+misuse_text (Loyal word) = invalid (string_bytes word) (codes "--loyal <V>") (codes "an order, 0 to 4294967295")
+misuse_text TwoNotations = Some (codes "the argument '--elf' cannot be used with '--asm'")
+misuse_text EntryAlone = Some (codes "the argument '--entry <NAME>' cannot be used without '--elf'")
+misuse_text OfAlone = Some (codes "the argument '--of <G>' cannot be used without '--explain'")
+misuse_text LieAlone = Some (codes "the argument '--lie <G>' cannot be used without '--loyal <V>'")
+
+abbrev pub error_text : TaskError → Option (List ℕ)
+error_text (error.Words refusal) = None
+error_text (error.Misuse misuse) = option_map (λ text. codes "error: " ++ text) (misuse_text misuse)
+error_text error.Memory = Some (codes "out of memory")

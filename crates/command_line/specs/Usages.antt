@@ -1,0 +1,62 @@
+-- The subcommands, a row each.
+use Rattle.std.specs.Prelude.{List, [], ◌∷◌, Option, codes, find}
+use Rattle.std.specs.Str.{bytes_eq}
+use Rattle.command_line.specs.Usage.{Text, Usage, letter, option, switch}
+
+abbrev pub check : Usage
+check = record {
+  name = codes "check";
+  places = codes "FILE" ∷ [];
+  flags = switch (codes "asm") ∷ switch (codes "elf") ∷ switch (codes "explain") ∷ switch (codes "trace") ∷ option (codes "context") ∷ option (codes "entry") ∷ [];
+}
+
+abbrev pub asm : Usage
+asm = record {
+  name = codes "asm";
+  places = codes "FILE" ∷ [];
+  flags = switch (codes "raw") ∷ switch (codes "explain") ∷ letter (codes "target") 111 ∷ [];
+}
+
+abbrev pub dis : Usage
+dis = record {
+  name = codes "dis";
+  places = codes "FILE" ∷ [];
+  flags = switch (codes "elf") ∷ switch (codes "units") ∷ switch (codes "explain") ∷ option (codes "entry") ∷ [];
+}
+
+abbrev pub book : Usage
+book = record {
+  name = codes "book";
+  places = codes "FILE" ∷ [];
+  flags = switch (codes "explain") ∷ option (codes "traitors") ∷ [];
+}
+
+abbrev pub table : Usage
+table = record {
+  name = codes "table";
+  places = codes "GENERALS" ∷ codes "BOUND" ∷ codes "COMMANDER" ∷ [];
+  flags = option (codes "loyal") ∷ option (codes "lie") ∷ [];
+}
+
+abbrev pub muster : Usage
+muster = record { name = codes "muster"; places = codes "SCENARIO" ∷ []; flags = switch (codes "explain") ∷ option (codes "of") ∷ [] }
+
+abbrev pub play : Usage
+play = record {
+  name = codes "play";
+  places = codes "SCENARIO" ∷ [];
+  flags = switch (codes "table") ∷ switch (codes "explain") ∷ option (codes "schedule") ∷ option (codes "of") ∷ [];
+}
+
+abbrev pub audit : Usage
+audit = record {
+  name = codes "audit";
+  places = codes "SCENARIO" ∷ codes "CHRONICLE" ∷ [];
+  flags = switch (codes "explain") ∷ option (codes "of") ∷ [];
+}
+
+abbrev pub usages : List Usage
+usages = check ∷ asm ∷ dis ∷ book ∷ table ∷ muster ∷ play ∷ audit ∷ []
+
+abbrev pub usage_named : Text → Option Usage
+usage_named name = find (λ usage. bytes_eq usage.name name) usages

@@ -1,0 +1,101 @@
+use clap::Error;
+use std::alloc::AllocError;
+use std::{error, fmt};
+
+/// Why there is no task.
+#[derive(Debug, Drop)]
+pub enum TaskError {
+    /// The words were refused, or they ask for help: `clap`'s text and exit status.
+    Words(Error),
+    /// `clap` took the words, which name no task all the same.
+    Misuse(Misuse),
+    /// Want of memory, here or in `clap`.
+    Memory,
+}
+
+/// Why words that `clap` takes name no task.
+#[derive(Debug, Drop, PartialEq, Eq)]
+pub enum Misuse {
+    /// The word behind `--traitors` names no generals.
+    Traitors(String),
+    /// The word behind `--of` names no general.
+    Of(String),
+    /// The word behind `--lie` names no general.
+    Lie(String),
+    /// The word behind `--loyal` is no order.
+    Loyal(String),
+    /// A file is said to be assembly text and an ELF object.
+    TwoNotations,
+    /// `--entry` stands without `--elf`.
+    EntryAlone,
+    /// `--of` stands without `--explain`.
+    OfAlone,
+    /// `--lie` stands without `--loyal`.
+    LieAlone,
+}
+
+impl fmt::Display for TaskError {
+    ghost use Rattle.command_line.specs.Telling.{error_text};
+
+    ghost output = { error_text };
+
+    fn fmt<W: fmt::Write>(&self, f: &mut fmt::Formatter<W>) -> fmt::Result {
+        match self {
+            TaskError::Words(refusal) => write!(f, "{refusal}"),
+            TaskError::Misuse(misuse) => write!(f, "error: {misuse}"),
+            TaskError::Memory => f.write_str("out of memory"),
+        }
+    }
+}
+
+impl error::Error for TaskError {}
+
+impl fmt::Display for Misuse {
+    ghost use Rattle.command_line.specs.Telling.{misuse_text};
+
+    ghost output = { misuse_text };
+
+    fn fmt<W: fmt::Write>(&self, f: &mut fmt::Formatter<W>) -> fmt::Result {
+        match self {
+            Misuse::Traitors(word) => write!(
+                f,
+                "invalid value {word:?} for '--traitors <G,H>': the numbers of generals, 0 to 12, joined by commas"
+            ),
+            Misuse::Of(word) => write!(
+                f,
+                "invalid value {word:?} for '--of <G>': the number of a general, 0 to 12"
+            ),
+            Misuse::Lie(word) => write!(
+                f,
+                "invalid value {word:?} for '--lie <G>': the number of a general, 0 to 12"
+            ),
+            Misuse::Loyal(word) => write!(
+                f,
+                "invalid value {word:?} for '--loyal <V>': an order, 0 to 4294967295"
+            ),
+            Misuse::TwoNotations => {
+                f.write_str("the argument '--elf' cannot be used with '--asm'")
+            }
+            Misuse::EntryAlone => {
+                f.write_str("the argument '--entry <NAME>' cannot be used without '--elf'")
+            }
+            Misuse::OfAlone => {
+                f.write_str("the argument '--of <G>' cannot be used without '--explain'")
+            }
+            Misuse::LieAlone => {
+                f.write_str("the argument '--lie <G>' cannot be used without '--loyal <V>'")
+            }
+        }
+    }
+}
+
+impl From<AllocError> for TaskError {
+    ghost use Rattle.std.specs.Prelude.{◌≡◌};
+    ghost use Rattle.command_line.specs.declared.errors.TaskError.TheVariants.{Memory};
+
+    ghost from_gives = { λ _ e. e ≡ Memory };
+
+    fn from(_error: AllocError) -> TaskError {
+        TaskError::Memory
+    }
+}

@@ -1,0 +1,228 @@
+//! The subcommands, a row each.
+use crate::subcommand::{Flag, Place, Subcommand};
+
+const EXPLAIN: &str =
+    "Tells what is known of the registers that are read, and what a refused instruction misses";
+
+const EXPLAIN_DECISIONS: &str =
+    "Tells how each decision comes about, or why a file is refused";
+
+const ENTRY: &str = "The function of the object; without it, its only global one";
+
+const OF: &str = "Explains this lieutenant's decision alone";
+
+const BYTECODE: Place<'static> = Place {
+    name: "FILE",
+    help: "The program, as raw bytecode",
+};
+
+const SCENARIO: Place<'static> = Place {
+    name: "SCENARIO",
+    help: "The campaign, as TOML: the generals, the order, the traitors' programs",
+};
+
+const CHECK: Subcommand<'static> = Subcommand {
+    name: "check",
+    about: "Verifies a program and runs it",
+    places: &[BYTECODE],
+    flags: &[
+        Flag::Switch {
+            name: "asm",
+            help: "FILE is assembly text",
+        },
+        Flag::Switch {
+            name: "elf",
+            help: "FILE is an ELF object",
+        },
+        Flag::Switch {
+            name: "explain",
+            help: EXPLAIN,
+        },
+        Flag::Switch {
+            name: "trace",
+            help: "Tells each step of the run",
+        },
+        Flag::Option {
+            name: "context",
+            value: "CONTEXT",
+            help: "Runs it in the context that this TOML tells, and prints what it put and changed",
+        },
+        Flag::Option {
+            name: "entry",
+            value: "NAME",
+            help: ENTRY,
+        },
+    ],
+};
+
+const ASM: Subcommand<'static> = Subcommand {
+    name: "asm",
+    about: "Translates assembly into bytecode in hex",
+    places: &[Place {
+        name: "FILE",
+        help: "The program, as assembly text",
+    }],
+    flags: &[
+        Flag::Switch {
+            name: "raw",
+            help: "Writes the bytes themselves",
+        },
+        Flag::Switch {
+            name: "explain",
+            help: "Shows a refused line, and says what was wanted there",
+        },
+        Flag::Letter {
+            name: "target",
+            letter: 'o',
+            value: "FILE",
+            help: "Writes to this file, once all is translated",
+        },
+    ],
+};
+
+const DIS: Subcommand<'static> = Subcommand {
+    name: "dis",
+    about: "Translates raw bytecode into assembly",
+    places: &[BYTECODE],
+    flags: &[
+        Flag::Switch {
+            name: "elf",
+            help: "FILE is an ELF object",
+        },
+        Flag::Switch {
+            name: "units",
+            help: "Prints the unit before each instruction",
+        },
+        Flag::Switch {
+            name: "explain",
+            help: "Says what is wrong with refused bytes",
+        },
+        Flag::Option {
+            name: "entry",
+            value: "NAME",
+            help: ENTRY,
+        },
+    ],
+};
+
+const BOOK: Subcommand<'static> = Subcommand {
+    name: "book",
+    about: "Computes the decisions of a message table",
+    places: &[Place {
+        name: "FILE",
+        help: "The message table: who told whom what",
+    }],
+    flags: &[
+        Flag::Switch {
+            name: "explain",
+            help: "Tells how each decision comes about",
+        },
+        Flag::Option {
+            name: "traitors",
+            value: "G,H",
+            help: "Tells it with these generals named as traitors",
+        },
+    ],
+};
+
+const TABLE: Subcommand<'static> = Subcommand {
+    name: "table",
+    about: "Prints a message table to fill in",
+    places: &[
+        Place {
+            name: "GENERALS",
+            help: "How many generals there are, 2 to 13",
+        },
+        Place {
+            name: "BOUND",
+            help: "The greatest number of traitors, 0 to 4",
+        },
+        Place {
+            name: "COMMANDER",
+            help: "The commander's number, from 0",
+        },
+    ],
+    flags: &[
+        Flag::Option {
+            name: "loyal",
+            value: "V",
+            help: "Fills it in as loyal generals would, behind this order",
+        },
+        Flag::Option {
+            name: "lie",
+            value: "G",
+            help: "Leaves what this general says to be edited",
+        },
+    ],
+};
+
+const MUSTER: Subcommand<'static> = Subcommand {
+    name: "muster",
+    about: "Runs a campaign with a thread for each general and prints its chronicle",
+    places: &[SCENARIO],
+    flags: &[
+        Flag::Switch {
+            name: "explain",
+            help: EXPLAIN_DECISIONS,
+        },
+        Flag::Option {
+            name: "of",
+            value: "G",
+            help: OF,
+        },
+    ],
+};
+
+const PLAY: Subcommand<'static> = Subcommand {
+    name: "play",
+    about: "Plays a campaign and prints its chronicle",
+    places: &[SCENARIO],
+    flags: &[
+        Flag::Switch {
+            name: "table",
+            help: "Prints the message table of the campaign in place of its chronicle",
+        },
+        Flag::Switch {
+            name: "explain",
+            help: EXPLAIN_DECISIONS,
+        },
+        Flag::Option {
+            name: "schedule",
+            value: "FILE",
+            help: "The order of the turns; without it each round is punctual",
+        },
+        Flag::Option {
+            name: "of",
+            value: "G",
+            help: OF,
+        },
+    ],
+};
+
+const AUDIT: Subcommand<'static> = Subcommand {
+    name: "audit",
+    about: "Replays a chronicle and says whether it is sound",
+    places: &[
+        SCENARIO,
+        Place {
+            name: "CHRONICLE",
+            help: "What `play` or `muster` has printed of this campaign",
+        },
+    ],
+    flags: &[
+        Flag::Switch {
+            name: "explain",
+            help: EXPLAIN_DECISIONS,
+        },
+        Flag::Option {
+            name: "of",
+            value: "G",
+            help: OF,
+        },
+    ],
+};
+
+/// All subcommands, as help lists them.
+pub(crate) const SUBCOMMANDS: &[Subcommand<'static>] = &[
+    CHECK, ASM, DIS, BOOK, TABLE, MUSTER, PLAY, AUDIT,
+];
