@@ -21,7 +21,7 @@ use Rattle.world.specs.Schedules.{lines_by}
 use Rattle.signed.specs.Kind.{signed_kind}
 use Rattle.signed.specs.Promises.{AgreeUnderSignedBound, AreSafeThroughout, AreWhole, IsSignedVerdictOn}
 use Rattle.trace.specs.SignedText.{signed_text}
-use Rattle.lab.specs.Campaigns.{IsAccount, IsFollowed, IsMustered, IsOralAudited, IsOralPlayed, IsSignedPlayed, played, signed_played}
+use Rattle.lab.specs.Campaigns.{IsAccount, IsFollowed, IsMustered, IsOralAudited, IsOralPlayed, IsSignedPlayed, asked, played, signed_played}
 
 -- the account of the chronicle that is played, and what is behind it
 pub is_played : (s : Scenario) (schedule : List (List Repeat)) (account : Account) (explained : Option Lieutenants) (chronicle : Chronicle) (front text : List ℕ) → chronicle ≡ played s schedule
@@ -77,7 +77,7 @@ pub alone : (c : Chronicle) (front : List ℕ) → IsFollowed None c front front
 alone c front = ([], sym (append-nil front), refl)
 
 -- an empty line and an explanation
-pub followed : (who : Lieutenants) (c : Chronicle) (front lines text : List ℕ) → Explains c lines → text ≡ (front ++ 10 ∷ []) ++ lines → IsFollowed (Some who) c front text
+pub followed : (who : Lieutenants) (c : Chronicle) (front lines text : List ℕ) → Explains c (asked who) lines → text ≡ (front ++ 10 ∷ []) ++ lines → IsFollowed (Some who) c front text
 followed who c front lines text explains is = (10 ∷ lines, is ∙ append_assoc front (10 ∷ []) lines, (lines, refl, explains))
 
 -- the same of a signed campaign

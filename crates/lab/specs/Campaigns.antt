@@ -4,6 +4,7 @@ use Rattle.board.specs.Board.{IsLegal}
 use Rattle.command_line.specs.declared.tasks.Account.{Account}
 use Rattle.command_line.specs.declared.tasks.Account.TheVariants as accounts
 use Rattle.command_line.specs.declared.tasks.Lieutenants.{Lieutenants}
+use Rattle.command_line.specs.declared.tasks.Lieutenants.TheVariants as lieutenants
 use Rattle.retold.specs.Retold.{Explains, IsRetold}
 use Rattle.round.specs.Scenario.{Scenario}
 use Rattle.world.specs.declared.schedule.Repeat.{Repeat}
@@ -43,10 +44,15 @@ abbrev pub IsAccount : Account → Chronicle → List ℕ → Type 0
 IsAccount accounts.Chronicle c text = text ≡ chronicle_text c
 IsAccount accounts.Table c text = IsRetold c text
 
+-- the general who is asked for, or none where all are
+abbrev pub asked : Lieutenants → Option ℕ
+asked lieutenants.All = None
+asked (lieutenants.One g) = Some g
+
 -- behind it stands, where it is asked for, an empty line, and how the decisions come about
 abbrev pub IsBehind : Option Lieutenants → Chronicle → List ℕ → Type 0
 IsBehind None c behind = behind ≡ []
-IsBehind (Some who) c behind = (lines : List ℕ) × (behind ≡ 10 ∷ lines) × Explains c lines
+IsBehind (Some who) c behind = (lines : List ℕ) × (behind ≡ 10 ∷ lines) × Explains c (asked who) lines
 
 -- the text is a front, and behind it the explanation that is asked for
 abbrev pub IsFollowed : Option Lieutenants → Chronicle → List ℕ → List ℕ → Type 0

@@ -187,10 +187,12 @@ pub(crate) fn with_decisions(
     requires { IsWhole chronicle.now }
     ensures { IfOk result (λ text. IsFollowed explained chronicle.now front.items text.items) }
 {
-    if explained.is_none() {
-        return Ok(front);
-    }
-    let lines = retold::explained(alloc, chronicle)?;
+    let general = match explained {
+        None => return Ok(front),
+        Some(Lieutenants::All) => None,
+        Some(Lieutenants::One(general)) => Some(general),
+    };
+    let lines = retold::explained(alloc, chronicle, general)?;
     let mut text = front;
     text.push(b'\n')?;
     text.extend_from_slice(lines.as_bytes())?;

@@ -1,5 +1,5 @@
 -- The message table of a campaign, and how its decisions come about.
-use Rattle.std.specs.Prelude.{ℕ, suc, ◌≡◌, List, filter, length, Ok}
+use Rattle.std.specs.Prelude.{ℕ, suc, ◌≡◌, List, filter, length, Option, None, Some, Ok}
 use Rattle.label.specs.Labels.{generals}
 use Rattle.book.specs.Decisions.{decisions_of}
 use Rattle.book.specs.Grammar.{table_told}
@@ -8,7 +8,7 @@ use Rattle.round.specs.Letters.{messages}
 use Rattle.round.specs.Scenario.{Scenario, is_traitor}
 use Rattle.round.specs.Told.{AreRoundsOf}
 use Rattle.world.specs.Chronicle.{Chronicle, decisions}
-use Rattle.tables.specs.Answers.{ExplainsTable}
+use Rattle.tables.specs.Answers.{ExplainsOne, ExplainsTable}
 use Rattle.tables.specs.Written.{table_text}
 
 -- the table of a campaign's messages: of each label, the shorter ones first, for each receiver who is off it what its last general told
@@ -37,6 +37,7 @@ pub record IsRetold (c : Chronicle) (text : List ℕ) : Type 0 where
 abbrev pub traitors_of : Scenario → List ℕ
 traitors_of s = filter (is_traitor s) (generals s.generals)
 
--- the lines are those of `book` on that table, where the scenario's traitors are named
-abbrev pub Explains : Chronicle → List ℕ → Type 0
-Explains c lines = ExplainsTable (table_of c) (traitors_of c.scenario) lines
+-- the lines are those of `book` on that table, where the scenario's traitors are named: of all lieutenants, or of one general
+abbrev pub Explains : Chronicle → Option ℕ → List ℕ → Type 0
+Explains c None lines = ExplainsTable (table_of c) (traitors_of c.scenario) lines
+Explains c (Some g) lines = ExplainsOne (table_of c) (traitors_of c.scenario) g lines

@@ -10,19 +10,27 @@ use round::Scenario;
 use std::alloc::{AllocError, Global};
 use world::Chronicle;
 
-/// How the lieutenants of a campaign come to their decisions: what `book` says of its message table, where the scenario's
-/// traitors are named.
+/// How the lieutenants of a campaign come to their decisions, or this general alone to his: what `book` says of its message
+/// table, where the scenario's traitors are named.
 ///
 /// # Errors
 ///
 /// `AllocError` where memory is refused.
-pub fn explained(alloc: Global, chronicle: &Chronicle) -> Result<String, AllocError>
+pub fn explained(
+    alloc: Global,
+    chronicle: &Chronicle,
+    general: Option<u8>,
+) -> Result<String, AllocError>
     requires { IsWhole chronicle.now }
-    ensures { IfOk result (λ lines. Explains chronicle.now (string_bytes lines)) }
+    ensures { IfOk result (λ lines. Explains chronicle.now general (string_bytes lines)) }
 {
     let text = table(alloc, chronicle)?;
     let traitors = traitors(alloc, chronicle.scenario())?;
-    match tables::explained(alloc, text.as_str(), traitors.as_slice()) {
+    let lines = match general {
+        None => tables::explained(alloc, text.as_str(), traitors.as_slice()),
+        Some(one) => tables::explained_one(alloc, text.as_str(), traitors.as_slice(), one),
+    };
+    match lines {
         Ok(lines) => Ok(lines),
         Err(TableError::Memory) => Err(AllocError),
         // The table is one that `book` reads.

@@ -5,7 +5,7 @@ use Rattle.combine.specs.declared.chosen.Rule.{Rule}
 use Rattle.label.specs.Labels.{others}
 use Rattle.label.specs.Oral.{Messages}
 use Rattle.book.specs.Explained.{dotted}
-use Rattle.tables.proofs.TextLemmas.{flat_flat, flat_same}
+use Rattle.book.proofs.FormLemmas.{flat_flat, flat_same}
 use Rattle.book.proofs.Places.{Place, places, places_from, is_place_of, are_places}
 use Rattle.tables.specs.Written.{Marking, first_line, line_of, lines_from, mark_of, telling, table_text, written}
 

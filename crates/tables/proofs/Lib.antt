@@ -7,4 +7,3 @@ pub mod Loyals
 pub mod Naming
 pub mod Reread
 pub mod Telling
-pub mod TextLemmas

@@ -19,7 +19,7 @@ use Rattle.book.specs.Table.{MessageTable, AreNumbersWithin, is_about, told}
 use Rattle.book.specs.Decisions.{decision_of}
 use Rattle.book.specs.Explained.{dotted}
 use Rattle.book.specs.Grammar.{is_place, is_within, message_of, checked, with_message, lines_told, table_told}
-use Rattle.tables.proofs.TextLemmas.{AreFew, begun_some, few_all, lines_read, message_read, tell}
+use Rattle.book.proofs.FormLemmas.{AreFew, begun_some, few_all, lines_read, message_read, tell}
 use Rattle.book.proofs.Places.{Place, places, is_in, AllDiffer, fits, is_place_of, are_places, places_differ, all_found}
 use Rattle.tables.specs.Written.{first_line, line_of, mark_of, telling, table_text}
 use Rattle.tables.specs.Laws.{AreOrders, IsTableOf, TablesAreRead}

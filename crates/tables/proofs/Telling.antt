@@ -12,7 +12,7 @@ use Rattle.text.proofs.DecimalLemmas.{decimal_of-decimal}
 use Rattle.book.specs.declared.message.Message.{Message}
 use Rattle.book.specs.Explained.{dotted}
 use Rattle.book.specs.Grammar.{head_of}
-use Rattle.tables.proofs.TextLemmas.{AreFew, digits_lack, dotted_lack, no_feed, no_space, tell}
+use Rattle.book.proofs.FormLemmas.{AreFew, digits_lack, dotted_lack, no_feed, no_space, tell}
 use Rattle.tables.specs.Written.{rule_words}
 
 -- a message's line, without its LF

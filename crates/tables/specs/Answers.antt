@@ -2,7 +2,7 @@
 use Rattle.std.specs.Prelude.{ℕ, ◌≡◌, true, List, Option, Some, Ok}
 use Rattle.combine.specs.declared.chosen.Rule.{Rule}
 use Rattle.book.specs.Decisions.{decisions_of, TableAgrees}
-use Rattle.book.specs.Explained.{explained}
+use Rattle.book.specs.Explained.{explained, explained_one}
 use Rattle.book.specs.Forms.{form_text}
 use Rattle.book.specs.Grammar.{is_within, table_told}
 use Rattle.book.specs.Table.{MessageTable}
@@ -14,6 +14,11 @@ use Rattle.tables.specs.Written.{loyal, written}
 abbrev pub ExplainsTable : List ℕ → List ℕ → List ℕ → Type 0
 ExplainsTable text traitors lines =
     (table : MessageTable) × (table_told text ≡ Ok table) × (lines ≡ explained table traitors)
+
+-- the text tells a table, and this is how the decision of one general comes about
+abbrev pub ExplainsOne : List ℕ → List ℕ → ℕ → List ℕ → Type 0
+ExplainsOne text traitors g lines =
+    (table : MessageTable) × (table_told text ≡ Ok table) × (lines ≡ explained_one table traitors g)
 
 -- the words are numbers within the limits of a campaign, and this is its table to fill in
 abbrev pub IsFormOf : List ℕ → List ℕ → List ℕ → List ℕ → Type 0

@@ -11,7 +11,7 @@ mod mark;
 mod trees;
 mod writing;
 
-pub use deciding::{decided, explained};
+pub use deciding::{decided, explained, explained_one};
 pub use filling::filled;
 pub use forming::formed;
 pub use laws::{loyal_tables_decide, tables_are_read};
