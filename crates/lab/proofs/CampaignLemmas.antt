@@ -30,7 +30,7 @@ pub is_played : (s : Scenario) (schedule : List (List Repeat)) (account : Accoun
 is_played s schedule account explained chronicle front text listed agree verdict well told followed = record {
   front = front;
   told = subst (λ (c : Chronicle). IsAccount account c front) listed told;
-  explained = subst (λ (c : Chronicle). IsFollowed explained c front text) listed followed;
+  behind = subst (λ (c : Chronicle). IsFollowed explained c front text) listed followed;
   agree = subst (λ (c : Chronicle). AgreeUnderBound s c.decisions) listed agree;
   verdict = subst (λ (c : Chronicle). IsVerdictOn s c.decisions c.verdict) listed verdict;
   well = subst (λ (c : Chronicle). IsWellUnderBound c.verdict) listed well;

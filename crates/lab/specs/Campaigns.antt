@@ -62,7 +62,7 @@ IsFollowed explained c front text = (behind : List ℕ) × (text ≡ front ++ be
 pub record IsOralPlayed (s : Scenario) (schedule : List (List Repeat)) (account : Account) (explained : Option Lieutenants) (text : List ℕ) : Type 0 where
   pub front : List ℕ
   pub told : IsAccount account (played s schedule) front
-  pub explained : IsFollowed explained (played s schedule) front text
+  pub behind : IsFollowed explained (played s schedule) front text
   pub agree : AgreeUnderBound s (played s schedule).decisions
   pub verdict : IsVerdictOn s (played s schedule).decisions (played s schedule).verdict
   pub well : IsWellUnderBound (played s schedule).verdict
