@@ -1,4 +1,4 @@
-use Rattle.std.proofs.Common.{ℕ, ◌≡◌, ◌∙◌, Bool, List, Option, ap, refl, subst, sym}
+use Rattle.std.proofs.Common.{ℕ, ◌≡◌, ◌∙◌, Bool, Bor, List, None, Option, Some, ap, option_map, refl, subst, sym}
 use Rattle.std.specs.Prelude.{is_some}
 use Rattle.std.proofs.lemmas.Result.{IfErr-weaker, IfOk-weaker}
 use Rattle.lab.specs.Answers.{ComesTo, Prints}
@@ -10,6 +10,10 @@ use Rattle.lab.specs.declared.first_answer.FirstAnswer.TheVariants.{Text, Bytes,
 use Rattle.lab.proofs.FilesLemmas.{answered_alone, answered_audited, answered_mustered, answered_played, answered_tried, first_named, prevented_later, second_named}
 use Rattle.lab.proofs.FirstLemmas.{prevented_first}
 use Rattle.lab.proofs.serving.answered.Goals as goal
+
+some_told : (notation : Option (Bor Notation)) → is_some notation ≡ is_some (option_map (λ n. n.now) notation)
+some_told None = refl
+some_told (Some notation) = refl
 
 pub returns-in-Ok-Text-clause-answer : goal.returns-in-Ok-Text-clause-answer
 returns-in-Ok-Text-clause-answer g c =
@@ -32,7 +36,7 @@ returns-in-Ok-Trial-clause-answer g c =
     let both : Files = files g.R.Source.bytes c.args.first c.args.second in
     let is : c.in-Ok-Trial.field-0 ≡ Trial c.in-Ok-Trial.program = c.in-Ok-Trial.field-0-is in
     let comes : ComesTo c.args.task.now c.in_ok-bytes.bytes.items (Trial c.in-Ok-Trial.program) = rw (c.as_slice.ensures.value, is) at c.in-Ok-Trial.ensures.answered in
-    let asked : c.is_some.result ≡ is_some (explained_in c.args.task.now) = c.is_some.ensures ∙ ap (λ (o : Option Notation). is_some o) c.explained_in.ensures in
+    let asked : c.is_some.result ≡ is_some (explained_in c.args.task.now) = c.is_some.ensures ∙ some_told c.explained_in.result ∙ ap (λ (o : Option Notation). is_some o) c.explained_in.ensures in
     IfOk-weaker c.trial_of.result _ _
     (λ text tried. answered_tried c.args.task.now both c.in_ok-bytes.bytes.items text.items c.in-Ok-Trial.program c.in_ok-bytes.ensures.whole comes
     (subst (λ (own : Bool). IsTrialOf both.second own c.in-Ok-Trial.program text.items) asked tried))
