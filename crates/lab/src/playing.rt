@@ -187,9 +187,9 @@ pub(crate) fn with_decisions(
     requires { IsWhole chronicle.now }
     ensures { IfOk result (λ text. IsFollowed explained chronicle.now front.items text.items) }
 {
-    if explained.is_none() {
+    let Some(_who) = explained else {
         return Ok(front);
-    }
+    };
     let lines = retold::explained(alloc, chronicle)?;
     let mut text = front;
     text.push(b'\n')?;
