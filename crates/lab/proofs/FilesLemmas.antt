@@ -1,7 +1,7 @@
 -- What is known of a task's two files.
 use Rattle.std.proofs.Common.{ℕ, ◌≡◌, ◌∙◌, List, [], ap, inr, refl, subst, sym}
 use Rattle.std.specs.Borrow.{Bor}
-use Rattle.std.specs.Prelude.{true, false, is_some, Option, None, Some, Ok, option_map, unwrap_or}
+use Rattle.std.specs.Prelude.{true, false, Option, None, Some, Ok, option_map, unwrap_or}
 use Rattle.insn.specs.declared.insn.Insn.{Insn}
 use Rattle.command_line.specs.Told.{file_of, second_of}
 use Rattle.command_line.specs.declared.tasks.Task.{Task}
@@ -11,10 +11,10 @@ use Rattle.scenario.specs.declared.messages.Campaign.{Campaign}
 use Rattle.world.specs.declared.schedule.Repeat.{Repeat}
 use Rattle.trace.specs.Schedules.{schedule_told}
 use Rattle.lab.specs.Answers.{ComesTo, GoesOn, IsTriedBy, Prints}
-use Rattle.lab.specs.Hints.{explained_in}
+use Rattle.lab.specs.Whys.{is_explained}
 use Rattle.lab.specs.Campaigns.{IsAudited, IsMustered}
 use Rattle.lab.specs.Faults.{Prevents, Stops}
-use Rattle.lab.specs.Serving.{AreSecond, AreSecondBytes, Files, IsAnswer, IsAuditOf, IsPlayedBy, IsRefusedLater, IsScheduleOf, IsTrialOf, NoHint, first_name, second_name}
+use Rattle.lab.specs.Serving.{AreSecond, AreSecondBytes, Files, IsAnswer, IsAuditOf, IsPlayedBy, IsScheduleOf, IsToldLater, IsTrialOf, first_name, second_name}
 use Rattle.streams.specs.Reading.{AreBytes}
 use Rattle.lab.specs.declared.failure.Failure.{Failure}
 use Rattle.lab.specs.declared.first_answer.FirstAnswer.{FirstAnswer}
@@ -94,7 +94,7 @@ answered_audited (Audit scenario chronicle) files first text s are comes (bytes,
 
 -- an answer in the second file's setting
 pub answered_tried : (task : Task) (files : Files) (first text : List ℕ) (program : List Insn) → AreBytes files.first first
-    → ComesTo task first (answer.Trial program) → IsTrialOf files.second (is_some (explained_in task)) program text → IsAnswer task files text
+    → ComesTo task first (answer.Trial program) → IsTrialOf files.second (is_explained task) program text → IsAnswer task files text
 answered_tried (Check file notation None explained) files first text program are comes tried = absurd comes
 answered_tried (Check file notation (Some context) true) files first text program are comes (bytes, known, (lines, tried, behind)) =
     let second = second_bytes files.second bytes known in
@@ -115,9 +115,9 @@ answered_tried (Audit scenario chronicle) files first text program are comes tri
 -- why a task has no answer behind a first file with which it goes on
 pub prevented_later : (task : Task) (files : Files) (unread second_unread : Type 0) (first name : List ℕ) (more : FirstAnswer) (fault : Failure)
     → AreBytes files.first first → GoesOn task first more → name ≡ second_name task
-    → Stops second_unread (NoHint (IsRefusedLater more files.second)) name fault → Prevents unread second_unread task files fault
+    → Stops second_unread (IsToldLater (is_explained task) name files.second more) name fault → Prevents unread second_unread task files fault
 prevented_later task files unread second_unread first name more fault are goes named why =
-    inr (more, (first, are, goes), subst (λ (n : List ℕ). Stops second_unread (NoHint (IsRefusedLater more files.second)) n fault) named why)
+    inr (more, (first, are, goes), subst (λ (n : List ℕ). Stops second_unread (IsToldLater (is_explained task) n files.second more) n fault) named why)
 
 -- the name of the second file, empty where the words name none
 unwrapped : (o : Option (Bor (List ℕ))) (empty : Bor (List ℕ)) → empty.now ≡ [] → (unwrap_or o empty).now ≡ unwrap_or (option_map (λ (file : Bor (List ℕ)). file.now) o) []

@@ -8,6 +8,7 @@ use crate::failure::Failure;
 use crate::hint::Hint;
 use crate::refusal::Refusal;
 use crate::texts::as_text;
+use crate::whys::{Traced, is_explained, told};
 use asm::assemble;
 use codec::decode;
 use command_line::{Notation, Task};
@@ -87,7 +88,7 @@ fn asked_of(refusal: &Refusal, task: &Task) -> Option<Notation>
     }
 }
 
-/// The fault of a first file of these bytes that the task refuses so: of a program that it is to explain, with its explanation.
+/// The fault of a first file of these bytes that the task refuses so, with what is said behind it.
 pub(crate) fn refused<'a>(
     alloc: Global,
     task: &'a Task,
@@ -98,12 +99,15 @@ pub(crate) fn refused<'a>(
     ensures { StopsFirst task.entry.now bytes.now result }
 {
     let file = task.file().unwrap_or("");
-    let Some(notation) = asked_of(&refusal, task) else {
+    if !is_explained(task) {
         return Failure::of_bytes(refusal, file, bytes);
+    }
+    let Some(notation) = asked_of(&refusal, task) else {
+        return told(alloc, Traced::Nothing, refusal, file, bytes);
     };
     match why(alloc, notation, bytes) {
         Ok(text) => Failure::Refused(refusal, Some(Hint::Explained(text))),
         // It was read before, so this is want of memory.
-        Err(unread) => Failure::of_bytes(unread, file, bytes),
+        Err(unread) => told(alloc, Traced::Nothing, unread, file, bytes),
     }
 }

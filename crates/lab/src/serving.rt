@@ -1,17 +1,19 @@
 ghost use Rattle.std.specs.Prelude.{◌≡◌, ◌≢◌, ◌⊎◌, IfOk, IfErr, IsSomeAnd, OnOk, codes, option_map};
 ghost use Rattle.lab.specs.Faults.{Undoes, Prevents, Stops};
-ghost use Rattle.lab.specs.Serving.{IsAnswer, IsAuditOf, IsChronicleRefused, IsFault, IsPlayedBy, IsPrinted, IsScheduleOf, IsScheduleRefused, IsSettingRefused, IsTrialOf, NoHint, Tells, files, second_name};
+ghost use Rattle.lab.specs.Serving.{IsAnswer, IsAuditOf, IsFault, IsPlayedBy, IsPrinted, IsScheduleOf, IsScheduleTold, IsToldLater, IsTrialOf, Tells, files, second_name};
+ghost use Rattle.lab.specs.declared.first_answer.FirstAnswer.TheVariants.{Trial, Play, Audit};
 ghost use Rattle.lab.specs.declared.failure.Failure.TheVariants.{Write as unwritten};
 
 use crate::answering::answer;
 use crate::auditing::audited;
-use crate::explaining::{explained_in, refused, with_explanation};
+use crate::explaining::{refused, with_explanation};
 use crate::failure::Failure;
 use crate::first_answer::FirstAnswer;
 use crate::mustering::mustered;
 use crate::playing::{played, schedule_of};
 use crate::reading::{read_first, read_schedule, read_second};
 use crate::trying::tried_by;
+use crate::whys::{Traced, is_explained, later};
 use command_line::Task;
 use scenario::Campaign;
 use std::alloc::Global;
@@ -105,18 +107,17 @@ where
 {
     let bytes = read_first(alloc, task, first)?;
     let file = task.second().unwrap_or("");
+    let explained = is_explained(task);
     match answer(alloc, task, bytes.as_slice()) {
         Ok(FirstAnswer::Text(text)) => Ok(text.into_bytes()),
         Ok(FirstAnswer::Bytes(bytes)) => Ok(bytes),
-        Ok(FirstAnswer::Trial(program)) => {
-            trial_of(alloc, &program, explained_in(task).is_some(), file, second)
-        }
-        Ok(FirstAnswer::Play(campaign)) => play_by(alloc, campaign, file, second),
+        Ok(FirstAnswer::Trial(program)) => { trial_of(alloc, &program, explained, file, second) }
+        Ok(FirstAnswer::Play(campaign)) => play_by(alloc, campaign, explained, file, second),
         Ok(FirstAnswer::Muster(scenario)) => match mustered(rt, alloc, scenario) {
             Ok(text) => Ok(text),
             Err(refusal) => Err(Failure::of(refusal, file)),
         },
-        Ok(FirstAnswer::Audit(campaign)) => audit_of(alloc, &campaign, file, second),
+        Ok(FirstAnswer::Audit(campaign)) => audit_of(alloc, &campaign, explained, file, second),
         Err(refusal) => Err(refused(alloc, task, refusal, bytes.as_slice())),
     }
 }
@@ -131,7 +132,7 @@ fn trial_of<'a, R: Source>(
 ) -> Result<Vec<u8>, Failure<'a>>
     ensures tried { IfOk result (λ text. IsTrialOf (option_map R.bytes second) explained program.now text.items) }
     ensures fault { IfErr result
-        (Stops (IsSomeAnd second R.fails) (NoHint (IsSettingRefused (option_map R.bytes second))) file.entry.now) }
+        (Stops (IsSomeAnd second R.fails) (IsToldLater explained file.entry.now (option_map R.bytes second) (Trial program.now)) file.entry.now) }
 {
     let bytes = read_second(alloc, file, second)?;
     match tried_by(alloc, program, bytes.as_slice()) {
@@ -139,7 +140,14 @@ fn trial_of<'a, R: Source>(
             Ok(text) => Ok(text.into_bytes()),
             Err(_) => Err(Failure::Memory),
         },
-        Err(refusal) => Err(Failure::of(refusal, file)),
+        Err(refusal) => Err(later(
+            alloc,
+            explained,
+            Traced::Nothing,
+            refusal,
+            file,
+            bytes.as_slice(),
+        )),
     }
 }
 
@@ -147,14 +155,15 @@ fn trial_of<'a, R: Source>(
 fn play_by<'a, R: Source>(
     alloc: Global,
     campaign: Campaign,
+    explained: bool,
     file: &'a str,
     second: Option<R>,
 ) -> Result<Vec<u8>, Failure<'a>>
     ensures played { IfOk result (λ text. IsPlayedBy (option_map R.bytes second) campaign text.items) }
     ensures fault { IfErr result
-        (Stops (IsSomeAnd second R.fails) (NoHint (IsScheduleRefused (option_map R.bytes second))) file.entry.now) }
+        (Stops (IsSomeAnd second R.fails) (IsToldLater explained file.entry.now (option_map R.bytes second) (Play campaign)) file.entry.now) }
 {
-    let schedule = scheduled(alloc, file, second)?;
+    let schedule = scheduled(alloc, explained, file, second)?;
     match played(alloc, campaign, &schedule) {
         Ok(text) => Ok(text),
         Err(_) => Err(Failure::Memory),
@@ -164,12 +173,13 @@ fn play_by<'a, R: Source>(
 /// The schedule of the second file, the empty one where there is none.
 fn scheduled<'a, R: Source>(
     alloc: Global,
+    explained: bool,
     file: &'a str,
     second: Option<R>,
 ) -> Result<Schedule, Failure<'a>>
     ensures told { IfOk result (λ schedule. IsScheduleOf (option_map R.bytes second) schedule) }
     ensures fault { IfErr result
-        (Stops (IsSomeAnd second R.fails) (NoHint (IsScheduleRefused (option_map R.bytes second))) file.entry.now) }
+        (Stops (IsSomeAnd second R.fails) (IsScheduleTold explained file.entry.now (option_map R.bytes second)) file.entry.now) }
 {
     let Some(second) = second else {
         return Ok(Schedule {
@@ -179,7 +189,16 @@ fn scheduled<'a, R: Source>(
     let front = read_schedule(alloc, file, second)?;
     match schedule_of(alloc, front.as_slice()) {
         Ok(schedule) => Ok(schedule),
-        Err(refusal) => Err(Failure::of(refusal, file)),
+        Err(refusal) => {
+            Err(later(
+                alloc,
+                explained,
+                Traced::Schedule,
+                refusal,
+                file,
+                front.as_slice(),
+            ))
+        }
     }
 }
 
@@ -187,16 +206,26 @@ fn scheduled<'a, R: Source>(
 fn audit_of<'a, R: Source>(
     alloc: Global,
     campaign: &Campaign,
+    explained: bool,
     file: &'a str,
     second: Option<R>,
 ) -> Result<Vec<u8>, Failure<'a>>
     ensures audited { IfOk result (λ text. IsAuditOf (option_map R.bytes second) campaign.now text.items) }
     ensures fault { IfErr result
-        (Stops (IsSomeAnd second R.fails) (NoHint (IsChronicleRefused campaign.now (option_map R.bytes second))) file.entry.now) }
+        (Stops (IsSomeAnd second R.fails) (IsToldLater explained file.entry.now (option_map R.bytes second) (Audit campaign.now)) file.entry.now) }
 {
     let bytes = read_second(alloc, file, second)?;
     match audited(alloc, campaign, bytes.as_slice()) {
         Ok(text) => Ok(text),
-        Err(refusal) => Err(Failure::of(refusal, file)),
+        Err(refusal) => {
+            Err(later(
+                alloc,
+                explained,
+                Traced::Chronicle,
+                refusal,
+                file,
+                bytes.as_slice(),
+            ))
+        }
     }
 }
