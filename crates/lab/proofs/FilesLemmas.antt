@@ -1,7 +1,7 @@
 -- What is known of a task's two files.
 use Rattle.std.proofs.Common.{ℕ, ◌≡◌, ◌∙◌, List, [], ap, inr, refl, subst, sym}
 use Rattle.std.specs.Borrow.{Bor}
-use Rattle.std.specs.Prelude.{true, false, is_some, Option, None, Some, Ok, option_map, unwrap_or}
+use Rattle.std.specs.Prelude.{Bool, true, false, Option, None, Some, Ok, option_map, unwrap_or}
 use Rattle.insn.specs.declared.insn.Insn.{Insn}
 use Rattle.command_line.specs.Told.{file_of, second_of}
 use Rattle.command_line.specs.declared.tasks.Account.{Account}
@@ -13,10 +13,10 @@ use Rattle.scenario.specs.declared.messages.Campaign.{Campaign}
 use Rattle.world.specs.declared.schedule.Repeat.{Repeat}
 use Rattle.trace.specs.Schedules.{schedule_told}
 use Rattle.lab.specs.Answers.{ComesTo, GoesOn, IsTriedBy, Prints}
-use Rattle.lab.specs.Hints.{explained_in}
+use Rattle.lab.specs.Whys.{is_explained}
 use Rattle.lab.specs.Campaigns.{IsAudited, IsMustered, IsPlayed}
 use Rattle.lab.specs.Faults.{Prevents, Stops}
-use Rattle.lab.specs.Serving.{AreSecond, AreSecondBytes, Files, IsAnswer, IsAuditOf, IsPlayedBy, IsRefusedLater, IsScheduleOf, IsTrialOf, NoHint, first_name, second_name}
+use Rattle.lab.specs.Serving.{AreSecond, AreSecondBytes, Files, IsAnswer, IsAuditOf, IsPlayedBy, IsScheduleOf, IsToldLater, IsTrialOf, first_name, second_name}
 use Rattle.streams.specs.Reading.{AreBytes}
 use Rattle.lab.specs.declared.failure.Failure.{Failure}
 use Rattle.lab.specs.declared.first_answer.FirstAnswer.{FirstAnswer}
@@ -93,14 +93,9 @@ answered_audited (Audit scenario chronicle explained) files first text s why are
     let same = subst (λ (own : List ℕ). IsAudited s why own text) second.2 audited in
     (first, are, (second.0, second.1, (s, comes.0, subst (λ (e : Option Lieutenants). IsAudited s e (unwrap_or second.0 []) text) comes.1 same)))
 
--- what is there is there of its parts
-pub mapped : {A B : Type 0} (f : A → B) (o : Option A) → is_some o ≡ is_some (option_map f o)
-mapped f None = refl
-mapped f (Some x) = refl
-
 -- an answer in the second file's setting
 pub answered_tried : (task : Task) (files : Files) (first text : List ℕ) (program : List Insn) → AreBytes files.first first
-    → ComesTo task first (answer.Trial program) → IsTrialOf files.second (is_some (explained_in task)) program text → IsAnswer task files text
+    → ComesTo task first (answer.Trial program) → IsTrialOf files.second (is_explained task) program text → IsAnswer task files text
 answered_tried (Check file notation None explained traced) files first text program are comes tried = absurd comes
 answered_tried (Check file notation (Some context) true traced) files first text program are comes (bytes, known, (lines, tried, behind)) =
     let second = second_bytes files.second bytes known in
@@ -118,11 +113,13 @@ answered_tried (Muster scenario explained) files first text program are comes tr
 answered_tried (Audit scenario chronicle explained) files first text program are comes tried = absurd comes
 
 -- why a task has no answer behind a first file with which it goes on
-pub prevented_later : (task : Task) (files : Files) (unread second_unread : Type 0) (first name : List ℕ) (more : FirstAnswer) (fault : Failure)
-    → AreBytes files.first first → GoesOn task first more → name ≡ second_name task
-    → Stops second_unread (NoHint (IsRefusedLater more files.second)) name fault → Prevents unread second_unread task files fault
-prevented_later task files unread second_unread first name more fault are goes named why =
-    inr (more, (first, are, goes), subst (λ (n : List ℕ). Stops second_unread (NoHint (IsRefusedLater more files.second)) n fault) named why)
+pub prevented_later : (task : Task) (files : Files) (unread second_unread : Type 0) (first name : List ℕ) (more : FirstAnswer) (explained : Bool) (fault : Failure)
+    → AreBytes files.first first → GoesOn task first more → name ≡ second_name task → explained ≡ is_explained task
+    → Stops second_unread (IsToldLater explained name files.second more) name fault → Prevents unread second_unread task files fault
+prevented_later task files unread second_unread first name more explained fault are goes named same why =
+    let own : Stops second_unread (IsToldLater (is_explained task) name files.second more) name fault =
+    subst (λ (e : Bool). Stops second_unread (IsToldLater e name files.second more) name fault) same why in
+    inr (more, (first, are, goes), subst (λ (n : List ℕ). Stops second_unread (IsToldLater (is_explained task) n files.second more) n fault) named own)
 
 -- the name of the second file, empty where the words name none
 unwrapped : (o : Option (Bor (List ℕ))) (empty : Bor (List ℕ)) → empty.now ≡ [] → (unwrap_or o empty).now ≡ unwrap_or (option_map (λ (file : Bor (List ℕ)). file.now) o) []

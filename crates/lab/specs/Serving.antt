@@ -1,5 +1,5 @@
 -- How a task on its files ends. What a file has and what a stream holds are given where they are known.
-use Rattle.std.specs.Prelude.{ℕ, ◌≡◌, ◌≢◌, ◌⊎◌, Bool, List, [], ◌∷◌, ◌++◌, Option, None, Some, IfSome, IsSomeAnd, codes, option_map, unwrap_or}
+use Rattle.std.specs.Prelude.{ℕ, ◌≡◌, ◌≢◌, ◌⊎◌, Bool, true, false, List, [], ◌∷◌, ◌++◌, Option, None, Some, IfSome, IsSomeAnd, codes, option_map, unwrap_or}
 use Rattle.std.specs.Io.KnownBytes.{Appends}
 use Rattle.command_line.specs.Told.{file_of, second_of}
 use Rattle.command_line.specs.declared.tasks.Account.{Account}
@@ -19,6 +19,9 @@ use Rattle.streams.specs.Reading.{AreBytes}
 use Rattle.lab.specs.Hints.{behind_lines, hint_behind, IsHint}
 use Rattle.lab.specs.declared.hint.Hint.{Hint}
 use Rattle.lab.specs.Telling.{refusal_text}
+use Rattle.lab.specs.Whys.{TellsWhyOf, is_explained, traced_by}
+use Rattle.lab.specs.declared.whys.Traced.{Traced}
+use Rattle.lab.specs.declared.whys.Traced.TheVariants as traced
 use Rattle.lab.specs.Refusals.{Refuses, RefusesChronicle, RefusesMuster, RefusesSchedule, RefusesSetting, RefusesText}
 
 -- the only or first file's bytes, and the second's where there is one
@@ -83,10 +86,6 @@ IsRefused task known refusal hint =
     (refusal ≢ Memory) × ((bytes : List ℕ) × AreBytes known bytes × Refuses task bytes refusal)
     × IfSome known (λ all. IsHint refusal task all hint)
 
--- it is refused so, and no more is said
-abbrev pub NoHint : (Refusal → Type 0) → Refusal → Option Hint → Type 0
-NoHint refused refusal hint = refused refusal × (hint ≡ None)
-
 -- the task takes its first file, and goes on with this
 abbrev pub IsTaken : Task → Option (List ℕ) → FirstAnswer → Type 0
 IsTaken task known more = (bytes : List ℕ) × AreBytes known bytes × GoesOn task bytes more
@@ -118,6 +117,24 @@ IsRefusedLater (answer.Muster s explained) known refusal = IsUnmustered refusal
 IsRefusedLater (answer.Audit c explained) known refusal = IsChronicleRefused c known refusal
 IsRefusedLater _ known refusal = ⊥
 
+-- of a second file's bytes, none where there is no such file
+abbrev pub IfKnown : Option (Option (List ℕ)) → (List ℕ → Type 0) → Type 0
+IfKnown None P = P []
+IfKnown (Some known) P = IfSome known P
+
+-- what is said behind this refusal of a second file with this name: nothing or, where an explanation is asked for, the report
+abbrev pub IsHintLater : Bool → List ℕ → Option (Option (List ℕ)) → Traced → Refusal → Option Hint → Type 0
+IsHintLater false name known of refusal hint = hint ≡ None
+IsHintLater true name known of refusal hint = IfKnown known (λ all. TellsWhyOf refusal of name all (hint_behind hint))
+
+-- behind such a first file it refuses so, and this is said behind it
+abbrev pub IsToldLater : Bool → List ℕ → Option (Option (List ℕ)) → FirstAnswer → Refusal → Option Hint → Type 0
+IsToldLater explained name known more refusal hint = IsRefusedLater more known refusal × IsHintLater explained name known (traced_by more) refusal hint
+
+-- the second file is refused so as a schedule, and this is said behind it
+abbrev pub IsScheduleTold : Bool → List ℕ → Option (Option (List ℕ)) → Refusal → Option Hint → Type 0
+IsScheduleTold explained name known refusal hint = IsScheduleRefused known refusal × IsHintLater explained name known traced.Schedule refusal hint
+
 -- the stream has grown by this line, or it failed
 abbrev pub Tells : Type 0 → Option (List ℕ) → Option (List ℕ) → List ℕ → Type 0
 Tells fails old new line = fails ⊎ Appends old new (line ++ 10 ∷ [])
@@ -145,5 +162,5 @@ IsUnwritten unwritten task files tells = unwritten × HasAnswer task files × te
 abbrev pub IsFault : Type 0 → Type 0 → Type 0 → Task → Files → Type 0 → (List ℕ → Type 0) → Type 0
 IsFault unread second_unread unwritten task files kept tells =
     (kept × (IsTurnedDown unread (IsRefused task files.first) (first_name task) tells
-    ⊎ ((more : FirstAnswer) × IsTaken task files.first more × IsTurnedDown second_unread (NoHint (IsRefusedLater more files.second)) (second_name task) tells)))
+    ⊎ ((more : FirstAnswer) × IsTaken task files.first more × IsTurnedDown second_unread (IsToldLater (is_explained task) (second_name task) files.second more) (second_name task) tells)))
     ⊎ IsUnwritten unwritten task files tells

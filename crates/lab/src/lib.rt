@@ -20,6 +20,7 @@ mod seeming;
 mod serving;
 mod texts;
 mod trying;
+mod whys;
 
 pub use answering::answer;
 pub use assembling::{assembled, assembled_raw, disassembled};

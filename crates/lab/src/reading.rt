@@ -9,6 +9,7 @@ ghost use Rattle.streams.specs.Reading.{AreBytes};
 
 use crate::failure::Failure;
 use crate::refusal::Refusal;
+use crate::whys::unjudged;
 use codec::{CodecError, Fault as CodecFault};
 use command_line::{Notation, Task};
 use insn::Program;
@@ -40,7 +41,7 @@ pub(crate) fn read_first<'a, R: Source>(
             program: file,
             notation: Notation::Bytecode,
             ..
-        } => read_program(alloc, file.as_str(), first),
+        } => read_program(alloc, task, file.as_str(), first),
         _ => read(alloc, task.file().unwrap_or(""), first),
     }
 }
@@ -48,17 +49,19 @@ pub(crate) fn read_first<'a, R: Source>(
 /// All bytes of a file of bytecode, which are no more than a program has.
 fn read_program<'a, R: Source>(
     alloc: Global,
+    task: &'a Task,
     file: &'a str,
     source: R,
 ) -> Result<Vec<u8>, Failure<'a>>
+    requires { file.entry.now ≡ first_name task.entry.now }
     ensures whole { IfOk result (λ all. AreBytes (R.bytes source) all.items) }
-    ensures fault { IfErr result (Stops (R.fails source) (IsTooLong (R.bytes source)) file.entry.now) }
+    ensures fault { IfErr result (Stops (R.fails source) (IsTooLong task.entry.now (R.bytes source)) file.entry.now) }
 {
     match source.read_within(alloc, MOST_OF_A_PROGRAM) {
         Ok(Within::Whole(bytes)) => Ok(bytes),
         Ok(Within::Longer { front, number }) => {
             let refusal = Refusal::Codec(too_long(number));
-            Err(Failure::of_bytes(refusal, file, front.as_slice()))
+            Err(unjudged(alloc, task, refusal, file, front.as_slice()))
         }
         Err(error) => Err(unread(&error, file)),
     }

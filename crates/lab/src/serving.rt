@@ -1,17 +1,19 @@
 ghost use Rattle.std.specs.Prelude.{◌≡◌, ◌≢◌, ◌⊎◌, IfOk, IfErr, IsSomeAnd, OnOk, codes, option_map};
 ghost use Rattle.lab.specs.Faults.{Undoes, Prevents, Stops};
-ghost use Rattle.lab.specs.Serving.{IsAnswer, IsAuditOf, IsChronicleRefused, IsFault, IsPlayedBy, IsPrinted, IsScheduleOf, IsScheduleRefused, IsSettingRefused, IsTrialOf, NoHint, Tells, files, second_name};
+ghost use Rattle.lab.specs.Serving.{IsAnswer, IsAuditOf, IsFault, IsPlayedBy, IsPrinted, IsScheduleOf, IsScheduleTold, IsToldLater, IsTrialOf, Tells, files, second_name};
+ghost use Rattle.lab.specs.declared.first_answer.FirstAnswer.TheVariants.{Trial, Play, Audit};
 ghost use Rattle.lab.specs.declared.failure.Failure.TheVariants.{Write as unwritten};
 
 use crate::answering::answer;
 use crate::auditing::audited;
-use crate::explaining::{explained_in, refused, with_explanation};
+use crate::explaining::{refused, with_explanation};
 use crate::failure::Failure;
 use crate::first_answer::FirstAnswer;
 use crate::mustering::mustered;
 use crate::playing::{played, schedule_of};
 use crate::reading::{read_first, read_schedule, read_second};
 use crate::trying::tried_by;
+use crate::whys::{Traced, is_explained, later};
 use command_line::{Account, Lieutenants, Task};
 use scenario::Campaign;
 use std::alloc::Global;
@@ -105,14 +107,13 @@ where
 {
     let bytes = read_first(alloc, task, first)?;
     let file = task.second().unwrap_or("");
+    let reported = is_explained(task);
     match answer(alloc, task, bytes.as_slice()) {
         Ok(FirstAnswer::Text(text)) => Ok(text.into_bytes()),
         Ok(FirstAnswer::Bytes(bytes)) => Ok(bytes),
-        Ok(FirstAnswer::Trial(program)) => {
-            trial_of(alloc, &program, explained_in(task).is_some(), file, second)
-        }
+        Ok(FirstAnswer::Trial(program)) => trial_of(alloc, &program, reported, file, second),
         Ok(FirstAnswer::Play(campaign, account, explained)) => {
-            play_by(alloc, campaign, account, explained, file, second)
+            play_by(alloc, campaign, account, explained, reported, file, second)
         }
         Ok(FirstAnswer::Muster(scenario, explained)) => {
             match mustered(rt, alloc, scenario, explained) {
@@ -121,7 +122,7 @@ where
             }
         }
         Ok(FirstAnswer::Audit(campaign, explained)) => {
-            audit_of(alloc, &campaign, explained, file, second)
+            audit_of(alloc, &campaign, explained, reported, file, second)
         }
         Err(refusal) => Err(refused(alloc, task, refusal, bytes.as_slice())),
     }
@@ -137,7 +138,7 @@ fn trial_of<'a, R: Source>(
 ) -> Result<Vec<u8>, Failure<'a>>
     ensures tried { IfOk result (λ text. IsTrialOf (option_map R.bytes second) explained program.now text.items) }
     ensures fault { IfErr result
-        (Stops (IsSomeAnd second R.fails) (NoHint (IsSettingRefused (option_map R.bytes second))) file.entry.now) }
+        (Stops (IsSomeAnd second R.fails) (IsToldLater explained file.entry.now (option_map R.bytes second) (Trial program.now)) file.entry.now) }
 {
     let bytes = read_second(alloc, file, second)?;
     match tried_by(alloc, program, bytes.as_slice()) {
@@ -145,7 +146,14 @@ fn trial_of<'a, R: Source>(
             Ok(text) => Ok(text.into_bytes()),
             Err(_) => Err(Failure::Memory),
         },
-        Err(refusal) => Err(Failure::of(refusal, file)),
+        Err(refusal) => Err(later(
+            alloc,
+            explained,
+            Traced::Nothing,
+            refusal,
+            file,
+            bytes.as_slice(),
+        )),
     }
 }
 
@@ -155,14 +163,15 @@ fn play_by<'a, R: Source>(
     campaign: Campaign,
     account: Account,
     explained: Option<Lieutenants>,
+    reported: bool,
     file: &'a str,
     second: Option<R>,
 ) -> Result<Vec<u8>, Failure<'a>>
     ensures played { IfOk result (λ text. IsPlayedBy (option_map R.bytes second) campaign account explained text.items) }
     ensures fault { IfErr result
-        (Stops (IsSomeAnd second R.fails) (NoHint (IsScheduleRefused (option_map R.bytes second))) file.entry.now) }
+        (Stops (IsSomeAnd second R.fails) (IsToldLater reported file.entry.now (option_map R.bytes second) (Play campaign account explained)) file.entry.now) }
 {
-    let schedule = scheduled(alloc, file, second)?;
+    let schedule = scheduled(alloc, reported, file, second)?;
     match played(alloc, campaign, &schedule, account, explained) {
         Ok(text) => Ok(text),
         Err(_) => Err(Failure::Memory),
@@ -172,12 +181,13 @@ fn play_by<'a, R: Source>(
 /// The schedule of the second file, the empty one where there is none.
 fn scheduled<'a, R: Source>(
     alloc: Global,
+    reported: bool,
     file: &'a str,
     second: Option<R>,
 ) -> Result<Schedule, Failure<'a>>
     ensures told { IfOk result (λ schedule. IsScheduleOf (option_map R.bytes second) schedule) }
     ensures fault { IfErr result
-        (Stops (IsSomeAnd second R.fails) (NoHint (IsScheduleRefused (option_map R.bytes second))) file.entry.now) }
+        (Stops (IsSomeAnd second R.fails) (IsScheduleTold reported file.entry.now (option_map R.bytes second)) file.entry.now) }
 {
     let Some(second) = second else {
         return Ok(Schedule {
@@ -187,7 +197,16 @@ fn scheduled<'a, R: Source>(
     let front = read_schedule(alloc, file, second)?;
     match schedule_of(alloc, front.as_slice()) {
         Ok(schedule) => Ok(schedule),
-        Err(refusal) => Err(Failure::of(refusal, file)),
+        Err(refusal) => {
+            Err(later(
+                alloc,
+                reported,
+                Traced::Schedule,
+                refusal,
+                file,
+                front.as_slice(),
+            ))
+        }
     }
 }
 
@@ -196,16 +215,26 @@ fn audit_of<'a, R: Source>(
     alloc: Global,
     campaign: &Campaign,
     explained: Option<Lieutenants>,
+    reported: bool,
     file: &'a str,
     second: Option<R>,
 ) -> Result<Vec<u8>, Failure<'a>>
     ensures audited { IfOk result (λ text. IsAuditOf (option_map R.bytes second) campaign.now explained text.items) }
     ensures fault { IfErr result
-        (Stops (IsSomeAnd second R.fails) (NoHint (IsChronicleRefused campaign.now (option_map R.bytes second))) file.entry.now) }
+        (Stops (IsSomeAnd second R.fails) (IsToldLater reported file.entry.now (option_map R.bytes second) (Audit campaign.now explained)) file.entry.now) }
 {
     let bytes = read_second(alloc, file, second)?;
     match audited(alloc, campaign, bytes.as_slice(), explained) {
         Ok(text) => Ok(text),
-        Err(refusal) => Err(Failure::of(refusal, file)),
+        Err(refusal) => {
+            Err(later(
+                alloc,
+                reported,
+                Traced::Chronicle,
+                refusal,
+                file,
+                bytes.as_slice(),
+            ))
+        }
     }
 }

@@ -1,13 +1,12 @@
-use Rattle.std.proofs.Common.{ℕ, ◌≡◌, ◌∙◌, Bool, Bor, List, Option, ap, refl, subst, sym}
-use Rattle.std.specs.Prelude.{is_some}
+use Rattle.std.proofs.Common.{ℕ, ◌≡◌, Bool, List, ap, refl, subst, sym}
 use Rattle.std.proofs.lemmas.Result.{IfErr-weaker, IfOk-weaker}
 use Rattle.lab.specs.Answers.{ComesTo, Prints}
-use Rattle.command_line.specs.declared.tasks.Notation.{Notation}
-use Rattle.lab.specs.Hints.{explained_in}
+use Rattle.lab.specs.Whys.{is_explained}
 use Rattle.lab.specs.Serving.{Files, IsTrialOf, files}
 use Rattle.lab.specs.declared.first_answer.FirstAnswer.TheVariants.{Text, Bytes, Trial, Play, Muster, Audit}
-use Rattle.lab.proofs.FilesLemmas.{answered_alone, answered_audited, answered_mustered, answered_played, answered_tried, mapped, prevented_later, second_named}
+use Rattle.lab.proofs.FilesLemmas.{answered_alone, answered_audited, answered_mustered, answered_played, answered_tried, prevented_later, second_named}
 use Rattle.lab.proofs.FirstLemmas.{prevented_first}
+use Rattle.lab.proofs.WhyLemmas.{unmustered}
 use Rattle.lab.proofs.serving.answered.Goals as goal
 
 pub returns-in-Ok-Text-clause-answer : goal.returns-in-Ok-Text-clause-answer
@@ -31,7 +30,7 @@ returns-in-Ok-Trial-clause-answer g c =
     let both : Files = files g.R.Source.bytes c.args.first c.args.second in
     let is : c.in-Ok-Trial.field-0 ≡ Trial c.in-Ok-Trial.program = c.in-Ok-Trial.field-0-is in
     let comes : ComesTo c.args.task.now c.in_ok-bytes.bytes.items (Trial c.in-Ok-Trial.program) = rw (c.as_slice.ensures.value, is) at c.in-Ok-Trial.ensures.answered in
-    let asked : c.is_some.result ≡ is_some (explained_in c.args.task.now) = c.is_some.ensures ∙ (mapped (λ (n : Bor Notation). n.now) c.explained_in.result ∙ ap (λ (o : Option Notation). is_some o) c.explained_in.ensures) in
+    let asked : c.is_explained.result ≡ is_explained c.args.task.now = c.is_explained.ensures in
     IfOk-weaker c.trial_of.result _ _
     (λ text tried. answered_tried c.args.task.now both c.in_ok-bytes.bytes.items text.items c.in-Ok-Trial.program c.in_ok-bytes.ensures.whole comes
     (subst (λ (own : Bool). IsTrialOf both.second own c.in-Ok-Trial.program text.items) asked tried))
@@ -44,8 +43,8 @@ returns-in-Ok-Trial-clause-fault g c =
     let comes : ComesTo c.args.task.now c.in_ok-bytes.bytes.items (Trial c.in-Ok-Trial.program) = rw (c.as_slice.ensures.value, is) at c.in-Ok-Trial.ensures.answered in
     IfErr-weaker c.trial_of.result _ _
     (λ fault why.
-    prevented_later c.args.task.now both _ _ c.in_ok-bytes.bytes.items c.unwrap_or-file.result.now (Trial c.in-Ok-Trial.program) fault c.in_ok-bytes.ensures.whole comes
-    (second_named c.args.task.now c.second.result c.unwrap_or-file.result _ c.second.ensures c.unwrap_or-file.ensures refl) why)
+    prevented_later c.args.task.now both _ _ c.in_ok-bytes.bytes.items c.unwrap_or-file.result.now (Trial c.in-Ok-Trial.program) c.is_explained.result fault c.in_ok-bytes.ensures.whole comes
+    (second_named c.args.task.now c.second.result c.unwrap_or-file.result _ c.second.ensures c.unwrap_or-file.ensures refl) c.is_explained.ensures why)
     c.trial_of.ensures.fault
 
 pub returns-in-Ok-Play-clause-answer : goal.returns-in-Ok-Play-clause-answer
@@ -64,8 +63,8 @@ returns-in-Ok-Play-clause-fault g c =
     let comes : ComesTo c.args.task.now c.in_ok-bytes.bytes.items (Play c.in-Ok-Play.campaign c.in-Ok-Play.account c.in-Ok-Play.explained) = rw (c.as_slice.ensures.value, is) at c.in-Ok-Play.ensures.answered in
     IfErr-weaker c.play_by.result _ _
     (λ fault why.
-    prevented_later c.args.task.now both _ _ c.in_ok-bytes.bytes.items c.unwrap_or-file.result.now (Play c.in-Ok-Play.campaign c.in-Ok-Play.account c.in-Ok-Play.explained) fault c.in_ok-bytes.ensures.whole comes
-    (second_named c.args.task.now c.second.result c.unwrap_or-file.result _ c.second.ensures c.unwrap_or-file.ensures refl) why)
+    prevented_later c.args.task.now both _ _ c.in_ok-bytes.bytes.items c.unwrap_or-file.result.now (Play c.in-Ok-Play.campaign c.in-Ok-Play.account c.in-Ok-Play.explained) c.is_explained.result fault c.in_ok-bytes.ensures.whole comes
+    (second_named c.args.task.now c.second.result c.unwrap_or-file.result _ c.second.ensures c.unwrap_or-file.ensures refl) c.is_explained.ensures why)
     c.play_by.ensures.fault
 
 pub returns-in-Ok-clause-answer : goal.returns-in-Ok-clause-answer
@@ -91,8 +90,8 @@ returns-in-Ok-Audit-clause-fault g c =
     let comes : ComesTo c.args.task.now c.in_ok-bytes.bytes.items (Audit c.in-Ok-Audit.campaign c.in-Ok-Audit.explained) = rw (c.as_slice.ensures.value, is) at c.in-Ok-Audit.ensures.answered in
     IfErr-weaker c.audit_of.result _ _
     (λ fault why.
-    prevented_later c.args.task.now both _ _ c.in_ok-bytes.bytes.items c.unwrap_or-file.result.now (Audit c.in-Ok-Audit.campaign c.in-Ok-Audit.explained) fault c.in_ok-bytes.ensures.whole comes
-    (second_named c.args.task.now c.second.result c.unwrap_or-file.result _ c.second.ensures c.unwrap_or-file.ensures refl) why)
+    prevented_later c.args.task.now both _ _ c.in_ok-bytes.bytes.items c.unwrap_or-file.result.now (Audit c.in-Ok-Audit.campaign c.in-Ok-Audit.explained) c.is_explained.result fault c.in_ok-bytes.ensures.whole comes
+    (second_named c.args.task.now c.second.result c.unwrap_or-file.result _ c.second.ensures c.unwrap_or-file.ensures refl) c.is_explained.ensures why)
     c.audit_of.ensures.fault
 
 pub returns-clause-fault : goal.returns-clause-fault
@@ -100,3 +99,14 @@ returns-clause-fault g c =
     let both : Files = files g.R.Source.bytes c.args.first c.args.second in
     prevented_first c.args.task.now both _ _ c.in_ok-bytes.bytes.items c.refused.result c.in_ok-bytes.ensures.whole
     (rw (c.as_slice-in-Err.ensures.value) at c.refused.ensures)
+
+pub returns-in-Err-clause-fault : goal.returns-in-Err-clause-fault
+returns-in-Err-clause-fault g c =
+    let both : Files = files g.R.Source.bytes c.args.first c.args.second in
+    let task = c.args.task.now in
+    let is : c.in-Ok-Muster.field-0 ≡ Muster c.in-Ok-Muster.scenario c.in-Ok-Muster.explained = c.in-Ok-Muster.field-0-is in
+    let comes : ComesTo task c.in_ok-bytes.bytes.items (Muster c.in-Ok-Muster.scenario c.in-Ok-Muster.explained) = rw (c.as_slice.ensures.value, is) at c.in-Ok-Muster.ensures.answered in
+    rw c.of.ensures
+    (prevented_later task both _ _ c.in_ok-bytes.bytes.items c.unwrap_or-file.result.now (Muster c.in-Ok-Muster.scenario c.in-Ok-Muster.explained) (is_explained task) _ c.in_ok-bytes.ensures.whole comes
+    (second_named task c.second.result c.unwrap_or-file.result _ c.second.ensures c.unwrap_or-file.ensures refl) refl
+    (unmustered _ (is_explained task) both.second c.in-Ok-Muster.scenario c.in-Ok-Muster.explained c.in-Err.refusal c.unwrap_or-file.result (λ other. (other, c.in-Err.ensures.refused))))
