@@ -6,3 +6,6 @@ pub mod Whose
 pub mod Deciding
 pub mod Tasks
 pub mod Concluded
+pub mod Among
+pub mod Numbered
+pub mod Ending

@@ -2,3 +2,6 @@ pub mod Taking
 pub mod Holding
 pub mod Duties
 pub mod Telling
+pub mod Answers
+pub mod Inboxes
+pub mod Served

@@ -1,28 +1,29 @@
 //! What the generals of a campaign share.
-ghost use Rattle.std.specs.Prelude.{◌≡◌, ℕ, ◌<◌, [], length, slice_index_or, IfOk};
+ghost use Rattle.std.specs.Prelude.{◌≡◌, ℕ, ◌<◌, ◌≤◌, [], length, slice_index_or, IfOk};
 ghost use Rattle.post.specs.Seen.{PosterSeen, poster_seen};
+ghost use Rattle.threads.specs.Inboxes.{AreByGeneral, AreOwn};
 
 use crate::inbox::Inbox;
 use crate::resident::Resident;
-use crate::shared::SharedBoard;
 use crate::tally::Tally;
 use crate::task::Task;
 use post::{Collector, Post, Poster};
+use shared_board::{Room, SharedBoard};
 use std::alloc::{AllocError, Global};
 use std::sync::Wait;
 
 /// What the generals share with one another and with the one who conducts the rounds: the gate and the board, the inboxes in
 /// which they are given their tasks, the post for their letters, and the tally of those who have posted.
 #[derive(Drop)]
-pub(crate) struct Camp<'a, G> {
+pub(crate) struct Camp<'a, G, J: Room> {
     pub(crate) gate: &'a G,
-    pub(crate) board: &'a SharedBoard,
+    pub(crate) board: &'a SharedBoard<J>,
     pub(crate) inboxes: Vec<Inbox>,
     pub(crate) post: Post,
     pub(crate) tally: Tally,
 }
 
-impl<'a, G> Camp<'a, G> {
+impl<'a, G, J: Room> Camp<'a, G, J> {
     /// The camp of so many generals, with their posters, ascending, and the collector of their letters.
     ///
     /// # Errors
@@ -32,13 +33,17 @@ impl<'a, G> Camp<'a, G> {
         alloc: Global,
         generals: u8,
         gate: &'a G,
-        board: &'a SharedBoard,
-    ) -> Result<(Camp<'a, G>, Vec<Poster>, Collector), AllocError>
+        board: &'a SharedBoard<J>,
+    ) -> Result<(Camp<'a, G, J>, Vec<Poster>, Collector), AllocError>
         requires { 0 < generals }
         ensures inboxes { IfOk result (λ r. length r.0.inboxes.items ≡ generals) }
+        ensures own { IfOk result (λ r. AreOwn r.0.inboxes.items) }
         ensures count { IfOk result (λ r. length r.1.items ≡ generals) }
         ensures posters { IfOk result (λ r. (g : ℕ) (d : PosterSeen) → g < generals → slice_index_or r.1.items g d ≡ poster_seen r.0.post.table g []) }
         ensures collector { IfOk result (λ r. r.2.table ≡ r.0.post.table) }
+        ensures gate { IfOk result (λ r. r.0.gate ≡ gate.entry) }
+        ensures board { IfOk result (λ r. r.0.board ≡ board.entry) }
+        ensures tally { IfOk result (λ r. r.0.tally.generals ≡ generals) }
     {
         let (post, posters, collector) = Post::new(alloc, generals, usize::from(generals))?;
         let inboxes = empty_inboxes(alloc, generals)?;
@@ -53,10 +58,14 @@ impl<'a, G> Camp<'a, G> {
         Ok((camp, posters, collector))
     }
 
-    /// The general of this number, ready to begin.
-    pub(crate) fn resident<'c>(&'c self, general: u8) -> Resident<'c, G>
-        requires { general < length self.now.inboxes.items }
-        ensures { result.general ≡ general }
+    /// The general of this number, at his inbox, ready to begin.
+    pub(crate) fn resident<'c>(&'c self, general: u8) -> Resident<'c, G, J>
+        requires inbox { general < length self.now.inboxes.items }
+        requires own { AreOwn self.now.inboxes.items }
+        ensures inbox { result.inbox.now.general ≡ general }
+        ensures general { result.general ≡ general }
+        ensures gate { result.gate ≡ self.now.gate }
+        ensures board { result.board ≡ self.now.board }
     {
         Resident {
             general: u32::from(general),
@@ -68,9 +77,13 @@ impl<'a, G> Camp<'a, G> {
     }
 
     /// Puts each general's task into his inbox.
-    pub(crate) fn hand_out<R: Wait>(&self, rt: &R, tasks: Vec<Task>) {
-        for (inbox, task) in self.inboxes.iter().zip(tasks) {
-            inbox.put(rt, task);
+    pub(crate) fn hand_out<R: Wait>(&self, rt: &R, mut tasks: Vec<Task>)
+        requires few { length tasks.items ≤ length self.now.inboxes.items }
+        requires own { AreOwn self.now.inboxes.items }
+        requires tasks { AreByGeneral tasks.items }
+    {
+        while let Some(task) = tasks.pop() {
+            self.inboxes[tasks.len()].put(rt, task);
         }
     }
 
@@ -84,11 +97,12 @@ impl<'a, G> Camp<'a, G> {
 
 /// An empty inbox for each general.
 fn empty_inboxes(alloc: Global, generals: u8) -> Result<Vec<Inbox>, AllocError>
-    ensures { IfOk result (λ inboxes. length inboxes.items ≡ generals) }
+    ensures count { IfOk result (λ inboxes. length inboxes.items ≡ generals) }
+    ensures own { IfOk result (λ inboxes. AreOwn inboxes.items) }
 {
     let mut inboxes = Vec::with_capacity(alloc, usize::from(generals))?;
-    for _ in 0..generals {
-        inboxes.push(Inbox::new())?;
+    for general in 0..generals {
+        inboxes.push(Inbox::new(u32::from(general)))?;
     }
     Ok(inboxes)
 }

@@ -9,7 +9,7 @@ ghost use Rattle.world.specs.Lists.{IsComplete, replayed, names_in};
 ghost use Rattle.world.specs.Promises.{AgreeUnderBound, IsVerdictOn, IsWellUnderBound};
 ghost use Rattle.world.specs.Replay.{replay_of};
 ghost use Rattle.world.specs.Safety.{IsShort};
-ghost use Rattle.threads.specs.declared.error.MusterError.TheVariants.{Spawn};
+ghost use Rattle.threads.specs.declared.error.MusterError.TheVariants.{Unaccounted, Spawn, Post};
 
 use crate::account::are_accounted;
 use crate::error::MusterError;
@@ -43,7 +43,9 @@ pub(crate) fn judge<R: Threads + Sync>(
     ensures legal { OnOk result (IsLegal scenario.now.board board.now.ledger) }
     ensures accounted { OnOk result (AreAccounted scenario.now [] board.now.ledger rows.now) }
     ensures decisions { IfOk result (λ orders. orders.items ≡ decisions scenario.now (messages rows.now)) }
+    ensures unaccounted { IfErr result (λ e. e ≡ Unaccounted → ¬ ((board.now.opening ≡ scenario.now.board) × AreAccounted scenario.now [] board.now.ledger rows.now)) }
     ensures started { IfErr result (λ e. e ≢ Spawn) }
+    ensures posted { IfErr result (λ e. e ≢ Post) }
 {
     let (accounted, decided) = thread::join(
         rt,
@@ -52,7 +54,10 @@ pub(crate) fn judge<R: Threads + Sync>(
             requires told { WasTold scenario.now rows.now told.now }
             ensures legal { OnOk result (IsLegal scenario.entry.now.board board.entry.now.ledger) }
             ensures accounted { OnOk result (AreAccounted scenario.entry.now [] board.entry.now.ledger rows.entry.now) }
+            ensures unaccounted { IfErr result (λ e. e ≡ Unaccounted
+                → ¬ ((board.entry.now.opening ≡ scenario.entry.now.board) × AreAccounted scenario.entry.now [] board.entry.now.ledger rows.entry.now)) }
             ensures started { IfErr result (λ e. e ≢ Spawn) }
+            ensures posted { IfErr result (λ e. e ≢ Post) }
         { account(alloc, scenario, board, rows, told) },
         || -> Result<ArrayVec<u32, 12>, AllocError>
             requires { (before : List (List LetterSeen)) × WasTold scenario.now before told.now }
@@ -81,7 +86,9 @@ fn account(
     requires told { WasTold scenario.now rows.now told.now }
     ensures legal { OnOk result (IsLegal scenario.now.board board.now.ledger) }
     ensures accounted { OnOk result (AreAccounted scenario.now [] board.now.ledger rows.now) }
+    ensures unaccounted { IfErr result (λ e. e ≡ Unaccounted → ¬ ((board.now.opening ≡ scenario.now.board) × AreAccounted scenario.now [] board.now.ledger rows.now)) }
     ensures started { IfErr result (λ e. e ≢ Spawn) }
+    ensures posted { IfErr result (λ e. e ≢ Post) }
 {
     if board.opening().as_slice() != scenario.board().as_slice() {
         return Err(MusterError::Unaccounted);
@@ -135,6 +142,7 @@ pub(crate) fn conclude(
     requires accounted { AreAccounted scenario [] accesses.items rows.items }
     requires decisions { orders.items ≡ decisions scenario (messages rows.items) }
     ensures scenario { result.scenario ≡ scenario }
+    ensures accesses { result.accesses ≡ accesses.items }
     ensures replay { result ≡ chronicle_of (replay_of scenario result.accesses) }
     ensures complete { IsComplete scenario (replayed scenario (names_in 1 result.accesses (suc scenario.bound))) }
     ensures legal { IsLegal scenario.board result.accesses }

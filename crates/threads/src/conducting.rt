@@ -1,13 +1,20 @@
 //! A campaign's rounds, conducted through the generals' camp.
-ghost use Rattle.std.specs.Prelude.{◌≡◌, ◌≤◌, suc, List, length, IfOk};
+ghost use Rattle.std.specs.Prelude.{◌≡◌, ◌≢◌, ◌≤◌, ◌∷◌, [], suc, List, length, IsPermutation, IsSortedByKey, IfOk, IfErr};
+ghost use Rattle.std.specs.Ordering.{nat_cmp};
 ghost use Rattle.round.specs.Letters.{Letter as LetterSeen};
 ghost use Rattle.round.specs.Told.{WasTold};
+ghost use Rattle.world.specs.World.{each};
+ghost use Rattle.threads.specs.Duties.{duty_of};
+ghost use Rattle.threads.specs.Inboxes.{AreByGeneral, AreOwn};
+ghost use Rattle.threads.specs.declared.error.MusterError.TheVariants.{Spawn, Post as PostFull};
 
+use crate::answers::accounted;
 use crate::camp::Camp;
 use crate::error::MusterError;
 use crate::task::Task;
 use post::{Collector, Post};
 use round::{Letter, Round, Scenario, Told, are_letters_of};
+use shared_board::Room;
 use std::alloc::{AllocError, Global};
 use std::sync::Wait;
 
@@ -17,30 +24,31 @@ use std::sync::Wait;
 /// # Errors
 ///
 /// `Memory` where memory is refused, `Unaccounted` where a general has failed or letters are not of their round.
-pub(crate) fn conduct<R: Wait, G>(
+pub(crate) fn conduct<R: Wait, G, J: Room>(
     rt: &R,
     alloc: Global,
     scenario: &Scenario,
-    camp: &Camp<G>,
+    camp: &Camp<G, J>,
     mut collector: Collector,
 ) -> Result<(Vec<Round>, Told), MusterError>
-    requires { collector.table ≡ camp.now.post.table }
+    requires collector { collector.table ≡ camp.now.post.table }
+    requires inboxes { scenario.now.generals ≤ length camp.now.inboxes.items }
+    requires own { AreOwn camp.now.inboxes.items }
     ensures rounds { IfOk result (λ r. length r.0.items ≡ suc scenario.now.bound) }
     ensures told { IfOk result (λ r. WasTold scenario.now r.0.items r.1) }
+    ensures started { IfErr result (λ e. e ≢ Spawn) }
+    ensures posted { IfErr result (λ e. e ≢ PostFull) }
 {
     let rounds = scenario.bound() + 1;
     let mut told = Told::new(alloc, scenario)?;
     let mut rows = Vec::with_capacity(alloc, usize::from(rounds))?;
     for round in 0..rounds {
         camp.hand_out(rt, tasks(alloc, scenario, &told)?);
-        if !camp.tally.all_posted(rt) {
-            return Err(MusterError::Unaccounted);
-        }
+        accounted(camp.tally.all_posted(rt))?;
         let (again, letters) = take_letters(rt, alloc, &camp.post, collector)?;
         collector = again;
-        if !are_letters_of(scenario, u32::from(round) + 1, letters.as_slice()) {
-            return Err(MusterError::Unaccounted);
-        }
+        let are_of_round = are_letters_of(scenario, u32::from(round) + 1, letters.as_slice());
+        accounted(are_of_round)?;
         told.deliver(scenario, letters.as_slice());
         rows.push(Round { letters })?;
     }
@@ -51,6 +59,10 @@ pub(crate) fn conduct<R: Wait, G>(
 fn tasks(alloc: Global, scenario: &Scenario, told: &Told) -> Result<Vec<Task>, AllocError>
     requires told { (before : List (List LetterSeen)) × WasTold scenario.now before told.now }
     requires left { told.now.rounds ≤ scenario.now.bound }
+    ensures count { IfOk result (λ tasks. length tasks.items ≡ scenario.now.generals) }
+    ensures own { IfOk result (λ tasks. AreByGeneral tasks.items) }
+    ensures duties { IfOk result (λ tasks. (before : List (List LetterSeen)) → WasTold scenario.now before told.now
+        → tasks.items ≡ each scenario.now.generals (λ g. duty_of scenario.now before g ∷ [])) }
 {
     let generals = scenario.generals();
     let mut tasks = Vec::with_capacity(alloc, usize::from(generals))?;
@@ -60,8 +72,8 @@ fn tasks(alloc: Global, scenario: &Scenario, told: &Told) -> Result<Vec<Task>, A
     Ok(tasks)
 }
 
-/// The letters that are in the post. Nothing is promised of them here: they are tested where they are told, and judged at
-/// the end.
+/// The letters that are in the post, ascending by general. No more is promised of them here: they are tested where they are
+/// told, and judged at the end.
 fn take_letters<R: Wait>(
     rt: &R,
     alloc: Global,
@@ -69,7 +81,8 @@ fn take_letters<R: Wait>(
     mut collector: Collector,
 ) -> Result<(Collector, Vec<Letter>), AllocError>
     requires { collector.table ≡ post.now.table }
-    ensures { IfOk result (λ r. r.0.table ≡ post.now.table) }
+    ensures post { IfOk result (λ r. r.0.table ≡ post.now.table) }
+    ensures ascending { IfOk result (λ r. IsSortedByKey (λ (letter : LetterSeen). letter.general) nat_cmp r.1.items) }
 {
     let mut letters = Vec::new(alloc);
     for _ in rt.forever() {
@@ -80,6 +93,14 @@ fn take_letters<R: Wait>(
         };
         letters.push(letter)?;
     }
+    Ok((collector, by_general(letters)))
+}
+
+/// The same letters, ascending by general.
+fn by_general(mut letters: Vec<Letter>) -> Vec<Letter>
+    ensures same { IsPermutation letters.items result.items }
+    ensures ascending { IsSortedByKey (λ (letter : LetterSeen). letter.general) nat_cmp result.items }
+{
     letters.sort_unstable_by_key(|letter| letter.general);
-    Ok((collector, letters))
+    letters
 }

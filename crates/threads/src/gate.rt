@@ -1,9 +1,12 @@
 //! What holds a general before each access.
-use crate::shared::SharedBoard;
+ghost use Rattle.std.specs.Prelude.{◌≡◌, length};
+
 use board::Access;
 use round::Server;
 use semantics::{Reply, Request};
+use shared_board::{Room, SharedBoard, Witness};
 use std::alloc::{AllocError, Global};
+use std::marker::Model;
 use std::sync::Wait;
 
 /// Holds generals before their accesses, for as long as it likes.
@@ -23,22 +26,44 @@ impl Gate for Open {
 
 /// The board as one general meets it in one round: first the gate, then the lock, for one access.
 #[derive(Drop)]
-pub(crate) struct Gated<'a, R, G> {
+pub(crate) struct Gated<'a, R, G, J: Room> {
     pub(crate) rt: &'a R,
     pub(crate) alloc: Global,
     pub(crate) gate: &'a G,
-    pub(crate) board: &'a SharedBoard,
+    pub(crate) board: &'a SharedBoard<J>,
+    /// His leave to have accesses served.
+    pub(crate) me: Witness<J>,
     /// The accesses that he has made in this round.
     pub(crate) made: Vec<Access>,
 }
 
-impl<'a, R: Wait, G: Gate> Server for Gated<'a, R, G> {
-    ghost served = { λ gated. gated.made.items };
+impl<'a, R, G, J: Room> Model for Gated<'a, R, G, J> {
+    ghost use Rattle.threads.specs.Served.{AreAmong, Served};
+
+    ghost Value = { Served };
+
+    ghost view = { λ g. record { made = g.made.items; seen = g.me.seen } };
+
+    ghost invariant = { λ g. AreAmong g.made.items g.me.seen };
+}
+
+impl<'a, R, G: Gate, J: Room> Gated<'a, R, G, J> {
+    /// Waits at the gate before the access of this number, counted from 0.
+    fn pass_gate(&self, general: u32, round: u32, nth: u64)
+        requires { nth ≡ length self.now.made }
+    {
+        self.gate.before_access(general, round, nth);
+    }
+}
+
+impl<'a, R: Wait, G: Gate, J: Room> Server for Gated<'a, R, G, J> {
+    ghost served = { λ gated. gated.made };
 
     fn serve(&mut self, general: u32, round: u32, request: Request) -> Result<Reply, AllocError> {
-        self.gate
-            .before_access(general, round, self.made.len() as u64);
-        let reply = self.board.apply(self.rt, general, round, request)?;
+        self.pass_gate(general, round, self.made.len() as u64);
+        let reply = self
+            .board
+            .apply(self.rt, &mut self.me, general, round, request)?;
         let access = Access {
             general,
             round,

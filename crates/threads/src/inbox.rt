@@ -1,4 +1,6 @@
 //! Where a general waits for his next task.
+ghost use Rattle.std.specs.Prelude.{◌≡◌};
+ghost use Rattle.threads.specs.Inboxes.{task_in, left_in};
 
 use crate::task::Task;
 use std::mem;
@@ -15,24 +17,31 @@ enum Phase {
     Closed,
 }
 
-/// An inbox of one general, in which he is given his tasks, one at a time. Nothing is promised of it.
+/// An inbox of one general, in which he is given his tasks, one at a time.
 #[derive(Drop)]
 pub(crate) struct Inbox {
+    /// Whose it is.
+    pub(crate) general: u32,
     phase: Mutex<Phase>,
     changed: Condvar,
 }
 
 impl Inbox {
-    /// An empty inbox.
-    pub(crate) fn new() -> Inbox {
+    /// An empty inbox of this general.
+    pub(crate) fn new(general: u32) -> Inbox
+        ensures { result.general ≡ general }
+    {
         Inbox {
+            general,
             phase: Mutex::new(Phase::Waiting),
             changed: Condvar::new(),
         }
     }
 
-    /// Puts a task into the inbox.
-    pub(crate) fn put<R: Wait>(&self, rt: &R, task: Task) {
+    /// Puts a task of its general into the inbox.
+    pub(crate) fn put<R: Wait>(&self, rt: &R, task: Task)
+        requires { task.general ≡ self.now.general }
+    {
         *self.phase.lock(rt) = Phase::Given(task);
         self.changed.notify_one();
     }
@@ -48,12 +57,20 @@ impl Inbox {
         let mut phase = self.changed.wait_while(rt, self.phase.lock(rt), |phase| {
             matches!(phase, Phase::Waiting)
         });
-        match mem::replace(&mut *phase, Phase::Waiting) {
-            Phase::Given(task) => Some(task),
-            Phase::Waiting | Phase::Closed => {
-                *phase = Phase::Closed;
-                None
-            }
+        taken(&mut phase)
+    }
+}
+
+/// Takes the task that is given; where none is, the inbox is closed.
+fn taken(phase: &mut Phase) -> Option<Task>
+    ensures task { result ≡ task_in phase.old }
+    ensures left { phase.new ≡ left_in phase.old }
+{
+    match mem::replace(phase, Phase::Waiting) {
+        Phase::Given(task) => Some(task),
+        Phase::Waiting | Phase::Closed => {
+            *phase = Phase::Closed;
+            None
         }
     }
 }

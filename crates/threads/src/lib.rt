@@ -2,6 +2,7 @@
 #![tactic(auto)]
 
 mod account;
+mod answers;
 mod camp;
 mod collecting;
 mod concluding;
@@ -12,7 +13,6 @@ mod gathering;
 mod inbox;
 mod mustering;
 mod resident;
-mod shared;
 mod taking;
 mod tally;
 mod task;
@@ -22,4 +22,4 @@ pub use gate::{Gate, Open};
 pub use gathering::gather;
 pub use mustering::{muster, muster_with};
 pub use post::{Collector, Post, Poster};
-pub use shared::SharedBoard;
+pub use shared_board::{Room, SharedBoard, Unshared, Witness};

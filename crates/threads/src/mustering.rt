@@ -1,5 +1,6 @@
 //! Campaigns whose generals act in threads.
-ghost use Rattle.std.specs.Prelude.{◌≡◌, suc, All, IfOk};
+ghost use Rattle.std.specs.Prelude.{◌≡◌, ◌≤◌, suc, length, All, IfOk};
+ghost use mathlib.Core.List.{IsPrefix};
 ghost use Rattle.board.specs.Board.{IsLegal};
 ghost use Rattle.round.specs.Letters.{messages};
 ghost use Rattle.world.specs.Chronicle.{decisions, chronicle_of};
@@ -12,10 +13,11 @@ use crate::collecting::collect;
 use crate::concluding::{conclude, judge};
 use crate::error::MusterError;
 use crate::gate::Gate;
-use crate::shared::SharedBoard;
 use board::Board;
 use round::Scenario;
+use shared_board::{Room, SharedBoard, Unshared, Witness};
 use std::alloc::Global;
+use std::marker::Brand;
 use std::sync::Wait;
 use std::thread::Threads;
 use world::Chronicle;
@@ -82,9 +84,68 @@ pub fn muster_with<R: Threads + Wait + Sync, G: Gate + Sync>(
     ensures verdict { IfOk result (λ chronicle. IsVerdictOn scenario chronicle.decisions chronicle.verdict) }
     ensures well { IfOk result (λ chronicle. IsWellUnderBound chronicle.verdict) }
 {
-    let board = SharedBoard::new(Board::new(alloc, *scenario.board()));
-    let (rounds, told) = collect(rt, alloc, &scenario, gate, &board, stack)?;
-    let board = board.into_board();
+    let threads = scenario.generals();
+    let unshared = Unshared::new(Board::new(alloc, *scenario.board()), threads + 1);
+    mustered::<R, G, Brand>(rt, alloc, scenario, gate, stack, unshared)
+}
+
+/// The same, by the board of this name.
+fn mustered<R: Threads + Wait + Sync, G: Gate + Sync, J: Room + Send + Sync>(
+    rt: &R,
+    alloc: Global,
+    scenario: Scenario,
+    gate: &G,
+    stack: usize,
+    unshared: Unshared,
+) -> Result<Chronicle, MusterError>
+    requires book { unshared.book ≡ J.book }
+    requires opening { unshared.opening ≡ J.opening }
+    requires ledger { (unshared.name ≡ J.name) × (unshared.parts ≡ J.parts) }
+    requires threads { unshared.parts ≡ suc scenario.generals }
+    ensures scenario { IfOk result (λ chronicle. chronicle.scenario ≡ scenario) }
+    ensures replay { IfOk result (λ chronicle. chronicle ≡ chronicle_of (replay_of scenario chronicle.accesses)) }
+    ensures complete { IfOk result (λ chronicle. IsComplete scenario (replayed scenario (names_in 1 chronicle.accesses (suc scenario.bound)))) }
+    ensures legal { IfOk result (λ chronicle. IsLegal scenario.board chronicle.accesses) }
+    ensures short { IfOk result (λ chronicle. All (λ letters. All IsShort letters) chronicle.letters) }
+    ensures decisions { IfOk result (λ chronicle. chronicle.decisions ≡ decisions scenario (messages chronicle.letters)) }
+    ensures agree { IfOk result (λ chronicle. AgreeUnderBound scenario chronicle.decisions) }
+    ensures verdict { IfOk result (λ chronicle. IsVerdictOn scenario chronicle.decisions chronicle.verdict) }
+    ensures well { IfOk result (λ chronicle. IsWellUnderBound chronicle.verdict) }
+{
+    let threads = scenario.generals() + 1;
+    let (board, mut witnesses) = SharedBoard::<J>::new(alloc, unshared, threads)?;
+    let Some(witness) = witnesses.pop() else {
+        unreachable!()
+    };
+    by_board(rt, alloc, scenario, gate, stack, board, witness, witnesses)
+}
+
+/// The same, by this board and its witnesses, one of whom stays. The accesses of the chronicle are the board's history: it
+/// begins with what he has met.
+fn by_board<R: Threads + Wait + Sync, G: Gate + Sync, J: Room + Send + Sync>(
+    rt: &R,
+    alloc: Global,
+    scenario: Scenario,
+    gate: &G,
+    stack: usize,
+    board: SharedBoard<J>,
+    witness: Witness<J>,
+    witnesses: Vec<Witness<J>>,
+) -> Result<Chronicle, MusterError>
+    requires { scenario.generals ≤ length witnesses.items }
+    ensures history { IfOk result (λ chronicle. IsPrefix witness.seen chronicle.accesses) }
+    ensures scenario { IfOk result (λ chronicle. chronicle.scenario ≡ scenario) }
+    ensures replay { IfOk result (λ chronicle. chronicle ≡ chronicle_of (replay_of scenario chronicle.accesses)) }
+    ensures complete { IfOk result (λ chronicle. IsComplete scenario (replayed scenario (names_in 1 chronicle.accesses (suc scenario.bound)))) }
+    ensures legal { IfOk result (λ chronicle. IsLegal scenario.board chronicle.accesses) }
+    ensures short { IfOk result (λ chronicle. All (λ letters. All IsShort letters) chronicle.letters) }
+    ensures decisions { IfOk result (λ chronicle. chronicle.decisions ≡ decisions scenario (messages chronicle.letters)) }
+    ensures agree { IfOk result (λ chronicle. AgreeUnderBound scenario chronicle.decisions) }
+    ensures verdict { IfOk result (λ chronicle. IsVerdictOn scenario chronicle.decisions chronicle.verdict) }
+    ensures well { IfOk result (λ chronicle. IsWellUnderBound chronicle.verdict) }
+{
+    let (rounds, told) = collect(rt, alloc, &scenario, gate, &board, witnesses, stack)?;
+    let board = board.into_board(rt, witness);
     let decisions = judge(rt, alloc, &scenario, &board, rounds.as_slice(), &told)?;
     Ok(conclude(scenario, board.into_ledger(), rounds, decisions))
 }

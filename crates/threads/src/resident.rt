@@ -1,29 +1,33 @@
 //! A general's thread through all rounds.
-ghost use Rattle.std.specs.Prelude.{◌≡◌, IfOk};
+ghost use Rattle.std.specs.Prelude.{◌≡◌, ◌≢◌, ◌++◌, ◌∷◌, [], IfOk, IfErr};
+ghost use Rattle.round.specs.Letters.{Letter as LetterSeen};
 ghost use Rattle.threads.specs.Duties.{IsDone};
+ghost use Rattle.threads.specs.Served.{AreAmong};
+ghost use Rattle.threads.specs.declared.error.MusterError.TheVariants.{Spawn, Post as PostFull};
 
+use crate::answers::{accounted, posted};
 use crate::error::MusterError;
 use crate::gate::{Gate, Gated};
 use crate::inbox::Inbox;
-use crate::shared::SharedBoard;
 use crate::tally::Tally;
 use crate::task::Task;
 use post::{Post, Poster};
 use round::Letter;
+use shared_board::{Room, SharedBoard, Witness};
 use std::alloc::Global;
 use std::sync::Wait;
 
 /// A general who stays for all rounds: his inbox, and what he shares with the others.
 #[derive(Drop)]
-pub(crate) struct Resident<'a, G> {
+pub(crate) struct Resident<'a, G, J: Room> {
     pub(crate) general: u32,
     pub(crate) gate: &'a G,
-    pub(crate) board: &'a SharedBoard,
+    pub(crate) board: &'a SharedBoard<J>,
     pub(crate) inbox: &'a Inbox,
     pub(crate) tally: &'a Tally,
 }
 
-impl<'a, G: Gate> Resident<'a, G> {
+impl<'a, G: Gate, J: Room> Resident<'a, G, J> {
     /// Does his tasks until his inbox is closed. Where he fails, he says so to the one who waits for the letters.
     ///
     /// # Errors
@@ -35,67 +39,105 @@ impl<'a, G: Gate> Resident<'a, G> {
         alloc: Global,
         post: &Post,
         poster: Poster,
+        me: Witness<J>,
     ) -> Result<(), MusterError>
         requires post { poster.table ≡ post.now.table }
         requires general { poster.general ≡ self.general }
+        ensures started { IfErr result (λ e. e ≢ Spawn) }
     {
-        let ended = self.do_tasks(rt, alloc, post, poster);
+        let ended = self.do_tasks(rt, alloc, post, poster, me);
         if ended.is_err() {
             self.tally.failed(rt);
         }
         ended
     }
 
-    /// Does the tasks that his inbox gives him, and posts a letter for each, until the inbox is closed.
+    /// Does the tasks that his inbox gives him, until the inbox is closed.
     ///
     /// # Errors
     ///
-    /// `Memory` where memory is refused, `Post` where the post is full, `Unaccounted` where a task is not his.
+    /// As `do_task`.
     fn do_tasks<R: Wait>(
         &self,
         rt: &R,
         alloc: Global,
         post: &Post,
         mut poster: Poster,
+        mut me: Witness<J>,
     ) -> Result<(), MusterError>
         requires post { poster.table ≡ post.now.table }
         requires general { poster.general ≡ self.now.general }
+        ensures started { IfErr result (λ e. e ≢ Spawn) }
     {
         for _ in rt.forever() {
             let Some(task) = self.inbox.next(rt) else {
                 return Ok(());
             };
-            let letter = self.letter(rt, alloc, task)?;
-            let (again, sent) = post.post(rt, poster, letter);
+            let (again, later) = self.do_task(rt, alloc, post, poster, me, task)?;
             poster = again;
-            if sent.is_err() {
-                return Err(MusterError::Post);
-            }
+            me = later;
             self.tally.posted(rt);
         }
         unreachable!()
     }
 
-    /// His letter for a task.
+    /// Does a task: his letter for it is posted.
+    ///
+    /// # Errors
+    ///
+    /// `Memory` where memory is refused, `Post` where the post is full, `Unaccounted` where the task is not his.
+    fn do_task<R: Wait>(
+        &self,
+        rt: &R,
+        alloc: Global,
+        post: &Post,
+        poster: Poster,
+        me: Witness<J>,
+        task: Task,
+    ) -> Result<(Poster, Witness<J>), MusterError>
+        requires post { poster.table ≡ post.now.table }
+        requires general { poster.general ≡ self.now.general }
+        ensures post { IfOk result (λ r. r.0.table ≡ post.now.table) }
+        ensures general { IfOk result (λ r. r.0.general ≡ self.now.general) }
+        ensures done { IfOk result (λ r. (letter : LetterSeen) × IsDone task letter × (r.0.posted ≡ poster.posted ++ letter ∷ [])) }
+        ensures started { IfErr result (λ e. e ≢ Spawn) }
+    {
+        let (letter, me) = self.letter(rt, alloc, me, task)?;
+        let (poster, sent) = post.post(rt, poster, letter);
+        posted(sent)?;
+        Ok((poster, me))
+    }
+
+    /// His letter for a task. The accesses that it tells are among those that the board has served, as they were asked and
+    /// answered there.
     ///
     /// # Errors
     ///
     /// `Memory` where memory is refused, `Unaccounted` where the task is not his.
-    fn letter<R: Wait>(&self, rt: &R, alloc: Global, task: Task) -> Result<Letter, MusterError>
-        ensures general { IfOk result (λ letter. letter.general ≡ self.now.general) }
-        ensures done { IfOk result (IsDone task) }
+    fn letter<R: Wait>(
+        &self,
+        rt: &R,
+        alloc: Global,
+        me: Witness<J>,
+        task: Task,
+    ) -> Result<(Letter, Witness<J>), MusterError>
+        ensures general { IfOk result (λ r. r.0.general ≡ self.now.general) }
+        ensures done { IfOk result (λ r. IsDone task r.0) }
+        ensures served { IfOk result (λ r. AreAmong r.0.transcript r.1.seen) }
+        ensures started { IfErr result (λ e. e ≢ Spawn) }
+        ensures posted { IfErr result (λ e. e ≢ PostFull) }
     {
         let mut server = Gated {
             rt,
             alloc,
             gate: self.gate,
             board: self.board,
+            me,
             made: Vec::new(alloc),
         };
         let letter = task.letter(alloc, &mut server)?;
-        if letter.general != self.general {
-            return Err(MusterError::Unaccounted);
-        }
-        Ok(letter)
+        accounted(letter.general == self.general)?;
+        let Gated { me, .. } = server;
+        Ok((letter, me))
     }
 }

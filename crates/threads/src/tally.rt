@@ -1,4 +1,5 @@
 //! How far the generals have come in a round.
+ghost use Rattle.std.specs.Prelude.{◌≡◌, ◌↔◌, ◌⊎◌, ◌+◌, ◌≤◌, min, true, IsTrue};
 
 use std::sync::{Condvar, Mutex, Wait};
 
@@ -7,6 +8,25 @@ use std::sync::{Condvar, Mutex, Wait};
 struct Count {
     posted: usize,
     failed: bool,
+}
+
+impl Count {
+    /// One more letter is posted.
+    fn with_one_more(self) -> Count
+        ensures { result ≡ record self { posted = min (self.posted + 1) 0xffff_ffff_ffff_ffff } }
+    {
+        Count {
+            posted: self.posted.saturating_add(1),
+            failed: self.failed,
+        }
+    }
+
+    /// Whether nobody has to be waited for: so many have posted, or one has failed.
+    fn is_over(self, generals: usize) -> bool
+        ensures { IsTrue result ↔ ((generals ≤ self.posted) ⊎ (self.failed ≡ true)) }
+    {
+        self.posted >= generals || self.failed
+    }
 }
 
 /// What the generals tell the one who waits for their letters. Nothing is promised of it.
@@ -19,7 +39,9 @@ pub(crate) struct Tally {
 
 impl Tally {
     /// The tally of so many generals, none of whom has posted a letter.
-    pub(crate) fn new(generals: usize) -> Tally {
+    pub(crate) fn new(generals: usize) -> Tally
+        ensures { result.generals ≡ generals }
+    {
         Tally {
             generals,
             count: Mutex::new(Count {
@@ -33,8 +55,9 @@ impl Tally {
     /// One more general has posted his letter of the round.
     pub(crate) fn posted<R: Wait>(&self, rt: &R) {
         let mut count = self.count.lock(rt);
-        count.posted = count.posted.saturating_add(1);
-        if count.posted >= self.generals {
+        let more = count.with_one_more();
+        *count = more;
+        if more.is_over(self.generals) {
             self.changed.notify_one();
         }
     }
@@ -47,9 +70,11 @@ impl Tally {
 
     /// Waits until all generals have posted their letters of the round, and begins the next; false where one has failed.
     pub(crate) fn all_posted<R: Wait>(&self, rt: &R) -> bool {
-        let mut count = self.changed.wait_while(rt, self.count.lock(rt), |count| {
-            count.posted < self.generals && !count.failed
-        });
+        let mut count = self.changed.wait_while(
+            rt,
+            self.count.lock(rt),
+            |count| !count.is_over(self.generals),
+        );
         count.posted = 0;
         !count.failed
     }

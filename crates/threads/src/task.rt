@@ -52,7 +52,8 @@ impl Task {
         requires told { (before : List (List LetterSeen)) × WasTold scenario.now before told.now }
         requires left { told.now.rounds ≤ scenario.now.bound }
         requires general { general < scenario.now.generals }
-        ensures { IfOk result (λ task. (before : List (List LetterSeen)) → WasTold scenario.now before told.now → task ≡ duty_of scenario.now before general) }
+        ensures duty { IfOk result (λ task. (before : List (List LetterSeen)) → WasTold scenario.now before told.now → task ≡ duty_of scenario.now before general) }
+        ensures general { IfOk result (λ task. task.general ≡ general) }
     {
         scenario.recall();
         let context = told.context(alloc, scenario, general)?;

@@ -49,3 +49,6 @@ pub returns-clause-well : goal.returns-clause-well
 returns-clause-well c =
     let s = c.args.scenario in let names = names_in 1 c.of.result.accesses (suc s.bound) in
     finished_well s (replayed s names) c.of.result c.recall.ensures (replayed_finished oral_kind oral_campaigns s names (replay_of s c.of.result.accesses) c.recall.ensures refl) (returns-clause-replay c)
+
+pub returns-clause-accesses : goal.returns-clause-accesses
+returns-clause-accesses c = ap (λ (x : Chronicle). x.accesses) c.of.ensures

@@ -1,11 +1,14 @@
-use Rattle.std.proofs.Common.{◌≡◌, ◌<◌, ◌≤◌, ℕ, [], length, vec_len, slice_index_or}
+use Rattle.std.proofs.Common.{◌≡◌, ◌<◌, ◌≤◌, ◌+◌, ℕ, [], length, vec_len, slice_index_or}
 use Rattle.post.specs.Seen.{PosterSeen, poster_seen}
+use Rattle.threads.specs.Inboxes.{AreOwn}
 use Rattle.threads.proofs.collecting.fn.through_residents.scope.Given as goal
 
 abbrev pub invariant-loop-poster : goal.invariant-loop-poster
 invariant-loop-poster g l = record {
-  few : length l.posters.items < 256;
+  few : length l.handles.items + length l.posters.items ≤ 13;
+  witnesses : length l.posters.items ≤ length l.witnesses.items;
   inboxes : length l.posters.items ≤ length l.camp.now.inboxes.items;
+  own : AreOwn l.camp.now.inboxes.items;
   each : (g : ℕ) (d : PosterSeen) → g < length l.posters.items → slice_index_or l.posters.items g d ≡ poster_seen l.camp.now.post.table g [];
 }
 

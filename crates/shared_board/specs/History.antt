@@ -1,0 +1,32 @@
+-- The one history of a shared board's accesses, and the step that enters one (own; the form of a locked object whose calls have one
+-- order, Herlihy and Wing 1990).
+use Rattle.std.specs.Prelude.{ℕ, ◌≡◌, ◌==◌, cond, true, List, [], ◌∷◌, ◌++◌, length}
+use mathlib.Core.List.{IsPrefix}
+use Rattle.logbook.specs.Pages.{Cell, Step, View, Book, Named}
+use Rattle.semantics.specs.declared.request.Request.TheVariants.{Get}
+use Rattle.board.specs.Board.{Access}
+
+-- the first word is the length of the history; the second is not used
+pub record IsKept (cells : List Cell) (log : List Access) : Type 0 where
+  pub words : cells ≡ (length log, true) ∷ (0, true) ∷ []
+
+abbrev pub head_of : Book → Named
+head_of b = record { tracked = true; key = 0; book = b }
+
+-- the access stands behind so many others, among them those that were seen
+pub record IsEntered (seen : List Access) (count : ℕ) (access : Access) (after : List Access) : Type 0 where
+  pub before : List Access
+  pub later : IsPrefix seen before
+  pub number : length before ≡ count
+  pub entered : after ≡ before ++ access ∷ []
+
+-- a step finds how long the history is, and enters its access where that is what it expects
+abbrev pub Enters : Step Access → View Access ℕ → ℕ → View Access ℕ → Type 0
+Enters s v found w = (before : List Access) × IsPrefix v.0 before × (length before ≡ found) × (w.0 ≡ cond (found == s.old) (before ++ s.ask ∷ []) before)
+
+-- a step finds how long the history is, and enters nothing
+abbrev pub Looks : Step Access → View Access ℕ → ℕ → View Access ℕ → Type 0
+Looks s v found w = length w.0 ≡ found
+
+abbrev pub no_access : Access
+no_access = record { general = 0; round = 0; request = Get 0; reply = [] }

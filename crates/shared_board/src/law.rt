@@ -1,0 +1,76 @@
+//! The rule of the history, and the step that enters an access.
+use board::Access;
+use logbook::{Gain, Plain, Play, Rule, Seen, Word};
+
+/// The rule: the word that threads step is the length of the history.
+pub(crate) struct Law;
+
+impl Rule<Access, u64> for Law {
+    ghost use Rattle.std.specs.Prelude.{[]};
+    ghost use base.Fml.{ftrue};
+    ghost use Rattle.shared_board.specs.History.{IsKept};
+
+    ghost holds = { λ cells log. IsKept cells log };
+
+    ghost first = { [] };
+
+    ghost hinted = { λ n log. Unit {0} };
+
+    ghost shows = { λ log. [] };
+
+    ghost keeps = { λ names log. ftrue };
+
+    ghost moves = { λ ask before after answer. Unit {0} };
+}
+
+/// Those who enter accesses trade nothing.
+pub(crate) struct Nothing;
+
+impl Gain<Access, u64> for Nothing {
+    ghost use base.Fml.{ftrue};
+
+    ghost after = { λ names about answer. ftrue };
+}
+
+/// A step that enters an access.
+pub(crate) struct Enter;
+
+impl Play<Access, u64> for Enter {
+    ghost use Rattle.shared_board.specs.History.{Enters};
+
+    ghost then = { Enters };
+}
+
+/// What the step asks for: the access.
+impl Plain<Access, Access, u64> for Enter {
+    ghost use Rattle.std.specs.Prelude.{None};
+
+    ghost ask = { λ access. access };
+
+    ghost state = { λ access. None };
+}
+
+/// A step that looks how long the history is.
+pub(crate) struct Look;
+
+impl Play<Access, u64> for Look {
+    ghost use Rattle.shared_board.specs.History.{Looks};
+
+    ghost then = { Looks };
+}
+
+/// A step that looks asks for nothing: what it names is not entered.
+impl Plain<(), Access, u64> for Look {
+    ghost use Rattle.std.specs.Prelude.{None};
+    ghost use Rattle.shared_board.specs.History.{no_access};
+
+    ghost ask = { λ nothing. no_access };
+
+    ghost state = { λ nothing. None };
+}
+
+/// The word that counts a history's accesses.
+pub(crate) type Head = Word<Access, u64, Law>;
+
+/// A beginning of a history, which was seen. It takes no bytes.
+pub(crate) type Beginning = Seen<Access, u64, Law>;

@@ -1,0 +1,12 @@
+use Rattle.std.proofs.Common.{◌≤◌, length, vec_len}
+use Rattle.threads.specs.Inboxes.{AreByGeneral}
+use Rattle.threads.proofs.camp.Camp.hand_out.Given as goal
+
+abbrev pub invariant-loop-task : goal.invariant-loop-task
+invariant-loop-task g l = record {
+  few : length l.tasks.items ≤ length l.self.inboxes.items;
+  own : AreByGeneral l.tasks.items;
+}
+
+abbrev pub decreases-loop-task : goal.decreases-loop-task
+decreases-loop-task g l = vec_len l.tasks

@@ -1,0 +1,17 @@
+use Rattle.std.proofs.Common.{ℕ, ap, sym, ◌+◌, ◌∙◌}
+use Rattle.std.specs.Prelude.{◌∷◌, [], length}
+use Rattle.std.proofs.lemmas.List.{length-append}
+use Rattle.threads.specs.Duties.{Duty}
+use Rattle.threads.proofs.Numbered.{numbered_pushed}
+use Rattle.threads.proofs.Tasks.{duties_more}
+use Rattle.threads.proofs.conducting.tasks.Goals as goal
+
+pub loop-general-preserved : goal.loop-general-preserved
+loop-general-preserved c =
+    let old = c.loop-general.invariant in
+    let items = c.in_ok-push.ensures.items in
+    let task = c.in_ok-new.field-0 in record {
+      duties = (λ before told. duties_more c.args.scenario.now before c.loop-general.general c.loop-general.tasks.items c.push.new.self.items task items (old.duties before told) (c.in_ok-new.ensures.duty before told));
+      count = ap length items ∙ (length-append c.loop-general.tasks.items (task ∷ []) ∙ ap (λ (n : ℕ). n + 1) old.count);
+      own = numbered_pushed (λ (t : Duty). t.general) c.loop-general.tasks.items task c.push.new.self.items items (c.in_ok-new.ensures.general ∙ sym old.count) old.own;
+    }

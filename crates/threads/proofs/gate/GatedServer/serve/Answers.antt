@@ -1,0 +1,23 @@
+-- The accesses that he has made stand among those that he has met.
+use Rattle.std.proofs.Common.{List, [], ◌∷◌, ◌++◌, sym, ap, subst, ◌∙◌}
+use Rattle.board.specs.Board.{Access}
+use Rattle.threads.specs.Served.{AreAmong}
+use Rattle.threads.proofs.Among.{among_met, among_served}
+use Rattle.threads.proofs.gate.GatedServer.serve.Goals as goal
+
+pub invariant_of-self-in_err-copy : goal.invariant_of-self-in_err-copy
+invariant_of-self-in_err-copy g c =
+    let served = c.in_ok-reply.ensures.serves in
+    among_met c.self.inside.made.items c.self.inside.me.seen served.before c.apply.new.me.seen _ c.self.invariant served.later served.entered
+
+pub invariant_of-self-in_err-push : goal.invariant_of-self-in_err-push
+invariant_of-self-in_err-push g c =
+    let served = c.in_ok-reply.ensures.serves in
+    subst (λ (made : List Access). AreAmong made c.apply.new.me.seen) (sym c.in_err-push.ensures.items)
+    (among_met c.self.inside.made.items c.self.inside.me.seen served.before c.apply.new.me.seen _ c.self.invariant served.later served.entered)
+
+pub invariant_of-self-2 : goal.invariant_of-self-2
+invariant_of-self-2 g c =
+    let served = c.in_ok-reply.ensures.serves in
+    among_served c.self.inside.made.items c.self.inside.me.seen served.before c.push.new.self.items c.apply.new.me.seen _ c.self.invariant served.later
+    (c.in_ok-push.ensures.items ∙ ap (λ (a : Access). c.self.inside.made.items ++ a ∷ []) c.in_ok-copy.ensures) served.entered

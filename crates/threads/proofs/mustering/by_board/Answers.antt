@@ -1,0 +1,9 @@
+-- The accesses are the ledger of the board that was given back.
+use Rattle.std.proofs.Common.{List, sym, subst, ◌∙◌}
+use mathlib.Core.List.{IsPrefix}
+use Rattle.board.specs.Board.{Access}
+use Rattle.threads.proofs.mustering.by_board.Goals as goal
+
+pub returns-clause-history : goal.returns-clause-history
+returns-clause-history g c =
+    subst (λ (l : List Access). IsPrefix c.args.witness.seen l) (sym (c.conclude.ensures.accesses ∙ c.into_ledger.ensures.same)) c.into_board-board.ensures.met

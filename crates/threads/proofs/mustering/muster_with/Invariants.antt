@@ -1,0 +1,8 @@
+use Rattle.threads.proofs.mustering.muster_with.Given as goal
+
+-- the board that was just made
+abbrev pub ghosts-mustered-J-Room : goal.ghosts-mustered-J-Room
+ghosts-mustered-J-Room g a = record { book = a.unshared.book; opening = a.unshared.opening }
+
+abbrev pub ghosts-mustered-J-Ledger : goal.ghosts-mustered-J-Ledger
+ghosts-mustered-J-Ledger g a = record { name = a.unshared.name; parts = a.unshared.parts }

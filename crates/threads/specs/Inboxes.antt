@@ -1,0 +1,24 @@
+-- Whose an inbox is, what is taken out of it, and what is left (own).
+use Rattle.std.specs.Prelude.{ℕ, ◌≡◌, ◌<◌, List, length, slice_index_or, Option, Some, None}
+use Rattle.threads.specs.Duties.{Duty}
+use Rattle.threads.specs.declared.inbox.Inbox.{Inbox}
+use Rattle.threads.specs.declared.inbox.Phase.{Phase}
+use Rattle.threads.specs.declared.inbox.Phase.TheVariants.{Waiting, Given, Closed}
+
+abbrev pub task_in : Phase → Option Duty
+task_in (Given task) = Some task
+task_in Waiting = None
+task_in Closed = None
+
+abbrev pub left_in : Phase → Phase
+left_in (Given task) = Waiting
+left_in Waiting = Closed
+left_in Closed = Closed
+
+-- by general, ascending, each has an inbox of his own
+abbrev pub AreOwn : List Inbox → Type 0
+AreOwn inboxes = (g : ℕ) (d : Inbox) → g < length inboxes → (slice_index_or inboxes g d).general ≡ g
+
+-- by general, ascending, each has a task of his own
+abbrev pub AreByGeneral : List Duty → Type 0
+AreByGeneral tasks = (g : ℕ) (d : Duty) → g < length tasks → (slice_index_or tasks g d).general ≡ g

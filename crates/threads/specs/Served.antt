@@ -1,0 +1,14 @@
+-- What one general was served of the accesses of all (own).
+use Rattle.std.specs.Prelude.{◌≡◌, ◌⊎◌, List, [], ◌∷◌}
+use Rattle.board.specs.Board.{Access}
+
+-- these stand among those, in the same order
+abbrev pub AreAmong : List Access → List Access → Type 0
+AreAmong [] all = Unit {0}
+AreAmong (a ∷ made) [] = ⊥
+AreAmong (a ∷ made) (b ∷ all) = ((a ≡ b) × AreAmong made all) ⊎ AreAmong (a ∷ made) all
+
+-- what he has made, and the beginning of the board's history that he has met
+pub record Served : Type 0 where
+  pub made : List Access
+  pub seen : List Access
