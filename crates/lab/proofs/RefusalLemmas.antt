@@ -1,12 +1,16 @@
 -- What the verifier's refusals say of the program.
-use Rattle.std.proofs.Common.{◌≡◌, ◌⊎◌, List, inl, inr, sym, subst}
-use Rattle.std.specs.Prelude.{Some}
+use Rattle.std.proofs.Common.{ℕ, ◌≡◌, ◌⊎◌, List, inl, inr, refl, sym, subst}
+use Rattle.std.specs.Prelude.{Some, Result, Ok, Err, IfOk, IfErr, MatchResult}
 use Rattle.insn.specs.declared.insn.Insn.{Insn}
 use Rattle.verify.specs.declared.error.VerifyError.{VerifyError}
 use Rattle.verify.specs.declared.error.VerifyError.TheVariants.{At, Memory}
 use Rattle.verify.specs.Judgement.{judged}
 use Rattle.lab.specs.declared.refusal.Refusal.{Refusal}
-use Rattle.lab.specs.Refusals.{verifier_refusal, RefusesProgram}
+use Rattle.lab.specs.Refusals.{verifier_refusal, RefusesMuster, RefusesProgram}
+use Rattle.std.specs.Borrow.{Bor}
+use Rattle.lab.specs.Faults.{Stops, fault_of}
+use Rattle.lab.specs.Serving.{IsUnmustered, NoHint}
+use Rattle.lab.specs.declared.refusal.Refusal.TheVariants as refusal
 
 by_fault : (program : List Insn) (fault : VerifyError) → (fault ≡ Memory) ⊎ (judged program ≡ Some fault) → RefusesProgram program (verifier_refusal fault)
 by_fault program (At reason unit) (inl memory) = absurd (let e = memory in cc)
@@ -15,3 +19,25 @@ by_fault program Memory r = tt
 
 pub refused_program : (program : List Insn) (fault : VerifyError) (refusal : Refusal) → refusal ≡ verifier_refusal fault → (fault ≡ Memory) ⊎ (judged program ≡ Some fault) → RefusesProgram program refusal
 refused_program program fault refusal e r = subst (λ (x : Refusal). RefusesProgram program x) (sym e) (by_fault program fault r)
+
+-- an answer of which only the error is told otherwise
+pub told_ok : {T E F : Type 0} (f : E → F) (P : T → Type 0) (answer : Result T E) (own : Result T F) → MatchResult answer (λ t. own ≡ Ok t) (λ e. own ≡ Err (f e)) → IfOk answer P → IfOk own P
+told_ok {T} {E} {F} f P (Ok t) own is p = subst (λ (r : Result T F). IfOk r P) (sym is) p
+told_ok {T} {E} {F} f P (Err e) own is p = subst (λ (r : Result T F). IfOk r P) (sym is) tt
+
+pub told_err : {T E F : Type 0} (f : E → F) (P : F → Type 0) (answer : Result T E) (own : Result T F) → MatchResult answer (λ t. own ≡ Ok t) (λ e. own ≡ Err (f e)) → IfErr answer (λ e. P (f e)) → IfErr own P
+told_err {T} {E} {F} f P (Ok t) own is p = subst (λ (r : Result T F). IfErr r P) (sym is) tt
+told_err {T} {E} {F} f P (Err e) own is p = subst (λ (r : Result T F). IfErr r P) (sym is) p
+
+-- a muster that gave no chronicle
+pub unmustered : (unread : Type 0) (file : Bor (List ℕ)) (refusal : Refusal) → RefusesMuster refusal → Stops unread (NoHint IsUnmustered) file.now (fault_of refusal file)
+unmustered unread file (refusal.Codec error) refuses = absurd refuses
+unmustered unread file (refusal.Verifier fault) refuses = absurd refuses
+unmustered unread file (refusal.Assembly error) refuses = absurd refuses
+unmustered unread file (refusal.Table error) refuses = absurd refuses
+unmustered unread file (refusal.Scenario error) refuses = absurd refuses
+unmustered unread file (refusal.Setting error) refuses = absurd refuses
+unmustered unread file (refusal.Trace error) refuses = absurd refuses
+unmustered unread file (refusal.Threads error) refuses = (λ e. cc, ((λ e. cc, refuses), refl))
+unmustered unread file refusal.NotText refuses = absurd refuses
+unmustered unread file refusal.Memory refuses = tt

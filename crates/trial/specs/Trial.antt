@@ -1,5 +1,5 @@
 -- One run of a program with a board of its own, which begins with zeros (own).
-use Rattle.std.specs.Prelude.{ℕ, zero, suc, List, Option, None, Some, length, replicate}
+use Rattle.std.specs.Prelude.{ℕ, ◌≡◌, zero, suc, List, All, Option, None, Some, length, replicate}
 use Rattle.insn.specs.declared.insn.Insn.{Insn}
 use Rattle.semantics.specs.Limits.{board_words}
 use Rattle.semantics.specs.Relay.{Relay}
@@ -7,7 +7,9 @@ use Rattle.semantics.specs.State.{State, Outcome, Next, Ask, Exit, Trap, entry}
 use Rattle.semantics.specs.Outbox.{empty_outbox}
 use Rattle.semantics.specs.Call.{resumed}
 use Rattle.semantics.specs.Execution.{step}
+use Rattle.label.specs.declared.shape.Shape.{Shape}
 use Rattle.board.specs.Board.{reply, next}
+use Rattle.board.specs.Ledger.{RecordedBoard}
 
 -- how a run has ended: the number that it exited with, its last state, and the board's words
 pub record Ending : Type 0 where
@@ -30,3 +32,8 @@ ending program context relay (suc k) words s = served (λ left t. ending program
 -- how it ends from its entry, within as many steps as it has instructions
 abbrev pub trial : List Insn → List ℕ → Relay → Option Ending
 trial program context relay = ending program context relay (length program) (replicate board_words 0) (entry (empty_outbox relay))
+
+-- the board opened with zeros, and has served this general in this round alone
+pub record IsOfOne (shape : Shape) (b : RecordedBoard) : Type 0 where
+  pub opening : b.opening ≡ replicate board_words 0
+  pub own : All (λ a. (a.general ≡ shape.general) × (a.round ≡ shape.round)) b.ledger

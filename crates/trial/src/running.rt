@@ -3,7 +3,7 @@ ghost use Rattle.std.specs.Prelude.{◌≡◌, Some, IfOk, replicate};
 ghost use Rattle.label.specs.Relay.{IsShape};
 ghost use Rattle.semantics.specs.Relay.{oral};
 ghost use Rattle.trial.specs.Setting.{context_in};
-ghost use Rattle.trial.specs.Trial.{trial};
+ghost use Rattle.trial.specs.Trial.{trial, IsOfOne};
 
 use crate::setting::Setting;
 use board::Board;
@@ -33,6 +33,7 @@ pub struct Exited {
 pub fn run_in(alloc: Global, verified: &Verified, setting: &Setting) -> Result<Exited, AllocError>
     ensures ending { IfOk result (λ e. trial verified.now (context_in setting.now) (oral setting.now.shape) ≡ Some (record { r0 = e.r0; state = e.activation.state; words = e.board.words })) }
     ensures relay { IfOk result (λ e. e.activation.relay ≡ oral setting.now.shape) }
+    ensures board { IfOk result (λ e. IsOfOne setting.now.shape e.board) }
 {
     let bytes = setting.context(alloc)?;
     let context = Context::new(bytes.as_slice());
@@ -49,6 +50,7 @@ fn run(
     requires { IsShape shape }
     ensures ending { IfOk result (λ e. trial verified.now context.now (oral shape) ≡ Some (record { r0 = e.r0; state = e.activation.state; words = e.board.words })) }
     ensures relay { IfOk result (λ e. e.activation.relay ≡ oral shape) }
+    ensures board { IfOk result (λ e. IsOfOne shape e.board) }
 {
     // A sound program is over within as many steps as it has instructions.
     let limit = verified.program().len() as u32;

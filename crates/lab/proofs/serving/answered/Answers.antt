@@ -8,7 +8,10 @@ use Rattle.lab.specs.Hints.{explained_in}
 use Rattle.lab.specs.Serving.{Files, IsTrialOf, files}
 use Rattle.lab.specs.declared.first_answer.FirstAnswer.TheVariants.{Text, Bytes, Trial, Play, Muster, Audit}
 use Rattle.lab.proofs.FilesLemmas.{answered_alone, answered_audited, answered_mustered, answered_played, answered_tried, first_named, prevented_later, second_named}
+use Rattle.lab.specs.Faults.{fault_of}
+use Rattle.lab.specs.declared.refusal.Refusal.{Refusal}
 use Rattle.lab.proofs.FirstLemmas.{prevented_first}
+use Rattle.lab.proofs.RefusalLemmas.{told_err, told_ok, unmustered}
 use Rattle.lab.proofs.serving.answered.Goals as goal
 
 pub returns-in-Ok-Text-clause-answer : goal.returns-in-Ok-Text-clause-answer
@@ -69,12 +72,27 @@ returns-in-Ok-Play-clause-fault g c =
     (second_named c.args.task.now c.second.result c.unwrap_or-file.result _ c.second.ensures c.unwrap_or-file.ensures refl) why)
     c.play_by.ensures.fault
 
-pub returns-in-Ok-clause-answer : goal.returns-in-Ok-clause-answer
-returns-in-Ok-clause-answer g c =
+pub returns-in-Ok-Muster-clause-answer : goal.returns-in-Ok-Muster-clause-answer
+returns-in-Ok-Muster-clause-answer g c =
     let both : Files = files g.R.Source.bytes c.args.first c.args.second in
     let is : c.in-Ok-Muster.field-0 ≡ Muster c.in-Ok-Muster.scenario = c.in-Ok-Muster.field-0-is in
     let comes : ComesTo c.args.task.now c.in_ok-bytes.bytes.items (Muster c.in-Ok-Muster.scenario) = rw (c.as_slice.ensures.value, is) at c.in-Ok-Muster.ensures.answered in
-    answered_mustered c.args.task.now both c.in_ok-bytes.bytes.items c.in-Ok.text.items c.in-Ok-Muster.scenario c.in_ok-bytes.ensures.whole comes c.in-Ok.ensures.mustered
+    told_ok (λ (refusal : Refusal). fault_of refusal c.unwrap_or-file.result) _ c.mustered.result c.mustered_text.result c.mustered_text.ensures
+    (IfOk-weaker c.mustered.result _ _
+    (λ text is. answered_mustered c.args.task.now both c.in_ok-bytes.bytes.items text.items c.in-Ok-Muster.scenario c.in_ok-bytes.ensures.whole comes is)
+    c.mustered.ensures.mustered)
+
+pub returns-in-Ok-Muster-clause-fault : goal.returns-in-Ok-Muster-clause-fault
+returns-in-Ok-Muster-clause-fault g c =
+    let both : Files = files g.R.Source.bytes c.args.first c.args.second in
+    let is : c.in-Ok-Muster.field-0 ≡ Muster c.in-Ok-Muster.scenario = c.in-Ok-Muster.field-0-is in
+    let comes : ComesTo c.args.task.now c.in_ok-bytes.bytes.items (Muster c.in-Ok-Muster.scenario) = rw (c.as_slice.ensures.value, is) at c.in-Ok-Muster.ensures.answered in
+    told_err (λ (refusal : Refusal). fault_of refusal c.unwrap_or-file.result) _ c.mustered.result c.mustered_text.result c.mustered_text.ensures
+    (IfErr-weaker c.mustered.result _ _
+    (λ refusal refuses.
+    prevented_later c.args.task.now both _ _ c.in_ok-bytes.bytes.items c.unwrap_or-file.result.now (Muster c.in-Ok-Muster.scenario) (fault_of refusal c.unwrap_or-file.result) c.in_ok-bytes.ensures.whole comes
+    (second_named c.args.task.now c.second.result c.unwrap_or-file.result _ c.second.ensures c.unwrap_or-file.ensures refl) (unmustered _ c.unwrap_or-file.result refusal refuses))
+    c.mustered.ensures.refused)
 
 pub returns-in-Ok-Audit-clause-answer : goal.returns-in-Ok-Audit-clause-answer
 returns-in-Ok-Audit-clause-answer g c =
