@@ -70,16 +70,16 @@ prevented unread second_unread fails task files old new fault (inr (more, taken,
     inr (more, taken, turned_down second_unread (IsToldLater (is_explained task) (second_name task) files.second more) (second_name task) fails old new fault why told one)
 
 -- each fault but want of memory
-pub fault_ends : (unread second_unread unwritten fails : Type 0) (task : Task) (files : Files) (old new : Option (List ℕ)) (kept : Type 0) (fault : Failure)
-    → Undoes unread second_unread unwritten task files fault → (fault ≢ Write → kept)
+pub fault_ends : (unread second_unread unwritten fails : Type 0) (begun : List ℕ → Type 0) (task : Task) (files : Files) (old new : Option (List ℕ)) (kept : Type 0) (fault : Failure)
+    → Undoes unread second_unread unwritten begun task files fault → (fault ≢ Write → kept)
     → fails ⊎ IfSome (with_newline (fault_text fault)) (Appends old new) → status_of fault ≡ 1
-    → IsFault unread second_unread unwritten task files kept (Tells fails old new)
-fault_ends unread second_unread unwritten fails task files old new kept Write why same told one = inr (why.0, why.1, told)
-fault_ends unread second_unread unwritten fails task files old new kept (Read file) why same told one =
+    → IsFault unread second_unread unwritten begun task files kept (Tells fails old new)
+fault_ends unread second_unread unwritten fails begun task files old new kept Write why same told one = inr (why.0, why.1, told)
+fault_ends unread second_unread unwritten fails begun task files old new kept (Read file) why same told one =
     inl (same (λ e. cc), prevented unread second_unread fails task files old new (Read file) why told one)
-fault_ends unread second_unread unwritten fails task files old new kept (Text file) why same told one =
+fault_ends unread second_unread unwritten fails begun task files old new kept (Text file) why same told one =
     inl (same (λ e. cc), prevented unread second_unread fails task files old new (Text file) why told one)
-fault_ends unread second_unread unwritten fails task files old new kept (Refused cause hint) why same told one =
+fault_ends unread second_unread unwritten fails begun task files old new kept (Refused cause hint) why same told one =
     inl (same (λ e. cc), prevented unread second_unread fails task files old new (Refused cause hint) why told one)
-fault_ends unread second_unread unwritten fails task files old new kept Memory why same told one =
+fault_ends unread second_unread unwritten fails begun task files old new kept Memory why same told one =
     let no : ⊥ = omega (arith, one) in absurd no

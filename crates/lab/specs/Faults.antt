@@ -3,6 +3,8 @@ use Rattle.std.specs.Prelude.{ℕ, ◌≡◌, ◌≢◌, ◌⊎◌, ◌++◌, Bo
 use Rattle.std.specs.declared.alloc.Global.{Global}
 use Rattle.std.specs.Borrow.{Bor}
 use Rattle.std.specs.Fmt.{◌++?◌}
+use Rattle.std.specs.declared.io.ErrorKind.{ErrorKind}
+use Rattle.std.specs.declared.io.ErrorKind.TheVariants.{OutOfMemory}
 use Rattle.command_line.specs.declared.tasks.Task.{Task}
 use Rattle.lab.specs.declared.first_answer.FirstAnswer.{FirstAnswer}
 use Rattle.lab.specs.declared.refusal.Refusal.{Refusal}
@@ -55,6 +57,11 @@ abbrev pub IsUnjudged : Bool → Refusal → Bor (List ℕ) → List ℕ → Fai
 IsUnjudged false cause file own fault = fault ≡ fault_of_bytes cause file own
 IsUnjudged true cause file own fault = IsTold cause file (TellsWhyOf cause traced.Nothing file.now own) fault
 
+-- the fault of a file with this name whose reading failed with an error of this kind
+abbrev pub unread_by : ErrorKind → Bor (List ℕ) → Failure
+unread_by OutOfMemory file = Memory
+unread_by _ file = Read file
+
 -- 3 for want of memory, else 1
 abbrev pub status_of : Failure → ℕ
 status_of Memory = 3
@@ -86,7 +93,7 @@ Prevents unread second_unread task files fault =
     Stops unread (IsRefused task files.first) (first_name task) fault
     ⊎ ((more : FirstAnswer) × IsTaken task files.first more × Stops second_unread (IsToldLater (is_explained task) (second_name task) files.second more) (second_name task) fault)
 
--- why a task is not done: it has no answer, or the output failed on its answer
-abbrev pub Undoes : Type 0 → Type 0 → Type 0 → Task → Files → Failure → Type 0
-Undoes unread second_unread unwritten task files Write = unwritten × HasAnswer task files
-Undoes unread second_unread unwritten task files fault = Prevents unread second_unread task files fault
+-- why a task is not done: it has no answer, or the output failed on its answer, of which at most a beginning was written
+abbrev pub Undoes : Type 0 → Type 0 → Type 0 → (List ℕ → Type 0) → Task → Files → Failure → Type 0
+Undoes unread second_unread unwritten begun task files Write = unwritten × HasAnswer begun task files
+Undoes unread second_unread unwritten begun task files fault = Prevents unread second_unread task files fault

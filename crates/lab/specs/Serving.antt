@@ -72,9 +72,9 @@ abbrev pub IsTrialOf : Option (Option (List ℕ)) → Bool → List Insn → Lis
 IsTrialOf known explained program text =
     (bytes : List ℕ) × AreSecondBytes known bytes × ((lines : List ℕ) × IsTriedBy bytes program lines × (text ≡ lines ++ behind_lines explained program))
 
--- the task has an answer on the files
-abbrev pub HasAnswer : Task → Files → Type 0
-HasAnswer task files = (text : List ℕ) × IsAnswer task files text
+-- the task has an answer on the files, with which it stands so
+abbrev pub HasAnswer : (List ℕ → Type 0) → Task → Files → Type 0
+HasAnswer stands task files = (text : List ℕ) × IsAnswer task files text × stands text
 
 -- the output has grown by the task's whole answer on the files, and by nothing else
 abbrev pub IsPrinted : Task → Files → Option (List ℕ) → Option (List ℕ) → Type 0
@@ -154,13 +154,13 @@ IsTurnedDown unread refused name tells =
     (unread × TellsName tells (codes "fault read ") name)
     ⊎ ((refusal : Refusal) × ((hint : Option Hint) × refused refusal hint × TellsRefusal name tells refusal hint))
 
--- the output failed on the task's answer, and a line says so
-abbrev pub IsUnwritten : Type 0 → Task → Files → (List ℕ → Type 0) → Type 0
-IsUnwritten unwritten task files tells = unwritten × HasAnswer task files × tells (codes "fault write")
+-- the output failed on the task's answer, of which so much was written, and a line says so
+abbrev pub IsUnwritten : Type 0 → (List ℕ → Type 0) → Task → Files → (List ℕ → Type 0) → Type 0
+IsUnwritten unwritten begun task files tells = unwritten × HasAnswer begun task files × tells (codes "fault write")
 
--- nothing is printed, since the first file is turned down, or what comes behind a first one that is taken; or the output failed on the answer
-abbrev pub IsFault : Type 0 → Type 0 → Type 0 → Task → Files → Type 0 → (List ℕ → Type 0) → Type 0
-IsFault unread second_unread unwritten task files kept tells =
+-- nothing is printed, since the first file is turned down, or what comes behind a first one that is taken; or the output failed on the answer, of which so much was written
+abbrev pub IsFault : Type 0 → Type 0 → Type 0 → (List ℕ → Type 0) → Task → Files → Type 0 → (List ℕ → Type 0) → Type 0
+IsFault unread second_unread unwritten begun task files kept tells =
     (kept × (IsTurnedDown unread (IsRefused task files.first) (first_name task) tells
     ⊎ ((more : FirstAnswer) × IsTaken task files.first more × IsTurnedDown second_unread (IsToldLater (is_explained task) (second_name task) files.second more) (second_name task) tells)))
-    ⊎ IsUnwritten unwritten task files tells
+    ⊎ IsUnwritten unwritten begun task files tells

@@ -1,12 +1,15 @@
-ghost use Rattle.std.specs.Prelude.{◌≡◌, ℕ, List, IfOk, IfErr, Ok, Some};
+ghost use Rattle.std.specs.Prelude.{◌≡◌, ◌<◌, ℕ, List, length, IfOk, IfErr, Ok, Some};
 ghost use Rattle.scenario.specs.Told.{Tells, TellsAny};
 ghost use Rattle.trace.specs.Schedules.{schedule_told};
 ghost use Rattle.trace.specs.SignedText.{signed_text};
 ghost use Rattle.trace.specs.Text.{chronicle_text};
 ghost use Rattle.retold.specs.Retold.{IsWhole};
 ghost use Rattle.lab.specs.Campaigns.{IsAccount, IsFollowed, IsOralPlayed, IsPlayed, IsSignedPlayed, TellsCampaign, is_plain};
-ghost use Rattle.streams.specs.Reading.{IsFront};
+ghost use Rattle.streams.specs.Reading.{IsFront, MayBeginText};
 ghost use Rattle.lab.specs.Refusals.{RefusesAsked, RefusesCampaign, RefusesScenario, RefusesSchedule, RefusesText};
+ghost use Rattle.lab.specs.declared.refusal.Refusal.TheVariants.{NotText, Trace};
+ghost use Rattle.trace.specs.declared.fault.Fault.TheVariants.{Line};
+ghost use Rattle.trace.specs.declared.fault.TraceError.TheVariants.{At};
 
 use crate::refusal::Refusal;
 use crate::texts::as_text;
@@ -94,10 +97,20 @@ pub(crate) fn schedule_of(alloc: Global, front: &[u8]) -> Result<Schedule, Refus
     if front.len() <= MOST_SCHEDULE_BYTES {
         return schedule(alloc, front);
     }
+    Err(too_long(front))
+}
+
+/// Why there is no schedule in a file that begins with these bytes, which are more than a schedule has.
+fn too_long(front: &[u8]) -> Refusal
+    requires { 1048576 < length front.now }
+    ensures text { MayBeginText front.now → result ≡ Trace (At Line 1) }
+    ensures no_text { (MayBeginText front.now → ⊥) → result ≡ NotText }
+    ensures refused { (all : List ℕ) → IsFront 1048576 (Some all) front.now → RefusesText RefusesSchedule all result }
+{
     if !may_begin_text(front) {
-        return Err(Refusal::NotText);
+        return Refusal::NotText;
     }
-    Err(Refusal::Trace(TraceError::At(Fault::Line, 1)))
+    Refusal::Trace(TraceError::At(Fault::Line, 1))
 }
 
 /// The text of the campaign by a schedule: this account of it, and behind it how these decisions come about; of a signed

@@ -1,6 +1,7 @@
 //! A task's files are read here, no further than their bytes can matter.
 ghost use Rattle.std.specs.Prelude.{◌≡◌, ◌<◌, ◌*◌, ℕ, List, length, IfOk, IfErr, IsSomeAnd, option_map};
-ghost use Rattle.lab.specs.Faults.{Stops};
+ghost use Rattle.std.specs.IoError.{error_kind};
+ghost use Rattle.lab.specs.Faults.{Stops, unread_by};
 ghost use Rattle.lab.specs.Reading.{IsTooLong};
 ghost use Rattle.streams.specs.Reading.{IsFront};
 ghost use Rattle.lab.specs.Refusals.{RefusesBytes};
@@ -122,7 +123,8 @@ fn read<'a, R: Source>(alloc: Global, file: &'a str, source: R) -> Result<Vec<u8
 
 /// The fault of a file with this name whose reading failed so.
 fn unread<'a>(error: &io::Error, file: &'a str) -> Failure<'a>
-    ensures { Stops (Unit {0}) (λ _ _. ⊥) file.entry.now result }
+    ensures kind { result ≡ unread_by (error_kind error.now) file.entry }
+    ensures stops { Stops (Unit {0}) (λ _ _. ⊥) file.entry.now result }
 {
     match error.kind() {
         ErrorKind::OutOfMemory => Failure::Memory,

@@ -1,8 +1,9 @@
-ghost use Rattle.std.specs.Prelude.{◌≡◌, ◌≢◌, ◌⊎◌, IfOk, IfErr, IsSomeAnd, OnOk, codes, option_map};
-ghost use Rattle.lab.specs.Faults.{Undoes, Prevents, Stops};
+ghost use Rattle.std.specs.Prelude.{◌≡◌, ◌≢◌, ◌⊎◌, Ok, Err, IfOk, IfErr, IsSomeAnd, MatchResult, OnOk, codes, option_map};
+ghost use Rattle.lab.specs.Faults.{Undoes, Prevents, Stops, fault_of};
 ghost use Rattle.lab.specs.Serving.{IsAnswer, IsAuditOf, IsFault, IsPlayedBy, IsPrinted, IsScheduleOf, IsScheduleTold, IsToldLater, IsTrialOf, Tells, files, second_name};
 ghost use Rattle.lab.specs.declared.first_answer.FirstAnswer.TheVariants.{Trial, Play, Audit};
 ghost use Rattle.lab.specs.declared.failure.Failure.TheVariants.{Write as unwritten};
+ghost use Rattle.streams.specs.Writing.{AppendsFront};
 
 use crate::answering::answer;
 use crate::auditing::audited;
@@ -12,6 +13,7 @@ use crate::first_answer::FirstAnswer;
 use crate::mustering::mustered;
 use crate::playing::{played, schedule_of};
 use crate::reading::{read_first, read_schedule, read_second};
+use crate::refusal::Refusal;
 use crate::trying::tried_by;
 use crate::whys::{Traced, is_explained, later};
 use command_line::{Account, Lieutenants, Task};
@@ -47,7 +49,7 @@ where
     ensures quiet { result ≡ 0 → fault.new ≡ fault.old }
 
     ensures at_fault { result ≡ 1 →
-        IsFault (R.fails first) (IsSomeAnd second R.fails) (O.fails out.old) task.now (files R.bytes first second)
+        IsFault (R.fails first) (IsSomeAnd second R.fails) (O.fails out.old) (AppendsFront (O.contents out.old) (O.contents out.new)) task.now (files R.bytes first second)
         (out.new ≡ out.old) (Tells (F.fails fault.old) (F.contents fault.old) (F.contents fault.new)) }
 
     ensures unprinted { result ≡ 3 → out.new ≡ out.old }
@@ -63,7 +65,7 @@ where
     }
 }
 
-/// Prints the whole answer, or nothing where there is none.
+/// Prints the whole answer, or nothing where there is none. Where the output fails, at most a beginning of the answer was printed.
 fn print<'a, T, R, O>(
     rt: &T,
     alloc: Global,
@@ -79,7 +81,7 @@ where
     ensures done { OnOk result
         (IsPrinted task.entry.now (files R.bytes first second) (O.contents out.old) (O.contents out.new)) }
     ensures fault { IfErr result
-        (Undoes (R.fails first) (IsSomeAnd second R.fails) (O.fails out.old) task.entry.now (files R.bytes first second)) }
+        (Undoes (R.fails first) (IsSomeAnd second R.fails) (O.fails out.old) (AppendsFront (O.contents out.old) (O.contents out.new)) task.entry.now (files R.bytes first second)) }
     ensures unprinted { IfErr result (λ fault. fault ≢ unwritten → out.new ≡ out.old) }
 {
     let text = answered(rt, alloc, task, first, second)?;
@@ -116,15 +118,22 @@ where
             play_by(alloc, campaign, account, explained, reported, file, second)
         }
         Ok(FirstAnswer::Muster(scenario, explained)) => {
-            match mustered(rt, alloc, scenario, explained) {
-                Ok(text) => Ok(text),
-                Err(refusal) => Err(Failure::of(refusal, file)),
-            }
+            mustered_text(mustered(rt, alloc, scenario, explained), file)
         }
         Ok(FirstAnswer::Audit(campaign, explained)) => {
             audit_of(alloc, &campaign, explained, reported, file, second)
         }
         Err(refusal) => Err(refused(alloc, task, refusal, bytes.as_slice())),
+    }
+}
+
+/// The text of a muster, or the fault of a campaign that is not mustered, whose second file has this name.
+fn mustered_text<'a>(text: Result<Vec<u8>, Refusal>, file: &'a str) -> Result<Vec<u8>, Failure<'a>>
+    ensures { MatchResult text (λ own. result ≡ Ok own) (λ refusal. result ≡ Err (fault_of refusal file.entry)) }
+{
+    match text {
+        Ok(text) => Ok(text),
+        Err(unmustered) => Err(Failure::of(unmustered, file)),
     }
 }
 

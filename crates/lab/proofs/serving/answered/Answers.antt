@@ -5,7 +5,10 @@ use Rattle.lab.specs.Whys.{is_explained}
 use Rattle.lab.specs.Serving.{Files, IsTrialOf, files}
 use Rattle.lab.specs.declared.first_answer.FirstAnswer.TheVariants.{Text, Bytes, Trial, Play, Muster, Audit}
 use Rattle.lab.proofs.FilesLemmas.{answered_alone, answered_audited, answered_mustered, answered_played, answered_tried, prevented_later, second_named}
+use Rattle.lab.specs.Faults.{fault_of}
+use Rattle.lab.specs.declared.refusal.Refusal.{Refusal}
 use Rattle.lab.proofs.FirstLemmas.{prevented_first}
+use Rattle.lab.proofs.RefusalLemmas.{told_err, told_ok}
 use Rattle.lab.proofs.WhyLemmas.{unmustered}
 use Rattle.lab.proofs.serving.answered.Goals as goal
 
@@ -67,12 +70,29 @@ returns-in-Ok-Play-clause-fault g c =
     (second_named c.args.task.now c.second.result c.unwrap_or-file.result _ c.second.ensures c.unwrap_or-file.ensures refl) c.is_explained.ensures why)
     c.play_by.ensures.fault
 
-pub returns-in-Ok-clause-answer : goal.returns-in-Ok-clause-answer
-returns-in-Ok-clause-answer g c =
+pub returns-in-Ok-Muster-clause-answer : goal.returns-in-Ok-Muster-clause-answer
+returns-in-Ok-Muster-clause-answer g c =
     let both : Files = files g.R.Source.bytes c.args.first c.args.second in
     let is : c.in-Ok-Muster.field-0 ≡ Muster c.in-Ok-Muster.scenario c.in-Ok-Muster.explained = c.in-Ok-Muster.field-0-is in
     let comes : ComesTo c.args.task.now c.in_ok-bytes.bytes.items (Muster c.in-Ok-Muster.scenario c.in-Ok-Muster.explained) = rw (c.as_slice.ensures.value, is) at c.in-Ok-Muster.ensures.answered in
-    answered_mustered c.args.task.now both c.in_ok-bytes.bytes.items c.in-Ok.text.items c.in-Ok-Muster.scenario c.in-Ok-Muster.explained c.in_ok-bytes.ensures.whole comes c.in-Ok.ensures.mustered
+    told_ok (λ (refusal : Refusal). fault_of refusal c.unwrap_or-file.result) _ c.mustered.result c.mustered_text.result c.mustered_text.ensures
+    (IfOk-weaker c.mustered.result _ _
+    (λ text is. answered_mustered c.args.task.now both c.in_ok-bytes.bytes.items text.items c.in-Ok-Muster.scenario c.in-Ok-Muster.explained c.in_ok-bytes.ensures.whole comes is)
+    c.mustered.ensures.mustered)
+
+pub returns-in-Ok-Muster-clause-fault : goal.returns-in-Ok-Muster-clause-fault
+returns-in-Ok-Muster-clause-fault g c =
+    let both : Files = files g.R.Source.bytes c.args.first c.args.second in
+    let task = c.args.task.now in
+    let is : c.in-Ok-Muster.field-0 ≡ Muster c.in-Ok-Muster.scenario c.in-Ok-Muster.explained = c.in-Ok-Muster.field-0-is in
+    let comes : ComesTo task c.in_ok-bytes.bytes.items (Muster c.in-Ok-Muster.scenario c.in-Ok-Muster.explained) = rw (c.as_slice.ensures.value, is) at c.in-Ok-Muster.ensures.answered in
+    told_err (λ (refusal : Refusal). fault_of refusal c.unwrap_or-file.result) _ c.mustered.result c.mustered_text.result c.mustered_text.ensures
+    (IfErr-weaker c.mustered.result _ _
+    (λ refusal refuses.
+    prevented_later task both _ _ c.in_ok-bytes.bytes.items c.unwrap_or-file.result.now (Muster c.in-Ok-Muster.scenario c.in-Ok-Muster.explained) (is_explained task) (fault_of refusal c.unwrap_or-file.result)
+    c.in_ok-bytes.ensures.whole comes (second_named task c.second.result c.unwrap_or-file.result _ c.second.ensures c.unwrap_or-file.ensures refl) refl
+    (unmustered _ (is_explained task) both.second c.in-Ok-Muster.scenario c.in-Ok-Muster.explained refusal c.unwrap_or-file.result (λ other. (other, refuses))))
+    c.mustered.ensures.refused)
 
 pub returns-in-Ok-Audit-clause-answer : goal.returns-in-Ok-Audit-clause-answer
 returns-in-Ok-Audit-clause-answer g c =
@@ -99,14 +119,3 @@ returns-clause-fault g c =
     let both : Files = files g.R.Source.bytes c.args.first c.args.second in
     prevented_first c.args.task.now both _ _ c.in_ok-bytes.bytes.items c.refused.result c.in_ok-bytes.ensures.whole
     (rw (c.as_slice-in-Err.ensures.value) at c.refused.ensures)
-
-pub returns-in-Err-clause-fault : goal.returns-in-Err-clause-fault
-returns-in-Err-clause-fault g c =
-    let both : Files = files g.R.Source.bytes c.args.first c.args.second in
-    let task = c.args.task.now in
-    let is : c.in-Ok-Muster.field-0 ≡ Muster c.in-Ok-Muster.scenario c.in-Ok-Muster.explained = c.in-Ok-Muster.field-0-is in
-    let comes : ComesTo task c.in_ok-bytes.bytes.items (Muster c.in-Ok-Muster.scenario c.in-Ok-Muster.explained) = rw (c.as_slice.ensures.value, is) at c.in-Ok-Muster.ensures.answered in
-    rw c.of.ensures
-    (prevented_later task both _ _ c.in_ok-bytes.bytes.items c.unwrap_or-file.result.now (Muster c.in-Ok-Muster.scenario c.in-Ok-Muster.explained) (is_explained task) _ c.in_ok-bytes.ensures.whole comes
-    (second_named task c.second.result c.unwrap_or-file.result _ c.second.ensures c.unwrap_or-file.ensures refl) refl
-    (unmustered _ (is_explained task) both.second c.in-Ok-Muster.scenario c.in-Ok-Muster.explained c.in-Err.refusal c.unwrap_or-file.result (λ other. (other, c.in-Err.ensures.refused))))
