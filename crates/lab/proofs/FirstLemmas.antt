@@ -89,7 +89,8 @@ explained_first task notation known bytes Memory text are refuses is why = absur
 
 -- no more is asked for
 pub unexplained : (task : Task) (bytes : List ℕ) (refusal : Refusal) → is_reported task refusal ≡ false → IsHint refusal task bytes (seems_behind refusal (bytecode_in task bytes))
-unexplained task bytes refusal none = rw none refl
+unexplained task bytes refusal none =
+    subst (λ (own : Bool). IsHintBy own refusal task bytes (bytecode_in task bytes) (seems_behind refusal (bytecode_in task bytes))) (sym none) refl
 
 -- ---- a report that is asked for
 

@@ -1,26 +1,29 @@
 -- Bytecode that is longer than any program.
 use Rattle.std.proofs.Common.{ℕ, ◌≡◌, ◌∙◌, ◌++◌, ◌*◌, ◌≢◌, Bool, true, false, List, length, take, drop, ap, refl, subst, sym}
 use Rattle.std.specs.Borrow.{Bor}
-use Rattle.std.specs.Prelude.{Option, None, Some, IfSome, option_map, replicate}
+use Rattle.std.specs.declared.alloc.Global.{Global}
+use Rattle.std.specs.Prelude.{Option, None, Some, IfSome, String, option_map, replicate}
 use Rattle.std.proofs.lemmas.List.{length-replicate}
 use Rattle.codec.specs.declared.fault.CodecError.{CodecError}
 use Rattle.codec.specs.declared.fault.CodecError.TheVariants.{At, Memory as NoMemory}
 use Rattle.codec.specs.declared.fault.Fault.{Fault}
+use Rattle.command_line.specs.declared.tasks.Notation.TheVariants.{Bytecode}
 use Rattle.command_line.specs.declared.tasks.Task.{Task}
+use Rattle.command_line.specs.declared.tasks.Task.TheVariants.{Check, Disassemble}
 use Rattle.hex.specs.Hex.{encode_lower}
 use Rattle.lab.specs.Faults.{IsTold, IsUnjudged, Stops, fault_of_bytes}
 use Rattle.lab.specs.Hints.{IsHintBy, IsHintOf, hint_behind, seems_behind}
 use Rattle.lab.specs.Reading.{IsTooLong}
 use Rattle.lab.specs.Refusals.{RefusesBytes}
 use Rattle.lab.specs.Seeming.{likeness_of, seems_at_first, seems_of}
-use Rattle.lab.specs.Serving.{first_name}
+use Rattle.lab.specs.Serving.{IsRefused, first_name}
 use Rattle.lab.specs.Whys.{TellsWhy, TellsWhyOf, is_explained, seems_line}
 use Rattle.lab.specs.declared.failure.Failure.{Failure}
 use Rattle.lab.specs.declared.failure.Failure.TheVariants.{Read, Text, Refused, Write, Memory}
 use Rattle.lab.specs.declared.hint.Hint.{Hint}
 use Rattle.lab.specs.declared.hint.Hint.TheVariants.{Seems}
 use Rattle.lab.specs.declared.refusal.Refusal.{Refusal}
-use Rattle.lab.specs.declared.refusal.Refusal.TheVariants.{Codec, NotText}
+use Rattle.lab.specs.declared.refusal.Refusal.TheVariants.{Codec, Object, Verifier, Assembly, Table, Scenario, Setting, Trace, Threads, NotText, Memory as NoMemoryLeft}
 use Rattle.lab.specs.declared.whys.Traced.TheVariants.{Nothing}
 use Rattle.streams.specs.Names.{shown}
 use Rattle.streams.specs.Reading.{AreBytes}
@@ -99,3 +102,41 @@ long_first unread task known number front error file fault named same refuses to
   by_report false is plain =
       subst (λ (f : Failure). Stops unread (IsTooLong task known) file.now f) (sym plain) (long_plain unread task known number front error file is same refuses)
   by_report true is says = long_told unread task known number front error file fault named is same refuses says
+
+-- ---- of a task whose first file is bytecode
+
+pub check_long : (unread : Type 0) (file : String Global) (context : Option (String Global)) (explained traced : Bool) (known : Option (List ℕ)) (name : List ℕ) (fault : Failure)
+    → Stops unread (IsTooLong (Check file Bytecode context explained traced) known) name fault → Stops unread (IsRefused (Check file Bytecode context explained traced) known) name fault
+check_long unread file context explained traced known name (Read own) stops = stops
+check_long unread file context explained traced known name (Text own) stops = absurd stops.0
+check_long unread file context explained traced known name (Refused (Codec error) hint) stops = (stops.0, ((λ e. cc), stops.1.0, stops.1.1))
+check_long unread file context explained traced known name (Refused (Object fault) hint) stops = absurd stops.1
+check_long unread file context explained traced known name (Refused (Verifier fault) hint) stops = absurd stops.1
+check_long unread file context explained traced known name (Refused (Assembly error) hint) stops = absurd stops.1
+check_long unread file context explained traced known name (Refused (Table error) hint) stops = absurd stops.1
+check_long unread file context explained traced known name (Refused (Scenario error) hint) stops = absurd stops.1
+check_long unread file context explained traced known name (Refused (Setting error) hint) stops = absurd stops.1
+check_long unread file context explained traced known name (Refused (Trace error) hint) stops = absurd stops.1
+check_long unread file context explained traced known name (Refused (Threads error) hint) stops = absurd stops.1
+check_long unread file context explained traced known name (Refused NotText hint) stops = absurd stops.1
+check_long unread file context explained traced known name (Refused NoMemoryLeft hint) stops = absurd stops.1
+check_long unread file context explained traced known name Write stops = absurd stops
+check_long unread file context explained traced known name Memory stops = tt
+
+pub listing_long : (unread : Type 0) (file : String Global) (units explained : Bool) (known : Option (List ℕ)) (name : List ℕ) (fault : Failure)
+    → Stops unread (IsTooLong (Disassemble file Bytecode units explained) known) name fault → Stops unread (IsRefused (Disassemble file Bytecode units explained) known) name fault
+listing_long unread file units explained known name (Read own) stops = stops
+listing_long unread file units explained known name (Text own) stops = absurd stops.0
+listing_long unread file units explained known name (Refused (Codec error) hint) stops = (stops.0, ((λ e. cc), stops.1.0, stops.1.1))
+listing_long unread file units explained known name (Refused (Object fault) hint) stops = absurd stops.1
+listing_long unread file units explained known name (Refused (Verifier fault) hint) stops = absurd stops.1
+listing_long unread file units explained known name (Refused (Assembly error) hint) stops = absurd stops.1
+listing_long unread file units explained known name (Refused (Table error) hint) stops = absurd stops.1
+listing_long unread file units explained known name (Refused (Scenario error) hint) stops = absurd stops.1
+listing_long unread file units explained known name (Refused (Setting error) hint) stops = absurd stops.1
+listing_long unread file units explained known name (Refused (Trace error) hint) stops = absurd stops.1
+listing_long unread file units explained known name (Refused (Threads error) hint) stops = absurd stops.1
+listing_long unread file units explained known name (Refused NotText hint) stops = absurd stops.1
+listing_long unread file units explained known name (Refused NoMemoryLeft hint) stops = absurd stops.1
+listing_long unread file units explained known name Write stops = absurd stops
+listing_long unread file units explained known name Memory stops = tt
