@@ -1,5 +1,5 @@
 -- What is said of a refusal, from its parts.
-use Rattle.std.proofs.Common.{◌≡◌, ◌∙◌, ℕ, zero, suc, ◌+◌, List, ◌++◌, Bool, false, Option, Some, Result, Ok, Err, ap, append_assoc, arith, length, subst, sym}
+use Rattle.std.proofs.Common.{◌≡◌, ◌∙◌, ℕ, suc, ◌+◌, List, ◌++◌, Bool, false, Option, Some, Result, Ok, Err, ap, append_assoc, arith, length, subst, sym}
 use Rattle.std.specs.Prelude.{OnOk, if◌then◌else◌}
 use Rattle.insn.specs.declared.insn.Insn.{Insn}
 use Rattle.insn.specs.Program.{slots_of, instruction_at}

@@ -1,5 +1,5 @@
 -- With each help that is said the verifier comes past the refused instruction.
-use Rattle.std.proofs.Common.{◌≡◌, ◌≢◌, ◌∙◌, ℕ, zero, suc, ◌+◌, ◌<◌, ◌≤◌, List, Bool, true, false, Option, Some, None, length, refl, ap, sym, subst}
+use Rattle.std.proofs.Common.{◌≡◌, ◌∙◌, ℕ, zero, suc, ◌+◌, ◌<◌, List, Bool, true, false, Option, Some, None, length, refl, sym, subst}
 use Rattle.std.specs.Prelude.{◌&&◌, nat_lt, nat_le, if◌then◌else◌}
 use Rattle.std.proofs.lemmas.Bool.{ltb-true}
 use Rattle.insn.specs.declared.insn.Insn.{Insn}
@@ -14,7 +14,7 @@ use Rattle.causes.specs.declared.mends.Trial.TheVariants.{Refused, Passes, Accep
 use Rattle.causes.specs.Mends.{mended, comes, tried_with, tried}
 use Rattle.explain.specs.declared.wanted.Choice.{Choice}
 use Rattle.explain.specs.declared.wanted.Choice.TheVariants.{Mask, One}
-use Rattle.explain.specs.Helps.{unit_behind, Help, accepted_or, better, mask, best_mask, best}
+use Rattle.explain.specs.Helps.{unit_behind, Help, better, mask, best_mask, best}
 use Rattle.explain.specs.Laws.{Mends, HelpsMend}
 
 -- ---- a trial

@@ -1,5 +1,5 @@
 -- Edits that mend a refusal, each said only where the verifier comes past the refused instruction in the program with the edit (own).
-use Rattle.std.specs.Prelude.{ℕ, ℤ, zero, suc, pos, ◌+◌, ◌-◌, ◌^◌, ◌==◌, Bool, true, false, if◌then◌else◌, List, [], ◌++◌, Option, Some, None, option_map, option_and_then, codes, decimal, slice_get}
+use Rattle.std.specs.Prelude.{ℕ, zero, suc, pos, ◌+◌, ◌-◌, ◌^◌, Bool, true, false, if◌then◌else◌, List, [], ◌++◌, Option, Some, None, option_and_then, codes, decimal, slice_get}
 use Rattle.word.specs.declared.Width.TheVariants.{W64}
 use Rattle.word.specs.declared.Operation.TheVariants.{Add, And, Move}
 use Rattle.insn.specs.declared.insn.Insn.{Insn}
@@ -8,7 +8,7 @@ use Rattle.insn.specs.declared.insn.Operand.TheVariants.{Register, Immediate}
 use Rattle.insn.specs.Program.{instruction_at}
 use Rattle.asm.specs.Printing.{insn_text}
 use Rattle.absval.specs.declared.value.AbsVal.{AbsVal}
-use Rattle.absval.specs.declared.value.AbsVal.TheVariants.{Unset, Number, Pointer}
+use Rattle.absval.specs.declared.value.AbsVal.TheVariants.{Number}
 use Rattle.causes.specs.declared.mark.Mark.{Mark}
 use Rattle.causes.specs.declared.mark.Mark.TheVariants.{Sets}
 use Rattle.causes.specs.declared.mends.Edit.{Edit}

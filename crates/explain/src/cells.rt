@@ -97,12 +97,7 @@ pub(crate) fn put_run(
 }
 
 /// The same, with others behind.
-fn put_ended(
-    out: &mut String,
-    first: usize,
-    end: usize,
-    content: Content,
-) -> Result<(), AllocError>
+fn put_ended(out: &mut String, first: usize, end: usize, content: Content) -> Result<(), AllocError>
     requires first { first ≤ 65536 }
     requires end { end ≤ 65536 }
     ensures { OnOk result (string_bytes out.new ≡ string_bytes out.old ++ ended_text first end content) }
@@ -159,11 +154,7 @@ fn put_cells(
 }
 
 /// Adds the cells of a window, where there is one.
-fn put_window(
-    out: &mut String,
-    stack: &AbsStack,
-    window: Option<Window>,
-) -> Result<(), AllocError>
+fn put_window(out: &mut String, stack: &AbsStack, window: Option<Window>) -> Result<(), AllocError>
     requires { IfSome window (λ w. w.place + w.size ≤ 512) }
     ensures { OnOk result (string_bytes out.new ≡ string_bytes out.old ++ of_window stack.now window) }
 {

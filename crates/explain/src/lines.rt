@@ -75,11 +75,7 @@ fn put_unit(
 }
 
 /// Adds a register that takes a result, and what is known of it behind an instruction.
-fn put_result(
-    out: &mut String,
-    register: Option<Reg>,
-    left: &AbsState,
-) -> Result<(), AllocError>
+fn put_result(out: &mut String, register: Option<Reg>, left: &AbsState) -> Result<(), AllocError>
     ensures { OnOk result (string_bytes out.new ≡ string_bytes out.old ++ result_text register left.now) }
 {
     let Some(r) = register else {
@@ -91,11 +87,7 @@ fn put_result(
 }
 
 /// Adds what is known of the result of an instruction that may run.
-fn put_given(
-    out: &mut String,
-    insn: &Insn,
-    state: Option<&AbsState>,
-) -> Result<(), AllocError>
+fn put_given(out: &mut String, insn: &Insn, state: Option<&AbsState>) -> Result<(), AllocError>
     ensures { OnOk result (string_bytes out.new ≡ string_bytes out.old ++ given_text insn.now (option_map (λ a. a.now) state.entry)) }
 {
     match state {

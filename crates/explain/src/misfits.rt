@@ -29,9 +29,7 @@ fn misfit_of(helper: Helper, r: Reg, argument: Argument, value: AbsVal) -> Optio
     match (argument.greatest(), value) {
         (Some(most), AbsVal::Number(numbers)) => above(helper, r, numbers, most),
         (Some(most), _) => Some(Sentence::Call(Misfit::Above(helper, r, value, most))),
-        (None, AbsVal::Number(_)) => {
-            Some(Sentence::Call(Misfit::NoPointer(helper, r, value)))
-        }
+        (None, AbsVal::Number(_)) => { Some(Sentence::Call(Misfit::NoPointer(helper, r, value))) }
         (None, _) => None,
     }
 }

@@ -39,7 +39,9 @@ pub(crate) fn collect<R: Threads + Wait + Sync, G: Gate + Sync, J: Room + Send +
     ensures told { IfOk result (λ r. WasTold scenario.now r.0.items r.1) }
 {
     let (camp, posters, collector) = Camp::new(alloc, scenario.generals(), gate, board)?;
-    through_residents(rt, alloc, scenario, &camp, posters, witnesses, collector, stack)
+    through_residents(
+        rt, alloc, scenario, &camp, posters, witnesses, collector, stack,
+    )
 }
 
 /// The same, from the generals of these posters, in this camp.
