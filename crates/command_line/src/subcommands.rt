@@ -4,8 +4,7 @@ use crate::subcommand::{Flag, Place, Subcommand};
 const EXPLAIN: &str =
     "Tells what is known of the registers that are read, and what a refused instruction misses";
 
-const EXPLAIN_DECISIONS: &str =
-    "Tells how each decision comes about, or why a file is refused";
+const EXPLAIN_DECISIONS: &str = "Tells how each decision comes about, or why a file is refused";
 
 const ENTRY: &str = "The function of the object; without it, its only global one";
 
