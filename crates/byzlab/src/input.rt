@@ -38,6 +38,10 @@ impl Input {
 }
 
 impl Read for Input {
+    ghost use Rattle.byzlab.specs.Files.{remaining_of};
+
+    ghost remaining = { remaining_of };
+
     fn read(&mut self, buf: &mut [u8]) -> io::Result<usize> {
         match self {
             Input::File(file) => file.read(buf),

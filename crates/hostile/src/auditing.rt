@@ -89,7 +89,7 @@ fn change(state: &mut u64) -> u8 {
 
 /// Whether the bytes are refused as a chronicle of the campaign: as no text, or by a line.
 fn is_refused(alloc: Global, campaign: &scenario::Campaign, bytes: &[u8]) -> Result<bool> {
-    match audited(alloc, campaign, bytes) {
+    match audited(alloc, campaign, bytes, None) {
         Ok(_) => Ok(false),
         Err(Refusal::NotText) => Ok(true),
         Err(Refusal::Trace(fault)) => Ok(is_of_text(fault)),

@@ -11,14 +11,15 @@ use Rattle.command_line.specs.declared.tasks.Notation.{Notation}
 use Rattle.command_line.specs.declared.tasks.Spelling.TheVariants.{Hex, Raw}
 use Rattle.command_line.specs.declared.tasks.Task.{Task}
 use Rattle.command_line.specs.declared.tasks.Task.TheVariants.{Check, Assemble, Disassemble, Book, ExplainDecisions, Form, Play, Muster, Audit}
-use Rattle.scenario.specs.Told.{Tells, TellsAny}
-use Rattle.tables.specs.Answers.{DecidesTable, ExplainsTable, IsFormOf}
+use Rattle.command_line.specs.declared.tasks.Account.TheVariants.{Chronicle}
+use Rattle.scenario.specs.Told.{Tells}
+use Rattle.tables.specs.Answers.{DecidesTable, ExplainsTable, IsFilled, IsFormOf}
 use Rattle.verify.specs.Judgement.{judged}
 use Rattle.trial.specs.Setting.{Setting, bench, context_in}
 use Rattle.trial.specs.Told.{IsTried, Tells as TellsSetting}
 use Rattle.trial.specs.Trial.{Ending, trial}
 use Rattle.lab.specs.Hints.{HasProgram, behind_lines}
-use Rattle.lab.specs.Campaigns.{Audits, Musters, Plays}
+use Rattle.lab.specs.Campaigns.{Audits, Musters, Plays, TellsCampaign, is_plain}
 use Rattle.lab.specs.Lines.{checked_lines, hex_line}
 use Rattle.lab.specs.declared.checking.Checked.{Checked}
 use Rattle.lab.specs.declared.first_answer.FirstAnswer.{FirstAnswer}
@@ -81,18 +82,21 @@ Prints (Assemble file Raw target explained) first second text = AssemblesRaw fir
 Prints (Disassemble file notation units explained) first second text = Disassembles notation units first text
 Prints (Book file) first second text = DecidesTable first text
 Prints (ExplainDecisions file traitors) first second text = ExplainsTable first traitors.items text
-Prints (Form n m c filling) first second text = IsFormOf (string_bytes n) (string_bytes m) (string_bytes c) text
-Prints (Play scenario schedule account explained) first second text = Plays first second text
-Prints (Muster scenario explained) first second text = Musters first text
-Prints (Audit scenario chronicle explained) first second text = Audits first second text
+Prints (Form n m c None) first second text = IsFormOf (string_bytes n) (string_bytes m) (string_bytes c) text
+Prints (Form n m c (Some filling)) first second text = IsFilled (string_bytes n) (string_bytes m) (string_bytes c) filling.order filling.liar text
+Prints (Play scenario schedule account explained) first second text = Plays account explained first second text
+Prints (Muster scenario explained) first second text = Musters explained first text
+Prints (Audit scenario chronicle explained) first second text = Audits explained first second text
 
 -- the task goes on with this behind its first file: a program to try, or a campaign
 abbrev pub GoesOn : Task → List ℕ → FirstAnswer → Type 0
 GoesOn (Check file notation (Some context) explained traced) first (answer.Trial program) =
     HasProgram notation first program × (judged program ≡ None) × IsSound program
-GoesOn (Play scenario schedule account explained) first (answer.Play c) = TellsAny first c
-GoesOn (Muster scenario explained) first (answer.Muster s) = Tells first s
-GoesOn (Audit scenario chronicle explained) first (answer.Audit c) = TellsAny first c
+GoesOn (Play scenario schedule account explained) first (answer.Play c told why) =
+    TellsCampaign (is_plain account explained) first c × (told ≡ account) × (why ≡ explained)
+GoesOn (Muster scenario explained) first (answer.Muster s why) = Tells first s × (why ≡ explained)
+GoesOn (Audit scenario chronicle explained) first (answer.Audit c why) =
+    TellsCampaign (is_plain Chronicle explained) first c × (why ≡ explained)
 GoesOn _ first _ = ⊥
 
 -- what the task comes to on its first file: a text, whatever the second has, or that with which it goes on

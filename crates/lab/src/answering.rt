@@ -7,11 +7,11 @@ use crate::checking::{accepted_in, check, checked_text};
 use crate::deciding::{decided, explained};
 use crate::explaining::with_explanation;
 use crate::first_answer::FirstAnswer;
-use crate::forming::formed;
-use crate::playing::{any_campaign, campaign};
+use crate::forming::{filled, formed};
+use crate::playing::{asked_campaign, campaign};
 use crate::refusal::Refusal;
 use crate::texts::as_text;
-use command_line::{Notation, Spelling, Task};
+use command_line::{Account, Notation, Spelling, Task};
 use std::alloc::Global;
 
 /// What the task comes to on an only or first file of these bytes.
@@ -56,11 +56,33 @@ pub fn answer(alloc: Global, task: &Task, bytes: &[u8]) -> Result<FirstAnswer, R
             generals,
             bound,
             commander,
-            ..
+            filling: None,
         } => formed(alloc, generals.as_str(), bound.as_str(), commander.as_str())?,
-        Task::Play { .. } => return Ok(FirstAnswer::Play(any_campaign(alloc, bytes)?)),
-        Task::Muster { .. } => return Ok(FirstAnswer::Muster(campaign(alloc, bytes)?)),
-        Task::Audit { .. } => return Ok(FirstAnswer::Audit(any_campaign(alloc, bytes)?)),
+        Task::Form {
+            generals,
+            bound,
+            commander,
+            filling: Some(filling),
+        } => filled(
+            alloc,
+            generals.as_str(),
+            bound.as_str(),
+            commander.as_str(),
+            *filling,
+        )?,
+        Task::Play {
+            account, explained, ..
+        } => {
+            let campaign = asked_campaign(alloc, bytes, *account, *explained)?;
+            return Ok(FirstAnswer::Play(campaign, *account, *explained));
+        }
+        Task::Muster { explained, .. } => {
+            return Ok(FirstAnswer::Muster(campaign(alloc, bytes)?, *explained));
+        }
+        Task::Audit { explained, .. } => {
+            let campaign = asked_campaign(alloc, bytes, Account::Chronicle, *explained)?;
+            return Ok(FirstAnswer::Audit(campaign, *explained));
+        }
     };
     Ok(FirstAnswer::Text(text))
 }

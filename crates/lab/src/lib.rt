@@ -20,6 +20,7 @@ mod seeming;
 mod serving;
 mod texts;
 mod trying;
+mod whys;
 
 pub use answering::answer;
 pub use assembling::{assembled, assembled_raw, disassembled};
@@ -27,7 +28,7 @@ pub use auditing::audited;
 pub use checking::{Checked, accepted, accepted_text, check};
 pub use deciding::{decided, explained};
 pub use first_answer::FirstAnswer;
-pub use forming::formed;
+pub use forming::{filled, formed};
 pub use mustering::mustered;
 pub use playing::{any_campaign, campaign, played, schedule};
 pub use refusal::Refusal;
