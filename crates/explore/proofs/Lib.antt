@@ -1,0 +1,10 @@
+pub mod Having
+pub mod Asking
+pub mod Walking
+pub mod Completing
+pub mod Leading
+pub mod Deciding
+pub mod Listed
+pub mod Bounded
+pub mod Scheduled
+pub mod Merging

@@ -1,0 +1,6 @@
+pub mod Orders
+pub mod Listing
+pub mod Outcomes
+pub mod Exploring
+pub mod Merging
+pub mod Schedules
