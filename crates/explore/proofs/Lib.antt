@@ -8,3 +8,9 @@ pub mod Listed
 pub mod Bounded
 pub mod Scheduled
 pub mod Merging
+pub mod Rising
+pub mod Succeeding
+pub mod Tallying
+pub mod Visiting
+pub mod Passing
+pub mod Replaying

@@ -4,3 +4,6 @@ pub mod Outcomes
 pub mod Exploring
 pub mod Merging
 pub mod Schedules
+pub mod Succession
+pub mod Entering
+pub mod Places
