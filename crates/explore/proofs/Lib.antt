@@ -1,0 +1,16 @@
+pub mod Having
+pub mod Asking
+pub mod Walking
+pub mod Completing
+pub mod Leading
+pub mod Deciding
+pub mod Listed
+pub mod Bounded
+pub mod Scheduled
+pub mod Merging
+pub mod Rising
+pub mod Succeeding
+pub mod Tallying
+pub mod Visiting
+pub mod Passing
+pub mod Replaying

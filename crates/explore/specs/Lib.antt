@@ -1,0 +1,9 @@
+pub mod Orders
+pub mod Listing
+pub mod Outcomes
+pub mod Exploring
+pub mod Merging
+pub mod Schedules
+pub mod Succession
+pub mod Entering
+pub mod Places
