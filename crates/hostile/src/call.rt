@@ -22,7 +22,7 @@ pub enum Call {
 }
 
 /// All of them.
-pub const CALLS: [Call; 18] = [
+pub const CALLS: &[Call] = &[
     Call::Decode,
     Call::Encode,
     Call::Assemble,
@@ -72,7 +72,7 @@ impl Call {
     pub fn named(name: &str) -> Option<Call> {
         for call in CALLS {
             if call.name() == name {
-                return Some(call);
+                return Some(*call);
             }
         }
         None

@@ -1,12 +1,12 @@
 //! The campaigns on which the calls are made.
-use anyhow::{Result, anyhow, bail};
+use anyhow::{Result, bail};
 use asm::assemble;
 use codec::encode;
 use insn::Program;
 use round::Scenario;
 use std::alloc::Global;
-use trace::{Latch, read_schedule, write_chronicle};
-use world::{Chronicle, Event, Schedule};
+use trace::read_schedule;
+use world::{Event, Schedule};
 
 /// A campaign.
 #[derive(Clone, Copy)]
@@ -20,7 +20,7 @@ pub enum Campaign {
 }
 
 /// All of them.
-pub const CAMPAIGNS: [Campaign; 3] = [Campaign::Four, Campaign::Seven, Campaign::Copying];
+pub const CAMPAIGNS: &[Campaign] = &[Campaign::Four, Campaign::Seven, Campaign::Copying];
 
 /// Tells 1 and 2 the order 0.
 const SWAYING: &str = "mov r1, 1
@@ -70,9 +70,110 @@ done: mov r0, 0
 exit
 ";
 
-/// Signs the order 1 for 1 and the order 0 for 2, which the commander alone can, and passes on to all the first two chains
-/// that he holds.
-const SIGNING: &str = "mov r1, 1
+/// The scenario of `Four`.
+const FOUR: &str = "generals = 4
+bound = 1
+commander = 0
+order = 1
+[[traitor]]
+general = 3
+asm = '''
+mov r1, 1
+mov r2, 0
+call sway
+mov r1, 2
+mov r2, 0
+call sway
+exit
+'''
+";
+
+/// The scenario of `Seven`.
+const SEVEN: &str = "generals = 7
+bound = 2
+commander = 0
+order = 0
+[[traitor]]
+general = 0
+asm = '''
+mov r1, 0
+mov r2, 1
+call board_add
+mov r6, r0
+and r6, 1
+mov r1, 1
+mov r2, r6
+call sway
+mov r1, 2
+mov r2, r6
+call sway
+mov r1, 3
+mov r2, r6
+call sway
+exit
+'''
+[[traitor]]
+general = 4
+asm = '''
+mov r1, 0
+mov r2, 1
+call board_add
+mov r6, r0
+and r6, 1
+mov r1, 1
+mov r2, r6
+call sway
+mov r1, 2
+mov r2, r6
+call sway
+mov r1, 3
+mov r2, r6
+call sway
+exit
+'''
+";
+
+/// The scenario of `Copying`.
+const FOUR_WHO_COPY: &str = "generals = 4
+bound = 1
+commander = 0
+order = 1
+patience = 20
+rule = \"median\"
+[[traitor]]
+general = 3
+asm = '''
+ldw r6, [r1+16]
+mov r1, 0
+mov r2, r10
+add r2, -64
+mov r3, 4
+call board_copy
+ldd r7, [r10-64]
+jeq r6, 1, first
+mov r1, 1
+mov r2, r7
+call sway
+ja done
+first: mov r1, 0
+mov r2, 9
+call board_swap
+done: mov r0, 0
+exit
+'''
+";
+
+/// The scenario of `Four`, in which the same general signs his orders: the order 1 for 1 and the order 0 for 2, which the
+/// commander alone can, and passes on to all the first two chains that he holds.
+const FOUR_SIGNED: &str = "generals = 4
+bound = 1
+commander = 0
+order = 1
+messages = \"signed\"
+[[traitor]]
+general = 3
+asm = '''
+mov r1, 1
 mov r2, 2
 call sign_order
 mov r1, 0
@@ -85,7 +186,100 @@ mov r1, 1
 mov r2, 8191
 call pass_on
 exit
+'''
 ";
+
+/// The same of `Seven`.
+const SEVEN_SIGNED: &str = "generals = 7
+bound = 2
+commander = 0
+order = 0
+messages = \"signed\"
+[[traitor]]
+general = 0
+asm = '''
+mov r1, 1
+mov r2, 2
+call sign_order
+mov r1, 0
+mov r2, 4
+call sign_order
+mov r1, 0
+mov r2, 8191
+call pass_on
+mov r1, 1
+mov r2, 8191
+call pass_on
+exit
+'''
+[[traitor]]
+general = 4
+asm = '''
+mov r1, 1
+mov r2, 2
+call sign_order
+mov r1, 0
+mov r2, 4
+call sign_order
+mov r1, 0
+mov r2, 8191
+call pass_on
+mov r1, 1
+mov r2, 8191
+call pass_on
+exit
+'''
+";
+
+/// The same of `Copying`.
+const FOUR_SIGNED_WITH_PATIENCE: &str = "generals = 4
+bound = 1
+commander = 0
+order = 1
+patience = 20
+messages = \"signed\"
+[[traitor]]
+general = 3
+asm = '''
+mov r1, 1
+mov r2, 2
+call sign_order
+mov r1, 0
+mov r2, 4
+call sign_order
+mov r1, 0
+mov r2, 8191
+call pass_on
+mov r1, 1
+mov r2, 8191
+call pass_on
+exit
+'''
+";
+
+/// Events, each so many times.
+type Turns = &'static [(Event, u32)];
+
+/// A round of four without a schedule: the loyal generals' letters, then the traitor's steps and more.
+const TURNS_OF_FOUR: Turns = &[
+    (Event::Post(0), 1),
+    (Event::Post(1), 1),
+    (Event::Post(2), 1),
+    (Event::Tick(3), 20),
+    (Event::Close, 1),
+];
+
+/// A round of seven.
+const TURNS_OF_SEVEN: Turns = &[
+    (Event::Post(1), 1),
+    (Event::Post(2), 1),
+    (Event::Post(3), 1),
+    (Event::Post(5), 1),
+    (Event::Post(6), 1),
+    (Event::Tick(0), 20),
+    (Event::Tick(4), 20),
+    (Event::Close, 1),
+];
 
 impl Campaign {
     /// Its name among the words.
@@ -101,45 +295,10 @@ impl Campaign {
     pub fn named(name: &str) -> Option<Campaign> {
         for campaign in CAMPAIGNS {
             if campaign.name() == name {
-                return Some(campaign);
+                return Some(*campaign);
             }
         }
         None
-    }
-
-    /// The keys of its scenario but for the traitors.
-    fn keys(self) -> &'static str {
-        match self {
-            Campaign::Four => "generals = 4\nbound = 1\ncommander = 0\norder = 1\n",
-            Campaign::Seven => "generals = 7\nbound = 2\ncommander = 0\norder = 0\n",
-            Campaign::Copying => {
-                "generals = 4\nbound = 1\ncommander = 0\norder = 1\npatience = 20\nrule = \"median\"\n"
-            }
-        }
-    }
-
-    /// How many generals it has.
-    pub fn generals(self) -> u8 {
-        match self {
-            Campaign::Four | Campaign::Copying => 4,
-            Campaign::Seven => 7,
-        }
-    }
-
-    /// The bound on its traitors.
-    pub fn bound(self) -> u8 {
-        match self {
-            Campaign::Four | Campaign::Copying => 1,
-            Campaign::Seven => 2,
-        }
-    }
-
-    /// Its traitors, ascending.
-    fn traitors(self) -> &'static [u8] {
-        match self {
-            Campaign::Four | Campaign::Copying => &[3],
-            Campaign::Seven => &[0, 4],
-        }
     }
 
     /// The assembly of its traitors' program.
@@ -161,60 +320,53 @@ impl Campaign {
     }
 
     /// The text of its scenario.
-    pub fn text(self, alloc: Global) -> Result<String> {
-        let mut text = String::from_str(alloc, self.keys())?;
-        self.push_traitors(alloc, &mut text, self.assembly())?;
-        Ok(text)
+    pub fn text(self) -> &'static str {
+        match self {
+            Campaign::Four => FOUR,
+            Campaign::Seven => SEVEN,
+            Campaign::Copying => FOUR_WHO_COPY,
+        }
     }
 
-    /// The tables of its traitors with this program, behind a scenario's keys.
-    fn push_traitors(self, alloc: Global, text: &mut String, program: &str) -> Result<()> {
-        for general in self.traitors() {
-            let table = format!(in alloc;
-                "[[traitor]]\ngeneral = {general}\nasm = '''\n{program}'''\n"
-            )?;
-            text.push_str(table.as_str())?;
+    /// The text of the scenario in which the same generals sign their orders, and the same are traitors.
+    fn signed_text(self) -> &'static str {
+        match self {
+            Campaign::Four => FOUR_SIGNED,
+            Campaign::Seven => SEVEN_SIGNED,
+            Campaign::Copying => FOUR_SIGNED_WITH_PATIENCE,
         }
-        Ok(())
     }
 
     /// Its scenario.
     pub fn scenario(self, alloc: Global) -> Result<Scenario> {
-        match scenario::read(alloc, self.text(alloc)?.as_str()) {
+        match scenario::read(alloc, self.text()) {
             Ok(scenario) => Ok(scenario),
-            Err(error) => Err(anyhow!("the scenario: {error}")),
+            Err(_) => bail!("a scenario is refused"),
         }
     }
 
-    /// The keys of the scenario in which the same generals sign their orders.
-    fn signed_keys(self) -> &'static str {
-        match self {
-            Campaign::Four | Campaign::Seven => self.keys(),
-            Campaign::Copying =>
-                "generals = 4\nbound = 1\ncommander = 0\norder = 1\npatience = 20\n",
-        }
-    }
-
-    /// The scenario in which the same generals sign their orders, and the same are traitors.
+    /// The scenario in which the same generals sign their orders.
     pub fn signed_scenario(self, alloc: Global) -> Result<Scenario> {
-        let mut text = String::from_str(alloc, self.signed_keys())?;
-        text.push_str("messages = \"signed\"\n")?;
-        self.push_traitors(alloc, &mut text, SIGNING)?;
-        match scenario::read_any(alloc, text.as_str()) {
+        match scenario::read_any(alloc, self.signed_text()) {
             Ok(scenario::Campaign::Signed(scenario)) => Ok(scenario),
-            Ok(scenario::Campaign::Oral(_)) => bail!("the campaign is an oral one"),
-            Err(error) => Err(anyhow!("the signed scenario: {error}")),
+            _ => bail!("a signed scenario is refused"),
         }
     }
 
     /// Its schedule.
     pub fn schedule(self, alloc: Global) -> Result<Schedule> {
-        Ok(read_schedule(alloc, self.schedule_text())?)
+        match read_schedule(alloc, self.schedule_text()) {
+            Ok(schedule) => Ok(schedule),
+            Err(_) => bail!("a schedule is refused"),
+        }
     }
 
     /// Its traitors' program.
     pub fn program(self, alloc: Global) -> Result<Program> {
-        Ok(assemble(alloc, self.assembly())?)
+        match assemble(alloc, self.assembly()) {
+            Ok(program) => Ok(program),
+            Err(_) => bail!("a program is refused"),
+        }
     }
 
     /// The bytecode of its traitors' program.
@@ -222,29 +374,25 @@ impl Campaign {
         Ok(encode(alloc, &self.program(alloc)?)?)
     }
 
-    /// Its events without a schedule: in each round the loyal generals' letters, then the traitors' steps and more.
+    /// Its events without a schedule, and how many rounds of them there are.
+    fn turns(self) -> (Turns, u32) {
+        match self {
+            Campaign::Four | Campaign::Copying => (TURNS_OF_FOUR, 2),
+            Campaign::Seven => (TURNS_OF_SEVEN, 3),
+        }
+    }
+
+    /// Its events without a schedule, one after another.
     pub fn events(self, alloc: Global) -> Result<Vec<Event>> {
         let mut events = Vec::new(alloc);
-        for _ in 0..=self.bound() {
-            for general in 0..self.generals() {
-                if !self.traitors().contains(&general) {
-                    events.push(Event::Post(u32::from(general)))?;
+        let (turns, rounds) = self.turns();
+        for _ in 0..rounds {
+            for (event, times) in turns {
+                for _ in 0..*times {
+                    events.push(*event)?;
                 }
             }
-            for general in self.traitors() {
-                for _ in 0..20 {
-                    events.push(Event::Tick(u32::from(*general)))?;
-                }
-            }
-            events.push(Event::Close)?;
         }
         Ok(events)
     }
-}
-
-/// The text of a chronicle.
-pub fn text(alloc: Global, chronicle: &Chronicle) -> Result<Vec<u8>> {
-    let mut sink = Latch::new(Vec::new(alloc));
-    write_chronicle(chronicle, &mut sink)?;
-    Ok(sink.into_writer())
 }

@@ -14,11 +14,6 @@ pub fn stepped(state: u64) -> u64 {
         .wrapping_add(1442695040888963407)
 }
 
-/// One of the texts.
-pub fn chosen(texts: &[&'static str; 16], state: &mut u64) -> &'static str {
-    texts[(next(state) % 16) as usize]
-}
-
 /// The bytes with another one at a place; the same where there is no such place.
 pub fn with_byte(
     alloc: Global,

@@ -1,25 +1,31 @@
 //! The calls on programs: their bytes, their text, and the verifier.
 use crate::campaign::Campaign;
 use crate::marks::{back, ready};
-use crate::outcome::{Outcome, same};
+use crate::outcome::{Outcome, Told, outcome};
 use anyhow::{Result, bail};
 use asm::{AsmError, assemble, disassemble};
 use codec::{CodecError, decode, encode};
 use insn::Program;
-use std::alloc::Global;
+use std::alloc::{AllocError, Global};
 use verify::{Refused, Verified, VerifyError, verify};
 
 /// `decode` of the bytecode.
 pub fn decodes<R: Print + AllocGlobal>(rt: &R, campaign: Campaign) -> Result<Outcome> {
     let alloc = rt.alloc();
     let bytes = campaign.bytecode(alloc)?;
-    ready(rt)?;
+    ready(rt);
     let first = decode(alloc, bytes.as_slice());
-    back(rt)?;
-    let again = decode(alloc, bytes.as_slice())?;
-    match first {
-        Err(CodecError::Memory) => Ok(Outcome::Memory),
-        first => same_programs(alloc, &first?, &again),
+    back(rt);
+    let first = decoded(alloc, first)?;
+    outcome(first, decoded(alloc, decode(alloc, bytes.as_slice()))?)
+}
+
+/// What `decode` tells.
+fn decoded(alloc: Global, answer: Result<Program, CodecError>) -> Result<Told> {
+    match answer {
+        Ok(program) => told_program(alloc, &program),
+        Err(CodecError::Memory) => Ok(Told::Memory),
+        Err(_) => bail!("bytecode is refused"),
     }
 }
 
@@ -27,26 +33,36 @@ pub fn decodes<R: Print + AllocGlobal>(rt: &R, campaign: Campaign) -> Result<Out
 pub fn encodes<R: Print + AllocGlobal>(rt: &R, campaign: Campaign) -> Result<Outcome> {
     let alloc = rt.alloc();
     let program = campaign.program(alloc)?;
-    ready(rt)?;
+    ready(rt);
     let first = encode(alloc, &program);
-    back(rt)?;
-    let again = encode(alloc, &program)?;
-    match first {
-        Err(_) => Ok(Outcome::Memory),
-        Ok(first) => same(first.as_slice(), again.as_slice()),
+    back(rt);
+    outcome(encoded(first), encoded(encode(alloc, &program)))
+}
+
+/// What `encode` tells.
+fn encoded(answer: Result<Vec<u8>, AllocError>) -> Told {
+    match answer {
+        Ok(bytes) => Told::Bytes(bytes),
+        Err(_) => Told::Memory,
     }
 }
 
 /// `assemble` of the assembly.
 pub fn assembles<R: Print + AllocGlobal>(rt: &R, campaign: Campaign) -> Result<Outcome> {
     let alloc = rt.alloc();
-    ready(rt)?;
+    ready(rt);
     let first = assemble(alloc, campaign.assembly());
-    back(rt)?;
-    let again = assemble(alloc, campaign.assembly())?;
-    match first {
-        Err(AsmError::Memory) => Ok(Outcome::Memory),
-        first => same_programs(alloc, &first?, &again),
+    back(rt);
+    let first = assembled(alloc, first)?;
+    outcome(first, assembled(alloc, assemble(alloc, campaign.assembly()))?)
+}
+
+/// What `assemble` tells.
+fn assembled(alloc: Global, answer: Result<Program, AsmError>) -> Result<Told> {
+    match answer {
+        Ok(program) => told_program(alloc, &program),
+        Err(AsmError::Memory) => Ok(Told::Memory),
+        Err(_) => bail!("assembly is refused"),
     }
 }
 
@@ -54,60 +70,60 @@ pub fn assembles<R: Print + AllocGlobal>(rt: &R, campaign: Campaign) -> Result<O
 pub fn disassembles<R: Print + AllocGlobal>(rt: &R, campaign: Campaign) -> Result<Outcome> {
     let alloc = rt.alloc();
     let program = campaign.program(alloc)?;
-    ready(rt)?;
+    ready(rt);
     let first = disassemble(alloc, &program);
-    back(rt)?;
-    let again = disassemble(alloc, &program)?;
-    match first {
-        Err(_) => Ok(Outcome::Memory),
-        Ok(first) => same(first.as_bytes(), again.as_bytes()),
+    back(rt);
+    outcome(
+        disassembled(first),
+        disassembled(disassemble(alloc, &program)),
+    )
+}
+
+/// What `disassemble` tells.
+fn disassembled(answer: Result<String, AllocError>) -> Told {
+    match answer {
+        Ok(text) => Told::Bytes(text.into_bytes()),
+        Err(_) => Told::Memory,
     }
 }
 
 /// `verify` of the program. Where memory is refused, the program that it hands back is given to it again.
 pub fn verifies<R: Print + AllocGlobal>(rt: &R, campaign: Campaign) -> Result<Outcome> {
     let alloc = rt.alloc();
-    let answer = answered(rt, campaign.program(alloc)?)?;
-    let (first, outcome) = accepted_at_last(alloc, answer)?;
-    let again = accepted(alloc, campaign.program(alloc)?)?;
-    same_programs(alloc, first.program(), again.program())?;
-    Ok(outcome)
+    let program = campaign.program(alloc)?;
+    ready(rt);
+    let first = verify(alloc, program);
+    back(rt);
+    let (first, is_refused) = judged(alloc, first)?;
+    let outcome = outcome(first, ample(alloc, campaign)?)?;
+    Ok(if is_refused { Outcome::Memory } else { outcome })
 }
 
-/// What `verify` answers.
-fn answered<R: Print + AllocGlobal>(rt: &R, program: Program) -> Result<Result<Verified, Refused>> {
-    ready(rt)?;
-    let answer = verify(rt.alloc(), program);
-    back(rt)?;
-    Ok(answer)
-}
-
-/// The program of the answer, which is accepted at last, and what the call came to.
-fn accepted_at_last(
-    alloc: Global,
-    answer: Result<Verified, Refused>,
-) -> Result<(Verified, Outcome)> {
+/// What `verify` tells, at last, and whether memory was refused first: then the program came back, and was given again.
+fn judged(alloc: Global, answer: Result<Verified, Refused>) -> Result<(Told, bool)> {
     match answer {
-        Ok(verified) => Ok((verified, Outcome::Answered)),
-        Err(Refused { program, fault }) => {
-            if fault != VerifyError::Memory {
-                bail!("a program is refused that is to be accepted");
-            }
-            Ok((accepted(alloc, program)?, Outcome::Memory))
-        }
+        Ok(verified) => Ok((told_program(alloc, verified.program())?, false)),
+        Err(Refused { program, fault }) => match fault {
+            VerifyError::Memory => Ok((accepted(alloc, program)?, true)),
+            _ => bail!("a program is refused that is to be accepted"),
+        },
     }
 }
 
-/// The program, which is accepted.
-fn accepted(alloc: Global, program: Program) -> Result<Verified> {
+/// What `verify` tells with ample memory.
+fn ample(alloc: Global, campaign: Campaign) -> Result<Told> {
+    accepted(alloc, campaign.program(alloc)?)
+}
+
+/// What `verify` tells of a program that is accepted.
+fn accepted(alloc: Global, program: Program) -> Result<Told> {
     match verify(alloc, program) {
-        Ok(verified) => Ok(verified),
+        Ok(verified) => told_program(alloc, verified.program()),
         Err(_) => bail!("a program is refused"),
     }
 }
 
-/// What a call that answered one program, and then another, comes to.
-fn same_programs(alloc: Global, first: &Program, again: &Program) -> Result<Outcome> {
-    let (first, again) = (disassemble(alloc, first)?, disassemble(alloc, again)?);
-    same(first.as_bytes(), again.as_bytes())
+/// A program, told by its assembly.
+fn told_program(alloc: Global, program: &Program) -> Result<Told> {
+    Ok(Told::Bytes(disassemble(alloc, program)?.into_bytes()))
 }

@@ -1,8 +1,8 @@
 //! The call that decides for all lieutenants.
 use crate::campaign::Campaign;
 use crate::marks::{back, ready};
-use crate::outcome::Outcome;
-use anyhow::{Result, bail};
+use crate::outcome::{Outcome, Told, outcome};
+use anyhow::Result;
 use combine::Rule;
 use label::unrank;
 use resolve::resolve_all;
@@ -21,31 +21,48 @@ pub fn resolves<R: Print + Threads + Sync + AllocGlobal>(
         Campaign::Copying => Rule::Median,
     };
     let trees = trees(alloc, campaign)?;
-    ready(rt)?;
+    ready(rt);
     let first = resolve_all(rt, alloc, trees.as_slice(), &rule);
-    back(rt)?;
-    let again = resolve_all(rt, alloc, trees.as_slice(), &rule)?;
-    match first {
-        Err(_) => Ok(Outcome::Memory),
-        Ok(first) if first.as_slice() == again.as_slice() => Ok(Outcome::Answered),
-        Ok(_) => bail!("asked again, the call decides otherwise"),
+    back(rt);
+    let first = decided(alloc, first)?;
+    let again = resolve_all(rt, alloc, trees.as_slice(), &rule);
+    outcome(first, decided(alloc, again)?)
+}
+
+/// What `resolve_all` tells: the decisions, each in four bytes.
+fn decided(alloc: Global, answer: Result<Vec<u32>, AllocError>) -> Result<Told, AllocError> {
+    let Ok(decisions) = answer else {
+        return Ok(Told::Memory);
+    };
+    let mut bytes = Vec::new(alloc);
+    for decision in &decisions {
+        bytes.extend_from_slice(&decision.to_le_bytes())?;
     }
+    Ok(Told::Bytes(bytes))
 }
 
 /// The trees of the lieutenants of four generals or of seven, under 0, each value one of three orders.
 fn trees(alloc: Global, campaign: Campaign) -> Result<Vec<Tree>, AllocError> {
-    let mut trees = Vec::new(alloc);
     match campaign {
-        Campaign::Four => {
-            for general in 1..4 {
-                trees.push(filled(Tree::new(alloc, 4, 1, 0, general)?))?;
-            }
-        }
-        Campaign::Seven | Campaign::Copying => {
-            for general in 1..7 {
-                trees.push(filled(Tree::new(alloc, 7, 2, 0, general)?))?;
-            }
-        }
+        Campaign::Four => trees_of_four(alloc),
+        Campaign::Seven | Campaign::Copying => trees_of_seven(alloc),
+    }
+}
+
+/// Those of four generals.
+fn trees_of_four(alloc: Global) -> Result<Vec<Tree>, AllocError> {
+    let mut trees = Vec::new(alloc);
+    for general in 1..4 {
+        trees.push(filled(Tree::new(alloc, 4, 1, 0, general)?))?;
+    }
+    Ok(trees)
+}
+
+/// Those of seven generals.
+fn trees_of_seven(alloc: Global) -> Result<Vec<Tree>, AllocError> {
+    let mut trees = Vec::new(alloc);
+    for general in 1..7 {
+        trees.push(filled(Tree::new(alloc, 7, 2, 0, general)?))?;
     }
     Ok(trees)
 }

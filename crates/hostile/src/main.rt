@@ -1,8 +1,8 @@
-//! `hostile`, which makes the calls of the laboratory that take memory, and gives the laboratory damaged input.
+//! `hostile`, which makes the calls of the laboratory's layers that take memory, and gives them damaged input.
 //!
 //! `hostile CALL CAMPAIGN` makes one call, on what belongs to one campaign. It prints `ready`, makes the call, and prints `back`:
 //! what is asked of memory between the two lines is asked by the call alone, so that something outside can refuse it there. Then
-//! the same call is made again, and what both answered is compared. `hostile` makes each call so, and then gives the laboratory
+//! the same call is made again, and what both answered is compared. `hostile` makes each call so, and then gives the layers
 //! damaged chronicles and schedules, and writers that fail; `hostile FILE..` also damages the programs of these files.
 #![tactic(auto)]
 
@@ -28,25 +28,15 @@ use anyhow::{Result, bail};
 use call::{CALLS, Call};
 use campaign::{CAMPAIGNS, Campaign};
 use std::env;
+use std::sync::Wait;
+use std::thread::Threads;
 
 fn main(rt: HostRuntime) -> Result<()> {
     let words: Vec<String> = env::args(&rt)?.skip(1).collect(rt.alloc())?;
     match words.as_slice() {
-        [call, campaign] => {
-            let Some(call) = Call::named(call.as_str()) else {
-                bail!("there is no such call");
-            };
-            let Some(campaign) = Campaign::named(campaign.as_str()) else {
-                bail!("there is no such campaign");
-            };
-            calls::report(&rt, call, campaign)
-        }
+        [call, campaign] => one(&rt, call.as_str(), campaign.as_str()),
         files => {
-            for call in CALLS {
-                for campaign in CAMPAIGNS {
-                    calls::report(&rt, call, campaign)?;
-                }
-            }
+            every(&rt)?;
             stored::report(&rt, files)?;
             bytecode::report(&rt)?;
             auditing::report(&rt)?;
@@ -54,4 +44,26 @@ fn main(rt: HostRuntime) -> Result<()> {
             writing::report(&rt)
         }
     }
+}
+
+/// Makes the call of this name on the campaign of this name.
+fn one<R: Print + Threads + Wait + Sync + AllocGlobal>(
+    rt: &R,
+    call: &str,
+    campaign: &str,
+) -> Result<()> {
+    match (Call::named(call), Campaign::named(campaign)) {
+        (Some(call), Some(campaign)) => calls::report(rt, call, campaign),
+        _ => bail!("there is no such call, or no such campaign"),
+    }
+}
+
+/// Makes every call on every campaign.
+fn every<R: Print + Threads + Wait + Sync + AllocGlobal>(rt: &R) -> Result<()> {
+    for call in CALLS {
+        for campaign in CAMPAIGNS {
+            calls::report(rt, *call, *campaign)?;
+        }
+    }
+    Ok(())
 }

@@ -1,7 +1,7 @@
 //! The calls on worlds: opened, led on event by event, played, and mustered.
-use crate::campaign::{Campaign, text};
+use crate::campaign::Campaign;
 use crate::marks::{back, ready};
-use crate::outcome::{Outcome, same};
+use crate::outcome::{Outcome, Told, led, outcome};
 use anyhow::{Result, bail};
 use round::Scenario;
 use std::alloc::{AllocError, Global};
@@ -9,78 +9,81 @@ use std::str;
 use std::sync::Wait;
 use std::thread::Threads;
 use threads::{MusterError, Open, muster};
-use trace::check;
+use trace::{Latch, check, write_chronicle};
 use world::{Chronicle, Event, EventError, Schedule, World, play};
 
-/// The text of the scenario's chronicle without a schedule.
-pub fn played(alloc: Global, scenario: Scenario) -> Result<Vec<u8>> {
+/// The text of a chronicle.
+pub fn text(alloc: Global, chronicle: &Chronicle) -> Result<Vec<u8>> {
+    let mut sink = Latch::new(Vec::new(alloc));
+    match write_chronicle(chronicle, &mut sink) {
+        Ok(()) => Ok(sink.into_writer()),
+        Err(_) => bail!("a chronicle is not written"),
+    }
+}
+
+/// The scenario's chronicle by a schedule.
+pub fn play_by(alloc: Global, scenario: &Scenario, schedule: &Schedule) -> Result<Chronicle, AllocError> {
+    play(alloc, scenario.copy(alloc)?, schedule)
+}
+
+/// The scenario's chronicle without a schedule.
+pub fn play_freely(alloc: Global, scenario: &Scenario) -> Result<Chronicle, AllocError> {
     let empty = Schedule {
         lines: Vec::new(alloc),
     };
-    text(alloc, &play(alloc, scenario, &empty)?)
+    play_by(alloc, scenario, &empty)
 }
 
-/// The text of the chronicle to which the events lead the world.
-fn led(alloc: Global, mut world: World, events: &[Event]) -> Result<Vec<u8>> {
-    for event in events {
-        world.apply(alloc, *event)?;
-    }
-    told(alloc, world)
+/// The text of the campaign's chronicle without a schedule.
+pub fn played(alloc: Global, campaign: Campaign) -> Result<Vec<u8>> {
+    text(alloc, &play_freely(alloc, &campaign.scenario(alloc)?)?)
 }
 
 /// The text of a world's chronicle.
 fn told(alloc: Global, world: World) -> Result<Vec<u8>> {
-    let Some(chronicle) = world.chronicle() else {
-        bail!("the campaign is not over");
-    };
-    text(alloc, &chronicle)
+    match world.chronicle() {
+        Some(chronicle) => text(alloc, &chronicle),
+        None => bail!("the campaign is not over"),
+    }
 }
 
 /// `World::open`.
 pub fn opens<R: Print + AllocGlobal>(rt: &R, campaign: Campaign) -> Result<Outcome> {
     let alloc = rt.alloc();
-    let events = campaign.events(alloc)?;
-    let first = match opened(rt, campaign.scenario(alloc)?)? {
-        Ok(world) => Some(led(alloc, world, events.as_slice())?),
-        Err(_) => None,
-    };
-    let again = World::open(alloc, campaign.scenario(alloc)?)?;
-    compared(first, led(alloc, again, events.as_slice())?.as_slice())
+    let scenario = campaign.scenario(alloc)?;
+    ready(rt);
+    let first = World::open(alloc, scenario);
+    back(rt);
+    let first = opened(alloc, first, campaign)?;
+    let again = World::open(alloc, campaign.scenario(alloc)?);
+    outcome(first, opened(alloc, again, campaign)?)
 }
 
-/// What `World::open` answers.
-fn opened<R: Print + AllocGlobal>(rt: &R, scenario: Scenario) -> Result<Result<World, AllocError>> {
-    ready(rt)?;
-    let answer = World::open(rt.alloc(), scenario);
-    back(rt)?;
-    Ok(answer)
-}
-
-/// What a call comes to by its text, none where memory was refused, and the text of the same call again.
-fn compared(first: Option<Vec<u8>>, again: &[u8]) -> Result<Outcome> {
-    match first {
-        Some(first) => same(first.as_slice(), again),
-        None => Ok(Outcome::Memory),
+/// What `World::open` tells: the text of the chronicle to which the campaign's events lead the world.
+fn opened(alloc: Global, answer: Result<World, AllocError>, campaign: Campaign) -> Result<Told> {
+    match answer {
+        Ok(mut world) => {
+            let _is_refused = happen(alloc, &mut world, campaign.events(alloc)?.as_slice())?;
+            Ok(Told::Bytes(told(alloc, world)?))
+        }
+        Err(_) => Ok(Told::Memory),
     }
 }
 
 /// `World::apply` of each of the campaign's events. In the end the world has the chronicle of ample memory.
 pub fn happens<R: Print + AllocGlobal>(rt: &R, campaign: Campaign) -> Result<Outcome> {
     let alloc = rt.alloc();
-    let scenario = campaign.scenario(alloc)?;
-    let again = played(alloc, scenario.copy(alloc)?)?;
     let events = campaign.events(alloc)?;
-    let mut world = World::open(alloc, scenario)?;
-    ready(rt)?;
-    let is_refused = is_any_refused(alloc, &mut world, events.as_slice())?;
-    back(rt)?;
+    let mut world = World::open(alloc, campaign.scenario(alloc)?)?;
+    ready(rt);
+    let happened = happen(alloc, &mut world, events.as_slice());
+    back(rt);
     let first = told(alloc, world)?;
-    let outcome = same(first.as_slice(), again.as_slice())?;
-    Ok(if is_refused { Outcome::Memory } else { outcome })
+    led(happened?, first.as_slice(), played(alloc, campaign)?.as_slice())
 }
 
 /// Lets the events happen. The answer is whether memory was refused to any of them.
-fn is_any_refused(alloc: Global, world: &mut World, events: &[Event]) -> Result<bool> {
+fn happen(alloc: Global, world: &mut World, events: &[Event]) -> Result<bool> {
     let mut is_refused = false;
     for event in events {
         if is_refused_first(alloc, world, *event)? {
@@ -102,7 +105,9 @@ fn is_refused_first(alloc: Global, world: &mut World, event: Event) -> Result<bo
     if world.decisions().as_slice() != before.as_slice() {
         bail!("a refused event changed the decisions");
     }
-    world.apply(alloc, event)?;
+    if world.apply(alloc, event).is_err() {
+        bail!("an event is refused twice");
+    }
     Ok(true)
 }
 
@@ -110,24 +115,21 @@ fn is_refused_first(alloc: Global, world: &mut World, event: Event) -> Result<bo
 pub fn plays<R: Print + AllocGlobal>(rt: &R, campaign: Campaign) -> Result<Outcome> {
     let alloc = rt.alloc();
     let schedule = campaign.schedule(alloc)?;
-    let first = match played_by(rt, campaign.scenario(alloc)?, &schedule)? {
-        Ok(chronicle) => Some(text(alloc, &chronicle)?),
-        Err(_) => None,
-    };
-    let again = play(alloc, campaign.scenario(alloc)?, &schedule)?;
-    compared(first, text(alloc, &again)?.as_slice())
+    let scenario = campaign.scenario(alloc)?;
+    ready(rt);
+    let first = play(alloc, scenario, &schedule);
+    back(rt);
+    let first = chronicled(alloc, first)?;
+    let again = play(alloc, campaign.scenario(alloc)?, &schedule);
+    outcome(first, chronicled(alloc, again)?)
 }
 
-/// What `play` answers.
-fn played_by<R: Print + AllocGlobal>(
-    rt: &R,
-    scenario: Scenario,
-    schedule: &Schedule,
-) -> Result<Result<Chronicle, AllocError>> {
-    ready(rt)?;
-    let answer = play(rt.alloc(), scenario, schedule);
-    back(rt)?;
-    Ok(answer)
+/// What `play` tells: the text of its chronicle.
+fn chronicled(alloc: Global, answer: Result<Chronicle, AllocError>) -> Result<Told> {
+    match answer {
+        Ok(chronicle) => Ok(Told::Bytes(text(alloc, &chronicle)?)),
+        Err(_) => Ok(Told::Memory),
+    }
 }
 
 /// `muster`. The order of the accesses is the threads', so chronicles are not compared, but audited.
@@ -137,36 +139,27 @@ pub fn musters<R: Print + Threads + Wait + Sync + AllocGlobal>(
 ) -> Result<Outcome> {
     let alloc = rt.alloc();
     let scenario = campaign.scenario(alloc)?;
-    let outcome = audited(alloc, &scenario, mustered(rt, scenario.copy(alloc)?)?)?;
-    let again = muster(rt, alloc, scenario.copy(alloc)?, &Open)?;
-    audit(alloc, &scenario, &again)?;
-    Ok(outcome)
+    ready(rt);
+    let first = muster(rt, alloc, scenario, &Open);
+    back(rt);
+    let first = audited(alloc, first, campaign)?;
+    let again = muster(rt, alloc, campaign.scenario(alloc)?, &Open);
+    outcome(first, audited(alloc, again, campaign)?)
 }
 
-/// What `muster` answers.
-fn mustered<R: Print + Threads + Wait + Sync + AllocGlobal>(
-    rt: &R,
-    scenario: Scenario,
-) -> Result<Result<Chronicle, MusterError>> {
-    ready(rt)?;
-    let answer = muster(rt, rt.alloc(), scenario, &Open);
-    back(rt)?;
-    Ok(answer)
-}
-
-/// What the answer comes to: a chronicle is sound.
+/// What `muster` tells: no more than that its chronicle is sound.
 fn audited(
     alloc: Global,
-    scenario: &Scenario,
     answer: Result<Chronicle, MusterError>,
-) -> Result<Outcome> {
+    campaign: Campaign,
+) -> Result<Told> {
     match answer {
-        Err(MusterError::Memory) => Ok(Outcome::Memory),
-        Err(MusterError::Spawn) => Ok(Outcome::NoThread),
-        Err(error) => bail!("the muster is refused: {error}"),
+        Err(MusterError::Memory) => Ok(Told::Memory),
+        Err(MusterError::Spawn) => Ok(Told::NoThread),
+        Err(_) => bail!("the muster is refused"),
         Ok(chronicle) => {
-            audit(alloc, scenario, &chronicle)?;
-            Ok(Outcome::Answered)
+            audit(alloc, &campaign.scenario(alloc)?, &chronicle)?;
+            Ok(Told::Bytes(Vec::new(alloc)))
         }
     }
 }
@@ -174,6 +167,8 @@ fn audited(
 /// Audits the chronicle, which is to be sound.
 fn audit(alloc: Global, scenario: &Scenario, chronicle: &Chronicle) -> Result<()> {
     let text = text(alloc, chronicle)?;
-    check(alloc, scenario, str::from_utf8(text.as_slice())?)?;
-    Ok(())
+    match check(alloc, scenario, str::from_utf8(text.as_slice())?) {
+        Ok(_) => Ok(()),
+        Err(_) => bail!("a chronicle is not sound"),
+    }
 }

@@ -1,6 +1,6 @@
 //! The board's calls.
 use crate::marks::{back, ready};
-use crate::outcome::{Outcome, same};
+use crate::outcome::{Outcome, led};
 use anyhow::{Result, bail};
 use board::{Access, Board};
 use semantics::{Reply, Request, Slot, Span};
@@ -43,22 +43,32 @@ pub fn applies<R: Print + AllocGlobal>(rt: &R) -> Result<Outcome> {
         bail!("the requests");
     };
     let mut board = Board::new(alloc, [0; 64]);
+    ready(rt);
+    let served = serve(&mut board, requests.as_slice());
+    back(rt);
+    let is_refused = served?;
+    let first = ledger_bytes(alloc, board.ledger())?;
+    led(is_refused, first.as_slice(), ample(alloc, requests.as_slice())?.as_slice())
+}
+
+/// The replies with ample memory.
+fn ample(alloc: Global, requests: &[Request]) -> Result<Vec<u8>> {
+    let mut board = Board::new(alloc, [0; 64]);
+    if serve(&mut board, requests)? {
+        bail!("memory is refused");
+    }
+    Ok(ledger_bytes(alloc, board.ledger())?)
+}
+
+/// Serves the requests. The answer is whether memory was refused to any of them.
+fn serve(board: &mut Board, requests: &[Request]) -> Result<bool> {
     let mut is_refused = false;
-    ready(rt)?;
-    for request in &requests {
-        if is_served_again(&mut board, request)? {
+    for request in requests {
+        if is_served_again(board, request)? {
             is_refused = true;
         }
     }
-    back(rt)?;
-    let mut again = Board::new(alloc, [0; 64]);
-    for request in &requests {
-        again.apply(GENERAL, ROUND, *request)?;
-    }
-    let first = ledger_bytes(alloc, board.ledger())?;
-    let again = ledger_bytes(alloc, again.ledger())?;
-    let outcome = same(first.as_slice(), again.as_slice())?;
-    Ok(if is_refused { Outcome::Memory } else { outcome })
+    Ok(is_refused)
 }
 
 /// Serves the request. The answer is whether memory was refused first: then words and ledger were as before, and it was made
@@ -72,7 +82,9 @@ fn is_served_again(board: &mut Board, request: &Request) -> Result<bool> {
     if *board.words() != words || board.ledger().len() != entries {
         bail!("a refused access changed the board");
     }
-    board.apply(GENERAL, ROUND, *request)?;
+    if board.apply(GENERAL, ROUND, *request).is_err() {
+        bail!("an access is refused twice");
+    }
     Ok(true)
 }
 
@@ -80,14 +92,20 @@ fn is_served_again(board: &mut Board, request: &Request) -> Result<bool> {
 fn ledger_bytes(alloc: Global, ledger: &[Access]) -> Result<Vec<u8>, AllocError> {
     let mut bytes = Vec::new(alloc);
     for access in ledger {
-        match access.reply() {
-            Reply::Word(word) => bytes.extend_from_slice(&word.to_le_bytes())?,
-            Reply::Words(words) => {
-                for word in words.as_slice() {
-                    bytes.extend_from_slice(&word.to_le_bytes())?;
-                }
+        push_reply(&mut bytes, access.reply())?;
+    }
+    Ok(bytes)
+}
+
+/// Adds the words of a reply.
+fn push_reply(bytes: &mut Vec<u8>, reply: &Reply) -> Result<(), AllocError> {
+    match reply {
+        Reply::Word(word) => bytes.extend_from_slice(&word.to_le_bytes())?,
+        Reply::Words(words) => {
+            for word in words.as_slice() {
+                bytes.extend_from_slice(&word.to_le_bytes())?;
             }
         }
     }
-    Ok(bytes)
+    Ok(())
 }

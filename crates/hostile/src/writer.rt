@@ -3,30 +3,22 @@ ghost use Rattle.std.specs.Prelude.{◌≤◌, IfOk, length};
 use std::alloc::{AllocError, Global};
 use std::io::{self, ErrorKind, Write};
 
-/// When a writer fails.
-#[derive(Clone, Copy, PartialEq, Eq)]
-pub enum Failure {
-    /// At the write of this number, counted from 1.
-    Write(u32),
-    /// When it is flushed, and not before.
-    Flush,
-}
-
 /// A writer that takes few bytes a call, and fails once.
 #[derive(Drop)]
 pub struct Writer {
     most: usize,
-    failure: Failure,
+    /// The number of the write that fails, counted from 1.
+    fails: u32,
     writes: u32,
     taken: Vec<u8>,
 }
 
 impl Writer {
-    /// A writer that takes at most so many bytes a call.
-    pub fn new(alloc: Global, most: usize, failure: Failure) -> Writer {
+    /// A writer that takes at most so many bytes a call, and fails at the write of this number, counted from 1.
+    pub fn new(alloc: Global, most: usize, fails: u32) -> Writer {
         Writer {
             most,
-            failure,
+            fails,
             writes: 0,
             taken: Vec::new(alloc),
         }
@@ -54,7 +46,7 @@ impl Writer {
 impl Write for Writer {
     fn write(&mut self, buf: &[u8]) -> io::Result<usize> {
         self.writes = self.writes.wrapping_add(1);
-        if self.failure == Failure::Write(self.writes) {
+        if self.fails == self.writes {
             return Err(io::Error::from(ErrorKind::Other));
         }
         match self.take(buf) {
@@ -64,9 +56,6 @@ impl Write for Writer {
     }
 
     fn flush(&mut self) -> io::Result<()> {
-        if self.failure == Failure::Flush {
-            return Err(io::Error::from(ErrorKind::Other));
-        }
         Ok(())
     }
 }

@@ -3,16 +3,18 @@
 #![tactic(auto)]
 
 #[cfg(test)]
-mod campaigns;
-#[cfg(test)]
 mod chronicles;
 #[cfg(test)]
 mod lives;
+#[cfg(test)]
+mod replays;
 #[cfg(test)]
 mod rounds;
 #[cfg(test)]
 mod scenarios;
 #[cfg(test)]
 mod signed_worlds;
+#[cfg(test)]
+mod texts;
 #[cfg(test)]
 mod worlds;
