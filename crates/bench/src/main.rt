@@ -2,7 +2,6 @@
 //! output, which is the same at every run, and the times go to standard error.
 #![tactic(auto)]
 
-mod audits;
 mod bytecode;
 mod campaigns;
 mod figure;
@@ -13,6 +12,8 @@ mod report;
 mod rounds;
 mod shape;
 mod signatures;
+mod texts;
+mod timing;
 mod trees;
 mod work;
 

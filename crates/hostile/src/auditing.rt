@@ -2,7 +2,7 @@
 use crate::campaign::Campaign;
 use crate::changes::{next, with_byte};
 use crate::marks::{back, ready};
-use crate::outcome::{Outcome, outcome};
+use crate::outcome::{Outcome, compared};
 use crate::playing::{play_by, played, text};
 use crate::signing;
 use anyhow::{Result, bail};
@@ -27,7 +27,10 @@ pub fn checks<R: Print + AllocGlobal>(rt: &R, campaign: Campaign) -> Result<Outc
     let first = check(alloc, &scenario, told);
     back(rt);
     let first = signing::judged(alloc, first)?;
-    outcome(first, signing::judged(alloc, check(alloc, &scenario, told))?)
+    compared(
+        first,
+        signing::judged(alloc, check(alloc, &scenario, told))?,
+    )
 }
 
 /// How often each byte of the chronicle is changed.

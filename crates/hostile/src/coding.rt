@@ -1,7 +1,7 @@
 //! The calls on programs: their bytes, their text, and the verifier.
 use crate::campaign::Campaign;
 use crate::marks::{back, ready};
-use crate::outcome::{Outcome, Told, outcome};
+use crate::outcome::{Outcome, Told, compared};
 use anyhow::{Result, bail};
 use asm::{AsmError, assemble, disassemble};
 use codec::{CodecError, decode, encode};
@@ -17,7 +17,7 @@ pub fn decodes<R: Print + AllocGlobal>(rt: &R, campaign: Campaign) -> Result<Out
     let first = decode(alloc, bytes.as_slice());
     back(rt);
     let first = decoded(alloc, first)?;
-    outcome(first, decoded(alloc, decode(alloc, bytes.as_slice()))?)
+    compared(first, decoded(alloc, decode(alloc, bytes.as_slice()))?)
 }
 
 /// What `decode` tells.
@@ -36,7 +36,7 @@ pub fn encodes<R: Print + AllocGlobal>(rt: &R, campaign: Campaign) -> Result<Out
     ready(rt);
     let first = encode(alloc, &program);
     back(rt);
-    outcome(encoded(first), encoded(encode(alloc, &program)))
+    compared(encoded(first), encoded(encode(alloc, &program)))
 }
 
 /// What `encode` tells.
@@ -54,7 +54,10 @@ pub fn assembles<R: Print + AllocGlobal>(rt: &R, campaign: Campaign) -> Result<O
     let first = assemble(alloc, campaign.assembly());
     back(rt);
     let first = assembled(alloc, first)?;
-    outcome(first, assembled(alloc, assemble(alloc, campaign.assembly()))?)
+    compared(
+        first,
+        assembled(alloc, assemble(alloc, campaign.assembly()))?,
+    )
 }
 
 /// What `assemble` tells.
@@ -73,7 +76,7 @@ pub fn disassembles<R: Print + AllocGlobal>(rt: &R, campaign: Campaign) -> Resul
     ready(rt);
     let first = disassemble(alloc, &program);
     back(rt);
-    outcome(
+    compared(
         disassembled(first),
         disassembled(disassemble(alloc, &program)),
     )
@@ -95,7 +98,7 @@ pub fn verifies<R: Print + AllocGlobal>(rt: &R, campaign: Campaign) -> Result<Ou
     let first = verify(alloc, program);
     back(rt);
     let (first, is_refused) = judged(alloc, first)?;
-    let outcome = outcome(first, ample(alloc, campaign)?)?;
+    let outcome = compared(first, ample(alloc, campaign)?)?;
     Ok(if is_refused { Outcome::Memory } else { outcome })
 }
 

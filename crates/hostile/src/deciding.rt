@@ -1,7 +1,7 @@
 //! The call that decides for all lieutenants.
 use crate::campaign::Campaign;
 use crate::marks::{back, ready};
-use crate::outcome::{Outcome, Told, outcome};
+use crate::outcome::{Outcome, Told, compared};
 use anyhow::Result;
 use combine::Rule;
 use label::unrank;
@@ -26,7 +26,7 @@ pub fn resolves<R: Print + Threads + Sync + AllocGlobal>(
     back(rt);
     let first = decided(alloc, first)?;
     let again = resolve_all(rt, alloc, trees.as_slice(), &rule);
-    outcome(first, decided(alloc, again)?)
+    compared(first, decided(alloc, again)?)
 }
 
 /// What `resolve_all` tells: the decisions, each in four bytes.

@@ -39,7 +39,7 @@ impl fmt::Display for Outcome {
 /// # Errors
 ///
 /// That the second answer is none, or another than the first.
-pub fn outcome(first: Told, again: Told) -> Result<Outcome> {
+pub fn compared(first: Told, again: Told) -> Result<Outcome> {
     let Told::Bytes(again) = again else {
         bail!("asked again, the call does not answer");
     };

@@ -1,7 +1,7 @@
 //! The calls on worlds: opened, led on event by event, played, and mustered.
 use crate::campaign::Campaign;
 use crate::marks::{back, ready};
-use crate::outcome::{Outcome, Told, led, outcome};
+use crate::outcome::{Outcome, Told, led, compared};
 use anyhow::{Result, bail};
 use round::Scenario;
 use std::alloc::{AllocError, Global};
@@ -22,7 +22,11 @@ pub fn text(alloc: Global, chronicle: &Chronicle) -> Result<Vec<u8>> {
 }
 
 /// The scenario's chronicle by a schedule.
-pub fn play_by(alloc: Global, scenario: &Scenario, schedule: &Schedule) -> Result<Chronicle, AllocError> {
+pub fn play_by(
+    alloc: Global,
+    scenario: &Scenario,
+    schedule: &Schedule,
+) -> Result<Chronicle, AllocError> {
     play(alloc, scenario.copy(alloc)?, schedule)
 }
 
@@ -56,7 +60,7 @@ pub fn opens<R: Print + AllocGlobal>(rt: &R, campaign: Campaign) -> Result<Outco
     back(rt);
     let first = opened(alloc, first, campaign)?;
     let again = World::open(alloc, campaign.scenario(alloc)?);
-    outcome(first, opened(alloc, again, campaign)?)
+    compared(first, opened(alloc, again, campaign)?)
 }
 
 /// What `World::open` tells: the text of the chronicle to which the campaign's events lead the world.
@@ -79,7 +83,11 @@ pub fn happens<R: Print + AllocGlobal>(rt: &R, campaign: Campaign) -> Result<Out
     let happened = happen(alloc, &mut world, events.as_slice());
     back(rt);
     let first = told(alloc, world)?;
-    led(happened?, first.as_slice(), played(alloc, campaign)?.as_slice())
+    led(
+        happened?,
+        first.as_slice(),
+        played(alloc, campaign)?.as_slice(),
+    )
 }
 
 /// Lets the events happen. The answer is whether memory was refused to any of them.
@@ -121,7 +129,7 @@ pub fn plays<R: Print + AllocGlobal>(rt: &R, campaign: Campaign) -> Result<Outco
     back(rt);
     let first = chronicled(alloc, first)?;
     let again = play(alloc, campaign.scenario(alloc)?, &schedule);
-    outcome(first, chronicled(alloc, again)?)
+    compared(first, chronicled(alloc, again)?)
 }
 
 /// What `play` tells: the text of its chronicle.
@@ -144,7 +152,7 @@ pub fn musters<R: Print + Threads + Wait + Sync + AllocGlobal>(
     back(rt);
     let first = audited(alloc, first, campaign)?;
     let again = muster(rt, alloc, campaign.scenario(alloc)?, &Open);
-    outcome(first, audited(alloc, again, campaign)?)
+    compared(first, audited(alloc, again, campaign)?)
 }
 
 /// What `muster` tells: no more than that its chronicle is sound.

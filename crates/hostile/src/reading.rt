@@ -2,7 +2,7 @@
 use crate::campaign::Campaign;
 use crate::changes::next;
 use crate::marks::{back, ready};
-use crate::outcome::{Outcome, Told, outcome};
+use crate::outcome::{Outcome, Told, compared};
 use crate::playing::{play_by, play_freely, text};
 use anyhow::{Result, bail};
 use round::Scenario;
@@ -18,7 +18,7 @@ pub fn reads<R: Print + AllocGlobal>(rt: &R, campaign: Campaign) -> Result<Outco
     let first = read(alloc, campaign.text());
     back(rt);
     let first = told(alloc, first)?;
-    outcome(first, told(alloc, read(alloc, campaign.text()))?)
+    compared(first, told(alloc, read(alloc, campaign.text()))?)
 }
 
 /// What `read` tells: the text of the scenario's chronicle.
@@ -39,7 +39,7 @@ pub fn reads_schedule<R: Print + AllocGlobal>(rt: &R, campaign: Campaign) -> Res
     back(rt);
     let first = told_by(alloc, &scenario, first)?;
     let again = read_schedule(alloc, campaign.schedule_text());
-    outcome(first, told_by(alloc, &scenario, again)?)
+    compared(first, told_by(alloc, &scenario, again)?)
 }
 
 /// What `read_schedule` tells: the text of the scenario's chronicle by the schedule.

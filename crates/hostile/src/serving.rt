@@ -48,7 +48,11 @@ pub fn applies<R: Print + AllocGlobal>(rt: &R) -> Result<Outcome> {
     back(rt);
     let is_refused = served?;
     let first = ledger_bytes(alloc, board.ledger())?;
-    led(is_refused, first.as_slice(), ample(alloc, requests.as_slice())?.as_slice())
+    led(
+        is_refused,
+        first.as_slice(),
+        ample(alloc, requests.as_slice())?.as_slice(),
+    )
 }
 
 /// The replies with ample memory.

@@ -1,7 +1,7 @@
 //! The calls on campaigns of signed messages: opened, led on event by event, played, and audited.
 use crate::campaign::Campaign;
 use crate::marks::{back, ready};
-use crate::outcome::{Outcome, Told, led, outcome};
+use crate::outcome::{Outcome, Told, led, compared};
 use anyhow::{Result, bail};
 use round::Scenario;
 use signed::{SignedChronicle, SignedWorld, play_signed};
@@ -49,7 +49,7 @@ pub fn opens<R: Print + AllocGlobal>(rt: &R, campaign: Campaign) -> Result<Outco
     back(rt);
     let first = opened(alloc, first, campaign)?;
     let again = SignedWorld::open(alloc, campaign.signed_scenario(alloc)?);
-    outcome(first, opened(alloc, again, campaign)?)
+    compared(first, opened(alloc, again, campaign)?)
 }
 
 /// What `SignedWorld::open` tells: the text of the chronicle to which the campaign's events lead the world.
@@ -76,7 +76,11 @@ pub fn happens<R: Print + AllocGlobal>(rt: &R, campaign: Campaign) -> Result<Out
     let happened = happen(alloc, &mut world, events.as_slice());
     back(rt);
     let first = told(alloc, world)?;
-    led(happened?, first.as_slice(), played(alloc, campaign)?.as_slice())
+    led(
+        happened?,
+        first.as_slice(),
+        played(alloc, campaign)?.as_slice(),
+    )
 }
 
 /// Lets the events happen. The answer is whether memory was refused to any of them.
@@ -118,7 +122,7 @@ pub fn plays<R: Print + AllocGlobal>(rt: &R, campaign: Campaign) -> Result<Outco
     back(rt);
     let first = chronicled(alloc, first)?;
     let again = play_signed(alloc, campaign.signed_scenario(alloc)?, &schedule);
-    outcome(first, chronicled(alloc, again)?)
+    compared(first, chronicled(alloc, again)?)
 }
 
 /// What `play_signed` tells: the text of its chronicle.
@@ -144,7 +148,7 @@ pub fn checks<R: Print + AllocGlobal>(rt: &R, campaign: Campaign) -> Result<Outc
     let first = check_signed(alloc, &scenario, told);
     back(rt);
     let first = judged(alloc, first)?;
-    outcome(first, judged(alloc, check_signed(alloc, &scenario, told))?)
+    compared(first, judged(alloc, check_signed(alloc, &scenario, told))?)
 }
 
 /// What an audit tells: its verdict.

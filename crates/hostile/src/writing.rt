@@ -66,6 +66,7 @@ fn are_signed_told<R: AllocGlobal>(rt: &R, size: usize) -> Result<bool> {
 }
 
 /// What comes of a text that is written to a writer which fails at one of its writes.
+#[derive(Clone, Copy)]
 enum End {
     /// All of it was taken.
     Whole,
@@ -85,7 +86,7 @@ fn fails_at_each_write<R: AllocGlobal>(
 ) -> bool {
     for nth in 1..MOST_WRITES {
         let writer = Writer::new(rt.alloc(), size, nth);
-        match end(chronicle, whole, writer) {
+        match written(chronicle, whole, writer) {
             End::Whole => return true,
             End::Told => {}
             End::Other => return false,
@@ -95,7 +96,7 @@ fn fails_at_each_write<R: AllocGlobal>(
 }
 
 /// What comes of the chronicle of this text that is written to the writer.
-fn end(chronicle: Told<'_>, whole: &[u8], writer: Writer) -> End {
+fn written(chronicle: Told<'_>, whole: &[u8], writer: Writer) -> End {
     let mut sink = Latch::new(writer);
     let answer = chronicle.write(&mut sink);
     let writer = sink.into_writer();

@@ -179,19 +179,21 @@ fn last_differs(letters: &[Letter], others: &[Letter]) -> bool {
     letters.len() == 4 && others.len() == 4
 }
 
+/// The letters of a chronicle's first round.
+fn first_letters(chronicle: &Chronicle) -> &[Letter] {
+    match chronicle.letters() {
+        [first, ..] => first.letters(),
+        [] => &[],
+    }
+}
+
 /// In the first round he relays nothing, so that only the number of steps tells two cut-offs apart.
 #[test]
 fn letters_differ_by_their_steps(rt: HostRuntime) -> Result<(), Fail> {
     let alloc = rt.alloc();
     let short = played(alloc, FOUR_AND_TWO_STEPS, SWAYING, "")?;
     let long = played(alloc, FOUR_AND_THREE_STEPS, SWAYING, "")?;
-    let [first, ..] = short.letters() else {
-        return Err("no round")?;
-    };
-    let [other, ..] = long.letters() else {
-        return Err("no round")?;
-    };
-    assert!(rt; last_differs(first.letters(), other.letters()));
+    assert!(rt; last_differs(first_letters(&short), first_letters(&long)));
     Ok(())
 }
 
@@ -244,15 +246,22 @@ fn fills(tree: &mut Tree, round: &Round, told: [Option<u32>; 3]) -> bool {
     orders(tree) == told
 }
 
+/// Whether the letters of two rounds fill in what makes up these orders.
+fn are_filled_in(tree: &mut Tree, chronicle: &Chronicle) -> bool {
+    match chronicle.letters() {
+        [first, second] => {
+            fills(tree, first, [Some(1), None, None])
+                && fills(tree, second, [Some(1), Some(1), Some(0)])
+        }
+        _ => false,
+    }
+}
+
 #[test]
 fn letters_fill_a_tree(rt: HostRuntime) -> Result<(), Fail> {
     let alloc = rt.alloc();
     let mut tree = Tree::new(alloc, 4, 1, 0, 1)?;
     let chronicle = played(alloc, FOUR, SWAYING, "")?;
-    let [first, second] = chronicle.letters() else {
-        return Err("other rounds")?;
-    };
-    assert!(rt; fills(&mut tree, first, [Some(1), None, None]));
-    assert!(rt; fills(&mut tree, second, [Some(1), Some(1), Some(0)]));
+    assert!(rt; are_filled_in(&mut tree, &chronicle));
     Ok(())
 }

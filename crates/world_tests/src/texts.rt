@@ -51,6 +51,14 @@ pub(crate) const SEVEN_AND_TWO_STEPS: &str =
 pub(crate) const SEVEN_AND_THREE_STEPS: &str =
     "generals = 7\nbound = 2\ncommander = 0\norder = 0\npatience = 3\n";
 
+/// The same seven generals, whose board begins with the word 5.
+pub(crate) const SEVEN_ON_A_BOARD: &str =
+    "generals = 7\nbound = 2\ncommander = 0\norder = 0\nboard = [5]\n";
+
+/// The same, in which nobody waits for more than sixteen steps.
+pub(crate) const SEVEN_AND_SIXTEEN_STEPS: &str =
+    "generals = 7\nbound = 2\ncommander = 0\norder = 0\npatience = 16\n";
+
 /// General 3 tells 1 and 2 to retreat, in seven instructions.
 pub(crate) const SWAYING: &str = "[[traitor]]
 general = 3
@@ -199,6 +207,99 @@ call sway
 mov r1, 3
 mov r2, r6
 call sway
+exit
+'''
+";
+
+/// The same, and each then gets word 63: seventeen steps.
+pub(crate) const COLLUDING_AND_LOOKING: &str = "[[traitor]]
+general = 0
+asm = '''
+mov r1, 0
+mov r2, 1
+call board_add
+mov r6, r0
+and r6, 1
+mov r1, 1
+mov r2, r6
+call sway
+mov r1, 2
+mov r2, r6
+call sway
+mov r1, 3
+mov r2, r6
+call sway
+mov r1, 63
+call board_get
+exit
+'''
+[[traitor]]
+general = 4
+asm = '''
+mov r1, 0
+mov r2, 1
+call board_add
+mov r6, r0
+and r6, 1
+mov r1, 1
+mov r2, r6
+call sway
+mov r1, 2
+mov r2, r6
+call sway
+mov r1, 3
+mov r2, r6
+call sway
+mov r1, 63
+call board_get
+exit
+'''
+";
+
+/// Generals 5 and 6 each set the word of their number to 1, and get the other's.
+pub(crate) const SETTING: &str = "[[traitor]]
+general = 5
+asm = '''
+mov r1, 5
+mov r2, 1
+call board_swap
+mov r1, 6
+call board_get
+exit
+'''
+[[traitor]]
+general = 6
+asm = '''
+mov r1, 6
+mov r2, 1
+call board_swap
+mov r1, 5
+call board_get
+exit
+'''
+";
+
+/// Generals 0 and 4 get three words each.
+pub(crate) const LOOKING: &str = "[[traitor]]
+general = 0
+asm = '''
+mov r1, 0
+call board_get
+mov r1, 1
+call board_get
+mov r1, 2
+call board_get
+exit
+'''
+[[traitor]]
+general = 4
+asm = '''
+mov r1, 0
+call board_get
+mov r1, 1
+call board_get
+mov r1, 2
+call board_get
 exit
 '''
 ";

@@ -1,7 +1,8 @@
 //! The post: letter by letter, and between threads.
 ghost use Rattle.std.specs.Prelude.{◌≡◌, IfOk};
 
-use crate::threaded::{campaign, letters};
+use crate::scenarios::played;
+use crate::threaded::letters;
 use post::{Collector, Post, Poster};
 use round::Letter;
 use std::alloc::Global;
@@ -11,7 +12,6 @@ use std::sync::atomic::{AtomicU32, Ordering};
 use std::test::Fail;
 use std::thread;
 use std::thread::Threads;
-use world::{Schedule, play};
 
 /// How many letters of a general differ.
 const ORDERS: u32 = 50;
@@ -26,10 +26,7 @@ fn numbered(alloc: Global, general: u32, number: u32) -> Result<Letter, Fail>
     let keys = format!(in alloc;
         "generals = 3\nbound = 0\ncommander = {general}\norder = {number}\n"
     )?;
-    let schedule = Schedule {
-        lines: Vec::new(alloc),
-    };
-    let chronicle = play(alloc, campaign(alloc, keys.as_str(), &[])?, &schedule)?;
+    let chronicle = played(alloc, keys.as_str(), "", "")?;
     for letter in letters(alloc, &chronicle)? {
         if letter.general == general {
             return Ok(letter);

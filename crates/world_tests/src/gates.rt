@@ -1,16 +1,17 @@
 //! What a gate is asked before each access, and that the generals of a muster act at once.
 
-use crate::threaded::{ADDER, SEVEN, campaign, colluders, five_decide, replays, word};
+use crate::scenarios::told;
+use crate::texts::{COLLUDING_AND_LOOKING, LOOKING, SETTING, SEVEN, SEVEN_AND_SIXTEEN_STEPS};
+use crate::threaded::{AGREED, all_adding, count, mustered, replays, word};
 use board::Access;
 use semantics::Request;
 use std::alloc::Global;
-use std::process::Abort;
 use std::sync::Wait;
 use std::sync::atomic::{AtomicU32, Ordering};
 use std::test::Fail;
 use std::thread;
 use std::thread::Threads;
-use threads::{Gate, muster};
+use threads::Gate;
 use world::{Chronicle, Verdict};
 
 /// How many turns a general is held at most.
@@ -30,14 +31,38 @@ fn hold(count: &AtomicU32, wanted: u32, missed: &AtomicU32) {
     missed.fetch_add(1, Ordering::SeqCst);
 }
 
-/// No count of a round.
-fn counts() -> [AtomicU32; 4] {
-    [
-        AtomicU32::new(0),
-        AtomicU32::new(0),
-        AtomicU32::new(0),
-        AtomicU32::new(0),
-    ]
+/// A count for each round.
+#[derive(Drop)]
+struct Counts {
+    first: AtomicU32,
+    second: AtomicU32,
+    third: AtomicU32,
+}
+
+impl Counts {
+    fn none() -> Counts {
+        Counts {
+            first: AtomicU32::new(0),
+            second: AtomicU32::new(0),
+            third: AtomicU32::new(0),
+        }
+    }
+
+    /// The count of a round.
+    fn of(&self, round: u32) -> &AtomicU32 {
+        match round {
+            1 => &self.first,
+            2 => &self.second,
+            _ => &self.third,
+        }
+    }
+
+    /// Whether these are the counts.
+    fn are(&self, counts: (u32, u32, u32)) -> bool {
+        self.first.load(Ordering::SeqCst) == counts.0
+            && self.second.load(Ordering::SeqCst) == counts.1
+            && self.third.load(Ordering::SeqCst) == counts.2
+    }
 }
 
 /// Holds each general at one of his accesses until all that are wanted have come to it, in the rounds up to one.
@@ -46,9 +71,26 @@ struct Meeting {
     nth: u64,
     last_round: u32,
     wanted: u32,
-    come: [AtomicU32; 4],
+    come: Counts,
     /// How many were let go since the turns were over.
     missed: AtomicU32,
+}
+
+impl Meeting {
+    fn of(nth: u64, last_round: u32, wanted: u32) -> Meeting {
+        Meeting {
+            nth,
+            last_round,
+            wanted,
+            come: Counts::none(),
+            missed: AtomicU32::new(0),
+        }
+    }
+
+    /// Whether so many came in each round, and none was let go since the turns were over.
+    fn is_met(&self, come: (u32, u32, u32)) -> bool {
+        self.come.are(come) && self.missed.load(Ordering::SeqCst) == 0
+    }
 }
 
 impl Gate for Meeting {
@@ -56,19 +98,10 @@ impl Gate for Meeting {
         if nth != self.nth || round > self.last_round {
             return;
         }
-        let Some(come) = self.come.get(round as usize) else {
-            return;
-        };
+        let come = self.come.of(round);
         come.fetch_add(1, Ordering::SeqCst);
         hold(come, self.wanted, &self.missed);
     }
-}
-
-/// Sets a word of its own, and gets another's.
-fn setter(alloc: Global, own: u32, other: u32) -> Result<String, Fail> {
-    Ok(format!(in alloc;
-        "mov r1, {own}\nmov r2, 1\ncall board_swap\nmov r1, {other}\ncall board_get\nexit\n"
-    )?)
 }
 
 /// Whether an access got a word that was 1.
@@ -81,10 +114,12 @@ fn have_met(accesses: &[Access]) -> bool {
     let [first, second, third, fourth, ..] = accesses else {
         return false;
     };
-    let rounds = [first.round, second.round, third.round, fourth.round];
     let generals = (third.general, fourth.general);
     accesses.len() == 12
-        && rounds == [1; 4]
+        && first.round == 1
+        && second.round == 1
+        && third.round == 1
+        && fourth.round == 1
         && (generals == (5, 6) || generals == (6, 5))
         && got_one(third)
         && got_one(fourth)
@@ -93,32 +128,11 @@ fn have_met(accesses: &[Access]) -> bool {
 #[test]
 fn two_generals_get_what_the_other_set(rt: HostRuntime) -> Result<(), Fail> {
     let alloc = rt.alloc();
-    let (fifth, sixth) = (setter(alloc, 5, 6)?, setter(alloc, 6, 5)?);
-    let scenario = campaign(alloc, SEVEN, &[(5, fifth.as_str()), (6, sixth.as_str())])?;
-    let gate = Meeting {
-        nth: 1,
-        last_round: 1,
-        wanted: 2,
-        come: counts(),
-        missed: AtomicU32::new(0),
-    };
-    let chronicle = muster(&rt, alloc, scenario, &gate)?;
-    assert_eq!(rt; gate.missed.load(Ordering::SeqCst), 0);
-    assert_eq!(rt; gate.come[1].load(Ordering::SeqCst), 2);
-    assert!(rt; have_met(chronicle.accesses()));
-    replays(&rt, alloc, &chronicle)
-}
-
-/// Whether the replies count the accesses.
-fn ascend(accesses: &[Access]) -> bool {
-    let mut next = 0;
-    for access in accesses {
-        if word(&access.reply) != Some(next) {
-            return false;
-        }
-        next = next.wrapping_add(1);
-    }
-    true
+    let gate = Meeting::of(1, 1, 2);
+    let chronicle = mustered(&rt, alloc, told(alloc, SEVEN, SETTING)?, &gate)?;
+    assert!(rt; gate.is_met((2, 0, 0)) && have_met(chronicle.accesses()));
+    assert!(rt; replays(alloc, &chronicle)?);
+    Ok(())
 }
 
 /// The verdict where all are traitors.
@@ -131,38 +145,23 @@ const BEYOND_BOUND: Verdict = Verdict {
 #[test]
 fn seven_traitors_come_to_the_board_together(rt: HostRuntime) -> Result<(), Fail> {
     let alloc = rt.alloc();
-    let traitors = [0, 1, 2, 3, 4, 5, 6].map(|general| (general, ADDER));
-    let scenario = campaign(alloc, SEVEN, &traitors)?;
-    let gate = Meeting {
-        nth: 0,
-        last_round: 3,
-        wanted: 7,
-        come: counts(),
-        missed: AtomicU32::new(0),
-    };
-    let chronicle = muster(&rt, alloc, scenario, &gate)?;
-    assert_eq!(rt; gate.missed.load(Ordering::SeqCst), 0);
-    for come in &gate.come[1..] {
-        assert_eq!(rt; come.load(Ordering::SeqCst), 7);
-    }
-    assert_eq!(rt; chronicle.accesses().len(), 21);
-    assert!(rt; ascend(chronicle.accesses()));
-    assert_eq!(rt; chronicle.verdict(), BEYOND_BOUND);
-    replays(&rt, alloc, &chronicle)
+    let gate = Meeting::of(0, 3, 7);
+    let chronicle = mustered(&rt, alloc, all_adding(alloc)?, &gate)?;
+    assert!(rt; gate.is_met((7, 7, 7)) && count(chronicle.accesses(), 21, 0));
+    assert!(rt; chronicle.verdict() == BEYOND_BOUND && replays(alloc, &chronicle)?);
+    Ok(())
 }
 
 /// Holds general 0 at his first access of a round until general 4 has come to his second.
 #[derive(Drop)]
 struct Reversing {
-    come: [AtomicU32; 4],
+    come: Counts,
     missed: AtomicU32,
 }
 
 impl Gate for Reversing {
     fn before_access(&self, general: u32, round: u32, nth: u64) {
-        let Some(come) = self.come.get(round as usize) else {
-            return;
-        };
+        let come = self.come.of(round);
         if general == 4 && nth == 1 {
             come.store(1, Ordering::SeqCst);
         } else if general == 0 && nth == 0 {
@@ -198,63 +197,73 @@ fn have_taken(chronicle: &Chronicle, steps: u32) -> bool {
     true
 }
 
-/// Two colluders who get word 63 in the end: the second adds before the first in each round, and each of their letters
-/// says so many steps.
-fn reversed<R: Threads + Wait + Abort + Sync>(
+/// Whether the loyal lieutenants of seven, 1, 2, 3, 5 and 6, decide for 0, and the verdict is that they agree.
+fn five_retreat(chronicle: &Chronicle) -> bool {
+    let [0, 0, 0, _, 0, 0] = chronicle.decisions() else {
+        return false;
+    };
+    chronicle.verdict() == AGREED
+}
+
+/// Whether with two colluders who get word 63 in the end the second adds before the first in each round, and each of their
+/// letters says so many steps.
+fn is_reversed<R: Threads + Wait + Sync>(
     rt: &R,
     alloc: Global,
     keys: &str,
     steps: u32,
-) -> Result<(), Fail> {
-    let program = ADDER.replace(alloc, "exit\n", "mov r1, 63\ncall board_get\nexit\n")?;
-    let scenario = colluders(alloc, keys, program.as_str())?;
+) -> Result<bool, Fail> {
     let gate = Reversing {
-        come: counts(),
+        come: Counts::none(),
         missed: AtomicU32::new(0),
     };
-    let chronicle = muster(rt, alloc, scenario, &gate)?;
-    assert_eq!(rt; gate.missed.load(Ordering::SeqCst), 0);
-    assert!(rt; are_reversed(chronicle.accesses()));
-    assert!(rt; have_taken(&chronicle, steps));
-    assert!(rt; five_decide(&chronicle, 0));
-    replays(rt, alloc, &chronicle)
+    let chronicle = mustered(rt, alloc, told(alloc, keys, COLLUDING_AND_LOOKING)?, &gate)?;
+    Ok(
+        gate.missed.load(Ordering::SeqCst) == 0
+            && are_reversed(chronicle.accesses())
+            && have_taken(&chronicle, steps)
+            && five_retreat(&chronicle)
+            && replays(alloc, &chronicle)?,
+    )
 }
 
+/// With a patience of sixteen steps, of which each has seventeen, the last step is an access.
 #[test]
 fn the_second_colluder_adds_first(rt: HostRuntime) -> Result<(), Fail> {
-    reversed(&rt, rt.alloc(), SEVEN, 17)
-}
-
-#[test]
-fn the_last_step_of_patience_is_served(rt: HostRuntime) -> Result<(), Fail> {
     let alloc = rt.alloc();
-    let keys = format!(in alloc; "{SEVEN}patience = 16\n")?;
-    reversed(&rt, alloc, keys.as_str(), 16)
+    assert!(rt; is_reversed(&rt, alloc, SEVEN, 17)?);
+    assert!(rt; is_reversed(&rt, alloc, SEVEN_AND_SIXTEEN_STEPS, 16)?);
+    Ok(())
 }
 
-/// Counts how often it is asked, by the number of the access.
+/// Counts how often it is asked for a general's first, second and third access, and for a later one.
 #[derive(Drop)]
 struct Counting {
-    asked: [AtomicU32; 4],
+    asked: Counts,
+    beyond: AtomicU32,
 }
 
 impl Gate for Counting {
     fn before_access(&self, _general: u32, _round: u32, nth: u64) {
-        let place = nth.min(3) as usize;
-        self.asked[place].fetch_add(1, Ordering::SeqCst);
+        let asked = match nth {
+            0 => &self.asked.first,
+            1 => &self.asked.second,
+            2 => &self.asked.third,
+            _ => &self.beyond,
+        };
+        asked.fetch_add(1, Ordering::SeqCst);
     }
 }
 
 #[test]
 fn each_access_is_asked_for_once(rt: HostRuntime) -> Result<(), Fail> {
     let alloc = rt.alloc();
-    let program =
-        "mov r1, 0\ncall board_get\nmov r1, 1\ncall board_get\nmov r1, 2\ncall board_get\nexit\n";
-    let gate = Counting { asked: counts() };
-    let chronicle = muster(&rt, alloc, colluders(alloc, SEVEN, program)?, &gate)?;
-    assert_eq!(rt; chronicle.accesses().len(), 18);
-    for (asked, times) in gate.asked.iter().zip([6, 6, 6, 0]) {
-        assert_eq!(rt; asked.load(Ordering::SeqCst), times);
-    }
+    let gate = Counting {
+        asked: Counts::none(),
+        beyond: AtomicU32::new(0),
+    };
+    let chronicle = mustered(&rt, alloc, told(alloc, SEVEN, LOOKING)?, &gate)?;
+    assert!(rt; chronicle.accesses().len() == 18);
+    assert!(rt; gate.asked.are((6, 6, 6)) && gate.beyond.load(Ordering::SeqCst) == 0);
     Ok(())
 }
