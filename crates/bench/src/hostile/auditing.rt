@@ -1,10 +1,10 @@
 //! The call that audits a chronicle, and chronicles that are cut off or changed.
-use crate::campaign::Campaign;
-use crate::changes::{next, with_byte};
-use crate::marks::{back, ready};
-use crate::outcome::{Outcome, compared};
-use crate::playing::{play_by, played, text};
-use crate::signing;
+use crate::hostile::campaign::Campaign;
+use crate::hostile::changes::{next, with_byte};
+use crate::hostile::marks::{back, ready};
+use crate::hostile::outcome::{Outcome, compared};
+use crate::hostile::playing::{play_by, played, text};
+use crate::hostile::signing;
 use anyhow::{Result, bail};
 use round::Scenario;
 use std::alloc::{AllocError, Global};

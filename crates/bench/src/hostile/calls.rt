@@ -1,8 +1,8 @@
 //! One call on what belongs to one campaign, and what is printed of it.
-use crate::call::Call;
-use crate::campaign::Campaign;
-use crate::outcome::Outcome;
-use crate::{auditing, coding, deciding, playing, reading, serving, signing};
+use crate::hostile::call::Call;
+use crate::hostile::campaign::Campaign;
+use crate::hostile::outcome::Outcome;
+use crate::hostile::{auditing, coding, deciding, playing, reading, serving, signing};
 use anyhow::Result;
 use std::sync::Wait;
 use std::thread::Threads;

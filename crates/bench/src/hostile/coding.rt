@@ -1,7 +1,7 @@
 //! The calls on programs: their bytes, their text, and the verifier.
-use crate::campaign::Campaign;
-use crate::marks::{back, ready};
-use crate::outcome::{Outcome, Told, compared};
+use crate::hostile::campaign::Campaign;
+use crate::hostile::marks::{back, ready};
+use crate::hostile::outcome::{Outcome, Told, compared};
 use anyhow::{Result, bail};
 use asm::{AsmError, assemble, disassemble};
 use codec::{CodecError, decode, encode};

@@ -1,7 +1,7 @@
 //! The call that decides for all lieutenants.
-use crate::campaign::Campaign;
-use crate::marks::{back, ready};
-use crate::outcome::{Outcome, Told, compared};
+use crate::hostile::campaign::Campaign;
+use crate::hostile::marks::{back, ready};
+use crate::hostile::outcome::{Outcome, Told, compared};
 use anyhow::Result;
 use combine::Rule;
 use label::unrank;

@@ -1,7 +1,7 @@
 //! The calls on worlds: opened, led on event by event, played, and mustered.
-use crate::campaign::Campaign;
-use crate::marks::{back, ready};
-use crate::outcome::{Outcome, Told, led, compared};
+use crate::hostile::campaign::Campaign;
+use crate::hostile::marks::{back, ready};
+use crate::hostile::outcome::{Outcome, Told, compared, led};
 use anyhow::{Result, bail};
 use round::Scenario;
 use std::alloc::{AllocError, Global};
@@ -175,8 +175,9 @@ fn audited(
 /// Audits the chronicle, which is to be sound.
 fn audit(alloc: Global, scenario: &Scenario, chronicle: &Chronicle) -> Result<()> {
     let text = text(alloc, chronicle)?;
-    match check(alloc, scenario, str::from_utf8(text.as_slice())?) {
-        Ok(_) => Ok(()),
-        Err(_) => bail!("a chronicle is not sound"),
+    let told = str::from_utf8(text.as_slice())?;
+    if check(alloc, scenario, told).is_err() {
+        bail!("a chronicle is not sound");
     }
+    Ok(())
 }

@@ -1,9 +1,9 @@
 //! The calls that read scenarios and schedules, and schedules that chance has made.
-use crate::campaign::Campaign;
-use crate::changes::next;
-use crate::marks::{back, ready};
-use crate::outcome::{Outcome, Told, compared};
-use crate::playing::{play_by, play_freely, text};
+use crate::hostile::campaign::Campaign;
+use crate::hostile::changes::next;
+use crate::hostile::marks::{back, ready};
+use crate::hostile::outcome::{Outcome, Told, compared};
+use crate::hostile::playing::{play_by, play_freely, text};
 use anyhow::{Result, bail};
 use round::Scenario;
 use scenario::{ScenarioError, read};
@@ -24,10 +24,16 @@ pub fn reads<R: Print + AllocGlobal>(rt: &R, campaign: Campaign) -> Result<Outco
 /// What `read` tells: the text of the scenario's chronicle.
 fn told(alloc: Global, answer: Result<Scenario, ScenarioError>) -> Result<Told> {
     match answer {
-        Ok(scenario) => Ok(Told::Bytes(text(alloc, &play_freely(alloc, &scenario)?)?)),
+        Ok(scenario) => played(alloc, &scenario),
         Err(ScenarioError::Memory) => Ok(Told::Memory),
         Err(_) => bail!("a scenario is refused"),
     }
+}
+
+/// The text of the scenario's chronicle without a schedule.
+fn played(alloc: Global, scenario: &Scenario) -> Result<Told> {
+    let chronicle = play_freely(alloc, scenario)?;
+    Ok(Told::Bytes(text(alloc, &chronicle)?))
 }
 
 /// `read_schedule` of the schedule's text.
@@ -49,10 +55,16 @@ fn told_by(
     answer: Result<Schedule, TraceError>,
 ) -> Result<Told> {
     match answer {
-        Ok(schedule) => Ok(Told::Bytes(text(alloc, &play_by(alloc, scenario, &schedule)?)?)),
+        Ok(schedule) => scheduled(alloc, scenario, &schedule),
         Err(TraceError::Memory) => Ok(Told::Memory),
         Err(_) => bail!("a schedule is refused"),
     }
+}
+
+/// The text of the scenario's chronicle by a schedule.
+fn scheduled(alloc: Global, scenario: &Scenario, schedule: &Schedule) -> Result<Told> {
+    let chronicle = play_by(alloc, scenario, schedule)?;
+    Ok(Told::Bytes(text(alloc, &chronicle)?))
 }
 
 /// What a schedule is made of by chance.

@@ -1,6 +1,6 @@
 //! The board's calls.
-use crate::marks::{back, ready};
-use crate::outcome::{Outcome, led};
+use crate::hostile::marks::{back, ready};
+use crate::hostile::outcome::{Outcome, led};
 use anyhow::{Result, bail};
 use board::{Access, Board};
 use semantics::{Reply, Request, Slot, Span};

@@ -1,7 +1,7 @@
 //! The calls on campaigns of signed messages: opened, led on event by event, played, and audited.
-use crate::campaign::Campaign;
-use crate::marks::{back, ready};
-use crate::outcome::{Outcome, Told, led, compared};
+use crate::hostile::campaign::Campaign;
+use crate::hostile::marks::{back, ready};
+use crate::hostile::outcome::{Outcome, Told, compared, led};
 use anyhow::{Result, bail};
 use round::Scenario;
 use signed::{SignedChronicle, SignedWorld, play_signed};

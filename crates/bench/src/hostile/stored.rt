@@ -1,6 +1,6 @@
 //! Stored programs, cut off and changed.
-use crate::bytecode::is_answered;
-use crate::changes::with_byte;
+use crate::hostile::bytecode::is_answered;
+use crate::hostile::changes::with_byte;
 use anyhow::{Result, bail};
 use asm::assemble;
 use codec::encode;

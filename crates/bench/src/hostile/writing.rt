@@ -1,8 +1,8 @@
 //! Writers that fail, and what they have taken then.
-use crate::campaign::Campaign;
-use crate::playing::{play_by, text};
-use crate::signing;
-use crate::writer::Writer;
+use crate::hostile::campaign::Campaign;
+use crate::hostile::playing::{play_by, text};
+use crate::hostile::signing;
+use crate::hostile::writer::Writer;
 use anyhow::{Result, bail};
 use signed::SignedChronicle;
 use trace::{Latch, TraceError, write_chronicle, write_signed};
