@@ -1,11 +1,14 @@
-//! `bench`, which times the codec, the verifier, the machine, trees, rounds, oral and signed campaigns and audits: what it measures goes to standard
-//! output, which is the same at every run, and the times go to standard error.
+//! `bench`, which times the layers of the laboratory, and gives them hostile input.
+//!
+//! `bench times`, or `bench` without a word, times the codec, the verifier, the machine, trees, rounds, oral and signed campaigns
+//! and audits: what it measures goes to standard output, which is the same at every run, and the times go to standard error.
+//! `bench hostile ..` is told in hostile.rt, and `bench all FILE..` does both.
 #![tactic(auto)]
 
-mod audits;
 mod bytecode;
 mod campaigns;
 mod figure;
+mod hostile;
 mod median;
 mod musters;
 mod plain;
@@ -13,16 +16,48 @@ mod report;
 mod rounds;
 mod shape;
 mod signatures;
+mod texts;
+mod timing;
 mod trees;
 mod work;
 
-use anyhow::Result;
+use anyhow::{Result, bail};
+use std::env;
+use std::rt::{Clock, Files};
+use std::sync::Wait;
+use std::thread::Threads;
 
 fn main(rt: HostRuntime) -> Result<()> {
-    report::report(&rt)?;
-    trees::report_trees(&rt)?;
-    rounds::report_rounds(&rt)?;
-    campaigns::report_campaigns(&rt)?;
-    signatures::report_signatures(&rt)?;
-    musters::report_musters(&rt)
+    let words: Vec<String> = env::args(&rt)?.skip(1).collect(rt.alloc())?;
+    match words.as_slice() {
+        [] => times(&rt),
+        [task, words @ ..] => answer(&rt, task.as_str(), words),
+    }
+}
+
+/// Does the task of this name with these words.
+fn answer<R: Print + Eprint + Clock + Files + Threads + Wait + Sync + AllocGlobal>(
+    rt: &R,
+    task: &str,
+    words: &[String],
+) -> Result<()> {
+    match task {
+        "times" => times(rt),
+        "hostile" => hostile::answer(rt, words),
+        "all" => {
+            times(rt)?;
+            hostile::answer(rt, words)
+        }
+        _ => bail!("the tasks are times, hostile and all"),
+    }
+}
+
+/// Times everything.
+fn times<R: Print + Eprint + Clock + Threads + Wait + Sync + AllocGlobal>(rt: &R) -> Result<()> {
+    report::report(rt)?;
+    trees::report_trees(rt)?;
+    rounds::report_rounds(rt)?;
+    campaigns::report_campaigns(rt)?;
+    signatures::report_signatures(rt)?;
+    musters::report_musters(rt)
 }

@@ -1,14 +1,11 @@
 use crate::bytecode::UNITS;
 use crate::figure::Figure;
-use crate::median::median;
 use crate::shape::Shape;
+use crate::timing::{Timed, median_time};
 use crate::work::{ACTIVATIONS, Material, Work, time_once};
 use anyhow::Result;
 use std::alloc::Global;
 use std::rt::Clock;
-
-/// How often each piece of work is timed.
-const TIMES: usize = 25;
 
 /// Measures every shape. What was measured is printed on standard output, the figures on standard error.
 pub fn report<R: Print + Eprint + Clock + AllocGlobal>(rt: &R) -> Result<()> {
@@ -34,6 +31,48 @@ fn works(shape: Shape) -> &'static [Work] {
     }
 }
 
+/// A piece of work on the program of a shape. What it gives is mixed into `sum`, so that it is done.
+#[derive(Drop)]
+struct Doing<'a, C> {
+    alloc: Global,
+    clock: &'a C,
+    work: Work,
+    material: &'a Material,
+    sum: u64,
+}
+
+impl<C: Clock> Timed for Doing<'_, C> {
+    fn once(&mut self) -> Result<u64> {
+        time_once(
+            self.alloc,
+            self.clock,
+            self.work,
+            self.material,
+            &mut self.sum,
+        )
+    }
+}
+
+/// The median time of the work, in nanoseconds.
+fn time_of<C: Clock>(
+    alloc: Global,
+    clock: &C,
+    work: Work,
+    material: &Material,
+    sum: &mut u64,
+) -> Result<u64> {
+    let mut doing = Doing {
+        alloc,
+        clock,
+        work,
+        material,
+        sum: *sum,
+    };
+    let time = median_time(alloc, &mut doing)?;
+    *sum = doing.sum;
+    Ok(time)
+}
+
 fn report_shape<R: Print + Eprint + Clock + AllocGlobal>(
     rt: &R,
     shape: Shape,
@@ -41,14 +80,26 @@ fn report_shape<R: Print + Eprint + Clock + AllocGlobal>(
 ) -> Result<()> {
     let alloc = rt.alloc();
     let material = Material::of(alloc, shape)?;
-    let plain = median_time(alloc, rt, Work::Plain, &material, sum)?;
+    let plain = time_of(alloc, rt, Work::Plain, &material, sum)?;
     for work in works(shape) {
-        let (count, what) = size(*work);
-        let time = median_time(alloc, rt, *work, &material, sum)?;
-        let figure = Figure { count, time, plain };
-        println!(rt; "{work}, {shape}: {count} {what}")?;
-        eprintln!(rt; "{work}, {shape}: {figure}")?;
+        let time = time_of(alloc, rt, *work, &material, sum)?;
+        report_figure(rt, shape, *work, time, plain)?;
     }
+    Ok(())
+}
+
+/// Prints what was measured on standard output, the figures on standard error.
+fn report_figure<R: Print + Eprint>(
+    rt: &R,
+    shape: Shape,
+    work: Work,
+    time: u64,
+    plain: u64,
+) -> Result<()> {
+    let (count, what) = size(work);
+    let figure = Figure { count, time, plain };
+    println!(rt; "{work}, {shape}: {count} {what}")?;
+    eprintln!(rt; "{work}, {shape}: {figure}")?;
     Ok(())
 }
 
@@ -61,19 +112,4 @@ fn size(work: Work) -> (u64, &'static str) {
         Work::Start => (activations, "activations"),
         Work::Run => (activations * units, "steps"),
     }
-}
-
-/// The median time of the work, in nanoseconds.
-fn median_time<C: Clock>(
-    alloc: Global,
-    clock: &C,
-    work: Work,
-    material: &Material,
-    sum: &mut u64,
-) -> Result<u64> {
-    let mut times = Vec::with_capacity(alloc, TIMES)?;
-    for _ in 0..TIMES {
-        times.push(time_once(alloc, clock, work, material, sum)?)?;
-    }
-    Ok(median(&mut times).unwrap_or(0))
 }

@@ -3,14 +3,15 @@ ghost use Rattle.std.specs.Prelude.{◌≡◌, ◌≤◌, suc, List, IfOk, lengt
 ghost use Rattle.round.specs.Letters.{Letter as LetterSeen};
 ghost use Rattle.round.specs.Told.{AreLettersOf, AreRoundsOf, WasTold};
 
-use crate::campaigns::scenario_of;
+use crate::campaigns::played;
 use crate::median::median;
+use crate::texts::scenario_of;
+use crate::timing::{nanoseconds, report_time};
 use anyhow::{Result, bail};
 use round::{Letter, Round, Scenario, Told, are_letters_of, are_rounds_of};
 use std::alloc::{AllocError, Global};
 use std::rt::Clock;
 use std::time::Instant;
-use world::{Schedule, play};
 
 /// How often each piece of work is timed.
 const TIMES: usize = 25;
@@ -22,10 +23,7 @@ const THIRTEEN: &str = "generals = 13\nbound = 4\ncommander = 0\norder = 1\n";
 /// standard error.
 pub fn report_rounds<R: Print + Eprint + Clock + AllocGlobal>(rt: &R) -> Result<()> {
     let alloc = rt.alloc();
-    let schedule = Schedule {
-        lines: Vec::new(alloc),
-    };
-    let chronicle = play(alloc, scenario_of(alloc, THIRTEEN)?, &schedule)?;
+    let chronicle = played(alloc, scenario_of(alloc, THIRTEEN)?)?;
     let scenario = chronicle.scenario();
     let Some((last, before)) = chronicle.letters().split_last() else {
         bail!("a campaign has a round");
@@ -59,23 +57,13 @@ fn report_context<R: Print + Eprint + Clock + AllocGlobal>(
     requires told { (before : List (List LetterSeen)) × WasTold scenario.now before told.now }
     requires left { told.now.rounds ≤ scenario.now.bound }
 {
-    let mut sum = 0;
-    let time = context_time(rt.alloc(), rt, scenario, told, &mut sum)?;
-    println!(rt; "context, the last of thirteen generals in the last round")?;
-    eprintln!(rt;
-        "context, the last of thirteen generals in the last round: {time} ns, sum {sum}"
-    )?;
-    Ok(())
+    let time = context_time(rt.alloc(), rt, scenario, told)?;
+    let what = "context, the last of thirteen generals in the last round";
+    report_time(rt, what, time)
 }
 
 /// The median time of a general's context, in nanoseconds.
-fn context_time<C: Clock>(
-    alloc: Global,
-    clock: &C,
-    scenario: &Scenario,
-    told: &Told,
-    sum: &mut u64,
-) -> Result<u64>
+fn context_time<C: Clock>(alloc: Global, clock: &C, scenario: &Scenario, told: &Told) -> Result<u64>
     requires told { (before : List (List LetterSeen)) × WasTold scenario.now before told.now }
     requires left { told.now.rounds ≤ scenario.now.bound }
 {
@@ -83,9 +71,8 @@ fn context_time<C: Clock>(
     let mut times = Vec::with_capacity(alloc, TIMES)?;
     for _ in 0..TIMES {
         let start = Instant::now(clock)?;
-        let context = told.context(alloc, scenario, general)?;
-        times.push(u64::try_from(start.elapsed(clock)?.as_nanos())?)?;
-        *sum = sum.wrapping_add(context.as_slice().get(32).copied().map_or(0, u64::from));
+        let _context = told.context(alloc, scenario, general)?;
+        times.push(nanoseconds(clock, start)?)?;
     }
     Ok(median(&mut times).unwrap_or(0))
 }
@@ -100,9 +87,11 @@ fn report_delivery<R: Print + Eprint + Clock + AllocGlobal>(
     requires left { told.old.rounds ≤ scenario.now.bound }
 {
     let time = delivery_time(rt.alloc(), rt, scenario, told, letters)?;
-    println!(rt; "delivery, the last round of thirteen generals: 12 trees")?;
-    eprintln!(rt; "delivery, the last round of thirteen generals: {time} ns")?;
-    Ok(())
+    report_time(
+        rt,
+        "delivery, the last round of thirteen generals: 12 trees",
+        time,
+    )
 }
 
 /// The median time of the delivery of a round's letters to all lieutenants, in nanoseconds.

@@ -1,183 +1,215 @@
 //! Times a campaign of signed messages: from a scenario to its chronicle, from text to text, an audit, and the dearest close.
 
-use crate::median::median;
+use crate::texts::{signed_scenario_of, signing};
+use crate::timing::{Timed, nanoseconds, report_work};
 use anyhow::{Result, bail};
 use round::Scenario;
-use scenario::{Campaign, read_any};
 use signed::{SignedChronicle, SignedWorld, play_signed};
-use std::alloc::Global;
+use std::alloc::{AllocError, Global};
 use std::rt::Clock;
+use std::str;
 use std::time::Instant;
 use trace::{Latch, check_signed, write_signed};
-use world::{Event, Schedule};
-
-/// How often each piece of work is timed.
-const TIMES: usize = 25;
-
-/// How many entries an activation has at most.
-const ENTRIES: u32 = 8;
-
-/// The traitors: the commander and three more.
-const TRAITORS: [u8; 4] = [0, 10, 11, 12];
-
-/// A program that signs eight orders, where it is the commander's, and then passes on the last eight chains held, each to all.
-fn signing(alloc: Global) -> Result<String> {
-    let mut program = String::from_str(alloc, "ldw r6, [r1+20]\n")?;
-    for order in 0..ENTRIES {
-        let sign = format!(in alloc; "mov r1, {order}\nmov r2, 8191\ncall sign_order\n")?;
-        program.push_str(sign.as_str())?;
-    }
-    for back in 1..=ENTRIES {
-        let pass = format!(in alloc;
-            "mov r1, r6\nsub r1, {back}\nand r1, 255\nmov r2, 8191\ncall pass_on\n"
-        )?;
-        program.push_str(pass.as_str())?;
-    }
-    program.push_str("exit\n")?;
-    Ok(program)
-}
-
-/// Thirteen generals, bound 4, whose four traitors sign and pass on whatever they can.
-fn campaign_text(alloc: Global) -> Result<String> {
-    let program = signing(alloc)?;
-    let head = "generals = 13\nbound = 4\ncommander = 0\norder = 1\nmessages = \"signed\"\n";
-    let mut text = String::from_str(alloc, head)?;
-    for general in TRAITORS {
-        let table = format!(in alloc;
-            "[[traitor]]\ngeneral = {general}\nasm = '''\n{program}'''\n"
-        )?;
-        text.push_str(table.as_str())?;
-    }
-    Ok(text)
-}
-
-/// The scenario that a text tells.
-fn scenario_of(alloc: Global, text: &str) -> Result<Scenario> {
-    match read_any(alloc, text) {
-        Ok(Campaign::Signed(scenario)) => Ok(scenario),
-        Ok(Campaign::Oral(_)) => bail!("the campaign is an oral one"),
-        Err(error) => bail!("a scenario is refused: {error}"),
-    }
-}
+use world::{Event, EventError, Schedule};
 
 /// The campaign's chronicle, in which the generals act one after another.
-fn played(alloc: Global, scenario: Scenario) -> Result<SignedChronicle> {
+fn played(alloc: Global, scenario: Scenario) -> Result<SignedChronicle, AllocError> {
     let schedule = Schedule {
         lines: Vec::new(alloc),
     };
-    Ok(play_signed(alloc, scenario, &schedule)?)
+    play_signed(alloc, scenario, &schedule)
 }
 
 /// The text of a chronicle.
 fn text_of(alloc: Global, chronicle: &SignedChronicle) -> Result<Vec<u8>> {
     let mut sink = Latch::new(Vec::new(alloc));
-    let Ok(()) = write_signed(chronicle, &mut sink) else {
-        bail!("a list of bytes takes all");
-    };
-    Ok(sink.into_writer())
+    match write_signed(chronicle, &mut sink) {
+        Ok(()) => Ok(sink.into_writer()),
+        Err(_) => bail!("a list of bytes takes all"),
+    }
 }
 
-/// Measures the campaign. What was measured is printed on standard output, the figures on standard error.
-pub fn report_signatures<R: Print + Eprint + Clock + AllocGlobal>(rt: &R) -> Result<()> {
-    let alloc = rt.alloc();
-    let name = "signed, four traitors of thirteen";
-    let text = campaign_text(alloc)?;
-    let scenario = scenario_of(alloc, text.as_str())?;
-    let time = play_time(alloc, rt, &scenario)?;
-    println!(rt; "play, {name}")?;
-    eprintln!(rt; "play, {name}: {time} ns")?;
-    let time = close_time(alloc, rt, &scenario)?;
-    println!(rt; "dearest close, {name}")?;
-    eprintln!(rt; "dearest close, {name}: {time} ns")?;
-    let time = text_time(alloc, rt, text.as_str())?;
-    println!(rt; "from text to text, {name}")?;
-    eprintln!(rt; "from text to text, {name}: {time} ns")?;
-    let time = audit_time(alloc, rt, &scenario)?;
-    println!(rt; "audit, {name}")?;
-    eprintln!(rt; "audit, {name}: {time} ns")?;
-    Ok(())
+/// The chronicle of a scenario's text.
+fn chronicle_of(alloc: Global, text: &str) -> Result<SignedChronicle> {
+    Ok(played(alloc, signed_scenario_of(alloc, text)?)?)
 }
 
-/// The median time from the scenario to its chronicle, in nanoseconds.
-fn play_time<C: Clock>(alloc: Global, clock: &C, scenario: &Scenario) -> Result<u64> {
-    let mut times = Vec::with_capacity(alloc, TIMES)?;
-    for _ in 0..TIMES {
-        let copy = scenario.copy(alloc)?;
-        let start = Instant::now(clock)?;
-        let chronicle = played(alloc, copy)?;
-        times.push(u64::try_from(start.elapsed(clock)?.as_nanos())?)?;
-        if chronicle.decisions().len() != 12 {
-            bail!("there are twelve lieutenants");
+/// From the scenario to its chronicle.
+#[derive(Drop)]
+struct Playing<'a, C> {
+    alloc: Global,
+    clock: &'a C,
+    scenario: &'a Scenario,
+}
+
+impl<C: Clock> Timed for Playing<'_, C> {
+    fn once(&mut self) -> Result<u64> {
+        let copy = self.scenario.copy(self.alloc)?;
+        let start = Instant::now(self.clock)?;
+        let chronicle = played(self.alloc, copy);
+        let time = nanoseconds(self.clock, start);
+        match chronicle {
+            Ok(_) => time,
+            Err(_) => bail!("out of memory"),
         }
     }
-    Ok(median(&mut times).unwrap_or(0))
 }
 
-/// The median of the dearest close of each of several campaigns, in nanoseconds.
-fn close_time<C: Clock>(alloc: Global, clock: &C, scenario: &Scenario) -> Result<u64> {
-    let mut times = Vec::with_capacity(alloc, TIMES)?;
-    for _ in 0..TIMES {
-        times.push(dearest_close(alloc, clock, scenario)?)?;
-    }
-    Ok(median(&mut times).unwrap_or(0))
+/// From the scenario's text to its chronicle's.
+#[derive(Drop)]
+struct Telling<'a, C> {
+    alloc: Global,
+    clock: &'a C,
+    text: &'a str,
 }
 
-/// The time of the dearest close of one campaign, in nanoseconds.
-fn dearest_close<C: Clock>(alloc: Global, clock: &C, scenario: &Scenario) -> Result<u64> {
-    let mut world = SignedWorld::open(alloc, scenario.copy(alloc)?)?;
-    let mut dearest = 0;
-    for _ in 0..=scenario.bound() {
-        act(alloc, &mut world)?;
-        let start = Instant::now(clock)?;
-        world.apply(alloc, Event::Close)?;
-        dearest = dearest.max(u64::try_from(start.elapsed(clock)?.as_nanos())?);
+impl<C: Clock> Timed for Telling<'_, C> {
+    fn once(&mut self) -> Result<u64> {
+        let start = Instant::now(self.clock)?;
+        let chronicle = chronicle_of(self.alloc, self.text)?;
+        let told = text_of(self.alloc, &chronicle);
+        let time = nanoseconds(self.clock, start);
+        match told {
+            Ok(_) => time,
+            Err(error) => Err(error),
+        }
     }
-    Ok(dearest)
 }
+
+/// From the scenario and its chronicle's text to the verdict.
+#[derive(Drop)]
+struct Auditing<'a, C> {
+    alloc: Global,
+    clock: &'a C,
+    scenario: &'a Scenario,
+    text: &'a str,
+}
+
+impl<C: Clock> Timed for Auditing<'_, C> {
+    fn once(&mut self) -> Result<u64> {
+        let start = Instant::now(self.clock)?;
+        let verdict = check_signed(self.alloc, self.scenario, self.text);
+        let time = nanoseconds(self.clock, start);
+        match verdict {
+            Ok(_) => time,
+            Err(_) => bail!("an audit has found a fault"),
+        }
+    }
+}
+
+/// The dearest close of a campaign.
+#[derive(Drop)]
+struct Closing<'a, C> {
+    alloc: Global,
+    clock: &'a C,
+    scenario: &'a Scenario,
+}
+
+/// What all do before a round is closed, each event so many times.
+const TURNS: &[(Event, u32)] = &[
+    (Event::Post(1), 1),
+    (Event::Post(2), 1),
+    (Event::Post(3), 1),
+    (Event::Post(4), 1),
+    (Event::Post(5), 1),
+    (Event::Post(6), 1),
+    (Event::Post(7), 1),
+    (Event::Post(8), 1),
+    (Event::Post(9), 1),
+    (Event::Tick(0), 80),
+    (Event::Tick(10), 80),
+    (Event::Tick(11), 80),
+    (Event::Tick(12), 80),
+];
 
 /// All generals act to their end in the open round.
-fn act(alloc: Global, world: &mut SignedWorld) -> Result<()> {
-    for general in 0..13 {
-        if !TRAITORS.contains(&general) {
-            world.apply(alloc, Event::Post(u32::from(general)))?;
-        }
-    }
-    for general in TRAITORS {
-        for _ in 0..80 {
-            world.apply(alloc, Event::Tick(u32::from(general)))?;
+fn act(alloc: Global, world: &mut SignedWorld) -> Result<(), EventError> {
+    for (event, times) in TURNS {
+        for _ in 0..*times {
+            world.apply(alloc, *event)?;
         }
     }
     Ok(())
 }
 
-/// The median time from a scenario's text to its chronicle's, in nanoseconds.
-fn text_time<C: Clock>(alloc: Global, clock: &C, text: &str) -> Result<u64> {
-    let mut times = Vec::with_capacity(alloc, TIMES)?;
-    for _ in 0..TIMES {
-        let start = Instant::now(clock)?;
-        let chronicle = played(alloc, scenario_of(alloc, text)?)?;
-        let told = text_of(alloc, &chronicle)?;
-        times.push(u64::try_from(start.elapsed(clock)?.as_nanos())?)?;
-        if told.is_empty() {
-            bail!("a chronicle has a text");
-        }
-    }
-    Ok(median(&mut times).unwrap_or(0))
+/// The time of a close, in nanoseconds.
+fn close<C: Clock>(alloc: Global, clock: &C, world: &mut SignedWorld) -> Result<u64> {
+    let start = Instant::now(clock)?;
+    world.apply(alloc, Event::Close)?;
+    nanoseconds(clock, start)
 }
 
-/// The median time of an audit of the scenario's chronicle, in nanoseconds.
-fn audit_time<C: Clock>(alloc: Global, clock: &C, scenario: &Scenario) -> Result<u64> {
-    let chronicle = played(alloc, scenario.copy(alloc)?)?;
-    let Ok(text) = String::from_utf8(text_of(alloc, &chronicle)?) else {
-        bail!("a chronicle's text is no text");
-    };
-    let mut times = Vec::with_capacity(alloc, TIMES)?;
-    for _ in 0..TIMES {
-        let start = Instant::now(clock)?;
-        let Ok(_) = check_signed(alloc, scenario, text.as_str()) else {
-            bail!("an audit has found a fault");
-        };
-        times.push(u64::try_from(start.elapsed(clock)?.as_nanos())?)?;
+impl<C: Clock> Timed for Closing<'_, C> {
+    fn once(&mut self) -> Result<u64> {
+        let mut world = SignedWorld::open(self.alloc, self.scenario.copy(self.alloc)?)?;
+        let mut dearest = 0;
+        for _ in 0..=self.scenario.bound() {
+            act(self.alloc, &mut world)?;
+            dearest = close(self.alloc, self.clock, &mut world)?.max(dearest);
+        }
+        Ok(dearest)
     }
-    Ok(median(&mut times).unwrap_or(0))
+}
+
+/// Measures the campaign.
+pub fn report_signatures<R: Print + Eprint + Clock + AllocGlobal>(rt: &R) -> Result<()> {
+    let text = signing(rt.alloc())?;
+    let scenario = signed_scenario_of(rt.alloc(), text.as_str())?;
+    report_play(rt, &scenario)?;
+    report_close(rt, &scenario)?;
+    report_text(rt, text.as_str())?;
+    report_audit(rt, &scenario, text.as_str())
+}
+
+fn report_play<R: Print + Eprint + Clock + AllocGlobal>(rt: &R, scenario: &Scenario) -> Result<()> {
+    let mut work = Playing {
+        alloc: rt.alloc(),
+        clock: rt,
+        scenario,
+    };
+    report_work(rt, "play, signed, four traitors of thirteen", &mut work)
+}
+
+fn report_close<R: Print + Eprint + Clock + AllocGlobal>(
+    rt: &R,
+    scenario: &Scenario,
+) -> Result<()> {
+    let mut work = Closing {
+        alloc: rt.alloc(),
+        clock: rt,
+        scenario,
+    };
+    report_work(
+        rt,
+        "dearest close, signed, four traitors of thirteen",
+        &mut work,
+    )
+}
+
+fn report_text<R: Print + Eprint + Clock + AllocGlobal>(rt: &R, text: &str) -> Result<()> {
+    let mut work = Telling {
+        alloc: rt.alloc(),
+        clock: rt,
+        text,
+    };
+    report_work(
+        rt,
+        "from text to text, signed, four traitors of thirteen",
+        &mut work,
+    )
+}
+
+fn report_audit<R: Print + Eprint + Clock + AllocGlobal>(
+    rt: &R,
+    scenario: &Scenario,
+    text: &str,
+) -> Result<()> {
+    let told = text_of(rt.alloc(), &chronicle_of(rt.alloc(), text)?)?;
+    let mut work = Auditing {
+        alloc: rt.alloc(),
+        clock: rt,
+        scenario,
+        text: str::from_utf8(told.as_slice())?,
+    };
+    report_work(rt, "audit, signed, four traitors of thirteen", &mut work)
 }

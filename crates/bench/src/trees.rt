@@ -1,18 +1,15 @@
 //! Times ranks of labels, and the resolution of one tree and of twelve.
 
-use crate::median::median;
-use anyhow::Result;
+use crate::timing::{Timed, nanoseconds, report_work};
+use anyhow::{Result, bail};
 use combine::Rule;
 use label::{Label, Space, rank, unrank};
 use resolve::{resolve, resolve_all};
-use std::alloc::Global;
+use std::alloc::{AllocError, Global};
 use std::rt::Clock;
 use std::thread::Threads;
 use std::time::Instant;
 use tree::Tree;
-
-/// How often each piece of work is timed.
-const TIMES: usize = 25;
 
 /// The labels that are ranked: of five generals, of thirteen, seen by the last of them.
 const SPACE: Space = Space {
@@ -21,36 +18,8 @@ const SPACE: Space = Space {
     general: 12,
 };
 
-/// Measures ranks and trees. What was measured is printed on standard output, the figures on standard
-/// error. Each call is timed by itself, and the trees differ.
-pub fn report_trees<R: Print + Eprint + Clock + Threads + Sync + AllocGlobal>(
-    rt: &R,
-) -> Result<()> {
-    let alloc = rt.alloc();
-    let mut sum = 0;
-    let labels = labels(alloc)?;
-    let time = ranks_time(alloc, rt, labels.as_slice(), &mut sum)?;
-    let count = labels.len();
-    println!(rt; "rank, labels of five generals: {count} labels")?;
-    eprintln!(rt; "rank, labels of five generals: {time} ns all together")?;
-    let trees = trees(alloc)?;
-    for rule in [Rule::Majority, Rule::Median] {
-        let time = tree_time(alloc, rt, trees.as_slice(), rule, &mut sum)?;
-        println!(rt; "resolve, one tree, {rule:?}: 9032 values")?;
-        eprintln!(rt; "resolve, one tree, {rule:?}: {time} ns")?;
-    }
-    let time = turn_time(alloc, rt, trees.as_slice(), &mut sum)?;
-    println!(rt; "resolve, tree by tree: 12 trees")?;
-    eprintln!(rt; "resolve, tree by tree: {time} ns")?;
-    let time = halves_time(alloc, rt, trees.as_slice(), &mut sum)?;
-    println!(rt; "resolve_all: 12 trees")?;
-    eprintln!(rt; "resolve_all: {time} ns")?;
-    eprintln!(rt; "sum {sum}")?;
-    Ok(())
-}
-
 /// All labels of five generals.
-fn labels(alloc: Global) -> Result<Vec<Label>> {
+fn labels(alloc: Global) -> Result<Vec<Label>, AllocError> {
     let mut labels = Vec::new(alloc);
     for place in 0..7920 {
         if let Ok(label) = unrank(SPACE, 5, place) {
@@ -61,19 +30,17 @@ fn labels(alloc: Global) -> Result<Vec<Label>> {
 }
 
 /// The trees of twelve lieutenants, each value one of two orders, by chance.
-fn trees(alloc: Global) -> Result<Vec<Tree>> {
+fn trees(alloc: Global) -> Result<Vec<Tree>, AllocError> {
     let mut trees = Vec::new(alloc);
     let mut state = 1;
     for general in 1..13 {
-        let mut tree = Tree::new(alloc, 13, 4, 0, general)?;
-        fill(&mut tree, &mut state);
-        trees.push(tree)?;
+        trees.push(filled(Tree::new(alloc, 13, 4, 0, general)?, &mut state))?;
     }
     Ok(trees)
 }
 
-/// Fills in each value of the tree, by a linear congruential generator.
-fn fill(tree: &mut Tree, state: &mut u64) {
+/// The tree with a value for each label, by a linear congruential generator.
+fn filled(mut tree: Tree, state: &mut u64) -> Tree {
     let space = tree.space();
     for size in 1..6 {
         for place in 0..7920 {
@@ -85,67 +52,144 @@ fn fill(tree: &mut Tree, state: &mut u64) {
             }
         }
     }
+    tree
 }
 
-/// The median time of a call that ranks all labels, in nanoseconds.
-fn ranks_time<C: Clock>(alloc: Global, clock: &C, labels: &[Label], sum: &mut u64) -> Result<u64> {
-    let mut times = Vec::with_capacity(alloc, TIMES)?;
-    for _ in 0..TIMES {
-        let start = Instant::now(clock)?;
-        for label in labels {
-            *sum = sum.wrapping_add(rank(SPACE, label).map_or(0, u64::from));
+/// All labels are ranked. What is made is added up, so that it is done.
+#[derive(Drop)]
+struct Ranking<'a, C> {
+    clock: &'a C,
+    labels: &'a [Label],
+    sum: u64,
+}
+
+impl<C: Clock> Timed for Ranking<'_, C> {
+    fn once(&mut self) -> Result<u64> {
+        let start = Instant::now(self.clock)?;
+        for label in self.labels {
+            self.sum = self
+                .sum
+                .wrapping_add(rank(SPACE, label).map_or(0, u64::from));
         }
-        times.push(u64::try_from(start.elapsed(clock)?.as_nanos())?)?;
+        nanoseconds(self.clock, start)
     }
-    Ok(median(&mut times).unwrap_or(0))
 }
 
-/// The median time of a tree's resolution, in nanoseconds.
-fn tree_time<C: Clock>(
-    alloc: Global,
-    clock: &C,
-    trees: &[Tree],
+/// One tree after another is resolved, each by itself.
+#[derive(Drop)]
+struct Resolving<'a, C> {
+    clock: &'a C,
+    trees: &'a [Tree],
     rule: Rule,
-    sum: &mut u64,
-) -> Result<u64> {
-    let mut times = Vec::new(alloc);
-    for _ in 0..TIMES {
-        for tree in trees {
-            let start = Instant::now(clock)?;
-            let order = resolve(tree, &rule);
-            times.push(u64::try_from(start.elapsed(clock)?.as_nanos())?)?;
-            *sum = sum.wrapping_add(u64::from(order));
-        }
-    }
-    Ok(median(&mut times).unwrap_or(0))
+    next: usize,
+    sum: u64,
 }
 
-/// The median time of the trees' resolution one after another, in nanoseconds.
-fn turn_time<C: Clock>(alloc: Global, clock: &C, trees: &[Tree], sum: &mut u64) -> Result<u64> {
-    let mut times = Vec::with_capacity(alloc, TIMES)?;
-    for _ in 0..TIMES {
-        let start = Instant::now(clock)?;
-        for tree in trees {
-            *sum = sum.wrapping_add(u64::from(resolve(tree, &Rule::Majority)));
-        }
-        times.push(u64::try_from(start.elapsed(clock)?.as_nanos())?)?;
+impl<C: Clock> Timed for Resolving<'_, C> {
+    fn once(&mut self) -> Result<u64> {
+        let Some(tree) = self.trees.get(self.next % self.trees.len().max(1)) else {
+            bail!("a tree is wanted");
+        };
+        self.next = self.next.wrapping_add(1);
+        let start = Instant::now(self.clock)?;
+        self.sum = self.sum.wrapping_add(u64::from(resolve(tree, &self.rule)));
+        nanoseconds(self.clock, start)
     }
-    Ok(median(&mut times).unwrap_or(0))
 }
 
-/// The median time of their resolution at once, in nanoseconds.
-fn halves_time<R: Clock + Threads + Sync>(
-    alloc: Global,
+/// All trees are resolved, one after another.
+#[derive(Drop)]
+struct Turning<'a, C> {
+    clock: &'a C,
+    trees: &'a [Tree],
+    sum: u64,
+}
+
+impl<C: Clock> Timed for Turning<'_, C> {
+    fn once(&mut self) -> Result<u64> {
+        let start = Instant::now(self.clock)?;
+        for tree in self.trees {
+            self.sum = self
+                .sum
+                .wrapping_add(u64::from(resolve(tree, &Rule::Majority)));
+        }
+        nanoseconds(self.clock, start)
+    }
+}
+
+/// All trees are resolved at once.
+#[derive(Drop)]
+struct Halving<'a, R> {
+    rt: &'a R,
+    trees: &'a [Tree],
+}
+
+impl<R: Clock + Threads + Sync + AllocGlobal> Timed for Halving<'_, R> {
+    fn once(&mut self) -> Result<u64> {
+        let start = Instant::now(self.rt)?;
+        let _decisions = resolve_all(self.rt, self.rt.alloc(), self.trees, &Rule::Majority)?;
+        nanoseconds(self.rt, start)
+    }
+}
+
+/// Measures ranks and trees. Each call is timed by itself, and the trees differ.
+pub fn report_trees<R: Print + Eprint + Clock + Threads + Sync + AllocGlobal>(
+    rt: &R,
+) -> Result<()> {
+    let labels = labels(rt.alloc())?;
+    report_ranks(rt, labels.as_slice())?;
+    let trees = trees(rt.alloc())?;
+    let what = "resolve, one tree, Majority: 9032 values";
+    report_rule(rt, trees.as_slice(), Rule::Majority, what)?;
+    let what = "resolve, one tree, Median: 9032 values";
+    report_rule(rt, trees.as_slice(), Rule::Median, what)?;
+    report_turns(rt, trees.as_slice())?;
+    let mut work = Halving {
+        rt,
+        trees: trees.as_slice(),
+    };
+    report_work(rt, "resolve_all: 12 trees", &mut work)
+}
+
+fn report_ranks<R: Print + Eprint + Clock + AllocGlobal>(rt: &R, labels: &[Label]) -> Result<()> {
+    let mut work = Ranking {
+        clock: rt,
+        labels,
+        sum: 0,
+    };
+    report_work(rt, "rank, labels of five generals: 7920 labels", &mut work)?;
+    let sum = work.sum;
+    eprintln!(rt; "sum {sum}")?;
+    Ok(())
+}
+
+fn report_rule<R: Print + Eprint + Clock + AllocGlobal>(
     rt: &R,
     trees: &[Tree],
-    sum: &mut u64,
-) -> Result<u64> {
-    let mut times = Vec::with_capacity(alloc, TIMES)?;
-    for _ in 0..TIMES {
-        let start = Instant::now(rt)?;
-        let decisions = resolve_all(rt, alloc, trees, &Rule::Majority)?;
-        times.push(u64::try_from(start.elapsed(rt)?.as_nanos())?)?;
-        *sum = sum.wrapping_add(decisions.len() as u64);
-    }
-    Ok(median(&mut times).unwrap_or(0))
+    rule: Rule,
+    what: &str,
+) -> Result<()> {
+    let mut work = Resolving {
+        clock: rt,
+        trees,
+        rule,
+        next: 0,
+        sum: 0,
+    };
+    report_work(rt, what, &mut work)?;
+    let sum = work.sum;
+    eprintln!(rt; "sum {sum}")?;
+    Ok(())
+}
+
+fn report_turns<R: Print + Eprint + Clock + AllocGlobal>(rt: &R, trees: &[Tree]) -> Result<()> {
+    let mut work = Turning {
+        clock: rt,
+        trees,
+        sum: 0,
+    };
+    report_work(rt, "resolve, tree by tree: 12 trees", &mut work)?;
+    let sum = work.sum;
+    eprintln!(rt; "sum {sum}")?;
+    Ok(())
 }

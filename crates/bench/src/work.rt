@@ -5,6 +5,7 @@ ghost use Rattle.machine.specs.Advance.{IsOfRun, IsAskOfRun};
 use crate::bytecode::{UNITS, bytecode};
 use crate::plain::{mixed, units_of};
 use crate::shape::Shape;
+use crate::timing::nanoseconds;
 use anyhow::{Result, bail};
 use board::Board;
 use codec::decode;
@@ -15,7 +16,7 @@ use semantics::Request;
 use std::alloc::Global;
 use std::fmt;
 use std::rt::Clock;
-use std::time::{Duration, Instant};
+use std::time::Instant;
 use verify::{Verified, verify};
 
 /// How many activations are run at a time.
@@ -105,11 +106,6 @@ pub fn time_once<C: Clock>(
     }
 }
 
-/// The time since the start, in nanoseconds.
-fn nanoseconds<C: Clock>(clock: &C, start: Instant) -> Result<u64> {
-    Ok(u64::try_from(start.elapsed(clock)?.as_nanos())?)
-}
-
 fn time_plain<C: Clock>(clock: &C, units: &[u64], sum: &mut u64) -> Result<u64> {
     let start = Instant::now(clock)?;
     *sum = mixed(units, *sum);
@@ -118,22 +114,25 @@ fn time_plain<C: Clock>(clock: &C, units: &[u64], sum: &mut u64) -> Result<u64> 
 
 fn time_decode<C: Clock>(alloc: Global, clock: &C, bytecode: &[u8], sum: &mut u64) -> Result<u64> {
     let start = Instant::now(clock)?;
-    let program = decode(alloc, bytecode)?;
-    let time = nanoseconds(clock, start)?;
-    *sum = sum.wrapping_add(program.len() as u64);
-    Ok(time)
+    let answer = decode(alloc, bytecode);
+    let time = nanoseconds(clock, start);
+    match answer {
+        Ok(program) => *sum = sum.wrapping_add(program.len() as u64),
+        Err(_) => bail!("bytecode is refused"),
+    }
+    time
 }
 
 fn time_verify<C: Clock>(alloc: Global, clock: &C, bytecode: &[u8], sum: &mut u64) -> Result<u64> {
     let program = decode(alloc, bytecode)?;
     let start = Instant::now(clock)?;
     let answer = verify(alloc, program);
-    let time = nanoseconds(clock, start)?;
-    let Ok(verified) = answer else {
-        bail!("a program is refused");
-    };
-    *sum = sum.wrapping_add(verified.program().len() as u64);
-    Ok(time)
+    let time = nanoseconds(clock, start);
+    match answer {
+        Ok(verified) => *sum = sum.wrapping_add(verified.program().len() as u64),
+        Err(_) => bail!("a program is refused"),
+    }
+    time
 }
 
 /// Starts activations and runs each until it has taken so many steps or has ended.
@@ -149,15 +148,29 @@ fn time_activations<C: Clock>(
     };
     let mut time = 0u64;
     for _ in 0..ACTIVATIONS {
-        let outbox = Outbox::new(alloc, SHAPE)?;
-        let mut board = Board::new(alloc, [0; 64]);
-        let start = Instant::now(clock)?;
-        let activation = Activation::start(&material.verified, &context, outbox);
-        let steps = served(&material.verified, &context, activation, &mut board, limit)?;
-        time = time.saturating_add(nanoseconds(clock, start)?);
-        *sum = sum.wrapping_add(steps);
+        let more = time_activation(alloc, clock, &material.verified, &context, limit, sum)?;
+        time = time.saturating_add(more);
     }
     Ok(time)
+}
+
+/// The same of one activation.
+fn time_activation<C: Clock>(
+    alloc: Global,
+    clock: &C,
+    verified: &Verified,
+    context: &Context,
+    limit: u32,
+    sum: &mut u64,
+) -> Result<u64> {
+    let mut board = Board::new(alloc, [0; 64]);
+    let outbox = Outbox::new(alloc, SHAPE)?;
+    let start = Instant::now(clock)?;
+    let activation = Activation::start(verified, context, outbox);
+    let steps = served(verified, context, activation, &mut board, limit);
+    let time = nanoseconds(clock, start);
+    *sum = sum.wrapping_add(steps?);
+    time
 }
 
 /// Runs an activation, whose requests the board answers, until it has taken so many steps or has

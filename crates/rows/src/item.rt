@@ -24,6 +24,8 @@ pub enum Key {
     Word,
     /// Standard output takes nothing.
     Full,
+    /// Standard output takes at most so many bytes a write, and cannot be flushed.
+    Unflushed,
     /// The call is made with each beginning of this file, and each answer is asked the same.
     Beginnings,
     /// The exit status.
@@ -51,7 +53,7 @@ pub enum Key {
 }
 
 /// The keys and their words.
-const KEYS: [(&str, Key); 22] = [
+const KEYS: [(&str, Key); 23] = [
     ("row", Key::Row),
     ("file", Key::File),
     ("hex", Key::Hex),
@@ -62,6 +64,7 @@ const KEYS: [(&str, Key); 22] = [
     ("words", Key::Words),
     ("word", Key::Word),
     ("full", Key::Full),
+    ("unflushed", Key::Unflushed),
     ("beginnings", Key::Beginnings),
     ("status", Key::Status),
     ("out", Key::Out),

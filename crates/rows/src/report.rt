@@ -3,10 +3,11 @@ use crate::asking::difference;
 use crate::item::Key;
 use crate::reading::rows;
 use crate::row::{Call, Row};
-use crate::shelf::{Content, Shelf};
-use crate::shelving::shelf;
+use crate::shelf::{Content, Output, Shelf};
+use crate::shelving::{number, shelf};
 use crate::telling::answered;
 use anyhow::{Result, bail};
+use std::alloc::Global;
 use std::fs;
 use std::rt::Files;
 use std::sync::Wait;
@@ -72,12 +73,25 @@ fn called<R: Files + Threads + Wait + Sync + AllocGlobal>(
             _ => {}
         }
     }
-    let told = answered(rt, words.as_slice(), shelf, call.has(Key::Full))?;
+    let told = answered(rt, words.as_slice(), shelf, output(alloc, call)?)?;
     let difference = difference(rt, call, shelf, &told)?;
     if let Some(name) = call.value(Key::Keep) {
         shelf.put(alloc, name, Content::Bytes(told.out))?;
     }
     Ok(difference)
+}
+
+/// Where the call's standard output goes.
+fn output(alloc: Global, call: &Call) -> Result<Output> {
+    let bytes = Vec::new(alloc);
+    match call.value(Key::Unflushed) {
+        Some(most) => Ok(Output::Unflushed {
+            most: number(most)?,
+            bytes,
+        }),
+        None if call.has(Key::Full) => Ok(Output::Full),
+        None => Ok(Output::Kept(bytes)),
+    }
 }
 
 /// Makes the call with each beginning of the file but the whole; the difference in the first answer that has one.

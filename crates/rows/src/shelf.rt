@@ -1,4 +1,6 @@
 //! The files of a row.
+ghost use Rattle.std.specs.Prelude.{◌≤◌, IfOk, length};
+
 use std::alloc::{AllocError, Global};
 use std::io::{self, ErrorKind, Read, Write};
 
@@ -111,6 +113,21 @@ pub enum Output {
     Kept(Vec<u8>),
     /// Each write fails.
     Full,
+    /// It is kept, at most so many bytes a write, and each flush fails.
+    Unflushed { most: usize, bytes: Vec<u8> },
+}
+
+/// Takes a beginning of the bytes, of so many at most.
+fn take(taken: &mut Vec<u8>, bytes: &[u8], most: usize) -> Result<usize, AllocError>
+    ensures { IfOk result (λ n. n ≤ length bytes.now) }
+{
+    let few = if bytes.len() < most {
+        bytes.len()
+    } else {
+        most
+    };
+    taken.extend_from_slice(&bytes[..few])?;
+    Ok(few)
 }
 
 impl Output {
@@ -119,6 +136,7 @@ impl Output {
         match self {
             Output::Kept(bytes) => bytes,
             Output::Full => Vec::new(alloc),
+            Output::Unflushed { bytes, .. } => bytes,
         }
     }
 }
@@ -128,13 +146,17 @@ impl Write for Output {
         match self {
             Output::Kept(bytes) => bytes.write(buf),
             Output::Full => Err(io::Error::from(ErrorKind::Other)),
+            Output::Unflushed { most, bytes } => match take(bytes, buf, *most) {
+                Ok(length) => Ok(length),
+                Err(_) => Err(io::Error::from(ErrorKind::OutOfMemory)),
+            },
         }
     }
 
     fn flush(&mut self) -> io::Result<()> {
         match self {
             Output::Kept(_) => Ok(()),
-            Output::Full => Err(io::Error::from(ErrorKind::Other)),
+            Output::Full | Output::Unflushed { .. } => Err(io::Error::from(ErrorKind::Other)),
         }
     }
 }

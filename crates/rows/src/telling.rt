@@ -26,22 +26,18 @@ impl Told {
     }
 }
 
-/// What the program answers to these words with these files. A file that it writes is put with them.
+/// What the program answers to these words with these files, with this standard output. A file that it writes is put with
+/// them.
 pub fn answered<R: Threads + Wait + Sync + AllocGlobal>(
     rt: &R,
     words: &[&str],
     shelf: &mut Shelf,
-    is_full: bool,
+    output: Output,
 ) -> Result<Told> {
     let alloc = rt.alloc();
     let task = match task(alloc, words) {
         Ok(task) => task,
         Err(error) => return refused(alloc, error),
-    };
-    let output = if is_full {
-        Output::Full
-    } else {
-        Output::Kept(Vec::new(alloc))
     };
     let told = opened(rt, &task, shelf, output)?;
     written(alloc, &task, shelf, told)

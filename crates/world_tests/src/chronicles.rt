@@ -1,9 +1,9 @@
 //! Texts of scenarios and schedules: how faults are printed, and that texts that are cut or changed are answered.
 
-use crate::scenarios::COLLUSION;
+use crate::scenarios::joined;
+use crate::texts::{COLLUDING, SEVEN};
 use scenario::{ScenarioError, read};
 use std::alloc::{AllocError, Global};
-use std::process::Abort;
 use std::test::Fail;
 use trace::{Fault, TraceError, read_schedule};
 
@@ -24,16 +24,19 @@ const PRINTED_FAULTS: &[(TraceError, &str)] = &[
     (TraceError::Memory, "out of memory"),
 ];
 
+/// Whether a fault is printed so.
+fn is_printed(alloc: Global, fault: TraceError, expected: &str) -> Result<bool, AllocError> {
+    Ok(fault.to_string(alloc)?.as_str() == expected)
+}
+
 #[test]
 fn faults_of_texts_are_printed(rt: HostRuntime) -> Result<(), Fail> {
     let alloc = rt.alloc();
     for &(fault, expected) in PRINTED_FAULTS {
-        assert_eq!(rt; fault.to_string(alloc)?.as_str(), expected);
+        assert!(rt; is_printed(alloc, fault, expected)?, "{expected}");
     }
-    assert_eq!(rt;
-        ScenarioError::Memory.to_string(alloc)?.as_str(),
-        "out of memory"
-    );
+    let memory = ScenarioError::Memory.to_string(alloc)?;
+    assert!(rt; memory.as_str() == "out of memory");
     Ok(())
 }
 
@@ -46,43 +49,52 @@ fn tells_scenario(alloc: Global, text: &str) -> Result<bool, AllocError> {
     }
 }
 
-/// Whether the text tells a schedule; none where it is refused by another fault than a schedule's.
-fn tells_schedule(alloc: Global, text: &str) -> Option<bool> {
+/// Whether the text tells a schedule. That it is refused by another fault than a schedule's is an error.
+fn tells_schedule(alloc: Global, text: &str) -> Result<bool, AllocError> {
     match read_schedule(alloc, text) {
-        Ok(_) => Some(true),
-        Err(TraceError::At(Fault::Line, 1..=6)) => Some(false),
-        Err(_) => None,
+        Ok(_) => Ok(true),
+        Err(TraceError::At(Fault::Line, 1..=6)) => Ok(false),
+        Err(_) => Err(AllocError),
     }
 }
 
-/// Behind the four lines of the head, and behind each traitor, with the line feeds that follow.
+/// What a text is read as.
+#[derive(Clone, Copy)]
+enum Reading {
+    Scenario,
+    Schedule,
+}
+
+/// Whether the text is taken as what it is read as.
+fn is_taken(alloc: Global, reading: Reading, text: &str) -> Result<bool, AllocError> {
+    match reading {
+        Reading::Scenario => tells_scenario(alloc, text),
+        Reading::Schedule => tells_schedule(alloc, text),
+    }
+}
+
+/// How many beginnings of the text, the whole among them, are not taken.
+fn refused_beginnings(alloc: Global, reading: Reading, text: &str) -> Result<u32, AllocError> {
+    let mut refused = 0u32;
+    for end in 0..=text.len() {
+        if let Some(beginning) = text.get(..end) {
+            if !is_taken(alloc, reading, beginning)? {
+                refused = refused.wrapping_add(1);
+            }
+        }
+    }
+    Ok(refused)
+}
+
+/// A scenario has 434 beginnings: it is taken behind the four lines of the head, and behind each traitor, with the line feeds
+/// that follow.
 #[test]
-fn beginnings_of_a_scenario(rt: HostRuntime) -> Result<(), Fail> {
+fn beginnings_of_texts(rt: HostRuntime) -> Result<(), Fail> {
     let alloc = rt.alloc();
-    let mut accepted = 0u32;
-    let mut refused = 0u32;
-    for end in 0..=COLLUSION.len() {
-        let beginning = COLLUSION.get(..end).ok_or("no beginning")?;
-        if tells_scenario(alloc, beginning)? {
-            accepted = accepted.wrapping_add(1);
-        } else {
-            refused = refused.wrapping_add(1);
-        }
-    }
-    assert_eq!(rt; [accepted, refused], [8, 426]);
-    Ok(())
-}
-
-#[test]
-fn beginnings_of_a_schedule(rt: HostRuntime) -> Result<(), Fail> {
-    let mut refused = 0u32;
-    for end in 0..=SCHEDULE.len() {
-        let beginning = SCHEDULE.get(..end).ok_or("no beginning")?;
-        if !tells_schedule(rt.alloc(), beginning).ok_or("another fault")? {
-            refused = refused.wrapping_add(1);
-        }
-    }
-    assert_eq!(rt; refused, 10);
+    let scenario = joined(alloc, SEVEN, COLLUDING)?;
+    assert!(rt; scenario.len() == 433);
+    assert!(rt; refused_beginnings(alloc, Reading::Scenario, scenario.as_str())? == 426);
+    assert!(rt; refused_beginnings(alloc, Reading::Schedule, SCHEDULE)? == 10);
     Ok(())
 }
 
@@ -113,49 +125,53 @@ fn change(bytes: &mut Vec<u8>, state: &mut u64) -> Result<(), AllocError> {
 }
 
 /// The text with one to four changes.
-fn changed(alloc: Global, text: &str, state: &mut u64) -> Result<String, Fail> {
+fn changed(alloc: Global, text: &str, state: &mut u64) -> Result<Vec<u8>, AllocError> {
     let mut bytes = text.as_bytes().to_vec(alloc)?;
     for _ in 0..=next(state) % 4 {
         change(&mut bytes, state)?;
     }
-    Ok(String::from_utf8(bytes)?)
+    Ok(bytes)
 }
 
-/// So many changed scenarios are answered, each by a scenario or by a fault.
-fn change_scenarios(rt: &impl Abort, alloc: Global, seed: u64, count: u32) -> Result<(), Fail> {
+/// How many of so many changed texts are taken.
+fn taken_changed(
+    alloc: Global,
+    reading: Reading,
+    text: &str,
+    seed: u64,
+    count: u32,
+) -> Result<u32, Fail> {
     let mut state = seed;
-    let mut accepted = 0u32;
+    let mut taken = 0u32;
     for _ in 0..count {
-        let text = changed(alloc, COLLUSION, &mut state)?;
-        if tells_scenario(alloc, text.as_str())? {
-            accepted = accepted.wrapping_add(1);
+        let bytes = changed(alloc, text, &mut state)?;
+        let changed = std::str::from_utf8(bytes.as_slice())?;
+        if is_taken(alloc, reading, changed)? {
+            taken = taken.wrapping_add(1);
         }
     }
-    assert!(rt; 0 < accepted && accepted < count, "{accepted} are accepted");
-    Ok(())
+    Ok(taken)
 }
 
-#[test]
-fn changed_scenarios(rt: HostRuntime) -> Result<(), Fail> {
-    change_scenarios(&rt, rt.alloc(), 1, 3000)
-}
+/// Seeds, and how many texts are made from each.
+const CHANGES: &[(Reading, u64, u32)] = &[
+    (Reading::Scenario, 1, 3000),
+    (Reading::Scenario, 2, 3000),
+    (Reading::Schedule, 3, 4000),
+];
 
+/// Each changed text is answered, some are taken and some are not.
 #[test]
-fn further_changed_scenarios(rt: HostRuntime) -> Result<(), Fail> {
-    change_scenarios(&rt, rt.alloc(), 2, 3000)
-}
-
-#[test]
-fn changed_schedules(rt: HostRuntime) -> Result<(), Fail> {
+fn changed_texts(rt: HostRuntime) -> Result<(), Fail> {
     let alloc = rt.alloc();
-    let mut state = 3;
-    let mut accepted = 0u32;
-    for _ in 0..4000 {
-        let text = changed(alloc, SCHEDULE, &mut state)?;
-        if tells_schedule(alloc, text.as_str()).ok_or("another fault")? {
-            accepted = accepted.wrapping_add(1);
-        }
+    let scenario = joined(alloc, SEVEN, COLLUDING)?;
+    for &(reading, seed, count) in CHANGES {
+        let text = match reading {
+            Reading::Scenario => scenario.as_str(),
+            Reading::Schedule => SCHEDULE,
+        };
+        let taken = taken_changed(alloc, reading, text, seed, count)?;
+        assert!(rt; 0 < taken && taken < count, "{taken} are taken");
     }
-    assert!(rt; 0 < accepted && accepted < 4000, "{accepted} are accepted");
     Ok(())
 }

@@ -1,13 +1,14 @@
 //! Activations from their start to their end, or to their patience.
 ghost use Rattle.std.specs.Prelude.{◌≡◌};
 
-use crate::scenarios::{COLLUSION, SPYING, played};
+use crate::scenarios::played;
+use crate::texts::{COLLUDING, SEVEN, SPYING};
 use board::Access;
 use round::{Letter, Server, live};
 use semantics::{Reply, Request};
 use std::alloc::{AllocError, Global};
-use std::process::Abort;
 use std::test::Fail;
+use world::Chronicle;
 
 /// A server whose replies are these words, one after another. It has no memory for more, nor for a copy.
 #[derive(Drop)]
@@ -63,19 +64,38 @@ fn lived(
     letter.recall();
     let _shape = letter.outbox.shape();
     let context = Vec::from_slice(alloc, letter.context.as_slice())?;
+    let program = program.clone()?;
     live(
         alloc,
         server,
         letter.general,
         letter.round,
-        program.clone()?,
+        program,
         context,
         patience,
     )
 }
 
+/// Whether these are the words of the replies that a letter's program had, one after another from the first.
+fn had(letter: &Letter, words: &[u64]) -> bool {
+    let mut rest = words;
+    for access in &letter.transcript {
+        let Reply::Word(word) = access.reply else {
+            return false;
+        };
+        let [next, behind @ ..] = rest else {
+            return false;
+        };
+        if *next != word {
+            return false;
+        }
+        rest = behind;
+    }
+    true
+}
+
 /// The words of the replies that a letter's program had.
-fn words_of(alloc: Global, letter: &Letter) -> Result<Vec<u64>, Fail> {
+fn words_of(alloc: Global, letter: &Letter) -> Result<Vec<u64>, AllocError> {
     let mut words = Vec::new(alloc);
     for access in &letter.transcript {
         if let Reply::Word(word) = access.reply {
@@ -85,39 +105,50 @@ fn words_of(alloc: Global, letter: &Letter) -> Result<Vec<u64>, Fail> {
     Ok(words)
 }
 
-#[test]
-fn traitors_live_again(rt: HostRuntime) -> Result<(), Fail> {
-    let alloc = rt.alloc();
+/// Whether the letter's program, with the replies that it had, lives again as it did, with one access.
+fn lives_again(alloc: Global, letter: &Letter) -> Result<bool, AllocError> {
+    let words = words_of(alloc, letter)?;
+    let mut server = Answers::new(alloc, words.as_slice());
+    let again = lived(alloc, &mut server, letter, None)?;
+    Ok(again.same(letter) && server.served.len() == 1)
+}
+
+/// The generals and rounds of the letters that programs wrote, where each of these lives again.
+fn lives(alloc: Global, chronicle: &Chronicle) -> Result<Vec<(u32, u32)>, Fail> {
     let mut lives = Vec::new(alloc);
-    let chronicle = played(alloc, COLLUSION, "4*15")?;
     for round in chronicle.letters() {
         for letter in round.letters() {
             if letter.program.program().is_some() {
-                let words = words_of(alloc, letter)?;
-                let mut server = Answers::new(alloc, words.as_slice());
-                let again = lived(alloc, &mut server, letter, None)?;
-                assert!(rt; again.same(letter));
-                assert_eq!(rt; server.served.len(), 1);
+                if !lives_again(alloc, letter)? {
+                    return Err("another life")?;
+                }
                 lives.push((letter.general, letter.round))?;
             }
         }
     }
-    let expected = [(0, 1), (4, 1), (0, 2), (4, 2), (0, 3), (4, 3)];
-    assert_eq!(rt; lives.as_slice(), expected.as_slice());
+    Ok(lives)
+}
+
+#[test]
+fn traitors_live_again(rt: HostRuntime) -> Result<(), Fail> {
+    let alloc = rt.alloc();
+    let chronicle = played(alloc, SEVEN, COLLUDING, "4*15")?;
+    let lives = lives(alloc, &chronicle)?;
+    assert!(rt; lives.as_slice() == [(0, 1), (4, 1), (0, 2), (4, 2), (0, 3), (4, 3)].as_slice());
     Ok(())
 }
 
 /// The first letter of general 5 of seven, who swaps word 5 and then gets word 6, in six steps.
-fn spy(alloc: Global) -> Result<Letter, Fail> {
-    let chronicle = played(alloc, SPYING, "")?;
-    for round in chronicle.letters() {
-        for letter in round.letters() {
-            if letter.general == 5 {
-                return Ok(letter.copy(alloc)?);
-            }
-        }
+fn spy(chronicle: &Chronicle) -> Option<&Letter> {
+    let [first, ..] = chronicle.letters() else {
+        return None;
+    };
+    let letter = first.letters().get(5)?;
+    if letter.general == 5 {
+        Some(letter)
+    } else {
+        None
     }
-    Err("a letter of 5")?
 }
 
 /// A patience, and then the steps, the accesses, and whether the program exited.
@@ -132,52 +163,71 @@ const PATIENCES: &[(Option<u32>, u32, usize, bool)] = &[
     (Some(1), 1, 0, false),
 ];
 
-/// The steps and accesses of this one's program with the replies 7, 9 and 11, whether it exited, and how many were
-/// served; that its transcript has these replies is a condition.
-fn outcome(
+/// Whether this one's program, with the replies 7, 9 and 11, takes so many steps, exits or not, and makes so many accesses,
+/// which are served and no more.
+fn takes(
     alloc: Global,
     letter: &Letter,
     patience: Option<u32>,
-) -> Result<(u32, usize, bool, usize), Fail> {
+    steps: u32,
+    accesses: usize,
+    exited: bool,
+) -> Result<bool, AllocError> {
     let mut server = Answers::new(alloc, &[7, 9, 11]);
     let again = lived(alloc, &mut server, letter, patience)?;
-    let words = words_of(alloc, &again)?;
-    if ![7, 9, 11].starts_with(words.as_slice()) {
-        return Err("other replies")?;
-    }
-    Ok((again.steps, words.len(), again.exited, server.served.len()))
+    Ok(
+        again.steps == steps
+            && again.exited == exited
+            && again.transcript.len() == accesses
+            && server.served.len() == accesses
+            && had(&again, &[7, 9, 11]),
+    )
 }
 
 #[test]
 fn the_last_permitted_request_is_served(rt: HostRuntime) -> Result<(), Fail> {
     let alloc = rt.alloc();
-    let letter = spy(alloc)?;
+    let chronicle = played(alloc, SEVEN, SPYING, "")?;
+    let letter = spy(&chronicle).ok_or("a letter of 5")?;
     for &(patience, steps, accesses, exited) in PATIENCES {
-        let lived = outcome(alloc, &letter, patience)?;
-        assert_eq!(rt; lived, (steps, accesses, exited, accesses));
+        assert!(rt; takes(alloc, letter, patience, steps, accesses, exited)?);
     }
     Ok(())
 }
 
-/// The words that a server has, and the patience, where one reply is too few.
-const SCARCE: &[(&[u64], Option<u32>)] = &[
-    (&[], None),
-    (&[], Some(3)),
-    (&[7], None),
-    (&[7], Some(5)),
+/// The words that a server has, the patience, and how many accesses a letter has; none where one reply is too few.
+const SCARCE: &[(&[u64], Option<u32>, Option<usize>)] = &[
+    (&[], None, None),
+    (&[], Some(3), None),
+    (&[7], None, None),
+    (&[7], Some(5), None),
+    (&[7], Some(4), Some(1)),
 ];
+
+/// Whether with a server of these words the program comes to a letter of so many accesses, or to none, and each word is
+/// served.
+fn comes_to(
+    alloc: Global,
+    letter: &Letter,
+    words: &[u64],
+    patience: Option<u32>,
+    accesses: Option<usize>,
+) -> bool {
+    let mut server = Answers::new(alloc, words);
+    let made = match lived(alloc, &mut server, letter, patience) {
+        Ok(letter) => Some(letter.transcript.len()),
+        Err(_) => None,
+    };
+    made == accesses && server.served.len() == words.len()
+}
 
 #[test]
 fn want_of_memory_at_an_access_ends_it(rt: HostRuntime) -> Result<(), Fail> {
     let alloc = rt.alloc();
-    let letter = spy(alloc)?;
-    for &(words, patience) in SCARCE {
-        let mut server = Answers::new(alloc, words);
-        assert!(rt; lived(alloc, &mut server, &letter, patience).is_err());
-        assert_eq!(rt; server.served.len(), words.len());
+    let chronicle = played(alloc, SEVEN, SPYING, "")?;
+    let letter = spy(&chronicle).ok_or("a letter of 5")?;
+    for &(words, patience, accesses) in SCARCE {
+        assert!(rt; comes_to(alloc, letter, words, patience, accesses));
     }
-    let mut server = Answers::new(alloc, &[7]);
-    let cut = lived(alloc, &mut server, &letter, Some(4))?;
-    assert_eq!(rt; cut.transcript.len(), 1);
     Ok(())
 }

@@ -2,13 +2,17 @@
 ghost use Rattle.std.specs.Prelude.{◌≡◌, ◌<◌, IsTrue};
 ghost use Rattle.round.specs.Told.{AreDue};
 
-use crate::scenarios::{FOUR, SWAYED, played, with_traitor};
+use crate::scenarios::played;
+use crate::texts::{
+    FIVE, FOUR, FOUR_AND_THREE_STEPS, FOUR_AND_TWO_STEPS, FOUR_OF_BYTES, NINE_FOR_FOUR,
+    SEVEN_FOR_ONE, SWAYING,
+};
 use label::Label;
 use round::{Letter, Round, Scenario, are_rounds_of, context_for, deliver, loyal_letter};
-use std::alloc::Global;
-use std::process::Abort;
+use std::alloc::{AllocError, Global};
 use std::test::Fail;
 use tree::Tree;
+use world::Chronicle;
 
 /// The context of a general behind these rounds.
 fn context(
@@ -26,152 +30,170 @@ fn context(
     Ok(context_for(alloc, scenario, general, before)?)
 }
 
-/// The context of a general behind so many rounds of four has these numbers, and then zeros.
-fn tells(
-    rt: &impl Abort,
+/// The context of a general behind so many rounds of a campaign.
+fn context_behind(
     alloc: Global,
-    text: &str,
-    place: (u8, usize),
-    numbers: &[u32],
-) -> Result<(), Fail> {
-    let (general, behind) = place;
-    let chronicle = played(alloc, text, "")?;
-    let before = chronicle.letters().get(..behind).ok_or("so many rounds")?;
-    let bytes = context(alloc, chronicle.scenario(), general, before)?;
-    let mut expected = Vec::new(alloc);
+    keys: &str,
+    traitors: &str,
+    general: u8,
+    behind: usize,
+) -> Result<Vec<u8>, Fail> {
+    let chronicle = played(alloc, keys, traitors, "")?;
+    match chronicle.letters().get(..behind) {
+        Some(before) => context(alloc, chronicle.scenario(), general, before),
+        None => Err("so many rounds")?,
+    }
+}
+
+/// These numbers in four bytes each, and then zeros, 4,096 bytes in all.
+fn spelt(alloc: Global, numbers: &[u32]) -> Result<Vec<u8>, AllocError> {
+    let mut bytes = Vec::new(alloc);
     for number in numbers {
-        expected.extend_from_slice(&number.to_le_bytes())?;
+        bytes.extend_from_slice(&number.to_le_bytes())?;
     }
-    expected.resize(4096, 0)?;
-    assert_eq!(rt; bytes.as_slice(), expected.as_slice());
-    Ok(())
+    bytes.resize(4096, 0)?;
+    Ok(bytes)
 }
 
-/// A general of four, how many rounds are behind him, and the numbers that his context begins with.
-const TOLD_OF_FOUR: &[((u8, usize), &[u32])] = &[
-    ((0, 0), &[4, 1, 0, 0, 1, 1, 3, 0, 0x0102_0304]),
-    ((3, 0), &[4, 1, 3, 0, 1, 0, 3, 0]),
-    ((0, 1), &[4, 1, 0, 0, 2, 0, 2, 0]),
-    ((3, 1), &[4, 1, 3, 0, 2, 1, 2, 0, 0x0102_0304]),
+/// The keys of a campaign and its traitors, a general, how many rounds are behind him, and the numbers that his context
+/// begins with.
+type Row = (&'static str, &'static str, u8, usize, &'static [u32]);
+
+/// Contexts: of four loyal generals, of four under a traitor, and of five.
+const CONTEXTS: &[Row] = &[
+    (
+        FOUR_OF_BYTES,
+        "",
+        0,
+        0,
+        &[4, 1, 0, 0, 1, 1, 3, 0, 0x0102_0304],
+    ),
+    (FOUR_OF_BYTES, "", 3, 0, &[4, 1, 3, 0, 1, 0, 3, 0]),
+    (FOUR_OF_BYTES, "", 0, 1, &[4, 1, 0, 0, 2, 0, 2, 0]),
+    (
+        FOUR_OF_BYTES,
+        "",
+        3,
+        1,
+        &[4, 1, 3, 0, 2, 1, 2, 0, 0x0102_0304],
+    ),
+    (FOUR, SEVEN_FOR_ONE, 1, 1, &[4, 1, 1, 0, 2, 1, 2, 0, 7]),
+    (FOUR, SEVEN_FOR_ONE, 2, 1, &[4, 1, 2, 0, 2, 1, 2, 0, 0]),
+    (
+        FIVE,
+        NINE_FOR_FOUR,
+        4,
+        2,
+        &[5, 2, 4, 1, 3, 3, 2, 0, 6, 9, 6],
+    ),
+    (
+        FIVE,
+        NINE_FOR_FOUR,
+        0,
+        2,
+        &[5, 2, 0, 1, 3, 3, 2, 0, 0, 6, 6],
+    ),
+    (FIVE, NINE_FOR_FOUR, 1, 2, &[5, 2, 1, 1, 3, 0, 2, 0]),
 ];
 
-/// The same where the commander tells 1 the order 7, and nobody else anything.
-const TOLD_BY_A_TRAITOR: &[((u8, usize), &[u32])] = &[
-    ((1, 1), &[4, 1, 1, 0, 2, 1, 2, 0, 7]),
-    ((2, 1), &[4, 1, 2, 0, 2, 1, 2, 0, 0]),
-];
+/// Whether a row's context has its numbers.
+fn tells(alloc: Global, row: &Row) -> Result<bool, Fail> {
+    let (keys, traitors, general, behind, numbers) = *row;
+    let bytes = context_behind(alloc, keys, traitors, general, behind)?;
+    let expected = spelt(alloc, numbers)?;
+    Ok(bytes.as_slice() == expected.as_slice())
+}
 
 #[test]
-fn contexts_of_four_generals(rt: HostRuntime) -> Result<(), Fail> {
+fn contexts_tell_what_was_told(rt: HostRuntime) -> Result<(), Fail> {
     let alloc = rt.alloc();
-    let head = "generals = 4\nbound = 1\ncommander = 0\norder = 16909060\n";
-    for &(place, numbers) in TOLD_OF_FOUR {
-        tells(&rt, alloc, head, place, numbers)?;
-    }
-    let text = with_traitor(alloc, FOUR, 0, &[(1, 7)])?;
-    for &(place, numbers) in TOLD_BY_A_TRAITOR {
-        tells(&rt, alloc, text.as_str(), place, numbers)?;
+    for (place, row) in CONTEXTS.iter().enumerate() {
+        assert!(rt; tells(alloc, row)?, "row {place}");
     }
     Ok(())
 }
 
-/// The same of five generals.
-const TOLD_OF_FIVE: &[((u8, usize), &[u32])] = &[
-    ((4, 2), &[5, 2, 4, 1, 3, 3, 2, 0, 6, 9, 6]),
-    ((0, 2), &[5, 2, 0, 1, 3, 3, 2, 0, 0, 6, 6]),
-    ((1, 2), &[5, 2, 1, 1, 3, 0, 2, 0]),
-];
-
-#[test]
-fn contexts_of_three_rounds(rt: HostRuntime) -> Result<(), Fail> {
-    let alloc = rt.alloc();
-    let head = "generals = 5\nbound = 2\ncommander = 1\norder = 6\n";
-    let text = with_traitor(alloc, head, 2, &[(4, 9)])?;
-    for &(place, numbers) in TOLD_OF_FIVE {
-        tells(&rt, alloc, text.as_str(), place, numbers)?;
-    }
-    Ok(())
-}
+/// The bytes that the first context of `CONTEXTS` begins with.
+const BYTES: &[u8] =
+    b"\x04\0\0\0\x01\0\0\0\0\0\0\0\0\0\0\0\x01\0\0\0\x01\0\0\0\x03\0\0\0\0\0\0\0\x04\x03\x02\x01\0";
 
 #[test]
 fn context_begins_with_its_bytes(rt: HostRuntime) -> Result<(), Fail> {
-    let alloc = rt.alloc();
-    let text = "generals = 4\nbound = 1\ncommander = 0\norder = 16909060\n";
-    let chronicle = played(alloc, text, "")?;
-    let bytes = context(alloc, chronicle.scenario(), 0, &[])?;
-    let expected =
-        b"\x04\0\0\0\x01\0\0\0\0\0\0\0\0\0\0\0\x01\0\0\0\x01\0\0\0\x03\0\0\0\0\0\0\0\x04\x03\x02\x01\0";
-    assert!(rt; bytes.as_slice().starts_with(expected));
-    assert_eq!(rt; bytes.len(), 4096);
+    let bytes = context_behind(rt.alloc(), FOUR_OF_BYTES, "", 0, 0)?;
+    assert!(rt; bytes.as_slice().starts_with(BYTES) && bytes.len() == 4096);
     Ok(())
 }
 
-/// The letter that a loyal general writes who is told what the writer of this one was.
-fn faithful(alloc: Global, letter: &Letter) -> Result<Letter, Fail> {
+/// Whether the letter is the one that a loyal general writes who is told what the writer of this one was.
+fn is_faithful(alloc: Global, letter: &Letter) -> Result<bool, AllocError> {
     letter.recall();
     let _shape = letter.outbox.shape();
     let context = Vec::from_slice(alloc, letter.context.as_slice())?;
-    Ok(loyal_letter(alloc, letter.general, letter.round, context)?)
+    let faithful = loyal_letter(alloc, letter.general, letter.round, context)?;
+    Ok(faithful.same(letter))
+}
+
+/// Whether a copy of the letter is the same.
+fn is_copied(alloc: Global, letter: &Letter) -> Result<bool, AllocError> {
+    Ok(letter.copy(alloc)?.same(letter))
+}
+
+/// Whether of the chronicle's letters just this one has its round and general, and no other is the same.
+fn is_its_own(chronicle: &Chronicle, letter: &Letter) -> bool {
+    for round in chronicle.letters() {
+        for other in round.letters() {
+            let is_it = other.round == letter.round && other.general == letter.general;
+            if letter.same(other) != is_it {
+                return false;
+            }
+        }
+    }
+    true
+}
+
+/// Whether the letter is faithful where its writer is loyal, and not otherwise, and its copy is the same.
+fn is_right(alloc: Global, letter: &Letter) -> Result<bool, AllocError> {
+    let is_loyal = letter.program.program().is_none();
+    Ok(is_copied(alloc, letter)? && is_faithful(alloc, letter)? == is_loyal)
 }
 
 #[test]
-fn loyal_letters_follow_from_their_contexts(rt: HostRuntime) -> Result<(), Fail> {
+fn letters_follow_from_their_contexts(rt: HostRuntime) -> Result<(), Fail> {
     let alloc = rt.alloc();
-    let chronicle = played(alloc, SWAYED, "")?;
+    let chronicle = played(alloc, FOUR, SWAYING, "")?;
     for round in chronicle.letters() {
         for letter in round.letters() {
-            let is_loyal = letter.program.program().is_none();
-            assert_eq!(rt; faithful(alloc, letter)?.same(letter), is_loyal);
-            assert!(rt; letter.copy(alloc)?.same(letter));
+            assert!(rt; is_right(alloc, letter)? && is_its_own(&chronicle, letter));
         }
     }
     Ok(())
 }
 
-#[test]
-fn each_letter_is_its_own(rt: HostRuntime) -> Result<(), Fail> {
-    let alloc = rt.alloc();
-    let chronicle = played(alloc, SWAYED, "")?;
-    for (round, letters) in chronicle.letters().iter().enumerate() {
-        for letter in letters.letters() {
-            for (place, others) in chronicle.letters().iter().enumerate() {
-                for other in others.letters() {
-                    let is_it = place == round && other.general == letter.general;
-                    assert_eq!(rt; letter.same(other), is_it);
-                }
-            }
+/// Whether of these letters of four generals those of 3 alone differ.
+fn last_differs(letters: &[Letter], others: &[Letter]) -> bool {
+    for (letter, other) in letters.iter().zip(others.iter()) {
+        if letter.general != other.general || letter.same(other) != (letter.general != 3) {
+            return false;
         }
     }
-    Ok(())
+    letters.len() == 4 && others.len() == 4
 }
 
-/// The letters of the first round of four generals, of whom 3 is cut off after so many steps.
-fn first_round(alloc: Global, patience: u32) -> Result<Vec<Letter>, Fail> {
-    let head = format!(in alloc; "{FOUR}patience = {patience}\n")?;
-    let text = with_traitor(alloc, head.as_str(), 3, &[(1, 0), (2, 0)])?;
-    let chronicle = played(alloc, text.as_str(), "")?;
-    let mut letters = Vec::new(alloc);
-    for round in chronicle.letters() {
-        for letter in round.letters() {
-            if letter.round == 1 {
-                letters.push(letter.copy(alloc)?)?;
-            }
-        }
+/// The letters of a chronicle's first round.
+fn first_letters(chronicle: &Chronicle) -> &[Letter] {
+    match chronicle.letters() {
+        [first, ..] => first.letters(),
+        [] => &[],
     }
-    Ok(letters)
 }
 
 /// In the first round he relays nothing, so that only the number of steps tells two cut-offs apart.
 #[test]
 fn letters_differ_by_their_steps(rt: HostRuntime) -> Result<(), Fail> {
     let alloc = rt.alloc();
-    let short = first_round(alloc, 2)?;
-    let long = first_round(alloc, 3)?;
-    assert_eq!(rt; short.len(), 4);
-    for (letter, other) in short.iter().zip(long.iter()) {
-        assert_eq!(rt; letter.general, other.general);
-        assert_eq!(rt; letter.same(other), letter.general != 3);
-    }
+    let short = played(alloc, FOUR_AND_TWO_STEPS, SWAYING, "")?;
+    let long = played(alloc, FOUR_AND_THREE_STEPS, SWAYING, "")?;
+    assert!(rt; last_differs(first_letters(&short), first_letters(&long)));
     Ok(())
 }
 
@@ -206,15 +228,6 @@ fn are_due(tree: &Tree, letters: &[Letter]) -> bool
     true
 }
 
-/// Fills in what the letters of a round tell the tree's lieutenant.
-fn fill(tree: &mut Tree, round: &Round) -> Result<(), Fail> {
-    if !are_due(tree, round.letters()) {
-        return Err("letters of another round")?;
-    }
-    deliver(round.letters(), tree);
-    Ok(())
-}
-
 /// What the commander 0, and 2 and 3 about him, have told.
 fn orders(tree: &Tree) -> [Option<u32>; 3] {
     [
@@ -224,17 +237,31 @@ fn orders(tree: &Tree) -> [Option<u32>; 3] {
     ]
 }
 
+/// Whether the letters are of a round of the tree's campaign, and fill in what makes up these orders.
+fn fills(tree: &mut Tree, round: &Round, told: [Option<u32>; 3]) -> bool {
+    if !are_due(tree, round.letters()) {
+        return false;
+    }
+    deliver(round.letters(), tree);
+    orders(tree) == told
+}
+
+/// Whether the letters of two rounds fill in what makes up these orders.
+fn are_filled_in(tree: &mut Tree, chronicle: &Chronicle) -> bool {
+    match chronicle.letters() {
+        [first, second] => {
+            fills(tree, first, [Some(1), None, None])
+                && fills(tree, second, [Some(1), Some(1), Some(0)])
+        }
+        _ => false,
+    }
+}
+
 #[test]
 fn letters_fill_a_tree(rt: HostRuntime) -> Result<(), Fail> {
     let alloc = rt.alloc();
-    let chronicle = played(alloc, SWAYED, "")?;
     let mut tree = Tree::new(alloc, 4, 1, 0, 1)?;
-    let mut filled = Vec::new(alloc);
-    for round in chronicle.letters() {
-        fill(&mut tree, round)?;
-        filled.push(orders(&tree))?;
-    }
-    let expected = [[Some(1), None, None], [Some(1), Some(1), Some(0)]];
-    assert_eq!(rt; filled.as_slice(), expected.as_slice());
+    let chronicle = played(alloc, FOUR, SWAYING, "")?;
+    assert!(rt; are_filled_in(&mut tree, &chronicle));
     Ok(())
 }

@@ -1,80 +1,172 @@
 //! The world of signed messages, event by event.
 
-use crate::scenarios::THREE;
+use crate::scenarios::joined;
+use crate::texts::{PASSING, SIGNING_TWICE, THREE_SIGNED};
 use round::Scenario;
 use scenario::{Campaign, read_any};
-use signed::{SignedWorld, replay_signed};
+use signed::{Chain, SignedChronicle, SignedWorld};
 use std::alloc::Global;
-use std::process::Abort;
 use std::test::Fail;
-use trace::{Latch, write_signed};
-use world::{Event, EventError};
+use world::{Event, EventError, Verdict};
 
-/// Passes on to 1 the first chain that he holds.
-const PASSING: &str = "mov r1, 0\nmov r2, 2\ncall pass_on\nexit\n";
-
-/// Signs the order 1 for 1, and the order 0 for 2.
-const TORN: &str =
-    "mov r1, 1\nmov r2, 2\ncall sign_order\nmov r1, 0\nmov r2, 4\ncall sign_order\nexit\n";
-
-/// Three generals, bound 1, whose commander 0 has order 1, with signed messages; one of them is a traitor with this program.
-fn three(alloc: Global, traitor: u8, program: &str) -> Result<Scenario, Fail> {
-    let text = format!(in alloc;
-        "{THREE}messages = \"signed\"\n[[traitor]]\ngeneral = {traitor}\nasm = '''\n{program}'''\n"
-    )?;
-    match read_any(alloc, text.as_str()) {
+/// The campaign of three generals with these traitors' tables.
+fn three(alloc: Global, traitors: &str) -> Result<Scenario, Fail> {
+    match read_any(alloc, joined(alloc, THREE_SIGNED, traitors)?.as_str()) {
         Ok(Campaign::Signed(scenario)) => Ok(scenario),
         _ => Err("no signed campaign")?,
     }
 }
 
-/// Each of these events is done.
-fn happen(alloc: Global, world: &mut SignedWorld, events: &[Event]) -> Result<(), Fail> {
-    for event in events {
-        world.apply(alloc, *event)?;
-    }
-    Ok(())
+/// What is done with a world, or asked of it.
+#[derive(Clone, Copy)]
+enum Step {
+    /// Each of these events is done.
+    Done(&'static [Event]),
+    /// Each of these events is refused for this reason, and the decisions stay.
+    Refused(&'static [Event], EventError),
+    /// Whether it is full.
+    Full(bool),
+    /// Its decisions.
+    Decided(&'static [u32]),
 }
 
-/// Each of these events is refused for this reason, and the decisions stay.
-fn refused(
-    rt: &impl Abort,
+/// A round of a lieutenant who passes on.
+const PASSED_ON: &[Event] = &[
+    Event::Post(0),
+    Event::Post(1),
+    Event::Tick(2),
+    Event::Tick(2),
+    Event::Tick(2),
+    Event::Tick(2),
+    Event::Close,
+];
+
+/// A round of a commander who signs two orders.
+const SIGNED_TWICE: &[Event] = &[
+    Event::Tick(0),
+    Event::Tick(0),
+    Event::Tick(0),
+    Event::Tick(0),
+    Event::Tick(0),
+    Event::Tick(0),
+    Event::Tick(0),
+    Event::Post(1),
+    Event::Post(2),
+    Event::Close,
+];
+
+/// Both rounds beside one who passes on.
+const BESIDE_ONE_WHO_PASSES_ON: &[Step] = &[
+    Step::Decided(&[0, 0]),
+    Step::Done(PASSED_ON),
+    Step::Decided(&[1, 1]),
+    Step::Done(PASSED_ON),
+    Step::Decided(&[1, 1]),
+    Step::Full(true),
+];
+
+/// Both rounds under a commander who signs two orders.
+const UNDER_TWO_ORDERS: &[Step] = &[
+    Step::Done(SIGNED_TWICE),
+    Step::Done(SIGNED_TWICE),
+    Step::Decided(&[0, 0]),
+];
+
+/// Events of those who do not act so, two rounds in which nobody acts, and events behind them.
+const WITH_STRANGERS: &[Step] = &[
+    Step::Refused(
+        &[Event::Tick(0), Event::Post(2), Event::Post(3)],
+        EventError::NoGeneral,
+    ),
+    Step::Done(&[Event::Close]),
+    Step::Full(false),
+    Step::Done(&[Event::Close]),
+    Step::Decided(&[0, 0]),
+    Step::Refused(
+        &[Event::Tick(2), Event::Post(0), Event::Close],
+        EventError::NotOpen,
+    ),
+];
+
+/// Whether each of these events is done.
+fn are_done(alloc: Global, world: &mut SignedWorld, events: &[Event]) -> bool {
+    for event in events {
+        if world.apply(alloc, *event).is_err() {
+            return false;
+        }
+    }
+    true
+}
+
+/// Whether each of these events is refused for this reason, and the decisions stay.
+fn are_refused(
     alloc: Global,
     world: &mut SignedWorld,
     events: &[Event],
     reason: EventError,
-) {
+) -> bool {
     let before = world.decisions();
     for event in events {
-        assert_eq!(rt; world.apply(alloc, *event), Err(reason));
-        assert_eq!(rt; world.decisions().as_slice(), before.as_slice());
+        if world.apply(alloc, *event) != Err(reason) {
+            return false;
+        }
+        if world.decisions().as_slice() != before.as_slice() {
+            return false;
+        }
+    }
+    true
+}
+
+/// Whether the step goes as it says.
+fn goes(alloc: Global, world: &mut SignedWorld, step: Step) -> bool {
+    match step {
+        Step::Done(events) => are_done(alloc, world, events),
+        Step::Refused(events, reason) => are_refused(alloc, world, events, reason),
+        Step::Full(full) => world.full() == full,
+        Step::Decided(orders) => world.decisions().as_slice() == orders,
     }
 }
+
+/// Whether all steps go as they say.
+fn go(alloc: Global, world: &mut SignedWorld, steps: &[Step]) -> bool {
+    for step in steps {
+        if !goes(alloc, world, *step) {
+            return false;
+        }
+    }
+    true
+}
+
+/// Whether a chain has this order, these signers and these receivers.
+fn is_sent(sent: &(Chain, u16), order: u32, signers: &[u8], receivers: u16) -> bool {
+    let (chain, to) = sent;
+    chain.order() == order && chain.signers() == signers && *to == receivers
+}
+
+/// Whether the commander sent one chain in the first round, and the traitor 2 none, but in the second his signed one to 1.
+fn is_passed_on(chronicle: &SignedChronicle) -> bool {
+    let [sent] = chronicle.sent(2, 2) else {
+        return false;
+    };
+    chronicle.sent(0, 1).len() == 1
+        && chronicle.sent(2, 1).is_empty()
+        && is_sent(sent, 1, &[0, 2], 2)
+}
+
+/// The verdict where all obey.
+const OBEYED: Verdict = Verdict {
+    alike: true,
+    obeyed: Some(true),
+    bound: true,
+};
 
 #[test]
 fn three_generals_agree_beside_one_who_passes_on(rt: HostRuntime) -> Result<(), Fail> {
     let alloc = rt.alloc();
-    let mut world = SignedWorld::open(alloc, three(alloc, 2, PASSING)?)?;
-    assert_eq!(rt; world.decisions().as_slice(), [0, 0].as_slice());
-    for _ in 0..2 {
-        happen(alloc, &mut world, &[Event::Post(0), Event::Post(1)])?;
-        happen(alloc, &mut world, &[Event::Tick(2); 4])?;
-        happen(alloc, &mut world, &[Event::Close])?;
-        assert_eq!(rt; world.decisions().as_slice(), [1, 1].as_slice());
-    }
-    assert!(rt; world.full());
-    let Some(chronicle) = world.chronicle() else {
-        return Err("no chronicle")?;
-    };
-    assert_eq!(rt; chronicle.sent(0, 1).len(), 1);
-    assert_eq!(rt; chronicle.sent(2, 1).len(), 0);
-    let [(chain, receivers)] = chronicle.sent(2, 2) else {
-        return Err("other chains")?;
-    };
-    assert_eq!(rt; (chain.order(), *receivers), (1, 2));
-    assert_eq!(rt; chain.signers(), [0, 2].as_slice());
-    assert!(rt; chronicle.verdict().alike && chronicle.verdict().bound);
-    assert_eq!(rt; chronicle.verdict().obeyed, Some(true));
+    let mut world = SignedWorld::open(alloc, three(alloc, PASSING)?)?;
+    assert!(rt; go(alloc, &mut world, BESIDE_ONE_WHO_PASSES_ON));
+    let chronicle = world.chronicle().ok_or("no chronicle")?;
+    assert!(rt; is_passed_on(&chronicle) && chronicle.verdict() == OBEYED);
     Ok(())
 }
 
@@ -83,64 +175,19 @@ fn three_generals_agree_under_a_commander_who_signs_two_orders(
     rt: HostRuntime,
 ) -> Result<(), Fail> {
     let alloc = rt.alloc();
-    let mut world = SignedWorld::open(alloc, three(alloc, 0, TORN)?)?;
-    for _ in 0..2 {
-        happen(alloc, &mut world, &[Event::Tick(0); 7])?;
-        happen(alloc, &mut world, &[Event::Post(1), Event::Post(2)])?;
-        happen(alloc, &mut world, &[Event::Close])?;
-    }
-    assert_eq!(rt; world.decisions().as_slice(), [0, 0].as_slice());
-    let Some(chronicle) = world.chronicle() else {
-        return Err("no chronicle")?;
-    };
-    assert_eq!(rt; chronicle.sent(0, 1).len(), 2);
-    assert_eq!(rt; chronicle.sent(1, 2).len(), 1);
-    assert_eq!(rt; chronicle.verdict().obeyed, None);
+    let mut world = SignedWorld::open(alloc, three(alloc, SIGNING_TWICE)?)?;
+    assert!(rt; go(alloc, &mut world, UNDER_TWO_ORDERS));
+    let chronicle = world.chronicle().ok_or("no chronicle")?;
+    assert!(rt; chronicle.sent(0, 1).len() == 2 && chronicle.sent(1, 2).len() == 1);
+    assert!(rt; chronicle.verdict().obeyed.is_none());
     Ok(())
 }
 
 #[test]
 fn signed_events_of_nobody_are_refused(rt: HostRuntime) -> Result<(), Fail> {
     let alloc = rt.alloc();
-    let mut world = SignedWorld::open(alloc, three(alloc, 2, PASSING)?)?;
-    let strange = [Event::Tick(0), Event::Post(2), Event::Post(3)];
-    refused(&rt, alloc, &mut world, &strange, EventError::NoGeneral);
-    happen(alloc, &mut world, &[Event::Close])?;
-    assert!(rt; !world.full());
-    happen(alloc, &mut world, &[Event::Close])?;
-    assert_eq!(rt; world.decisions().as_slice(), [0, 0].as_slice());
-    let late = [Event::Tick(2), Event::Post(0), Event::Close];
-    refused(&rt, alloc, &mut world, &late, EventError::NotOpen);
+    let mut world = SignedWorld::open(alloc, three(alloc, PASSING)?)?;
+    assert!(rt; go(alloc, &mut world, WITH_STRANGERS));
     assert!(rt; world.chronicle().is_none());
-    Ok(())
-}
-
-/// The chronicle of three generals of whom the last passes on.
-const PASSED: &str = "chronicle 3
-signed generals 3 bound 1 commander 0 order 1 patience -
-round 1
-letter 0 loyal
-chain 1 0 to 1.2
-letter 1 loyal
-letter 2 steps 4
-round 2
-letter 0 loyal
-letter 1 loyal
-chain 1 0.1 to 2
-letter 2 steps 4
-chain 1 0.2 to 1
-decision 1 1
-decision 2 traitor 1
-verdict alike yes obeyed yes bound yes
-";
-
-#[test]
-fn a_signed_replay_without_names_has_the_text(rt: HostRuntime) -> Result<(), Fail> {
-    let alloc = rt.alloc();
-    let chronicle = replay_signed(alloc, three(alloc, 2, PASSING)?, &[])?;
-    let mut sink = Latch::new(Vec::new(alloc));
-    write_signed(&chronicle, &mut sink)?;
-    let bytes = sink.into_writer();
-    assert_eq!(rt; std::str::from_utf8(bytes.as_slice())?, PASSED);
     Ok(())
 }

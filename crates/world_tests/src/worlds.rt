@@ -1,97 +1,139 @@
 //! The world, event by event.
 
-use crate::scenarios::{FOUR, SWAYED, told, with_traitor};
+use crate::scenarios::told;
+use crate::texts::{FOUR, SWAYING, TORN};
 use std::alloc::Global;
-use std::process::Abort;
 use std::test::Fail;
-use world::{Event, EventError, World};
+use world::{Event, EventError, Verdict, World};
 
-/// Each of these events is done.
-fn happen(alloc: Global, world: &mut World, events: &[Event]) -> Result<(), Fail> {
-    for event in events {
-        world.apply(alloc, *event)?;
-    }
-    Ok(())
-}
-
-/// Each of these events is refused for this reason, and the decisions stay.
-fn refused(
-    rt: &impl Abort,
-    alloc: Global,
-    world: &mut World,
-    events: &[Event],
-    reason: EventError,
-) {
-    let before = world.decisions();
-    for event in events {
-        assert_eq!(rt; world.apply(alloc, *event), Err(reason));
-        assert_eq!(rt; world.decisions().as_slice(), before.as_slice());
-    }
+/// What is done with a world, or asked of it.
+#[derive(Clone, Copy)]
+enum Step {
+    /// Each of these events is done.
+    Done(&'static [Event]),
+    /// Each of these events is refused for this reason, and the decisions stay.
+    Refused(&'static [Event], EventError),
+    /// Whether it is full.
+    Full(bool),
+    /// Its decisions.
+    Decided(&'static [u32]),
 }
 
 /// The loyal generals of four post, and the round is closed.
-const POSTS: [Event; 4] = [Event::Post(0), Event::Post(1), Event::Post(2), Event::Close];
+const POSTS: &[Event] = &[Event::Post(0), Event::Post(1), Event::Post(2), Event::Close];
 
 /// General 3 goes to the end of his seven instructions.
-const TICKS: [Event; 7] = [Event::Tick(3); 7];
+const TICKS: &[Event] = &[Event::Tick(3); 7];
 
-#[test]
-fn events_of_nobody_are_refused(rt: HostRuntime) -> Result<(), Fail> {
-    let alloc = rt.alloc();
-    let mut world = World::open(alloc, told(alloc, SWAYED)?)?;
-    let strange = [Event::Tick(0), Event::Post(3), Event::Post(12)];
-    refused(&rt, alloc, &mut world, &strange, EventError::NoGeneral);
-    happen(alloc, &mut world, &TICKS)?;
-    happen(alloc, &mut world, &POSTS)?;
-    refused(&rt, alloc, &mut world, &strange, EventError::NoGeneral);
-    happen(alloc, &mut world, &TICKS)?;
-    happen(alloc, &mut world, &POSTS)?;
-    let late = [
-        Event::Tick(3),
-        Event::Post(0),
-        Event::Close,
-        Event::Post(12),
-        Event::Tick(0),
-    ];
-    refused(&rt, alloc, &mut world, &late, EventError::NotOpen);
-    assert_eq!(rt; world.decisions().as_slice(), [1, 1, 1].as_slice());
-    assert!(rt; world.full());
-    Ok(())
+/// Events of those who do not act so.
+const STRANGE: &[Event] = &[Event::Tick(0), Event::Post(3), Event::Post(12)];
+
+/// Events of a campaign that is over.
+const LATE: &[Event] = &[
+    Event::Tick(3),
+    Event::Post(0),
+    Event::Close,
+    Event::Post(12),
+    Event::Tick(0),
+];
+
+/// Both rounds, with events of nobody between them.
+const WITH_STRANGERS: &[Step] = &[
+    Step::Refused(STRANGE, EventError::NoGeneral),
+    Step::Done(TICKS),
+    Step::Done(POSTS),
+    Step::Refused(STRANGE, EventError::NoGeneral),
+    Step::Done(TICKS),
+    Step::Done(POSTS),
+    Step::Refused(LATE, EventError::NotOpen),
+    Step::Decided(&[1, 1, 1]),
+    Step::Full(true),
+];
+
+/// In the second round nobody posts but the traitor.
+const WITH_THE_ABSENT: &[Step] = &[
+    Step::Done(POSTS),
+    Step::Done(TICKS),
+    Step::Full(true),
+    Step::Done(&[Event::Close]),
+    Step::Full(false),
+    Step::Decided(&[1, 0, 0]),
+];
+
+/// In the second round all post.
+const WITH_ALL: &[Step] = &[
+    Step::Done(POSTS),
+    Step::Done(TICKS),
+    Step::Done(POSTS),
+    Step::Full(true),
+    Step::Decided(&[1, 1, 1]),
+];
+
+/// The verdict where all obey.
+const OBEYED: Verdict = Verdict {
+    alike: true,
+    obeyed: Some(true),
+    bound: true,
+};
+
+/// The traitors' tables of a campaign of four, what is done, and the verdict, where the world then has a chronicle.
+const WORLDS: &[(&str, &[Step], Option<Verdict>)] = &[
+    (SWAYING, WITH_STRANGERS, Some(OBEYED)),
+    (TORN, WITH_THE_ABSENT, None),
+    (TORN, WITH_ALL, Some(OBEYED)),
+];
+
+/// Whether each of these events is done.
+fn are_done(alloc: Global, world: &mut World, events: &[Event]) -> bool {
+    for event in events {
+        if world.apply(alloc, *event).is_err() {
+            return false;
+        }
+    }
+    true
 }
 
-/// General 3 tells 1 to attack and 2 to retreat; the order is to attack.
-fn torn(alloc: Global) -> Result<World, Fail> {
-    let text = with_traitor(alloc, FOUR, 3, &[(1, 1), (2, 0)])?;
-    let mut world = World::open(alloc, told(alloc, text.as_str())?)?;
-    happen(alloc, &mut world, &POSTS)?;
-    happen(alloc, &mut world, &TICKS)?;
-    Ok(world)
+/// Whether each of these events is refused for this reason, and the decisions stay.
+fn are_refused(alloc: Global, world: &mut World, events: &[Event], reason: EventError) -> bool {
+    let before = world.decisions();
+    for event in events {
+        if world.apply(alloc, *event) != Err(reason) {
+            return false;
+        }
+        if world.decisions().as_slice() != before.as_slice() {
+            return false;
+        }
+    }
+    true
+}
+
+/// Whether the step goes as it says.
+fn goes(alloc: Global, world: &mut World, step: Step) -> bool {
+    match step {
+        Step::Done(events) => are_done(alloc, world, events),
+        Step::Refused(events, reason) => are_refused(alloc, world, events, reason),
+        Step::Full(full) => world.full() == full,
+        Step::Decided(orders) => world.decisions().as_slice() == orders,
+    }
+}
+
+/// Whether all steps go as they say, in a world that is opened for them and then has a chronicle of this verdict, if any.
+fn go(alloc: Global, mut world: World, steps: &[Step], verdict: Option<Verdict>) -> bool {
+    for step in steps {
+        if !goes(alloc, &mut world, *step) {
+            return false;
+        }
+    }
+    let told = world.chronicle().map(|chronicle| chronicle.verdict());
+    told == verdict
 }
 
 #[test]
-fn who_has_not_posted_is_absent(rt: HostRuntime) -> Result<(), Fail> {
+fn worlds_are_led_by_events(rt: HostRuntime) -> Result<(), Fail> {
     let alloc = rt.alloc();
-    let mut world = torn(alloc)?;
-    assert!(rt; world.full());
-    happen(alloc, &mut world, &[Event::Close])?;
-    assert!(rt; !world.full());
-    assert_eq!(rt; world.decisions().as_slice().first(), Some(&1));
-    assert_eq!(rt; world.decisions().as_slice().get(1), Some(&0));
-    assert!(rt; world.chronicle().is_none());
-    Ok(())
-}
-
-#[test]
-fn who_has_posted_is_heard(rt: HostRuntime) -> Result<(), Fail> {
-    let alloc = rt.alloc();
-    let mut world = torn(alloc)?;
-    happen(alloc, &mut world, &POSTS)?;
-    assert!(rt; world.full());
-    assert_eq!(rt; world.decisions().as_slice().first(), Some(&1));
-    assert_eq!(rt; world.decisions().as_slice().get(1), Some(&1));
-    let chronicle = world.chronicle().ok_or("the rounds are closed")?;
-    assert!(rt; chronicle.verdict().alike);
-    assert_eq!(rt; chronicle.verdict().obeyed, Some(true));
-    assert!(rt; chronicle.verdict().bound);
+    for (row, &(traitors, steps, verdict)) in WORLDS.iter().enumerate() {
+        let world = World::open(alloc, told(alloc, FOUR, traitors)?)?;
+        assert!(rt; go(alloc, world, steps, verdict), "row {row}");
+    }
     Ok(())
 }

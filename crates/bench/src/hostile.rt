@@ -1,0 +1,71 @@
+//! Makes the calls of the laboratory's layers that take memory, and gives them damaged input.
+//!
+//! A call on what belongs to one campaign: `ready` is printed, the call made, and `back` printed. What is asked of memory
+//! between the two lines is asked by the call alone, so that something outside can refuse it there. Then the same call is made
+//! again, and what both answered is compared.
+
+mod auditing;
+mod bytecode;
+mod call;
+mod calls;
+mod campaign;
+mod changes;
+mod coding;
+mod deciding;
+mod marks;
+mod outcome;
+mod playing;
+mod reading;
+mod serving;
+mod signing;
+mod stored;
+mod writer;
+mod writing;
+
+use anyhow::{Result, bail};
+use call::{CALLS, Call};
+use campaign::{CAMPAIGNS, Campaign};
+use std::rt::Files;
+use std::sync::Wait;
+use std::thread::Threads;
+
+/// Makes the call on the campaign of two names; where there are not two words, makes every call so, and then gives the layers
+/// damaged chronicles and schedules, and writers that fail, and damages the programs of these files.
+pub fn answer<R: Print + Files + Threads + Wait + Sync + AllocGlobal>(
+    rt: &R,
+    words: &[String],
+) -> Result<()> {
+    match words {
+        [call, campaign] => one(rt, call.as_str(), campaign.as_str()),
+        files => {
+            every(rt)?;
+            stored::report(rt, files)?;
+            bytecode::report(rt)?;
+            auditing::report(rt)?;
+            reading::report(rt)?;
+            writing::report(rt)
+        }
+    }
+}
+
+/// Makes the call of this name on the campaign of this name.
+fn one<R: Print + Threads + Wait + Sync + AllocGlobal>(
+    rt: &R,
+    call: &str,
+    campaign: &str,
+) -> Result<()> {
+    match (Call::named(call), Campaign::named(campaign)) {
+        (Some(call), Some(campaign)) => calls::report(rt, call, campaign),
+        _ => bail!("there is no such call, or no such campaign"),
+    }
+}
+
+/// Makes every call on every campaign.
+fn every<R: Print + Threads + Wait + Sync + AllocGlobal>(rt: &R) -> Result<()> {
+    for call in CALLS {
+        for campaign in CAMPAIGNS {
+            calls::report(rt, *call, *campaign)?;
+        }
+    }
+    Ok(())
+}

@@ -1,0 +1,398 @@
+//! The campaigns on which the calls are made.
+use anyhow::{Result, bail};
+use asm::assemble;
+use codec::encode;
+use insn::Program;
+use round::Scenario;
+use std::alloc::Global;
+use trace::read_schedule;
+use world::{Event, Schedule};
+
+/// A campaign.
+#[derive(Clone, Copy)]
+pub enum Campaign {
+    /// Four generals, of whom the last tells two others to retreat.
+    Four,
+    /// Seven generals, of whom the commander and another count on the board who comes first.
+    Seven,
+    /// Four generals by the median, with a patience. The last copies words of the board, and acts by the round.
+    Copying,
+}
+
+/// All of them.
+pub const CAMPAIGNS: &[Campaign] = &[Campaign::Four, Campaign::Seven, Campaign::Copying];
+
+/// Tells 1 and 2 the order 0.
+const SWAYING: &str = "mov r1, 1
+mov r2, 0
+call sway
+mov r1, 2
+mov r2, 0
+call sway
+exit
+";
+
+/// Adds 1 to word 0, and tells 1, 2 and 3 the last bit of what the word was.
+const COUNTING: &str = "mov r1, 0
+mov r2, 1
+call board_add
+mov r6, r0
+and r6, 1
+mov r1, 1
+mov r2, r6
+call sway
+mov r1, 2
+mov r2, r6
+call sway
+mov r1, 3
+mov r2, r6
+call sway
+exit
+";
+
+/// Copies four words of the board to the stack. In round 1 it then leaves 9 in word 0, later it tells 1 what it found there.
+const COPYING: &str = "ldw r6, [r1+16]
+mov r1, 0
+mov r2, r10
+add r2, -64
+mov r3, 4
+call board_copy
+ldd r7, [r10-64]
+jeq r6, 1, first
+mov r1, 1
+mov r2, r7
+call sway
+ja done
+first: mov r1, 0
+mov r2, 9
+call board_swap
+done: mov r0, 0
+exit
+";
+
+/// The scenario of `Four`.
+const FOUR: &str = "generals = 4
+bound = 1
+commander = 0
+order = 1
+[[traitor]]
+general = 3
+asm = '''
+mov r1, 1
+mov r2, 0
+call sway
+mov r1, 2
+mov r2, 0
+call sway
+exit
+'''
+";
+
+/// The scenario of `Seven`.
+const SEVEN: &str = "generals = 7
+bound = 2
+commander = 0
+order = 0
+[[traitor]]
+general = 0
+asm = '''
+mov r1, 0
+mov r2, 1
+call board_add
+mov r6, r0
+and r6, 1
+mov r1, 1
+mov r2, r6
+call sway
+mov r1, 2
+mov r2, r6
+call sway
+mov r1, 3
+mov r2, r6
+call sway
+exit
+'''
+[[traitor]]
+general = 4
+asm = '''
+mov r1, 0
+mov r2, 1
+call board_add
+mov r6, r0
+and r6, 1
+mov r1, 1
+mov r2, r6
+call sway
+mov r1, 2
+mov r2, r6
+call sway
+mov r1, 3
+mov r2, r6
+call sway
+exit
+'''
+";
+
+/// The scenario of `Copying`.
+const FOUR_WHO_COPY: &str = "generals = 4
+bound = 1
+commander = 0
+order = 1
+patience = 20
+rule = \"median\"
+[[traitor]]
+general = 3
+asm = '''
+ldw r6, [r1+16]
+mov r1, 0
+mov r2, r10
+add r2, -64
+mov r3, 4
+call board_copy
+ldd r7, [r10-64]
+jeq r6, 1, first
+mov r1, 1
+mov r2, r7
+call sway
+ja done
+first: mov r1, 0
+mov r2, 9
+call board_swap
+done: mov r0, 0
+exit
+'''
+";
+
+/// The scenario of `Four`, in which the same general signs his orders: the order 1 for 1 and the order 0 for 2, which the
+/// commander alone can, and passes on to all the first two chains that he holds.
+const FOUR_SIGNED: &str = "generals = 4
+bound = 1
+commander = 0
+order = 1
+messages = \"signed\"
+[[traitor]]
+general = 3
+asm = '''
+mov r1, 1
+mov r2, 2
+call sign_order
+mov r1, 0
+mov r2, 4
+call sign_order
+mov r1, 0
+mov r2, 8191
+call pass_on
+mov r1, 1
+mov r2, 8191
+call pass_on
+exit
+'''
+";
+
+/// The same of `Seven`.
+const SEVEN_SIGNED: &str = "generals = 7
+bound = 2
+commander = 0
+order = 0
+messages = \"signed\"
+[[traitor]]
+general = 0
+asm = '''
+mov r1, 1
+mov r2, 2
+call sign_order
+mov r1, 0
+mov r2, 4
+call sign_order
+mov r1, 0
+mov r2, 8191
+call pass_on
+mov r1, 1
+mov r2, 8191
+call pass_on
+exit
+'''
+[[traitor]]
+general = 4
+asm = '''
+mov r1, 1
+mov r2, 2
+call sign_order
+mov r1, 0
+mov r2, 4
+call sign_order
+mov r1, 0
+mov r2, 8191
+call pass_on
+mov r1, 1
+mov r2, 8191
+call pass_on
+exit
+'''
+";
+
+/// The same of `Copying`.
+const FOUR_SIGNED_WITH_PATIENCE: &str = "generals = 4
+bound = 1
+commander = 0
+order = 1
+patience = 20
+messages = \"signed\"
+[[traitor]]
+general = 3
+asm = '''
+mov r1, 1
+mov r2, 2
+call sign_order
+mov r1, 0
+mov r2, 4
+call sign_order
+mov r1, 0
+mov r2, 8191
+call pass_on
+mov r1, 1
+mov r2, 8191
+call pass_on
+exit
+'''
+";
+
+/// Events, each so many times.
+type Turns = &'static [(Event, u32)];
+
+/// A round of four without a schedule: the loyal generals' letters, then the traitor's steps and more.
+const TURNS_OF_FOUR: Turns = &[
+    (Event::Post(0), 1),
+    (Event::Post(1), 1),
+    (Event::Post(2), 1),
+    (Event::Tick(3), 20),
+    (Event::Close, 1),
+];
+
+/// A round of seven.
+const TURNS_OF_SEVEN: Turns = &[
+    (Event::Post(1), 1),
+    (Event::Post(2), 1),
+    (Event::Post(3), 1),
+    (Event::Post(5), 1),
+    (Event::Post(6), 1),
+    (Event::Tick(0), 20),
+    (Event::Tick(4), 20),
+    (Event::Close, 1),
+];
+
+impl Campaign {
+    /// Its name among the words.
+    pub fn name(self) -> &'static str {
+        match self {
+            Campaign::Four => "four",
+            Campaign::Seven => "seven",
+            Campaign::Copying => "copying",
+        }
+    }
+
+    /// The campaign of this name.
+    pub fn named(name: &str) -> Option<Campaign> {
+        for campaign in CAMPAIGNS {
+            if campaign.name() == name {
+                return Some(*campaign);
+            }
+        }
+        None
+    }
+
+    /// The assembly of its traitors' program.
+    pub fn assembly(self) -> &'static str {
+        match self {
+            Campaign::Four => SWAYING,
+            Campaign::Seven => COUNTING,
+            Campaign::Copying => COPYING,
+        }
+    }
+
+    /// The text of a schedule for it.
+    pub fn schedule_text(self) -> &'static str {
+        match self {
+            Campaign::Four => "3*4096 3 12\n",
+            Campaign::Seven => "4*15 0*2\n\n4*15",
+            Campaign::Copying => "0 1 3*2\n3 2 3*17\n",
+        }
+    }
+
+    /// The text of its scenario.
+    pub fn text(self) -> &'static str {
+        match self {
+            Campaign::Four => FOUR,
+            Campaign::Seven => SEVEN,
+            Campaign::Copying => FOUR_WHO_COPY,
+        }
+    }
+
+    /// The text of the scenario in which the same generals sign their orders, and the same are traitors.
+    fn signed_text(self) -> &'static str {
+        match self {
+            Campaign::Four => FOUR_SIGNED,
+            Campaign::Seven => SEVEN_SIGNED,
+            Campaign::Copying => FOUR_SIGNED_WITH_PATIENCE,
+        }
+    }
+
+    /// Its scenario.
+    pub fn scenario(self, alloc: Global) -> Result<Scenario> {
+        match scenario::read(alloc, self.text()) {
+            Ok(scenario) => Ok(scenario),
+            Err(_) => bail!("a scenario is refused"),
+        }
+    }
+
+    /// The scenario in which the same generals sign their orders.
+    pub fn signed_scenario(self, alloc: Global) -> Result<Scenario> {
+        match scenario::read_any(alloc, self.signed_text()) {
+            Ok(scenario::Campaign::Signed(scenario)) => Ok(scenario),
+            _ => bail!("a signed scenario is refused"),
+        }
+    }
+
+    /// Its schedule.
+    pub fn schedule(self, alloc: Global) -> Result<Schedule> {
+        match read_schedule(alloc, self.schedule_text()) {
+            Ok(schedule) => Ok(schedule),
+            Err(_) => bail!("a schedule is refused"),
+        }
+    }
+
+    /// Its traitors' program.
+    pub fn program(self, alloc: Global) -> Result<Program> {
+        match assemble(alloc, self.assembly()) {
+            Ok(program) => Ok(program),
+            Err(_) => bail!("a program is refused"),
+        }
+    }
+
+    /// The bytecode of its traitors' program.
+    pub fn bytecode(self, alloc: Global) -> Result<Vec<u8>> {
+        Ok(encode(alloc, &self.program(alloc)?)?)
+    }
+
+    /// Its events without a schedule, and how many rounds of them there are.
+    fn turns(self) -> (Turns, u32) {
+        match self {
+            Campaign::Four | Campaign::Copying => (TURNS_OF_FOUR, 2),
+            Campaign::Seven => (TURNS_OF_SEVEN, 3),
+        }
+    }
+
+    /// Its events without a schedule, one after another.
+    pub fn events(self, alloc: Global) -> Result<Vec<Event>> {
+        let mut events = Vec::new(alloc);
+        let (turns, rounds) = self.turns();
+        for _ in 0..rounds {
+            for (event, times) in turns {
+                for _ in 0..*times {
+                    events.push(*event)?;
+                }
+            }
+        }
+        Ok(events)
+    }
+}

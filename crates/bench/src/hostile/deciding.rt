@@ -1,0 +1,84 @@
+//! The call that decides for all lieutenants.
+use crate::hostile::campaign::Campaign;
+use crate::hostile::marks::{back, ready};
+use crate::hostile::outcome::{Outcome, Told, compared};
+use anyhow::Result;
+use combine::Rule;
+use label::unrank;
+use resolve::resolve_all;
+use std::alloc::{AllocError, Global};
+use std::thread::Threads;
+use tree::Tree;
+
+/// `resolve_all` of the lieutenants' trees.
+pub fn resolves<R: Print + Threads + Sync + AllocGlobal>(
+    rt: &R,
+    campaign: Campaign,
+) -> Result<Outcome> {
+    let alloc = rt.alloc();
+    let rule = match campaign {
+        Campaign::Four | Campaign::Seven => Rule::Majority,
+        Campaign::Copying => Rule::Median,
+    };
+    let trees = trees(alloc, campaign)?;
+    ready(rt);
+    let first = resolve_all(rt, alloc, trees.as_slice(), &rule);
+    back(rt);
+    let first = decided(alloc, first)?;
+    let again = resolve_all(rt, alloc, trees.as_slice(), &rule);
+    compared(first, decided(alloc, again)?)
+}
+
+/// What `resolve_all` tells: the decisions, each in four bytes.
+fn decided(alloc: Global, answer: Result<Vec<u32>, AllocError>) -> Result<Told, AllocError> {
+    let Ok(decisions) = answer else {
+        return Ok(Told::Memory);
+    };
+    let mut bytes = Vec::new(alloc);
+    for decision in &decisions {
+        bytes.extend_from_slice(&decision.to_le_bytes())?;
+    }
+    Ok(Told::Bytes(bytes))
+}
+
+/// The trees of the lieutenants of four generals or of seven, under 0, each value one of three orders.
+fn trees(alloc: Global, campaign: Campaign) -> Result<Vec<Tree>, AllocError> {
+    match campaign {
+        Campaign::Four => trees_of_four(alloc),
+        Campaign::Seven | Campaign::Copying => trees_of_seven(alloc),
+    }
+}
+
+/// Those of four generals.
+fn trees_of_four(alloc: Global) -> Result<Vec<Tree>, AllocError> {
+    let mut trees = Vec::new(alloc);
+    for general in 1..4 {
+        trees.push(filled(Tree::new(alloc, 4, 1, 0, general)?))?;
+    }
+    Ok(trees)
+}
+
+/// Those of seven generals.
+fn trees_of_seven(alloc: Global) -> Result<Vec<Tree>, AllocError> {
+    let mut trees = Vec::new(alloc);
+    for general in 1..7 {
+        trees.push(filled(Tree::new(alloc, 7, 2, 0, general)?))?;
+    }
+    Ok(trees)
+}
+
+/// The tree with a value for each label.
+fn filled(mut tree: Tree) -> Tree {
+    let space = tree.space();
+    let mut order = u32::from(space.general);
+    for size in 1..4 {
+        for place in 0..20 {
+            let Ok(label) = unrank(space, size, place) else {
+                break;
+            };
+            order = order.wrapping_mul(5).wrapping_add(3);
+            tree.fill(&label, Some((order >> 3) % 3));
+        }
+    }
+    tree
+}

@@ -1,0 +1,72 @@
+//! What a call came to.
+use anyhow::{Result, bail};
+use std::fmt;
+
+/// What a call answered.
+#[derive(Drop)]
+pub enum Told {
+    /// Its answer, told byte by byte.
+    Bytes(Vec<u8>),
+    /// That memory was refused.
+    Memory,
+    /// That a thread could not be started.
+    NoThread,
+}
+
+/// What a call came to.
+#[derive(Clone, Copy)]
+pub enum Outcome {
+    /// It answered, and the same again when it was asked again.
+    Answered,
+    /// It was refused memory, and answered when it was asked again.
+    Memory,
+    /// It could not start a thread, and answered when it was asked again.
+    NoThread,
+}
+
+impl fmt::Display for Outcome {
+    fn fmt<W: fmt::Write>(&self, f: &mut fmt::Formatter<W>) -> fmt::Result {
+        f.write_str(match self {
+            Outcome::Answered => "answered",
+            Outcome::Memory => "memory",
+            Outcome::NoThread => "no thread",
+        })
+    }
+}
+
+/// What a call comes to that told this, and this when it was asked again.
+///
+/// # Errors
+///
+/// That the second answer is none, or another than the first.
+pub fn compared(first: Told, again: Told) -> Result<Outcome> {
+    let Told::Bytes(again) = again else {
+        bail!("asked again, the call does not answer");
+    };
+    match first {
+        Told::Memory => Ok(Outcome::Memory),
+        Told::NoThread => Ok(Outcome::NoThread),
+        Told::Bytes(first) => {
+            if first.as_slice() != again.as_slice() {
+                bail!("asked again, the call answers otherwise");
+            }
+            Ok(Outcome::Answered)
+        }
+    }
+}
+
+/// What several calls come to, where they led to this, and to this with ample memory.
+///
+/// # Errors
+///
+/// That they led to something else.
+pub fn led(is_refused: bool, first: &[u8], ample: &[u8]) -> Result<Outcome> {
+    if first != ample {
+        bail!("the calls lead to something else");
+    }
+    Ok(if is_refused {
+        Outcome::Memory
+    } else {
+        Outcome::Answered
+    })
+}

@@ -1,0 +1,120 @@
+//! The calls that read scenarios and schedules, and schedules that chance has made.
+use crate::hostile::campaign::Campaign;
+use crate::hostile::changes::next;
+use crate::hostile::marks::{back, ready};
+use crate::hostile::outcome::{Outcome, Told, compared};
+use crate::hostile::playing::{play_by, play_freely, text};
+use anyhow::{Result, bail};
+use round::Scenario;
+use scenario::{ScenarioError, read};
+use std::alloc::{AllocError, Global};
+use trace::{Fault, TraceError, read_schedule};
+use world::Schedule;
+
+/// `read` of the scenario's text.
+pub fn reads<R: Print + AllocGlobal>(rt: &R, campaign: Campaign) -> Result<Outcome> {
+    let alloc = rt.alloc();
+    ready(rt);
+    let first = read(alloc, campaign.text());
+    back(rt);
+    let first = told(alloc, first)?;
+    compared(first, told(alloc, read(alloc, campaign.text()))?)
+}
+
+/// What `read` tells: the text of the scenario's chronicle.
+fn told(alloc: Global, answer: Result<Scenario, ScenarioError>) -> Result<Told> {
+    match answer {
+        Ok(scenario) => played(alloc, &scenario),
+        Err(ScenarioError::Memory) => Ok(Told::Memory),
+        Err(_) => bail!("a scenario is refused"),
+    }
+}
+
+/// The text of the scenario's chronicle without a schedule.
+fn played(alloc: Global, scenario: &Scenario) -> Result<Told> {
+    let chronicle = play_freely(alloc, scenario)?;
+    Ok(Told::Bytes(text(alloc, &chronicle)?))
+}
+
+/// `read_schedule` of the schedule's text.
+pub fn reads_schedule<R: Print + AllocGlobal>(rt: &R, campaign: Campaign) -> Result<Outcome> {
+    let alloc = rt.alloc();
+    let scenario = campaign.scenario(alloc)?;
+    ready(rt);
+    let first = read_schedule(alloc, campaign.schedule_text());
+    back(rt);
+    let first = told_by(alloc, &scenario, first)?;
+    let again = read_schedule(alloc, campaign.schedule_text());
+    compared(first, told_by(alloc, &scenario, again)?)
+}
+
+/// What `read_schedule` tells: the text of the scenario's chronicle by the schedule.
+fn told_by(
+    alloc: Global,
+    scenario: &Scenario,
+    answer: Result<Schedule, TraceError>,
+) -> Result<Told> {
+    match answer {
+        Ok(schedule) => scheduled(alloc, scenario, &schedule),
+        Err(TraceError::Memory) => Ok(Told::Memory),
+        Err(_) => bail!("a schedule is refused"),
+    }
+}
+
+/// The text of the scenario's chronicle by a schedule.
+fn scheduled(alloc: Global, scenario: &Scenario, schedule: &Schedule) -> Result<Told> {
+    let chronicle = play_by(alloc, scenario, schedule)?;
+    Ok(Told::Bytes(text(alloc, &chronicle)?))
+}
+
+/// What a schedule is made of by chance.
+const PIECES: &[&str; 16] = &[
+    "0", "3", "4", "12", "13", "*15", "*4096", "*4097", "*0", " ", " ", " ", "\n", "\n", "01", "-",
+];
+
+/// How many schedules are tried.
+const SCHEDULES: u32 = 10_000;
+
+/// Reads schedules that chance has made, and plays those that are told.
+pub fn report<R: Print + AllocGlobal>(rt: &R) -> Result<()> {
+    let alloc = rt.alloc();
+    let scenario = Campaign::Seven.scenario(alloc)?;
+    if !are_answered(alloc, &scenario)? {
+        bail!("a schedule is not answered as it should be");
+    }
+    println!(rt; "{SCHEDULES} schedules: each answered")?;
+    Ok(())
+}
+
+/// Whether schedules that chance has made are answered.
+fn are_answered(alloc: Global, scenario: &Scenario) -> Result<bool, AllocError> {
+    let mut state = 1;
+    for _ in 0..SCHEDULES {
+        let schedule = schedule(alloc, &mut state)?;
+        if !is_answered(alloc, scenario, schedule.as_str())? {
+            return Ok(false);
+        }
+    }
+    Ok(true)
+}
+
+/// Whether the text is refused by one of the first lines, or else a schedule, by which the campaign is then played.
+fn is_answered(alloc: Global, scenario: &Scenario, text: &str) -> Result<bool, AllocError> {
+    match read_schedule(alloc, text) {
+        Ok(schedule) => {
+            let _chronicle = play_by(alloc, scenario, &schedule)?;
+            Ok(true)
+        }
+        Err(TraceError::At(Fault::Line, 1..=6)) => Ok(true),
+        Err(_) => Ok(false),
+    }
+}
+
+/// A schedule of up to 31 pieces.
+fn schedule(alloc: Global, state: &mut u64) -> Result<String, AllocError> {
+    let mut schedule = String::new(alloc);
+    for _ in 0..next(state) % 32 {
+        schedule.push_str(PIECES[(next(state) % 16) as usize])?;
+    }
+    Ok(schedule)
+}

@@ -1,0 +1,115 @@
+//! The board's calls.
+use crate::hostile::marks::{back, ready};
+use crate::hostile::outcome::{Outcome, led};
+use anyhow::{Result, bail};
+use board::{Access, Board};
+use semantics::{Reply, Request, Slot, Span};
+use std::alloc::{AllocError, Global};
+
+/// Whose accesses they are, and in which round.
+const GENERAL: u32 = 3;
+
+const ROUND: u32 = 1;
+
+/// Six requests, two of them copies.
+fn requests() -> Option<[Request; 6]> {
+    let slot = Slot::new(0)?;
+    let last = Slot::new(63)?;
+    Some([
+        Request::Swap { slot, value: 5 },
+        Request::Copy {
+            span: Span::new(0, 64)?,
+        },
+        Request::Cas {
+            slot,
+            expected: 5,
+            new: 7,
+        },
+        Request::Add {
+            slot: last,
+            value: u64::MAX,
+        },
+        Request::Copy {
+            span: Span::new(60, 4)?,
+        },
+        Request::Get { slot },
+    ])
+}
+
+/// `Board::apply` of six requests. Where memory is refused, the words and the ledger are as before, and the request is made again.
+pub fn applies<R: Print + AllocGlobal>(rt: &R) -> Result<Outcome> {
+    let alloc = rt.alloc();
+    let Some(requests) = requests() else {
+        bail!("the requests");
+    };
+    let mut board = Board::new(alloc, [0; 64]);
+    ready(rt);
+    let served = serve(&mut board, requests.as_slice());
+    back(rt);
+    let is_refused = served?;
+    let first = ledger_bytes(alloc, board.ledger())?;
+    led(
+        is_refused,
+        first.as_slice(),
+        ample(alloc, requests.as_slice())?.as_slice(),
+    )
+}
+
+/// The replies with ample memory.
+fn ample(alloc: Global, requests: &[Request]) -> Result<Vec<u8>> {
+    let mut board = Board::new(alloc, [0; 64]);
+    if serve(&mut board, requests)? {
+        bail!("memory is refused");
+    }
+    Ok(ledger_bytes(alloc, board.ledger())?)
+}
+
+/// Serves the requests. The answer is whether memory was refused to any of them.
+fn serve(board: &mut Board, requests: &[Request]) -> Result<bool> {
+    let mut is_refused = false;
+    for request in requests {
+        if is_served_again(board, request)? {
+            is_refused = true;
+        }
+    }
+    Ok(is_refused)
+}
+
+/// Serves the request. The answer is whether memory was refused first: then words and ledger were as before, and it was made
+/// again.
+fn is_served_again(board: &mut Board, request: &Request) -> Result<bool> {
+    let words = *board.words();
+    let entries = board.ledger().len();
+    if board.apply(GENERAL, ROUND, *request).is_ok() {
+        return Ok(false);
+    }
+    if *board.words() != words || board.ledger().len() != entries {
+        bail!("a refused access changed the board");
+    }
+    if board.apply(GENERAL, ROUND, *request).is_err() {
+        bail!("an access is refused twice");
+    }
+    Ok(true)
+}
+
+/// The replies of a ledger, word by word.
+fn ledger_bytes(alloc: Global, ledger: &[Access]) -> Result<Vec<u8>, AllocError> {
+    let mut bytes = Vec::new(alloc);
+    for access in ledger {
+        push_reply(&mut bytes, access.reply())?;
+    }
+    Ok(bytes)
+}
+
+/// Adds the words of a reply.
+fn push_reply(bytes: &mut Vec<u8>, reply: &Reply) -> Result<(), AllocError> {
+    match reply {
+        Reply::Word(word) => bytes.extend_from_slice(&word.to_le_bytes())?,
+        Reply::Words(words) => {
+            for word in words.as_slice() {
+                bytes.extend_from_slice(&word.to_le_bytes())?;
+            }
+        }
+    }
+    Ok(())
+}

@@ -1,0 +1,158 @@
+//! The texts of the campaigns that are timed.
+
+use anyhow::{Result, bail};
+use round::Scenario;
+use scenario::{Campaign, read, read_any};
+use std::alloc::{AllocError, Global};
+
+/// How many instructions a long program has before its exit.
+const MOVES: usize = 4095;
+
+/// The program of a traitor who counts his access on the board, and tells 1, 2 and 3 whether the count was odd.
+const COUNTING: &str = "mov r1, 0
+mov r2, 1
+call board_add
+mov r6, r0
+and r6, 1
+mov r1, 1
+mov r2, r6
+call sway
+mov r1, 2
+mov r2, r6
+call sway
+mov r1, 3
+mov r2, r6
+call sway
+exit
+";
+
+/// A program that signs eight orders, where it is the commander's, and then passes on the last eight chains held, each to all.
+const SIGNING: &str = "ldw r6, [r1+20]
+mov r1, 0
+mov r2, 8191
+call sign_order
+mov r1, 1
+mov r2, 8191
+call sign_order
+mov r1, 2
+mov r2, 8191
+call sign_order
+mov r1, 3
+mov r2, 8191
+call sign_order
+mov r1, 4
+mov r2, 8191
+call sign_order
+mov r1, 5
+mov r2, 8191
+call sign_order
+mov r1, 6
+mov r2, 8191
+call sign_order
+mov r1, 7
+mov r2, 8191
+call sign_order
+mov r1, r6
+sub r1, 1
+and r1, 255
+mov r2, 8191
+call pass_on
+mov r1, r6
+sub r1, 2
+and r1, 255
+mov r2, 8191
+call pass_on
+mov r1, r6
+sub r1, 3
+and r1, 255
+mov r2, 8191
+call pass_on
+mov r1, r6
+sub r1, 4
+and r1, 255
+mov r2, 8191
+call pass_on
+mov r1, r6
+sub r1, 5
+and r1, 255
+mov r2, 8191
+call pass_on
+mov r1, r6
+sub r1, 6
+and r1, 255
+mov r2, 8191
+call pass_on
+mov r1, r6
+sub r1, 7
+and r1, 255
+mov r2, 8191
+call pass_on
+mov r1, r6
+sub r1, 8
+and r1, 255
+mov r2, 8191
+call pass_on
+exit
+";
+
+/// Seven generals, bound 2, of whom 0, the commander, and 4 share the board.
+pub fn colluding(alloc: Global) -> Result<String, AllocError> {
+    let keys = "generals = 7\nbound = 2\ncommander = 0\norder = 0\n";
+    with_program(alloc, keys, &["0", "4"], COUNTING)
+}
+
+/// Thirteen generals, bound 4, of whom 9 to 12 take 4,096 steps in each round.
+pub fn idle(alloc: Global) -> Result<String, AllocError> {
+    let keys = "generals = 13\nbound = 4\ncommander = 0\norder = 1\n";
+    with_program(alloc, keys, &["9", "10", "11", "12"], long(alloc)?.as_str())
+}
+
+/// Thirteen generals, bound 4, of whom 0, the commander, and 10 to 12 sign and pass on whatever they can.
+pub fn signing(alloc: Global) -> Result<String, AllocError> {
+    let keys = "generals = 13\nbound = 4\ncommander = 0\norder = 1\nmessages = \"signed\"\n";
+    with_program(alloc, keys, &["0", "10", "11", "12"], SIGNING)
+}
+
+/// A program of 4,096 instructions.
+fn long(alloc: Global) -> Result<String, AllocError> {
+    let mut program = String::new(alloc);
+    for _ in 0..MOVES {
+        program.push_str("mov r0, 0\n")?;
+    }
+    program.push_str("exit\n")?;
+    Ok(program)
+}
+
+/// The text of a campaign with these keys, in which these generals have this program.
+fn with_program(
+    alloc: Global,
+    keys: &str,
+    generals: &[&str],
+    program: &str,
+) -> Result<String, AllocError> {
+    let mut text = String::from_str(alloc, keys)?;
+    for general in generals {
+        text.push_str("[[traitor]]\ngeneral = ")?;
+        text.push_str(*general)?;
+        text.push_str("\nasm = '''\n")?;
+        text.push_str(program)?;
+        text.push_str("'''\n")?;
+    }
+    Ok(text)
+}
+
+/// The scenario that a text tells.
+pub fn scenario_of(alloc: Global, text: &str) -> Result<Scenario> {
+    match read(alloc, text) {
+        Ok(scenario) => Ok(scenario),
+        Err(_) => bail!("a scenario is refused"),
+    }
+}
+
+/// The scenario of signed messages that a text tells.
+pub fn signed_scenario_of(alloc: Global, text: &str) -> Result<Scenario> {
+    match read_any(alloc, text) {
+        Ok(Campaign::Signed(scenario)) => Ok(scenario),
+        _ => bail!("a signed scenario is refused"),
+    }
+}

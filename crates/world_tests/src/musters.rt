@@ -1,0 +1,99 @@
+//! Campaigns that are mustered, in any order of the accesses.
+
+use crate::scenarios::{played, told};
+use crate::texts::{
+    COLLUDING, FOUR, SEVEN, SEVEN_AND_THREE_STEPS, SEVEN_AND_TWO_STEPS, SEVEN_ON_A_BOARD, SWAYING,
+};
+use crate::threaded::{AGREED, are_told_alike, count, mustered, replays};
+use board::Access;
+use round::Scenario;
+use std::alloc::Global;
+use std::sync::Wait;
+use std::test::Fail;
+use std::thread::Threads;
+use threads::{MusterError, Open, muster_with};
+use world::Chronicle;
+
+/// The keys of seven generals, the first reply, how many accesses there are, and how often the campaign is mustered.
+const COLLUSIONS: &[(&str, u64, usize, u32)] = &[
+    (SEVEN, 0, 6, 21),
+    (SEVEN_AND_THREE_STEPS, 0, 6, 1),
+    (SEVEN_AND_TWO_STEPS, 0, 0, 1),
+    (SEVEN_ON_A_BOARD, 5, 6, 1),
+];
+
+/// Whether two of the accesses are in each round.
+fn are_two_a_round(accesses: &[Access]) -> bool {
+    for (place, access) in accesses.iter().enumerate() {
+        if access.round as usize != place / 2 + 1 {
+            return false;
+        }
+    }
+    true
+}
+
+/// Whether two colluders made so many accesses, with ascending replies from this one on, agreed, and replay.
+fn have_colluded(
+    alloc: Global,
+    chronicle: &Chronicle,
+    first: u64,
+    accesses: usize,
+) -> Result<bool, Fail> {
+    Ok(
+        count(chronicle.accesses(), accesses, first)
+            && are_two_a_round(chronicle.accesses())
+            && chronicle.verdict() == AGREED
+            && replays(alloc, chronicle)?,
+    )
+}
+
+/// Whether the campaign of two colluders with these keys is mustered so.
+fn collude<R: Threads + Wait + Sync>(
+    rt: &R,
+    alloc: Global,
+    keys: &str,
+    first: u64,
+    accesses: usize,
+) -> Result<bool, Fail> {
+    let chronicle = mustered(rt, alloc, told(alloc, keys, COLLUDING)?, &Open)?;
+    have_colluded(alloc, &chronicle, first, accesses)
+}
+
+#[test]
+fn two_colluders_in_any_order(rt: HostRuntime) -> Result<(), Fail> {
+    let alloc = rt.alloc();
+    for &(keys, first, accesses, times) in COLLUSIONS {
+        for _ in 0..times {
+            assert!(rt; collude(&rt, alloc, keys, first, accesses)?);
+        }
+    }
+    Ok(())
+}
+
+/// Whether a campaign is not mustered where threads are to have stacks of 2^60 bytes.
+fn cannot_start<R: Threads + Wait + Sync>(rt: &R, alloc: Global, scenario: Scenario) -> bool {
+    matches!(
+        muster_with(rt, alloc, scenario, &Open, 1 << 60),
+        Err(MusterError::Spawn)
+    )
+}
+
+/// Whether a campaign is told alike where the generals act in threads and where they act on one.
+fn is_told_as_played<R: Threads + Wait + Sync>(
+    rt: &R,
+    alloc: Global,
+    keys: &str,
+    traitors: &str,
+) -> Result<bool, Fail> {
+    let played = played(alloc, keys, traitors, "")?;
+    let mustered = mustered(rt, alloc, told(alloc, keys, traitors)?, &Open)?;
+    are_told_alike(alloc, &mustered, &played)
+}
+
+#[test]
+fn a_thread_that_cannot_start(rt: HostRuntime) -> Result<(), Fail> {
+    let alloc = rt.alloc();
+    assert!(rt; cannot_start(&rt, alloc, told(alloc, FOUR, SWAYING)?));
+    assert!(rt; is_told_as_played(&rt, alloc, FOUR, SWAYING)?);
+    Ok(())
+}

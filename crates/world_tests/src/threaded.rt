@@ -1,0 +1,151 @@
+//! Campaigns whose generals act in threads.
+
+use crate::scenarios::text;
+use crate::texts::SEVEN;
+use board::Access;
+use round::{Letter, Scenario};
+use scenario::read;
+use semantics::Reply;
+use std::alloc::{AllocError, Global};
+use std::sync::Wait;
+use std::test::Fail;
+use std::thread::Threads;
+use threads::{Gate, muster};
+use world::{Chronicle, Verdict, replay};
+
+/// Adds 1 to word 0, and tells 1, 2 and 3 the last bit of what the word was.
+const ADDER: &str = "asm = '''
+mov r1, 0
+mov r2, 1
+call board_add
+mov r6, r0
+and r6, 1
+mov r1, 1
+mov r2, r6
+call sway
+mov r1, 2
+mov r2, r6
+call sway
+mov r1, 3
+mov r2, r6
+call sway
+exit
+'''
+";
+
+/// What stands of a verdict where the commander is a traitor, and the bound holds.
+pub(crate) const AGREED: Verdict = Verdict {
+    alike: true,
+    obeyed: None,
+    bound: true,
+};
+
+/// The heads of the tables of seven traitors.
+const ALL: &[&str] = &[
+    "[[traitor]]\ngeneral = 0\n",
+    "[[traitor]]\ngeneral = 1\n",
+    "[[traitor]]\ngeneral = 2\n",
+    "[[traitor]]\ngeneral = 3\n",
+    "[[traitor]]\ngeneral = 4\n",
+    "[[traitor]]\ngeneral = 5\n",
+    "[[traitor]]\ngeneral = 6\n",
+];
+
+/// The text of seven generals, all of whom add.
+fn seven_adders(alloc: Global) -> Result<String, AllocError> {
+    let mut text = String::from_str(alloc, SEVEN)?;
+    for head in ALL {
+        text.push_str(*head)?;
+        text.push_str(ADDER)?;
+    }
+    Ok(text)
+}
+
+/// The campaign of seven generals, all of whom add.
+pub(crate) fn all_adding(alloc: Global) -> Result<Scenario, Fail> {
+    Ok(read(alloc, seven_adders(alloc)?.as_str())?)
+}
+
+/// The chronicle of a campaign whose generals act in threads.
+pub(crate) fn mustered<R: Threads + Wait + Sync, G: Gate + Sync>(
+    rt: &R,
+    alloc: Global,
+    scenario: Scenario,
+    gate: &G,
+) -> Result<Chronicle, Fail> {
+    Ok(muster(rt, alloc, scenario, gate)?)
+}
+
+/// Whether two chronicles have one text.
+pub(crate) fn are_told_alike(
+    alloc: Global,
+    chronicle: &Chronicle,
+    other: &Chronicle,
+) -> Result<bool, Fail> {
+    let told = text(alloc, chronicle)?;
+    let other = text(alloc, other)?;
+    Ok(told.as_slice() == other.as_slice())
+}
+
+/// The names of those who made a round's accesses.
+fn names_in(alloc: Global, accesses: &[Access], round: usize) -> Result<Vec<u8>, AllocError> {
+    let mut names = Vec::new(alloc);
+    for access in accesses {
+        if access.round as usize == round {
+            names.push(u8::try_from(access.general).unwrap_or(u8::MAX))?;
+        }
+    }
+    Ok(names)
+}
+
+/// The names of those who made a campaign's accesses, by round.
+fn names(alloc: Global, chronicle: &Chronicle) -> Result<Vec<Vec<u8>>, AllocError> {
+    let mut rounds = Vec::new(alloc);
+    for place in 0..chronicle.letters().len() {
+        rounds.push(names_in(alloc, chronicle.accesses(), place + 1)?)?;
+    }
+    Ok(rounds)
+}
+
+/// The replay of the accesses that a chronicle tells.
+fn replayed(alloc: Global, chronicle: &Chronicle) -> Result<Chronicle, AllocError> {
+    let names = names(alloc, chronicle)?;
+    replay(alloc, chronicle.scenario().copy(alloc)?, names.as_slice())
+}
+
+/// Whether the replay of the accesses that a chronicle tells has its text.
+pub(crate) fn replays(alloc: Global, chronicle: &Chronicle) -> Result<bool, Fail> {
+    let again = replayed(alloc, chronicle)?;
+    are_told_alike(alloc, chronicle, &again)
+}
+
+/// The word of a reply.
+pub(crate) fn word(reply: &Reply) -> Option<u64> {
+    match reply {
+        Reply::Word(word) => Some(*word),
+        Reply::Words(_) => None,
+    }
+}
+
+/// Whether the replies of so many accesses count them, from this one on.
+pub(crate) fn count(accesses: &[Access], number: usize, first: u64) -> bool {
+    let mut next = first;
+    for access in accesses {
+        if word(&access.reply) != Some(next) {
+            return false;
+        }
+        next = next.wrapping_add(1);
+    }
+    accesses.len() == number
+}
+
+/// Copies of a chronicle's letters, round by round.
+pub(crate) fn letters(alloc: Global, chronicle: &Chronicle) -> Result<Vec<Letter>, AllocError> {
+    let mut all = Vec::new(alloc);
+    for round in chronicle.letters() {
+        for letter in round.letters() {
+            all.push(letter.copy(alloc)?)?;
+        }
+    }
+    Ok(all)
+}
