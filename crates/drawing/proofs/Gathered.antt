@@ -1,8 +1,8 @@
 -- Lists and tests that are gathered general by general.
-use Rattle.std.proofs.Common.{ℕ, ◌+◌, ◌≡◌, Bool, true, false, not, ◌&&◌, ◌||◌, List, [], ◌∷◌, ◌++◌, refl, sym, ap, ◌∙◌}
-use Rattle.std.specs.List.{flat_map, list_all, list_any}
+use Rattle.std.proofs.Common.{ℕ, ◌+◌, ◌≡◌, Bool, true, false, ◌&&◌, List, [], ◌∷◌, ◌++◌, refl, sym, ap, ◌∙◌}
+use Rattle.std.specs.List.{flat_map, list_all}
 use Rattle.std.proofs.lemmas.List.{flat_map_more}
-use Rattle.std.proofs.lemmas.List.Folds.{list_all-append, list_any-append}
+use Rattle.std.proofs.lemmas.List.Folds.{list_all-append}
 use Rattle.label.specs.Labels.{on, others}
 use Rattle.book.proofs.Steps.{others-more_no, others-more_yes}
 
@@ -18,20 +18,16 @@ and_true : (b : Bool) → (b && true) ≡ b
 and_true true = refl
 and_true false = refl
 
-or_false : (b : Bool) → (b || false) ≡ b
-or_false true = refl
-or_false false = refl
+-- a test of all who are off a list, where all so far have passed it
+pub all_passed : (t : ℕ → Bool) (w : List ℕ) (j : ℕ) (so new : Bool) → on w j ≡ false → so ≡ list_all t (others j w) → so ≡ true → new ≡ t j → new ≡ list_all t (others (j + 1) w)
+all_passed t w j so new h is passes e =
+    e ∙ sym (ap (list_all t) (others-more_yes w j h) ∙ (list_all-append t (others j w) (j ∷ []) ∙ (ap (λ b. b && (t j && true)) (sym is ∙ passes) ∙ and_true (t j))))
 
--- a test of all who are off a list
-pub all_yes : (t : ℕ → Bool) (w : List ℕ) (j : ℕ) → on w j ≡ false → list_all t (others (j + 1) w) ≡ (list_all t (others j w) && t j)
-all_yes t w j h = ap (list_all t) (others-more_yes w j h) ∙ (list_all-append t (others j w) (j ∷ []) ∙ ap (λ b. list_all t (others j w) && b) (and_true (t j)))
+-- where one has not
+pub all_failed : (t : ℕ → Bool) (w : List ℕ) (j : ℕ) (so new : Bool) → on w j ≡ false → so ≡ list_all t (others j w) → so ≡ false → new ≡ false → new ≡ list_all t (others (j + 1) w)
+all_failed t w j so new h is fails e =
+    e ∙ sym (ap (list_all t) (others-more_yes w j h) ∙ (list_all-append t (others j w) (j ∷ []) ∙ ap (λ b. b && (t j && true)) (sym is ∙ fails)))
 
-pub all_no : (t : ℕ → Bool) (w : List ℕ) (j : ℕ) → on w j ≡ true → list_all t (others (j + 1) w) ≡ list_all t (others j w)
-all_no t w j h = ap (list_all t) (others-more_no w j h)
-
--- of one of them
-pub any_yes : (t : ℕ → Bool) (w : List ℕ) (j : ℕ) → on w j ≡ false → list_any t (others (j + 1) w) ≡ (list_any t (others j w) || t j)
-any_yes t w j h = ap (list_any t) (others-more_yes w j h) ∙ (list_any-append t (others j w) (j ∷ []) ∙ ap (λ b. list_any t (others j w) || b) (or_false (t j)))
-
-pub any_no : (t : ℕ → Bool) (w : List ℕ) (j : ℕ) → on w j ≡ true → list_any t (others (j + 1) w) ≡ list_any t (others j w)
-any_no t w j h = ap (list_any t) (others-more_no w j h)
+-- and of one who is on the list
+pub all_passed_over : (t : ℕ → Bool) (w : List ℕ) (j : ℕ) (so new : Bool) → on w j ≡ true → so ≡ list_all t (others j w) → new ≡ so → new ≡ list_all t (others (j + 1) w)
+all_passed_over t w j so new h is e = e ∙ (is ∙ sym (ap (list_all t) (others-more_no w j h)))

@@ -1,3 +1,4 @@
 pub mod Gathered
 pub mod PlaceLemmas
 pub mod FactLemmas
+pub mod ShownLemmas

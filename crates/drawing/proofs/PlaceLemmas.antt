@@ -1,11 +1,12 @@
 -- Places of a table, with one general more and less.
-use Rattle.std.proofs.Common.{ℕ, suc, ◌+◌, ◌<◌, ◌≤◌, ◌≡◌, ◌≢◌, Bool, true, false, not, ◌&&◌, List, [], ◌∷◌, ◌++◌, length, length-append, refl, sym, ap, ◌∙◌, arith}
-use Rattle.std.specs.Prelude.{nat_lt, nat_le}
+use Rattle.std.proofs.Common.{ℕ, ◌+◌, ◌<◌, ◌≤◌, ◌≡◌, ◌≢◌, Bool, true, false, not, ◌&&◌, List, [], ◌∷◌, ◌++◌, length, length-append, refl, sym, ap, ◌∙◌, arith}
+use Rattle.std.specs.Prelude.{◌==◌, nat_lt, nat_le}
 use Rattle.std.specs.List.{list_all}
-use Rattle.std.proofs.lemmas.Bool.{and_parts, and_from, not-true, leb-true, le-leb, ltb-true, lt-ltb}
+use Rattle.std.proofs.lemmas.Bool.{and_parts, and_from, not-true, leb-true, le-leb, ltb-true, lt-ltb, ne_eqb, or_parts, or_from}
 use Rattle.std.proofs.lemmas.List.Folds.{list_all-append}
 use Rattle.label.specs.Labels.{on, is_distinct}
 use Rattle.label.specs.Space.{begins_with}
+use Rattle.label.proofs.Counting.{on-push}
 use Rattle.label.proofs.Ranks.{is_distinct-push}
 use Rattle.book.specs.Grammar.{is_place}
 use Rattle.book.specs.Table.{MessageTable}
@@ -55,6 +56,10 @@ begun : (c : ℕ) (w more : List ℕ) → 0 < length w → begins_with c (w ++ m
 begun c [] more some = absurd (omega arith)
 begun c (x ∷ xs) more some = refl
 
+begun-more : (c : ℕ) (w more : List ℕ) → begins_with c w ≡ true → begins_with c (w ++ more) ≡ true
+begun-more c [] more e = cc
+begun-more c (x ∷ xs) more e = e
+
 -- he who tells of a label was told of it
 pub teller_told : (t : MessageTable) (w : List ℕ) (j p : ℕ) → 0 < length w → is_place t (w ++ j ∷ []) p ≡ true → is_place t w j ≡ true
 teller_told t w j p some e =
@@ -71,4 +76,33 @@ teller_told t w j p some e =
       short = omega arith;
       general = ltb-true j t.generals last.0;
       off = not-true (on w j) apart.1;
+    })
+
+-- p was told of the shorter label too
+pub place_above : (t : MessageTable) (w : List ℕ) (j p : ℕ) → 0 < length w → is_place t (w ++ j ∷ []) p ≡ true → is_place t w p ≡ true
+place_above t w j p some e =
+    let is = place_parts t (w ++ j ∷ []) p e in
+    let his = place_parts t w j (teller_told t w j p some e) in
+    let off = or_parts (on w p) (j == p) (sym (on-push w j p) ∙ is.off) in
+    place_from t w p (record {
+      distinct = his.distinct;
+      first = his.first;
+      below = his.below;
+      short = his.short;
+      general = is.general;
+      off = off.0;
+    })
+
+-- the places of the next label, one for each general who is off both, while there are relays
+pub place_next : (t : MessageTable) (w : List ℕ) (j p : ℕ) → is_place t w p ≡ true → length w ≤ t.bound → j < t.generals → on w j ≡ false → j ≢ p → is_place t (w ++ j ∷ []) p ≡ true
+place_next t w j p e room below fresh apart =
+    let is = place_parts t w p e in
+    let long : length (w ++ j ∷ []) ≡ length w + 1 = length-append w (j ∷ []) in
+    place_from t (w ++ j ∷ []) p (record {
+      distinct = is_distinct-push w j ∙ and_from (is_distinct w) (not (on w j)) is.distinct (ap not fresh);
+      first = begun-more t.commander w (j ∷ []) is.first;
+      below = list_all-append (λ x. nat_lt x t.generals) w (j ∷ []) ∙ and_from (list_all (λ x. nat_lt x t.generals) w) (nat_lt j t.generals && true) is.below (and_from (nat_lt j t.generals) true (lt-ltb j t.generals below) refl);
+      short = omega arith;
+      general = is.general;
+      off = on-push w j p ∙ or_from (on w p) (j == p) is.off (ne_eqb j p apart);
     })

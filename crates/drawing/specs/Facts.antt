@@ -12,7 +12,7 @@ use Rattle.book.specs.Table.{MessageTable, told}
 use Rattle.drawing.specs.declared.node.Outcome.{Outcome}
 use Rattle.drawing.specs.declared.node.Outcome.TheVariants.{Told, Agreed, Divided, Middle}
 use Rattle.drawing.specs.declared.node.Mark.{Mark}
-use Rattle.drawing.specs.declared.node.Mark.TheVariants.{Honest, Traitor, Lie}
+use Rattle.drawing.specs.declared.node.Mark.TheVariants.{Honest, Lie}
 use Rattle.drawing.specs.declared.node.Extent.{Extent}
 use Rattle.drawing.specs.declared.node.Extent.TheVariants.{Last, Open, Folded, Cut}
 use Rattle.drawing.specs.declared.node.View.{View}
@@ -46,18 +46,18 @@ abbrev pub is_same : Option ℕ → Option ℕ → Bool
 is_same None other = is_none other
 is_same (Some order) other = is_told order other
 
--- j tells p the same of w, and it is no lie
-abbrev pub tells : MessageTable → List ℕ → Option ℕ → List ℕ → ℕ → ℕ → Bool
-tells t traitors o w j p = is_same (told t.messages (w ++ j ∷ []) p) o && is_honest (mark_at t traitors w j p)
+-- p is told the same of w, and by j of w, and this is no lie
+abbrev pub tells : MessageTable → List ℕ → List ℕ → ℕ → ℕ → Bool
+tells t traitors w j p = is_same (told t.messages (w ++ j ∷ []) p) (told t.messages w p) && is_honest (mark_at t traitors w j p)
 
--- so do all, of each label that goes on from w
-unfoldable pub is_alike : MessageTable → List ℕ → Option ℕ → ℕ → List ℕ → ℕ → Bool
-is_alike t traitors o zero w p = true
-is_alike t traitors o (suc k) w p = list_all (λ j. tells t traitors o w j p && is_alike t traitors o k (w ++ j ∷ []) p) (others t.generals (p ∷ w))
+-- so it is of all labels that go on from w
+unfoldable pub is_alike : MessageTable → List ℕ → ℕ → List ℕ → ℕ → Bool
+is_alike t traitors zero w p = true
+is_alike t traitors (suc k) w p = list_all (λ j. tells t traitors w j p && is_alike t traitors k (w ++ j ∷ []) p) (others t.generals (p ∷ w))
 
--- so does j, and so do all of each label that goes on from w with him
-abbrev pub is_alike_by : MessageTable → List ℕ → Option ℕ → ℕ → List ℕ → ℕ → ℕ → Bool
-is_alike_by t traitors o k w j p = tells t traitors o w j p && is_alike t traitors o k (w ++ j ∷ []) p
+-- so it is of j, and of all labels that go on from w with him
+abbrev pub is_alike_by : MessageTable → List ℕ → ℕ → List ℕ → ℕ → ℕ → Bool
+is_alike_by t traitors k w j p = tells t traitors w j p && is_alike t traitors k (w ++ j ∷ []) p
 
 -- how many labels go on from one of this size: each general who is neither on it nor p makes one, and those below that
 unfoldable pub below : ℕ → ℕ → ℕ → ℕ
@@ -68,7 +68,7 @@ below n size (suc k) = (n - 1 - size) * (1 + below n (size + 1) k)
 abbrev pub extent_at : MessageTable → List ℕ → View → ℕ → List ℕ → ℕ → Extent
 extent_at t traitors view k w p =
     if k == 0 then Last
-    else if view.folds && is_alike t traitors (told t.messages w p) k w p then Folded (below t.generals (length w) k)
+    else if view.folds && is_alike t traitors k w p then Folded (below t.generals (length w) k)
     else if view.depth == 0 then Cut (below t.generals (length w) k)
     else Open
 

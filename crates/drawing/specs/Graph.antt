@@ -35,17 +35,29 @@ extent_style (Cut count) = codes ", peripheries=2"
 abbrev pub edge : List ℕ → List ℕ
 edge w = if nat_lt (length w) 2 then [] else codes "  \"" ++ dotted (take (length w - 1) w) ++ codes "\" -> \"" ++ dotted w ++ codes "\";\n"
 
+-- a label's box, with what stands in it
+abbrev pub graph_box : Node → List ℕ
+graph_box node = codes "  \"" ++ dotted node.label ++ codes "\" [label=\"" ++ dotted node.label ++ codes "\\n" ++ words (codes "\\n") node
+
+abbrev pub graph_styles : Node → List ℕ
+graph_styles node = codes "\"" ++ mark_style node.mark ++ outcome_style node.outcome ++ extent_style node.extent
+
 abbrev pub graph_node : Node → List ℕ
-graph_node node =
-    codes "  \"" ++ dotted node.label ++ codes "\" [label=\"" ++ dotted node.label ++ codes "\\n" ++ words (codes "\\n") node ++ codes "\""
-    ++ mark_style node.mark ++ outcome_style node.outcome ++ extent_style node.extent ++ codes "];\n" ++ edge node.label
+graph_node node = graph_box node ++ graph_styles node ++ codes "];\n" ++ edge node.label
 
 abbrev pub graph_nodes : List Node → List ℕ
 graph_nodes nodes = flat_map graph_node nodes
 
+-- what every graph begins with
+unfoldable pub graph_start : List ℕ
+graph_start = codes "digraph tree {\n  rankdir=LR;\n  labelloc=t;\n  node [shape=box];\n"
+
+-- whose tree it is, and what he decides
+unfoldable pub graph_title : ℕ → ℕ → List ℕ
+graph_title p order = codes "  label=\"lieutenant " ++ (decimal p ++ (codes " decides " ++ (decimal order ++ codes "\";\n")))
+
 abbrev pub graph_head : ℕ → ℕ → List ℕ
-graph_head p order =
-    codes "digraph tree {\n  rankdir=LR;\n  labelloc=t;\n" ++ codes "  label=\"lieutenant " ++ decimal p ++ codes " decides " ++ decimal order ++ codes "\";\n" ++ codes "  node [shape=box];\n"
+graph_head p order = graph_start ++ graph_title p order
 
 unfoldable pub graph_text : MessageTable → List ℕ → View → ℕ → List ℕ
 graph_text t traitors view p = graph_head p (decision_of t p) ++ graph_nodes (nodes_of t traitors view p) ++ codes "}\n"

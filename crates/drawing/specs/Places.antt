@@ -1,7 +1,7 @@
 -- Where a label stands in the tree of lieutenant p: the lines that lead to it.
-use Rattle.std.specs.Prelude.{ℕ, ◌+◌, ◌==◌, nat_lt, Bool, true, false, not, List, ◌∷◌, ◌++◌, take, length, slice_index, codes}
+use Rattle.std.specs.Prelude.{ℕ, ◌+◌, ◌==◌, nat_le, Bool, true, false, List, ◌∷◌, ◌++◌, take, length, slice_index, codes}
 use Rattle.std.specs.Fmt.{decimal}
-use Rattle.std.specs.List.{flat_map, list_any}
+use Rattle.std.specs.List.{flat_map, list_all}
 use Rattle.label.specs.Labels.{others}
 use Rattle.drawing.specs.declared.node.Branch.{Branch}
 use Rattle.drawing.specs.declared.node.Branch.TheVariants.{Tee, Corner, Bar, Gap}
@@ -10,9 +10,9 @@ use Rattle.drawing.specs.declared.node.Branch.TheVariants.{Tee, Corner, Bar, Gap
 abbrev pub later_names : List ℕ → List ℕ
 later_names gs = flat_map (λ h. codes "." ++ decimal h) gs
 
--- no other general who is off the list comes behind j
+-- no general who is off the list comes behind j
 abbrev pub is_last : ℕ → List ℕ → ℕ → Bool
-is_last n w j = not (list_any (λ i. nat_lt j i) (others n w))
+is_last n w j = list_all (λ i. nat_le i j) (others n w)
 
 -- the line in a row: whether it is that of the last, and whether it leads to this row
 abbrev pub branch_of : Bool → Bool → Branch

@@ -5,7 +5,7 @@ ghost use Rattle.label.specs.Labels.{on};
 ghost use Rattle.book.specs.Conditions.{is_told};
 ghost use Rattle.book.specs.Explained.{held, list_of};
 ghost use Rattle.book.specs.Grammar.{is_place};
-ghost use Rattle.drawing.specs.Facts.{below, extent_at, is_alike, is_alike_by, is_same, mark_at, node_at, outcome_at, outcome_of, tells};
+ghost use Rattle.drawing.specs.Facts.{below, extent_at, is_alike, is_alike_by, is_honest, is_same, mark_at, node_at, outcome_at, outcome_of, tells};
 
 use crate::node::{Extent, Mark, Node, Outcome, View};
 use arrayvec::ArrayVec;
@@ -111,19 +111,23 @@ fn is_same(one: Option<u32>, other: Option<u32>) -> bool
     }
 }
 
-/// How far the word of this general is to be trusted, who tells the lieutenant of a label.
+/// How far the word of this general is to be trusted, who tells the lieutenant of a label: of the next label, which has him
+/// behind it.
 pub(crate) fn mark(
     table: &Table,
     traitors: &[u8],
     general: u8,
     label: &Label,
     teller: u8,
+    next: &Label,
 ) -> Mark
-    requires { is_place table.now (label.now ++ teller ∷ []) general ≡ true }
+    requires next { next.now ≡ label.now ++ teller ∷ [] }
+    requires place { is_place table.now next.now general ≡ true }
     ensures { result ≡ mark_at table.now traitors.now label.now teller general }
 {
+    let _size = label.len();
     let took = table.told(label, teller).unwrap_or(0);
-    let told = table.told(&label.with(teller), general);
+    let told = table.told(next, general);
     if is_named(traitors, teller) && !is_told(took, told) {
         Mark::Lie(teller, took)
     } else {
@@ -131,66 +135,70 @@ pub(crate) fn mark(
     }
 }
 
-/// Whether this general tells the lieutenant the same of a label, and it is no lie.
+/// Whether the lieutenant is told the same of a label and of the next one, and this is no lie.
 fn tells(
     table: &Table,
     traitors: &[u8],
     general: u8,
-    told: Option<u32>,
     label: &Label,
     teller: u8,
+    next: &Label,
 ) -> bool
-    requires { is_place table.now (label.now ++ teller ∷ []) general ≡ true }
-    ensures { result ≡ tells table.now traitors.now told label.now teller general }
+    requires next { next.now ≡ label.now ++ teller ∷ [] }
+    requires place { is_place table.now next.now general ≡ true }
+    ensures { result ≡ tells table.now traitors.now label.now teller general }
 {
-    is_same(table.told(&label.with(teller), general), told)
-        && matches!(mark(table, traitors, general, label, teller), Mark::Honest)
+    let _size = label.len();
+    let mark = mark(table, traitors, general, label, teller, next);
+    is_same(table.told(next, general), table.told(label, general)) && is_honest(mark)
 }
 
-/// Whether the lieutenant is told the same of all labels that go on from this one, with so many relays left, and none of
-/// it is a lie.
+/// Whether it is no lie.
+fn is_honest(mark: Mark) -> bool
+    ensures { result ≡ is_honest mark }
+{
+    matches!(mark, Mark::Honest)
+}
+
+/// Whether the lieutenant is told the same of a label and of all that go on from it, with so many relays left, and none of
+/// these is a lie.
 #[cycle(alike)]
-fn is_alike(
-    table: &Table,
-    traitors: &[u8],
-    general: u8,
-    told: Option<u32>,
-    label: &Label,
-    relays: u8,
-) -> bool
+fn is_alike(table: &Table, traitors: &[u8], general: u8, label: &Label, relays: u8) -> bool
     requires place { is_place table.now label.now general ≡ true }
     requires relays { length label.now + relays ≡ table.now.bound + 1 }
-    ensures { result ≡ is_alike table.now traitors.now told relays label.now general }
+    ensures { result ≡ is_alike table.now traitors.now relays label.now general }
 {
     if relays == 0 {
         return true;
     }
     let mut is_so = true;
     for other in 0..table.generals() {
-        if is_so && other != general && !label.has(other) {
-            is_so = is_alike_by(table, traitors, general, told, label, other, relays - 1);
+        if other != general && !label.has(other) {
+            let next = label.with(other);
+            is_so = is_so && is_alike_by(table, traitors, general, label, other, &next, relays - 1);
         }
     }
     is_so
 }
 
-/// The same of the labels that go on from this one with this general, and of the label with him.
+/// The same of a label, the next one, and all that go on from that.
 #[cycle(alike)]
 fn is_alike_by(
     table: &Table,
     traitors: &[u8],
     general: u8,
-    told: Option<u32>,
     label: &Label,
     teller: u8,
+    next: &Label,
     relays: u8,
 ) -> bool
-    requires place { is_place table.now (label.now ++ teller ∷ []) general ≡ true }
-    requires relays { length label.now + relays ≡ table.now.bound }
-    ensures { result ≡ is_alike_by table.now traitors.now told relays label.now teller general }
+    requires next { next.now ≡ label.now ++ teller ∷ [] }
+    requires place { is_place table.now next.now general ≡ true }
+    requires relays { length next.now + relays ≡ table.now.bound + 1 }
+    ensures { result ≡ is_alike_by table.now traitors.now relays label.now teller general }
 {
-    tells(table, traitors, general, told, label, teller)
-        && is_alike(table, traitors, general, told, &label.with(teller), relays)
+    tells(table, traitors, general, label, teller, next)
+        && is_alike(table, traitors, general, next, relays)
 }
 
 /// How many labels go on from one of this size and lack the lieutenant, with so many relays left.
@@ -204,7 +212,8 @@ fn below(generals: u8, size: u8, relays: u8) -> u32
     if relays == 0 {
         return 0;
     }
-    u32::from((generals - 1).saturating_sub(size)) * (1 + below(generals, size + 1, relays - 1))
+    let children = u32::from(generals.saturating_sub(1).saturating_sub(size));
+    children * (1 + below(generals, size + 1, relays - 1))
 }
 
 /// Whether the labels below a label are shown.
@@ -223,9 +232,8 @@ fn extent(
     if relays == 0 {
         return Extent::Last;
     }
-    let told = table.told(label, general);
     let count = below(table.generals(), label.len() as u8, relays);
-    if view.folds && is_alike(table, traitors, general, told, label, relays) {
+    if view.folds && is_alike(table, traitors, general, label, relays) {
         Extent::Folded(count)
     } else if view.depth == 0 {
         Extent::Cut(count)

@@ -1,6 +1,6 @@
 //! A lieutenant's tree as a graph, for the program dot of Graphviz.
 ghost use Rattle.std.specs.Prelude.{◌≡◌, ◌≢◌, ◌<◌, ◌++◌, string_bytes, IfOk, OnOk};
-ghost use Rattle.drawing.specs.Graph.{edge, extent_style, graph_head, graph_node, graph_nodes, graph_text, mark_style, outcome_style};
+ghost use Rattle.drawing.specs.Graph.{edge, extent_style, graph_box, graph_head, graph_node, graph_nodes, graph_start, graph_styles, graph_text, graph_title, mark_style, outcome_style};
 
 use crate::node::{Extent, Mark, Node, Outcome, View};
 use crate::places::put_label;
@@ -39,9 +39,24 @@ pub fn tree_graph(
 fn put_head(out: &mut String, general: u8, order: u32) -> Result<(), AllocError>
     ensures { OnOk result (string_bytes out.new ≡ string_bytes out.old ++ graph_head general order) }
 {
-    out.push_str("digraph tree {\n  rankdir=LR;\n  labelloc=t;\n")?;
-    write!(out, "  label=\"lieutenant {general} decides {order}\";\n")?;
-    out.push_str("  node [shape=box];\n")
+    out.push_str(start())?;
+    put_title(out, general, order)
+}
+
+/// What every graph begins with.
+#[tactic(auto, unfolding(crate::specs::Graph::graph_start))]
+fn start() -> &'static str
+    ensures { result.now ≡ graph_start }
+{
+    "digraph tree {\n  rankdir=LR;\n  labelloc=t;\n  node [shape=box];\n"
+}
+
+/// Adds whose tree it is, and what he decides.
+#[tactic(auto, unfolding(crate::specs::Graph::graph_title))]
+fn put_title(out: &mut String, general: u8, order: u32) -> Result<(), AllocError>
+    ensures { OnOk result (string_bytes out.new ≡ string_bytes out.old ++ graph_title general order) }
+{
+    write!(out, "  label=\"lieutenant {general} decides {order}\";\n")
 }
 
 /// Adds these labels.
@@ -58,19 +73,32 @@ fn put_nodes(out: &mut String, nodes: &[Node]) -> Result<(), AllocError>
 fn put_node(out: &mut String, node: &Node) -> Result<(), AllocError>
     ensures { OnOk result (string_bytes out.new ≡ string_bytes out.old ++ graph_node node.now) }
 {
-    let label = node.label.generals();
-    out.push_str("  \"")?;
-    put_label(out, label)?;
-    out.push_str("\" [label=\"")?;
-    put_label(out, label)?;
-    out.push_str("\\n")?;
-    put_words(out, "\\n", node)?;
-    out.push_str("\"")?;
-    out.push_str(mark_style(node.mark))?;
-    out.push_str(outcome_style(node.outcome))?;
-    out.push_str(extent_style(node.extent))?;
+    put_box(out, node)?;
+    put_styles(out, node)?;
     out.push_str("];\n")?;
-    put_edge(out, label)
+    put_edge(out, node.label.generals())
+}
+
+/// Adds the box of a label: its name, and what stands in it.
+fn put_box(out: &mut String, node: &Node) -> Result<(), AllocError>
+    ensures { OnOk result (string_bytes out.new ≡ string_bytes out.old ++ graph_box node.now) }
+{
+    out.push_str("  \"")?;
+    put_label(out, node.label.generals())?;
+    out.push_str("\" [label=\"")?;
+    put_label(out, node.label.generals())?;
+    out.push_str("\\n")?;
+    put_words(out, "\\n", node)
+}
+
+/// Adds how a label is drawn.
+fn put_styles(out: &mut String, node: &Node) -> Result<(), AllocError>
+    ensures { OnOk result (string_bytes out.new ≡ string_bytes out.old ++ graph_styles node.now) }
+{
+    let mark = mark_style(node.mark);
+    let outcome = outcome_style(node.outcome);
+    let extent = extent_style(node.extent);
+    write!(out, "\"{mark}{outcome}{extent}")
 }
 
 /// Adds the edge from the label that this one goes on from, if there is one.

@@ -32,8 +32,19 @@ pub fn tree_text(
 {
     let nodes = nodes(alloc, table, traitors, view, general)?;
     let mut text = format!(in alloc; "lieutenant {general}\n")?;
-    put_nodes(&mut text, style, table.generals(), general, nodes.as_slice())?;
-    put_decision(&mut text, general, is_named(traitors, general), decision(table, general))?;
+    put_nodes(
+        &mut text,
+        style,
+        table.generals(),
+        general,
+        nodes.as_slice(),
+    )?;
+    put_decision(
+        &mut text,
+        general,
+        is_named(traitors, general),
+        decision(table, general),
+    )?;
     Ok(text)
 }
 
@@ -100,12 +111,7 @@ fn branch_text(style: Style, branch: Branch) -> &'static str
 }
 
 /// Adds the line of the decision.
-fn put_decision(
-    out: &mut String,
-    general: u8,
-    is_named: bool,
-    order: u32,
-) -> Result<(), AllocError>
+fn put_decision(out: &mut String, general: u8, is_named: bool, order: u32) -> Result<(), AllocError>
     ensures { OnOk result (string_bytes out.new ≡ string_bytes out.old ++ decision_line general is_named order) }
 {
     let mark = mark(is_named);

@@ -1,7 +1,7 @@
 //! The labels of a lieutenant's tree that are shown, each before those that go on from it.
 ghost use Rattle.std.specs.Prelude.{◌≡◌, ◌≢◌, ◌≤◌, ◌<◌, ◌+◌, ◌++◌, length, true, IfOk, OnOk};
 ghost use Rattle.book.specs.Grammar.{is_place};
-ghost use Rattle.drawing.specs.Shown.{deeper, is_open, nodes_below, nodes_of, root_mark};
+ghost use Rattle.drawing.specs.Shown.{deeper, is_open, nodes_below, nodes_of, root_mark, with_those};
 
 use crate::facts::{is_named, mark, node};
 use crate::node::{Extent, Mark, Node, View};
@@ -27,17 +27,23 @@ pub fn nodes(
     requires lieutenant { general ≢ table.now.commander }
     ensures { IfOk result (λ nodes. nodes.items ≡ nodes_of table.now traitors.now view general) }
 {
-    let mut nodes = Vec::new(alloc);
     let commander = table.commander();
     let relays = table.bound();
     let mark = root_mark(traitors, commander);
+    let root = node(
+        table,
+        traitors,
+        view,
+        general,
+        Label::of(commander),
+        mark,
+        relays,
+    );
     let label = Label::of(commander);
-    let root = node(table, traitors, view, general, Label::of(commander), mark, relays);
-    let opens = is_open(root.extent);
-    nodes.push(root)?;
-    if opens {
-        push_below(&mut nodes, table, traitors, deeper(view), general, &label, relays)?;
-    }
+    let mut nodes = Vec::new(alloc);
+    push_with(
+        &mut nodes, table, traitors, view, general, root, &label, relays,
+    )?;
     Ok(nodes)
 }
 
@@ -69,7 +75,32 @@ fn deeper(view: View) -> View
     }
 }
 
+/// Adds a label, and where they are shown those that go on from it, with so many relays left.
+#[cycle(pushes)]
+fn push_with(
+    nodes: &mut Vec<Node>,
+    table: &Table,
+    traitors: &[u8],
+    view: View,
+    general: u8,
+    node: Node,
+    label: &Label,
+    relays: u8,
+) -> Result<(), AllocError>
+    requires place { is_place table.now label.now general ≡ true }
+    requires relays { length label.now + relays ≡ table.now.bound + 1 }
+    ensures { OnOk result (nodes.new.items ≡ nodes.old.items ++ with_those node (nodes_below table.now traitors.now (deeper view) relays label.now general)) }
+{
+    let opens = is_open(node.extent);
+    nodes.push(node)?;
+    if opens {
+        push_below(nodes, table, traitors, deeper(view), general, label, relays)?;
+    }
+    Ok(())
+}
+
 /// Adds the labels that go on from this one, with so many relays left.
+#[cycle(pushes)]
 fn push_below(
     nodes: &mut Vec<Node>,
     table: &Table,
@@ -88,14 +119,27 @@ fn push_below(
     }
     for other in 0..table.generals() {
         if other != general && !label.has(other) {
-            let mark = mark(table, traitors, general, label, other);
-            let child = node(table, traitors, view, general, label.with(other), mark, relays - 1);
-            let opens = is_open(child.extent);
-            nodes.push(child)?;
-            if opens {
-                let next = label.with(other);
-                push_below(nodes, table, traitors, deeper(view), general, &next, relays - 1)?;
-            }
+            let next = label.with(other);
+            let mark = mark(table, traitors, general, label, other, &next);
+            let child = node(
+                table,
+                traitors,
+                view,
+                general,
+                label.with(other),
+                mark,
+                relays - 1,
+            );
+            push_with(
+                nodes,
+                table,
+                traitors,
+                view,
+                general,
+                child,
+                &next,
+                relays - 1,
+            )?;
         }
     }
     Ok(())

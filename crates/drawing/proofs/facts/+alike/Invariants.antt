@@ -12,4 +12,4 @@ decreases-is_alike_by l = 2 * l.relays + 1
 
 -- whether all so far tell the same
 abbrev pub invariant-is_alike-loop-other : goal.invariant-is_alike-loop-other
-invariant-is_alike-loop-other l = l.is_so ≡ list_all (λ j. is_alike_by l.table l.traitors l.told (l.relays - 1) l.label j l.general) (others l.other (l.general ∷ l.label))
+invariant-is_alike-loop-other l = l.is_so ≡ list_all (λ j. is_alike_by l.table l.traitors (l.relays - 1) l.label j l.general) (others l.other (l.general ∷ l.label))
