@@ -2,3 +2,4 @@ pub mod Gathered
 pub mod PlaceLemmas
 pub mod FactLemmas
 pub mod ShownLemmas
+pub mod RowLemmas

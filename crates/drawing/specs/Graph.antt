@@ -50,7 +50,7 @@ graph_nodes nodes = flat_map graph_node nodes
 
 -- what every graph begins with
 unfoldable pub graph_start : List ℕ
-graph_start = codes "digraph tree {\n  rankdir=LR;\n  labelloc=t;\n  node [shape=box];\n"
+graph_start = codes "digraph tree {\n  rankdir=LR;\n  ordering=out;\n  labelloc=t;\n  node [shape=box];\n"
 
 -- whose tree it is, and what he decides
 unfoldable pub graph_title : ℕ → ℕ → List ℕ

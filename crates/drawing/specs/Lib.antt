@@ -4,4 +4,6 @@ pub mod Words
 pub mod Places
 pub mod Lines
 pub mod Graph
+pub mod Rows
+pub mod Svg
 pub mod Laws

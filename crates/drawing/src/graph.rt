@@ -48,7 +48,7 @@ fn put_head(out: &mut String, general: u8, order: u32) -> Result<(), AllocError>
 fn start() -> &'static str
     ensures { result.now ≡ graph_start }
 {
-    "digraph tree {\n  rankdir=LR;\n  labelloc=t;\n  node [shape=box];\n"
+    "digraph tree {\n  rankdir=LR;\n  ordering=out;\n  labelloc=t;\n  node [shape=box];\n"
 }
 
 /// Adds whose tree it is, and what he decides.

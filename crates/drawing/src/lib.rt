@@ -8,7 +8,9 @@ mod laws;
 mod lines;
 mod node;
 mod places;
+mod rows;
 mod shown;
+mod svg;
 mod words;
 
 pub use graph::tree_graph;
@@ -16,3 +18,4 @@ pub use laws::outcomes_are_explained;
 pub use lines::tree_text;
 pub use node::{Branch, Extent, Mark, Node, Outcome, Style, View};
 pub use shown::nodes;
+pub use svg::tree_svg;
