@@ -1,0 +1,5 @@
+pub mod Gathered
+pub mod PlaceLemmas
+pub mod FactLemmas
+pub mod ShownLemmas
+pub mod RowLemmas
