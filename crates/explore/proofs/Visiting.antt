@@ -17,7 +17,6 @@ use Rattle.explore.specs.Entering.{entered}
 use Rattle.explore.specs.Succession.{next_order}
 use Rattle.explore.proofs.Having.{has-append_to}
 use Rattle.explore.proofs.Walking.{order_walks}
-use Rattle.explore.proofs.Completing.{AreWalks, idle_walks, IsCompletion}
 use Rattle.explore.proofs.Leading.{replay_completes}
 use Rattle.explore.proofs.Deciding.{again}
 use Rattle.explore.proofs.Bounded.{order_short, orders_are_whole}
@@ -50,7 +49,7 @@ module _ (K : Kind) where
     short names = order_short K good s (replayed K s names) is (complete names)
 
     starts : orders K s ≡ here s [] ∷ after s (here s [])
-    starts = from_first K (most_in_round s) (suc s.bound) (opening K s) (here s []) (from []) (short []) (replay_completes K s [] (good s is) (idle_walks K (opening K s) (suc s.bound)))
+    starts = from_first K (most_in_round s) (suc s.bound) (opening K s) (here s []) (from []) (short []) (replay_completes K s [] (good s is) tt)
 
     goes_on : (names next : Order) → next_order (here s names) ≡ Some next → after s (here s names) ≡ here s next ∷ after s (here s next)
     goes_on names next e =
