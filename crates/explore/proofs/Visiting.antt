@@ -12,7 +12,7 @@ use Rattle.world.proofs.Lasting.{replayed_complete}
 use Rattle.explore.specs.Orders.{order_of, IsFrom}
 use Rattle.explore.specs.Listing.{Has, AreShort, most_in_round, orders}
 use Rattle.explore.specs.Outcomes.{Outcome, outcome_in, outcome_of}
-use Rattle.explore.specs.Exploring.{Finding, outcomes_of, ways_among, IsReal, IsFinding, IsLowerFinding, IsExplored, IsExploredInPart}
+use Rattle.explore.specs.Exploring.{Finding, outcomes_of, counted_in, ways_among, IsReal, IsFinding, IsLowerFinding, IsExplored, IsExploredInPart}
 use Rattle.explore.specs.Entering.{entered}
 use Rattle.explore.specs.Succession.{next_order}
 use Rattle.explore.proofs.Having.{has-append_to}
@@ -78,6 +78,13 @@ module _ (K : Kind) where
       split = v.split ∙ (ap (λ (l : List Order). v.before ++ (here s names ∷ l)) (goes_on names next e) ∙ sym (append_assoc v.before (here s names ∷ []) (here s next ∷ after s (here s next))));
       tally = one_more n names findings v;
     }
+
+    pub visit_counts : (n : ℕ) (names : Order) (findings : List Finding) → IsVisited D s n names findings → counted_in (entered findings (D (run K (opening K s) (replayed K s names))) (here s names)) ≡ n + 1
+    visit_counts n names findings v =
+        let t = (one_more n names findings v).total in
+        let l = length-append v.before (here s names ∷ []) in
+        let c = v.count in
+        omega arith
 
     real : (V : List Order) (f : Finding) → ((x : Order) → Has V x → Has (orders K s) x) → IsCounted K D s V f → IsReal K D s f
     real V f all h = record { example = ((orders_are_whole K good).all s f.example is).0 (all f.example h.example); outcome = h.outcome; some = h.some }
