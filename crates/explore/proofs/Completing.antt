@@ -20,7 +20,8 @@ use Rattle.world.proofs.Following.{AreOf}
 use Rattle.world.proofs.Cutting.{AreFrom, filter_here, names_skip, of_from, from-append, from_later}
 use Rattle.explore.specs.Orders.{will_ask, past, behind}
 use Rattle.explore.specs.Listing.{Has}
-use Rattle.explore.proofs.Having.{has-append_of, IsAscending, ascending-append, ascending_one}
+use Rattle.explore.specs.Walks.{IsWalk, AreWalks, IsAscending, Continues, IsCompletion}
+use Rattle.explore.proofs.Having.{has-append_of, ascending-append, ascending_one}
 use Rattle.explore.proofs.Asking.{OneMore, past_by}
 
 abbrev pub generals_of : List Access → List ℕ
@@ -101,14 +102,6 @@ pub record Wound (w v : World) : Type 0 where
   pub in_round : AreOf (suc (length w.closed)) piece
   pub ascending : IsAscending (generals_of piece)
 
--- these, and then others by general
-abbrev pub Continues : List ℕ → List ℕ → Type 0
-Continues names row = (q : List ℕ) × (row ≡ names ++ q) × IsAscending q
-
-abbrev pub IsCompletion : List (List ℕ) → List (List ℕ) → Type 0
-IsCompletion names [] = Unit {0}
-IsCompletion names (row ∷ rows) = Continues (first_line names) row × IsCompletion (later_lines names) rows
-
 -- a round in which these come first
 pub record Round (w v : World) (names : List ℕ) : Type 0 where
   pub piece : List Access
@@ -183,20 +176,11 @@ module _ (K : Kind) where
         ascending = e.1.0;
       }
 
-  -- each of these is to make an access as his turn comes
-  abbrev pub IsWalk : World → List ℕ → Type 0
-  IsWalk w [] = Unit {0}
-  IsWalk w (g ∷ names) = (will_ask (slice_get w.parts g) ≡ true) × IsWalk (past K w g) names
+  first_walks : (names : List (List ℕ)) (w : World) → AreWalks K w names → IsWalk K w (first_line names) × AreWalks K (behind K w (first_line names)) (later_lines names)
+  first_walks [] w h = (tt, tt)
+  first_walks (line ∷ names) w h = h
 
-  abbrev pub AreWalks : World → ℕ → List (List ℕ) → Type 0
-  AreWalks w zero names = Unit {0}
-  AreWalks w (suc k) names = IsWalk w (first_line names) × AreWalks (behind K w (first_line names)) k (later_lines names)
-
-  pub idle_walks : (w : World) (k : ℕ) → AreWalks w k []
-  idle_walks w zero = tt
-  idle_walks w (suc k) = (tt, idle_walks (behind K w []) k)
-
-  walked : (names : List ℕ) (w : World) → IsWalk w names → (m : More w (run K w (names_events K w names))) × (generals_of m.piece ≡ names)
+  walked : (names : List ℕ) (w : World) → IsWalk K w names → (m : More w (run K w (names_events K w names))) × (generals_of m.piece ≡ names)
   walked [] w h = (no_more w w refl refl, refl)
   walked (g ∷ names) w h =
       let ticks = ticks_named g (slice_get w.parts g) in
@@ -208,7 +192,7 @@ module _ (K : Kind) where
       let A : World → Type 0 = λ x. (m : More w x) × (generals_of m.piece ≡ g ∷ names) in
       subst A (sym (run-append K ticks (names_events K v names) w)) (then_more w v V first r.0, λ i. one.general i ∷ r.1 i)
 
-  round_adds : (names : List ℕ) (w : World) → IsWalk w names → Round w (behind K w names) names
+  round_adds : (names : List ℕ) (w : World) → IsWalk K w names → Round w (behind K w names) names
   round_adds names w h =
       let es = names_events K w names in
       let v = run K w es in
@@ -222,7 +206,7 @@ module _ (K : Kind) where
         continues = (generals_of e.piece, map-append (λ (x : Access). x.general) m.0.piece e.piece ∙ ap (λ (l : List ℕ). l ++ generals_of e.piece) m.1, e.ascending);
       }
 
-  pub completes : (s : Scenario) → IsCampaign K s → (k : ℕ) (names : List (List ℕ)) (w : World) → IsOnTime K s w → length w.closed + k ≡ suc s.bound → AreWalks w k names → Completed w (run K w (replayed_rounds K w k names)) k names
+  pub completes : (s : Scenario) → IsCampaign K s → (k : ℕ) (names : List (List ℕ)) (w : World) → IsOnTime K s w → length w.closed + k ≡ suc s.bound → AreWalks K w names → Completed w (run K w (replayed_rounds K w k names)) k names
   completes s is zero names w d e h = record { later = []; ledger = sym (append-nil w.ledger); completion = tt; from = tt }
   completes s is (suc k) names w d e h =
       let here = first_line names in
@@ -231,8 +215,9 @@ module _ (K : Kind) where
       let A : Scenario → Type 0 = λ t. RoundDone K s w (es ++ wound_up t) in
       let done = subst A (sym d.scenario) (round_done K s is es w (names_moves K here w) d (omega arith)) in
       let u = behind K w here in
-      let n = round_adds here w h.0 in
-      let r = completes s is k rest u done.due (let o = done.one_more in omega arith) h.1 in
+      let walks = first_walks names w h in
+      let n = round_adds here w walks.0 in
+      let r = completes s is k rest u done.due (let o = done.one_more in omega arith) walks.1 in
       let R = suc (length w.closed) in
       let long : length u.closed ≡ R = done.one_more in
       let F : ℕ → Type 0 = λ m. AreFrom (suc m) r.later in

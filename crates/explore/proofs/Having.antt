@@ -1,6 +1,7 @@
 -- What stands in a list.
 use Rattle.std.proofs.Common.{◌≡◌, ℕ, ◌≤◌, List, [], ◌∷◌, ◌++◌, map, refl, sym, ap, ◌∙◌, ◌⊎◌, inl, inr, ⊎_elim, arith}
 use Rattle.explore.specs.Listing.{Has, AreDifferent}
+use Rattle.explore.specs.Walks.{IsAscending}
 
 pub has-append_to : {A : Type 0} → (a b : List A) (x : A) → Has a x ⊎ Has b x → Has (a ++ b) x
 has-append_to [] b x h = ⊎_elim (λ f. absurd f) (λ k. k) h
@@ -16,11 +17,6 @@ pub different-append : {A : Type 0} → (a b : List A) → AreDifferent a → Ar
 different-append [] b d e n = e
 different-append (y ∷ a) b d e n =
     ((λ h. ⊎_elim (λ k. d.0 k) (λ k. n y (inl refl) k) (has-append_of a b y h)), different-append a b d.1 e (λ x h k. n x (inr h) k))
-
--- none is below one before it
-abbrev pub IsAscending : List ℕ → Type 0
-IsAscending [] = Unit {0}
-IsAscending (x ∷ xs) = ((y : ℕ) → Has xs y → x ≤ y) × IsAscending xs
 
 pub ascending-append : (xs ys : List ℕ) → IsAscending xs → IsAscending ys → ((x y : ℕ) → Has xs x → Has ys y → x ≤ y) → IsAscending (xs ++ ys)
 ascending-append [] ys a b c = b

@@ -8,15 +8,16 @@ use Rattle.world.specs.Campaigns.{IsCampaign, AreCampaigns}
 use Rattle.world.proofs.Lasting.{opening_due, replayed_complete}
 use Rattle.explore.specs.Orders.{will_ask, past, behind, IsRoundFrom, IsFrom, order_of, IsOrder}
 use Rattle.explore.proofs.Walking.{order_walks}
-use Rattle.explore.proofs.Completing.{IsWalk, AreWalks, IsCompletion, completes}
+use Rattle.explore.specs.Walks.{IsWalk, AreWalks, IsCompletion}
+use Rattle.explore.proofs.Completing.{completes}
 
 module _ (K : Kind) where
   pub round_walks : (names : List ℕ) (w : World) → IsRoundFrom K w names → IsWalk K w names
   round_walks [] w h = tt
   round_walks (g ∷ names) w h = (h.0, round_walks names (past K w g) h.1)
 
-  from_walks : (k : ℕ) (order : List (List ℕ)) (w : World) → IsFrom K w k order → AreWalks K w k order
-  from_walks zero order w h = tt
+  pub from_walks : (k : ℕ) (order : List (List ℕ)) (w : World) → IsFrom K w k order → AreWalks K w order
+  from_walks zero order w h = (let A : List (List ℕ) → Type 0 = λ o. AreWalks K w o in subst A (sym h) tt)
   from_walks (suc k) [] w h = absurd h
   from_walks (suc k) (names ∷ order) w h = (round_walks names w h.0, from_walks k order (behind K w names) h.1)
 
@@ -42,7 +43,7 @@ module _ (K : Kind) where
       (λ i. one i ∷ completed_same k order rows (behind K w names) h.1 (subst A one j.1) c.1 i)
 
   -- the order of a replay, by the names
-  pub replay_completes : (s : Scenario) (names : List (List ℕ)) → IsCampaign K s → AreWalks K (opening K s) (suc s.bound) names → IsCompletion names (order_of K s (replayed K s names))
+  pub replay_completes : (s : Scenario) (names : List (List ℕ)) → IsCampaign K s → AreWalks K (opening K s) names → IsCompletion names (order_of K s (replayed K s names))
   replay_completes s names is h =
       let r = completes K s is (suc s.bound) names (opening K s) (opening_due K s is) (omega arith) h in
       let A : List (List ℕ) → Type 0 = λ l. IsCompletion names l in

@@ -6,7 +6,7 @@ pub mod Leading
 pub mod Deciding
 pub mod Listed
 pub mod Bounded
-pub mod Scheduled
+pub mod ScheduleLaws
 pub mod Merging
 pub mod Rising
 pub mod Succeeding
@@ -14,3 +14,5 @@ pub mod Tallying
 pub mod Visiting
 pub mod Passing
 pub mod Replaying
+pub mod Stepping
+pub mod Planned

@@ -1,7 +1,8 @@
 -- What the replay of some names tells of its order and its outcome, in oral campaigns.
-use Rattle.std.proofs.Common.{◌≡◌, ℕ, suc, ◌+◌, ◌<◌, List, [], All, true, false, refl, sym, ap, subst, ◌∙◌, Option, Some, None, Result, Ok, Err, Vec, arith}
+use Rattle.std.proofs.Common.{◌≡◌, ℕ, suc, ◌+◌, ◌<◌, ◌≤◌, List, [], All, Bool, true, false, refl, sym, ap, subst, ◌∙◌, Option, Some, None, Result, Ok, Err, Vec, arith}
 use Rattle.std.specs.Prelude.{OnOk, IfOk, option_map}
 use Rattle.std.specs.Global.{Global}
+use Rattle.std.proofs.lemmas.List.Elements.{All-weaker}
 use Rattle.board.specs.Board.{Access}
 use Rattle.round.specs.Scenario.{Scenario, IsScenario}
 use Rattle.world.specs.Chronicle.{Chronicle, chronicle_of}
@@ -14,12 +15,14 @@ use Rattle.world.proofs.Campaigns.{oral_campaigns}
 use Rattle.world.proofs.Lasting.{replayed_complete}
 use Rattle.world.proofs.Replaying.{runs_are_replays}
 use Rattle.explore.specs.Entering.{entered}
-use Rattle.explore.specs.Exploring.{Finding, IsExploredInPart, IsExplored}
+use Rattle.explore.specs.Exploring.{Finding, Exploration, counted_in, IsFinding, IsLowerFinding, IsExploredInPart, IsExplored, IsExploration}
 use Rattle.explore.specs.Orders.{order_of}
 use Rattle.explore.specs.Outcomes.{oral_outcome, outcome_in}
 use Rattle.explore.specs.Succession.{next_order}
+use Rattle.explore.specs.Walks.{AreWalks}
 use Rattle.explore.proofs.Tallying.{Order}
-use Rattle.explore.proofs.Visiting.{IsVisited, visit_first, visit_next, visit_last, visit_limit}
+use Rattle.explore.proofs.Visiting.{IsVisited, visit_first, visit_next, visit_last, visit_counts, visit_limit}
+use Rattle.explore.proofs.ScheduleLaws.{orders_walk}
 
 pub on_ok : {A E : Type 0} (r : Result A E) (P : Type 0) → P → OnOk r P
 on_ok (Ok x) P p = p
@@ -83,6 +86,21 @@ module _ (s : Scenario) (is : IsScenario s) where
       let stops = sym (subst (λ (l : List (Vec ℕ Global)). None ≡ next_order (order_of oral_kind s (replayed oral_kind s (lists_in l)))) same e) in
       let A : List Finding → Type 0 = λ l. IsExplored oral_kind oral_outcome s l in
       subst A (sym here) (visit_last oral_kind oral_campaigns oral_outcome s is n (lists_in names) findings v stops)
+
+  pub visits_few : (n most : ℕ) (names slice : List (Vec ℕ Global)) (findings new : List Finding) → IsVisited oral_kind oral_outcome s n (lists_in names) findings → slice ≡ names → Entered (lists_in slice) findings new → n < most → counted_in new ≤ most
+  visits_few n most names slice findings new v same made lt =
+      let here : Entered (lists_in names) findings new = subst (λ (l : List (Vec ℕ Global)). Entered (lists_in l) findings new) same made in
+      let counts = visit_counts oral_kind oral_campaigns oral_outcome s is n (lists_in names) findings v in
+      let e = ap counted_in here in
+      omega arith
+
+  -- the examples of an exploration have schedules
+  pub all_walk : (most : ℕ) (e : Exploration) → IsExploration oral_kind oral_outcome s most e → All (λ (f : Finding). AreWalks oral_kind (kind.opening oral_kind s) f.example) e.findings
+  all_walk most e h = by e.whole refl
+    where
+      by : (b : Bool) → e.whole ≡ b → All (λ (f : Finding). AreWalks oral_kind (kind.opening oral_kind s) f.example) e.findings
+      by true t = All-weaker (IsFinding oral_kind oral_outcome s) (λ (f : Finding). AreWalks oral_kind (kind.opening oral_kind s) f.example) (λ f k. orders_walk oral_kind oral_campaigns s f.example is k.real.example) e.findings (h.all t).each
+      by false t = All-weaker (IsLowerFinding oral_kind oral_outcome s) (λ (f : Finding). AreWalks oral_kind (kind.opening oral_kind s) f.example) (λ f k. orders_walk oral_kind oral_campaigns s f.example is k.real.example) e.findings (h.part t).each
 
   pub visits_cut : (n most : ℕ) (names : List (Vec ℕ Global)) (findings : List Finding) → IsVisited oral_kind oral_outcome s n (lists_in names) findings → n ≡ most → IsExploredInPart oral_kind oral_outcome s most findings
   visits_cut n most names findings v e =

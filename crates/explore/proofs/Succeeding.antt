@@ -13,10 +13,9 @@ use Rattle.world.proofs.Listing.{set-other}
 use Rattle.explore.specs.Orders.{will_ask, past, behind, IsRoundFrom, IsFrom}
 use Rattle.explore.specs.Listing.{askers, branch, or_end, round_orders, orders_from, Has, AreShort}
 use Rattle.explore.specs.Succession.{least_above, turned_at, next_names, turned_in, next_order}
-use Rattle.explore.proofs.Having.{IsAscending}
+use Rattle.explore.specs.Walks.{IsWalk, AreWalks, IsAscending, IsCompletion}
 use Rattle.explore.proofs.Listed.{to_asker, of_asker}
 use Rattle.explore.proofs.Rising.{least_none, least_some, beyond, none_over, first_over, next_over, askers_rising}
-use Rattle.explore.proofs.Completing.{IsWalk, AreWalks, idle_walks, IsCompletion}
 use Rattle.explore.proofs.Leading.{round_walks, same_round}
 
 -- another's tick leaves a part as it is
@@ -205,19 +204,19 @@ module _ (K : Kind) where
           ∙ (λ i. map (λ x. row ∷ x) (more i) ++ branch (round_rest most w row) (λ ns. orders_from K most (behind K w ns) k)))
       by again None n None o g = absurd (let d : None ≡ Some P = g in cc)
 
-  pub walks_next : (k : ℕ) (w : World) (order : List (List ℕ)) → IsFrom K w k order → (P : List (List ℕ)) → next_order order ≡ Some P → AreWalks K w k P
-  walks_next zero w order f P e = tt
+  pub walks_next : (k : ℕ) (w : World) (order : List (List ℕ)) → IsFrom K w k order → (P : List (List ℕ)) → next_order order ≡ Some P → AreWalks K w P
+  walks_next zero w order f P e = absurd (let n : next_order order ≡ None = ap next_order f in let d : None ≡ Some P = sym n ∙ e in cc)
   walks_next (suc k) w [] f P e = absurd f
   walks_next (suc k) w (names ∷ order) f P e = by (λ P n. walks_next k (behind K w names) order f.1 P n) (next_order order) refl (next_names names) refl e
     where
-      by : ((P : List (List ℕ)) → next_order order ≡ Some P → AreWalks K (behind K w names) k P) → (n : Option (List (List ℕ))) → next_order order ≡ n → (m : Option (List ℕ)) → next_names names ≡ m → turned_in names n m ≡ Some P →
-          AreWalks K w (suc k) P
+      by : ((P : List (List ℕ)) → next_order order ≡ Some P → AreWalks K (behind K w names) P) → (n : Option (List (List ℕ))) → next_order order ≡ n → (m : Option (List ℕ)) → next_names names ≡ m → turned_in names n m ≡ Some P →
+          AreWalks K w P
       by again (Some X) n m o g =
           let d : names ∷ X ≡ P = (let h : Some (names ∷ X) ≡ Some P = g in cc) in
-          let A : List (List ℕ) → Type 0 = λ P. AreWalks K w (suc k) P in
+          let A : List (List ℕ) → Type 0 = λ P. AreWalks K w P in
           subst A d (round_walks K names w f.0, again X n)
       by again None n (Some p) o g =
           let d : p ∷ [] ≡ P = (let h : Some (p ∷ []) ≡ Some P = g in cc) in
-          let A : List (List ℕ) → Type 0 = λ P. AreWalks K w (suc k) P in
-          subst A d (walk_next names w f.0 p o, idle_walks K (behind K w p) k)
+          let A : List (List ℕ) → Type 0 = λ P. AreWalks K w P in
+          subst A d (walk_next names w f.0 p o, tt)
       by again None n None o g = absurd (let d : None ≡ Some P = g in cc)

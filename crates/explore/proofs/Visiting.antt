@@ -12,12 +12,11 @@ use Rattle.world.proofs.Lasting.{replayed_complete}
 use Rattle.explore.specs.Orders.{order_of, IsFrom}
 use Rattle.explore.specs.Listing.{Has, AreShort, most_in_round, orders}
 use Rattle.explore.specs.Outcomes.{Outcome, outcome_in, outcome_of}
-use Rattle.explore.specs.Exploring.{Finding, outcomes_of, ways_among, IsReal, IsFinding, IsLowerFinding, IsExplored, IsExploredInPart}
+use Rattle.explore.specs.Exploring.{Finding, outcomes_of, counted_in, ways_among, IsReal, IsFinding, IsLowerFinding, IsExplored, IsExploredInPart}
 use Rattle.explore.specs.Entering.{entered}
 use Rattle.explore.specs.Succession.{next_order}
 use Rattle.explore.proofs.Having.{has-append_to}
 use Rattle.explore.proofs.Walking.{order_walks}
-use Rattle.explore.proofs.Completing.{AreWalks, idle_walks, IsCompletion}
 use Rattle.explore.proofs.Leading.{replay_completes}
 use Rattle.explore.proofs.Deciding.{again}
 use Rattle.explore.proofs.Bounded.{order_short, orders_are_whole}
@@ -50,7 +49,7 @@ module _ (K : Kind) where
     short names = order_short K good s (replayed K s names) is (complete names)
 
     starts : orders K s ≡ here s [] ∷ after s (here s [])
-    starts = from_first K (most_in_round s) (suc s.bound) (opening K s) (here s []) (from []) (short []) (replay_completes K s [] (good s is) (idle_walks K (opening K s) (suc s.bound)))
+    starts = from_first K (most_in_round s) (suc s.bound) (opening K s) (here s []) (from []) (short []) (replay_completes K s [] (good s is) tt)
 
     goes_on : (names next : Order) → next_order (here s names) ≡ Some next → after s (here s names) ≡ here s next ∷ after s (here s next)
     goes_on names next e =
@@ -79,6 +78,13 @@ module _ (K : Kind) where
       split = v.split ∙ (ap (λ (l : List Order). v.before ++ (here s names ∷ l)) (goes_on names next e) ∙ sym (append_assoc v.before (here s names ∷ []) (here s next ∷ after s (here s next))));
       tally = one_more n names findings v;
     }
+
+    pub visit_counts : (n : ℕ) (names : Order) (findings : List Finding) → IsVisited D s n names findings → counted_in (entered findings (D (run K (opening K s) (replayed K s names))) (here s names)) ≡ n + 1
+    visit_counts n names findings v =
+        let t = (one_more n names findings v).total in
+        let l = length-append v.before (here s names ∷ []) in
+        let c = v.count in
+        omega arith
 
     real : (V : List Order) (f : Finding) → ((x : Order) → Has V x → Has (orders K s) x) → IsCounted K D s V f → IsReal K D s f
     real V f all h = record { example = ((orders_are_whole K good).all s f.example is).0 (all f.example h.example); outcome = h.outcome; some = h.some }

@@ -64,6 +64,8 @@ pub record Exploration : Type 0 where
   pub findings : List Finding
   pub whole : Bool
 
+-- of all orders, or of so many where there are more
 pub record IsExploration (K : Kind) (D : Outcome) (s : Scenario) (most : ℕ) (e : Exploration) : Type 0 where
+  pub few : counted_in e.findings ≤ most
   pub all : e.whole ≡ true → IsExplored K D s e.findings
   pub part : e.whole ≡ false → IsExploredInPart K D s most e.findings

@@ -2,7 +2,7 @@
 use Rattle.std.proofs.Common.{◌≡◌, true, false, ◌∙◌, sym, ap, arith}
 use Rattle.std.specs.Prelude.{option_map}
 use Rattle.world.specs.Playing.{lists_in}
-use Rattle.explore.proofs.Replaying.{visits_begin, visits_go_on, visits_end, visits_cut}
+use Rattle.explore.proofs.Replaying.{visits_begin, visits_go_on, visits_end, visits_few, visits_cut}
 use Rattle.explore.proofs.exploring.explore.Goals as goal
 
 pub loop-visited-init : goal.loop-visited-init
@@ -15,6 +15,8 @@ loop-visited-preserved c =
 
 pub returns-in-None : goal.returns-in-None
 returns-in-None c = record {
+  few = visits_few c.args.scenario.now c.recall.ensures c.loop-visited.visited c.args.most c.loop-visited.names.items c.as_slice.result.now c.loop-visited.findings.items c.visit.new.findings.items
+      c.loop-visited.invariant c.as_slice.ensures.value c.in_ok-next.ensures.entered (omega arith);
   all = λ e. visits_end c.args.scenario.now c.recall.ensures c.loop-visited.visited c.loop-visited.names.items c.as_slice.result.now c.loop-visited.findings.items c.visit.new.findings.items
       c.loop-visited.invariant c.as_slice.ensures.value c.in_ok-next.ensures.entered (rw c.in-None.is at c.in_ok-next.ensures.next);
   part = λ e. absurd (let f : true ≡ false = e in cc);
@@ -22,6 +24,7 @@ returns-in-None c = record {
 
 pub returns : goal.returns
 returns c = record {
+  few = (let t = (visits_cut c.args.scenario.now c.recall.ensures c.loop-visited.visited c.args.most c.loop-visited.names.items c.loop-visited.findings.items c.loop-visited.invariant (omega arith)).total in omega arith);
   all = λ e. absurd (let f : false ≡ true = e in cc);
   part = λ e. visits_cut c.args.scenario.now c.recall.ensures c.loop-visited.visited c.args.most c.loop-visited.names.items c.loop-visited.findings.items c.loop-visited.invariant (omega arith);
 }

@@ -3,7 +3,6 @@ use Rattle.std.proofs.Common.{◌≡◌, ℕ, zero, suc, ◌+◌, ◌<◌, List,
 use Rattle.std.specs.Prelude.{slice_get, filter, nat_lt, replicate}
 use Rattle.std.proofs.lemmas.Bool.{lt-ltb}
 use Rattle.insn.specs.declared.insn.Insn.{Insn}
-use Rattle.label.specs.Labels.{generals}
 use Rattle.round.specs.Scenario.{Scenario, IsScenario, program_of}
 use Rattle.world.specs.declared.event.Event.{Event}
 use Rattle.world.specs.declared.event.Event.TheVariants.{Tick}
@@ -11,12 +10,15 @@ use Rattle.world.specs.declared.part.Part.{Part}
 use Rattle.world.specs.declared.part.Part.TheVariants.{Acting, Silent, Posted}
 use Rattle.world.specs.Kind.{Kind, World, opening, run}
 use Rattle.world.specs.Campaigns.{IsCampaign, AreCampaigns}
-use Rattle.world.specs.KindLists.{ticks_named, names_events, wound_up, event_of, listed_rounds, replayed_rounds, until_access}
+use Rattle.world.specs.KindLists.{ticks_named, names_events, wound_up, event_of, listed_rounds, listed, replayed_rounds, replayed, until_access}
+use Rattle.world.specs.Schedules.{entries_of, lines_by}
 use Rattle.world.proofs.Kept.{Fits}
 use Rattle.world.proofs.Lasting.{IsOnTime, moves_due, named_moves, names_moves, opening_due, round_done}
-use Rattle.explore.specs.Orders.{will_ask, past, behind, IsRoundFrom, IsFrom}
-use Rattle.explore.specs.Schedules.{line_of, lines_from, OrdersAreSchedules}
-use Rattle.explore.proofs.Deciding.{to_steps}
+use Rattle.explore.specs.Orders.{will_ask, past, behind, order_of, IsOrder}
+use Rattle.explore.specs.Schedules.{entries_from, schedule_from, OrdersAreSchedules}
+use Rattle.explore.specs.Walks.{IsWalk, AreWalks}
+use Rattle.explore.proofs.Deciding.{to_steps, again}
+use Rattle.explore.proofs.Leading.{from_walks, replay_completes}
 
 entries : Scenario → List ℕ → List Event
 entries s line = map (λ g. event_of g (program_of s g)) (filter (λ g. nat_lt g s.generals) line)
@@ -54,26 +56,45 @@ module _ (K : Kind) where
   asker_has s w d g (Some Silent) e y = absurd (let f : false ≡ true = y in cc)
   asker_has s w d g (Some Posted) e y = absurd (let f : false ≡ true = y in cc)
 
-  line_is : (s : Scenario) (names : List ℕ) (w : World) → IsOnTime K s w → IsRoundFrom K w names → entries s (line_of K w names) ≡ names_events K w names
+  line_is : (s : Scenario) (names : List ℕ) (w : World) → IsOnTime K s w → IsWalk K w names → entries s (entries_of (entries_from K w names)) ≡ names_events K w names
   unfolding entries
   line_is s [] w d h = refl
   line_is s (g ∷ names) w d h =
       let ticks = ticks_named g (slice_get w.parts g) in
       let who = asker_has s w d g (slice_get w.parts g) refl h.0 in
       let more = line_is s names (past K w g) (moves_due K s ticks w (named_moves g (slice_get w.parts g)) d) h.1 in
-      entries_many s (length ticks) g (line_of K (past K w g) names) who.1 who.0 who.2 ∙ (λ i. named_again g (slice_get w.parts g) i ++ more i)
+      entries_many s (length ticks) g (entries_of (entries_from K (past K w g) names)) who.1 who.0 who.2 ∙ (λ i. named_again g (slice_get w.parts g) i ++ more i)
 
-  lines_are : (s : Scenario) → IsCampaign K s → (k : ℕ) (order : List (List ℕ)) (w : World) → IsOnTime K s w → length w.closed + k ≡ suc s.bound → IsFrom K w k order → listed_rounds s k (lines_from K w order) ≡ replayed_rounds K w k order
+  lines_are : (s : Scenario) → IsCampaign K s → (k : ℕ) (names : List (List ℕ)) (w : World) → IsOnTime K s w → length w.closed + k ≡ suc s.bound → AreWalks K w names → listed_rounds s k (lines_by (schedule_from K w names)) ≡ replayed_rounds K w k names
   unfolding entries
-  lines_are s is zero order w d e h = refl
-  lines_are s is (suc k) [] w d e h = absurd h
-  lines_are s is (suc k) (names ∷ order) w d e h =
-      let es = names_events K w names in
-      let A : Scenario → Type 0 = λ t. (IsOnTime K s (run K w (es ++ wound_up t))) × (length (run K w (es ++ wound_up t)).closed ≡ suc (length w.closed)) in
-      let done = round_done K s is es w (names_moves K names w) d (omega arith) in
+  lines_are s is zero names w d e h = refl
+  lines_are s is (suc k) [] w d e h =
+      let A : Scenario → Type 0 = λ t. (IsOnTime K s (run K w (wound_up t))) × (length (run K w (wound_up t)).closed ≡ suc (length w.closed)) in
+      let done = round_done K s is [] w tt d (omega arith) in
       let next = subst A (sym d.scenario) (done.due, done.one_more) in
-      let more = lines_are s is k order (behind K w names) next.0 (let n = next.1 in omega arith) h.1 in
-      (λ i. line_is s names w d h.0 i ++ (wound_up (sym d.scenario i) ++ more i)) ∙ sym (append_assoc es (wound_up w.scenario) (replayed_rounds K (behind K w names) k order))
+      λ i. wound_up (sym d.scenario i) ++ lines_are s is k [] (behind K w []) next.0 (let n = next.1 in omega arith) tt i
+  lines_are s is (suc k) (line ∷ names) w d e h =
+      let es = names_events K w line in
+      let A : Scenario → Type 0 = λ t. (IsOnTime K s (run K w (es ++ wound_up t))) × (length (run K w (es ++ wound_up t)).closed ≡ suc (length w.closed)) in
+      let done = round_done K s is es w (names_moves K line w) d (omega arith) in
+      let next = subst A (sym d.scenario) (done.due, done.one_more) in
+      let more = lines_are s is k names (behind K w line) next.0 (let n = next.1 in omega arith) h.1 in
+      (λ i. line_is s line w d h.0 i ++ (wound_up (sym d.scenario i) ++ more i)) ∙ sym (append_assoc es (wound_up w.scenario) (replayed_rounds K (behind K w line) k names))
 
-  pub orders_are_schedules : AreCampaigns K → OrdersAreSchedules K
-  orders_are_schedules good = λ s order is o. lines_are s (good s is) (suc s.bound) order (opening K s) (opening_due K s (good s is)) (omega arith) (to_steps K good s order is o)
+  module _ (good : AreCampaigns K) where
+    pub walks_played : (s : Scenario) (names : List (List ℕ)) → IsScenario s → AreWalks K (opening K s) names → listed s (lines_by (schedule_from K (opening K s) names)) ≡ replayed K s names
+    walks_played s names is h = lines_are s (good s is) (suc s.bound) names (opening K s) (opening_due K s (good s is)) (omega arith) h
+
+    pub orders_walk : (s : Scenario) (order : List (List ℕ)) → IsScenario s → IsOrder K s order → AreWalks K (opening K s) order
+    orders_walk s order is o = from_walks K (suc s.bound) order (opening K s) (to_steps K good s order is o)
+
+    pub orders_are_schedules : OrdersAreSchedules K
+    orders_are_schedules = record {
+      played = walks_played;
+      completes = λ s names is h. replay_completes K s names (good s is) h;
+      orders = orders_walk;
+      again = λ s events is c.
+          let order = order_of K s events in
+          let walks = orders_walk s order is (events, c, refl) in
+          ap (λ (es : List Event). run K (opening K s) es) (walks_played s order is walks) ∙ again K good s events is c;
+    }
