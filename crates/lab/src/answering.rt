@@ -71,7 +71,9 @@ pub fn answer(alloc: Global, task: &Task, bytes: &[u8]) -> Result<FirstAnswer, R
             *filling,
         )?,
         Task::Play {
-            account, explained, ..
+            account,
+            explained,
+            ..
         } => {
             let campaign = asked_campaign(alloc, bytes, *account, *explained)?;
             return Ok(FirstAnswer::Play(campaign, *account, *explained));
