@@ -3,7 +3,7 @@ ghost use Rattle.std.specs.IoError.{error_kind};
 ghost use Rattle.byzlab.specs.Files.{IsInputOf};
 
 use std::fs::File;
-use std::io::{self, ErrorKind, Read, Stdin};
+use std::io::{self, Cursor, ErrorKind, Read, Stdin};
 
 /// A file of the task.
 #[derive(Drop)]
@@ -12,6 +12,8 @@ pub enum Input {
     File(File),
     /// A hyphen names standard input.
     Standard(Stdin),
+    /// A scenario that was read, with the files that it names.
+    Text(Cursor<Vec<u8>>),
     /// The task reads no file.
     Nothing,
 }
@@ -46,6 +48,7 @@ impl Read for Input {
         match self {
             Input::File(file) => file.read(buf),
             Input::Standard(stdin) => stdin.read(buf),
+            Input::Text(text) => text.read(buf),
             Input::Nothing => Ok(0),
         }
     }
