@@ -1,5 +1,5 @@
 -- Where what a refusal is about comes from: the units that set it last on the ways that lead there, and the tests and copies on these ways that tell nothing of it (own).
-use Rattle.std.specs.Prelude.{ℕ, zero, suc, List, [], ◌++◌, Option, Some, None, codes, decimal, slice_get}
+use Rattle.std.specs.Prelude.{ℕ, zero, suc, List, [], ◌++◌, Option, Some, None, codes, slice_get}
 use Rattle.insn.specs.declared.insn.Insn.{Insn}
 use Rattle.insn.specs.Program.{instruction_at}
 use Rattle.asm.specs.Printing.{insn_text}

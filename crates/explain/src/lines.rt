@@ -56,7 +56,12 @@ fn put_known(out: &mut String, insn: &Insn, state: Option<&AbsState>) -> Result<
 }
 
 /// Adds a unit and its instruction, behind the end of a line.
-fn put_place(out: &mut String, places: &[String], unit: usize, insn: &Insn) -> Result<(), AllocError>
+fn put_place(
+    out: &mut String,
+    places: &[String],
+    unit: usize,
+    insn: &Insn,
+) -> Result<(), AllocError>
     ensures { OnOk result (string_bytes out.new ≡ string_bytes out.old ++ place_text (places_in places.now) unit insn.now) }
 {
     out.push_str("\n")?;
@@ -249,7 +254,15 @@ fn put_about(
         return Ok(());
     };
     let marked = marks(alloc, program, states, &asked, unit)?;
-    put_notes_below(out, places, program, states, &asked, marked.as_slice(), unit)?;
+    put_notes_below(
+        out,
+        places,
+        program,
+        states,
+        &asked,
+        marked.as_slice(),
+        unit,
+    )?;
     let choice = wanted(program, marked.as_slice(), unit, insn, sentence);
     put_help(alloc, out, program, unit, choice)
 }
@@ -300,13 +313,23 @@ fn put_refused(
 /// What is known at each unit of a program to which the verifier comes, what each instruction gives, and why the program is
 /// refused, if so, with the places of the units in the text that they were written in: those that are not there, or
 /// empty, are not told. Each line stands behind the end of one.
-pub fn explanation_at(alloc: Global, program: &Program, places: &[String]) -> Result<String, AllocError>
+pub fn explanation_at(
+    alloc: Global,
+    program: &Program,
+    places: &[String],
+) -> Result<String, AllocError>
     ensures { IfOk result (λ text. string_bytes text ≡ explained_at (places_in places.now) program.now) }
 {
     let survey = known_at_units(alloc, program)?;
     let mut out = String::with_capacity(alloc, 48 * program.units())?;
     let states = survey.states.as_slice();
-    put_units(&mut out, places, &survey.fault, program.instructions(), states)?;
+    put_units(
+        &mut out,
+        places,
+        &survey.fault,
+        program.instructions(),
+        states,
+    )?;
     put_refused(alloc, &mut out, places, program, states, survey.fault)?;
     Ok(out)
 }

@@ -79,7 +79,12 @@ fn put_found(out: &mut String, asked: &Subject, state: &AbsState) -> Result<(), 
 }
 
 /// Adds that an instruction is noted.
-fn put_noted(out: &mut String, places: &[String], unit: usize, insn: &Insn) -> Result<(), AllocError>
+fn put_noted(
+    out: &mut String,
+    places: &[String],
+    unit: usize,
+    insn: &Insn,
+) -> Result<(), AllocError>
     ensures { OnOk result (string_bytes out.new ≡ string_bytes out.old ++ noted_text (places_in places.now) unit insn.now) }
 {
     out.push_str("\nnote: ")?;
@@ -150,7 +155,13 @@ fn put_passing(
     ensures { OnOk result (string_bytes out.new ≡ string_bytes out.old ++ passing_note (places_in places.now) asked.now unit insn.now state.now) }
 {
     match asked {
-        Subject::Register(r) => put_if(out, places, unit, insn, passed_by(*r, insn, state.known(*r))),
+        Subject::Register(r) => put_if(
+            out,
+            places,
+            unit,
+            insn,
+            passed_by(*r, insn, state.known(*r)),
+        ),
         Subject::Cell(_) => Ok(()),
     }
 }
@@ -237,7 +248,15 @@ pub(crate) fn put_notes_below(
     for place in 0..unit {
         let insn = program.at(place);
         let state = known_by(states, place);
-        put_note_at(out, places, asked, place, insn, state, mark_at(marks, place))?;
+        put_note_at(
+            out,
+            places,
+            asked,
+            place,
+            insn,
+            state,
+            mark_at(marks, place),
+        )?;
     }
     Ok(())
 }
