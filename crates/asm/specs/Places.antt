@@ -1,9 +1,10 @@
 -- Where the units of a program are written in its text (own).
-use Rattle.std.specs.Prelude.{ℕ, ◌≡◌, ◌≤◌, ◌==◌, if◌then◌else◌, List, [], ◌∷◌, ◌++◌, Ok, codes, decimal}
+use Rattle.std.specs.Prelude.{ℕ, ◌≡◌, ◌≤◌, ◌==◌, if◌then◌else◌, List, [], ◌∷◌, ◌++◌, Result, Ok, Err, codes, decimal}
 use Rattle.std.specs.List.{flat_map}
 use Rattle.insn.specs.Program.{most_units}
 use Rattle.asm.specs.declared.kept.Kept.{Kept}
-use Rattle.asm.specs.Program.{Placed, Read, lines_of, nothing, placed_units, read_on, units_in}
+use Rattle.asm.specs.declared.fault.AsmError.{AsmError}
+use Rattle.asm.specs.Program.{Placed, Read, placed_units, units_in}
 use Rattle.asm.specs.Views.{kept_view}
 
 -- `line N`
@@ -17,7 +18,7 @@ own_places p = if placed_units p == 2 then line_text p.line ∷ line_text p.line
 abbrev pub kept_places : Kept → List (List ℕ)
 kept_places kept = own_places (kept_view kept)
 
--- of each unit of what the lines of a text say, as long as a program has room for it
-abbrev pub AreWritten : List ℕ → List (List ℕ) → Type 0
-AreWritten text places =
-    (r : Read) × (read_on nothing 1 (lines_of text) ≡ Ok r) × (units_in r ≤ most_units → places ≡ flat_map own_places r.sources)
+-- of each unit of what the lines of a text say, as long as a program has room for it; nothing where they have a fault
+abbrev pub AreWritten : Result Read AsmError → List (List ℕ) → Type 0
+AreWritten (Ok r) places = units_in r ≤ most_units → places ≡ flat_map own_places r.sources
+AreWritten (Err fault) places = places ≡ []

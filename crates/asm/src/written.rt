@@ -2,6 +2,7 @@
 ghost use Rattle.std.specs.Prelude.{◌≡◌, ◌++◌, ◌∷◌, [], map, string_bytes, IfOk, OnOk};
 ghost use Rattle.std.specs.List.{flat_map};
 ghost use Rattle.asm.specs.Places.{AreWritten, kept_places, line_text, own_places};
+ghost use Rattle.asm.specs.Program.{lines_of, nothing, read_on};
 ghost use Rattle.asm.specs.Views.{kept_view};
 
 use crate::fault::AsmError;
@@ -47,14 +48,17 @@ fn all_places(alloc: Global, reading: &Reading<'_>) -> Result<Vec<String>, Alloc
 }
 
 /// Where each unit of the program that a text says is written, as `line N`, the lines being counted from 1; an `lddw` has
-/// two units.
+/// two units. Nothing of a text that has a fault.
 ///
 /// # Errors
 ///
-/// The first fault of a line, but for names that are not defined and distances; or want of memory.
-pub fn places(alloc: Global, text: &str) -> Result<Vec<String>, AsmError>
-    ensures { IfOk result (λ places. AreWritten text.now (map string_bytes places.items)) }
+/// Want of memory.
+pub fn places(alloc: Global, text: &str) -> Result<Vec<String>, AllocError>
+    ensures { IfOk result (λ places. AreWritten (read_on nothing 1 (lines_of text.now)) (map string_bytes places.items)) }
 {
-    let reading = gather(alloc, text.as_bytes())?;
-    Ok(all_places(alloc, &reading)?)
+    match gather(alloc, text.as_bytes()) {
+        Ok(reading) => all_places(alloc, &reading),
+        Err(AsmError::Memory) => Err(AllocError),
+        Err(AsmError::At(_, _)) => Ok(Vec::new(alloc)),
+    }
 }

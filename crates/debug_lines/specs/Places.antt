@@ -1,6 +1,8 @@
 -- The place of each unit of a function in the text that it was compiled from.
 use Rattle.std.specs.Prelude.{ℕ, zero, suc, Bool, ◌≡◌, ◌+◌, ◌-◌, ◌*◌, ◌/◌, ◌%◌, ◌^◌, ◌⊎◌, List, [], ◌∷◌, ◌++◌, length, take, slice_get, min, codes, decimal}
 use Rattle.std.specs.Prelude.{◌==◌, ◌&&◌, not, nat_lt, nat_le, if◌then◌else◌, Option, Some, None}
+use Rattle.std.specs.Prelude.{Result, Ok, Err}
+use Rattle.elf.specs.declared.fault.Fault.{Fault}
 use Rattle.elf.specs.declared.symbol.Symbol.{Symbol}
 use Rattle.elf.specs.First.{first_some}
 use Rattle.debug_lines.specs.declared.header.Header.{Header}
@@ -68,3 +70,8 @@ abbrev pub TellsPlaces : List ℕ → Symbol → List (List ℕ) → Type 0
 TellsPlaces object function texts =
     (rows : List Row) × AreRows object function.section (header_of (lines_in object)) rows
     × (texts ≡ texts_of (name_in object (header_of (lines_in object))) rows function.value (min (function.size / 8) 4096))
+
+-- those of the entry, if the object has one
+abbrev pub AreEntryPlaces : List ℕ → Result Symbol Fault → List (List ℕ) → Type 0
+AreEntryPlaces object (Ok function) texts = TellsPlaces object function texts
+AreEntryPlaces object (Err fault) texts = texts ≡ []

@@ -13,4 +13,4 @@ mod step;
 mod tables;
 mod telling;
 
-pub use telling::places;
+pub use telling::{entry_places, places};

@@ -1,8 +1,10 @@
 //! The place of each unit of a function in the text that it was compiled from.
 ghost use Rattle.std.specs.Prelude.{◌≡◌, ◌<◌, ◌≤◌, ◌+◌, ◌++◌, codes, decimal, length, map, string_bytes, IfOk};
+ghost use Rattle.elf.specs.Entry.{function_of};
+ghost use Rattle.elf.specs.Symbol.{asked};
 ghost use Rattle.debug_lines.specs.Header.{header_of};
 ghost use Rattle.debug_lines.specs.Tables.{lines_in};
-ghost use Rattle.debug_lines.specs.Places.{AreRows, TellsPlaces, name_in, is_of, row_here, row_of, texts_of, told, told_of};
+ghost use Rattle.debug_lines.specs.Places.{AreEntryPlaces, AreRows, TellsPlaces, name_in, is_of, row_here, row_of, texts_of, told, told_of};
 
 use crate::header::{Header, header_of};
 use crate::names::{name_of, plain};
@@ -159,4 +161,22 @@ pub fn places(alloc: Global, object: &[u8], function: Symbol) -> Result<Vec<Stri
     let units = (function.size / 8).min(MOST_UNITS) as usize;
     let rows = rows_of(alloc, object, function.section, header)?;
     texts_of(alloc, object, header, rows.as_slice(), function, units)
+}
+
+/// The same of an object's entry: the function of this name, or the only global one. Nothing where there is none.
+///
+/// # Errors
+///
+/// Want of memory.
+pub fn entry_places(
+    alloc: Global,
+    object: &[u8],
+    name: Option<&[u8]>,
+) -> Result<Vec<String>, AllocError>
+    ensures { IfOk result (λ texts. AreEntryPlaces object.now (function_of object.now (asked name.entry)) (map string_bytes texts.items)) }
+{
+    match elf::function(object, name) {
+        Ok(function) => places(alloc, object, function),
+        Err(_) => Ok(Vec::new(alloc)),
+    }
 }

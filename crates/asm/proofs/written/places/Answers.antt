@@ -1,8 +1,9 @@
 use Rattle.std.proofs.Common.{map, string_bytes}
-use Rattle.asm.proofs.PlaceLemmas.{places_kept}
+use Rattle.std.proofs.lemmas.Result.{IfOk-weaker}
+use Rattle.asm.proofs.PlaceLemmas.{places_read}
 use Rattle.asm.proofs.written.places.Goals as goal
 
-pub returns : goal.returns
-returns c =
-    let given = rw c.as_bytes.ensures.value at c.in_ok-reading.ensures.read in
-    (given.0, given.1, places_kept c.in_ok-reading.reading given.0 (map string_bytes c.in_ok-all_places.field-0.items) given.2 c.in_ok-all_places.ensures)
+pub returns-in-Ok : goal.returns-in-Ok
+returns-in-Ok c =
+    IfOk-weaker c.all_places.result _ _ (λ places all. places_read _ c.in-Ok.reading (map string_bytes places.items)
+    (rw c.as_bytes.ensures.value at c.in-Ok.ensures.read) all) c.all_places.ensures
