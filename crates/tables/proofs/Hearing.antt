@@ -1,13 +1,13 @@
 -- What a tree has of a label.
-use Rattle.std.proofs.Common.{ℕ, zero, suc, ◌+◌, ◌-◌, ◌^◌, ◌<◌, ◌≤◌, ◌≡◌, Bool, true, false, cond, List, [], ◌∷◌, length, map, take, refl, sym, ap, subst, ◌∙◌, arith, inl, inr, Option, None, Some}
+use Rattle.std.proofs.Common.{ℕ, zero, suc, ◌+◌, ◌-◌, ◌^◌, ◌<◌, ◌≤◌, ◌≡◌, Bool, true, false, cond, List, [], ◌∷◌, length, map, take, refl, sym, ap, ◌∙◌, arith, inl, inr, Option, None, Some}
 use Rattle.std.specs.Prelude.{◌==◌, bytes_eq, find, slice_get, unwrap_or}
 use Rattle.std.specs.List.{list_any}
 use Rattle.std.proofs.lemmas.Bool.{cases_Bool, cases_lt, cond-true, cond-false, eq-eqb, or_cases, or_left, or_right, true≢false}
 use Rattle.std.proofs.lemmas.Slice.Eq.{bytes_eq-Decides}
-use Rattle.label.specs.Labels.{on, labels}
-use Rattle.label.specs.Oral.{Messages, BeginsWith, IsLabel}
+use Rattle.label.specs.Labels.{labels}
+use Rattle.label.specs.Oral.{Messages, BeginsWith}
 use Rattle.label.proofs.Listing.{proved_labels_are_exact}
-use Rattle.tree.specs.LieutenantTree.{LieutenantTree, IsCampaign, IsFilled, IsPlace, level_of, level_told, levels_told}
+use Rattle.tree.specs.LieutenantTree.{LieutenantTree, IsCampaign, IsFilled, IsPlace, level_of, level_told}
 use Rattle.tree.proofs.Levels.{levels-long, levels-at}
 use Rattle.tables.specs.Hearing.{beside, value_of, heard}
 use Rattle.tables.specs.Laws.{AreOrders}

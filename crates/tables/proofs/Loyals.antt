@@ -1,17 +1,16 @@
 -- Where all tell one order, each decides it.
-use Rattle.std.proofs.Common.{ℕ, zero, suc, ◌+◌, ◌*◌, ◌<◌, ◌≤◌, ◌≡◌, ◌≢◌, Bool, true, false, cond, List, [], ◌∷◌, ◌++◌, map, length, refl, sym, ap, ◌∙◌, arith, inl, inr, None, Some}
+use Rattle.std.proofs.Common.{ℕ, zero, suc, ◌<◌, ◌≡◌, Bool, true, false, cond, List, [], ◌∷◌, ◌++◌, map, length, refl, sym, ap, ◌∙◌, arith, Some}
 use Rattle.std.specs.Prelude.{◌==◌, count_by}
-use Rattle.std.proofs.lemmas.Bool.{cases_Bool, cond-true, cond-false, or_from, eqb-true, eq-eqb, true≢false}
+use Rattle.std.proofs.lemmas.Bool.{or_from, eq-eqb, true≢false}
 use Rattle.std.proofs.lemmas.List.{length-map}
 use Rattle.std.proofs.lemmas.List.Sums.{sum_by-cons}
 use Rattle.combine.specs.Chosen.{combined_by, chosen_is_rule}
 use Rattle.combine.specs.Rule.{IsMajorityRule}
 use Rattle.combine.specs.declared.chosen.Rule.TheVariants.{Majority}
 use Rattle.label.specs.Labels.{on, others}
-use Rattle.label.specs.Oral.{Messages, taken, om}
-use Rattle.label.proofs.Counting.{map_agree, on-push, others-on}
+use Rattle.label.specs.Oral.{Messages, om}
+use Rattle.label.proofs.Counting.{map_agree, on-push}
 use Rattle.label.proofs.Counts.{among}
-use Rattle.book.specs.Table.{MessageTable}
 use Rattle.tables.specs.Laws.{LoyalTablesDecide}
 use Rattle.tables.proofs.Reread.{proved_tables_are_read, apart_first}
 

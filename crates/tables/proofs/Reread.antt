@@ -5,10 +5,9 @@ use Rattle.std.specs.List.{flat_map, list_all, list_any, AllByRecursion}
 use Rattle.std.proofs.lemmas.Bool.{cases_Bool, cond-true, cond-false, and_parts, and_from, or_from, eqb-true, lt-ltb, ltb-true, le-leb, leb-true, ne_eqb, eq-eqb}
 use Rattle.std.proofs.lemmas.List.Folds.{list_any-append}
 use Rattle.std.proofs.lemmas.Slice.Eq.{bytes_eq-Decides}
-use Rattle.combine.specs.declared.chosen.Rule.{Rule}
 use Rattle.combine.specs.Chosen.{combined_by}
 use Rattle.label.specs.Labels.{on, is_distinct}
-use Rattle.label.specs.Oral.{Messages, IsLabel, AllBelow, BeginsWith, order_of, taken, om}
+use Rattle.label.specs.Oral.{Messages, IsLabel, AllBelow, BeginsWith, order_of, om}
 use Rattle.label.specs.Space.{begins_with}
 use Rattle.label.proofs.Same.{om-same}
 use Rattle.text.specs.Stop.{feed}
@@ -21,8 +20,8 @@ use Rattle.book.specs.Explained.{dotted}
 use Rattle.book.specs.Grammar.{is_place, is_within, message_of, checked, with_message, lines_told, table_told}
 use Rattle.book.proofs.FormLemmas.{AreFew, begun_some, few_all, lines_read, message_read, tell}
 use Rattle.book.proofs.Places.{Place, places, is_in, AllDiffer, fits, is_place_of, are_places, places_differ, all_found}
-use Rattle.tables.specs.Written.{first_line, line_of, mark_of, telling, table_text}
-use Rattle.tables.specs.Laws.{AreOrders, IsTableOf, TablesAreRead}
+use Rattle.tables.specs.Written.{first_line, line_of, mark_of, telling}
+use Rattle.tables.specs.Laws.{TablesAreRead}
 use Rattle.tables.proofs.Telling.{tell_of, tell_lacks, head, head_read, head_lacks}
 use Rattle.tables.proofs.Flattened.{placed, written_is}
 

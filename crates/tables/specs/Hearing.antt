@@ -1,5 +1,5 @@
 -- What lieutenants' trees tell together.
-use Rattle.std.specs.Prelude.{ℕ, ◌==◌, List, [], ◌∷◌, length, find, bytes_eq, Option, None, Some, cond}
+use Rattle.std.specs.Prelude.{ℕ, ◌==◌, List, ◌∷◌, length, find, bytes_eq, Option, None, Some, cond}
 use Rattle.label.specs.Labels.{labels}
 use Rattle.tree.specs.LieutenantTree.{LieutenantTree, level_of}
 

@@ -1,4 +1,4 @@
-use Rattle.std.proofs.Common.{◌≡◌, sym}
+use Rattle.std.proofs.Common.{sym}
 use Rattle.tables.proofs.Endings.{ends_more}
 use Rattle.tables.proofs.loyal.ends_in.Goals as goal
 

@@ -1,8 +1,8 @@
-use Rattle.std.proofs.Common.{◌≡◌, ◌∙◌, ◌+◌, ◌==◌, Some, None, false, take, length, sym, refl, add-one, ap}
-use Rattle.std.specs.Prelude.{find, slice_get}
+use Rattle.std.proofs.Common.{◌≡◌, ◌∙◌, Some, length, sym, refl, add-one}
+use Rattle.std.specs.Prelude.{slice_get}
 use Rattle.std.proofs.lemmas.Bool.{ne_eqb}
 use Rattle.std.proofs.lemmas.Option.{slice_get_read}
-use Rattle.tables.proofs.Hearing.{heard_at, heard_nowhere, none_more}
+use Rattle.tables.proofs.Hearing.{heard_at, none_more}
 use Rattle.tables.proofs.trees.heard.Goals as goal
 
 pub returns-then-space-receiver : goal.returns-then-space-receiver

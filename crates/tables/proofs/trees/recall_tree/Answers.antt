@@ -1,4 +1,4 @@
-use Rattle.std.proofs.Common.{◌≡◌, ◌<◌, ◌≤◌, ◌+◌, ℕ, arith}
+use Rattle.std.proofs.Common.{arith}
 use Rattle.tables.proofs.Hearing.{levels_small}
 use Rattle.tables.proofs.trees.recall_tree.Goals as goal
 

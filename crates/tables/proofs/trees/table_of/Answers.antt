@@ -1,10 +1,7 @@
-use Rattle.std.proofs.Common.{◌≡◌, ◌∙◌, ℕ, List, Ok, ap, subst, sym}
-use Rattle.std.specs.String.{string_bytes}
+use Rattle.std.proofs.Common.{◌∙◌, ap}
 use Rattle.std.proofs.lemmas.Result.{IfOk-weaker}
 use Rattle.book.specs.Grammar.{table_told}
-use Rattle.book.specs.Table.{MessageTable}
 use Rattle.tables.specs.Hearing.{heard}
-use Rattle.tables.specs.Laws.{IsTableOf}
 use Rattle.tables.proofs.Reread.{proved_tables_are_read, within}
 use Rattle.tables.proofs.trees.table_of.Goals as goal
 

@@ -1,5 +1,4 @@
-use Rattle.std.specs.String.{string_bytes}
-use Rattle.std.proofs.Common.{◌≡◌, ◌∙◌, sym}
+use Rattle.std.proofs.Common.{◌∙◌, sym}
 use Rattle.std.proofs.lemmas.Result.{IfOk-weaker}
 use Rattle.tables.proofs.Naming.{dotted_one}
 use Rattle.tables.proofs.writing.alone.Goals as goal

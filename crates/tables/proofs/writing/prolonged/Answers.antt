@@ -3,7 +3,6 @@ use Rattle.std.specs.Fmt.{decimal}
 use Rattle.std.specs.String.{string_bytes}
 use Rattle.std.proofs.Common.{append_assoc, arith, ◌≡◌, ◌++◌, ◌∙◌, ap, sym}
 use Rattle.std.proofs.lemmas.Result.{IfOk-weaker}
-use Rattle.book.specs.Explained.{dotted}
 use Rattle.tables.proofs.Naming.{dotted_more}
 use Rattle.tables.proofs.writing.prolonged.Goals as goal
 

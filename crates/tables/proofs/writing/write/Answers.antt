@@ -1,6 +1,5 @@
 use Rattle.std.proofs.Common.{◌≡◌, ◌∙◌, ◌++◌, ◌∷◌, [], ◌+◌, arith, sym, ap, ℕ, append-nil}
 use Rattle.std.specs.List.{flat_map, range_with_len}
-use Rattle.std.specs.String.{string_bytes}
 use Rattle.book.proofs.Gathering.{range_text}
 use Rattle.tables.specs.Written.{first_line, lines_from, written}
 use Rattle.tables.proofs.writing.write.Goals as goal
