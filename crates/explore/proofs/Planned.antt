@@ -1,5 +1,5 @@
 -- A line name by name, and a schedule line by line.
-use Rattle.std.proofs.Common.{◌≡◌, ℕ, zero, suc, ◌+◌, ◌<◌, List, [], ◌∷◌, ◌++◌, length, map, drop, get_or, true, false, refl, sym, ap, subst, ◌∙◌, Some, append_assoc, append-nil, arith, drop-cons, Vec, Result, Ok, Err}
+use Rattle.std.proofs.Common.{◌≡◌, ℕ, zero, suc, ◌+◌, ◌<◌, List, [], ◌∷◌, ◌++◌, length, drop, get_or, true, false, refl, sym, ap, subst, ◌∙◌, Some, append_assoc, append-nil, arith, drop-cons, Vec, Result, Ok, Err}
 use Rattle.std.specs.Prelude.{slice_get, IfOk}
 use Rattle.std.specs.Global.{Global}
 use Rattle.round.specs.Scenario.{Scenario, IsScenario}
@@ -16,7 +16,7 @@ use Rattle.explore.specs.declared.scheduled.Scheduled.TheVariants.{By, Never}
 use Rattle.explore.specs.Orders.{will_ask, past, behind, order_of}
 use Rattle.explore.specs.Walks.{IsWalk, AreWalks, IsStuckAt, IsStuckIn, IsCompletion}
 use Rattle.explore.specs.Schedules.{entries_from, schedule_from}
-use Rattle.explore.specs.Planning.{IsStepTo, IsLineOf, IsScheduleOf, IsPlan}
+use Rattle.explore.specs.Planning.{IsStepTo, IsScheduleOf, IsPlan}
 use Rattle.explore.proofs.Leading.{replay_completes}
 use Rattle.explore.proofs.ScheduleLaws.{walks_played}
 

@@ -2,7 +2,6 @@
 use Rattle.std.specs.Prelude.{ℕ, ◌+◌, cond, Bool, true, false, List, [], ◌∷◌, ◌++◌, flat_map, decimal, codes, Option, None, Some}
 use Rattle.round.specs.Scenario.{Scenario}
 use Rattle.world.specs.declared.schedule.Repeat.{Repeat}
-use Rattle.world.specs.declared.verdict.Verdict.{Verdict}
 use Rattle.world.specs.Chronicle.{verdict_of}
 use Rattle.world.specs.Kind.{Kind, opening}
 use Rattle.explore.specs.Exploring.{Finding, Exploration, counted_in}

@@ -1,5 +1,5 @@
 -- From the opening.
-use Rattle.std.proofs.Common.{List, ℕ, subst}
+use Rattle.std.proofs.Common.{subst}
 use Rattle.std.specs.Prelude.{IfOk}
 use Rattle.world.specs.Kind.{World, opening}
 use Rattle.world.specs.Playing.{lists_in}
