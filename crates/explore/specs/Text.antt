@@ -15,6 +15,14 @@ further n = codes " " ++ decimal n
 abbrev pub entry_text : Repeat → List ℕ
 entry_text r = codes " " ++ decimal r.general ++ codes "*" ++ decimal r.times
 
+-- a line of a schedule's text, and the text
+abbrev pub line_text : List Repeat → List ℕ
+line_text [] = codes "\n"
+line_text (r ∷ line) = decimal r.general ++ codes "*" ++ decimal r.times ++ flat_map entry_text line ++ codes "\n"
+
+abbrev pub schedule_text : List (List Repeat) → List ℕ
+schedule_text lines = flat_map line_text lines
+
 -- a round's entries, with its number
 abbrev pub round_text : ℕ → List Repeat → List ℕ
 round_text round line = codes "round" ++ further round ++ flat_map entry_text line ++ codes "\n"
