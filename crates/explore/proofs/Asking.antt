@@ -1,5 +1,5 @@
 -- Who is still to ask makes one more access.
-use Rattle.std.proofs.Common.{◌≡◌, ℕ, zero, suc, List, [], ◌∷◌, ◌++◌, length, true, false, refl, sym, ap, subst, ◌∙◌, Option, Some, None}
+use Rattle.std.proofs.Common.{◌≡◌, ℕ, zero, suc, [], ◌∷◌, ◌++◌, length, true, false, refl, sym, subst, Option, Some, None}
 use Rattle.std.specs.Prelude.{slice_get, replicate}
 use Rattle.board.specs.Board.{Access, reply}
 use Rattle.world.specs.declared.event.Event.TheVariants.{Tick}

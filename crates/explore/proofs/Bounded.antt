@@ -11,7 +11,7 @@ use Rattle.round.specs.Activation.{Activation, started, Turn, Goes, Asks, Ended,
 use Rattle.round.specs.Runs.{Onward, Runs}
 use Rattle.world.specs.declared.event.Event.{Event}
 use Rattle.world.specs.Kind.{Kind, opening, run}
-use Rattle.world.specs.Campaigns.{IsCampaign, AreCampaigns}
+use Rattle.world.specs.Campaigns.{AreCampaigns}
 use Rattle.world.specs.KindAccounted.{IsLetterOf, IsAccountedRound, AreAccounted}
 use Rattle.world.specs.KindLists.{IsComplete, names_in}
 use Rattle.world.specs.Safety.{IsShort}

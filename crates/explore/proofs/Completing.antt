@@ -1,6 +1,6 @@
 -- The accesses of a replay: in each round those of the names, and behind them the others', by general.
-use Rattle.std.proofs.Common.{◌≡◌, ℕ, zero, suc, ◌+◌, ◌<◌, ◌≤◌, List, [], ◌∷◌, ◌++◌, length, map, Bool, true, false, cond, refl, sym, ap, subst, ◌∙◌, inl, inr, ⊎_elim, Option, Some, None, append_assoc, append-nil, arith}
-use Rattle.std.specs.Prelude.{slice_get, replicate, ◌==◌}
+use Rattle.std.proofs.Common.{◌≡◌, ℕ, zero, suc, ◌+◌, ◌<◌, List, [], ◌∷◌, ◌++◌, length, map, Bool, true, false, cond, refl, sym, ap, subst, ◌∙◌, inl, inr, ⊎_elim, Option, Some, None, append_assoc, append-nil, arith}
+use Rattle.std.specs.Prelude.{slice_get, replicate}
 use Rattle.std.proofs.lemmas.List.{map-append}
 use Rattle.insn.specs.declared.insn.Insn.{Insn}
 use Rattle.board.specs.Board.{Access, reply}
@@ -8,21 +8,21 @@ use Rattle.round.specs.Scenario.{Scenario, program_of}
 use Rattle.round.specs.Letters.{Letter}
 use Rattle.round.specs.Activation.{Turn, Goes, Asks, Ended, turn}
 use Rattle.world.specs.declared.event.Event.{Event}
-use Rattle.world.specs.declared.event.Event.TheVariants.{Tick, Post, Close}
+use Rattle.world.specs.declared.event.Event.TheVariants.{Tick, Close}
 use Rattle.world.specs.declared.part.Part.{Part}
 use Rattle.world.specs.declared.part.Part.TheVariants.{Acting, Silent, Posted}
 use Rattle.world.specs.Kind.{Kind, World, each, round_open, served, ticked, posting, closing, happen, run}
 use Rattle.world.specs.KindLists.{ticks_named, names_events, wound_up, post_of, ticks_of, replayed_rounds, names_in, first_line, later_lines}
 use Rattle.world.specs.Campaigns.{IsCampaign}
-use Rattle.world.proofs.Moves.{move_same, moves_same, run-append}
+use Rattle.world.proofs.Moves.{moves_same, run-append}
 use Rattle.world.proofs.Lasting.{IsOnTime, named_moves, names_moves, RoundDone, round_done}
 use Rattle.world.proofs.Following.{AreOf}
 use Rattle.world.proofs.Cutting.{AreFrom, filter_here, names_skip, of_from, from-append, from_later}
-use Rattle.explore.specs.Orders.{will_ask, past, behind}
+use Rattle.explore.specs.Orders.{behind}
 use Rattle.explore.specs.Listing.{Has}
 use Rattle.explore.specs.Walks.{IsWalk, AreWalks, IsAscending, Continues, IsCompletion}
 use Rattle.explore.proofs.Having.{has-append_of, ascending-append, ascending_one}
-use Rattle.explore.proofs.Asking.{OneMore, past_by}
+use Rattle.explore.proofs.Asking.{past_by}
 
 abbrev pub generals_of : List Access → List ℕ
 generals_of piece = map (λ a. a.general) piece

@@ -1,12 +1,11 @@
 -- Whoever chooses who makes the next access, one after another, comes to the order of a complete run.
 use Rattle.std.proofs.Common.{◌≡◌, ℕ, zero, suc, List, [], ◌∷◌, ◌++◌, true, false, refl, sym, ap, subst, ◌∙◌, append-nil, arith}
-use Rattle.std.specs.Prelude.{slice_get}
 use Rattle.round.specs.Scenario.{Scenario, IsScenario}
 use Rattle.world.specs.Kind.{Kind, World, opening}
 use Rattle.world.specs.KindLists.{replayed, names_in}
 use Rattle.world.specs.Campaigns.{IsCampaign, AreCampaigns}
 use Rattle.world.proofs.Lasting.{opening_due, replayed_complete}
-use Rattle.explore.specs.Orders.{will_ask, past, behind, IsRoundFrom, IsFrom, order_of, IsOrder}
+use Rattle.explore.specs.Orders.{past, behind, IsRoundFrom, IsFrom, order_of, IsOrder}
 use Rattle.explore.proofs.Walking.{order_walks}
 use Rattle.explore.specs.Walks.{IsWalk, AreWalks, IsCompletion}
 use Rattle.explore.proofs.Completing.{completes}

@@ -1,10 +1,9 @@
 -- The list of orders has each of them once.
-use Rattle.std.proofs.Common.{◌≡◌, ℕ, zero, suc, ◌+◌, ◌<◌, ◌≤◌, List, [], ◌∷◌, ◌++◌, length, map, Bool, true, false, cond, refl, sym, ap, subst, ◌∙◌, ◌⊎◌, inl, inr, ⊎_elim, Option, Some, None, arith}
+use Rattle.std.proofs.Common.{◌≡◌, ℕ, zero, suc, ◌+◌, ◌<◌, ◌≤◌, List, [], ◌∷◌, length, map, Bool, true, false, cond, refl, sym, ap, subst, ◌∙◌, ◌⊎◌, inl, inr, ⊎_elim, Option, Some, None, arith}
 use Rattle.std.specs.Prelude.{slice_get, filter}
 use Rattle.std.specs.List.{range_with_len}
 use Rattle.std.proofs.lemmas.Option.{slice_get_within}
 use Rattle.world.specs.declared.part.Part.{Part}
-use Rattle.round.specs.Scenario.{Scenario, IsScenario}
 use Rattle.world.specs.Kind.{Kind, World, opening}
 use Rattle.world.specs.Campaigns.{AreCampaigns}
 use Rattle.explore.specs.Orders.{IsFrom, IsRoundFrom, will_ask, past, behind}

@@ -1,8 +1,9 @@
 -- A line name by name, and a schedule line by line.
-use Rattle.std.proofs.Common.{◌≡◌, ℕ, zero, suc, ◌+◌, ◌<◌, List, [], ◌∷◌, ◌++◌, length, map, drop, get_or, true, false, refl, sym, ap, subst, ◌∙◌, Some, append_assoc, append-nil, arith, drop-cons, Vec, Result, Ok, Err}
+use Rattle.std.proofs.Common.{◌≡◌, ℕ, zero, suc, ◌+◌, ◌<◌, List, [], ◌∷◌, ◌++◌, length, drop, get_or, true, false, refl, sym, ap, subst, ◌∙◌, Some, append_assoc, append-nil, arith, drop-cons, Vec, Result, Ok, Err}
 use Rattle.std.specs.Prelude.{slice_get, IfOk}
 use Rattle.std.specs.Global.{Global}
 use Rattle.round.specs.Scenario.{Scenario, IsScenario}
+use Rattle.world.specs.declared.event.Event.{Event}
 use Rattle.world.specs.declared.schedule.Repeat.{Repeat}
 use Rattle.world.specs.Campaigns.{AreCampaigns}
 use Rattle.world.specs.Kind.{Kind, World, opening, run}
@@ -16,9 +17,10 @@ use Rattle.explore.specs.declared.scheduled.Scheduled.TheVariants.{By, Never}
 use Rattle.explore.specs.Orders.{will_ask, past, behind, order_of}
 use Rattle.explore.specs.Walks.{IsWalk, AreWalks, IsStuckAt, IsStuckIn, IsCompletion}
 use Rattle.explore.specs.Schedules.{entries_from, schedule_from}
-use Rattle.explore.specs.Planning.{IsStepTo, IsLineOf, IsScheduleOf, IsPlan}
+use Rattle.explore.specs.Planning.{IsStepTo, IsScheduleOf, IsPlan, BringsBack}
 use Rattle.explore.proofs.Leading.{replay_completes}
-use Rattle.explore.proofs.ScheduleLaws.{walks_played}
+use Rattle.explore.proofs.ScheduleLaws.{walks_played, orders_walk}
+use Rattle.explore.proofs.Deciding.{again}
 
 -- the first of those from a place on
 pub names_at : (names : List ℕ) (i : ℕ) → i < length names → drop i names ≡ get_or names i 0 ∷ drop (i + 1) names
@@ -127,3 +129,11 @@ module _ (K : Kind) (good : AreCampaigns K) where
       let A : List (List ℕ) → Type 0 = λ o. IsCompletion names o in
       (played, subst A (ap (order_of K s) (sym played)) (replay_completes K s names (good s is) h.0))
   plan_of s names (Never round place) is h = stuck_walks K (opening K s) names round place h
+
+  pub brings_back : (s : Scenario) (names : List (List ℕ)) (scheduled : Scheduled) → IsScenario s → IsPlan K s names scheduled → BringsBack K s names scheduled
+  brings_back s names (By schedule) is h events c e =
+      ap (λ (es : List Event). run K (opening K s) es) h.0 ∙ (ap (λ (o : List (List ℕ)). run K (opening K s) (replayed K s o)) e ∙ again K good s events is c)
+  brings_back s names (Never round place) is h events c e =
+      let order = order_of K s events in
+      let A : List (List ℕ) → Type 0 = λ o. AreWalks K (opening K s) o in
+      h (subst A (sym e) (orders_walk K good s order is (events, c, refl)))

@@ -1,17 +1,16 @@
 -- Order after order, from the first to the last or to a limit.
-use Rattle.std.proofs.Common.{◌≡◌, ℕ, zero, suc, ◌+◌, ◌<◌, ◌≤◌, List, [], ◌∷◌, ◌++◌, length, take, All, refl, sym, ap, subst, ◌∙◌, inl, inr, ⊎_elim, Option, Some, None, append_assoc, arith, length-append}
+use Rattle.std.proofs.Common.{◌≡◌, ℕ, suc, ◌+◌, ◌≤◌, List, [], ◌∷◌, ◌++◌, length, refl, sym, ap, subst, ◌∙◌, inl, Some, None, append_assoc, arith, length-append}
 use Rattle.std.specs.Prelude.{cond, bytes_eq}
 use Rattle.std.proofs.lemmas.List.Sums.{sum_by-append}
 use Rattle.std.proofs.lemmas.List.Elements.{All-from_recursion, All-weaker}
 use Rattle.round.specs.Scenario.{Scenario, IsScenario}
-use Rattle.world.specs.declared.event.Event.{Event}
-use Rattle.world.specs.Kind.{Kind, World, opening, run}
+use Rattle.world.specs.Kind.{Kind, opening, run}
 use Rattle.world.specs.KindLists.{IsComplete, replayed}
 use Rattle.world.specs.Campaigns.{AreCampaigns}
 use Rattle.world.proofs.Lasting.{replayed_complete}
 use Rattle.explore.specs.Orders.{order_of, IsFrom}
 use Rattle.explore.specs.Listing.{Has, AreShort, most_in_round, orders}
-use Rattle.explore.specs.Outcomes.{Outcome, outcome_in, outcome_of}
+use Rattle.explore.specs.Outcomes.{Outcome, outcome_of}
 use Rattle.explore.specs.Exploring.{Finding, outcomes_of, counted_in, ways_among, IsReal, IsFinding, IsLowerFinding, IsExplored, IsExploredInPart}
 use Rattle.explore.specs.Entering.{entered}
 use Rattle.explore.specs.Succession.{next_order}

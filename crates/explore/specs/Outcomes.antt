@@ -1,5 +1,5 @@
 -- What a campaign comes to, by its kind (own).
-use Rattle.std.specs.Prelude.{ℕ, ◌≡◌, List}
+use Rattle.std.specs.Prelude.{ℕ, List}
 use Rattle.round.specs.Scenario.{Scenario}
 use Rattle.round.specs.Letters.{messages}
 use Rattle.world.specs.declared.event.Event.{Event}

@@ -2,7 +2,8 @@
 use Rattle.std.specs.Prelude.{ℕ, ◌≡◌, true, false, List, length, slice_get, Option, None, Some}
 use Rattle.round.specs.Scenario.{Scenario}
 use Rattle.world.specs.Kind.{Kind, World, opening, run}
-use Rattle.world.specs.KindLists.{listed, replayed, ticks_named, names_events}
+use Rattle.world.specs.declared.event.Event.{Event}
+use Rattle.world.specs.KindLists.{IsComplete, listed, replayed, ticks_named, names_events}
 use Rattle.world.specs.Schedules.{lines_by}
 use Rattle.explore.specs.declared.scheduled.Line.{Line}
 use Rattle.explore.specs.declared.scheduled.Line.TheVariants.{Made, Stuck}
@@ -31,3 +32,12 @@ IsScheduleOf K w names (Never round place) = IsStuckIn K w names round place
 abbrev pub IsPlan : Kind → Scenario → List (List ℕ) → Scheduled → Type 0
 IsPlan K s names (By schedule) = (listed s (lines_by schedule) ≡ replayed K s names) × IsCompletion names (order_of K s (listed s (lines_by schedule)))
 IsPlan K s names (Never round place) = AreWalks K (opening K s) names → ⊥
+
+-- played by it, the campaign is that run
+abbrev pub ComesAgain : Kind → Scenario → List Event → Scheduled → Type 0
+ComesAgain K s events (By schedule) = run K (opening K s) (listed s (lines_by schedule)) ≡ run K (opening K s) events
+ComesAgain K s events (Never round place) = ⊥
+
+-- where the names are who made the accesses of a complete run, that run comes again
+abbrev pub BringsBack : Kind → Scenario → List (List ℕ) → Scheduled → Type 0
+BringsBack K s names scheduled = (events : List Event) → IsComplete K s events → names ≡ order_of K s events → ComesAgain K s events scheduled

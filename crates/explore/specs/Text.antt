@@ -2,7 +2,6 @@
 use Rattle.std.specs.Prelude.{ℕ, ◌+◌, cond, Bool, true, false, List, [], ◌∷◌, ◌++◌, flat_map, decimal, codes, Option, None, Some}
 use Rattle.round.specs.Scenario.{Scenario}
 use Rattle.world.specs.declared.schedule.Repeat.{Repeat}
-use Rattle.world.specs.declared.verdict.Verdict.{Verdict}
 use Rattle.world.specs.Chronicle.{verdict_of}
 use Rattle.world.specs.Kind.{Kind, opening}
 use Rattle.explore.specs.Exploring.{Finding, Exploration, counted_in}
@@ -15,6 +14,14 @@ further n = codes " " ++ decimal n
 -- entries of a schedule, each behind a space
 abbrev pub entry_text : Repeat → List ℕ
 entry_text r = codes " " ++ decimal r.general ++ codes "*" ++ decimal r.times
+
+-- a line of a schedule's text, and the text
+abbrev pub line_text : List Repeat → List ℕ
+line_text [] = codes "\n"
+line_text (r ∷ line) = decimal r.general ++ codes "*" ++ decimal r.times ++ flat_map entry_text line ++ codes "\n"
+
+abbrev pub schedule_text : List (List Repeat) → List ℕ
+schedule_text lines = flat_map line_text lines
 
 -- a round's entries, with its number
 abbrev pub round_text : ℕ → List Repeat → List ℕ

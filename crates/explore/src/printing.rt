@@ -2,7 +2,7 @@
 ghost use Rattle.std.specs.Prelude.{◌≡◌, ◌≤◌, ◌<◌, ◌+◌, ◌^◌, ◌++◌, All, IfOk, OnOk, cond, codes, decimal, flat_map, string_bytes};
 ghost use Rattle.explore.specs.Exploring.{Exploration as Explored, IsExploration, counted_in};
 ghost use Rattle.explore.specs.Outcomes.{oral_outcome};
-ghost use Rattle.explore.specs.Text.{entry_text, exploration_text, finding_text, further, head_text, outcome_text, round_text, rounds_text, yes_no, yes_no_none};
+ghost use Rattle.explore.specs.Text.{entry_text, exploration_text, finding_text, further, head_text, line_text, outcome_text, round_text, rounds_text, schedule_text, yes_no, yes_no_none};
 ghost use Rattle.explore.specs.Walks.{AreWalks};
 ghost use Rattle.world.specs.Chronicle.{verdict_of};
 ghost use Rattle.world.specs.Kind.{opening};
@@ -17,7 +17,7 @@ use itoa::Buffer;
 use round::Scenario;
 use std::alloc::{AllocError, Global};
 use world::judging::{alike, loyal_decisions, obeyed};
-use world::{Entries, Repeat};
+use world::{Entries, Repeat, Schedule};
 
 /// A number behind a space.
 fn put_further(out: &mut String, number: u64) -> Result<(), AllocError>
@@ -29,15 +29,23 @@ fn put_further(out: &mut String, number: u64) -> Result<(), AllocError>
     Ok(())
 }
 
+/// An entry of a schedule.
+fn put_repeat(out: &mut String, repeat: Repeat) -> Result<(), AllocError>
+    ensures { OnOk result (string_bytes out.new ≡ string_bytes out.old ++ decimal repeat.general ++ codes "*" ++ decimal repeat.times) }
+{
+    let mut buffer = Buffer::new();
+    out.push_str(buffer.format(u64::from(repeat.general)))?;
+    out.push_str("*")?;
+    out.push_str(buffer.format(u64::from(repeat.times)))?;
+    Ok(())
+}
+
 /// An entry of a schedule behind a space.
 fn put_entry(out: &mut String, repeat: Repeat) -> Result<(), AllocError>
     ensures { OnOk result (string_bytes out.new ≡ string_bytes out.old ++ entry_text repeat) }
 {
-    let mut buffer = Buffer::new();
-    put_further(out, u64::from(repeat.general))?;
-    out.push_str("*")?;
-    out.push_str(buffer.format(u64::from(repeat.times)))?;
-    Ok(())
+    out.push_str(" ")?;
+    put_repeat(out, repeat)
 }
 
 /// Entries, each behind a space.
@@ -48,6 +56,33 @@ fn put_entries(out: &mut String, repeats: &[Repeat]) -> Result<(), AllocError>
         put_entry(out, *repeat)?;
     }
     Ok(())
+}
+
+/// A line of a schedule's text.
+fn put_line(out: &mut String, repeats: &[Repeat]) -> Result<(), AllocError>
+    ensures { OnOk result (string_bytes out.new ≡ string_bytes out.old ++ line_text repeats.now) }
+{
+    if let Some((first, rest)) = repeats.split_first() {
+        put_repeat(out, *first)?;
+        put_entries(out, rest)?;
+    }
+    out.push_str("\n")?;
+    Ok(())
+}
+
+/// The text of a schedule, a line for each round.
+///
+/// # Errors
+///
+/// `AllocError` where memory is refused.
+pub fn schedule_text(alloc: Global, schedule: &Schedule) -> Result<String, AllocError>
+    ensures { IfOk result (λ text. string_bytes text ≡ schedule_text schedule.now) }
+{
+    let mut out = String::new(alloc);
+    for line in &schedule.lines {
+        put_line(&mut out, line.repeats.as_slice())?;
+    }
+    Ok(out)
 }
 
 /// The line of a round.

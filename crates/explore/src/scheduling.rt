@@ -1,6 +1,6 @@
 //! Schedules under which generals make their accesses in an order.
 ghost use Rattle.std.specs.Prelude.{◌≡◌, ◌≤◌, IfOk, IfSome, slice_get};
-ghost use Rattle.explore.specs.Planning.{IsLineOf, IsPlan, IsScheduleOf, IsStepTo};
+ghost use Rattle.explore.specs.Planning.{BringsBack, IsLineOf, IsPlan, IsScheduleOf, IsStepTo};
 ghost use Rattle.world.specs.Kind.{opening};
 ghost use Rattle.world.specs.Playing.{lists_in, program_length};
 ghost use Rattle.world.specs.World.{oral_kind};
@@ -83,6 +83,8 @@ pub fn schedule_from<W: Plays>(
 }
 
 /// The schedule by which these, round by round, make their accesses in this order in an oral campaign, before all others.
+/// Where they are those who made the accesses of a campaign of this scenario, however it was played, the schedule brings
+/// that campaign back.
 ///
 /// # Errors
 ///
@@ -94,6 +96,7 @@ pub fn schedule_names(
 ) -> Result<Scheduled, AllocError>
     ensures made { IfOk result (λ scheduled. IsScheduleOf oral_kind (opening oral_kind scenario) (lists_in names.now) scheduled) }
     ensures plan { IfOk result (λ scheduled. IsPlan oral_kind scenario (lists_in names.now) scheduled) }
+    ensures again { IfOk result (λ scheduled. BringsBack oral_kind scenario (lists_in names.now) scheduled) }
 {
     scenario.recall();
     let mut world = World::open(alloc, scenario)?;

@@ -1,7 +1,5 @@
 -- From visit to visit, to the last order or to the limit.
-use Rattle.std.proofs.Common.{◌≡◌, true, false, ◌∙◌, sym, ap, arith}
-use Rattle.std.specs.Prelude.{option_map}
-use Rattle.world.specs.Playing.{lists_in}
+use Rattle.std.proofs.Common.{◌≡◌, true, false, arith}
 use Rattle.explore.proofs.Replaying.{visits_begin, visits_go_on, visits_end, visits_few, visits_cut}
 use Rattle.explore.proofs.exploring.explore.Goals as goal
 

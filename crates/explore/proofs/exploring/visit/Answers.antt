@@ -1,5 +1,5 @@
 -- The replay of the names, its order and its outcome.
-use Rattle.std.proofs.Common.{◌+◌, ◌∙◌, suc, ap, arith, ◌≡◌, List, ℕ}
+use Rattle.std.proofs.Common.{◌+◌, ◌∙◌, suc, ap, arith, ◌≡◌}
 use Rattle.world.specs.Playing.{lists_in}
 use Rattle.world.specs.World.{oral_kind}
 use Rattle.world.specs.KindLists.{replayed}

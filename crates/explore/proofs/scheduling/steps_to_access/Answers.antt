@@ -1,5 +1,4 @@
 -- Ahead to the next request, and one tick more.
-use Rattle.std.proofs.Common.{◌≡◌, true, false}
 use Rattle.explore.proofs.Stepping.{step_taken, step_still}
 use Rattle.explore.proofs.scheduling.steps_to_access.Goals as goal
 
