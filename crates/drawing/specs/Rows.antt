@@ -22,26 +22,26 @@ abbrev pub widest : List Node → ℕ
 widest [] = 0
 widest (node ∷ nodes) = max (reach node) (widest nodes)
 
--- a line, from a place at the top of the row
-unfoldable pub line : ℕ → List ℕ → List ℕ
-line left way = codes "<path class=\"line\" d=\"M" ++ (decimal left ++ (way ++ codes "\"/>"))
+-- a way from a place at the top of the row
+unfoldable pub way : ℕ → List ℕ → List ℕ
+way left steps = codes "M" ++ (decimal left ++ steps)
 
-abbrev pub branch_line : ℕ → Branch → List ℕ
-branch_line left Tee = line left (codes " 0v24m0-12h22")
-branch_line left Corner = line left (codes " 0v12h22")
-branch_line left Bar = line left (codes " 0v24")
-branch_line left Gap = []
+abbrev pub branch_way : ℕ → Branch → List ℕ
+branch_way left Tee = way left (codes " 0v24m0-12h22")
+branch_way left Corner = way left (codes " 0v12h22")
+branch_way left Bar = way left (codes " 0v24")
+branch_way left Gap = []
 
--- those that lead to a label
-abbrev pub branch_lines : ℕ → ℕ → List ℕ → List ℕ
-branch_lines n p w = flat_map (λ i. branch_line (28 * i) (branch_at n p w i)) (range_with_len 0 (length w - 1))
+-- the ways of the lines that lead to a label
+abbrev pub branch_ways : ℕ → ℕ → List ℕ → List ℕ
+branch_ways n p w = flat_map (λ i. branch_way (28 * i) (branch_at n p w i)) (range_with_len 0 (length w - 1))
 
--- the beginning of the lines to the labels below
+-- the way of the beginning of the lines to the labels below
 unfoldable pub stub : ℕ → Extent → List ℕ
-stub left Open = line left (codes " 18v6")
+stub left Open = way left (codes " 18v6")
 stub left _ = []
 
--- a circle, a square or a diamond, with dashes where no order has a majority
+-- behind the lines a circle, a square or a diamond, with dashes where no order has a majority
 abbrev pub kind : Mark → List ℕ
 kind Honest = codes "told"
 kind Traitor = codes "word"
@@ -57,15 +57,15 @@ outline Traitor = codes " 6h6v12h-12v-12z"
 outline (Lie general took) = codes " 4l8 8l-8 8l-8-8z"
 
 unfoldable pub shape : ℕ → Mark → Outcome → List ℕ
-shape left mark outcome = codes "<path class=\"" ++ (kind mark ++ (outcome_class outcome ++ (codes "\" d=\"M" ++ (decimal left ++ (outline mark ++ codes "\"/>")))))
+shape left mark outcome = codes "\"/><path class=\"" ++ (kind mark ++ (outcome_class outcome ++ (codes "\" d=\"M" ++ (decimal left ++ (outline mark ++ codes "\"/>")))))
 
 -- what is said of a label, behind its shape
 unfoldable pub word_text : ℕ → Node → List ℕ
 word_text left node = codes "<text x=\"" ++ (decimal left ++ (codes "\" y=\"17\">" ++ (said node ++ codes "</text>")))
 
--- what a row begins with, so many below the first, and ends in
+-- what a row begins with, so many below the first, to the ways of its lines; and what it ends in
 unfoldable pub row_start : ℕ → List ℕ
-row_start place = codes "<g transform=\"translate(16 " ++ (decimal (36 + 24 * place) ++ codes ")\">")
+row_start place = codes "<g transform=\"translate(16 " ++ (decimal (36 + 24 * place) ++ codes ")\"><path class=\"line\" d=\"")
 
 unfoldable pub row_end : List ℕ
 row_end = codes "</g>\n"
@@ -73,7 +73,7 @@ row_end = codes "</g>\n"
 -- the row of a label
 abbrev pub row : ℕ → ℕ → ℕ → Node → List ℕ
 row n p place node =
-    row_start place ++ branch_lines n p node.label ++ stub (28 * (length node.label - 1)) node.extent ++ shape (28 * (length node.label - 1)) node.mark node.outcome
+    row_start place ++ branch_ways n p node.label ++ stub (28 * (length node.label - 1)) node.extent ++ shape (28 * (length node.label - 1)) node.mark node.outcome
     ++ word_text (28 * (length node.label - 1) + 14) node ++ row_end
 
 -- rows below each other, the first of them so many below the first of all

@@ -1,6 +1,6 @@
 //! The rows of a picture, each 24 units high, with 28 units between a label and one that goes on from it.
 ghost use Rattle.std.specs.Prelude.{◌≡◌, ◌≤◌, ◌<◌, ◌^◌, ◌++◌, length, string_bytes, IfOk, OnOk};
-ghost use Rattle.drawing.specs.Rows.{branch_line, branch_lines, kind, line, outcome_class, outline, reach, row, row_end, row_start, rows_from, shape, stub, widest, word_text};
+ghost use Rattle.drawing.specs.Rows.{branch_way, branch_ways, kind, outcome_class, outline, reach, row, row_end, row_start, rows_from, shape, stub, way, widest, word_text};
 
 use crate::node::{Branch, Extent, Mark, Node, Outcome};
 use crate::places::branch_at;
@@ -65,13 +65,13 @@ fn put_row(
     Ok(())
 }
 
-/// Adds what a row begins with.
+/// Adds what a row begins with, to the way of its lines.
 #[tactic(auto, unfolding(crate::specs::Rows::row_start))]
 fn put_start(out: &mut String, place: usize) -> Result<(), AllocError>
     ensures { OnOk result (string_bytes out.new ≡ string_bytes out.old ++ row_start place) }
 {
     let top = 36 + 24 * place as u128;
-    write!(out, "<g transform=\"translate(16 {top})\">")
+    write!(out, "<g transform=\"translate(16 {top})\"><path class=\"line\" d=\"")
 }
 
 /// What a row ends in.
@@ -93,10 +93,10 @@ fn put_word(out: &mut String, left: usize, node: &Node) -> Result<(), AllocError
     Ok(())
 }
 
-/// Adds the lines that lead to a label.
+/// Adds the ways of the lines that lead to a label.
 fn put_branches(out: &mut String, generals: u8, general: u8, label: &[u8]) -> Result<(), AllocError>
     requires { length label.now ≤ 13 }
-    ensures { OnOk result (string_bytes out.new ≡ string_bytes out.old ++ branch_lines generals general label.now) }
+    ensures { OnOk result (string_bytes out.new ≡ string_bytes out.old ++ branch_ways generals general label.now) }
 {
     for place in 0..label.len().saturating_sub(1) {
         put_branch(out, 28 * place, branch_at(generals, general, label, place))?;
@@ -104,38 +104,38 @@ fn put_branches(out: &mut String, generals: u8, general: u8, label: &[u8]) -> Re
     Ok(())
 }
 
-/// Adds a line between labels.
+/// Adds the way of a line between labels.
 fn put_branch(out: &mut String, left: usize, branch: Branch) -> Result<(), AllocError>
-    ensures { OnOk result (string_bytes out.new ≡ string_bytes out.old ++ branch_line left branch) }
+    ensures { OnOk result (string_bytes out.new ≡ string_bytes out.old ++ branch_way left branch) }
 {
     match branch {
-        Branch::Tee => put_line(out, left, " 0v24m0-12h22"),
-        Branch::Corner => put_line(out, left, " 0v12h22"),
-        Branch::Bar => put_line(out, left, " 0v24"),
+        Branch::Tee => put_way(out, left, " 0v24m0-12h22"),
+        Branch::Corner => put_way(out, left, " 0v12h22"),
+        Branch::Bar => put_way(out, left, " 0v24"),
         Branch::Gap => Ok(()),
     }
 }
 
-/// Adds a line that begins at the top of the row, and goes on this way.
-#[tactic(auto, unfolding(crate::specs::Rows::line))]
-fn put_line(out: &mut String, left: usize, way: &str) -> Result<(), AllocError>
-    ensures { OnOk result (string_bytes out.new ≡ string_bytes out.old ++ line left way.now) }
+/// Adds a way from a place at the top of the row.
+#[tactic(auto, unfolding(crate::specs::Rows::way))]
+fn put_way(out: &mut String, left: usize, steps: &str) -> Result<(), AllocError>
+    ensures { OnOk result (string_bytes out.new ≡ string_bytes out.old ++ way left steps.now) }
 {
-    write!(out, "<path class=\"line\" d=\"M{left}{way}\"/>")
+    write!(out, "M{left}{steps}")
 }
 
-/// Adds the beginning of the lines to the labels below.
+/// Adds the way of the beginning of the lines to the labels below.
 #[tactic(auto, unfolding(crate::specs::Rows::stub))]
 fn put_stub(out: &mut String, left: usize, extent: Extent) -> Result<(), AllocError>
     ensures { OnOk result (string_bytes out.new ≡ string_bytes out.old ++ stub left extent) }
 {
     match extent {
-        Extent::Open => put_line(out, left, " 18v6"),
+        Extent::Open => put_way(out, left, " 18v6"),
         Extent::Last | Extent::Folded(_) | Extent::Cut(_) => Ok(()),
     }
 }
 
-/// Adds the shape of a label.
+/// Ends the lines, and adds the shape of a label.
 #[tactic(auto, unfolding(crate::specs::Rows::shape))]
 fn put_shape(out: &mut String, left: usize, mark: Mark, outcome: Outcome) -> Result<(), AllocError>
     ensures { OnOk result (string_bytes out.new ≡ string_bytes out.old ++ shape left mark outcome) }
@@ -145,7 +145,7 @@ fn put_shape(out: &mut String, left: usize, mark: Mark, outcome: Outcome) -> Res
     let outline = outline(mark);
     write!(
         out,
-        "<path class=\"{kind}{class}\" d=\"M{left}{outline}\"/>"
+        "\"/><path class=\"{kind}{class}\" d=\"M{left}{outline}\"/>"
     )
 }
 

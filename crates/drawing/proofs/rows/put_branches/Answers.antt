@@ -2,7 +2,7 @@ use Rattle.std.proofs.Common.{ℕ, List, ◌*◌, ◌++◌, ◌∙◌, ap, arith
 use Rattle.std.specs.String.{string_bytes}
 use Rattle.book.proofs.Gathering.{range_text}
 use Rattle.drawing.specs.Places.{branch_at}
-use Rattle.drawing.specs.Rows.{branch_line}
+use Rattle.drawing.specs.Rows.{branch_way}
 use Rattle.drawing.proofs.rows.put_branches.Goals as goal
 
 pub overflow_mul-place : goal.overflow_mul-place
@@ -13,7 +13,7 @@ overflow_mul-place c =
 
 pub loop-place-preserved : goal.loop-place-preserved
 loop-place-preserved c =
-    let piece : ℕ → List ℕ = λ i. branch_line (28 * i) (branch_at c.args.generals c.args.general c.args.label.now i) in
+    let piece : ℕ → List ℕ = λ i. branch_way (28 * i) (branch_at c.args.generals c.args.general c.args.label.now i) in
     c.in_ok-put_branch.ensures
-    ∙ (ap (λ b. string_bytes c.loop-place.out ++ branch_line (28 * c.loop-place.place) b) c.branch_at.ensures
+    ∙ (ap (λ b. string_bytes c.loop-place.out ++ branch_way (28 * c.loop-place.place) b) c.branch_at.ensures
     ∙ (ap (λ xs. xs ++ piece c.loop-place.place) c.loop-place.invariant ∙ range_text piece c.loop-place.place (string_bytes c.args.out.now)))
