@@ -3,3 +3,4 @@ pub mod PlaceLemmas
 pub mod FactLemmas
 pub mod ShownLemmas
 pub mod RowLemmas
+pub mod SvgLaws

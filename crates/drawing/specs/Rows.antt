@@ -41,7 +41,7 @@ unfoldable pub stub : ℕ → Extent → List ℕ
 stub left Open = way left (codes " 18v6")
 stub left _ = []
 
--- behind the lines a circle, a square or a diamond, with dashes where no order has a majority
+-- a circle, a square or a diamond, with dashes where no order has a majority
 abbrev pub kind : Mark → List ℕ
 kind Honest = codes "told"
 kind Traitor = codes "word"
@@ -57,15 +57,21 @@ outline Traitor = codes " 6h6v12h-12v-12z"
 outline (Lie general took) = codes " 4l8 8l-8 8l-8-8z"
 
 unfoldable pub shape : ℕ → Mark → Outcome → List ℕ
-shape left mark outcome = codes "\"/><path class=\"" ++ (kind mark ++ (outcome_class outcome ++ (codes "\" d=\"M" ++ (decimal left ++ (outline mark ++ codes "\"/>")))))
+shape left mark outcome = codes "<path class=\"" ++ (kind mark ++ (outcome_class outcome ++ (codes "\" d=\"M" ++ (decimal left ++ (outline mark ++ codes "\"/>")))))
 
 -- what is said of a label, behind its shape
 unfoldable pub word_text : ℕ → Node → List ℕ
 word_text left node = codes "<text x=\"" ++ (decimal left ++ (codes "\" y=\"17\">" ++ (said node ++ codes "</text>")))
 
--- what a row begins with, so many below the first, to the ways of its lines; and what it ends in
+-- what a row begins with, so many below the first, and its lines; and what these end in, and it
 unfoldable pub row_start : ℕ → List ℕ
-row_start place = codes "<g transform=\"translate(16 " ++ (decimal (36 + 24 * place) ++ codes ")\"><path class=\"line\" d=\"")
+row_start place = codes "<g transform=\"translate(16 " ++ (decimal (36 + 24 * place) ++ codes ")\">")
+
+unfoldable pub lines_start : List ℕ
+lines_start = codes "<path class=\"line\" d=\""
+
+unfoldable pub lines_end : List ℕ
+lines_end = codes "\"/>"
 
 unfoldable pub row_end : List ℕ
 row_end = codes "</g>\n"
@@ -73,8 +79,8 @@ row_end = codes "</g>\n"
 -- the row of a label
 abbrev pub row : ℕ → ℕ → ℕ → Node → List ℕ
 row n p place node =
-    row_start place ++ branch_ways n p node.label ++ stub (28 * (length node.label - 1)) node.extent ++ shape (28 * (length node.label - 1)) node.mark node.outcome
-    ++ word_text (28 * (length node.label - 1) + 14) node ++ row_end
+    row_start place ++ lines_start ++ branch_ways n p node.label ++ stub (28 * (length node.label - 1)) node.extent ++ lines_end
+    ++ shape (28 * (length node.label - 1)) node.mark node.outcome ++ word_text (28 * (length node.label - 1) + 14) node ++ row_end
 
 -- rows below each other, the first of them so many below the first of all
 unfoldable pub rows_from : ℕ → ℕ → ℕ → List Node → List ℕ

@@ -14,7 +14,7 @@ mod svg;
 mod words;
 
 pub use graph::tree_graph;
-pub use laws::outcomes_are_explained;
+pub use laws::{outcomes_are_explained, pictures_are_elements};
 pub use lines::tree_text;
 pub use node::{Branch, Extent, Mark, Node, Outcome, Style, View};
 pub use shown::nodes;

@@ -1,6 +1,6 @@
 //! The rows of a picture, each 24 units high, with 28 units between a label and one that goes on from it.
 ghost use Rattle.std.specs.Prelude.{◌≡◌, ◌≤◌, ◌<◌, ◌^◌, ◌++◌, length, string_bytes, IfOk, OnOk};
-ghost use Rattle.drawing.specs.Rows.{branch_way, branch_ways, kind, outcome_class, outline, reach, row, row_end, row_start, rows_from, shape, stub, way, widest, word_text};
+ghost use Rattle.drawing.specs.Rows.{branch_way, branch_ways, kind, lines_end, lines_start, outcome_class, outline, reach, row, row_end, row_start, rows_from, shape, stub, way, widest, word_text};
 
 use crate::node::{Branch, Extent, Mark, Node, Outcome};
 use crate::places::branch_at;
@@ -57,21 +57,39 @@ fn put_row(
     let label = node.label.generals();
     let left = 28 * label.len().saturating_sub(1);
     put_start(out, place)?;
+    out.push_str(lines_start())?;
     put_branches(out, generals, general, label)?;
     put_stub(out, left, node.extent)?;
+    out.push_str(lines_end())?;
     put_shape(out, left, node.mark, node.outcome)?;
     put_word(out, left + 14, node)?;
     out.push_str(row_end())?;
     Ok(())
 }
 
-/// Adds what a row begins with, to the way of its lines.
+/// Adds what a row begins with.
 #[tactic(auto, unfolding(crate::specs::Rows::row_start))]
 fn put_start(out: &mut String, place: usize) -> Result<(), AllocError>
     ensures { OnOk result (string_bytes out.new ≡ string_bytes out.old ++ row_start place) }
 {
     let top = 36 + 24 * place as u128;
-    write!(out, "<g transform=\"translate(16 {top})\"><path class=\"line\" d=\"")
+    write!(out, "<g transform=\"translate(16 {top})\">")
+}
+
+/// What its lines begin with.
+#[tactic(auto, unfolding(crate::specs::Rows::lines_start))]
+fn lines_start() -> &'static str
+    ensures { result.now ≡ lines_start }
+{
+    "<path class=\"line\" d=\""
+}
+
+/// What its lines end in.
+#[tactic(auto, unfolding(crate::specs::Rows::lines_end))]
+fn lines_end() -> &'static str
+    ensures { result.now ≡ lines_end }
+{
+    "\"/>"
 }
 
 /// What a row ends in.
@@ -135,7 +153,7 @@ fn put_stub(out: &mut String, left: usize, extent: Extent) -> Result<(), AllocEr
     }
 }
 
-/// Ends the lines, and adds the shape of a label.
+/// Adds the shape of a label.
 #[tactic(auto, unfolding(crate::specs::Rows::shape))]
 fn put_shape(out: &mut String, left: usize, mark: Mark, outcome: Outcome) -> Result<(), AllocError>
     ensures { OnOk result (string_bytes out.new ≡ string_bytes out.old ++ shape left mark outcome) }
@@ -145,7 +163,7 @@ fn put_shape(out: &mut String, left: usize, mark: Mark, outcome: Outcome) -> Res
     let outline = outline(mark);
     write!(
         out,
-        "\"/><path class=\"{kind}{class}\" d=\"M{left}{outline}\"/>"
+        "<path class=\"{kind}{class}\" d=\"M{left}{outline}\"/>"
     )
 }
 

@@ -1,2 +1,3 @@
 pub mod EscapeLaws
 pub mod TagLaws
+pub mod TextLemmas
