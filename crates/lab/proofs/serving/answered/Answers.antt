@@ -33,7 +33,7 @@ returns-in-Ok-Trial-clause-answer g c =
     let both : Files = files g.R.Source.bytes c.args.first c.args.second in
     let is : c.in-Ok-Trial.field-0 ≡ Trial c.in-Ok-Trial.program c.in-Ok-Trial.traced = c.in-Ok-Trial.field-0-is in
     let comes : ComesTo c.args.task.now c.in_ok-bytes.bytes.items (Trial c.in-Ok-Trial.program c.in-Ok-Trial.traced) = rw (c.as_slice.ensures.value, is) at c.in-Ok-Trial.ensures.answered in
-    let asked : c.is_explained.result ≡ is_explained c.args.task.now = c.is_explained.ensures in
+    let asked : c.is_explained-reported.result ≡ is_explained c.args.task.now = c.is_explained-reported.ensures in
     IfOk-weaker c.trial_of.result _ _
     (λ text tried. answered_tried c.args.task.now both c.in_ok-bytes.bytes.items text.items c.in-Ok-Trial.program c.in-Ok-Trial.traced c.in_ok-bytes.ensures.whole comes
     (subst (λ (own : Bool). IsTrialOf both.second c.in-Ok-Trial.traced own c.in-Ok-Trial.program text.items) asked tried))
@@ -46,8 +46,8 @@ returns-in-Ok-Trial-clause-fault g c =
     let comes : ComesTo c.args.task.now c.in_ok-bytes.bytes.items (Trial c.in-Ok-Trial.program c.in-Ok-Trial.traced) = rw (c.as_slice.ensures.value, is) at c.in-Ok-Trial.ensures.answered in
     IfErr-weaker c.trial_of.result _ _
     (λ fault why.
-    prevented_later c.args.task.now both _ _ c.in_ok-bytes.bytes.items c.unwrap_or-file.result.now (Trial c.in-Ok-Trial.program c.in-Ok-Trial.traced) c.is_explained.result fault c.in_ok-bytes.ensures.whole comes
-    (second_named c.args.task.now c.second.result c.unwrap_or-file.result _ c.second.ensures c.unwrap_or-file.ensures refl) c.is_explained.ensures why)
+    prevented_later c.args.task.now both _ _ c.in_ok-bytes.bytes.items c.unwrap_or-file.result.now (Trial c.in-Ok-Trial.program c.in-Ok-Trial.traced) c.is_explained-reported.result fault c.in_ok-bytes.ensures.whole comes
+    (second_named c.args.task.now c.second.result c.unwrap_or-file.result _ c.second.ensures c.unwrap_or-file.ensures refl) c.is_explained-reported.ensures why)
     c.trial_of.ensures.fault
 
 pub returns-in-Ok-Play-clause-answer : goal.returns-in-Ok-Play-clause-answer
@@ -66,8 +66,8 @@ returns-in-Ok-Play-clause-fault g c =
     let comes : ComesTo c.args.task.now c.in_ok-bytes.bytes.items (Play c.in-Ok-Play.campaign c.in-Ok-Play.account c.in-Ok-Play.explained) = rw (c.as_slice.ensures.value, is) at c.in-Ok-Play.ensures.answered in
     IfErr-weaker c.play_by.result _ _
     (λ fault why.
-    prevented_later c.args.task.now both _ _ c.in_ok-bytes.bytes.items c.unwrap_or-file.result.now (Play c.in-Ok-Play.campaign c.in-Ok-Play.account c.in-Ok-Play.explained) c.is_explained.result fault c.in_ok-bytes.ensures.whole comes
-    (second_named c.args.task.now c.second.result c.unwrap_or-file.result _ c.second.ensures c.unwrap_or-file.ensures refl) c.is_explained.ensures why)
+    prevented_later c.args.task.now both _ _ c.in_ok-bytes.bytes.items c.unwrap_or-file.result.now (Play c.in-Ok-Play.campaign c.in-Ok-Play.account c.in-Ok-Play.explained) c.is_explained-reported.result fault c.in_ok-bytes.ensures.whole comes
+    (second_named c.args.task.now c.second.result c.unwrap_or-file.result _ c.second.ensures c.unwrap_or-file.ensures refl) c.is_explained-reported.ensures why)
     c.play_by.ensures.fault
 
 pub returns-in-Ok-Muster-clause-answer : goal.returns-in-Ok-Muster-clause-answer
@@ -110,8 +110,8 @@ returns-in-Ok-Audit-clause-fault g c =
     let comes : ComesTo c.args.task.now c.in_ok-bytes.bytes.items (Audit c.in-Ok-Audit.campaign c.in-Ok-Audit.explained) = rw (c.as_slice.ensures.value, is) at c.in-Ok-Audit.ensures.answered in
     IfErr-weaker c.audit_of.result _ _
     (λ fault why.
-    prevented_later c.args.task.now both _ _ c.in_ok-bytes.bytes.items c.unwrap_or-file.result.now (Audit c.in-Ok-Audit.campaign c.in-Ok-Audit.explained) c.is_explained.result fault c.in_ok-bytes.ensures.whole comes
-    (second_named c.args.task.now c.second.result c.unwrap_or-file.result _ c.second.ensures c.unwrap_or-file.ensures refl) c.is_explained.ensures why)
+    prevented_later c.args.task.now both _ _ c.in_ok-bytes.bytes.items c.unwrap_or-file.result.now (Audit c.in-Ok-Audit.campaign c.in-Ok-Audit.explained) c.is_explained-reported.result fault c.in_ok-bytes.ensures.whole comes
+    (second_named c.args.task.now c.second.result c.unwrap_or-file.result _ c.second.ensures c.unwrap_or-file.ensures refl) c.is_explained-reported.ensures why)
     c.audit_of.ensures.fault
 
 pub returns-clause-fault : goal.returns-clause-fault
