@@ -3,7 +3,7 @@
  *
  *     engines verdicts FILE SECONDS    in processes that may die
  *     engines times FILE ROUNDS        in this process, the engines in turn in each round
- *     engines loads FILE TIMES         in this process, for whoever counts its instructions: so many loads of each program
+ *     engines loads FILE TIMES         in this process, for whoever counts instructions: so many loads of each program
  *     engines runs FILE TIMES          the same: a load of each program, and so many runs
  *
  * FILE: 4,096 bytes of context, then of each program a mask of engines (one bit each, in the order below; the
