@@ -1,7 +1,8 @@
 //! Times campaigns whose generals act in threads, beside as many threads that do nothing.
 
+use crate::median::median;
 use crate::texts::{colluding, idle, scenario_of};
-use crate::timing::{Timed, nanoseconds, report_work};
+use crate::timing::{TIMES, nanoseconds, report_time};
 use anyhow::{Result, bail};
 use round::Scenario;
 use std::rt::Clock;
@@ -11,45 +12,60 @@ use std::thread::Threads;
 use std::time::Instant;
 use threads::{Open, muster};
 
-/// Each general in a thread of his own through all rounds.
-#[derive(Drop)]
-struct Mustering<'a, R> {
-    rt: &'a R,
-    scenario: &'a Scenario,
-}
-
-impl<R: Clock + Threads + Wait + Sync + AllocGlobal> Timed for Mustering<'_, R> {
-    fn once(&mut self) -> Result<u64> {
-        let copy = self.scenario.copy(self.rt.alloc())?;
-        let start = Instant::now(self.rt)?;
-        let chronicle = muster(self.rt, self.rt.alloc(), copy, &Open);
-        let time = nanoseconds(self.rt, start);
-        match chronicle {
-            Ok(_) => time,
-            Err(_) => bail!("a muster is refused"),
-        }
+/// How long a campaign takes once with each general in a thread of his own through all rounds, in nanoseconds.
+fn muster_once<R: Clock + Threads + Wait + Sync + AllocGlobal>(
+    rt: &R,
+    scenario: &Scenario,
+) -> Result<u64> {
+    let copy = scenario.copy(rt.alloc())?;
+    let start = Instant::now(rt)?;
+    let chronicle = muster(rt, rt.alloc(), copy, &Open);
+    let time = nanoseconds(rt, start);
+    match chronicle {
+        Ok(_) => time,
+        Err(_) => bail!("a muster is refused"),
     }
 }
 
-/// A thread for each general in each round, that does nothing: what it saves that a general stays in his.
-#[derive(Drop)]
-struct Starting<'a, R> {
-    rt: &'a R,
+/// Its median time, in nanoseconds.
+fn muster_time<R: Clock + Threads + Wait + Sync + AllocGlobal>(
+    rt: &R,
+    scenario: &Scenario,
+) -> Result<u64> {
+    let mut times = Vec::with_capacity(rt.alloc(), TIMES)?;
+    for _ in 0..TIMES {
+        times.push(muster_once(rt, scenario)?)?;
+    }
+    Ok(median(&mut times).unwrap_or(0))
+}
+
+/// How long it takes once to start a thread for each general in each round, that does nothing, in nanoseconds: what it saves
+/// that a general stays in his. How many were started is added up.
+fn start_once<R: Clock + Threads + Wait + Sync>(
+    rt: &R,
     generals: u8,
     rounds: u8,
-    /// How many were started.
-    count: u64,
+    count: &mut u64,
+) -> Result<u64> {
+    let start = Instant::now(rt)?;
+    for _ in 0..rounds {
+        *count = count.wrapping_add(started_at_once(rt, generals));
+    }
+    nanoseconds(rt, start)
 }
 
-impl<R: Clock + Threads + Wait + Sync> Timed for Starting<'_, R> {
-    fn once(&mut self) -> Result<u64> {
-        let start = Instant::now(self.rt)?;
-        for _ in 0..self.rounds {
-            let started = started_at_once(self.rt, self.generals);
-            self.count = self.count.wrapping_add(started);
-        }
-        nanoseconds(self.rt, start)
+/// Its median time, in nanoseconds.
+fn start_time<R: Clock + Threads + Wait + Sync + AllocGlobal>(
+    rt: &R,
+    generals: u8,
+    rounds: u8,
+    count: &mut u64,
+) -> Result<u64> {
+    let mut times = Vec::with_capacity(rt.alloc(), TIMES)?;
+    for _ in 0..TIMES {
+        times.push(start_once(rt, generals, rounds, count)?)?;
     }
+    Ok(median(&mut times).unwrap_or(0))
 }
 
 /// Measures campaigns of thirteen generals in five rounds, of whom four take 4,096 steps, and of seven in three, of whom two
@@ -75,11 +91,7 @@ fn report_muster<R: Print + Eprint + Clock + Threads + Wait + Sync + AllocGlobal
     what: &str,
 ) -> Result<()> {
     let scenario = scenario_of(rt.alloc(), text)?;
-    let mut work = Mustering {
-        rt,
-        scenario: &scenario,
-    };
-    report_work(rt, what, &mut work)
+    report_time(rt, what, muster_time(rt, &scenario)?)
 }
 
 fn report_threads<R: Print + Eprint + Clock + Threads + Wait + Sync + AllocGlobal>(
@@ -88,14 +100,9 @@ fn report_threads<R: Print + Eprint + Clock + Threads + Wait + Sync + AllocGloba
     rounds: u8,
     what: &str,
 ) -> Result<()> {
-    let mut work = Starting {
-        rt,
-        generals,
-        rounds,
-        count: 0,
-    };
-    report_work(rt, what, &mut work)?;
-    let count = work.count;
+    let mut count = 0;
+    let time = start_time(rt, generals, rounds, &mut count)?;
+    report_time(rt, what, time)?;
     eprintln!(rt; "{count} threads were started")?;
     Ok(())
 }

@@ -6,15 +6,12 @@ ghost use Rattle.round.specs.Told.{AreLettersOf, AreRoundsOf, WasTold};
 use crate::campaigns::played;
 use crate::median::median;
 use crate::texts::scenario_of;
-use crate::timing::{nanoseconds, report_time};
+use crate::timing::{TIMES, nanoseconds, report_time};
 use anyhow::{Result, bail};
 use round::{Letter, Round, Scenario, Told, are_letters_of, are_rounds_of};
 use std::alloc::{AllocError, Global};
 use std::rt::Clock;
 use std::time::Instant;
-
-/// How often each piece of work is timed.
-const TIMES: usize = 25;
 
 /// Thirteen loyal generals, of whom each lieutenant relays 990 labels in the last round.
 const THIRTEEN: &str = "generals = 13\nbound = 4\ncommander = 0\norder = 1\n";

@@ -7,7 +7,7 @@ use std::rt::Clock;
 use std::time::Instant;
 
 /// How often each piece of work is timed.
-const TIMES: usize = 25;
+pub const TIMES: usize = 25;
 
 /// A piece of work.
 pub trait Timed {

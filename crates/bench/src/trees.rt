@@ -1,6 +1,7 @@
 //! Times ranks of labels, and the resolution of one tree and of twelve.
 
-use crate::timing::{Timed, nanoseconds, report_work};
+use crate::median::median;
+use crate::timing::{TIMES, Timed, nanoseconds, report_time, report_work};
 use anyhow::{Result, bail};
 use combine::Rule;
 use label::{Label, Space, rank, unrank};
@@ -117,19 +118,20 @@ impl<C: Clock> Timed for Turning<'_, C> {
     }
 }
 
-/// All trees are resolved at once.
-#[derive(Drop)]
-struct Halving<'a, R> {
-    rt: &'a R,
-    trees: &'a [Tree],
+/// How long it takes once to resolve all trees at once, in nanoseconds.
+fn halve_once<R: Clock + Threads + Sync + AllocGlobal>(rt: &R, trees: &[Tree]) -> Result<u64> {
+    let start = Instant::now(rt)?;
+    let _decisions = resolve_all(rt, rt.alloc(), trees, &Rule::Majority)?;
+    nanoseconds(rt, start)
 }
 
-impl<R: Clock + Threads + Sync + AllocGlobal> Timed for Halving<'_, R> {
-    fn once(&mut self) -> Result<u64> {
-        let start = Instant::now(self.rt)?;
-        let _decisions = resolve_all(self.rt, self.rt.alloc(), self.trees, &Rule::Majority)?;
-        nanoseconds(self.rt, start)
+/// Its median time, in nanoseconds.
+fn halves_time<R: Clock + Threads + Sync + AllocGlobal>(rt: &R, trees: &[Tree]) -> Result<u64> {
+    let mut times = Vec::with_capacity(rt.alloc(), TIMES)?;
+    for _ in 0..TIMES {
+        times.push(halve_once(rt, trees)?)?;
     }
+    Ok(median(&mut times).unwrap_or(0))
 }
 
 /// Measures ranks and trees. Each call is timed by itself, and the trees differ.
@@ -144,11 +146,11 @@ pub fn report_trees<R: Print + Eprint + Clock + Threads + Sync + AllocGlobal>(
     let what = "resolve, one tree, Median: 9032 values";
     report_rule(rt, trees.as_slice(), Rule::Median, what)?;
     report_turns(rt, trees.as_slice())?;
-    let mut work = Halving {
+    report_time(
         rt,
-        trees: trees.as_slice(),
-    };
-    report_work(rt, "resolve_all: 12 trees", &mut work)
+        "resolve_all: 12 trees",
+        halves_time(rt, trees.as_slice())?,
+    )
 }
 
 fn report_ranks<R: Print + Eprint + Clock + AllocGlobal>(rt: &R, labels: &[Label]) -> Result<()> {
