@@ -3,7 +3,7 @@ use Rattle.std.proofs.Common.{ℕ, ◌≡◌, ◌∙◌, ◌<◌, ◌≤◌, ◌
 use Rattle.std.specs.Borrow.{Bor}
 use Rattle.std.specs.Prelude.{nat_le, Option, None, Some, IfSome, Ok, Err, option_map}
 use Rattle.std.specs.Str.{IsUtf8}
-use Rattle.std.proofs.lemmas.Bool.{lt-leb}
+use Rattle.std.proofs.lemmas.Bool.{leb-false, leb-true, lt-leb}
 use Rattle.std.proofs.lemmas.List.{append-nil, length-append, take-append-le}
 use Rattle.world.specs.declared.schedule.Repeat.{Repeat}
 use Rattle.trace.specs.Schedules.{schedule_told}
@@ -56,8 +56,9 @@ front_told bytes second own front schedule is begins told =
 same_front : (all front : List ℕ) → BeginsSo 1048576 all front → take 1048576 front ≡ take 1048576 all
 same_front all front begins = by_length (nat_le (length front) 1048576) refl where
   by_length : (few : Bool) → nat_le (length front) 1048576 ≡ few → take 1048576 front ≡ take 1048576 all
-  by_length true is = ap (take 1048576) (sym (begins.whole (omega (arith, is))))
-  by_length false is = let long : 1048576 ≤ length front = omega (arith, is) in rw (begins.split, take-append-le 1048576 front begins.rest long) refl
+  by_length true is = ap (take 1048576) (sym (begins.whole (leb-true (length front) 1048576 is)))
+  by_length false is = let more : 1048576 < length front = leb-false (length front) 1048576 is in
+      let long : 1048576 ≤ length front = omega (arith, more) in rw (begins.split, take-append-le 1048576 front begins.rest long) refl
 
 -- what is said of them is said of all
 front_says : (cause : Refusal) (name : Option (List ℕ)) (front all text : List ℕ) → take 1048576 front ≡ take 1048576 all → RefusesText RefusesSchedule all cause

@@ -25,7 +25,7 @@ told_named None own P is p = tt
 told_named (Some n) own P is p = subst P is p
 
 -- nothing, whatever the name
-pub nothing_said : (name : Option (List ℕ)) → IfSome name (λ n. [] ≡ [])
+pub nothing_said : (name : Option (List ℕ)) → IfSome name (λ n. ◌≡◌ {A = List ℕ} [] [])
 nothing_said None = tt
 nothing_said (Some n) = refl
 
@@ -99,7 +99,7 @@ stops_later unread true known R of bytes cause file fault are refused told = rep
 
 -- ---- of threads
 
-nothing_known : (known : Option (Option (List ℕ))) (name : Option (List ℕ)) → IfKnown known (λ all. IfSome name (λ n. [] ≡ []))
+nothing_known : (known : Option (Option (List ℕ))) (name : Option (List ℕ)) → IfKnown known (λ all. IfSome name (λ n. ◌≡◌ {A = List ℕ} [] []))
 nothing_known None name = nothing_said name
 nothing_known (Some None) name = tt
 nothing_known (Some (Some all)) name = nothing_said name

@@ -54,7 +54,7 @@ fn read_program<'a, R: Source>(
     file: &'a str,
     source: R,
 ) -> Result<Vec<u8>, Failure<'a>>
-    requires { file.entry.now ≡ first_name task.entry.now }
+    requires { file.now ≡ first_name task.now }
     ensures whole { IfOk result (λ all. AreBytes (R.bytes source) all.items) }
     ensures fault { IfErr result (Stops (R.fails source) (IsTooLong task.entry.now (R.bytes source)) file.entry.now) }
 {

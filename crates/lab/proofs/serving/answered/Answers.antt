@@ -66,8 +66,8 @@ returns-in-Ok-Play-clause-fault g c =
     let comes : ComesTo c.args.task.now c.in_ok-bytes.bytes.items (Play c.in-Ok-Play.campaign c.in-Ok-Play.account c.in-Ok-Play.explained) = rw (c.as_slice.ensures.value, is) at c.in-Ok-Play.ensures.answered in
     IfErr-weaker c.play_by.result _ _
     (λ fault why.
-    prevented_later c.args.task.now both _ _ c.in_ok-bytes.bytes.items c.unwrap_or-file.result.now (Play c.in-Ok-Play.campaign c.in-Ok-Play.account c.in-Ok-Play.explained) c.is_explained.result fault c.in_ok-bytes.ensures.whole comes
-    (second_named c.args.task.now c.second.result c.unwrap_or-file.result _ c.second.ensures c.unwrap_or-file.ensures refl) c.is_explained.ensures why)
+    prevented_later c.args.task.now both _ _ c.in_ok-bytes.bytes.items c.unwrap_or-file.result.now (Play c.in-Ok-Play.campaign c.in-Ok-Play.account c.in-Ok-Play.explained) c.is_explained-reported.result fault c.in_ok-bytes.ensures.whole comes
+    (second_named c.args.task.now c.second.result c.unwrap_or-file.result _ c.second.ensures c.unwrap_or-file.ensures refl) c.is_explained-reported.ensures why)
     c.play_by.ensures.fault
 
 pub returns-in-Ok-Muster-clause-answer : goal.returns-in-Ok-Muster-clause-answer
@@ -110,8 +110,8 @@ returns-in-Ok-Audit-clause-fault g c =
     let comes : ComesTo c.args.task.now c.in_ok-bytes.bytes.items (Audit c.in-Ok-Audit.campaign c.in-Ok-Audit.explained) = rw (c.as_slice.ensures.value, is) at c.in-Ok-Audit.ensures.answered in
     IfErr-weaker c.audit_of.result _ _
     (λ fault why.
-    prevented_later c.args.task.now both _ _ c.in_ok-bytes.bytes.items c.unwrap_or-file.result.now (Audit c.in-Ok-Audit.campaign c.in-Ok-Audit.explained) c.is_explained.result fault c.in_ok-bytes.ensures.whole comes
-    (second_named c.args.task.now c.second.result c.unwrap_or-file.result _ c.second.ensures c.unwrap_or-file.ensures refl) c.is_explained.ensures why)
+    prevented_later c.args.task.now both _ _ c.in_ok-bytes.bytes.items c.unwrap_or-file.result.now (Audit c.in-Ok-Audit.campaign c.in-Ok-Audit.explained) c.is_explained-reported.result fault c.in_ok-bytes.ensures.whole comes
+    (second_named c.args.task.now c.second.result c.unwrap_or-file.result _ c.second.ensures c.unwrap_or-file.ensures refl) c.is_explained-reported.ensures why)
     c.audit_of.ensures.fault
 
 pub returns-clause-fault : goal.returns-clause-fault

@@ -5,9 +5,9 @@ use Rattle.lab.specs.Whys.{TellsWhy}
 use Rattle.lab.proofs.WhyLemmas.{by_text, told_named}
 use Rattle.lab.proofs.whys.told.Goals as goal
 
-pub returns-in-Ok : goal.returns-in-Ok
-returns-in-Ok c =
+pub returns-in-Ok-told_by : goal.returns-in-Ok-told_by
+returns-in-Ok-told_by c =
     rw (c.with_text.ensures)
-    (by_text c.args.refusal c.args.file c.in-Ok.text _
-    (told_named (shown c.args.file.now) (string_bytes c.in-Ok-2.name) (λ (n : List ℕ). TellsWhy c.args.refusal c.args.of n c.args.bytes.now (string_bytes c.in-Ok.text))
-    c.in-Ok-2.ensures (rw c.as_str-name.ensures.value at c.in-Ok.ensures)))
+    (by_text c.args.refusal c.args.file c.in-Ok-told_by.text _
+    (told_named (shown c.args.file.now) (string_bytes c.in-Ok.name) (λ (n : List ℕ). TellsWhy c.args.refusal c.args.of n c.args.bytes.now (string_bytes c.in-Ok-told_by.text))
+    c.in-Ok.ensures (rw c.as_str.ensures.value at c.in-Ok-told_by.ensures)))
