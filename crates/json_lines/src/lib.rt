@@ -1,0 +1,14 @@
+//! What the laboratory prints, as JSON: a line is an object, whose members are the words of the line by their names.
+#![tactic(auto)]
+
+mod held;
+mod labels;
+mod lines;
+mod objects;
+mod refusals;
+mod shape;
+mod stops;
+mod told;
+
+pub use lines::answer;
+pub use refusals::refusal;
