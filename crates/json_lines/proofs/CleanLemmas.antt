@@ -100,7 +100,7 @@ abbrev NoFloat : Members → Type 0
 NoFloat ms = members_have_float ms ≡ false
 
 name_clean : (n : Word) (d : Data) (ms : Members) → has_float d ≡ false → NoFloat ms → NoFloat (with_name n d ms)
-name_clean n d ms a b = either NoFloat (bytes_eq n (codes "-")) ms (put (utf8_lossy n) d ms) b (put_clean (utf8_lossy n) d ms a b)
+name_clean n d ms a b = either NoFloat (bytes_eq n (codes "-")) ms (put n d ms) b (put_clean n d ms a b)
 
 star_clean : (n : Word) (ms : Members) (o : Option Data) → NoFloat ms → IsClean o → HaveClean (option_map (λ d. with_name n d ms) o)
 star_clean n ms None b a = tt
@@ -111,22 +111,21 @@ then_clean : (n : Word) (ms : Members) (o : Option Data) (rest : Members → Opt
 then_clean n ms None rest b a each = tt
 then_clean n ms (Some d) rest b a each = each (with_name n d ms) (name_clean n d ms a b)
 
-told_by_clean : (ks ns ws : List Word) (ms : Members) → NoFloat ms → HaveClean (told_by ks ns ws ms)
-told_by_clean [] ns [] ms b = b
-told_by_clean [] ns (w ∷ ws) ms b = tt
-told_by_clean (k ∷ ks) [] ws ms b = tt
-told_by_clean (k ∷ ks) (n ∷ ns) [] ms b = either HaveClean (bytes_eq k (codes "*")) (option_map (λ d. with_name n d ms) (places [])) None (star_clean n ms (places []) b (places_clean [])) tt
-told_by_clean (k ∷ ks) (n ∷ ns) (w ∷ ws) ms b =
-    either HaveClean (bytes_eq k (codes "*")) (option_map (λ d. with_name n d ms) (places (w ∷ ws))) (option_and_then (λ d. told_by ks ns ws (with_name n d ms)) (told k w))
-    (star_clean n ms (places (w ∷ ws)) b (places_clean (w ∷ ws)))
-    (then_clean n ms (told k w) (told_by ks ns ws) b (told_clean k w) (λ next c. told_by_clean ks ns ws next c))
+told_by_clean : (ps : List (List ℕ × List ℕ)) (ws : List Word) (ms : Members) → NoFloat ms → HaveClean (told_by ps ws ms)
+told_by_clean [] [] ms b = b
+told_by_clean [] (w ∷ ws) ms b = tt
+told_by_clean (p ∷ ps) [] ms b = either HaveClean (bytes_eq p.0 (codes "*")) (option_map (λ d. with_name p.1 d ms) (places [])) None (star_clean p.1 ms (places []) b (places_clean [])) tt
+told_by_clean (p ∷ ps) (w ∷ ws) ms b =
+    either HaveClean (bytes_eq p.0 (codes "*")) (option_map (λ d. with_name p.1 d ms) (places (w ∷ ws))) (option_and_then (λ d. told_by ps ws (with_name p.1 d ms)) (told p.0 w))
+    (star_clean p.1 ms (places (w ∷ ws)) b (places_clean (w ∷ ws)))
+    (then_clean p.1 ms (told p.0 w) (told_by ps ws) b (told_clean p.0 w) (λ next c. told_by_clean ps ws next c))
 
 mark_clean : (r : Row) (ms : Members) → NoFloat ms → NoFloat (with_mark r ms)
 mark_clean r ms b = either NoFloat (length r.mark == 0) ms (put r.mark (boolean r.holds) ms) b (put_clean r.mark (boolean r.holds) ms refl b)
 
 shaped_clean : (r : Row) (ws : List Word) → HaveClean (shaped r ws)
 unfolding shaped
-shaped_clean r ws = told_by_clean (pieces space r.words) (pieces space r.names) ws (with_mark r (called r.line)) (mark_clean r (called r.line) refl)
+shaped_clean r ws = told_by_clean r.parts ws (with_mark r (called r.line)) (mark_clean r (called r.line) refl)
 
 numbers_clean : (ns : List ℕ) → items_have_float (numbers ns) ≡ false
 numbers_clean [] = refl

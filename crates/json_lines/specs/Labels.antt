@@ -19,11 +19,11 @@ or (Some k) n = k
 -- what is known behind a line: the numbers that it tells by these names
 abbrev pub heard : Held → Members → Held
 heard h ms = record {
-    generals = or (number_at (codes "generals") ms) h.generals;
-    commander = or (number_at (codes "commander") ms) h.commander;
-    round = or (number_at (codes "round") ms) h.round;
-    general = or (number_at (codes "general") ms) h.general;
-  }
+  generals = or (number_at (codes "generals") ms) h.generals;
+  commander = or (number_at (codes "commander") ms) h.commander;
+  round = or (number_at (codes "round") ms) h.round;
+  general = or (number_at (codes "general") ms) h.general;
+}
 
 -- the limits of a campaign
 abbrev pub is_possible : Held → Bool

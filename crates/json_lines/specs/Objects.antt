@@ -10,21 +10,20 @@ use Rattle.json_lines.specs.Shapes.{Row, shapes}
 use Rattle.json_lines.specs.Told.{Word, places, told}
 
 -- a member by its name, but for a dash
-abbrev pub with_name : Word → Data → Members → Members
-with_name name d ms = if bytes_eq name (codes "-") then ms else put (utf8_lossy name) d ms
+abbrev pub with_name : List ℕ → Data → Members → Members
+with_name name d ms = if bytes_eq name (codes "-") then ms else put name d ms
 
--- the members behind these, that words tell by the words and names of a shape; none where a word does not fit
+-- the members behind these, that words tell by the words of a shape and their names; none where a word does not fit
 abbrev mutual
-  pub told_by : List Word → List Word → List Word → Members → Option Members
-  told_by [] names [] ms = Some ms
-  told_by [] names (w ∷ ws) ms = None
-  told_by (k ∷ ks) [] words ms = None
-  told_by (k ∷ ks) (n ∷ ns) words ms =
-      if bytes_eq k (codes "*") then option_map (λ d. with_name n d ms) (places words) else told_first k ks n ns words ms
+  pub told_by : List (List ℕ × List ℕ) → List Word → Members → Option Members
+  told_by [] [] ms = Some ms
+  told_by [] (w ∷ ws) ms = None
+  told_by (p ∷ ps) words ms =
+      if bytes_eq p.0 (codes "*") then option_map (λ d. with_name p.1 d ms) (places words) else told_first p ps words ms
 
-  pub told_first : Word → List Word → Word → List Word → List Word → Members → Option Members
-  told_first k ks n ns [] ms = None
-  told_first k ks n ns (w ∷ ws) ms = option_and_then (λ d. told_by ks ns ws (with_name n d ms)) (told k w)
+  pub told_first : List ℕ × List ℕ → List (List ℕ × List ℕ) → List Word → Members → Option Members
+  told_first p ps [] ms = None
+  told_first p ps (w ∷ ws) ms = option_and_then (λ d. told_by ps ws (with_name p.1 d ms)) (told p.0 w)
 
 -- the members, where all words fit
 abbrev pub found : Bool → Members → Option Members
@@ -40,7 +39,7 @@ with_mark r ms = if length r.mark == 0 then ms else put r.mark (boolean r.holds)
 
 -- the members of a line of this shape
 unfoldable pub shaped : Row → List Word → Option Members
-shaped r words = told_by (pieces space r.words) (pieces space r.names) words (with_mark r (called r.line))
+shaped r words = told_by r.parts words (with_mark r (called r.line))
 
 abbrev pub first_by : Option Members → Option Members → Option Members
 first_by None later = later

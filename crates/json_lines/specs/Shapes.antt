@@ -1,26 +1,32 @@
 -- The shapes of the lines that are printed, and what their words are called (own).
-use Rattle.std.specs.Prelude.{ℕ, Bool, true, false, List, [], ◌∷◌, codes}
+use Rattle.std.specs.Prelude.{ℕ, Bool, true, false, List, [], ◌∷◌, codes, map}
+use Rattle.text.specs.Parts.{pieces}
+use Rattle.text.specs.Stop.{space}
 use Rattle.json_lines.specs.declared.shape.Shape.{Shape}
 use Rattle.json_lines.specs.declared.shape.Within.{Within}
 use Rattle.json_lines.specs.declared.shape.Within.TheVariants.{Nothing, Round, Letter}
 
--- what such a line is called, its words and their names, what holds of it or does not, and where it stands
+-- what such a line is called, its words with their names, what holds of it or does not, and where it stands
 pub record Row : Type 0 where
   pub line : List ℕ
-  pub words : List ℕ
-  pub names : List ℕ
+  pub parts : List (List ℕ × List ℕ)
   pub mark : List ℕ
   pub holds : Bool
   pub within : Within
 
 abbrev pub row_of : Shape → Row
-row_of s = record { line = s.line.now; words = s.words.now; names = s.names.now; mark = s.mark.now; holds = s.holds; within = s.within }
+row_of s = record { line = s.line.now; parts = map (λ p. (p.0.now, p.1.now)) s.parts.now; mark = s.mark.now; holds = s.holds; within = s.within }
 
-abbrev marked : List ℕ → List ℕ → List ℕ → List ℕ → Bool → Within → Row
-marked line words names mark holds within = record { line = line; words = words; names = names; mark = mark; holds = holds; within = within }
+-- each word with its name
+abbrev pub paired : List (List ℕ) → List (List ℕ) → List (List ℕ × List ℕ)
+paired (w ∷ ws) (n ∷ ns) = (w, n) ∷ paired ws ns
+paired _ _ = []
+
+abbrev pub marked : List ℕ → List ℕ → List ℕ → List ℕ → Bool → Within → Row
+marked line words names mark holds within = record { line = line; parts = paired (pieces space words) (pieces space names); mark = mark; holds = holds; within = within }
 
 -- a line of which no more is told
-abbrev plain : List ℕ → List ℕ → List ℕ → Within → Row
+abbrev pub plain : List ℕ → List ℕ → List ℕ → Within → Row
 plain line words names within = marked line words names [] false within
 
 -- all of them; a line has the first shape that fits it

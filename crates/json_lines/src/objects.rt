@@ -1,5 +1,5 @@
 //! A line as an object.
-ghost use Rattle.std.specs.Prelude.{◌≡◌, IfOk, OnOk, map, option_map};
+ghost use Rattle.std.specs.Prelude.{◌≡◌, IfOk, IfErr, OnOk, map, option_map};
 ghost use Rattle.serde_json.specs.View.{members_view, view};
 ghost use Rattle.text.specs.Parts.{pieces};
 ghost use Rattle.text.specs.Stop.{space};
@@ -19,56 +19,45 @@ use text::piece;
 fn put_named(
     alloc: Global,
     object: &mut Map<String, Value>,
-    name: &[u8],
+    name: &str,
     value: Value,
 ) -> Result<(), AllocError>
     ensures { OnOk result (members_view object.new.entries ≡ with_name name.now (view value) (members_view object.old.entries)) }
 {
-    if name == b"-".as_slice() {
+    if name == "-" {
         return Ok(());
     }
-    let name = String::from_utf8_lossy(alloc, name)?;
-    put(object, alloc, name.as_str(), value)
+    put(object, alloc, name, value)
 }
 
-/// Puts what the words of a line tell by the words and names of a shape, and answers whether all of them fit.
+/// Puts what the words of a line tell by the words of a shape and their names, and answers whether all of them fit.
 fn put_told(
     alloc: Global,
     object: &mut Map<String, Value>,
-    words: &str,
-    names: &str,
+    parts: &[(&'static str, &'static str)],
     line: &[u8],
 ) -> Result<bool, AllocError>
     ensures { IfOk result (λ fits. found fits (members_view object.new.entries)
-        ≡ told_by (pieces space words.now) (pieces space names.now) (pieces space line.now) (members_view object.old.entries)) }
+        ≡ told_by (map (λ p. (p.0.now, p.1.now)) parts.now) (pieces space line.now) (members_view object.old.entries)) }
 {
-    let mut kinds = Some(words.as_bytes());
-    let mut called = Some(names.as_bytes());
     let mut rest = Some(line);
-    while let Some(parts) = kinds {
-        let (kind, further) = piece(SPACE, parts);
-        let Some(others) = called else {
-            return Ok(false);
-        };
-        let (name, behind) = piece(SPACE, others);
-        if kind == b"*".as_slice() {
+    for (kind, name) in parts {
+        if *kind == "*" {
             let Some(value) = places(alloc, rest)? else {
                 return Ok(false);
             };
             put_named(alloc, object, name, value)?;
             return Ok(true);
         }
-        let Some(told_yet) = rest else {
+        let Some(words) = rest else {
             return Ok(false);
         };
-        let (word, left) = piece(SPACE, told_yet);
-        let Some(value) = told(alloc, kind, word)? else {
+        let (word, further) = piece(SPACE, words);
+        let Some(value) = told(alloc, kind.as_bytes(), word)? else {
             return Ok(false);
         };
         put_named(alloc, object, name, value)?;
-        kinds = further;
-        called = behind;
-        rest = left;
+        rest = further;
     }
     Ok(rest.is_none())
 }
@@ -88,11 +77,7 @@ pub(crate) fn called(alloc: Global, line: &str) -> Result<Map<String, Value>, Al
 }
 
 /// Puts what holds of each line of a shape.
-fn put_mark(
-    alloc: Global,
-    object: &mut Map<String, Value>,
-    shape: &Shape,
-) -> Result<(), AllocError>
+fn put_mark(alloc: Global, object: &mut Map<String, Value>, shape: &Shape) -> Result<(), AllocError>
     ensures { OnOk result (members_view object.new.entries ≡ with_mark (row_of shape.now) (members_view object.old.entries)) }
 {
     if shape.mark.is_empty() {
@@ -112,7 +97,7 @@ fn shaped(
 {
     let mut object = called(alloc, shape.line)?;
     put_mark(alloc, &mut object, shape)?;
-    if put_told(alloc, &mut object, shape.words, shape.names, line)? {
+    if put_told(alloc, &mut object, shape.parts, line)? {
         Ok(Some(object))
     } else {
         Ok(None)

@@ -39,7 +39,11 @@ fn is_unsafe(code: &[u8]) -> bool
 fn class_of(code: &[u8]) -> &'static str
     ensures { result.now ≡ class_of code.now }
 {
-    if is_unsafe(code) { "unsafe" } else { "malformed" }
+    if is_unsafe(code) {
+        "unsafe"
+    } else {
+        "malformed"
+    }
 }
 
 /// The sentence of a report, if the line has one.
@@ -83,7 +87,12 @@ fn refused(alloc: Global, told: &[u8], next: &[u8]) -> Result<Map<String, Value>
     let mut object = called(alloc, "refused")?;
     put_text(alloc, &mut object, "code", code)?;
     put_text(alloc, &mut object, "place", place)?;
-    put(&mut object, alloc, "class", Value::try_from_str(alloc, class_of(code))?)?;
+    put(
+        &mut object,
+        alloc,
+        "class",
+        Value::try_from_str(alloc, class_of(code))?,
+    )?;
     put_sentence(alloc, &mut object, next)?;
     Ok(object)
 }
@@ -96,7 +105,12 @@ fn fault(alloc: Global, told: &[u8]) -> Result<Map<String, Value>, AllocError>
     let mut object = called(alloc, "fault")?;
     put_text(alloc, &mut object, "fault", fault)?;
     put_text(alloc, &mut object, "file", file)?;
-    put(&mut object, alloc, "class", Value::try_from_str(alloc, "unreadable")?)?;
+    put(
+        &mut object,
+        alloc,
+        "class",
+        Value::try_from_str(alloc, "unreadable")?,
+    )?;
     Ok(object)
 }
 

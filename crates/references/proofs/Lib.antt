@@ -1,2 +1,3 @@
-mod MemberLemmas
+mod Documents
 mod ListLemmas
+mod MemberLemmas

@@ -38,12 +38,12 @@ module _ (files : List File) where
   one_item ms i vs v l e = rw (items_view-drop vs i v l, ← e) refl
 
   -- a table for one general more
-  pub each_further : (ms : Members) (old new : List Value) (one : Value) (i : ℕ) (vs : List Value) (v : Value) (total : Items) → i < length vs → v ≡ get_or vs i v
-      → new ≡ old ++ one ∷ [] → view one ≡ table (rebuilt files (Some (view v)) ms)
-      → join (items_view old) (one_each files ms (items_view (drop i vs))) ≡ total → join (items_view new) (one_each files ms (items_view (drop (i + 1) vs))) ≡ total
+  pub each_further : (ms : Members) (old new : Items) (one : Data) (i : ℕ) (vs : List Value) (v : Value) (total : Items) → i < length vs → v ≡ get_or vs i v
+      → new ≡ join old (item one no_items) → one ≡ table (rebuilt files (Some (view v)) ms)
+      → join old (one_each files ms (items_view (drop i vs))) ≡ total → join new (one_each files ms (items_view (drop (i + 1) vs))) ≡ total
   each_further ms old new one i vs v total l e pushed seen so_far =
-      rw (pushed, items_view-push old one, join_push (items_view old) (one_each files ms (items_view (drop (i + 1) vs))) (view one), seen)
-      (ap (join (items_view old)) (sym (one_item ms i vs v l e)) ∙ so_far)
+      rw (pushed, join_join old (item one no_items) (one_each files ms (items_view (drop (i + 1) vs))), seen)
+      (ap (join old) (sym (one_item ms i vs v l e)) ∙ so_far)
 
   pub each_done : (ms : Members) (i : ℕ) (vs : List Value) (old : Items) (total : Items) → length vs ≤ i → join old (one_each files ms (items_view (drop i vs))) ≡ total → old ≡ total
   each_done ms i vs old total l so_far = sym (join_none old) ∙ rw (no_more i vs l) at so_far

@@ -26,3 +26,6 @@ pub found : (r : Option (Bor Value)) (k : List ℕ) (es : List Entry) → option
     → is_some r ≡ is_some (get_member k (members_view es))
 found None k es h = ap is_some (table_get None k es h)
 found (Some x) k es h = ap is_some (table_get (Some x) k es h)
+
+pub put_by : (old new : List Entry) (name : String Global) (key : List ℕ) (v : Value) → string_bytes name ≡ key → new ≡ insert_entry string_cmp old name v → members_view new ≡ put key (view v) (members_view old)
+put_by old new name key v named is = rw (is, ← named) (inserted old name v)

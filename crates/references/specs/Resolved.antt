@@ -80,10 +80,14 @@ abbrev pub IsPrinted : Members → Option (List ℕ) → Type 0
 IsPrinted ms None = members_have_valid_dates ms ≡ false
 IsPrinted ms (Some text) = members_depth ms ≤ 80 → parse_document text ≡ Some ms
 
--- the new text is that of the document with its traitors resolved; none where no table refers
+-- the new text is that of the document with its traitors resolved; there is none where no table refers
+abbrev pub IsPrintedIf : Bool → Members → Option (List ℕ) → Type 0
+IsPrintedIf true ms new = IsPrinted ms new
+IsPrintedIf false ms new = new ≡ None
+
 abbrev pub ResolvesList : List File → Members → Option Items → Option (List ℕ) → Type 0
 ResolvesList files ms None new = new ≡ None
-ResolvesList files ms (Some ds) new = if refers ds then IsPrinted (with_traitors files ds ms) new else new ≡ None
+ResolvesList files ms (Some ds) new = IsPrintedIf (refers ds) (with_traitors files ds ms) new
 
 abbrev pub Resolves : List File → Option Members → Option (List ℕ) → Type 0
 Resolves files None new = new ≡ None

@@ -57,7 +57,7 @@ impl Beside {
     fn text_if(&self, key: Key, name: &str) -> Option<&str>
         ensures { option_map (λ t. t.now) result ≡ text_named (self.now ∷ []) key name.now }
     {
-        if self.key.is_same(key) && self.name == name {
+        if self.key.is_same(key) && self.name.as_str() == name {
             return Some(self.text.as_str());
         }
         None

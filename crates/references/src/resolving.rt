@@ -1,9 +1,11 @@
 //! The text of a scenario in which each file stands where it is named, and each traitor has a table of his own.
 ghost use Rattle.std.specs.Prelude.{◌≡◌, IfOk, OnOk, option_map, string_bytes};
+ghost use Rattle.toml.specs.Data.{item, no_items};
 ghost use Rattle.toml.specs.Parse.{parse_document};
 ghost use Rattle.toml.specs.View.{items_view, table_view, view};
 ghost use Rattle.references.specs.Members.{join};
-ghost use Rattle.references.specs.Resolved.{IsPrinted, Resolves, element_refers, entry, one_each, program, rebuilt, refers, resolved, table_refers, tables, tables_of};
+ghost use Rattle.references.specs.Names.{traitors};
+ghost use Rattle.references.specs.Resolved.{IsPrinted, Resolves, ResolvesList, element_refers, entry, one_each, program, rebuilt, refers, resolved, table_refers, tables, tables_of};
 
 use crate::beside::{Beside, text_named};
 use crate::key::Key;
@@ -58,6 +60,13 @@ fn rebuilt(
     Ok(done)
 }
 
+/// Pushes a value.
+fn push(done: &mut Vec<Value>, value: Value) -> Result<(), AllocError>
+    ensures { OnOk result (items_view done.new.items ≡ join (items_view done.old.items) (item (view value) no_items)) }
+{
+    Ok(done.push(value)?)
+}
+
 /// Pushes a table for each of the generals who share one.
 fn push_each(
     alloc: Global,
@@ -70,7 +79,7 @@ fn push_each(
 {
     for index in 0..generals.len() {
         let one = rebuilt(alloc, files, Some(&generals[index]), table)?;
-        done.push(Value::Table(one))?;
+        push(done, Value::Table(one))?;
     }
     Ok(())
 }
@@ -86,11 +95,7 @@ fn push_tables(
 {
     match seats(table) {
         Some(generals) => push_each(alloc, done, files, generals, table),
-        None => {
-            let one = rebuilt(alloc, files, None, table)?;
-            done.push(Value::Table(one))?;
-            Ok(())
-        }
+        None => push(done, Value::Table(rebuilt(alloc, files, None, table)?)),
     }
 }
 
@@ -105,10 +110,7 @@ fn push_element(
 {
     match value.as_table() {
         Some(table) => push_tables(alloc, done, files, table),
-        None => {
-            done.push(value.clone()?)?;
-            Ok(())
-        }
+        None => push(done, value.clone()?),
     }
 }
 
@@ -156,6 +158,38 @@ fn refers(values: &[Value]) -> bool
     false
 }
 
+/// The text of a table; none where a date of it has no text.
+fn printed(alloc: Global, table: &Table) -> Result<Option<String>, AllocError>
+    ensures { IfOk result (λ new. IsPrinted (table_view table.now) (option_map string_bytes new)) }
+{
+    match toml::table_to_string(alloc, table) {
+        Ok(text) => Ok(Some(text)),
+        Err(toml::ser::Error::DateInvalid) => Ok(None),
+        Err(_) => Err(AllocError),
+    }
+}
+
+/// The text of a document's table in which the files stand where they are named, and each traitor has a table of his own; none
+/// where no table names a file or several generals.
+fn resolved_document(
+    alloc: Global,
+    files: &[Beside],
+    table: Table,
+) -> Result<Option<String>, AllocError>
+    ensures { IfOk result (λ new. ResolvesList files.now (table_view table) (traitors (table_view table)) (option_map string_bytes new)) }
+{
+    let mut table = table;
+    let Some(values) = traitors(&table) else {
+        return Ok(None);
+    };
+    if !refers(values) {
+        return Ok(None);
+    }
+    let list = resolved_list(alloc, files, values)?;
+    put(alloc, &mut table, "traitor", Value::Array(list))?;
+    printed(alloc, &table)
+}
+
 /// The text of a scenario in which the files stand where they are named, and each traitor has a table of his own; none where
 /// the text is no TOML or no table names a file or several generals: then the text itself is to be read.
 ///
@@ -165,33 +199,12 @@ fn refers(values: &[Value]) -> bool
 /// # Errors
 ///
 /// `AllocError` where memory is refused.
-pub fn resolved(
-    alloc: Global,
-    text: &str,
-    files: &[Beside],
-) -> Result<Option<String>, AllocError>
+pub fn resolved(alloc: Global, text: &str, files: &[Beside]) -> Result<Option<String>, AllocError>
     ensures { IfOk result (λ new. Resolves files.now (parse_document text.now) (option_map string_bytes new)) }
 {
-    let mut table = match toml::table_from_str(alloc, text) {
-        Ok(table) => table,
-        Err(error) if error.is_memory() => return Err(AllocError),
-        Err(_) => return Ok(None),
-    };
-    let list = match traitors(&table) {
-        Some(values) if refers(values) => resolved_list(alloc, files, values)?,
-        Some(_) | None => return Ok(None),
-    };
-    put(alloc, &mut table, "traitor", Value::Array(list))?;
-    printed(alloc, &table)
-}
-
-/// The text of a table; none where a date of it has no text.
-fn printed(alloc: Global, table: &Table) -> Result<Option<String>, AllocError>
-    ensures { IfOk result (λ new. IsPrinted (table_view table.now) (option_map string_bytes new)) }
-{
-    match toml::table_to_string(alloc, table) {
-        Ok(text) => Ok(Some(text)),
-        Err(toml::ser::Error::DateInvalid) => Ok(None),
-        Err(_) => Err(AllocError),
+    match toml::table_from_str(alloc, text) {
+        Ok(table) => resolved_document(alloc, files, table),
+        Err(error) if error.is_memory() => Err(AllocError),
+        Err(_) => Ok(None),
     }
 }

@@ -1,14 +1,11 @@
-use Rattle.std.proofs.Common.{◌≡◌}
+use Rattle.std.proofs.Common.{◌≡◌, drop, map}
 use Rattle.serde_json.specs.View.{members_view}
-use Rattle.text.specs.Parts.{left, left_len, pieces}
+use Rattle.text.specs.Parts.{left, pieces}
 use Rattle.text.specs.Stop.{space}
 use Rattle.json_lines.specs.Objects.{told_by}
 use Rattle.json_lines.proofs.objects.put_told.Given as goal
 
-abbrev pub invariant-loop-kinds : goal.invariant-loop-kinds
-invariant-loop-kinds l =
-    told_by (left space l.kinds) (left space l.called) (left space l.rest) (members_view l.object.entries)
-    ≡ told_by (pieces space l.words) (pieces space l.names) (pieces space l.line) (members_view l.fn.object.entries)
-
-abbrev pub decreases-loop-kinds : goal.decreases-loop-kinds
-decreases-loop-kinds l = left_len l.kinds
+abbrev pub invariant-loop-kind : goal.invariant-loop-kind
+invariant-loop-kind l =
+    told_by (map (λ p. (p.0.now, p.1.now)) (drop l.kind-index l.parts)) (left space l.rest) (members_view l.object.entries)
+    ≡ told_by (map (λ p. (p.0.now, p.1.now)) l.parts) (pieces space l.line) (members_view l.fn.object.entries)
