@@ -1,18 +1,19 @@
 -- No line tells a float.
 use Rattle.std.proofs.Common.{◌≡◌, ℕ, Bool, true, false, List, [], ◌∷◌, Option, None, Some, Ordering, Less, Equal, Greater, option_map, option_and_then, bytes_eq, codes, refl}
-use Rattle.std.specs.Prelude.{if◌then◌else◌, ◌||◌, nat_cmp, ◌==◌, length}
+use Rattle.std.specs.Prelude.{if◌then◌else◌, ◌||◌, ◌==◌, length}
 use Rattle.std.specs.Str.Lossy.{utf8_lossy}
 use Rattle.std.specs.Cmp.Lexicographic.{slice_cmp}
-use Rattle.std.specs.Ordering.{match_ordering}
+use Rattle.std.specs.Ordering.{match_ordering, nat_cmp}
 use Rattle.serde_json.specs.Data.{Data, null, boolean, number, unsigned, string, array, Items, no_items, item, Members, no_members, member, put}
 use Rattle.serde_json.specs.Written.{has_float, items_have_float, members_have_float}
-use Rattle.text.specs.Parts.{pieces}
-use Rattle.text.specs.Stop.{dot, space}
+use Rattle.text.specs.Parts.{before, pieces}
+use Rattle.text.specs.Stop.{dot, feed, space}
 use Rattle.json_lines.specs.declared.held.Held.{Held}
 use Rattle.json_lines.specs.declared.shape.Within.{Within}
 use Rattle.json_lines.specs.declared.shape.Within.TheVariants.{Nothing, Round, Letter}
 use Rattle.json_lines.specs.Labels.{label_of, number_at, numbers, placed, with_label, with_number}
 use Rattle.json_lines.specs.Objects.{called, first_by, first_shaped, line_object, or, shaped, told_by, unshaped, with_mark, with_name}
+use Rattle.json_lines.specs.Refusals.{behind_stop, class_of, fault_object, refusal_object, refused_object, sentence_of, with_sentence, with_text}
 use Rattle.json_lines.specs.Shapes.{Row, shapes}
 use Rattle.json_lines.specs.Told.{Word, all, joined, number_of, place_of, places, small, told, yes_no_of}
 
@@ -142,7 +143,9 @@ placed_clean : (place : Within) (h : Held) (ms : Members) → NoFloat ms → NoF
 placed_clean Nothing h ms b = b
 placed_clean Round h ms b = within_clean (codes "round") h.round ms b
 placed_clean Letter h ms b =
-    label_clean (option_and_then (label_of h) (number_at (codes "rank") ms)) _ (within_clean (codes "general") h.general _ (within_clean (codes "round") h.round ms b))
+    let inner = with_number (codes "round") h.round ms in
+    label_clean (option_and_then (label_of h) (number_at (codes "rank") ms)) (with_number (codes "general") h.general inner)
+    (within_clean (codes "general") h.general inner (within_clean (codes "round") h.round ms b))
 
 first_step : (place : Within) (h : Held) (o rest : Option Members) → HaveClean o → HaveClean rest → HaveClean (first_by (option_map (λ ms. placed place h ms) o) rest)
 first_step place h None rest a b = b
@@ -160,3 +163,39 @@ or_clean (Some found) ms a b = a
 pub line_clean : (h : Held) (line : List ℕ) → members_have_float (line_object h line) ≡ false
 unfolding line_object
 line_clean h line = or_clean (first_shaped h shapes (pieces space line)) (unshaped line) (first_shaped_clean h shapes (pieces space line)) (put_clean (codes "text") (string (utf8_lossy line)) (called (codes "text")) refl refl)
+
+-- nor does a refusal
+text_clean : (name t : List ℕ) (ms : Members) → NoFloat ms → NoFloat (with_text name t ms)
+text_clean name t ms b = put_clean name (string (utf8_lossy t)) ms refl b
+
+sentence_clean : (o : Option (List ℕ)) (ms : Members) → NoFloat ms → NoFloat (with_sentence o ms)
+sentence_clean None ms b = b
+sentence_clean (Some s) ms b = text_clean (codes "sentence") s ms b
+
+refused_clean : (told next : List ℕ) → NoFloat (refused_object told next)
+refused_clean told next =
+    let code = before space told in
+    let coded = with_text (codes "code") code (called (codes "refused")) in
+    let placed_at = with_text (codes "place") (behind_stop space told) coded in
+    let classed = put (codes "class") (string (class_of code)) placed_at in
+    let first : NoFloat coded = text_clean (codes "code") code (called (codes "refused")) refl in
+    let second : NoFloat placed_at = text_clean (codes "place") (behind_stop space told) coded first in
+    sentence_clean (sentence_of next) classed (put_clean (codes "class") (string (class_of code)) placed_at refl second)
+
+fault_clean : (told : List ℕ) → NoFloat (fault_object told)
+fault_clean told =
+    let what = with_text (codes "fault") (before space told) (called (codes "fault")) in
+    let file = with_text (codes "file") (behind_stop space told) what in
+    let first : NoFloat what = text_clean (codes "fault") (before space told) (called (codes "fault")) refl in
+    put_clean (codes "class") (string (codes "unreadable")) file refl (text_clean (codes "file") (behind_stop space told) what first)
+
+unshaped_clean : (line : List ℕ) → NoFloat (unshaped line)
+unshaped_clean line = put_clean (codes "text") (string (utf8_lossy line)) (called (codes "text")) refl refl
+
+pub refusal_clean : (text : List ℕ) → members_have_float (refusal_object text) ≡ false
+unfolding refusal_object
+refusal_clean text =
+    let line = before feed text in
+    let word = before space line in
+    either NoFloat (bytes_eq word (codes "refused")) (refused_object (behind_stop space line) (before feed (behind_stop feed text))) (if bytes_eq word (codes "fault") then fault_object (behind_stop space line) else unshaped line) (refused_clean (behind_stop space line) (before feed (behind_stop feed text)))
+    (either NoFloat (bytes_eq word (codes "fault")) (fault_object (behind_stop space line)) (unshaped line) (fault_clean (behind_stop space line)) (unshaped_clean line))

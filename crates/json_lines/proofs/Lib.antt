@@ -1,2 +1,4 @@
-mod ItemLemmas
 mod CleanLemmas
+mod ItemLemmas
+mod LabelLemmas
+mod ToldLemmas

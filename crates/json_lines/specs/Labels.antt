@@ -1,5 +1,5 @@
 -- Where a line of a chronicle stands, and the label of a row (own).
-use Rattle.std.specs.Prelude.{ℕ, ◌-◌, ◌==◌, ◌&&◌, Bool, nat_le, nat_lt, if◌then◌else◌, List, [], ◌∷◌, Option, None, Some, option_and_then, option_map, slice_get, codes}
+use Rattle.std.specs.Prelude.{ℕ, ◌-◌, ◌==◌, ◌&&◌, Bool, nat_le, nat_lt, if◌then◌else◌, List, [], ◌∷◌, Option, None, Some, option_and_then, option_map, slice_get, unwrap_or, codes}
 use Rattle.label.specs.declared.shape.Shape.{Shape}
 use Rattle.label.specs.Relay.{relay}
 use Rattle.serde_json.specs.Data.{Data, number, unsigned, array, Items, no_items, item, Members, put}
@@ -12,30 +12,30 @@ use Rattle.json_lines.specs.declared.shape.Within.TheVariants.{Nothing, Round, L
 abbrev pub number_at : List ℕ → Members → Option ℕ
 number_at name ms = option_and_then as_u64 (option_and_then as_number (get_member name ms))
 
-abbrev or : Option ℕ → ℕ → ℕ
-or None n = n
-or (Some k) n = k
-
 -- what is known behind a line: the numbers that it tells by these names
 abbrev pub heard : Held → Members → Held
 heard h ms = record {
-  generals = or (number_at (codes "generals") ms) h.generals;
-  commander = or (number_at (codes "commander") ms) h.commander;
-  round = or (number_at (codes "round") ms) h.round;
-  general = or (number_at (codes "general") ms) h.general;
+  generals = unwrap_or (number_at (codes "generals") ms) h.generals;
+  commander = unwrap_or (number_at (codes "commander") ms) h.commander;
+  round = unwrap_or (number_at (codes "round") ms) h.round;
+  general = unwrap_or (number_at (codes "general") ms) h.general;
 }
-
--- the limits of a campaign
-abbrev pub is_possible : Held → Bool
-is_possible h = nat_le 2 h.generals && (nat_le h.generals 13 && (nat_lt h.commander h.generals && (nat_lt h.general h.generals && (nat_le 1 h.round && nat_le h.round 5))))
 
 -- the relay of the general whose letter is told
 abbrev pub shape_of : Held → Shape
 shape_of h = record { generals = h.generals; commander = h.commander; general = h.general; round = h.round }
 
+-- whether there is such a relay
+abbrev pub is_possible : Held → Bool
+is_possible h = nat_le h.generals 13 && (nat_lt h.commander h.generals && (nat_lt h.general h.generals && (nat_le 1 h.round && nat_le h.round 5)))
+
 -- the label of this rank, among those that he relays
 unfoldable pub label_of : Held → ℕ → Option (List ℕ)
 label_of h rank = if is_possible h then slice_get (relay (shape_of h)) rank else None
+
+-- among those of the commander: in round 1 the empty one
+abbrev pub own_label : ℕ → ℕ → Option (List ℕ)
+own_label round rank = if round == 1 && rank == 0 then Some [] else None
 
 -- generals, as JSON
 abbrev pub numbers : List ℕ → Items

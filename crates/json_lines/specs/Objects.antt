@@ -14,16 +14,13 @@ abbrev pub with_name : List ℕ → Data → Members → Members
 with_name name d ms = if bytes_eq name (codes "-") then ms else put name d ms
 
 -- the members behind these, that words tell by the words of a shape and their names; none where a word does not fit
-abbrev mutual
-  pub told_by : List (List ℕ × List ℕ) → List Word → Members → Option Members
-  told_by [] [] ms = Some ms
-  told_by [] (w ∷ ws) ms = None
-  told_by (p ∷ ps) words ms =
-      if bytes_eq p.0 (codes "*") then option_map (λ d. with_name p.1 d ms) (places words) else told_first p ps words ms
-
-  pub told_first : List ℕ × List ℕ → List (List ℕ × List ℕ) → List Word → Members → Option Members
-  told_first p ps [] ms = None
-  told_first p ps (w ∷ ws) ms = option_and_then (λ d. told_by ps ws (with_name p.1 d ms)) (told p.0 w)
+abbrev pub told_by : List (List ℕ × List ℕ) → List Word → Members → Option Members
+told_by [] [] ms = Some ms
+told_by [] (w ∷ ws) ms = None
+told_by (p ∷ ps) [] ms = if bytes_eq p.0 (codes "*") then option_map (λ d. with_name p.1 d ms) (places []) else None
+told_by (p ∷ ps) (w ∷ ws) ms =
+    if bytes_eq p.0 (codes "*") then option_map (λ d. with_name p.1 d ms) (places (w ∷ ws))
+    else option_and_then (λ d. told_by ps ws (with_name p.1 d ms)) (told p.0 w)
 
 -- the members, where all words fit
 abbrev pub found : Bool → Members → Option Members

@@ -36,9 +36,13 @@ abbrev pub all : (Word → Option Data) → List Word → Option Items
 all tells [] = Some no_items
 all tells (w ∷ ws) = option_and_then (λ d. option_map (item d) (all tells ws)) (tells w)
 
--- numbers joined by dots, or a dash for none
+-- numbers joined by dots
+abbrev pub numbers_of : Word → Option Data
+numbers_of word = option_map array (all number_of (pieces dot word))
+
+-- the same, or a dash for none
 abbrev pub joined : Word → Option Data
-joined word = if bytes_eq word (codes "-") then Some (array no_items) else option_map array (all number_of (pieces dot word))
+joined word = if bytes_eq word (codes "-") then Some (array no_items) else numbers_of word
 
 -- numbers, or dashes for nothing
 abbrev pub places : List Word → Option Data

@@ -1,24 +1,43 @@
 //! The label of a row.
-ghost use Rattle.std.specs.Prelude.{◌≡◌, IfOk, OnOk, option_map};
+ghost use Rattle.std.specs.Prelude.{◌≡◌, ◌==◌, false, true, IfOk, OnOk, slice_get};
+ghost use Rattle.label.specs.Relay.{IsShape, relay};
 ghost use Rattle.serde_json.specs.View.{items_view, members_view};
-ghost use Rattle.json_lines.specs.Labels.{is_possible, label_of, numbers, placed, with_label, with_number};
+ghost use Rattle.json_lines.specs.Labels.{is_possible, label_of, numbers, own_label, placed, shape_of, with_label};
 
 use crate::held::{Held, number_at};
 use crate::shape::Within;
-use label::{Label, Space, unrank};
+use label::{Label, Space, count, unrank};
 use serde_json::{Map, Value, put};
 use std::alloc::{AllocError, Global};
 
-/// Whether there is such a campaign, round and general.
+/// Whether there is such a relay.
 fn is_possible(held: Held) -> bool
-    ensures { result ≡ is_possible held }
+    ensures same { result ≡ is_possible held }
+    ensures within { result ≡ true → IsShape (shape_of held) }
 {
-    2 <= held.generals
-        && held.generals <= 13
+    held.generals <= 13
         && held.commander < held.generals
         && held.general < held.generals
         && 1 <= held.round
         && held.round <= 5
+}
+
+/// The label of this rank, among those that a lieutenant relays.
+fn relayed(held: Held, rank: u64) -> Option<Label>
+    requires shape { IsShape (shape_of held) }
+    requires lieutenant { (held.general == held.commander) ≡ false }
+    ensures { result ≡ slice_get (relay (shape_of held)) rank }
+{
+    let space = Space {
+        generals: held.generals as u8,
+        commander: held.commander as u8,
+        general: held.general as u8,
+    };
+    let size = (held.round - 1) as u8;
+    if rank >= u64::from(count(space, size)) {
+        return None;
+    }
+    unrank(space, size, rank as u32).ok()
 }
 
 /// Generals as a list.
@@ -26,13 +45,46 @@ fn numbers(alloc: Global, generals: &[u8]) -> Result<Vec<Value>, AllocError>
     ensures { IfOk result (λ all. items_view all.items ≡ numbers generals.now) }
 {
     let mut all = Vec::new(alloc);
-    for general in generals {
-        all.push(Value::from(*general))?;
+    for index in 0..generals.len() {
+        all.push(Value::from(generals[index]))?;
     }
     Ok(all)
 }
 
+/// Puts a label, if there is one.
+fn put_relayed(
+    alloc: Global,
+    object: &mut Map<String, Value>,
+    label: Option<Label>,
+) -> Result<(), AllocError>
+    ensures { OnOk result (members_view object.new.entries ≡ with_label label (members_view object.old.entries)) }
+{
+    match label {
+        Some(label) => {
+            let generals = numbers(alloc, label.generals())?;
+            put(object, alloc, "label", Value::Array(generals))
+        }
+        None => Ok(()),
+    }
+}
+
+/// Puts the label of this rank, if it is the commander's of round 1.
+fn put_own(
+    alloc: Global,
+    object: &mut Map<String, Value>,
+    round: u64,
+    rank: u64,
+) -> Result<(), AllocError>
+    ensures { OnOk result (members_view object.new.entries ≡ with_label (own_label round rank) (members_view object.old.entries)) }
+{
+    if round == 1 && rank == 0 {
+        return put(object, alloc, "label", Value::Array(Vec::new(alloc)));
+    }
+    Ok(())
+}
+
 /// Puts the label of this rank, among those that the general relays, where there is one.
+#[tactic(auto, unfolding(crate::specs::Labels::label_of), using(crate::proofs::LabelLemmas::own_relayed))]
 fn put_label(
     alloc: Global,
     object: &mut Map<String, Value>,
@@ -45,26 +97,9 @@ fn put_label(
         return Ok(());
     }
     if held.general == held.commander {
-        if held.round == 1 && rank == 0 {
-            return put(object, alloc, "label", Value::Array(Vec::new(alloc)));
-        }
-        return Ok(());
+        return put_own(alloc, object, held.round, rank);
     }
-    let space = Space {
-        generals: held.generals as u8,
-        commander: held.commander as u8,
-        general: held.general as u8,
-    };
-    let Ok(rank) = u32::try_from(rank) else {
-        return Ok(());
-    };
-    match unrank(space, (held.round - 1) as u8, rank) {
-        Ok(label) => {
-            let generals = numbers(alloc, label.generals())?;
-            put(object, alloc, "label", Value::Array(generals))
-        }
-        Err(_) => Ok(()),
-    }
+    put_relayed(alloc, object, relayed(held, rank))
 }
 
 /// Puts where a line stands.

@@ -1,9 +1,11 @@
 //! What a word of a line tells.
-ghost use Rattle.std.specs.Prelude.{◌≡◌, IfOk, IfSome, option_map};
-ghost use Rattle.serde_json.specs.View.{items_view, view};
-ghost use Rattle.text.specs.Parts.{left, pieces};
-ghost use Rattle.text.specs.Stop.{dot, space};
-ghost use Rattle.json_lines.specs.Told.{joined, number_of, place_of, places, small, told, yes_no_of};
+ghost use Rattle.std.specs.Prelude.{◌≡◌, IfOk, option_map};
+ghost use Rattle.std.specs.Str.Lossy.{utf8_lossy};
+ghost use Rattle.serde_json.specs.Data.{string};
+ghost use Rattle.serde_json.specs.View.{view};
+ghost use Rattle.text.specs.Parts.{left};
+ghost use Rattle.text.specs.Stop.{space};
+ghost use Rattle.json_lines.specs.Told.{joined, number_of, numbers_of, place_of, places, small, told, yes_no_of};
 
 use crate::stops::{DOT, SPACE};
 use serde_json::Value;
@@ -51,14 +53,11 @@ fn yes_no(word: &[u8]) -> Option<Value>
     }
 }
 
-/// Numbers joined by dots, or a dash for none.
-fn joined(alloc: Global, word: &[u8]) -> Result<Option<Value>, AllocError>
-    ensures { IfOk result (λ o. option_map view o ≡ joined word.now) }
+/// Numbers joined by dots.
+fn numbers(alloc: Global, word: &[u8]) -> Result<Option<Value>, AllocError>
+    ensures { IfOk result (λ o. option_map view o ≡ numbers_of word.now) }
 {
     let mut items = Vec::new(alloc);
-    if word == b"-".as_slice() {
-        return Ok(Some(Value::Array(items)));
-    }
     let mut rest = Some(word);
     while let Some(numbers) = rest {
         let (first, further) = piece(DOT, numbers);
@@ -69,6 +68,16 @@ fn joined(alloc: Global, word: &[u8]) -> Result<Option<Value>, AllocError>
         rest = further;
     }
     Ok(Some(Value::Array(items)))
+}
+
+/// Numbers joined by dots, or a dash for none.
+fn joined(alloc: Global, word: &[u8]) -> Result<Option<Value>, AllocError>
+    ensures { IfOk result (λ o. option_map view o ≡ joined word.now) }
+{
+    if word == b"-".as_slice() {
+        return Ok(Some(Value::Array(Vec::new(alloc))));
+    }
+    numbers(alloc, word)
 }
 
 /// All words that are left of a line: numbers, or dashes for nothing.
