@@ -1,8 +1,8 @@
 -- Where a line of a chronicle stands, and the label of a row (own).
-use Rattle.std.specs.Prelude.{ℕ, ◌-◌, ◌==◌, ◌&&◌, Bool, nat_le, nat_lt, if◌then◌else◌, List, [], ◌∷◌, Option, None, Some, option_and_then, option_map, slice_get, unwrap_or, codes}
+use Rattle.std.specs.Prelude.{ℕ, ◌==◌, ◌&&◌, Bool, nat_le, nat_lt, if◌then◌else◌, List, [], ◌∷◌, Option, None, Some, option_and_then, slice_get, unwrap_or, codes}
 use Rattle.label.specs.declared.shape.Shape.{Shape}
 use Rattle.label.specs.Relay.{relay}
-use Rattle.serde_json.specs.Data.{Data, number, unsigned, array, Items, no_items, item, Members, put}
+use Rattle.serde_json.specs.Data.{number, unsigned, array, Items, no_items, item, Members, put}
 use Rattle.serde_json.specs.Find.{get_member, as_number, as_u64}
 use Rattle.json_lines.specs.declared.held.Held.{Held}
 use Rattle.json_lines.specs.declared.shape.Within.{Within}

@@ -1,5 +1,5 @@
 -- What is said where a task is not done, as an object (own).
-use Rattle.std.specs.Prelude.{ℕ, ◌==◌, ◌||◌, Bool, if◌then◌else◌, List, [], drop, take, slice_index, Option, None, Some, bytes_eq, codes}
+use Rattle.std.specs.Prelude.{ℕ, ◌==◌, ◌||◌, Bool, if◌then◌else◌, List, drop, take, slice_index, Option, None, Some, bytes_eq, codes}
 use Rattle.std.specs.Str.Lossy.{utf8_lossy}
 use Rattle.serde_json.specs.Data.{string, Members, put}
 use Rattle.text.specs.declared.stop.Stop.{Stop}

@@ -1,5 +1,5 @@
 -- What a word of a line tells, as JSON (RFC 8259).
-use Rattle.std.specs.Prelude.{ℕ, suc, ◌^◌, nat_lt, true, false, if◌then◌else◌, List, [], ◌∷◌, Option, None, Some, option_map, option_and_then, bytes_eq, codes}
+use Rattle.std.specs.Prelude.{ℕ, ◌^◌, nat_lt, true, false, if◌then◌else◌, List, [], ◌∷◌, Option, None, Some, option_map, option_and_then, bytes_eq, codes}
 use Rattle.std.specs.Str.Lossy.{utf8_lossy}
 use Rattle.serde_json.specs.Data.{Data, null, boolean, number, unsigned, string, array, Items, no_items, item}
 use Rattle.text.specs.Number.{decimal_of}

@@ -1,11 +1,11 @@
 -- The map of a table beside its members.
-use Rattle.std.proofs.Common.{◌≡◌, ℕ, List, [], ◌∷◌, ◌∙◌, String, Global, BTreeMap, Ordering, Less, Equal, Greater, Option, None, Some, IsSome, Bor, option_map, option_and_then, string_bytes, string_cmp, nat_cmp, refl, ap}
+use Rattle.std.proofs.Common.{◌≡◌, ℕ, List, [], ◌∷◌, ◌∙◌, String, Global, Ordering, Less, Equal, Greater, Option, None, Some, Bor, option_map, string_bytes, string_cmp, nat_cmp, refl, ap}
 use Rattle.std.specs.Prelude.{is_some}
 use Rattle.std.specs.BTreeMap.{insert_entry, is_at}
 use Rattle.std.specs.Cmp.Lexicographic.{slice_cmp}
 use Rattle.std.specs.Map.{lookup}
 use Rattle.std.specs.Ordering.{match_ordering}
-use Rattle.toml.specs.Data.{Data, get_member}
+use Rattle.toml.specs.Data.{get_member}
 use Rattle.toml.specs.View.{members_view, view}
 use Rattle.toml.specs.declared.value.Value.{Value}
 use Rattle.toml.proofs.Views.{Entry, table_get}

@@ -1,5 +1,5 @@
 -- A scenario in which the files stand where they are named, and each traitor has a table of his own (own).
-use Rattle.std.specs.Prelude.{◌≡◌, ◌≤◌, ◌⊎◌, ℕ, Bool, true, false, ◌||◌, if◌then◌else◌, List, Option, None, Some, is_some, option_map, option_and_then, codes, bytes_eq}
+use Rattle.std.specs.Prelude.{◌≡◌, ◌≤◌, ℕ, Bool, true, false, ◌||◌, if◌then◌else◌, List, Option, None, Some, is_some, option_map, option_and_then, codes, bytes_eq}
 use Rattle.toml.specs.Data.{Data, string, array, table, Items, no_items, item, Members, no_members, member, as_table, get_member, members_depth, members_have_valid_dates}
 use Rattle.toml.specs.Parse.{parse_document}
 use Rattle.references.specs.declared.key.Key.{Key}

@@ -1,4 +1,3 @@
-use Rattle.std.proofs.Common.{◌∙◌}
 use Rattle.toml.proofs.Views.{table_get}
 use Rattle.references.proofs.tables.list_at.Goals as goal
 
