@@ -52,12 +52,7 @@ pub fn explain_one(
 }
 
 /// The lines of this general, and none where he is no lieutenant.
-fn part(
-    alloc: Global,
-    table: &Table,
-    traitors: &[u8],
-    general: u8,
-) -> Result<String, AllocError>
+fn part(alloc: Global, table: &Table, traitors: &[u8], general: u8) -> Result<String, AllocError>
     ensures { IfOk result (λ text. string_bytes text ≡ part_of table.now traitors.now general) }
 {
     let mut lines = String::new(alloc);

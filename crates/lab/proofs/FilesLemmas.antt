@@ -94,23 +94,25 @@ answered_audited (Audit scenario chronicle explained) files first text s why are
     (first, are, (second.0, second.1, (s, comes.0, subst (λ (e : Option Lieutenants). IsAudited s e (unwrap_or second.0 []) text) comes.1 same)))
 
 -- an answer in the second file's setting
-pub answered_tried : (task : Task) (files : Files) (first text : List ℕ) (program : List Insn) → AreBytes files.first first
-    → ComesTo task first (answer.Trial program) → IsTrialOf files.second (is_explained task) program text → IsAnswer task files text
-answered_tried (Check file notation None explained traced) files first text program are comes tried = absurd comes
-answered_tried (Check file notation (Some context) true traced) files first text program are comes (bytes, known, (lines, tried, behind)) =
+pub answered_tried : (task : Task) (files : Files) (first text : List ℕ) (program : List Insn) (steps : Bool) → AreBytes files.first first
+    → ComesTo task first (answer.Trial program steps) → IsTrialOf files.second steps (is_explained task) program text → IsAnswer task files text
+answered_tried (Check file notation None explained traced) files first text program steps are comes tried = absurd comes
+answered_tried (Check file notation (Some context) true traced) files first text program steps are comes (bytes, known, (lines, tried, behind)) =
     let second = second_bytes files.second bytes known in
-    (first, are, (second.0, second.1, (program, comes.0, comes.1, comes.2, (lines, subst (λ (own : List ℕ). IsTriedBy own program lines) second.2 tried, behind))))
-answered_tried (Check file notation (Some context) false traced) files first text program are comes (bytes, known, (lines, tried, behind)) =
+    let own : IsTriedBy traced bytes program lines = subst (λ (t : Bool). IsTriedBy t bytes program lines) comes.3 tried in
+    (first, are, (second.0, second.1, (program, comes.0, comes.1, comes.2, (lines, subst (λ (b : List ℕ). IsTriedBy traced b program lines) second.2 own, behind))))
+answered_tried (Check file notation (Some context) false traced) files first text program steps are comes (bytes, known, (lines, tried, behind)) =
     let second = second_bytes files.second bytes known in
-    (first, are, (second.0, second.1, (program, comes.0, comes.1, comes.2, (lines, subst (λ (own : List ℕ). IsTriedBy own program lines) second.2 tried, behind))))
-answered_tried (Assemble file spelling target explained) files first text program are comes tried = absurd comes
-answered_tried (Disassemble file notation units explained) files first text program are comes tried = absurd comes
-answered_tried (Book file) files first text program are comes tried = absurd comes
-answered_tried (ExplainDecisions file traitors) files first text program are comes tried = absurd comes
-answered_tried (Form n m c filling) files first text program are comes tried = absurd comes
-answered_tried (Play scenario listing account explained) files first text program are comes tried = absurd comes
-answered_tried (Muster scenario explained) files first text program are comes tried = absurd comes
-answered_tried (Audit scenario chronicle explained) files first text program are comes tried = absurd comes
+    let own : IsTriedBy traced bytes program lines = subst (λ (t : Bool). IsTriedBy t bytes program lines) comes.3 tried in
+    (first, are, (second.0, second.1, (program, comes.0, comes.1, comes.2, (lines, subst (λ (b : List ℕ). IsTriedBy traced b program lines) second.2 own, behind))))
+answered_tried (Assemble file spelling target explained) files first text program steps are comes tried = absurd comes
+answered_tried (Disassemble file notation units explained) files first text program steps are comes tried = absurd comes
+answered_tried (Book file) files first text program steps are comes tried = absurd comes
+answered_tried (ExplainDecisions file traitors) files first text program steps are comes tried = absurd comes
+answered_tried (Form n m c filling) files first text program steps are comes tried = absurd comes
+answered_tried (Play scenario listing account explained) files first text program steps are comes tried = absurd comes
+answered_tried (Muster scenario explained) files first text program steps are comes tried = absurd comes
+answered_tried (Audit scenario chronicle explained) files first text program steps are comes tried = absurd comes
 
 -- why a task has no answer behind a first file with which it goes on
 pub prevented_later : (task : Task) (files : Files) (unread second_unread : Type 0) (first name : List ℕ) (more : FirstAnswer) (explained : Bool) (fault : Failure)

@@ -67,10 +67,12 @@ IsPlayedBy known c account explained text = (schedule : List (List Repeat)) × I
 abbrev pub IsAuditOf : Option (Option (List ℕ)) → Campaign → Option Lieutenants → List ℕ → Type 0
 IsAuditOf known c explained text = (bytes : List ℕ) × AreSecondBytes known bytes × IsAudited c explained bytes text
 
--- the lines are those of the program's trial in the second file's setting, and behind them its explanation, if it is asked for
-abbrev pub IsTrialOf : Option (Option (List ℕ)) → Bool → List Insn → List ℕ → Type 0
-IsTrialOf known explained program text =
-    (bytes : List ℕ) × AreSecondBytes known bytes × ((lines : List ℕ) × IsTriedBy bytes program lines × (text ≡ lines ++ behind_lines explained program))
+-- the lines are those of the program's trial in the second file's setting, and behind them its steps and its explanation, where they are
+-- asked for
+abbrev pub IsTrialOf : Option (Option (List ℕ)) → Bool → Bool → List Insn → List ℕ → Type 0
+IsTrialOf known traced explained program text =
+    (bytes : List ℕ) × AreSecondBytes known bytes
+    × ((lines : List ℕ) × IsTriedBy traced bytes program lines × (text ≡ lines ++ behind_lines explained program))
 
 -- the task has an answer on the files, with which it stands so
 abbrev pub HasAnswer : (List ℕ → Type 0) → Task → Files → Type 0
@@ -111,7 +113,7 @@ IsUnmustered refusal = (refusal ≢ Memory) × RefusesMuster refusal
 
 -- behind a first file with which a task goes on so, it refuses so
 abbrev pub IsRefusedLater : FirstAnswer → Option (Option (List ℕ)) → Refusal → Type 0
-IsRefusedLater (answer.Trial program) known refusal = IsSettingRefused known refusal
+IsRefusedLater (answer.Trial program told) known refusal = IsSettingRefused known refusal
 IsRefusedLater (answer.Play c account explained) known refusal = IsScheduleRefused known refusal
 IsRefusedLater (answer.Muster s explained) known refusal = IsUnmustered refusal
 IsRefusedLater (answer.Audit c explained) known refusal = IsChronicleRefused c known refusal

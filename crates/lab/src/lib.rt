@@ -18,6 +18,7 @@ mod reading;
 mod refusal;
 mod seeming;
 mod serving;
+mod steps;
 mod texts;
 mod trying;
 mod whys;

@@ -4,7 +4,7 @@ ghost use Rattle.trace.specs.Schedules.{schedule_told};
 ghost use Rattle.trace.specs.SignedText.{signed_text};
 ghost use Rattle.trace.specs.Text.{chronicle_text};
 ghost use Rattle.retold.specs.Retold.{IsWhole};
-ghost use Rattle.lab.specs.Campaigns.{IsAccount, IsFollowed, IsOralPlayed, IsPlayed, IsSignedPlayed, TellsCampaign, is_plain};
+ghost use Rattle.lab.specs.Campaigns.{IsAccount, IsFollowed, IsOralPlayed, IsPlayed, IsSignedPlayed, TellsCampaign, asked, is_plain};
 ghost use Rattle.streams.specs.Reading.{IsFront, MayBeginText};
 ghost use Rattle.lab.specs.Refusals.{RefusesAsked, RefusesCampaign, RefusesScenario, RefusesSchedule, RefusesText};
 ghost use Rattle.lab.specs.declared.refusal.Refusal.TheVariants.{NotText, Trace};
@@ -200,16 +200,24 @@ pub(crate) fn with_decisions(
     requires { IsWhole chronicle.now }
     ensures { IfOk result (λ text. IsFollowed explained chronicle.now front.items text.items) }
 {
-    let general = match explained {
-        None => return Ok(front),
-        Some(Lieutenants::All) => None,
-        Some(Lieutenants::One(general)) => Some(general),
+    let Some(who) = explained else {
+        return Ok(front);
     };
-    let lines = retold::explained(alloc, chronicle, general)?;
+    let lines = retold::explained(alloc, chronicle, asked(who))?;
     let mut text = front;
     text.push(b'\n')?;
     text.extend_from_slice(lines.as_bytes())?;
     Ok(text)
+}
+
+/// The general who is asked for; none where all are.
+fn asked(who: Lieutenants) -> Option<u8>
+    ensures { result ≡ asked who }
+{
+    match who {
+        Lieutenants::All => None,
+        Lieutenants::One(general) => Some(general),
+    }
 }
 
 /// The text of a signed one's.

@@ -113,7 +113,9 @@ where
     match answer(alloc, task, bytes.as_slice()) {
         Ok(FirstAnswer::Text(text)) => Ok(text.into_bytes()),
         Ok(FirstAnswer::Bytes(bytes)) => Ok(bytes),
-        Ok(FirstAnswer::Trial(program)) => trial_of(alloc, &program, reported, file, second),
+        Ok(FirstAnswer::Trial(program, traced)) => {
+            trial_of(alloc, &program, traced, reported, file, second)
+        }
         Ok(FirstAnswer::Play(campaign, account, explained)) => {
             play_by(alloc, campaign, account, explained, reported, file, second)
         }
@@ -137,20 +139,21 @@ fn mustered_text<'a>(text: Result<Vec<u8>, Refusal>, file: &'a str) -> Result<Ve
     }
 }
 
-/// The lines of the program's trial in the setting of the second file, with its explanation or without it.
+/// The lines of the program's trial in the setting of the second file, with its steps and its explanation or without them.
 fn trial_of<'a, R: Source>(
     alloc: Global,
     program: &Verified,
+    traced: bool,
     explained: bool,
     file: &'a str,
     second: Option<R>,
 ) -> Result<Vec<u8>, Failure<'a>>
-    ensures tried { IfOk result (λ text. IsTrialOf (option_map R.bytes second) explained program.now text.items) }
+    ensures tried { IfOk result (λ text. IsTrialOf (option_map R.bytes second) traced explained program.now text.items) }
     ensures fault { IfErr result
-        (Stops (IsSomeAnd second R.fails) (IsToldLater explained file.entry.now (option_map R.bytes second) (Trial program.now)) file.entry.now) }
+        (Stops (IsSomeAnd second R.fails) (IsToldLater explained file.entry.now (option_map R.bytes second) (Trial program.now traced)) file.entry.now) }
 {
     let bytes = read_second(alloc, file, second)?;
-    match tried_by(alloc, program, bytes.as_slice()) {
+    match tried_by(alloc, program, traced, bytes.as_slice()) {
         Ok(lines) => match with_explanation(alloc, lines, explained, program.program()) {
             Ok(text) => Ok(text.into_bytes()),
             Err(_) => Err(Failure::Memory),

@@ -54,9 +54,9 @@ index_of : (n c p : ℕ) → c < n → p < n → p ≢ c → (i : ℕ) × IsInde
 index_of n c p lc l ne = elim (cases_order p c) [
   | inl same ↦ absurd (ne same)
   | inr apart ↦ elim apart [
-      | inl low ↦ (p, record { within = omega arith; there = below c p low; before = lower c p low })
-      | inr high ↦ (p - 1, record { within = omega arith; there = (let e = above c (p - 1) (omega arith) in omega arith); before = upper c p high })
-    ]
+    | inl low ↦ (p, record { within = omega arith; there = below c p low; before = lower c p low })
+    | inr high ↦ (p - 1, record { within = omega arith; there = (let e = above c (p - 1) (omega arith) in omega arith); before = upper c p high })
+  ]
 ]
 
 module _ (s : Scenario) (before : List (List Letter)) (h : ToldSeen) (inside : IsScenario s) (told : WasTold s before h) where

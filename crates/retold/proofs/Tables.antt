@@ -65,9 +65,9 @@ retold c h text inside whole told written read =
       commander = is.commander;
       rule = is.rule;
       decisions = decided c (decisions_of read.0)
-      (same_decisions read.0 (messages c.letters) c.scenario.generals c.scenario.bound c.scenario.commander c.scenario.rule is.generals is.commander
-      (λ p l ne. is.decides p l ne ∙ decides_same (combined_by c.scenario.rule) c.scenario.generals c.scenario.bound c.scenario.commander p (heard h.trees) (messages c.letters) inside.commander l ne same))
-      whole.decisions;
+          (same_decisions read.0 (messages c.letters) c.scenario.generals c.scenario.bound c.scenario.commander c.scenario.rule is.generals is.commander
+          (λ p l ne. is.decides p l ne ∙ decides_same (combined_by c.scenario.rule) c.scenario.generals c.scenario.bound c.scenario.commander p (heard h.trees) (messages c.letters) inside.commander l ne same))
+          whole.decisions;
     }
 
 -- the same of what writing it has given, by what is known of its arguments

@@ -37,7 +37,11 @@ pub record IsRetold (c : Chronicle) (text : List ℕ) : Type 0 where
 abbrev pub traitors_of : Scenario → List ℕ
 traitors_of s = filter (is_traitor s) (generals s.generals)
 
--- the lines are those of `book` on that table, where the scenario's traitors are named: of all lieutenants, or of one general
+-- the lines are those of `book` on a table's text, where these are named as traitors: of all lieutenants, or of one general
+abbrev pub ExplainsAsked : List ℕ → List ℕ → Option ℕ → List ℕ → Type 0
+ExplainsAsked text traitors None lines = ExplainsTable text traitors lines
+ExplainsAsked text traitors (Some g) lines = ExplainsOne text traitors g lines
+
+-- those on the campaign's table, where the scenario's traitors are named
 abbrev pub Explains : Chronicle → Option ℕ → List ℕ → Type 0
-Explains c None lines = ExplainsTable (table_of c) (traitors_of c.scenario) lines
-Explains c (Some g) lines = ExplainsOne (table_of c) (traitors_of c.scenario) g lines
+Explains c general lines = ExplainsAsked (table_of c) (traitors_of c.scenario) general lines

@@ -1,8 +1,8 @@
 //! How the decisions of a campaign come about.
-ghost use Rattle.std.specs.Prelude.{◌≡◌, IfOk, filter, string_bytes};
-ghost use Rattle.label.specs.Labels.{generals};
-ghost use Rattle.retold.specs.Retold.{Explains, IsWhole, traitors_of};
-ghost use Rattle.round.specs.Scenario.{is_traitor};
+ghost use Rattle.std.specs.Prelude.{◌≡◌, ◌≢◌, IfOk, IfErr, Err, string_bytes};
+ghost use Rattle.book.specs.Grammar.{table_told};
+ghost use Rattle.book.specs.declared.fault.TableError.TheVariants.{Memory};
+ghost use Rattle.retold.specs.Retold.{Explains, ExplainsAsked, IsWhole, traitors_of};
 
 use crate::retelling::table;
 use book::TableError;
@@ -26,15 +26,27 @@ pub fn explained(
 {
     let text = table(alloc, chronicle)?;
     let traitors = traitors(alloc, chronicle.scenario())?;
-    let lines = match general {
-        None => tables::explained(alloc, text.as_str(), traitors.as_slice()),
-        Some(one) => tables::explained_one(alloc, text.as_str(), traitors.as_slice(), one),
-    };
-    match lines {
+    match asked(alloc, text.as_str(), traitors.as_slice(), general) {
         Ok(lines) => Ok(lines),
         Err(TableError::Memory) => Err(AllocError),
         // The table is one that `book` reads.
         Err(TableError::At(_, _)) => unreachable!(),
+    }
+}
+
+/// The lines of a table's text, of all lieutenants or of this general alone, where these are named as traitors.
+fn asked(
+    alloc: Global,
+    text: &str,
+    traitors: &[u8],
+    general: Option<u8>,
+) -> Result<String, TableError>
+    ensures explained { IfOk result (λ lines. ExplainsAsked text.now traitors.now general (string_bytes lines)) }
+    ensures refused { IfErr result (λ e. e ≢ Memory → table_told text.now ≡ Err e) }
+{
+    match general {
+        None => tables::explained(alloc, text, traitors),
+        Some(one) => tables::explained_one(alloc, text, traitors, one),
     }
 }
 

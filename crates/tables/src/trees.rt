@@ -33,7 +33,14 @@ pub fn table_of(
     ensures read { IfOk result (λ text. (t : MessageTable) × (table_told (string_bytes text) ≡ Ok t) × IsTableOf (heard trees.now) generals bound commander rule t) }
 {
     recall_orders(trees);
-    write(alloc, &TreeMarks { trees }, generals, bound, commander, rule)
+    write(
+        alloc,
+        &TreeMarks { trees },
+        generals,
+        bound,
+        commander,
+        rule,
+    )
 }
 
 /// Each lieutenant's tree has what he was told.

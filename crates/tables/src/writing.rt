@@ -30,7 +30,15 @@ pub(crate) fn write<M: Marks>(
     let label = Label::of(commander);
     let name = alone(alloc, commander)?;
     for more in 0..bound + 1 {
-        push_labels(alloc, &mut text, marks, generals, &label, name.as_str(), more)?;
+        push_labels(
+            alloc,
+            &mut text,
+            marks,
+            generals,
+            &label,
+            name.as_str(),
+            more,
+        )?;
     }
     Ok(text)
 }
@@ -43,12 +51,7 @@ fn alone(alloc: Global, general: u8) -> Result<String, AllocError>
 }
 
 /// How a label that is written so is written with one general more.
-fn prolonged(
-    alloc: Global,
-    label: &Label,
-    name: &str,
-    general: u8,
-) -> Result<String, AllocError>
+fn prolonged(alloc: Global, label: &Label, name: &str, general: u8) -> Result<String, AllocError>
     requires { name.now ≡ dotted label.now }
     ensures { IfOk result (λ name. string_bytes name ≡ dotted (label.now ++ general ∷ [])) }
 {
@@ -102,7 +105,15 @@ fn push_labels<M: Marks>(
         if !label.has(general) {
             let longer = prolonged(alloc, label, name, general)?;
             let next = label.with(general);
-            push_labels(alloc, text, marks, generals, &next, longer.as_str(), more - 1)?;
+            push_labels(
+                alloc,
+                text,
+                marks,
+                generals,
+                &next,
+                longer.as_str(),
+                more - 1,
+            )?;
         }
     }
     Ok(())

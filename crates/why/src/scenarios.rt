@@ -71,7 +71,8 @@ fn range_sentence(name: Name) -> &'static str
         Name::Board => "a board has at most 64 words",
         Name::Patience => "a patience is 1 to 4096 steps",
         Name::Rule => "a rule is \"majority\" or \"median\"",
-        Name::Messages => "messages are \"oral\" or \"signed\", and of a muster, a message table or an explanation \"oral\"",
+        Name::Messages =>
+            "messages are \"oral\" or \"signed\", and of a muster, a message table or an explanation \"oral\"",
         _ => "this value is out of its range",
     }
 }

@@ -31,22 +31,22 @@ returns-in-Ok-Bytes-clause-answer g c =
 pub returns-in-Ok-Trial-clause-answer : goal.returns-in-Ok-Trial-clause-answer
 returns-in-Ok-Trial-clause-answer g c =
     let both : Files = files g.R.Source.bytes c.args.first c.args.second in
-    let is : c.in-Ok-Trial.field-0 ≡ Trial c.in-Ok-Trial.program = c.in-Ok-Trial.field-0-is in
-    let comes : ComesTo c.args.task.now c.in_ok-bytes.bytes.items (Trial c.in-Ok-Trial.program) = rw (c.as_slice.ensures.value, is) at c.in-Ok-Trial.ensures.answered in
+    let is : c.in-Ok-Trial.field-0 ≡ Trial c.in-Ok-Trial.program c.in-Ok-Trial.traced = c.in-Ok-Trial.field-0-is in
+    let comes : ComesTo c.args.task.now c.in_ok-bytes.bytes.items (Trial c.in-Ok-Trial.program c.in-Ok-Trial.traced) = rw (c.as_slice.ensures.value, is) at c.in-Ok-Trial.ensures.answered in
     let asked : c.is_explained.result ≡ is_explained c.args.task.now = c.is_explained.ensures in
     IfOk-weaker c.trial_of.result _ _
-    (λ text tried. answered_tried c.args.task.now both c.in_ok-bytes.bytes.items text.items c.in-Ok-Trial.program c.in_ok-bytes.ensures.whole comes
-    (subst (λ (own : Bool). IsTrialOf both.second own c.in-Ok-Trial.program text.items) asked tried))
+    (λ text tried. answered_tried c.args.task.now both c.in_ok-bytes.bytes.items text.items c.in-Ok-Trial.program c.in-Ok-Trial.traced c.in_ok-bytes.ensures.whole comes
+    (subst (λ (own : Bool). IsTrialOf both.second c.in-Ok-Trial.traced own c.in-Ok-Trial.program text.items) asked tried))
     c.trial_of.ensures.tried
 
 pub returns-in-Ok-Trial-clause-fault : goal.returns-in-Ok-Trial-clause-fault
 returns-in-Ok-Trial-clause-fault g c =
     let both : Files = files g.R.Source.bytes c.args.first c.args.second in
-    let is : c.in-Ok-Trial.field-0 ≡ Trial c.in-Ok-Trial.program = c.in-Ok-Trial.field-0-is in
-    let comes : ComesTo c.args.task.now c.in_ok-bytes.bytes.items (Trial c.in-Ok-Trial.program) = rw (c.as_slice.ensures.value, is) at c.in-Ok-Trial.ensures.answered in
+    let is : c.in-Ok-Trial.field-0 ≡ Trial c.in-Ok-Trial.program c.in-Ok-Trial.traced = c.in-Ok-Trial.field-0-is in
+    let comes : ComesTo c.args.task.now c.in_ok-bytes.bytes.items (Trial c.in-Ok-Trial.program c.in-Ok-Trial.traced) = rw (c.as_slice.ensures.value, is) at c.in-Ok-Trial.ensures.answered in
     IfErr-weaker c.trial_of.result _ _
     (λ fault why.
-    prevented_later c.args.task.now both _ _ c.in_ok-bytes.bytes.items c.unwrap_or-file.result.now (Trial c.in-Ok-Trial.program) c.is_explained.result fault c.in_ok-bytes.ensures.whole comes
+    prevented_later c.args.task.now both _ _ c.in_ok-bytes.bytes.items c.unwrap_or-file.result.now (Trial c.in-Ok-Trial.program c.in-Ok-Trial.traced) c.is_explained.result fault c.in_ok-bytes.ensures.whole comes
     (second_named c.args.task.now c.second.result c.unwrap_or-file.result _ c.second.ensures c.unwrap_or-file.ensures refl) c.is_explained.ensures why)
     c.trial_of.ensures.fault
 

@@ -19,11 +19,11 @@ loop-preserved g c =
     let last = g.W.Write.contents c.write.new.self in
     elim c.match-write.branch [
       | in-Ok w ↦ record {
-          within = search rules;
-          taken = rw w.written-is (appends_on first then last c.args.text.now c.loop.written _ c.loop.invariant.taken (rw w.in-Ok.is at c.write.ensures.bytes));
-        }
+        within = search rules;
+        taken = rw w.written-is (appends_on first then last c.args.text.now c.loop.written _ c.loop.invariant.taken (rw w.in-Ok.is at c.write.ensures.bytes));
+      }
       | in-Err w ↦ record {
-          within = omega arith;
-          taken = rw w.written-is (appends_kept first then last _ c.loop.invariant.taken (rw w.in-Err.is at c.write.ensures.bytes));
-        }
+        within = omega arith;
+        taken = rw w.written-is (appends_kept first then last _ c.loop.invariant.taken (rw w.in-Err.is at c.write.ensures.bytes));
+      }
     ]

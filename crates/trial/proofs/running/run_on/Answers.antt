@@ -2,9 +2,15 @@
 use Rattle.std.proofs.Common.{◌≤◌, length, ap, arith, refl}
 use Rattle.semantics.specs.Replies.{words_in}
 use Rattle.semantics.specs.Relay.{oral}
-use Rattle.trial.proofs.Serving.{serves_on, goes_further, served_to}
-use Rattle.trial.proofs.Owning.{one_more}
+use Rattle.trial.proofs.Serving.{served_from, serves_on, goes_further, served_to}
+use Rattle.trial.proofs.Owning.{one_more, serves_none}
 use Rattle.trial.proofs.running.run_on.Goals as goal
+
+pub loop-request-init : goal.loop-request-init
+loop-request-init c = record {
+  serving = served_from c.args.verified.now c.args.context.now (oral c.args.shape) c.args.board.now.words c.args.activation.now c.args.board.now c.requires.of_run c.requires.relay refl c.requires.started;
+  own = serves_none c.args.shape c.args.board.now;
+}
 
 pub loop-request-preserved : goal.loop-request-preserved
 loop-request-preserved c =
