@@ -6,10 +6,9 @@ use Rattle.board.specs.Board.{Access}
 use Rattle.round.specs.Scenario.{Scenario, IsScenario, program_of, shape_of}
 use Rattle.round.specs.Letters.{Letter}
 use Rattle.round.specs.Told.{AreLettersOf, AreRoundsOf}
-use Rattle.world.specs.declared.event.Event.{Event}
 use Rattle.world.specs.Accounted.{IsLetterOf, IsAccountedRound, AreAccounted}
 use Rattle.world.specs.Chronicle.{Chronicle, chronicle_of}
-use Rattle.world.specs.Lists.{IsComplete, listed, replayed}
+use Rattle.world.specs.Lists.{listed, replayed}
 use Rattle.world.specs.World.{World, oral_kind, opening, run}
 use Rattle.world.proofs.Campaigns.{oral_campaigns}
 use Rattle.world.proofs.Lasting.{lists_are_complete}

@@ -1,5 +1,5 @@
 -- Steps over the bytes of a text on one line.
-use Rattle.std.proofs.Common.{◌≡◌, ◌∙◌, ℕ, suc, ◌+◌, ◌<◌, ◌||◌, List, [], ◌∷◌, ◌++◌, Bool, true, false, ap, append_assoc, arith, cond, drop, get_or, length, refl, take}
+use Rattle.std.proofs.Common.{◌≡◌, ◌∙◌, ℕ, ◌+◌, ◌<◌, List, ◌∷◌, ◌++◌, false, ap, append_assoc, drop, get_or, length, refl, take}
 use Rattle.std.proofs.lemmas.List.{drop_more, take_more}
 use Rattle.why.specs.Scenarios.{before_feed, behind_feed, is_feed, is_quote}
 

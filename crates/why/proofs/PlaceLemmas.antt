@@ -1,10 +1,10 @@
 -- Marks lie within the text.
 use Rattle.std.proofs.Common.{ℕ, suc, ◌≡◌, ◌+◌, ◌-◌, ◌≤◌, ◌⊎◌, ◌==◌, ◌&&◌, inl, inr, List, [], ◌∷◌, Bool, true, false, cond, arith, codes, refl, subst}
-use Rattle.std.specs.Prelude.{Option, None, Some, IfSome, if◌then◌else◌, option_map, slice_get}
+use Rattle.std.specs.Prelude.{Option, None, Some, IfSome, option_map, slice_get}
 use Rattle.text.specs.Parts.{lines_of}
-use Rattle.why.specs.Keys.{Found, begins_with, entry_line, found, found_on, header, or_else, shown_at, table_at, value_marked, word_marked}
+use Rattle.why.specs.Keys.{Found, begins_with, entry_line, found, found_on, header, or_else, shown_at, table_at}
 use Rattle.why.specs.Laws.{IsInText}
-use Rattle.why.specs.Lines.{all_marked, line_at, marked, trimmed}
+use Rattle.why.specs.Lines.{line_at, marked, trimmed}
 use Rattle.why.specs.Report.{Mark}
 
 -- a part of a line

@@ -1,6 +1,6 @@
 -- No sentence is empty.
-use Rattle.std.proofs.Common.{ℕ, ◌≡◌, ◌≢◌, ◌++◌, ◌==◌, List, [], ◌∷◌, Bool, true, false, cond, codes}
-use Rattle.std.specs.Prelude.{Option, None, Some, if◌then◌else◌}
+use Rattle.std.proofs.Common.{ℕ, ◌≢◌, List, [], ◌∷◌, Bool, true, false, cond}
+use Rattle.std.specs.Prelude.{Option, None, Some}
 use Rattle.asm.specs.declared.fault.Fault.{Fault as AsmFault}
 use Rattle.asm.specs.declared.fault.Fault.TheVariants as asm
 use Rattle.codec.specs.declared.fault.Fault.{Fault as CodecFault}

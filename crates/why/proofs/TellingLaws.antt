@@ -1,5 +1,5 @@
 -- What is told is a report with a sentence, whose place lies within the file.
-use Rattle.std.proofs.Common.{ℕ, ◌≡◌, ◌≢◌, ◌+◌, ◌-◌, ◌^◌, ◌==◌, ◌≤◌, List, [], ◌∷◌, Bool, true, false, cond, codes, arith, drop, length, refl, subst, sym, take}
+use Rattle.std.proofs.Common.{ℕ, ◌≡◌, ◌≢◌, ◌+◌, ◌-◌, ◌^◌, List, [], ◌∷◌, Bool, true, false, cond, codes, arith, refl, subst, sym, take}
 use Rattle.std.specs.Prelude.{Option, None, Some, IfSome, nat_lt, option_and_then, option_map}
 use Rattle.std.specs.Str.{IsUtf8}
 use Rattle.asm.specs.declared.fault.Fault.{Fault as AsmFault}
@@ -21,17 +21,17 @@ use Rattle.trial.specs.declared.fault.Fault.{Fault as SettingFault}
 use Rattle.trial.specs.declared.fault.SettingError.{SettingError}
 use Rattle.trial.specs.declared.fault.SettingError.TheVariants as setting
 use Rattle.toml.specs.Parse.{parse_document}
-use Rattle.why.specs.Assembly.{assembly_told, line_told, place_in}
-use Rattle.why.specs.Bytecode.{bytecode_told, unit_at, unit_marked, unit_place, unit_told}
+use Rattle.why.specs.Assembly.{assembly_told, line_told}
+use Rattle.why.specs.Bytecode.{bytecode_told, unit_at, unit_marked}
 use Rattle.why.specs.Chronicles.{chronicle_line_told, chronicle_told, schedule_line_told, schedule_told}
 use Rattle.why.specs.Errors.{TellsScenario, TellsSetting}
 use Rattle.why.specs.Keys.{Found, entry_line, found, header, table_of, value_end}
 use Rattle.why.specs.Laws.{IsInText, IsInUnit, IsReport, RefusalsAreTold}
-use Rattle.why.specs.Lines.{line_at, marked}
+use Rattle.why.specs.Lines.{line_at}
 use Rattle.why.specs.Messages.{table_line_told, table_told}
 use Rattle.why.specs.Report.{Mark, report_text}
-use Rattle.why.specs.Scenarios.{at_end_told, at_line_told, code_line_told, is_long, line_behind, long_told, place_mark, place_told, program_line, program_told, source_line, text_told, entry_key_told, top_key_told, unknown_told}
-use Rattle.why.specs.Settings.{setting_mark, setting_place_told, setting_unknown_told, setting_word}
+use Rattle.why.specs.Scenarios.{at_end_told, at_line_told, code_line_told, is_long, line_behind, place_mark, place_told, program_line, program_told, source_line, text_told, entry_key_told, top_key_told, unknown_told}
+use Rattle.why.specs.Settings.{setting_place_told, setting_unknown_told, setting_word}
 use Rattle.why.specs.Toml.{TellsToml, span_marked}
 use Rattle.why.proofs.PlaceLemmas.{entry-at, found-at, found-in, marked-in, or-at}
 use Rattle.why.proofs.SayingLemmas.{assembly-says, chronicle-says, place-says, setting-says, table-says, unit-says}

@@ -1,5 +1,5 @@
 -- What is said of a fault of a schedule or a chronicle.
-use Rattle.std.specs.Prelude.{ℕ, List, ◌==◌, if◌then◌else◌, Option, None, Some, codes, option_map, take}
+use Rattle.std.specs.Prelude.{ℕ, List, if◌then◌else◌, Option, None, Some, codes, option_map, take}
 use Rattle.trace.specs.declared.fault.Fault.{Fault}
 use Rattle.trace.specs.declared.fault.Fault.TheVariants as fault
 use Rattle.why.specs.Assembly.{begins_marked, has}

@@ -1,5 +1,5 @@
 -- The law of what is said: each refusal has a sentence, and the place that is told lies within the file.
-use Rattle.std.specs.Prelude.{ℕ, ◌≡◌, ◌≢◌, ◌+◌, ◌≤◌, List, [], Option, Some, None, IfSome, length, take, unwrap_or}
+use Rattle.std.specs.Prelude.{ℕ, ◌≡◌, ◌≢◌, ◌+◌, ◌≤◌, List, [], Option, None, IfSome, length, take, unwrap_or}
 use Rattle.hex.specs.Hex.{encode_lower}
 use Rattle.asm.specs.declared.fault.Fault.{Fault as AsmFault}
 use Rattle.codec.specs.declared.fault.Fault.{Fault as CodecFault}

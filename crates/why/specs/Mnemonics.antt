@@ -16,10 +16,10 @@ takes_of words.LoadImmediate = takes.Wide
 takes_of words.Jump = takes.Target
 takes_of words.LongJump = takes.Target
 takes_of (words.Branch width condition) = takes.Branch
-takes_of (words.Load bytes) = takes.Load
+takes_of (words.Load size) = takes.Load
 takes_of (words.LoadSigned part) = takes.Load
-takes_of (words.StoreRegister bytes) = takes.StoreRegister
-takes_of (words.StoreNumber bytes) = takes.StoreNumber
+takes_of (words.StoreRegister size) = takes.StoreRegister
+takes_of (words.StoreNumber size) = takes.StoreNumber
 takes_of words.Call = takes.Call
 takes_of words.Exit = takes.Nothing
 

@@ -1,5 +1,5 @@
 -- What stands behind the line of a refusal, in rustc's form: a sentence, the place in the file with a part of it marked, a help (own).
-use Rattle.std.specs.Prelude.{ℕ, List, [], ◌++◌, Bool, ◌==◌, ◌&&◌, ◌||◌, not, nat_lt, if◌then◌else◌, Option, None, Some, codes, decimal, length, map, take, drop}
+use Rattle.std.specs.Prelude.{ℕ, List, [], ◌++◌, ◌==◌, ◌&&◌, ◌||◌, not, nat_lt, if◌then◌else◌, Option, None, Some, codes, decimal, length, map, take, drop}
 use Rattle.std.specs.Fmt.{is_char_start}
 use Rattle.std.specs.List.{flat_map, repeat}
 use Rattle.std.specs.Str.Lossy.{utf8_lossy}

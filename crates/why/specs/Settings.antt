@@ -1,5 +1,5 @@
 -- What is said of a fault of a setting: the sentence of each code, and the place in the text.
-use Rattle.std.specs.Prelude.{ℕ, List, [], ◌∷◌, ◌++◌, Bool, true, false, Option, None, Some, codes, option_map}
+use Rattle.std.specs.Prelude.{ℕ, List, [], ◌∷◌, ◌++◌, true, false, Option, None, codes, option_map}
 use Rattle.trial.specs.Names.{text_of}
 use Rattle.trial.specs.declared.place.Name.{Name}
 use Rattle.trial.specs.declared.place.Name.TheVariants as names

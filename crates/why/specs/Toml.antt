@@ -1,5 +1,5 @@
 -- What is said of a text that is no TOML: what its parser says, and where.
-use Rattle.std.specs.Prelude.{ℕ, ◌≡◌, ◌-◌, ◌≤◌, List, [], ◌++◌, Option, None, Some, codes, length, take, unwrap_or}
+use Rattle.std.specs.Prelude.{ℕ, ◌≡◌, ◌-◌, ◌≤◌, List, [], ◌++◌, None, Some, codes, length, take, unwrap_or}
 use Rattle.std.specs.Str.{IsUtf8}
 use Rattle.text.specs.Stop.{feed}
 use Rattle.text.specs.Parts.{pieces}

@@ -1,4 +1,4 @@
-use Rattle.std.proofs.Common.{◌≡◌, ◌∙◌, ◌++◌, ◌∷◌, [], ap, sym}
+use Rattle.std.proofs.Common.{◌∙◌, sym}
 use Rattle.round.specs.Scenario.{is_traitor}
 use Rattle.retold.proofs.Named.{named_more, named_same}
 use Rattle.retold.proofs.explaining.traitors.Goals as goal

@@ -1,4 +1,4 @@
-use Rattle.std.proofs.Common.{◌≡◌, ◌*◌, ◌≤◌, [], arith, drop, length, length-take, refl, take}
+use Rattle.std.proofs.Common.{◌*◌, ◌≤◌, arith, length, length-take, refl, take}
 use Rattle.std.proofs.lemmas.List.{drop_all}
 use Rattle.why.proofs.bytecode.unit_at.Goals as goal
 

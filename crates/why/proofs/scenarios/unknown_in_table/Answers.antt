@@ -1,4 +1,3 @@
-use Rattle.std.proofs.Common.{ap, codes}
 use Rattle.why.specs.Scenarios.{entry_key_told}
 use Rattle.why.proofs.scenarios.unknown_in_table.Goals as goal
 
