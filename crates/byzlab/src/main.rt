@@ -3,39 +3,26 @@
 #![tactic(auto)]
 
 mod input;
+mod neighbours;
 mod target;
 
-ghost use Rattle.std.specs.Prelude.{◌≡◌, IfOk, IfErr};
+ghost use Rattle.std.specs.Prelude.{◌≡◌, IfOk, IfErr, option_map};
 ghost use Rattle.std.specs.IoError.{error_kind};
-ghost use Rattle.byzlab.specs.Files.{IsInputOf};
+ghost use Rattle.byzlab.specs.Files.{IsInputIf};
 ghost use Rattle.byzlab.specs.Telling.{failure_of};
 
-use command_line::{Task, TaskError};
+use command_line::{Request, TaskError};
+use desk::{each, serve, unopened};
 use input::Input;
-use lab::{FileName, serve};
+use neighbours::Neighbours;
 use std::env;
 use std::io::{self, ErrorKind};
 use std::process::ExitCode;
 use target::Target;
 
 fn main(rt: HostRuntime) -> ExitCode {
-    let status = match prepare(&rt) {
-        Ok(
-            Ready::Task {
-                task,
-                first,
-                second,
-            },
-        ) => serve(
-            &rt,
-            rt.alloc(),
-            &task,
-            first,
-            second,
-            &mut Target::of(&rt, task.target()),
-            &mut rt.stderr(),
-        ),
-        Ok(Ready::Done(status)) => status,
+    let status = match told(&rt) {
+        Ok(status) => status,
         Err(error) => {
             let (line, status) = failure(error.kind());
             let _ = rt.eprintln(line);
@@ -45,72 +32,85 @@ fn main(rt: HostRuntime) -> ExitCode {
     ExitCode::from(status)
 }
 
-/// What the words come to.
-#[derive(Drop)]
-enum Ready {
-    /// A task, and its files, which are open.
-    Task {
-        task: Task,
-        first: Input,
-        second: Option<Input>,
-    },
-    /// No task is left: help or a fault has been told, with this exit status.
-    Done(u8),
-}
-
-/// Reads the words, and opens the files that they name.
-fn prepare(rt: &HostRuntime) -> io::Result<Ready> {
+/// Reads the words, and does what they ask for: of several requests the worst status.
+fn told(rt: &HostRuntime) -> io::Result<u8> {
     let alloc = rt.alloc();
     let words: Vec<String> = env::args(rt)?.skip(1).collect(alloc)?;
     let mut texts: Vec<&str> = Vec::with_capacity(alloc, words.len())?;
     for word in &words {
         texts.push(word.as_str())?;
     }
-    let task = match command_line::task(alloc, texts.as_slice()) {
-        Ok(task) => task,
-        Err(TaskError::Words(error)) => {
-            if error.use_stderr() {
-                let _ = error.print(rt);
-                return Ok(Ready::Done(2));
-            }
-            error.print(rt)?;
-            return Ok(Ready::Done(0));
-        }
-        Err(error @ TaskError::Misuse(_)) => {
-            let _ = rt.eprintln(error);
-            return Ok(Ready::Done(2));
-        }
-        Err(TaskError::Memory) => return Err(io::Error::from(ErrorKind::OutOfMemory)),
-    };
-    let first = match task.file() {
-        Some(name) => match opened(rt, name)? {
-            Some(file) => file,
-            None => return Ok(Ready::Done(1)),
-        },
-        None => Input::Nothing,
-    };
-    let second = match task.second() {
-        Some(name) => match opened(rt, name)? {
-            Some(file) => Some(file),
-            None => return Ok(Ready::Done(1)),
-        },
-        None => None,
-    };
-    Ok(Ready::Task {
-        task,
-        first,
-        second,
-    })
+    let mut worst = 0;
+    for request in &each(alloc, texts.as_slice())? {
+        worst = done(rt, request.as_slice())?.max(worst);
+    }
+    Ok(worst)
 }
 
-/// The file; none where it does not open, after the line that says so.
-fn opened(rt: &HostRuntime, name: &str) -> io::Result<Option<Input>>
-    ensures input { IfOk result (IsInputOf name.now) }
+/// Does what the words of one request ask for; the exit status.
+fn done(rt: &HostRuntime, words: &[&str]) -> io::Result<u8> {
+    let request = match command_line::request(rt.alloc(), words) {
+        Ok(request) => request,
+        Err(error) => return unasked(rt, error),
+    };
+    let Some(first) = opened(rt, &request, request.task.file())? else {
+        return Ok(1);
+    };
+    let second = match request.task.second() {
+        None => None,
+        name => match opened(rt, &request, name)? {
+            Some(file) => Some(file),
+            None => return Ok(1),
+        },
+    };
+    Ok(serve(
+        rt,
+        rt.alloc(),
+        &request,
+        first,
+        second,
+        &Neighbours::of(rt, request.task.file()),
+        &mut Target::of(rt, request.task.target()),
+        &mut rt.stderr(),
+    ))
+}
+
+/// Tells why the words name no task, or prints help; the exit status.
+fn unasked(rt: &HostRuntime, error: TaskError) -> io::Result<u8> {
+    match error {
+        TaskError::Words(error) => {
+            if error.use_stderr() {
+                let _ = error.print(rt);
+                return Ok(2);
+            }
+            error.print(rt)?;
+            Ok(0)
+        }
+        TaskError::Misuse(_) => {
+            let _ = rt.eprintln(error);
+            Ok(2)
+        }
+        TaskError::Memory => Err(io::Error::from(ErrorKind::OutOfMemory)),
+    }
+}
+
+/// The file of this name, or nothing where the task has none; none where it does not open, after what says so.
+fn opened(rt: &HostRuntime, request: &Request, name: Option<&str>) -> io::Result<Option<Input>>
+    ensures input { IfOk result (IsInputIf (option_map (λ n. n.now) name.entry)) }
     ensures memory { IfErr result (λ error. error_kind error ≡ ErrorKind.OutOfMemory) }
 {
+    let Some(name) = name else {
+        return Ok(Some(Input::Nothing));
+    };
     let input = Input::open(rt, name)?;
     if input.is_none() {
-        let _ = rt.eprintln(format_args!("fault read {}", FileName(name)));
+        let _ = unopened(
+            rt.alloc(),
+            request,
+            name,
+            &mut rt.stdout(),
+            &mut rt.stderr(),
+        );
     }
     Ok(input)
 }

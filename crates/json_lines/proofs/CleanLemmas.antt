@@ -12,6 +12,7 @@ use Rattle.json_lines.specs.declared.held.Held.{Held}
 use Rattle.json_lines.specs.declared.shape.Within.{Within}
 use Rattle.json_lines.specs.declared.shape.Within.TheVariants.{Nothing, Round, Letter}
 use Rattle.json_lines.specs.Labels.{label_of, number_at, numbers, placed, with_label, with_number}
+use Rattle.json_lines.specs.Lines.{with_file}
 use Rattle.json_lines.specs.Objects.{called, first_by, first_shaped, line_object, or, shaped, told_by, unshaped, with_mark, with_name}
 use Rattle.json_lines.specs.Refusals.{behind_stop, class_of, fault_object, refusal_object, refused_object, sentence_of, with_sentence, with_text}
 use Rattle.json_lines.specs.Shapes.{Row, shapes}
@@ -199,3 +200,7 @@ refusal_clean text =
     let word = before space line in
     either NoFloat (bytes_eq word (codes "refused")) (refused_object (behind_stop space line) (before feed (behind_stop feed text))) (if bytes_eq word (codes "fault") then fault_object (behind_stop space line) else unshaped line) (refused_clean (behind_stop space line) (before feed (behind_stop feed text)))
     (either NoFloat (bytes_eq word (codes "fault")) (fault_object (behind_stop space line)) (unshaped line) (fault_clean (behind_stop space line)) (unshaped_clean line))
+
+-- nor does the name of a file
+pub file_clean : (file : List ℕ) (ms : Members) → members_have_float ms ≡ false → members_have_float (with_file file ms) ≡ false
+file_clean file ms b = put_clean (codes "file") (string file) ms refl b

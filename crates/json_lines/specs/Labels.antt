@@ -12,6 +12,10 @@ use Rattle.json_lines.specs.declared.shape.Within.TheVariants.{Nothing, Round, L
 abbrev pub number_at : List ℕ → Members → Option ℕ
 number_at name ms = option_and_then as_u64 (option_and_then as_number (get_member name ms))
 
+-- nothing is known before the first line
+abbrev pub at_first : Held
+at_first = record { generals = 0; commander = 0; round = 0; general = 0 }
+
 -- what is known behind a line: the numbers that it tells by these names
 abbrev pub heard : Held → Members → Held
 heard h ms = record {

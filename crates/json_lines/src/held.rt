@@ -1,7 +1,7 @@
 //! Where a line of a chronicle stands.
 ghost use Rattle.std.specs.Prelude.{◌≡◌};
 ghost use Rattle.serde_json.specs.View.{members_view};
-ghost use Rattle.json_lines.specs.Labels.{heard, number_at};
+ghost use Rattle.json_lines.specs.Labels.{at_first, heard, number_at};
 
 use serde_json::{Map, Value};
 
@@ -26,6 +26,18 @@ pub(crate) fn number_at(object: &Map<String, Value>, name: &str) -> Option<u64>
 }
 
 impl Held {
+    /// Before the first line: nothing.
+    pub(crate) fn at_first() -> Held
+        ensures { result ≡ at_first }
+    {
+        Held {
+            generals: 0,
+            commander: 0,
+            round: 0,
+            general: 0,
+        }
+    }
+
     /// What is known behind a line.
     pub(crate) fn behind(self, object: &Map<String, Value>) -> Held
         ensures { result ≡ heard self (members_view object.now.entries) }

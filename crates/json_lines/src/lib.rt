@@ -4,6 +4,7 @@
 mod held;
 mod labels;
 mod lines;
+mod named;
 mod objects;
 mod refusals;
 mod shape;
@@ -11,4 +12,5 @@ mod stops;
 mod told;
 
 pub use lines::answer;
+pub use named::{answer_of, refusal_of};
 pub use refusals::refusal;

@@ -3,7 +3,7 @@ ghost use Rattle.std.specs.Prelude.{◌≡◌, ◌++◌, false, IfOk, OnOk, stri
 ghost use Rattle.serde_json.specs.Data.{object};
 ghost use Rattle.serde_json.specs.View.{members_view};
 ghost use Rattle.serde_json.specs.Written.{members_have_float};
-ghost use Rattle.json_lines.specs.Lines.{at_first, json_text, object_line};
+ghost use Rattle.json_lines.specs.Lines.{json_text, object_line};
 
 use crate::held::Held;
 use crate::objects::line_object;
@@ -36,12 +36,7 @@ pub fn answer(alloc: Global, text: &[u8]) -> Result<Vec<u8>, AllocError>
     ensures { IfOk result (λ lines. lines.items ≡ json_text text.now) }
 {
     let mut out = Vec::new(alloc);
-    let mut held = Held {
-        generals: 0,
-        commander: 0,
-        round: 0,
-        general: 0,
-    };
+    let mut held = Held::at_first();
     let mut rest = text;
     while let Some((first, behind)) = line(rest) {
         let object = line_object(alloc, held, first)?;

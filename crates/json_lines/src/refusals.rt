@@ -116,7 +116,7 @@ fn fault(alloc: Global, told: &[u8]) -> Result<Map<String, Value>, AllocError>
 
 /// The object of what is said where a task is not done.
 #[tactic(auto, unfolding(crate::specs::Refusals::refusal_object))]
-fn refusal_object(alloc: Global, text: &[u8]) -> Result<Map<String, Value>, AllocError>
+pub(crate) fn refusal_object(alloc: Global, text: &[u8]) -> Result<Map<String, Value>, AllocError>
     ensures { IfOk result (λ object. members_view object.entries ≡ refusal_object text.now) }
 {
     let (line, others) = parted(FEED, text);

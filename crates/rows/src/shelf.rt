@@ -1,4 +1,5 @@
 //! The files of a row.
+use desk::Folder;
 use std::alloc::{AllocError, Global};
 use std::io::{self, ErrorKind, Read, Write};
 
@@ -73,6 +74,15 @@ impl Shelf {
     /// Takes the file away that was put last.
     pub fn drop_last(&mut self) {
         let _ = self.files.pop();
+    }
+}
+
+impl Folder for Shelf {
+    fn read(&self, alloc: Global, name: &str) -> io::Result<Vec<u8>> {
+        match self.find(name) {
+            Some(Content::Bytes(bytes)) => Ok(bytes.as_slice().to_vec(alloc)?),
+            Some(Content::Unreadable) | None => Err(io::Error::from(ErrorKind::NotFound)),
+        }
     }
 }
 

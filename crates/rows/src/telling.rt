@@ -1,8 +1,8 @@
 //! What a call answers.
 use crate::shelf::{Content, Input, Output, Shelf};
 use anyhow::{Result, bail};
-use command_line::{Task, TaskError, task};
-use lab::{FileName, serve};
+use command_line::{Request, Task, TaskError, request};
+use desk::{each, serve, unopened};
 use std::alloc::{AllocError, Global};
 use std::sync::Wait;
 use std::thread::Threads;
@@ -26,7 +26,7 @@ impl Told {
     }
 }
 
-/// What the program answers to these words with these files. A file that it writes is put with them.
+/// What the program answers to these words with these files, of several requests one behind the other, and the worst status.
 pub fn answered<R: Threads + Wait + Sync + AllocGlobal>(
     rt: &R,
     words: &[&str],
@@ -34,8 +34,30 @@ pub fn answered<R: Threads + Wait + Sync + AllocGlobal>(
     is_full: bool,
 ) -> Result<Told> {
     let alloc = rt.alloc();
-    let task = match task(alloc, words) {
-        Ok(task) => task,
+    let mut all = Told {
+        out: Vec::new(alloc),
+        err: Vec::new(alloc),
+        status: 0,
+    };
+    for request in &each(alloc, words)? {
+        let told = answered_one(rt, request.as_slice(), shelf, is_full)?;
+        all.out.extend_from_slice(told.out.as_slice())?;
+        all.err.extend_from_slice(told.err.as_slice())?;
+        all.status = all.status.max(told.status);
+    }
+    Ok(all)
+}
+
+/// What the program answers to the words of one request. A file that it writes is put with the others.
+fn answered_one<R: Threads + Wait + Sync + AllocGlobal>(
+    rt: &R,
+    words: &[&str],
+    shelf: &mut Shelf,
+    is_full: bool,
+) -> Result<Told> {
+    let alloc = rt.alloc();
+    let request = match request(alloc, words) {
+        Ok(request) => request,
         Err(error) => return refused(alloc, error),
     };
     let output = if is_full {
@@ -43,8 +65,8 @@ pub fn answered<R: Threads + Wait + Sync + AllocGlobal>(
     } else {
         Output::Kept(Vec::new(alloc))
     };
-    let told = opened(rt, &task, shelf, output)?;
-    written(alloc, &task, shelf, told)
+    let told = opened(rt, &request, shelf, output)?;
+    written(alloc, &request.task, shelf, told)
 }
 
 /// What is told of words that name no task.
@@ -69,44 +91,56 @@ fn refused(alloc: Global, error: TaskError) -> Result<Told> {
 /// Opens the task's files, and does it.
 fn opened<R: Threads + Wait + Sync + AllocGlobal>(
     rt: &R,
-    task: &Task,
+    request: &Request,
     shelf: &Shelf,
     output: Output,
 ) -> Result<Told, AllocError> {
-    let first = match task.file() {
+    let first = match request.task.file() {
         None => Input::Bytes(&[]),
         Some(name) => match shelf.find(name) {
             Some(content) => content.input(),
-            None => return unopened(rt.alloc(), name),
+            None => return Ok(missing(rt.alloc(), request, name)),
         },
     };
-    let second = match task.second() {
+    let second = match request.task.second() {
         None => None,
         Some(name) => match shelf.find(name) {
             Some(content) => Some(content.input()),
-            None => return unopened(rt.alloc(), name),
+            None => return Ok(missing(rt.alloc(), request, name)),
         },
     };
-    Ok(served(rt, task, first, second, output))
+    Ok(served(rt, request, first, second, shelf, output))
 }
 
 /// What is told of a file that does not open.
-fn unopened(alloc: Global, name: &str) -> Result<Told, AllocError> {
-    let name = FileName(name);
-    Ok(Told::fault(alloc, 1, format!(in alloc; "fault read {name}\n")?))
+fn missing(alloc: Global, request: &Request, name: &str) -> Told {
+    let mut out = Vec::new(alloc);
+    let mut err = Vec::new(alloc);
+    let status = unopened(alloc, request, name, &mut out, &mut err);
+    Told { out, err, status }
 }
 
 /// Does the task.
 fn served<R: Threads + Wait + Sync + AllocGlobal>(
     rt: &R,
-    task: &Task,
+    request: &Request,
     first: Input,
     second: Option<Input>,
+    shelf: &Shelf,
     mut output: Output,
 ) -> Told {
     let alloc = rt.alloc();
     let mut err = Vec::new(alloc);
-    let status = serve(rt, alloc, task, first, second, &mut output, &mut err);
+    let status = serve(
+        rt,
+        alloc,
+        request,
+        first,
+        second,
+        shelf,
+        &mut output,
+        &mut err,
+    );
     let out = output.into_bytes(alloc);
     Told { out, err, status }
 }
