@@ -25,7 +25,7 @@ pub returns-in-Ok-clause-found : goal.returns-in-Ok-clause-found
 returns-in-Ok-clause-found c =
     let found = task_found _ (words_of c.args.words.now) (subcommand_rows_of c.in-Ok.matches) c.in_ok-lab.ensures
     c.in-Ok.ensures.kinds (λ e. (c.in-Ok.ensures.matches e).1) in
-    request_is_asked (words_of c.args.words.now) (told_by c.of.result) (found.spelt_is ∙ sym (c.of.ensures ∙ found.met_is)) c.request.result c.request.ensures.task
+    request_is_asked (words_of c.args.words.now) (told_by c.of.result) (found.spelt_is ∙ sym (c.of.ensures ∙ found.met_is)) c.request.result c.request.ensures.request
 
 pub returns-in-Ok-clause-refused : goal.returns-in-Ok-clause-refused
 returns-in-Ok-clause-refused c =
