@@ -2,8 +2,8 @@
 use crate::folder::Folder;
 use crate::naming::{Untaken, beside, unread_text};
 use command_line::Task;
-use references::{Reference, asked, resolved};
-use std::alloc::Global;
+use references::{Beside, Reference, asked, resolved};
+use std::alloc::{AllocError, Global};
 use std::io::ErrorKind;
 use streams::Source;
 
@@ -34,7 +34,7 @@ fn reads_scenario(task: &Task) -> bool {
 /// # Errors
 ///
 /// It cannot be read, or a file that it names is not taken; or want of memory.
-pub(crate) fn prepared<R: Source, D: Folder>(
+pub(crate) fn prepare<R: Source, D: Folder>(
     alloc: Global,
     task: &Task,
     first: R,
@@ -73,7 +73,11 @@ fn read_and_resolved<D: Folder>(
 ) -> Result<Option<String>, Untaken> {
     let mut files = Vec::new(alloc);
     for file in named {
-        files.push(beside(alloc, folder, file)?)?;
+        push(&mut files, beside(alloc, folder, file)?)?;
     }
     Ok(resolved(alloc, text, files.as_slice())?)
+}
+
+fn push(files: &mut Vec<Beside>, file: Beside) -> Result<(), AllocError> {
+    Ok(files.push(file)?)
 }

@@ -2,7 +2,7 @@
 use crate::folder::Folder;
 use crate::naming::{Untaken, unread_text};
 use crate::paper::Paper;
-use crate::preparing::{Prepared, prepared};
+use crate::preparing::{Prepared, prepare};
 use crate::printing::{Ended, lacking, print};
 use command_line::{Request, Task};
 use std::alloc::Global;
@@ -93,7 +93,7 @@ where
         Some(file) => Some(Paper::Given(file)),
         None => None,
     };
-    match prepared(alloc, task, first, folder) {
+    match prepare(alloc, task, first, folder) {
         Ok(Prepared::Given(file)) => {
             lab::serve(rt, alloc, task, Paper::Given(file), second, out, fault)
         }
