@@ -17,12 +17,13 @@ _byzlab() {
     *:prove:-*) offered="-h --help" ;;
     2:help:*) offered=$commands ;;
     *:help:*) offered= ;;
-    *:play:-*) offered="--schedule -h --help" ;;
-    *:check:-*) offered="--asm --elf --explain --context --entry -h --help" ;;
-    *:asm:-*) offered="--raw -o -h --help" ;;
-    *:dis:-*) offered="--elf --units --entry -h --help" ;;
+    *:play:-*) offered="--table --explain --schedule --of -h --help" ;;
+    *:check:-*) offered="--asm --elf --explain --trace --context --entry -h --help" ;;
+    *:asm:-*) offered="--raw --explain -o -h --help" ;;
+    *:dis:-*) offered="--elf --units --explain --entry -h --help" ;;
     *:book:-*) offered="--explain --traitors -h --help" ;;
-    *:table:-* | *:muster:-* | *:audit:-*) offered="-h --help" ;;
+    *:table:-*) offered="--loyal --lie -h --help" ;;
+    *:muster:-* | *:audit:-*) offered="--explain --of -h --help" ;;
     *) offered= ;;
     esac
     mapfile -t COMPREPLY < <(compgen -W "$offered" -- "$word")

@@ -33,7 +33,15 @@ static uint64_t run(void *loaded, const struct program *program, unsigned times)
     return outcomes[times - 1].r0;
 }
 
-/* The code, and the last line of the explanation; of bytes that spell no program the code and the unit. */
+/* The line of an explanation that says why: the last that begins with a unit; notes and helps stand below it. */
+static const char *sentence(const char *text) {
+    const char *found = text;
+    while ((text = strchr(text, '\n')) != NULL)
+        if (*++text >= '0' && *text <= '9') found = text;
+    return found;
+}
+
+/* The code and that line; of bytes that spell no program the code and the unit. */
 static const char *why(const struct program *program) {
     static char text[1 << 20], line[256];
     struct byzlab_fault fault;
@@ -42,8 +50,8 @@ static const char *why(const struct program *program) {
     if (status == BYZLAB_MISSPELT) return snprintf(line, sizeof line, "C%u unit %zu", fault.number, fault.unit), line;
     if (status != BYZLAB_REFUSED || needed >= sizeof text) return NULL;
     text[needed] = 0;
-    const char *last = strrchr(text, '\n');
-    return snprintf(line, sizeof line, "V%u %.240s", fault.number - 100, last ? last + 1 : text), line;
+    const char *last = sentence(text);
+    return snprintf(line, sizeof line, "V%u %.*s", fault.number - 100, (int)strcspn(last, "\n"), last), line;
 }
 #else
 static const char *absent(void) { return "no --library, and no checks/library"; }

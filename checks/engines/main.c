@@ -3,6 +3,8 @@
  *
  *     engines verdicts FILE SECONDS    in processes that may die
  *     engines times FILE ROUNDS        in this process, the engines in turn in each round
+ *     engines loads FILE TIMES         in this process, for whoever counts instructions: so many loads of each program
+ *     engines runs FILE TIMES          the same: a load of each program, and so many runs
  *
  * FILE: 4,096 bytes of context, then of each program a mask of engines (one bit each, in the order below; the
  * highest: ask it in a process of its own), and its bytes and those of its classic filter, each behind their length;
@@ -220,6 +222,21 @@ static void timed(unsigned number, uint32_t mask, const struct program *program,
     }
 }
 
+/* ---- for counts of instructions */
+
+static void repeated(const struct engine *engine, const struct program *program, int is_run, unsigned times) {
+    engine->begin(program);
+    if (is_run) {
+        void *loaded = engine->load(program);
+        if (!loaded || times > MOST_RUNS) fails("nothing to run");
+        engine->run(loaded, program, times);
+        engine->unload(loaded);
+    } else {
+        loads(engine, program, times);
+    }
+    engine->end();
+}
+
 /* Reads the next question; 0 where there is none. */
 static int next(FILE *file, struct question *question) {
     if (fread(&question->mask, 4, 1, file) != 1) return 0;
@@ -229,10 +246,11 @@ static int next(FILE *file, struct question *question) {
 }
 
 int main(int count, char **words) {
-    if (count != 4) return fprintf(stderr, "engines verdicts|times FILE NUMBER\n"), 2;
+    if (count != 4) return fprintf(stderr, "engines verdicts|times|loads|runs FILE NUMBER\n"), 2;
     FILE *file = fopen(words[2], "rb");
     unsigned limit = (unsigned)atoi(words[3]), asked_for = 0, room = 0;
-    int is_timed = !strcmp(words[1], "times");
+    int is_timed = !strcmp(words[1], "times"), is_run = !strcmp(words[1], "runs");
+    int is_repeated = is_run || !strcmp(words[1], "loads");
     uint8_t *kept = malloc(CONTEXT), *context = guarded();
     struct question *questions = NULL;
     if (!file || !kept || fread(kept, 1, CONTEXT, file) != CONTEXT) fails(words[2]);
@@ -249,7 +267,9 @@ int main(int count, char **words) {
         const char *why = engines[e]->absent();
         if (why) printf("- %s absent %s\n", engines[e]->name, why);
         for (unsigned i = 0; why && i < asked_for; i++) questions[i].mask &= ~(1u << e);
-        if (!is_timed && !why) verdicts(engines[e], e, questions, asked_for, kept, limit);
+        if (!is_timed && !is_repeated && !why) verdicts(engines[e], e, questions, asked_for, kept, limit);
+        for (unsigned i = 0; is_repeated && i < asked_for; i++)
+            if (questions[i].mask >> e & 1) repeated(engines[e], &questions[i].program, is_run, limit);
     }
     for (unsigned i = 0; is_timed && i < asked_for; i++) timed(i, questions[i].mask, &questions[i].program, limit);
     return 0;

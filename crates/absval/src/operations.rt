@@ -13,6 +13,7 @@ use semantics::Region;
 use word::{ByteOrder, Narrow, Operation, SwapSize, Width};
 
 /// What an operation on two values gives: nothing where it is none that pointers admit.
+#[inline(always)]
 pub fn arithmetic(width: Width, operation: Operation, a: AbsVal, b: AbsVal) -> Option<AbsVal>
     ensures holds { IfSome result (λ r. (x y : Value) → Contains a x → Contains b y → Gives r (result_of width operation x y)) }
     ensures exact { result ≡ known width operation a b }
@@ -24,6 +25,7 @@ pub fn arithmetic(width: Width, operation: Operation, a: AbsVal, b: AbsVal) -> O
 }
 
 /// What a move gives: it reads the second value alone.
+#[inline(always)]
 fn moved(width: Width, b: AbsVal) -> Option<AbsVal>
     ensures holds { IfSome result (λ r. (x y : Value) → Contains b y → Gives r (result_of width Operation.Move x y)) }
     ensures exact { result ≡ known_moved width b }
@@ -39,6 +41,7 @@ fn moved(width: Width, b: AbsVal) -> Option<AbsVal>
 }
 
 /// What an operation that reads both values gives.
+#[inline(always)]
 fn combined(width: Width, operation: Operation, a: AbsVal, b: AbsVal) -> Option<AbsVal>
     requires { operation ≢ Operation.Move }
     ensures holds { IfSome result (λ r. (x y : Value) → Contains a x → Contains b y → Gives r (result_of width operation x y)) }

@@ -17,3 +17,4 @@ pub mod HelperLaws
 pub mod DistanceLaws
 pub mod NameLaws
 pub mod UnitLemmas
+pub mod PlaceLemmas

@@ -13,3 +13,4 @@ pub mod Printing
 pub mod Laws
 pub mod Telling
 pub mod Names
+pub mod Places

@@ -16,6 +16,7 @@ mod printing;
 mod reading;
 mod resolver;
 mod statement;
+mod written;
 
 pub use assembler::assemble;
 pub use disassembler::{disassemble, disassemble_units};
@@ -25,3 +26,4 @@ pub use laws::{
     registers_are_numbered,
 };
 pub use printing::put_instruction;
+pub use written::places;

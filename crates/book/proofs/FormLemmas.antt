@@ -24,20 +24,20 @@ use Rattle.book.specs.Grammar.{is_place, numbers_of, message_of, order_in, head_
 use Rattle.book.proofs.Places.{Place, places, places_from, is_in, AllDiffer, fits, is_place_of, are_places, places_differ, all_found}
 
 -- digits are no stops
-digits_lack : (stop : Stop) → ((c : ℕ) → is_within 48 57 c ≡ true → not (is_stop stop c) ≡ true) → (n : ℕ) → n < 2 ^ 64 → Lacks stop (decimal n)
+pub digits_lack : (stop : Stop) → ((c : ℕ) → is_within 48 57 c ≡ true → not (is_stop stop c) ≡ true) → (n : ℕ) → n < 2 ^ 64 → Lacks stop (decimal n)
 digits_lack stop h n l = all-weaker (is_within 48 57) (λ c. not (is_stop stop c)) h (decimal n) (digits-decimal n l)
 
-no_space : (c : ℕ) → is_within 48 57 c ≡ true → not (is_stop space c) ≡ true
+pub no_space : (c : ℕ) → is_within 48 57 c ≡ true → not (is_stop space c) ≡ true
 no_space c h = grind (arith, nat_tests)
 
 no_dot : (c : ℕ) → is_within 48 57 c ≡ true → not (is_stop dot c) ≡ true
 no_dot c h = grind (arith, nat_tests)
 
-no_feed : (c : ℕ) → is_within 48 57 c ≡ true → not (is_stop feed c) ≡ true
+pub no_feed : (c : ℕ) → is_within 48 57 c ≡ true → not (is_stop feed c) ≡ true
 no_feed c h = grind (arith, nat_tests)
 
 -- generals as they are printed
-abbrev AreFew : List ℕ → Type 0
+abbrev pub AreFew : List ℕ → Type 0
 AreFew w = list_all (λ x. nat_lt x 13) w ≡ true
 
 few_first : (x : ℕ) (xs : List ℕ) → AreFew (x ∷ xs) → x < 2 ^ 64
@@ -52,7 +52,7 @@ behind_lack stop h d (g ∷ gs) few =
     all-append (λ c. not (is_stop stop c)) (codes "." ++ decimal g) (flat_map (λ x. codes "." ++ decimal x) gs)
     (all-append (λ c. not (is_stop stop c)) (codes ".") (decimal g) (rw d refl) (digits_lack stop h g (few_first g gs few))) (behind_lack stop h d gs (few_rest g gs few))
 
-dotted_lack : (stop : Stop) → ((c : ℕ) → is_within 48 57 c ≡ true → not (is_stop stop c) ≡ true) → not (is_stop stop 46) ≡ true → (w : List ℕ) → AreFew w → Lacks stop (dotted w)
+pub dotted_lack : (stop : Stop) → ((c : ℕ) → is_within 48 57 c ≡ true → not (is_stop stop c) ≡ true) → not (is_stop stop 46) ≡ true → (w : List ℕ) → AreFew w → Lacks stop (dotted w)
 dotted_lack stop h d [] few = refl
 dotted_lack stop h d (g ∷ gs) few = all-append (λ c. not (is_stop stop c)) (decimal g) (flat_map (λ x. codes "." ++ decimal x) gs) (digits_lack stop h g (few_first g gs few)) (behind_lack stop h d gs (few_rest g gs few))
 
@@ -67,7 +67,7 @@ numbers_read [] few = refl
 numbers_read (g ∷ gs) few = rw (decimal_of-decimal g (few_first g gs few), numbers_read gs (few_rest g gs few)) refl
 
 -- the line of a place with its order, without its LF
-abbrev tell : List ℕ → ℕ → ℕ → List ℕ
+abbrev pub tell : List ℕ → ℕ → ℕ → List ℕ
 tell w p v = codes "tell " ++ dotted w ++ codes " " ++ decimal p ++ codes " " ++ decimal v
 
 tell_parted : (w : List ℕ) (p v : ℕ) → tell w p v ≡ codes "tell" ++ 32 ∷ (dotted w ++ 32 ∷ (decimal p ++ 32 ∷ decimal v))
@@ -86,7 +86,7 @@ pieces_told w p v few lp lv =
 abbrev message : (List ℕ → ℕ → ℕ) → Place → Message
 message order z = record { label = z.0; receiver = z.1; order = order z.0 z.1 }
 
-message_read : (g : ℕ) (gs : List ℕ) (p v : ℕ) → AreFew (g ∷ gs) → p < 13 → v < 2 ^ 32 → message_of (tell (g ∷ gs) p v) ≡ Some (record { label = g ∷ gs; receiver = p; order = v })
+pub message_read : (g : ℕ) (gs : List ℕ) (p v : ℕ) → AreFew (g ∷ gs) → p < 13 → v < 2 ^ 32 → message_of (tell (g ∷ gs) p v) ≡ Some (record { label = g ∷ gs; receiver = p; order = v })
 unfolding message_of order_in
 message_read g gs p v few lp lv =
     let first : p < 2 ^ 64 = omega arith in
@@ -119,15 +119,15 @@ unfolding head_of
 head_read n m c ln lm lc = rw (pieces_head n m c ln lm lc, decimal_of-decimal n ln, decimal_of-decimal m lm, decimal_of-decimal c lc) refl
 
 -- lines, each with its LF
-lines_read : (ls : List (List ℕ)) → AllByRecursion (Lacks feed) ls → lines_of (flat_map (λ l. l ++ 10 ∷ []) ls) ≡ ls
+pub lines_read : (ls : List (List ℕ)) → AllByRecursion (Lacks feed) ls → lines_of (flat_map (λ l. l ++ 10 ∷ []) ls) ≡ ls
 lines_read [] h = refl
 lines_read (l ∷ ls) h = ap lines_of (append_assoc l (10 ∷ []) (flat_map (λ x. x ++ 10 ∷ []) ls)) ∙ (lines_of-append l (flat_map (λ x. x ++ 10 ∷ []) ls) h.0 ∙ ap (λ xs. l ∷ xs) (lines_read ls h.1))
 
-flat_flat : (G : Place → List ℕ) (F : ℕ → List Place) (xs : List ℕ) → flat_map G (flat_map F xs) ≡ flat_map (λ x. flat_map G (F x)) xs
+pub flat_flat : (G : Place → List ℕ) (F : ℕ → List Place) (xs : List ℕ) → flat_map G (flat_map F xs) ≡ flat_map (λ x. flat_map G (F x)) xs
 flat_flat G F [] = refl
 flat_flat G F (x ∷ xs) = flat_map-append G (F x) (flat_map F xs) ∙ ap (λ ys. flat_map G (F x) ++ ys) (flat_flat G F xs)
 
-flat_same : (F G : ℕ → List ℕ) (xs : List ℕ) → ((x : ℕ) → F x ≡ G x) → flat_map F xs ≡ flat_map G xs
+pub flat_same : (F G : ℕ → List ℕ) (xs : List ℕ) → ((x : ℕ) → F x ≡ G x) → flat_map F xs ≡ flat_map G xs
 flat_same F G [] h = refl
 flat_same F G (x ∷ xs) h = rw (h x, flat_same F G xs h) refl
 
@@ -162,11 +162,11 @@ record IsSmall (z : Place) : Type 0 where
   few : AreFew z.0
   receiver : z.1 < 13
 
-begun_some : (c : ℕ) (w : List ℕ) → begins_with c w ≡ true → (g : ℕ) × (gs : List ℕ) × (w ≡ g ∷ gs)
+pub begun_some : (c : ℕ) (w : List ℕ) → begins_with c w ≡ true → (g : ℕ) × (gs : List ℕ) × (w ≡ g ∷ gs)
 begun_some c [] e = absurd (true≢false (sym e))
 begun_some c (x ∷ xs) e = (x, xs, refl)
 
-few_all : (n : ℕ) (w : List ℕ) → n ≤ 13 → list_all (λ x. nat_lt x n) w ≡ true → AreFew w
+pub few_all : (n : ℕ) (w : List ℕ) → n ≤ 13 → list_all (λ x. nat_lt x n) w ≡ true → AreFew w
 few_all n w l h = all-weaker (λ x. nat_lt x n) (λ x. nat_lt x 13) (λ x i. let j : x < n = ltb-true x n i in lt-ltb x 13 (omega arith)) w h
 
 small : (n m c : ℕ) (z : Place) → n ≤ 13 → is_place_of n m c z.0 z.1 ≡ true → IsSmall z

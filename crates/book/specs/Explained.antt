@@ -1,6 +1,6 @@
 -- How the lieutenants of a table come to their decisions, as it is told: the list that each combines at each label
 -- (TOPLAS 1982, algorithm OM(m)), what the list comes to, and whether the conditions IC1 and IC2 hold.
-use Rattle.std.specs.Prelude.{ℕ, zero, suc, ◌==◌, Bool, if◌then◌else◌, cond, List, [], ◌∷◌, ◌++◌, map, find, codes, Option, None, Some}
+use Rattle.std.specs.Prelude.{ℕ, zero, suc, ◌==◌, ◌&&◌, not, nat_lt, Bool, if◌then◌else◌, cond, List, [], ◌∷◌, ◌++◌, map, find, codes, Option, None, Some}
 use Rattle.std.specs.Fmt.{decimal}
 use Rattle.std.specs.List.{flat_map}
 use Rattle.combine.specs.declared.chosen.Rule.{Rule}
@@ -130,3 +130,15 @@ condition_lines t met = bound_line t met ++ alike_line met.alike ++ obedience_li
 -- all of it, where these generals are named as traitors
 unfoldable pub explained : MessageTable → List ℕ → List ℕ
 explained t traitors = flat_map (lieutenant_lines t traitors) (lieutenants t.generals t.commander) ++ condition_lines t (judged t traitors)
+
+-- the general is one of the lieutenants
+abbrev pub is_lieutenant : MessageTable → ℕ → Bool
+is_lieutenant t g = nat_lt g t.generals && not (g == t.commander)
+
+-- his lines, and none of one who is no lieutenant
+abbrev pub part_of : MessageTable → List ℕ → ℕ → List ℕ
+part_of t traitors g = if is_lieutenant t g then lieutenant_lines t traitors g else []
+
+-- that of one general alone
+unfoldable pub explained_one : MessageTable → List ℕ → ℕ → List ℕ
+explained_one t traitors g = part_of t traitors g ++ condition_lines t (judged t traitors)

@@ -1,8 +1,8 @@
 //! How the lieutenants of a table come to their decisions, as a text.
 ghost use Rattle.std.specs.Prelude.{◌≡◌, ◌≢◌, ◌<◌, ◌++◌, IfOk, OnOk, string_bytes};
 ghost use Rattle.book.specs.Conditions.{judged};
-ghost use Rattle.book.specs.Explained.{alike_line, bound_line, condition_lines, decision_line, enough_part, enough_words, explained};
-ghost use Rattle.book.specs.Explained.{few_part, few_words, lieutenant_lines, mark, obedience_line, yes_no};
+ghost use Rattle.book.specs.Explained.{alike_line, bound_line, condition_lines, decision_line, enough_part, enough_words, explained, explained_one};
+ghost use Rattle.book.specs.Explained.{few_part, few_words, is_lieutenant, lieutenant_lines, mark, obedience_line, part_of, yes_no};
 
 use crate::conditions::{Conditions, Obedience};
 use crate::judging::{is_named, judge};
@@ -29,6 +29,45 @@ pub fn explain(alloc: Global, table: &Table, traitors: &[u8]) -> Result<String, 
     }
     push_conditions(alloc, &mut lines, table, &judge(table, traitors))?;
     Ok(lines)
+}
+
+/// The same of one general alone: his lines where he is a lieutenant, then the conditions.
+///
+/// # Errors
+///
+/// No memory for the text.
+#[tactic(auto, unfolding(crate::specs::Explained::explained_one))]
+pub fn explain_one(
+    alloc: Global,
+    table: &Table,
+    traitors: &[u8],
+    general: u8,
+) -> Result<String, AllocError>
+    ensures { IfOk result (λ text. string_bytes text ≡ explained_one table.now traitors.now general) }
+{
+    let mut lines = part(alloc, table, traitors, general)?;
+    let met = judge(table, traitors);
+    push_conditions(alloc, &mut lines, table, &met)?;
+    Ok(lines)
+}
+
+/// The lines of this general, and none where he is no lieutenant.
+fn part(alloc: Global, table: &Table, traitors: &[u8], general: u8) -> Result<String, AllocError>
+    ensures { IfOk result (λ text. string_bytes text ≡ part_of table.now traitors.now general) }
+{
+    let mut lines = String::new(alloc);
+    if !is_lieutenant(table, general) {
+        return Ok(lines);
+    }
+    push_lieutenant(alloc, &mut lines, table, traitors, general)?;
+    Ok(lines)
+}
+
+/// Whether the general is one of the lieutenants.
+fn is_lieutenant(table: &Table, general: u8) -> bool
+    ensures { result ≡ is_lieutenant table.now general }
+{
+    general < table.generals() && general != table.commander()
 }
 
 /// Adds the lines of a lieutenant.

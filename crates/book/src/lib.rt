@@ -17,7 +17,7 @@ mod theorem;
 
 pub use blanks::form;
 pub use conditions::{Conditions, Obedience};
-pub use explaining::explain;
+pub use explaining::{explain, explain_one};
 pub use fault::{Fault, TableError};
 pub use judging::judge;
 pub use message::Message;

@@ -100,7 +100,7 @@ impl Table {
     }
 
     /// What is told of a label to a receiver, who does not stand on it.
-    pub(crate) fn told(&self, label: &Label, receiver: u8) -> Option<u32>
+    pub fn told(&self, label: &Label, receiver: u8) -> Option<u32>
         requires { is_place self.now label.now receiver ≡ true }
         ensures { result ≡ told self.now.messages label.now receiver }
     {

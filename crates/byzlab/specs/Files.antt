@@ -1,5 +1,6 @@
 -- Which file stands for a name; what an open file has is not known (own).
-use Rattle.std.specs.Prelude.{ℕ, ◌≡◌, ◌≢◌, List, Option, None, Some, codes}
+use Rattle.std.specs.Prelude.{ℕ, ◌≡◌, ◌≢◌, List, [], Option, None, Some, codes}
+use Rattle.std.specs.Io.Cursor.{cursor_remaining}
 use Rattle.byzlab.specs.declared.input.Input.{Input}
 use Rattle.byzlab.specs.declared.input.Input.TheVariants as input
 use Rattle.byzlab.specs.declared.target.Target.{Target}
@@ -9,8 +10,15 @@ use Rattle.byzlab.specs.declared.target.Target.TheVariants as target
 abbrev pub IsInputOf : List ℕ → Option Input → Type 0
 IsInputOf name (Some (input.Standard stdin)) = name ≡ codes "-"
 IsInputOf name (Some (input.File file)) = name ≢ codes "-"
+IsInputOf name (Some (input.Text text)) = ⊥
 IsInputOf name (Some input.Nothing) = ⊥
 IsInputOf name None = name ≢ codes "-"
+
+-- where there is no file nothing is read, of a text what is left of it; what a file or standard input has is not known
+abbrev pub remaining_of : Input → Option (List ℕ)
+remaining_of input.Nothing = Some []
+remaining_of (input.Text text) = cursor_remaining (λ bytes. Some bytes.items) text
+remaining_of _ = None
 
 -- no name and a hyphen stand for standard output, any other name for a file of just this name, which is not made yet
 abbrev pub IsTargetOf : Option (List ℕ) → Target → Type 0

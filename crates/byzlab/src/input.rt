@@ -3,7 +3,7 @@ ghost use Rattle.std.specs.IoError.{error_kind};
 ghost use Rattle.byzlab.specs.Files.{IsInputOf};
 
 use std::fs::File;
-use std::io::{self, ErrorKind, Read, Stdin};
+use std::io::{self, Cursor, ErrorKind, Read, Stdin};
 
 /// A file of the task.
 #[derive(Drop)]
@@ -12,6 +12,8 @@ pub enum Input {
     File(File),
     /// A hyphen names standard input.
     Standard(Stdin),
+    /// A scenario that was read, with the files that it names.
+    Text(Cursor<Vec<u8>>),
     /// The task reads no file.
     Nothing,
 }
@@ -38,10 +40,15 @@ impl Input {
 }
 
 impl Read for Input {
+    ghost use Rattle.byzlab.specs.Files.{remaining_of};
+
+    ghost remaining = { remaining_of };
+
     fn read(&mut self, buf: &mut [u8]) -> io::Result<usize> {
         match self {
             Input::File(file) => file.read(buf),
             Input::Standard(stdin) => stdin.read(buf),
+            Input::Text(text) => text.read(buf),
             Input::Nothing => Ok(0),
         }
     }

@@ -2,6 +2,7 @@
 //! leaves the task to the library `lab`.
 #![tactic(auto)]
 
+mod folder;
 mod input;
 mod target;
 
@@ -11,10 +12,12 @@ ghost use Rattle.byzlab.specs.Files.{IsInputOf};
 ghost use Rattle.byzlab.specs.Telling.{failure_of};
 
 use command_line::{Task, TaskError};
+use folder::FolderOf;
 use input::Input;
 use lab::{FileName, serve};
+use neighbours::{Untaken, reads_scenario, with_files};
 use std::env;
-use std::io::{self, ErrorKind};
+use std::io::{self, Cursor, ErrorKind, Read};
 use std::process::ExitCode;
 use target::Target;
 
@@ -96,11 +99,49 @@ fn prepare(rt: &HostRuntime) -> io::Result<Ready> {
         },
         None => None,
     };
+    let Some(first) = completed(rt, &task, first)? else {
+        return Ok(Ready::Done(1));
+    };
     Ok(Ready::Task {
         task,
         first,
         second,
     })
+}
+
+/// The task's first file, in which a scenario has the files that it names; none where one of them is not taken, after the
+/// lines that say so.
+fn completed(rt: &HostRuntime, task: &Task, first: Input) -> io::Result<Option<Input>> {
+    let name = match task.file() {
+        Some(name) if reads_scenario(task) => name,
+        _ => return Ok(Some(first)),
+    };
+    let Some(bytes) = read(rt, name, first)? else {
+        return Ok(None);
+    };
+    let folder = FolderOf { rt, scenario: name };
+    match with_files(rt.alloc(), bytes, &folder) {
+        Ok(bytes) => Ok(Some(Input::Text(Cursor::new(bytes)))),
+        Err(Untaken::Told(text)) => {
+            let _ = rt.eprintln(text);
+            Ok(None)
+        }
+        Err(Untaken::Memory) => Err(io::Error::from(ErrorKind::OutOfMemory)),
+    }
+}
+
+/// All bytes of the file of this name; none where it cannot be read, after the line that says so.
+fn read(rt: &HostRuntime, name: &str, file: Input) -> io::Result<Option<Vec<u8>>> {
+    let mut file = file;
+    let mut bytes = Vec::new(rt.alloc());
+    match file.read_to_end(&mut bytes) {
+        Ok(_) => Ok(Some(bytes)),
+        Err(error) if error.kind() == ErrorKind::OutOfMemory => Err(error),
+        Err(_) => {
+            let _ = rt.eprintln(format_args!("fault read {}", FileName(name)));
+            Ok(None)
+        }
+    }
 }
 
 /// The file; none where it does not open, after the line that says so.

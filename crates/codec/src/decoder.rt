@@ -47,8 +47,12 @@ fn meaning(fields: Fields, behind: &[u8]) -> Result<Insn, Fault>
     }
 }
 
-/// The instruction that the bytes begin with.
-fn instruction(bytes: &[u8]) -> Result<Insn, Fault>
+/// The instruction that the bytes begin with, whatever stands behind it.
+///
+/// # Errors
+///
+/// The first fault of their first unit, or of the wide instruction that begins there.
+pub fn instruction(bytes: &[u8]) -> Result<Insn, Fault>
     requires { 8 ≤ length bytes.now }
     ensures well_formed { IfOk result (λ i. IsInsn i) }
     ensures inside { IfOk result (λ i. 8 * units_of i ≤ length bytes.now) }

@@ -12,7 +12,7 @@ mod laws;
 mod memory;
 mod spelling;
 
-pub use decoder::{decode, first_fault};
+pub use decoder::{decode, first_fault, instruction};
 pub use encoder::encode;
 pub use fault::{CodecError, Fault};
 pub use laws::{

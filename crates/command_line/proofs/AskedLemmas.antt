@@ -9,13 +9,13 @@ use Rattle.std.specs.Str.{bytes_eq}
 use Rattle.clap.specs.Kinds.{Kinds, or_else}
 use Rattle.clap.specs.Lexer.{usize_max}
 use Rattle.clap.specs.Walk.{Held, Names, Row, Rule, Text, Walk, answers_to, arg_by_long, arg_by_short, finished, idle, nothing_held, rows_after, settled, stop_after, subcommand_met, walk, walk_from, walked}
-use Rattle.clap.specs.Simple.{App, Shape, built, built_leaf, entered, filled, help_rule, help_shape, inherited, label_of, marked_built, names_of, new_shape, version_rule, with_leaf_noted}
+use Rattle.clap.specs.Simple.{App, Shape, built, built_leaf, entered, filled, help_rule, help_shape, inherited, label_of, marked_built, names_of, version_rule, with_leaf_noted}
 use Rattle.clap.specs.Faults.{built_fault, check_fault, defaults_fault, entered_fault, fault_of, level_fault, long_fault, settle_fault, short_fault, turn_fault, walk_fault}
 use Rattle.clap.specs.Words.{subcommand_of}
 use Rattle.clap.proofs.FaultLemmas.{stopped_fault}
 use Rattle.clap.proofs.OnLiterals.{clap_on_literals}
 use Rattle.command_line.specs.Asked.{spelt, told_in}
-use Rattle.command_line.specs.Lab.{app_before, app_with, given, lab_app, shape, task_met}
+use Rattle.command_line.specs.Lab.{app_before, app_with, lab_app, shape, task_met}
 use Rattle.command_line.specs.Met.{has_places}
 use Rattle.command_line.specs.Told.{Told, has}
 use Rattle.command_line.specs.Usage.{Look, Usage, end_of_flags, long, look_of, plain, short, taken_in, value_at}
@@ -26,7 +26,7 @@ use Rattle.command_line.proofs.PlaceLemmas.{lacks_place}
 use Rattle.command_line.proofs.ReadLemmas.{taken_agrees}
 use Rattle.command_line.proofs.RowLemmas.{Met}
 use Rattle.command_line.proofs.RuleLemmas.{find_among, ids, is_clear, is_distinct, past, takers, takers_filled}
-use Rattle.command_line.proofs.WordLemmas.{Fails, Looks, dashes_pass, fails_as, fold_stopped, held, long_fails, looks, or_else-first, plain_turn, short_fails, trailing_in, turn_fails, walk_in}
+use Rattle.command_line.proofs.WordLemmas.{Fails, Looks, dashes_pass, fails_as, fold_stopped, long_fails, looks, or_else-first, plain_turn, short_fails, trailing_in, turn_fails}
 
 -- ---- what is built of the program
 

@@ -1,5 +1,5 @@
 -- What a call of `clap` tells of the rule.
-use Rattle.std.proofs.Common.{Result, Ok, Err, IfOk, IfErr, IsSome, IsSomeAnd, ◌||◌, ◌&&◌, not, Bool, true, false, codes, is_some, ◌≡◌, ◌∙◌, ◌⊎◌, inl, inr, List, [], ◌∷◌, Option, Some, None, ap, refl, subst, sym}
+use Rattle.std.proofs.Common.{Result, Ok, Err, IfOk, IfErr, IsSome, IsSomeAnd, true, false, ◌≡◌, ◌∙◌, ◌⊎◌, inl, inr, List, [], Option, Some, None, ap, refl, subst, sym}
 use Rattle.clap.specs.Words.{App, IsAmong, Row, Text, fault_of, is_simple, is_simple_and_free, subcommand_of}
 use Rattle.clap.specs.declared.error.kind.ErrorKind.{ErrorKind}
 use Rattle.clap.specs.declared.error.kind.ErrorKind.TheVariants.{OutOfMemory}

@@ -1,21 +1,19 @@
 -- What `clap` answers at the end of a subcommand's words, and where it fails whatever words are left.
-use Rattle.std.proofs.Common.{◌≡◌, ◌∙◌, ◌++◌, ◌&&◌, ◌||◌, inl, inr, Bool, cond, true, false, not, List, ℕ, [], ◌∷◌, Option, Some, None, ap, codes, is_some, nat_lt, refl, subst, sym}
+use Rattle.std.proofs.Common.{◌≡◌, ◌∙◌, ◌&&◌, inl, inr, Bool, cond, true, false, not, List, ℕ, [], ◌∷◌, Option, Some, None, ap, codes, refl, subst, sym}
 use Rattle.std.specs.List.{fold, list_any}
 use Rattle.std.specs.Option.{option_map_or}
 use Rattle.std.specs.Str.{bytes_eq}
 use Rattle.clap.specs.Kinds.{Kinds, check_kinds, or_else}
-use Rattle.clap.specs.Lexer.{usize_max}
 use Rattle.clap.specs.Walk.{Held, Row, Rule, Text, Waiting, Walk, arg_by_index, arg_by_long, arg_by_short, finished, is_pending, settled, settled_rows, subcommand_met, value, walked}
 use Rattle.clap.specs.Walk as clap
 use Rattle.clap.specs.Simple.{Shape, new_shape}
-use Rattle.clap.specs.Takes as takes
 use Rattle.clap.specs.Faults.{check_fault, defaults_fault, positional_fault, settle_fault, step_fault, stray_fault, turn_fault, walk_fault}
 use Rattle.command_line.specs.Lab.{given}
 use Rattle.command_line.specs.Usage.{Flag, Look, Next, end_of_flags, long, look_of, met_at_end, plain, short, value_at, waits}
 use Rattle.command_line.proofs.FlagLemmas.{unsettled_long, unsettled_short}
 use Rattle.command_line.proofs.PlaceLemmas.{Places, lacks_place, wanting, whole}
 use Rattle.command_line.proofs.RowLemmas.{Met, Stands, explicit_stands, given_stands}
-use Rattle.command_line.proofs.RuleLemmas.{IsPlace, defaults_quiet, missing, place_taker, some_place, takers}
+use Rattle.command_line.proofs.RuleLemmas.{defaults_quiet, missing, place_taker, some_place, takers}
 use Rattle.command_line.proofs.WordLemmas.{Fails, Looks, dashes_pass, fails_as, held, long_fails, looks, or_else-first, plain_turn, short_fails, trailing_in, turn_fails, walk_in}
 
 -- a subcommand as it is built

@@ -1,5 +1,5 @@
 -- Words that say a task are no misuse, and words that are misused say none.
-use Rattle.std.proofs.Common.{◌≡◌, ◌∙◌, ◌||◌, ◌&&◌, not, Bool, true, false, codes, is_some, ℕ, List, [], ◌∷◌, Option, Some, None, ap, refl, string_bytes, subst, sym}
+use Rattle.std.proofs.Common.{◌≡◌, ◌&&◌, not, Bool, true, false, codes, is_some, ℕ, List, [], ◌∷◌, Option, Some, None, ap, refl, string_bytes}
 use Rattle.std.proofs.lemmas.Bool.{and_from, and_left, and_right, or_right}
 use Rattle.std.specs.Option.{option_map_or}
 use Rattle.text.specs.Options.{◌>>=◌}

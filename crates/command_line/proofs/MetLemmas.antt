@@ -1,5 +1,5 @@
 -- What was met, by its parts.
-use Rattle.std.proofs.Common.{◌≡◌, ◌∙◌, inl, inr, Bool, cond, Bor, List, [], ◌∷◌, Option, Some, None, ap, codes, false, find, true, refl, sym, option_map}
+use Rattle.std.proofs.Common.{◌≡◌, ◌∙◌, inl, inr, cond, Bor, List, [], ◌∷◌, Option, Some, None, ap, codes, false, find, true, refl, sym, option_map}
 use Rattle.std.proofs.lemmas.Bool.{cases_Bool}
 use Rattle.std.proofs.lemmas.Slice.Eq.{bytes_eq-Decides}
 use Rattle.std.specs.Option.{option_map_or}

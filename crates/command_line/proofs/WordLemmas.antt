@@ -1,5 +1,5 @@
 -- What `clap` makes of one word, by what it looks like.
-use Rattle.std.proofs.Common.{◌≡◌, ◌∙◌, ◌⊎◌, inl, inr, Bool, cond, true, false, List, ℕ, suc, [], ◌∷◌, ◌++◌, Option, Some, None, ap, append_assoc, append-nil, codes, refl, sym, is_some, length, drop}
+use Rattle.std.proofs.Common.{◌≡◌, ◌∙◌, ◌⊎◌, inl, inr, Bool, cond, true, false, List, ℕ, [], ◌∷◌, ◌++◌, Option, Some, None, ap, append_assoc, append-nil, codes, refl, sym, length, drop}
 use Rattle.std.specs.List.{fold}
 use Rattle.std.specs.Option.{option_map_or}
 use Rattle.std.specs.Prelude.{slice_get, encode_utf8}

@@ -7,21 +7,21 @@ abbrev pub check : Usage
 check = record {
   name = codes "check";
   places = codes "FILE" ∷ [];
-  flags = switch (codes "asm") ∷ switch (codes "elf") ∷ switch (codes "explain") ∷ option (codes "context") ∷ option (codes "entry") ∷ [];
+  flags = switch (codes "asm") ∷ switch (codes "elf") ∷ switch (codes "explain") ∷ switch (codes "trace") ∷ option (codes "context") ∷ option (codes "entry") ∷ [];
 }
 
 abbrev pub asm : Usage
 asm = record {
   name = codes "asm";
   places = codes "FILE" ∷ [];
-  flags = switch (codes "raw") ∷ letter (codes "target") 111 ∷ [];
+  flags = switch (codes "raw") ∷ switch (codes "explain") ∷ letter (codes "target") 111 ∷ [];
 }
 
 abbrev pub dis : Usage
 dis = record {
   name = codes "dis";
   places = codes "FILE" ∷ [];
-  flags = switch (codes "elf") ∷ switch (codes "units") ∷ option (codes "entry") ∷ [];
+  flags = switch (codes "elf") ∷ switch (codes "units") ∷ switch (codes "explain") ∷ option (codes "entry") ∷ [];
 }
 
 abbrev pub book : Usage
@@ -35,24 +35,24 @@ abbrev pub table : Usage
 table = record {
   name = codes "table";
   places = codes "GENERALS" ∷ codes "BOUND" ∷ codes "COMMANDER" ∷ [];
-  flags = [];
+  flags = option (codes "loyal") ∷ option (codes "lie") ∷ [];
 }
 
 abbrev pub muster : Usage
-muster = record { name = codes "muster"; places = codes "SCENARIO" ∷ []; flags = [] }
+muster = record { name = codes "muster"; places = codes "SCENARIO" ∷ []; flags = switch (codes "explain") ∷ option (codes "of") ∷ [] }
 
 abbrev pub play : Usage
 play = record {
   name = codes "play";
   places = codes "SCENARIO" ∷ [];
-  flags = option (codes "schedule") ∷ [];
+  flags = switch (codes "table") ∷ switch (codes "explain") ∷ option (codes "schedule") ∷ option (codes "of") ∷ [];
 }
 
 abbrev pub audit : Usage
 audit = record {
   name = codes "audit";
   places = codes "SCENARIO" ∷ codes "CHRONICLE" ∷ [];
-  flags = [];
+  flags = switch (codes "explain") ∷ option (codes "of") ∷ [];
 }
 
 abbrev pub usages : List Usage

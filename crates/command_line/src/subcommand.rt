@@ -50,16 +50,17 @@ impl<'a> Subcommand<'a> {
     /// The subcommand as `clap` is told of it.
     pub(crate) fn command(&self, alloc: Global) -> Result<Command<'a>, AllocError>
         ensures shape { IfOk result (λ c. shape_of c ≡ shape_for self.now) }
+        ensures about { IfOk result (λ c. (out-Command c).about ≡ Some self.now.about) }
         ensures local { IfOk result (λ c. (out-Command c).has_globals ≡ false) }
     {
-        let mut command = Command::new(alloc, self.name).about(self.about);
+        let mut command = Command::new(alloc, self.name);
         for place in self.places {
             command = command.arg(place.argument(alloc))?;
         }
         for flag in self.flags {
             command = command.arg(flag.argument(alloc))?;
         }
-        Ok(command)
+        Ok(command.about(self.about))
     }
 }
 

@@ -4,7 +4,11 @@ use crate::subcommand::{Flag, Place, Subcommand};
 const EXPLAIN: &str =
     "Tells what is known of the registers that are read, and what a refused instruction misses";
 
+const EXPLAIN_DECISIONS: &str = "Tells how each decision comes about, or why a file is refused";
+
 const ENTRY: &str = "The function of the object; without it, its only global one";
+
+const OF: &str = "Explains this lieutenant's decision alone";
 
 const BYTECODE: Place<'static> = Place {
     name: "FILE",
@@ -33,6 +37,10 @@ const CHECK: Subcommand<'static> = Subcommand {
             name: "explain",
             help: EXPLAIN,
         },
+        Flag::Switch {
+            name: "trace",
+            help: "Tells each step of the run",
+        },
         Flag::Option {
             name: "context",
             value: "CONTEXT",
@@ -58,6 +66,10 @@ const ASM: Subcommand<'static> = Subcommand {
             name: "raw",
             help: "Writes the bytes themselves",
         },
+        Flag::Switch {
+            name: "explain",
+            help: "Shows a refused line, and says what was wanted there",
+        },
         Flag::Letter {
             name: "target",
             letter: 'o',
@@ -79,6 +91,10 @@ const DIS: Subcommand<'static> = Subcommand {
         Flag::Switch {
             name: "units",
             help: "Prints the unit before each instruction",
+        },
+        Flag::Switch {
+            name: "explain",
+            help: "Says what is wrong with refused bytes",
         },
         Flag::Option {
             name: "entry",
@@ -125,25 +141,61 @@ const TABLE: Subcommand<'static> = Subcommand {
             help: "The commander's number, from 0",
         },
     ],
-    flags: &[],
+    flags: &[
+        Flag::Option {
+            name: "loyal",
+            value: "V",
+            help: "Fills it in as loyal generals would, behind this order",
+        },
+        Flag::Option {
+            name: "lie",
+            value: "G",
+            help: "Leaves what this general says to be edited",
+        },
+    ],
 };
 
 const MUSTER: Subcommand<'static> = Subcommand {
     name: "muster",
     about: "Runs a campaign with a thread for each general and prints its chronicle",
     places: &[SCENARIO],
-    flags: &[],
+    flags: &[
+        Flag::Switch {
+            name: "explain",
+            help: EXPLAIN_DECISIONS,
+        },
+        Flag::Option {
+            name: "of",
+            value: "G",
+            help: OF,
+        },
+    ],
 };
 
 const PLAY: Subcommand<'static> = Subcommand {
     name: "play",
     about: "Plays a campaign and prints its chronicle",
     places: &[SCENARIO],
-    flags: &[Flag::Option {
-        name: "schedule",
-        value: "FILE",
-        help: "The order of the turns; without it each round is punctual",
-    }],
+    flags: &[
+        Flag::Switch {
+            name: "table",
+            help: "Prints the message table of the campaign in place of its chronicle",
+        },
+        Flag::Switch {
+            name: "explain",
+            help: EXPLAIN_DECISIONS,
+        },
+        Flag::Option {
+            name: "schedule",
+            value: "FILE",
+            help: "The order of the turns; without it each round is punctual",
+        },
+        Flag::Option {
+            name: "of",
+            value: "G",
+            help: OF,
+        },
+    ],
 };
 
 const AUDIT: Subcommand<'static> = Subcommand {
@@ -156,7 +208,17 @@ const AUDIT: Subcommand<'static> = Subcommand {
             help: "What `play` or `muster` has printed of this campaign",
         },
     ],
-    flags: &[],
+    flags: &[
+        Flag::Switch {
+            name: "explain",
+            help: EXPLAIN_DECISIONS,
+        },
+        Flag::Option {
+            name: "of",
+            value: "G",
+            help: OF,
+        },
+    ],
 };
 
 /// All subcommands, as help lists them.

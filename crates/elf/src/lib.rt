@@ -11,4 +11,7 @@ mod symbol;
 
 pub use fault::{Damage, Fault, sentence};
 pub use finding::{entry, function};
-pub use symbol::Symbol;
+pub use number::{byte_at, double_at, half_at, word_at};
+pub use relocation::Relocation;
+pub use section::{Section, count_sections, read_table};
+pub use symbol::{Symbol, find_symbols};

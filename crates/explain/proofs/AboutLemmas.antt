@@ -18,6 +18,7 @@ use Rattle.explain.specs.declared.wanted.Choice.{Choice}
 use Rattle.explain.specs.Cells.{ended_text, runs_text}
 use Rattle.explain.specs.Notes.{subject_of, notes_below}
 use Rattle.explain.specs.Helps.{wanted, help_on}
+use Rattle.explain.specs.Units.{Places}
 use Rattle.explain.specs.Explained.{sentence_of, about_text, told_text, refused_at, refused_text}
 
 -- what follows where a call returns
@@ -42,23 +43,23 @@ runs_apart out middle last known first held next place more less e here apart be
 
 -- ---- notes and a help
 
-pub about_so : (out middle last : List ℕ) (survey : KnownByUnit) (program : List Insn) (unit : ℕ) (i : Insn) (s : Sentence) (asked : Subject) (items shown again : List Mark) (choice : Option (ℕ × Choice)) →
-    Some asked ≡ subject_of s → items ≡ marks program survey asked unit → shown ≡ items → again ≡ items → middle ≡ out ++ notes_below program survey asked shown unit →
-    choice ≡ wanted program again unit i s → last ≡ middle ++ help_on program unit choice → last ≡ out ++ about_text survey program unit i s (subject_of s)
-about_so out middle last survey program unit i s asked items shown again choice found all one two notes chosen help =
+pub about_so : (places : Places) (out middle last : List ℕ) (survey : KnownByUnit) (program : List Insn) (unit : ℕ) (i : Insn) (s : Sentence) (asked : Subject) (items shown again : List Mark) (choice : Option (ℕ × Choice)) →
+    Some asked ≡ subject_of s → items ≡ marks program survey asked unit → shown ≡ items → again ≡ items → middle ≡ out ++ notes_below places program survey asked shown unit →
+    choice ≡ wanted program again unit i s → last ≡ middle ++ help_on program unit choice → last ≡ out ++ about_text places survey program unit i s (subject_of s)
+about_so places out middle last survey program unit i s asked items shown again choice found all one two notes chosen help =
     let first : shown ≡ marks program survey asked unit = one ∙ all in
     let best : choice ≡ wanted program (marks program survey asked unit) unit i s = chosen ∙ ap (λ (m : List Mark). wanted program m unit i s) (two ∙ all) in
-    subst (λ (o : Option Subject). last ≡ out ++ about_text survey program unit i s o) found
+    subst (λ (o : Option Subject). last ≡ out ++ about_text places survey program unit i s o) found
     (help ∙ (ap (λ (l : List ℕ). l ++ help_on program unit choice) notes
-    ∙ (append_assoc out (notes_below program survey asked shown unit) (help_on program unit choice)
-    ∙ λ k. out ++ (notes_below program survey asked (first k) unit ++ help_on program unit (best k)))))
+    ∙ (append_assoc out (notes_below places program survey asked shown unit) (help_on program unit choice)
+    ∙ λ k. out ++ (notes_below places program survey asked (first k) unit ++ help_on program unit (best k)))))
 
 -- ---- a refusal
 
-pub refused_so : (out last : List ℕ) (survey : KnownByUnit) (program : List Insn) (fault : Option VerifyError) (r : Reason) (unit units : ℕ) (i : Insn) (known : Option AbsState) (s : Option Sentence) →
+pub refused_so : (places : Places) (out last : List ℕ) (survey : KnownByUnit) (program : List Insn) (fault : Option VerifyError) (r : Reason) (unit units : ℕ) (i : Insn) (known : Option AbsState) (s : Option Sentence) →
     fault ≡ Some (At r unit) → Some i ≡ instruction_at program unit → units ≡ length (slots_of program) → known ≡ known_by (survey unit) → s ≡ sentence_of units r unit i known →
-    last ≡ out ++ told_text survey program unit i s → last ≡ out ++ refused_text survey program fault
-refused_so out last survey program fault r unit units i known s there at all here so told =
+    last ≡ out ++ told_text places survey program unit i s → last ≡ out ++ refused_text places survey program fault
+refused_so places out last survey program fault r unit units i known s there at all here so told =
     let same : s ≡ sentence_of (length (slots_of program)) r unit i (known_by (survey unit)) = so ∙ λ k. sentence_of (all k) r unit i (here k) in
-    subst (λ (o : Option VerifyError). last ≡ out ++ refused_text survey program o) (sym there)
-    (subst (λ (o : Option Insn). last ≡ out ++ refused_at survey program r unit o) at (told ∙ λ k. out ++ told_text survey program unit i (same k)))
+    subst (λ (o : Option VerifyError). last ≡ out ++ refused_text places survey program o) (sym there)
+    (subst (λ (o : Option Insn). last ≡ out ++ refused_at places survey program r unit o) at (told ∙ λ k. out ++ told_text places survey program unit i (same k)))

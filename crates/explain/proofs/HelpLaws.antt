@@ -13,7 +13,7 @@ use Rattle.causes.specs.declared.mends.Trial.{Trial}
 use Rattle.causes.specs.declared.mends.Trial.TheVariants.{Refused, Passes, Accepted}
 use Rattle.causes.specs.Mends.{mended, comes, tried_with, tried}
 use Rattle.explain.specs.declared.wanted.Choice.{Choice}
-use Rattle.explain.specs.declared.wanted.Choice.TheVariants.{Mask, One}
+use Rattle.explain.specs.declared.wanted.Choice.TheVariants.{Mask, One, Either}
 use Rattle.explain.specs.Helps.{unit_behind, Help, better, mask, best_mask, best}
 use Rattle.explain.specs.Laws.{Mends, HelpsMend}
 
@@ -83,6 +83,8 @@ masks_help program place unit r (suc bits) =
 best_helps : (program : List Insn) (place unit : ℕ) (choice : Choice) → Helps program place unit (best program place unit choice)
 best_helps program place unit (Mask r) = masks_help program place unit r 6
 best_helps program place unit (One edit) = better_helps program place unit edit (tried edit place program (unit_behind edit unit)) None refl tt
+best_helps program place unit (Either edit r) =
+    better_helps program place unit edit (tried edit place program (unit_behind edit unit)) (best_mask program place unit r 6) refl (masks_help program place unit r 6)
 
 pub helps_mend : HelpsMend
 helps_mend program place unit choice edit trial e = subst (λ (o : Option Help). Helps program place unit o) e (best_helps program place unit choice)

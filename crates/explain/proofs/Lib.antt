@@ -10,3 +10,4 @@ pub mod RefusalsTold
 pub mod HelpLaws
 pub mod NoteLemmas
 pub mod AboutLemmas
+pub mod CopyLemmas

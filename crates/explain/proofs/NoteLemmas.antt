@@ -8,17 +8,18 @@ use Rattle.verify.proofs.Edges.{start_inside}
 use Rattle.causes.specs.declared.mark.Mark.{Mark}
 use Rattle.causes.specs.declared.subject.Subject.{Subject}
 use Rattle.causes.specs.Marks.{KnownByUnit, known_by}
+use Rattle.explain.specs.Units.{Places}
 use Rattle.explain.specs.Notes.{note_text, notes_below}
 
 -- one more note
-pub notes_more : (before out new : List ℕ) (program : List Insn) (survey : KnownByUnit) (asked : Subject) (marked : List Mark) (n : ℕ) (insn : Option Insn) (known : Option AbsState) (mark : Option Mark) →
-    insn ≡ instruction_at program n → known ≡ known_by (survey n) → mark ≡ slice_get marked n → out ≡ before ++ notes_below program survey asked marked n → new ≡ out ++ note_text asked n insn known mark →
-    new ≡ before ++ notes_below program survey asked marked (n + 1)
-notes_more before out new program survey asked marked n insn known mark at here so so_far more =
-    let note : List ℕ = note_text asked n (instruction_at program n) (known_by (survey n)) (slice_get marked n) in
+pub notes_more : (places : Places) (before out new : List ℕ) (program : List Insn) (survey : KnownByUnit) (asked : Subject) (marked : List Mark) (n : ℕ) (insn : Option Insn) (known : Option AbsState) (mark : Option Mark) →
+    insn ≡ instruction_at program n → known ≡ known_by (survey n) → mark ≡ slice_get marked n → out ≡ before ++ notes_below places program survey asked marked n → new ≡ out ++ note_text places asked n insn known mark →
+    new ≡ before ++ notes_below places program survey asked marked (n + 1)
+notes_more places before out new program survey asked marked n insn known mark at here so so_far more =
+    let note : List ℕ = note_text places asked n (instruction_at program n) (known_by (survey n)) (slice_get marked n) in
     let next : suc n ≡ n + 1 = omega arith in
-    subst (λ (m : ℕ). new ≡ before ++ notes_below program survey asked marked m) next
-    (more ∙ ((λ i. out ++ note_text asked n (at i) (here i) (so i)) ∙ (ap (λ (l : List ℕ). l ++ note) so_far ∙ append_assoc before (notes_below program survey asked marked n) note)))
+    subst (λ (m : ℕ). new ≡ before ++ notes_below places program survey asked marked m) next
+    (more ∙ ((λ i. out ++ note_text places asked n (at i) (here i) (so i)) ∙ (ap (λ (l : List ℕ). l ++ note) so_far ∙ append_assoc before (notes_below places program survey asked marked n) note)))
 
 pub starts_within : (program : List Insn) (unit : ℕ) (i : Insn) → Some i ≡ instruction_at program unit → unit < length (slots_of program)
 starts_within program unit i at = start_inside program unit (subst (λ (o : Option Insn). IsSome o) at refl)

@@ -1,5 +1,5 @@
 -- The explanation of a program: what is known at each unit to which the verifier comes, and why it is refused, if so (own).
-use Rattle.std.specs.Prelude.{ℕ, ℤ, pos, ◌+◌, ◌+ℤ◌, ◌==◌, nat_lt, Bool, false, if◌then◌else◌, List, [], ◌∷◌, ◌++◌, Option, Some, None, option_map, option_and_then, codes, decimal, length}
+use Rattle.std.specs.Prelude.{ℕ, ℤ, pos, ◌+◌, ◌+ℤ◌, ◌==◌, nat_lt, Bool, false, if◌then◌else◌, List, [], ◌∷◌, ◌++◌, Option, Some, None, option_map, option_and_then, codes, length}
 use Rattle.insn.specs.declared.insn.Insn.{Insn}
 use Rattle.insn.specs.declared.insn.Insn.TheVariants.{Jump, LongJump, Branch}
 use Rattle.insn.specs.Insn.{units_of}
@@ -21,6 +21,7 @@ use Rattle.explain.specs.Sentences.{named_text, sentence_text}
 use Rattle.explain.specs.Shortfalls.{shortfall}
 use Rattle.explain.specs.Reads.{read_by}
 use Rattle.explain.specs.Cells.{cells_read}
+use Rattle.explain.specs.Units.{Places, places_in, unit_text}
 use Rattle.explain.specs.Notes.{subject_of, notes_below}
 use Rattle.explain.specs.Helps.{wanted, help_on}
 use Rattle.causes.specs.declared.subject.Subject.{Subject}
@@ -42,12 +43,12 @@ abbrev pub known_text : Insn → Option AbsState → List ℕ
 known_text i None = codes " ; no way leads here"
 known_text i (Some a) = reads_text a.registers (read_by i) ++ cells_read i a
 
--- `UNIT INSTRUCTION`, each line behind the end of the one before
-abbrev pub place_text : ℕ → Insn → List ℕ
-place_text unit i = codes "\n" ++ decimal unit ++ codes " " ++ insn_text i
+-- `UNIT INSTRUCTION`, or `UNIT (PLACE) INSTRUCTION`, each line behind the end of the one before
+abbrev pub place_text : Places → ℕ → Insn → List ℕ
+place_text places unit i = codes "\n" ++ unit_text places unit ++ codes " " ++ insn_text i
 
-abbrev pub unit_line : ℕ → Insn → Option AbsState → List ℕ
-unit_line unit i known = place_text unit i ++ known_text i known
+abbrev pub unit_line : Places → ℕ → Insn → Option AbsState → List ℕ
+unit_line places unit i known = place_text places unit i ++ known_text i known
 
 -- what the register that takes the result is known to be behind the instruction
 abbrev pub result_text : Option ℕ → AbsState → List ℕ
@@ -66,18 +67,18 @@ is_at _ unit = false
 abbrev pub behind_text : Option VerifyError → ℕ → Insn → Option AbsState → List ℕ
 behind_text fault unit i known = if is_at fault unit then [] else given_text i known
 
-abbrev pub whole_line : Option VerifyError → ℕ → Insn → Option AbsState → List ℕ
-whole_line fault unit i known = unit_line unit i known ++ behind_text fault unit i known
+abbrev pub whole_line : Places → Option VerifyError → ℕ → Insn → Option AbsState → List ℕ
+whole_line places fault unit i known = unit_line places unit i known ++ behind_text fault unit i known
 
 -- of an instruction to which the verifier comes
-abbrev pub line_if : Option VerifyError → ℕ → Insn → Option (Option AbsState) → List ℕ
-line_if fault unit i None = []
-line_if fault unit i (Some known) = whole_line fault unit i known
+abbrev pub line_if : Places → Option VerifyError → ℕ → Insn → Option (Option AbsState) → List ℕ
+line_if places fault unit i None = []
+line_if places fault unit i (Some known) = whole_line places fault unit i known
 
 -- the lines of the instructions from a unit on
-abbrev pub known_lines : KnownByUnit → Option VerifyError → ℕ → List Insn → List ℕ
-known_lines survey fault unit [] = []
-known_lines survey fault unit (i ∷ is) = line_if fault unit i (survey unit) ++ known_lines survey fault (unit + units_of i) is
+abbrev pub known_lines : Places → KnownByUnit → Option VerifyError → ℕ → List Insn → List ℕ
+known_lines places survey fault unit [] = []
+known_lines places survey fault unit (i ∷ is) = line_if places fault unit i (survey unit) ++ known_lines places survey fault (unit + units_of i) is
 
 -- ---- why it is refused
 
@@ -96,30 +97,30 @@ sentence_of units reason.LastNotExit unit i known = Some (sentence.Structure str
 sentence_of units r unit i known = option_and_then (λ a. shortfall r i a) known
 
 -- `UNIT INSTRUCTION: SENTENCE`
-abbrev pub sentence_line : ℕ → Insn → Sentence → List ℕ
-sentence_line unit i s = place_text unit i ++ codes ": " ++ sentence_text s
+abbrev pub sentence_line : Places → ℕ → Insn → Sentence → List ℕ
+sentence_line places unit i s = place_text places unit i ++ codes ": " ++ sentence_text s
 
 -- where what it is about comes from, and an edit that mends it
-abbrev pub about_text : KnownByUnit → List Insn → ℕ → Insn → Sentence → Option Subject → List ℕ
-about_text survey program unit i s None = []
-about_text survey program unit i s (Some asked) =
-    notes_below program survey asked (marks program survey asked unit) unit ++ help_on program unit (wanted program (marks program survey asked unit) unit i s)
+abbrev pub about_text : Places → KnownByUnit → List Insn → ℕ → Insn → Sentence → Option Subject → List ℕ
+about_text places survey program unit i s None = []
+about_text places survey program unit i s (Some asked) =
+    notes_below places program survey asked (marks program survey asked unit) unit ++ help_on program unit (wanted program (marks program survey asked unit) unit i s)
 
-abbrev pub told_text : KnownByUnit → List Insn → ℕ → Insn → Option Sentence → List ℕ
-told_text survey program unit i None = []
-told_text survey program unit i (Some s) = sentence_line unit i s ++ about_text survey program unit i s (subject_of s)
+abbrev pub told_text : Places → KnownByUnit → List Insn → ℕ → Insn → Option Sentence → List ℕ
+told_text places survey program unit i None = []
+told_text places survey program unit i (Some s) = sentence_line places unit i s ++ about_text places survey program unit i s (subject_of s)
 
-abbrev pub refused_at : KnownByUnit → List Insn → Reason → ℕ → Option Insn → List ℕ
-refused_at survey program r unit None = []
-refused_at survey program r unit (Some i) = told_text survey program unit i (sentence_of (length (slots_of program)) r unit i (known_by (survey unit)))
+abbrev pub refused_at : Places → KnownByUnit → List Insn → Reason → ℕ → Option Insn → List ℕ
+refused_at places survey program r unit None = []
+refused_at places survey program r unit (Some i) = told_text places survey program unit i (sentence_of (length (slots_of program)) r unit i (known_by (survey unit)))
 
-abbrev pub refused_text : KnownByUnit → List Insn → Option VerifyError → List ℕ
-refused_text survey program (Some (At r unit)) = refused_at survey program r unit (instruction_at program unit)
-refused_text survey program _ = []
+abbrev pub refused_text : Places → KnownByUnit → List Insn → Option VerifyError → List ℕ
+refused_text places survey program (Some (At r unit)) = refused_at places survey program r unit (instruction_at program unit)
+refused_text places survey program _ = []
 
 -- the lines of the units, and those of the refusal
-abbrev pub lines_by : KnownByUnit → List Insn → Option VerifyError → List ℕ
-lines_by survey program fault = known_lines survey fault 0 program ++ refused_text survey program fault
+abbrev pub lines_by : Places → KnownByUnit → List Insn → Option VerifyError → List ℕ
+lines_by places survey program fault = known_lines places survey fault 0 program ++ refused_text places survey program fault
 
 -- ---- of a program
 
@@ -127,5 +128,9 @@ lines_by survey program fault = known_lines survey fault 0 program ++ refused_te
 abbrev pub known_in : List Insn → KnownByUnit
 known_in program unit = if nat_lt unit (length (slots_of program)) then known_before program unit else None
 
+-- with the places of its units
+abbrev pub explained_at : Places → List Insn → List ℕ
+explained_at places program = lines_by places (known_in program) program (judged program)
+
 abbrev pub explained : List Insn → List ℕ
-explained program = lines_by (known_in program) program (judged program)
+explained program = explained_at (places_in []) program

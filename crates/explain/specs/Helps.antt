@@ -1,5 +1,5 @@
 -- Edits that mend a refusal, each said only where the verifier comes past the refused instruction in the program with the edit (own).
-use Rattle.std.specs.Prelude.{ℕ, zero, suc, pos, ◌+◌, ◌-◌, ◌^◌, Bool, true, false, if◌then◌else◌, List, [], ◌++◌, Option, Some, None, option_and_then, codes, decimal, slice_get}
+use Rattle.std.specs.Prelude.{ℕ, zero, suc, pos, ◌+◌, ◌-◌, ◌^◌, ◌==◌, Bool, true, false, if◌then◌else◌, List, [], ◌++◌, Option, Some, None, option_and_then, codes, decimal, slice_get}
 use Rattle.word.specs.declared.Width.TheVariants.{W64}
 use Rattle.word.specs.declared.Operation.TheVariants.{Add, And, Move}
 use Rattle.insn.specs.declared.insn.Insn.{Insn}
@@ -10,7 +10,7 @@ use Rattle.asm.specs.Printing.{insn_text}
 use Rattle.absval.specs.declared.value.AbsVal.{AbsVal}
 use Rattle.absval.specs.declared.value.AbsVal.TheVariants.{Number}
 use Rattle.causes.specs.declared.mark.Mark.{Mark}
-use Rattle.causes.specs.declared.mark.Mark.TheVariants.{Sets}
+use Rattle.causes.specs.declared.mark.Mark.TheVariants.{Open, Sets}
 use Rattle.causes.specs.declared.mends.Edit.{Edit}
 use Rattle.causes.specs.declared.mends.Edit.TheVariants.{Before, Instead}
 use Rattle.causes.specs.declared.mends.Trial.{Trial}
@@ -25,7 +25,7 @@ use Rattle.explain.specs.declared.sentence.Access.TheVariants as access
 use Rattle.explain.specs.declared.sentence.Misfit.{Misfit}
 use Rattle.explain.specs.declared.sentence.Misfit.TheVariants as misfit
 use Rattle.explain.specs.declared.wanted.Choice.{Choice}
-use Rattle.explain.specs.declared.wanted.Choice.TheVariants.{Mask, One}
+use Rattle.explain.specs.declared.wanted.Choice.TheVariants.{Mask, One, Either}
 
 -- ---- what is to be tried for a sentence, and before which unit
 
@@ -42,12 +42,39 @@ abbrev pub exchanged : ℕ → Insn → Option (ℕ × Choice)
 exchanged unit (Arithmetic W64 Add dst (Register src)) = Some (unit, One (Instead Add src (Register dst)))
 exchanged unit i = None
 
-abbrev pub for_misuse : ℕ → Insn → Misuse → Option (ℕ × Choice)
-for_misuse unit i (misuse.EitherSign r value) = mask_at unit r
-for_misuse unit i (misuse.Far r region span) = moving_mask unit i
-for_misuse unit i (misuse.Computed r value) = exchanged unit i
-for_misuse unit i (misuse.Exit value) = Some (unit, One (Before Move 0 (Immediate (pos 0))))
-for_misuse unit i m = None
+-- the register to which an instruction copies this one
+abbrev pub copy_of : ℕ → Insn → Option ℕ
+copy_of r (Arithmetic W64 Move dst (Register src)) = if src == r then Some dst else None
+copy_of r i = None
+
+abbrev pub is_open : Option Mark → Bool
+is_open (Some Open) = true
+is_open _ = false
+
+-- the copy that the instruction of a unit makes, if a way leads from there on which nothing sets the register
+abbrev pub copy_at : List Insn → List Mark → ℕ → ℕ → Option ℕ
+copy_at program marks r unit = if is_open (slice_get marks unit) then option_and_then (copy_of r) (instruction_at program unit) else None
+
+abbrev pub or_else : Option ℕ → Option ℕ → Option ℕ
+or_else (Some copy) other = Some copy
+or_else None other = other
+
+-- the last such copy that the units below one make
+unfoldable pub last_copy : List Insn → List Mark → ℕ → ℕ → Option ℕ
+last_copy program marks r zero = None
+last_copy program marks r (suc n) = or_else (copy_at program marks r n) (last_copy program marks r n)
+
+-- a sum or difference of a pointer and a number: with the copy in the number's place, as that may be what was tested; else a mask
+abbrev pub by_copy : ℕ → Insn → ℕ → Option ℕ → Option (ℕ × Choice)
+by_copy unit (Arithmetic w operation dst operand) r (Some copy) = Some (unit, Either (Instead operation dst (Register copy)) r)
+by_copy unit i r copy = mask_at unit r
+
+abbrev pub for_misuse : List Insn → List Mark → ℕ → Insn → Misuse → Option (ℕ × Choice)
+for_misuse program marks unit i (misuse.EitherSign r value) = by_copy unit i r (last_copy program marks r unit)
+for_misuse program marks unit i (misuse.Far r region span) = moving_mask unit i
+for_misuse program marks unit i (misuse.Computed r value) = exchanged unit i
+for_misuse program marks unit i (misuse.Exit value) = Some (unit, One (Before Move 0 (Immediate (pos 0))))
+for_misuse program marks unit i m = None
 
 abbrev pub for_argument : ℕ → ℕ → AbsVal → Option (ℕ × Choice)
 for_argument unit r (Number n) = mask_at unit r
@@ -76,7 +103,7 @@ for_access program marks unit a = None
 
 abbrev pub wanted : List Insn → List Mark → ℕ → Insn → Sentence → Option (ℕ × Choice)
 wanted program marks unit i (sentence.Structure s) = None
-wanted program marks unit i (sentence.Register m) = for_misuse unit i m
+wanted program marks unit i (sentence.Register m) = for_misuse program marks unit i m
 wanted program marks unit i (sentence.Memory a) = for_access program marks unit a
 wanted program marks unit i (sentence.Call m) = for_misfit unit m
 
@@ -111,6 +138,7 @@ best_mask program place unit r (suc bits) = better (mask r (suc bits)) (tried (m
 abbrev pub best : List Insn → ℕ → ℕ → Choice → Option Help
 best program place unit (Mask r) = best_mask program place unit r 6
 best program place unit (One edit) = better edit (tried edit place program (unit_behind edit unit)) None
+best program place unit (Either edit r) = better edit (tried edit place program (unit_behind edit unit)) (best_mask program place unit r 6)
 
 -- ---- text
 

@@ -4,6 +4,7 @@ pub mod Sentences
 pub mod Shortfalls
 pub mod Cells
 pub mod Rules
+pub mod Units
 pub mod Notes
 pub mod Helps
 pub mod Explained

@@ -1,5 +1,5 @@
 -- Where what a refusal is about comes from: the units that set it last on the ways that lead there, and the tests and copies on these ways that tell nothing of it (own).
-use Rattle.std.specs.Prelude.{ℕ, zero, suc, List, [], ◌++◌, Option, Some, None, codes, decimal, slice_get}
+use Rattle.std.specs.Prelude.{ℕ, zero, suc, List, [], ◌++◌, Option, Some, None, codes, slice_get}
 use Rattle.insn.specs.declared.insn.Insn.{Insn}
 use Rattle.insn.specs.Program.{instruction_at}
 use Rattle.asm.specs.Printing.{insn_text}
@@ -22,6 +22,7 @@ use Rattle.explain.specs.declared.sentence.Misfit.{Misfit}
 use Rattle.explain.specs.declared.sentence.Misfit.TheVariants as misfit
 use Rattle.explain.specs.Sentences.{named_text}
 use Rattle.explain.specs.Cells.{run_text}
+use Rattle.explain.specs.Units.{Places, unit_text}
 use Rattle.explain.specs.declared.rules.Passing.{Passing}
 use Rattle.explain.specs.Rules.{rule_text, passed_by, passing_text}
 
@@ -62,35 +63,35 @@ abbrev pub found_text : Subject → AbsState → List ℕ
 found_text (subject.Register r) a = named_text r (known_at a.registers r)
 found_text (subject.Cell place) a = run_text place (suc place) (held_at a.stack place)
 
--- `note: UNIT INSTRUCTION`
-abbrev pub noted_text : ℕ → Insn → List ℕ
-noted_text unit i = codes "\nnote: " ++ decimal unit ++ codes " " ++ insn_text i
+-- `note: UNIT INSTRUCTION`, or `note: UNIT (PLACE) INSTRUCTION`
+abbrev pub noted_text : Places → ℕ → Insn → List ℕ
+noted_text places unit i = codes "\nnote: " ++ unit_text places unit ++ codes " " ++ insn_text i
 
 abbrev pub rule_behind : Subject → Insn → AbsState → List ℕ
 rule_behind (subject.Register r) i a = rule_text i (known_at a.registers r)
 rule_behind (subject.Cell place) i a = []
 
 -- what an instruction that set it left
-abbrev pub set_note : Subject → ℕ → Insn → AbsState → List ℕ
-set_note asked unit i a = noted_text unit i ++ codes " -> " ++ found_text asked (left i a) ++ rule_behind asked i (left i a)
+abbrev pub set_note : Places → Subject → ℕ → Insn → AbsState → List ℕ
+set_note places asked unit i a = noted_text places unit i ++ codes " -> " ++ found_text asked (left i a) ++ rule_behind asked i (left i a)
 
-abbrev pub noted_if : ℕ → Insn → Option Passing → List ℕ
-noted_if unit i None = []
-noted_if unit i (Some tells) = noted_text unit i ++ passing_text tells
+abbrev pub noted_if : Places → ℕ → Insn → Option Passing → List ℕ
+noted_if places unit i None = []
+noted_if places unit i (Some tells) = noted_text places unit i ++ passing_text tells
 
 -- an instruction on a way there that tells nothing of it
-abbrev pub passing_note : Subject → ℕ → Insn → AbsState → List ℕ
-passing_note (subject.Register r) unit i a = noted_if unit i (passed_by r i (known_at a.registers r))
-passing_note (subject.Cell place) unit i a = []
+abbrev pub passing_note : Places → Subject → ℕ → Insn → AbsState → List ℕ
+passing_note places (subject.Register r) unit i a = noted_if places unit i (passed_by r i (known_at a.registers r))
+passing_note places (subject.Cell place) unit i a = []
 
-abbrev pub note_by : Subject → ℕ → Insn → AbsState → Option Mark → List ℕ
-note_by asked unit i a (Some Sets) = set_note asked unit i a
-note_by asked unit i a (Some Open) = passing_note asked unit i a
-note_by asked unit i a _ = []
+abbrev pub note_by : Places → Subject → ℕ → Insn → AbsState → Option Mark → List ℕ
+note_by places asked unit i a (Some Sets) = set_note places asked unit i a
+note_by places asked unit i a (Some Open) = passing_note places asked unit i a
+note_by places asked unit i a _ = []
 
-abbrev pub note_text : Subject → ℕ → Option Insn → Option AbsState → Option Mark → List ℕ
-note_text asked unit (Some i) (Some a) mark = note_by asked unit i a mark
-note_text asked unit i known mark = []
+abbrev pub note_text : Places → Subject → ℕ → Option Insn → Option AbsState → Option Mark → List ℕ
+note_text places asked unit (Some i) (Some a) mark = note_by places asked unit i a mark
+note_text places asked unit i known mark = []
 
 -- where a way leads from the entry on which nothing sets it
 abbrev pub entry_note : Subject → Option AbsState → Option Mark → List ℕ
@@ -98,7 +99,7 @@ entry_note asked (Some a) (Some Open) = codes "\nnote: at the entry " ++ found_t
 entry_note asked known mark = []
 
 -- those of the units below one
-abbrev pub notes_below : List Insn → KnownByUnit → Subject → List Mark → ℕ → List ℕ
-notes_below program survey asked marked zero = entry_note asked (known_by (survey 0)) (slice_get marked 0)
-notes_below program survey asked marked (suc n) =
-    notes_below program survey asked marked n ++ note_text asked n (instruction_at program n) (known_by (survey n)) (slice_get marked n)
+abbrev pub notes_below : Places → List Insn → KnownByUnit → Subject → List Mark → ℕ → List ℕ
+notes_below places program survey asked marked zero = entry_note asked (known_by (survey 0)) (slice_get marked 0)
+notes_below places program survey asked marked (suc n) =
+    notes_below places program survey asked marked n ++ note_text places asked n (instruction_at program n) (known_by (survey n)) (slice_get marked n)

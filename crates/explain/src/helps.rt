@@ -110,6 +110,27 @@ fn one(
     Ok(better(edit, trial, None))
 }
 
+/// An edit, where it mends the refusal, else the best of the masks.
+fn either(
+    alloc: Global,
+    program: &Program,
+    place: usize,
+    unit: usize,
+    edit: Edit,
+    r: Reg,
+) -> Result<Option<Help>, AllocError>
+    requires place { place < 4096 }
+    requires unit { unit < 4096 }
+    ensures { IfOk result (λ help. help ≡ best program.now place unit (Choice.Either edit r)) }
+{
+    let trial = tried(alloc, program, &edit, place, unit_behind(&edit, unit))?;
+    if let Trial::Accepted = trial {
+        return Ok(Some((edit, Trial::Accepted)));
+    }
+    let rest = best_mask(alloc, program, place, unit, r, 6)?;
+    Ok(better(edit, trial, rest))
+}
+
 /// The best edit of those that are wanted.
 fn best(
     alloc: Global,
@@ -125,6 +146,7 @@ fn best(
     match wanted {
         Choice::Mask(r) => best_mask(alloc, program, place, unit, r, 6),
         Choice::One(edit) => one(alloc, program, place, unit, edit),
+        Choice::Either(edit, r) => either(alloc, program, place, unit, edit, r),
     }
 }
 

@@ -15,10 +15,11 @@ mod reads;
 mod rules;
 mod sentence;
 mod shortfall;
+mod units;
 mod values;
 mod wanted;
 
 pub use laws::{helps_mend, refusals_are_told};
-pub use lines::explanation;
+pub use lines::{explanation, explanation_at};
 pub use sentence::{Access, Misfit, Misuse, Sentence, Structure};
 pub use values::{Known, Span};

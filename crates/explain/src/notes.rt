@@ -1,10 +1,12 @@
 //! Where what a refusal is about comes from, as notes.
 ghost use Rattle.std.specs.Prelude.{◌≡◌, ◌++◌, option_map, slice_get, string_bytes, OnOk};
 ghost use Rattle.explain.specs.Notes.{of_misuse, of_access, of_misfit, subject_of, found_text, noted_text, rule_behind, set_note, noted_if, passing_note, note_by, note_text, entry_note, notes_below};
+ghost use Rattle.explain.specs.Units.{places_in};
 
 use crate::cells::put_run;
 use crate::rules::{Passing, passed_by, rule_text};
 use crate::sentence::{Access, Misfit, Misuse, Named, Sentence};
+use crate::units::put_unit_text;
 use asm::put_instruction;
 use causes::{Mark, Subject, held_at, known_by, left_by, numbered};
 use insn::{Insn, Program};
@@ -77,10 +79,17 @@ fn put_found(out: &mut String, asked: &Subject, state: &AbsState) -> Result<(), 
 }
 
 /// Adds that an instruction is noted.
-fn put_noted(out: &mut String, unit: usize, insn: &Insn) -> Result<(), AllocError>
-    ensures { OnOk result (string_bytes out.new ≡ string_bytes out.old ++ noted_text unit insn.now) }
+fn put_noted(
+    out: &mut String,
+    places: &[String],
+    unit: usize,
+    insn: &Insn,
+) -> Result<(), AllocError>
+    ensures { OnOk result (string_bytes out.new ≡ string_bytes out.old ++ noted_text (places_in places.now) unit insn.now) }
 {
-    write!(out, "\nnote: {unit} ")?;
+    out.push_str("\nnote: ")?;
+    put_unit_text(out, places, unit)?;
+    out.push_str(" ")?;
     put_instruction(out, insn)
 }
 
@@ -102,15 +111,16 @@ fn put_rule(
 /// Adds what an instruction that set it left.
 fn put_set(
     out: &mut String,
+    places: &[String],
     asked: &Subject,
     unit: usize,
     insn: &Insn,
     state: &AbsState,
 ) -> Result<(), AllocError>
-    ensures { OnOk result (string_bytes out.new ≡ string_bytes out.old ++ set_note asked.now unit insn.now state.now) }
+    ensures { OnOk result (string_bytes out.new ≡ string_bytes out.old ++ set_note (places_in places.now) asked.now unit insn.now state.now) }
 {
     let left = left_by(insn, state);
-    put_noted(out, unit, insn)?;
+    put_noted(out, places, unit, insn)?;
     out.push_str(" -> ")?;
     put_found(out, asked, &left)?;
     put_rule(out, asked, insn, &left)
@@ -119,31 +129,39 @@ fn put_set(
 /// Adds an instruction that tells nothing of a register, if it is one.
 fn put_if(
     out: &mut String,
+    places: &[String],
     unit: usize,
     insn: &Insn,
     tells: Option<Passing>,
 ) -> Result<(), AllocError>
-    ensures { OnOk result (string_bytes out.new ≡ string_bytes out.old ++ noted_if unit insn.now tells) }
+    ensures { OnOk result (string_bytes out.new ≡ string_bytes out.old ++ noted_if (places_in places.now) unit insn.now tells) }
 {
     let Some(tells) = tells else {
         return Ok(());
     };
-    put_noted(out, unit, insn)?;
+    put_noted(out, places, unit, insn)?;
     write!(out, "{tells}")
 }
 
 /// Adds an instruction on a way there that tells nothing of it.
 fn put_passing(
     out: &mut String,
+    places: &[String],
     asked: &Subject,
     unit: usize,
     insn: &Insn,
     state: &AbsState,
 ) -> Result<(), AllocError>
-    ensures { OnOk result (string_bytes out.new ≡ string_bytes out.old ++ passing_note asked.now unit insn.now state.now) }
+    ensures { OnOk result (string_bytes out.new ≡ string_bytes out.old ++ passing_note (places_in places.now) asked.now unit insn.now state.now) }
 {
     match asked {
-        Subject::Register(r) => put_if(out, unit, insn, passed_by(*r, insn, state.known(*r))),
+        Subject::Register(r) => put_if(
+            out,
+            places,
+            unit,
+            insn,
+            passed_by(*r, insn, state.known(*r)),
+        ),
         Subject::Cell(_) => Ok(()),
     }
 }
@@ -151,17 +169,18 @@ fn put_passing(
 /// Adds what is noted of a unit by its mark.
 fn put_note(
     out: &mut String,
+    places: &[String],
     asked: &Subject,
     unit: usize,
     insn: &Insn,
     state: &AbsState,
     mark: Option<Mark>,
 ) -> Result<(), AllocError>
-    ensures { OnOk result (string_bytes out.new ≡ string_bytes out.old ++ note_by asked.now unit insn.now state.now mark) }
+    ensures { OnOk result (string_bytes out.new ≡ string_bytes out.old ++ note_by (places_in places.now) asked.now unit insn.now state.now mark) }
 {
     match mark {
-        Some(Mark::Sets) => put_set(out, asked, unit, insn, state),
-        Some(Mark::Open) => put_passing(out, asked, unit, insn, state),
+        Some(Mark::Sets) => put_set(out, places, asked, unit, insn, state),
+        Some(Mark::Open) => put_passing(out, places, asked, unit, insn, state),
         Some(Mark::Closed) | None => Ok(()),
     }
 }
@@ -169,13 +188,14 @@ fn put_note(
 /// The same where an instruction starts to which a path leads.
 fn put_note_at(
     out: &mut String,
+    places: &[String],
     asked: &Subject,
     unit: usize,
     insn: Option<Insn>,
     state: Option<&AbsState>,
     mark: Option<Mark>,
 ) -> Result<(), AllocError>
-    ensures { OnOk result (string_bytes out.new ≡ string_bytes out.old ++ note_text asked.now unit insn (option_map (λ a. a.now) state.entry) mark) }
+    ensures { OnOk result (string_bytes out.new ≡ string_bytes out.old ++ note_text (places_in places.now) asked.now unit insn (option_map (λ a. a.now) state.entry) mark) }
 {
     let Some(insn) = insn else {
         return Ok(());
@@ -183,7 +203,7 @@ fn put_note_at(
     let Some(state) = state else {
         return Ok(());
     };
-    put_note(out, asked, unit, &insn, state, mark)
+    put_note(out, places, asked, unit, &insn, state, mark)
 }
 
 /// Adds what is known at the entry, where a way leads from there on which nothing sets it.
@@ -215,19 +235,28 @@ fn mark_at(marks: &[Mark], unit: usize) -> Option<Mark>
 /// Adds the notes of the units below one.
 pub(crate) fn put_notes_below(
     out: &mut String,
+    places: &[String],
     program: &Program,
     states: &[Option<AbsState>],
     asked: &Subject,
     marks: &[Mark],
     unit: usize,
 ) -> Result<(), AllocError>
-    ensures { OnOk result (string_bytes out.new ≡ string_bytes out.old ++ notes_below program.now (slice_get states.now) asked.now marks.now unit) }
+    ensures { OnOk result (string_bytes out.new ≡ string_bytes out.old ++ notes_below (places_in places.now) program.now (slice_get states.now) asked.now marks.now unit) }
 {
     put_entry(out, asked, known_by(states, 0), mark_at(marks, 0))?;
     for place in 0..unit {
         let insn = program.at(place);
         let state = known_by(states, place);
-        put_note_at(out, asked, place, insn, state, mark_at(marks, place))?;
+        put_note_at(
+            out,
+            places,
+            asked,
+            place,
+            insn,
+            state,
+            mark_at(marks, place),
+        )?;
     }
     Ok(())
 }

@@ -1,6 +1,6 @@
 //! Which edits are to be tried for a sentence.
 ghost use Rattle.std.specs.Prelude.{◌≡◌, ◌<◌, ◌≤◌, IfSome, slice_get};
-ghost use Rattle.explain.specs.Helps.{moving_mask, exchanged, for_misuse, for_argument, for_misfit, is_set, last_set, moved_at, for_access, wanted};
+ghost use Rattle.explain.specs.Helps.{moving_mask, exchanged, copy_of, is_open, copy_at, last_copy, by_copy, for_misuse, for_argument, for_misfit, is_set, last_set, moved_at, for_access, wanted};
 
 use crate::sentence::{Access, Misfit, Misuse, Sentence};
 use absval::AbsVal;
@@ -15,6 +15,8 @@ pub(crate) enum Choice {
     Mask(Reg),
     /// This one.
     One(Edit),
+    /// This one, else a mask of the register.
+    Either(Edit, Reg),
 }
 
 /// The number that moves a pointer.
@@ -49,13 +51,93 @@ fn exchanged(unit: usize, insn: &Insn) -> Option<(usize, Choice)>
     Some((unit, Choice::One(sum)))
 }
 
+/// The register to which an instruction copies this one.
+fn copy_of(r: Reg, insn: &Insn) -> Option<Reg>
+    ensures { result ≡ copy_of r insn.now }
+{
+    let Insn::Arithmetic {
+        width: Width::W64,
+        operation: Operation::Move,
+        dst,
+        operand: Operand::Register(src),
+    } = insn
+    else {
+        return None;
+    };
+    if src.number() == r.number() {
+        Some(*dst)
+    } else {
+        None
+    }
+}
+
+/// Whether a way leads from a unit on which nothing sets it.
+fn is_open(marks: &[Mark], unit: usize) -> bool
+    ensures { result ≡ is_open (slice_get marks.now unit) }
+{
+    match marks.get(unit) {
+        Some(Mark::Open) => true,
+        _ => false,
+    }
+}
+
+/// The copy that the instruction of such a unit makes.
+fn copy_at(program: &Program, marks: &[Mark], r: Reg, unit: usize) -> Option<Reg>
+    ensures { result ≡ copy_at program.now marks.now r unit }
+{
+    if !is_open(marks, unit) {
+        return None;
+    }
+    match program.at(unit) {
+        Some(insn) => copy_of(r, &insn),
+        None => None,
+    }
+}
+
+/// The last such copy that the units below one make.
+#[tactic(auto, using(crate::proofs::CopyLemmas::no_copy, crate::proofs::CopyLemmas::copy_so))]
+fn last_copy(program: &Program, marks: &[Mark], r: Reg, unit: usize) -> Option<Reg>
+    ensures { result ≡ last_copy program.now marks.now r unit }
+{
+    if unit == 0 {
+        return None;
+    }
+    match copy_at(program, marks, r, unit - 1) {
+        Some(copy) => Some(copy),
+        None => last_copy(program, marks, r, unit - 1),
+    }
+}
+
+/// A sum or difference of a pointer and a number: with a copy of the number, else a mask.
+fn by_copy(unit: usize, insn: &Insn, r: Reg, copy: Option<Reg>) -> Option<(usize, Choice)>
+    ensures wanted { result ≡ by_copy unit insn.now r copy }
+    ensures below { IfSome result (λ want. want.0 ≤ unit) }
+{
+    let Some(copy) = copy else {
+        return Some((unit, Choice::Mask(r)));
+    };
+    match insn {
+        Insn::Arithmetic { operation, dst, .. } => {
+            let edit = Edit::Instead(*operation, *dst, Operand::Register(copy));
+            Some((unit, Choice::Either(edit, r)))
+        }
+        _ => Some((unit, Choice::Mask(r))),
+    }
+}
+
 /// For a register that is used as it may not be.
-fn for_misuse(unit: usize, insn: &Insn, misuse: Misuse) -> Option<(usize, Choice)>
-    ensures wanted { result ≡ for_misuse unit insn.now misuse }
+fn for_misuse(
+    program: &Program,
+    marks: &[Mark],
+    unit: usize,
+    insn: &Insn,
+    misuse: Misuse,
+) -> Option<(usize, Choice)>
+    ensures wanted { result ≡ for_misuse program.now marks.now unit insn.now misuse }
     ensures below { IfSome result (λ want. want.0 ≤ unit) }
 {
     match misuse {
-        Misuse::EitherSign(r, _) => Some((unit, Choice::Mask(r))),
+        Misuse::EitherSign(r, _) => by_copy(unit, insn, r, last_copy(program, marks, r, unit)),
         Misuse::Far(_, _, _) => moving_mask(unit, insn),
         Misuse::Computed(_, _) => exchanged(unit, insn),
         Misuse::Exit(_) => {
@@ -152,7 +234,7 @@ pub(crate) fn wanted(
 {
     match *sentence {
         Sentence::Structure(_) => None,
-        Sentence::Register(misuse) => for_misuse(unit, insn, misuse),
+        Sentence::Register(misuse) => for_misuse(program, marks, unit, insn, misuse),
         Sentence::Memory(access) => for_access(program, marks, unit, access),
         Sentence::Call(misfit) => for_misfit(unit, misfit),
     }

@@ -1,28 +1,84 @@
 -- What is known of the texts of campaigns.
-use Rattle.std.proofs.Common.{ℕ, ◌≡◌, ◌∙◌, List, ap, subst}
-use Rattle.round.specs.Scenario.{Scenario}
+use Rattle.std.proofs.Common.{ℕ, suc, ◌≡◌, ◌∙◌, ◌++◌, ◌∷◌, [], List, Option, None, Some, ap, append_assoc, append-nil, refl, subst, sym}
+use Rattle.command_line.specs.declared.tasks.Account.{Account}
+use Rattle.command_line.specs.declared.tasks.Lieutenants.{Lieutenants}
+use Rattle.board.specs.Board.{IsLegal}
+use Rattle.round.specs.Scenario.{Scenario, IsScenario}
 use Rattle.world.specs.declared.schedule.Repeat.{Repeat}
-use Rattle.world.specs.Chronicle.{Chronicle}
+use Rattle.world.specs.Chronicle.{Chronicle, chronicle_of}
 use Rattle.world.specs.Promises.{AgreeUnderBound, IsVerdictOn, IsWellUnderBound}
+use Rattle.retold.specs.Retold.{Explains, IsWhole}
+use Rattle.retold.proofs.Rounds.{played_whole, replayed_whole}
+use Rattle.trace.specs.Laws.{IsSoundText}
+use Rattle.trace.specs.Names.{chronicle_told, names_of}
 use Rattle.trace.specs.Text.{chronicle_text}
+use Rattle.lab.specs.Lines.{sound_lines}
 use Rattle.world.specs.KindLists.{IsComplete}
-use Rattle.world.specs.Lists.{listed}
+use Rattle.world.specs.Lists.{listed, names_in, replayed}
+use Rattle.world.specs.Replay.{replay_of}
+use Rattle.world.specs.World.{oral_kind}
 use Rattle.world.specs.Schedules.{lines_by}
 use Rattle.signed.specs.Kind.{signed_kind}
 use Rattle.signed.specs.Promises.{AgreeUnderSignedBound, AreSafeThroughout, AreWhole, IsSignedVerdictOn}
 use Rattle.trace.specs.SignedText.{signed_text}
-use Rattle.lab.specs.Campaigns.{IsOralPlayed, IsSignedPlayed, played, signed_played}
+use Rattle.lab.specs.Campaigns.{IsAccount, IsFollowed, IsMustered, IsOralAudited, IsOralPlayed, IsSignedPlayed, asked, played, signed_played}
 
--- the text of the chronicle that is played
-pub is_played : (s : Scenario) (schedule : List (List Repeat)) (chronicle : Chronicle) (text : List ℕ) → chronicle ≡ played s schedule
+-- the account of the chronicle that is played, and what is behind it
+pub is_played : (s : Scenario) (schedule : List (List Repeat)) (account : Account) (explained : Option Lieutenants) (chronicle : Chronicle) (front text : List ℕ) → chronicle ≡ played s schedule
     → AgreeUnderBound s chronicle.decisions → IsVerdictOn s chronicle.decisions chronicle.verdict → IsWellUnderBound chronicle.verdict
-    → text ≡ chronicle_text chronicle → IsOralPlayed s schedule text
-is_played s schedule chronicle text listed agree verdict well told = record {
-  told = told ∙ ap chronicle_text listed;
+    → IsAccount account chronicle front → IsFollowed explained chronicle front text → IsOralPlayed s schedule account explained text
+is_played s schedule account explained chronicle front text listed agree verdict well told followed = record {
+  front = front;
+  told = subst (λ (c : Chronicle). IsAccount account c front) listed told;
+  behind = subst (λ (c : Chronicle). IsFollowed explained c front text) listed followed;
   agree = subst (λ (c : Chronicle). AgreeUnderBound s c.decisions) listed agree;
   verdict = subst (λ (c : Chronicle). IsVerdictOn s c.decisions c.verdict) listed verdict;
   well = subst (λ (c : Chronicle). IsWellUnderBound c.verdict) listed well;
 }
+
+-- the chronicle that is played is whole
+pub played_wholly : (s : Scenario) (schedule : List (List Repeat)) (c : Chronicle) → IsScenario s → c ≡ played s schedule → IsWhole c
+played_wholly s schedule c inside is = played_whole s (lines_by schedule) c inside is
+
+-- so is that of threads
+pub mustered_wholly : (s : Scenario) (c : Chronicle) → IsScenario s → c ≡ chronicle_of (replay_of s c.accesses) → IsWhole c
+mustered_wholly s c inside is = replayed_whole s (names_in 1 c.accesses (suc s.bound)) c inside is
+
+-- and that of an audit
+pub told_wholly : (s : Scenario) (bytes : List ℕ) (c : Chronicle) → IsScenario s → c ≡ chronicle_told s bytes → IsWhole c
+unfolding chronicle_told
+told_wholly s bytes c inside is = replayed_whole s (names_of bytes) c inside is
+
+-- the text of threads
+pub is_mustered : (s : Scenario) (explained : Option Lieutenants) (c : Chronicle) (front text : List ℕ) → front ≡ chronicle_text c → IsFollowed explained c front text
+    → c ≡ chronicle_of (replay_of s c.accesses) → IsComplete oral_kind s (replayed s (names_in 1 c.accesses (suc s.bound))) → IsLegal s.board c.accesses
+    → AgreeUnderBound s c.decisions → IsVerdictOn s c.decisions c.verdict → IsWellUnderBound c.verdict → IsMustered s explained text
+is_mustered s explained c front text is behind replay complete legal agree verdict well = record {
+  chronicle = c;
+  told = subst (λ (f : List ℕ). IsFollowed explained c f text) is behind;
+  replay = replay;
+  complete = complete;
+  legal = legal;
+  agree = agree;
+  verdict = verdict;
+  well = well;
+}
+
+-- the lines of an audit
+pub is_audited : (s : Scenario) (explained : Option Lieutenants) (bytes : List ℕ) (c : Chronicle) (front text : List ℕ) → IsSoundText s bytes → c ≡ chronicle_told s bytes
+    → front ≡ sound_lines c.verdict → IsFollowed explained c front text → IsOralAudited s explained bytes text
+is_audited s explained bytes c front text sound is lines behind =
+    let first : IsFollowed explained (chronicle_told s bytes) front text = subst (λ (x : Chronicle). IsFollowed explained x front text) is behind in
+    let same : front ≡ sound_lines (chronicle_told s bytes).verdict = lines ∙ ap (λ (x : Chronicle). sound_lines x.verdict) is in
+    record { sound = sound; told = subst (λ (f : List ℕ). IsFollowed explained (chronicle_told s bytes) f text) same first }
+
+-- nothing behind a text
+pub alone : (c : Chronicle) (front : List ℕ) → IsFollowed None c front front
+alone c front = ([], sym (append-nil front), refl)
+
+-- an empty line and an explanation
+pub followed : (who : Lieutenants) (c : Chronicle) (front lines text : List ℕ) → Explains c (asked who) lines → text ≡ (front ++ 10 ∷ []) ++ lines → IsFollowed (Some who) c front text
+followed who c front lines text explains is = (10 ∷ lines, is ∙ append_assoc front (10 ∷ []) lines, (lines, refl, explains))
 
 -- the same of a signed campaign
 pub is_signed_played : (s : Scenario) (schedule : List (List Repeat)) (chronicle : Chronicle) (text : List ℕ) → chronicle ≡ signed_played s schedule

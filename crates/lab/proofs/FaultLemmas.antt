@@ -12,9 +12,10 @@ use Rattle.lab.specs.declared.first_answer.FirstAnswer.{FirstAnswer}
 use Rattle.lab.specs.declared.hint.Hint.{Hint}
 use Rattle.lab.specs.Hints.{hint_behind}
 use Rattle.lab.specs.Telling.{refusal_text}
+use Rattle.lab.specs.Whys.{is_explained}
 use Rattle.lab.specs.Faults.{fault_text, status_of, Undoes, Prevents, Stops}
 use Rattle.streams.specs.Names.{shown}
-use Rattle.lab.specs.Serving.{Files, IsFault, IsRefused, IsRefusedLater, IsTaken, IsTurnedDown, NoHint, Tells, TellsName, TellsRefusal, first_name, second_name}
+use Rattle.lab.specs.Serving.{Files, IsFault, IsRefused, IsTaken, IsToldLater, IsTurnedDown, Tells, TellsName, TellsRefusal, first_name, second_name}
 
 -- a write that failed, or what it wrote
 pub written : {E : Type 0} (r : Result (Unit {0}) E) (P Q : Type 0) → OnOk r P → OnErr r Q → Q ⊎ P
@@ -62,23 +63,23 @@ turned_down unread refused name fails old new Memory why told one =
 prevented : (unread second_unread fails : Type 0) (task : Task) (files : Files) (old new : Option (List ℕ)) (fault : Failure)
     → Prevents unread second_unread task files fault → fails ⊎ IfSome (with_newline (fault_text fault)) (Appends old new) → status_of fault ≡ 1
     → IsTurnedDown unread (IsRefused task files.first) (first_name task) (Tells fails old new)
-    ⊎ ((more : FirstAnswer) × IsTaken task files.first more × IsTurnedDown second_unread (NoHint (IsRefusedLater more files.second)) (second_name task) (Tells fails old new))
+    ⊎ ((more : FirstAnswer) × IsTaken task files.first more × IsTurnedDown second_unread (IsToldLater (is_explained task) (second_name task) files.second more) (second_name task) (Tells fails old new))
 prevented unread second_unread fails task files old new fault (inl why) told one =
     inl (turned_down unread (IsRefused task files.first) (first_name task) fails old new fault why told one)
 prevented unread second_unread fails task files old new fault (inr (more, taken, why)) told one =
-    inr (more, taken, turned_down second_unread (NoHint (IsRefusedLater more files.second)) (second_name task) fails old new fault why told one)
+    inr (more, taken, turned_down second_unread (IsToldLater (is_explained task) (second_name task) files.second more) (second_name task) fails old new fault why told one)
 
 -- each fault but want of memory
-pub fault_ends : (unread second_unread unwritten fails : Type 0) (task : Task) (files : Files) (old new : Option (List ℕ)) (kept : Type 0) (fault : Failure)
-    → Undoes unread second_unread unwritten task files fault → (fault ≢ Write → kept)
+pub fault_ends : (unread second_unread unwritten fails : Type 0) (begun : List ℕ → Type 0) (task : Task) (files : Files) (old new : Option (List ℕ)) (kept : Type 0) (fault : Failure)
+    → Undoes unread second_unread unwritten begun task files fault → (fault ≢ Write → kept)
     → fails ⊎ IfSome (with_newline (fault_text fault)) (Appends old new) → status_of fault ≡ 1
-    → IsFault unread second_unread unwritten task files kept (Tells fails old new)
-fault_ends unread second_unread unwritten fails task files old new kept Write why same told one = inr (why.0, why.1, told)
-fault_ends unread second_unread unwritten fails task files old new kept (Read file) why same told one =
+    → IsFault unread second_unread unwritten begun task files kept (Tells fails old new)
+fault_ends unread second_unread unwritten fails begun task files old new kept Write why same told one = inr (why.0, why.1, told)
+fault_ends unread second_unread unwritten fails begun task files old new kept (Read file) why same told one =
     inl (same (λ e. cc), prevented unread second_unread fails task files old new (Read file) why told one)
-fault_ends unread second_unread unwritten fails task files old new kept (Text file) why same told one =
+fault_ends unread second_unread unwritten fails begun task files old new kept (Text file) why same told one =
     inl (same (λ e. cc), prevented unread second_unread fails task files old new (Text file) why told one)
-fault_ends unread second_unread unwritten fails task files old new kept (Refused cause hint) why same told one =
+fault_ends unread second_unread unwritten fails begun task files old new kept (Refused cause hint) why same told one =
     inl (same (λ e. cc), prevented unread second_unread fails task files old new (Refused cause hint) why told one)
-fault_ends unread second_unread unwritten fails task files old new kept Memory why same told one =
+fault_ends unread second_unread unwritten fails begun task files old new kept Memory why same told one =
     let no : ⊥ = omega (arith, one) in absurd no

@@ -1,9 +1,11 @@
 -- What is known of a task's two files.
 use Rattle.std.proofs.Common.{ℕ, ◌≡◌, ◌∙◌, List, [], ap, inr, refl, subst, sym}
 use Rattle.std.specs.Borrow.{Bor}
-use Rattle.std.specs.Prelude.{true, false, is_some, Option, None, Some, Ok, option_map, unwrap_or}
+use Rattle.std.specs.Prelude.{Bool, true, false, Option, None, Some, Ok, option_map, unwrap_or}
 use Rattle.insn.specs.declared.insn.Insn.{Insn}
 use Rattle.command_line.specs.Told.{file_of, second_of}
+use Rattle.command_line.specs.declared.tasks.Account.{Account}
+use Rattle.command_line.specs.declared.tasks.Lieutenants.{Lieutenants}
 use Rattle.command_line.specs.declared.tasks.Task.{Task}
 use Rattle.command_line.specs.declared.tasks.Task.TheVariants.{Check, Assemble, Disassemble, Book, ExplainDecisions, Form, Play, Muster, Audit}
 use Rattle.round.specs.Scenario.{Scenario}
@@ -11,10 +13,10 @@ use Rattle.scenario.specs.declared.messages.Campaign.{Campaign}
 use Rattle.world.specs.declared.schedule.Repeat.{Repeat}
 use Rattle.trace.specs.Schedules.{schedule_told}
 use Rattle.lab.specs.Answers.{ComesTo, GoesOn, IsTriedBy, Prints}
-use Rattle.lab.specs.Hints.{explained_in}
-use Rattle.lab.specs.Campaigns.{IsAudited, IsMustered}
+use Rattle.lab.specs.Whys.{is_explained}
+use Rattle.lab.specs.Campaigns.{IsAudited, IsMustered, IsPlayed}
 use Rattle.lab.specs.Faults.{Prevents, Stops}
-use Rattle.lab.specs.Serving.{AreSecond, AreSecondBytes, Files, IsAnswer, IsAuditOf, IsPlayedBy, IsRefusedLater, IsScheduleOf, IsTrialOf, NoHint, first_name, second_name}
+use Rattle.lab.specs.Serving.{AreSecond, AreSecondBytes, Files, IsAnswer, IsAuditOf, IsPlayedBy, IsScheduleOf, IsToldLater, IsTrialOf, first_name, second_name}
 use Rattle.streams.specs.Reading.{AreBytes}
 use Rattle.lab.specs.declared.failure.Failure.{Failure}
 use Rattle.lab.specs.declared.first_answer.FirstAnswer.{FirstAnswer}
@@ -44,81 +46,82 @@ second_bytes None bytes are = (None, refl, are)
 second_bytes (Some known) bytes are = (Some bytes, are, refl)
 
 -- an answer by the second file's schedule
-pub answered_played : (task : Task) (files : Files) (first text : List ℕ) (s : Campaign) → AreBytes files.first first
-    → ComesTo task first (answer.Play s) → IsPlayedBy files.second s text → IsAnswer task files text
-answered_played (Check file notation None explained traced) files first text s are comes by = absurd comes
-answered_played (Check file notation (Some context) explained traced) files first text s are comes by = absurd comes
-answered_played (Assemble file spelling target explained) files first text s are comes by = absurd comes
-answered_played (Disassemble file notation units explained) files first text s are comes by = absurd comes
-answered_played (Book file) files first text s are comes by = absurd comes
-answered_played (ExplainDecisions file traitors) files first text s are comes by = absurd comes
-answered_played (Form n m c filling) files first text s are comes by = absurd comes
-answered_played (Play scenario listing account explained) files first text s are comes (schedule, told, played) =
-    (first, are, (told.0, told.1, (s, comes, (schedule, told.2, played))))
-answered_played (Muster scenario explained) files first text s are comes by = absurd comes
-answered_played (Audit scenario chronicle explained) files first text s are comes by = absurd comes
+pub answered_played : (task : Task) (files : Files) (first text : List ℕ) (s : Campaign) (told : Account) (why : Option Lieutenants) → AreBytes files.first first
+    → ComesTo task first (answer.Play s told why) → IsPlayedBy files.second s told why text → IsAnswer task files text
+answered_played (Check file notation None explained traced) files first text s told why are comes by = absurd comes
+answered_played (Check file notation (Some context) explained traced) files first text s told why are comes by = absurd comes
+answered_played (Assemble file spelling target explained) files first text s told why are comes by = absurd comes
+answered_played (Disassemble file notation units explained) files first text s told why are comes by = absurd comes
+answered_played (Book file) files first text s told why are comes by = absurd comes
+answered_played (ExplainDecisions file traitors) files first text s told why are comes by = absurd comes
+answered_played (Form n m c filling) files first text s told why are comes by = absurd comes
+answered_played (Play scenario listing account explained) files first text s told why are comes (schedule, listed, played) =
+    let same = subst (λ (a : Account). IsPlayed s schedule a why text) comes.1 played in
+    (first, are, (listed.0, listed.1, (s, comes.0, (schedule, listed.2, subst (λ (e : Option Lieutenants). IsPlayed s schedule account e text) comes.2 same))))
+answered_played (Muster scenario explained) files first text s told why are comes by = absurd comes
+answered_played (Audit scenario chronicle explained) files first text s told why are comes by = absurd comes
 
 -- an answer of threads
-pub answered_mustered : (task : Task) (files : Files) (first text : List ℕ) (s : Scenario) → AreBytes files.first first
-    → ComesTo task first (answer.Muster s) → IsMustered s text → IsAnswer task files text
-answered_mustered (Check file notation None explained traced) files first text s are comes mustered = absurd comes
-answered_mustered (Check file notation (Some context) explained traced) files first text s are comes mustered = absurd comes
-answered_mustered (Assemble file spelling target explained) files first text s are comes mustered = absurd comes
-answered_mustered (Disassemble file notation units explained) files first text s are comes mustered = absurd comes
-answered_mustered (Book file) files first text s are comes mustered = absurd comes
-answered_mustered (ExplainDecisions file traitors) files first text s are comes mustered = absurd comes
-answered_mustered (Form n m c filling) files first text s are comes mustered = absurd comes
-answered_mustered (Play scenario listing account explained) files first text s are comes mustered = absurd comes
-answered_mustered (Muster scenario explained) files first text s are comes mustered =
-    let some = some_second files.second in (first, are, (some.0, some.1, (s, comes, mustered)))
-answered_mustered (Audit scenario chronicle explained) files first text s are comes mustered = absurd comes
+pub answered_mustered : (task : Task) (files : Files) (first text : List ℕ) (s : Scenario) (why : Option Lieutenants) → AreBytes files.first first
+    → ComesTo task first (answer.Muster s why) → IsMustered s why text → IsAnswer task files text
+answered_mustered (Check file notation None explained traced) files first text s why are comes mustered = absurd comes
+answered_mustered (Check file notation (Some context) explained traced) files first text s why are comes mustered = absurd comes
+answered_mustered (Assemble file spelling target explained) files first text s why are comes mustered = absurd comes
+answered_mustered (Disassemble file notation units explained) files first text s why are comes mustered = absurd comes
+answered_mustered (Book file) files first text s why are comes mustered = absurd comes
+answered_mustered (ExplainDecisions file traitors) files first text s why are comes mustered = absurd comes
+answered_mustered (Form n m c filling) files first text s why are comes mustered = absurd comes
+answered_mustered (Play scenario listing account explained) files first text s why are comes mustered = absurd comes
+answered_mustered (Muster scenario explained) files first text s why are comes mustered =
+    let some = some_second files.second in (first, are, (some.0, some.1, (s, comes.0, subst (λ (e : Option Lieutenants). IsMustered s e text) comes.1 mustered)))
+answered_mustered (Audit scenario chronicle explained) files first text s why are comes mustered = absurd comes
 
 -- an answer on the second file
-pub answered_audited : (task : Task) (files : Files) (first text : List ℕ) (s : Campaign) → AreBytes files.first first
-    → ComesTo task first (answer.Audit s) → IsAuditOf files.second s text → IsAnswer task files text
-answered_audited (Check file notation None explained traced) files first text s are comes audit = absurd comes
-answered_audited (Check file notation (Some context) explained traced) files first text s are comes audit = absurd comes
-answered_audited (Assemble file spelling target explained) files first text s are comes audit = absurd comes
-answered_audited (Disassemble file notation units explained) files first text s are comes audit = absurd comes
-answered_audited (Book file) files first text s are comes audit = absurd comes
-answered_audited (ExplainDecisions file traitors) files first text s are comes audit = absurd comes
-answered_audited (Form n m c filling) files first text s are comes audit = absurd comes
-answered_audited (Play scenario listing account explained) files first text s are comes audit = absurd comes
-answered_audited (Muster scenario explained) files first text s are comes audit = absurd comes
-answered_audited (Audit scenario chronicle explained) files first text s are comes (bytes, known, audited) =
+pub answered_audited : (task : Task) (files : Files) (first text : List ℕ) (s : Campaign) (why : Option Lieutenants) → AreBytes files.first first
+    → ComesTo task first (answer.Audit s why) → IsAuditOf files.second s why text → IsAnswer task files text
+answered_audited (Check file notation None explained traced) files first text s why are comes audit = absurd comes
+answered_audited (Check file notation (Some context) explained traced) files first text s why are comes audit = absurd comes
+answered_audited (Assemble file spelling target explained) files first text s why are comes audit = absurd comes
+answered_audited (Disassemble file notation units explained) files first text s why are comes audit = absurd comes
+answered_audited (Book file) files first text s why are comes audit = absurd comes
+answered_audited (ExplainDecisions file traitors) files first text s why are comes audit = absurd comes
+answered_audited (Form n m c filling) files first text s why are comes audit = absurd comes
+answered_audited (Play scenario listing account explained) files first text s why are comes audit = absurd comes
+answered_audited (Muster scenario explained) files first text s why are comes audit = absurd comes
+answered_audited (Audit scenario chronicle explained) files first text s why are comes (bytes, known, audited) =
     let second = second_bytes files.second bytes known in
-    (first, are, (second.0, second.1, (s, comes, subst (λ (own : List ℕ). IsAudited s own text) second.2 audited)))
-
--- what is there is there of its parts
-pub mapped : {A B : Type 0} (f : A → B) (o : Option A) → is_some o ≡ is_some (option_map f o)
-mapped f None = refl
-mapped f (Some x) = refl
+    let same = subst (λ (own : List ℕ). IsAudited s why own text) second.2 audited in
+    (first, are, (second.0, second.1, (s, comes.0, subst (λ (e : Option Lieutenants). IsAudited s e (unwrap_or second.0 []) text) comes.1 same)))
 
 -- an answer in the second file's setting
-pub answered_tried : (task : Task) (files : Files) (first text : List ℕ) (program : List Insn) → AreBytes files.first first
-    → ComesTo task first (answer.Trial program) → IsTrialOf files.second (is_some (explained_in task)) program text → IsAnswer task files text
-answered_tried (Check file notation None explained traced) files first text program are comes tried = absurd comes
-answered_tried (Check file notation (Some context) true traced) files first text program are comes (bytes, known, (lines, tried, behind)) =
+pub answered_tried : (task : Task) (files : Files) (first text : List ℕ) (program : List Insn) (steps : Bool) → AreBytes files.first first
+    → ComesTo task first (answer.Trial program steps) → IsTrialOf files.second steps (is_explained task) program text → IsAnswer task files text
+answered_tried (Check file notation None explained traced) files first text program steps are comes tried = absurd comes
+answered_tried (Check file notation (Some context) true traced) files first text program steps are comes (bytes, known, (lines, tried, behind)) =
     let second = second_bytes files.second bytes known in
-    (first, are, (second.0, second.1, (program, comes.0, comes.1, comes.2, (lines, subst (λ (own : List ℕ). IsTriedBy own program lines) second.2 tried, behind))))
-answered_tried (Check file notation (Some context) false traced) files first text program are comes (bytes, known, (lines, tried, behind)) =
+    let own : IsTriedBy traced bytes program lines = subst (λ (t : Bool). IsTriedBy t bytes program lines) comes.3 tried in
+    (first, are, (second.0, second.1, (program, comes.0, comes.1, comes.2, (lines, subst (λ (b : List ℕ). IsTriedBy traced b program lines) second.2 own, behind))))
+answered_tried (Check file notation (Some context) false traced) files first text program steps are comes (bytes, known, (lines, tried, behind)) =
     let second = second_bytes files.second bytes known in
-    (first, are, (second.0, second.1, (program, comes.0, comes.1, comes.2, (lines, subst (λ (own : List ℕ). IsTriedBy own program lines) second.2 tried, behind))))
-answered_tried (Assemble file spelling target explained) files first text program are comes tried = absurd comes
-answered_tried (Disassemble file notation units explained) files first text program are comes tried = absurd comes
-answered_tried (Book file) files first text program are comes tried = absurd comes
-answered_tried (ExplainDecisions file traitors) files first text program are comes tried = absurd comes
-answered_tried (Form n m c filling) files first text program are comes tried = absurd comes
-answered_tried (Play scenario listing account explained) files first text program are comes tried = absurd comes
-answered_tried (Muster scenario explained) files first text program are comes tried = absurd comes
-answered_tried (Audit scenario chronicle explained) files first text program are comes tried = absurd comes
+    let own : IsTriedBy traced bytes program lines = subst (λ (t : Bool). IsTriedBy t bytes program lines) comes.3 tried in
+    (first, are, (second.0, second.1, (program, comes.0, comes.1, comes.2, (lines, subst (λ (b : List ℕ). IsTriedBy traced b program lines) second.2 own, behind))))
+answered_tried (Assemble file spelling target explained) files first text program steps are comes tried = absurd comes
+answered_tried (Disassemble file notation units explained) files first text program steps are comes tried = absurd comes
+answered_tried (Book file) files first text program steps are comes tried = absurd comes
+answered_tried (ExplainDecisions file traitors) files first text program steps are comes tried = absurd comes
+answered_tried (Form n m c filling) files first text program steps are comes tried = absurd comes
+answered_tried (Play scenario listing account explained) files first text program steps are comes tried = absurd comes
+answered_tried (Muster scenario explained) files first text program steps are comes tried = absurd comes
+answered_tried (Audit scenario chronicle explained) files first text program steps are comes tried = absurd comes
 
 -- why a task has no answer behind a first file with which it goes on
-pub prevented_later : (task : Task) (files : Files) (unread second_unread : Type 0) (first name : List ℕ) (more : FirstAnswer) (fault : Failure)
-    → AreBytes files.first first → GoesOn task first more → name ≡ second_name task
-    → Stops second_unread (NoHint (IsRefusedLater more files.second)) name fault → Prevents unread second_unread task files fault
-prevented_later task files unread second_unread first name more fault are goes named why =
-    inr (more, (first, are, goes), subst (λ (n : List ℕ). Stops second_unread (NoHint (IsRefusedLater more files.second)) n fault) named why)
+pub prevented_later : (task : Task) (files : Files) (unread second_unread : Type 0) (first name : List ℕ) (more : FirstAnswer) (explained : Bool) (fault : Failure)
+    → AreBytes files.first first → GoesOn task first more → name ≡ second_name task → explained ≡ is_explained task
+    → Stops second_unread (IsToldLater explained name files.second more) name fault → Prevents unread second_unread task files fault
+prevented_later task files unread second_unread first name more explained fault are goes named same why =
+    let own : Stops second_unread (IsToldLater (is_explained task) name files.second more) name fault =
+    subst (λ (e : Bool). Stops second_unread (IsToldLater e name files.second more) name fault) same why in
+    inr (more, (first, are, goes), subst (λ (n : List ℕ). Stops second_unread (IsToldLater (is_explained task) n files.second more) n fault) named own)
 
 -- the name of the second file, empty where the words name none
 unwrapped : (o : Option (Bor (List ℕ))) (empty : Bor (List ℕ)) → empty.now ≡ [] → (unwrap_or o empty).now ≡ unwrap_or (option_map (λ (file : Bor (List ℕ)). file.now) o) []

@@ -1,5 +1,5 @@
 -- A first file that is refused.
-use Rattle.std.proofs.Common.{ℕ, ◌≡◌, ◌≢◌, List, inl, inr, refl, subst, sym, true, false}
+use Rattle.std.proofs.Common.{ℕ, ◌≡◌, ◌≢◌, Bool, List, inl, inr, refl, subst, sym, true, false}
 use Rattle.std.specs.Borrow.{Bor}
 use Rattle.std.specs.declared.alloc.Global.{Global}
 use Rattle.std.specs.Prelude.{Option, None, Some, IfSome, String, string_bytes}
@@ -7,10 +7,15 @@ use Rattle.command_line.specs.declared.tasks.Notation.{Notation}
 use Rattle.command_line.specs.declared.tasks.Notation.TheVariants.{Bytecode, Assembly as Texts, Object as Objects}
 use Rattle.command_line.specs.declared.tasks.Task.{Task}
 use Rattle.command_line.specs.declared.tasks.Task.TheVariants as task
-use Rattle.lab.specs.Faults.{Prevents, Stops, StopsFirst, fault_of_bytes}
-use Rattle.lab.specs.Hints.{IsHint, IsWhy, asked_of, bytecode_in, explained_in, seems_behind}
-use Rattle.lab.specs.Refusals.{Refuses, RefusesCheck, RefusesCheckIn, RefusesDisassembly, RefusesNotation}
+use Rattle.command_line.specs.declared.tasks.Account.TheVariants.{Chronicle}
+use Rattle.lab.specs.Campaigns.{is_plain}
+use Rattle.lab.specs.Faults.{IsTold, IsUnjudged, Prevents, Stops, StopsFirst, fault_of_bytes}
+use Rattle.lab.specs.Hints.{IsHint, IsHintBy, IsSaid, IsWhy, asked_of, bytecode_in, explained_in, hint_behind, is_reported, seems_behind}
+use Rattle.lab.specs.Refusals.{Refuses, RefusesAsked, RefusesCheck, RefusesCheckIn, RefusesDisassembly, RefusesNotation}
 use Rattle.lab.specs.Serving.{Files, IsRefused, first_name}
+use Rattle.lab.specs.Whys.{TellsWhyOf, is_explained}
+use Rattle.lab.specs.declared.whys.Traced.TheVariants.{Nothing}
+use Rattle.streams.specs.Names.{shown}
 use Rattle.streams.specs.Reading.{AreBytes}
 use Rattle.lab.specs.declared.failure.Failure.{Failure}
 use Rattle.lab.specs.declared.failure.Failure.TheVariants.{Read, Text, Refused, Write, Memory as FaultMemory}
@@ -18,6 +23,8 @@ use Rattle.lab.specs.declared.hint.Hint.{Hint}
 use Rattle.lab.specs.declared.hint.Hint.TheVariants.{Explained}
 use Rattle.lab.specs.declared.refusal.Refusal.{Refusal}
 use Rattle.lab.specs.declared.refusal.Refusal.TheVariants.{Codec, Object, Verifier, Assembly, Table, Scenario, Setting, Trace, Threads, NotText, Memory}
+use Rattle.verify.specs.declared.error.VerifyError.{VerifyError}
+use Rattle.lab.proofs.WhyLemmas.{nothing_said}
 
 -- what is said behind it
 hint_known : (task : Task) (known : Option (List ℕ)) (bytes : List ℕ) (refusal : Refusal) (hint : Option Hint) → AreBytes known bytes → IsHint refusal task bytes hint
@@ -30,13 +37,13 @@ pub refused_first : (task : Task) (known : Option (List ℕ)) (bytes : List ℕ)
     → IsHint refusal task bytes hint → IsRefused task known refusal hint
 refused_first task known bytes refusal hint are refuses other is = (other, (bytes, are, refuses), hint_known task known bytes refusal hint are is)
 
--- the same of a file of which no more is said than what its bytes seem to be
+-- the same of a file of which no more is said than what its bytes seem to be, or the sentence of an object's fault
 pub stopped_first : (task : Task) (known : Option (List ℕ)) (bytes own : List ℕ) (refusal : Refusal) (file : Bor (List ℕ)) → AreBytes known bytes
     → file.now ≡ first_name task → Refuses task bytes refusal → IsHint refusal task bytes (seems_behind refusal own)
     → Stops ⊥ (IsRefused task known) (first_name task) (fault_of_bytes refusal file own)
 stopped_first task known bytes own (Codec error) file are named refuses is = ((λ e. cc), refused_first task known bytes (Codec error) _ are refuses (λ e. cc) is)
 stopped_first task known bytes own (Object fault) file are named refuses is = ((λ e. cc), refused_first task known bytes (Object fault) _ are refuses (λ e. cc) is)
-stopped_first task known bytes own (Verifier error) file are named refuses is = ((λ e. cc), refused_first task known bytes (Verifier error) _ are refuses (λ e. cc) is)
+stopped_first task known bytes own (Verifier fault) file are named refuses is = ((λ e. cc), refused_first task known bytes (Verifier fault) _ are refuses (λ e. cc) is)
 stopped_first task known bytes own (Assembly error) file are named refuses is = ((λ e. cc), refused_first task known bytes (Assembly error) _ are refuses (λ e. cc) is)
 stopped_first task known bytes own (Table error) file are named refuses is = ((λ e. cc), refused_first task known bytes (Table error) _ are refuses (λ e. cc) is)
 stopped_first task known bytes own (Scenario error) file are named refuses is = ((λ e. cc), refused_first task known bytes (Scenario error) _ are refuses (λ e. cc) is)
@@ -48,12 +55,27 @@ stopped_first task known bytes own Memory file are named refuses is = tt
 
 -- ---- an explanation that is asked for
 
--- it is told
+-- it is of a task that explains what it refuses
+asks : (task : Task) (notation : Notation) → explained_in task ≡ Some notation → is_explained task ≡ true
+asks (task.Check file own context true traced) notation is = refl
+asks (task.Check file own context false traced) notation is = absurd cc
+asks (task.Assemble file spelling target explained) notation is = absurd cc
+asks (task.Disassemble file own units explained) notation is = absurd cc
+asks (task.Book file) notation is = absurd cc
+asks (task.ExplainDecisions file traitors) notation is = absurd cc
+asks (task.Form n m c filling) notation is = absurd cc
+asks (task.Play scenario schedule account explained) notation is = absurd cc
+asks (task.Muster scenario explained) notation is = absurd cc
+asks (task.Audit scenario chronicle explained) notation is = absurd cc
+
 pub explained_first : (task : Task) (notation : Notation) (known : Option (List ℕ)) (bytes : List ℕ) (refusal : Refusal) (text : String Global) → AreBytes known bytes
     → Refuses task bytes refusal → asked_of refusal task ≡ Some notation → IsWhy notation bytes (string_bytes text)
     → Stops ⊥ (IsRefused task known) (first_name task) (Refused refusal (Some (Explained text)))
 explained_first task notation known bytes (Verifier fault) text are refuses is why =
-    ((λ e. cc), refused_first task known bytes (Verifier fault) (Some (Explained text)) are refuses (λ e. cc) (rw is why))
+    let said : IsSaid (explained_in task) bytes None (Some (Explained text)) = subst (λ (o : Option Notation). IsSaid o bytes None (Some (Explained text))) (sym is) why in
+    let hint : IsHint (Verifier fault) task bytes (Some (Explained text)) =
+    subst (λ (own : Bool). IsHintBy own (Verifier fault) task bytes (bytecode_in task bytes) (Some (Explained text))) (sym (asks task notation is)) said in
+    ((λ e. cc), refused_first task known bytes (Verifier fault) (Some (Explained text)) are refuses (λ e. cc) hint)
 explained_first task notation known bytes (Codec error) text are refuses is why = absurd cc
 explained_first task notation known bytes (Object fault) text are refuses is why = absurd cc
 explained_first task notation known bytes (Assembly error) text are refuses is why = absurd cc
@@ -65,9 +87,108 @@ explained_first task notation known bytes (Threads error) text are refuses is wh
 explained_first task notation known bytes NotText text are refuses is why = absurd cc
 explained_first task notation known bytes Memory text are refuses is why = absurd cc
 
--- none is asked for
-pub unexplained : (task : Task) (bytes : List ℕ) (refusal : Refusal) → asked_of refusal task ≡ None → IsHint refusal task bytes (seems_behind refusal (bytecode_in task bytes))
-unexplained task bytes refusal none = rw none refl
+-- no more is asked for
+pub unexplained : (task : Task) (bytes : List ℕ) (refusal : Refusal) → is_reported task refusal ≡ false → IsHint refusal task bytes (seems_behind refusal (bytecode_in task bytes))
+unexplained task bytes refusal none =
+    subst (λ (own : Bool). IsHintBy own refusal task bytes (bytecode_in task bytes) (seems_behind refusal (bytecode_in task bytes))) (sym none) refl
+
+-- ---- a report that is asked for
+
+-- it is not the verifier that refuses
+abbrev pub IsNotJudged : Refusal → Type 0
+IsNotJudged (Verifier fault) = ⊥
+IsNotJudged _ = Unit {0}
+
+hint_told : (task : Task) (bytes : List ℕ) (refusal : Refusal) (hint : Option Hint) → is_reported task refusal ≡ true → IsNotJudged refusal
+    → TellsWhyOf refusal Nothing (first_name task) (bytecode_in task bytes) (hint_behind hint) → IsHint refusal task bytes hint
+hint_told task bytes (Verifier fault) hint is not told = absurd not
+hint_told task bytes (Object fault) hint is not told = absurd cc
+hint_told task bytes (Codec error) hint is not told = subst (λ (own : Bool). IsHintBy own (Codec error) task bytes (bytecode_in task bytes) hint) (sym is) told
+hint_told task bytes (Assembly error) hint is not told = subst (λ (own : Bool). IsHintBy own (Assembly error) task bytes (bytecode_in task bytes) hint) (sym is) told
+hint_told task bytes (Table error) hint is not told = subst (λ (own : Bool). IsHintBy own (Table error) task bytes (bytecode_in task bytes) hint) (sym is) told
+hint_told task bytes (Scenario error) hint is not told = subst (λ (own : Bool). IsHintBy own (Scenario error) task bytes (bytecode_in task bytes) hint) (sym is) told
+hint_told task bytes (Setting error) hint is not told = subst (λ (own : Bool). IsHintBy own (Setting error) task bytes (bytecode_in task bytes) hint) (sym is) told
+hint_told task bytes (Trace error) hint is not told = subst (λ (own : Bool). IsHintBy own (Trace error) task bytes (bytecode_in task bytes) hint) (sym is) told
+hint_told task bytes (Threads error) hint is not told = subst (λ (own : Bool). IsHintBy own (Threads error) task bytes (bytecode_in task bytes) hint) (sym is) told
+hint_told task bytes NotText hint is not told = subst (λ (own : Bool). IsHintBy own NotText task bytes (bytecode_in task bytes) hint) (sym is) told
+hint_told task bytes Memory hint is not told = subst (λ (own : Bool). IsHintBy own Memory task bytes (bytecode_in task bytes) hint) (sym is) told
+
+pub told_first : (task : Task) (known : Option (List ℕ)) (bytes : List ℕ) (cause : Refusal) (file : Bor (List ℕ)) (fault : Failure) → AreBytes known bytes
+    → file.now ≡ first_name task → Refuses task bytes cause → is_reported task cause ≡ true → IsNotJudged cause
+    → IsTold cause file (TellsWhyOf cause Nothing file.now (bytecode_in task bytes)) fault → Stops ⊥ (IsRefused task known) (first_name task) fault
+told_first task known bytes cause file (Read own) are named refuses is not told = absurd told
+told_first task known bytes cause file (Text own) are named refuses is not told =
+    let reported : is_reported task NotText ≡ true = subst (λ (r : Refusal). is_reported task r ≡ true) told.0 is in
+    let none : IsRefused task known NotText None =
+    refused_first task known bytes NotText None are (subst (λ (r : Refusal). Refuses task bytes r) told.0 refuses) (λ e. cc)
+    (hint_told task bytes NotText None reported tt (nothing_said (shown (first_name task)))) in
+    (none, subst (λ (f : Bor (List ℕ)). f.now ≡ first_name task) (sym told.1) named)
+told_first task known bytes cause file (Refused own hint) are named refuses is not told =
+    let P : Refusal → Type 0 = λ r. (r ≢ NotText) × IsRefused task known r hint in
+    let says : TellsWhyOf cause Nothing (first_name task) (bytecode_in task bytes) (hint_behind hint) =
+    subst (λ (n : List ℕ). TellsWhyOf cause Nothing n (bytecode_in task bytes) (hint_behind hint)) named told.3 in
+    subst P (sym told.0) (told.1, refused_first task known bytes cause hint are refuses told.2 (hint_told task bytes cause hint is not says))
+told_first task known bytes cause file Write are named refuses is not told = absurd told
+told_first task known bytes cause file FaultMemory are named refuses is not told = tt
+
+-- with the report or without it
+unjudged_first : (task : Task) (known : Option (List ℕ)) (bytes : List ℕ) (cause : Refusal) (file : Bor (List ℕ)) (fault : Failure) → AreBytes known bytes
+    → file.now ≡ first_name task → Refuses task bytes cause → (is_reported task cause ≡ true → IsNotJudged cause)
+    → IsUnjudged (is_reported task cause) cause file (bytecode_in task bytes) fault → Stops ⊥ (IsRefused task known) (first_name task) fault
+unjudged_first task known bytes cause file fault are named refuses not told = by_report (is_reported task cause) refl told where
+  by_report : (reported : Bool) → is_reported task cause ≡ reported → IsUnjudged reported cause file (bytecode_in task bytes) fault → Stops ⊥ (IsRefused task known) (first_name task) fault
+  by_report false is plain =
+      subst (λ (f : Failure). Stops ⊥ (IsRefused task known) (first_name task) f) (sym plain)
+      (stopped_first task known bytes (bytecode_in task bytes) cause file are named refuses (unexplained task bytes cause is))
+  by_report true is says = told_first task known bytes cause file fault are named refuses is (not is) says
+
+-- ---- what no explanation of a program is asked for
+
+-- the verifier refuses no campaign
+no_campaign : (plain : Bool) (bytes : List ℕ) (fault : VerifyError) → RefusesAsked plain bytes (Verifier fault) → ⊥
+no_campaign true bytes fault refuses = refuses
+no_campaign false bytes fault refuses = refuses
+
+-- nor bytes that spell none
+not_spelt : (code : List ℕ) (fault : VerifyError) → RefusesDisassembly code (Verifier fault) → ⊥
+not_spelt code fault refuses = refuses
+
+no_program : (notation : Notation) (bytes : List ℕ) (fault : VerifyError) → RefusesNotation notation bytes (Verifier fault) → ⊥
+no_program Bytecode bytes fault refuses = refuses
+no_program Texts bytes fault refuses = refuses
+no_program (Objects entry) bytes fault (inl (other, is, none)) = absurd cc
+no_program (Objects entry) bytes fault (inr (code, is, refuses)) = not_spelt code fault refuses
+
+-- so it refuses only the program of a check, which is explained where more is asked for
+pub not_judged : (task : Task) (bytes : List ℕ) (refusal : Refusal) → Refuses task bytes refusal → is_reported task refusal ≡ true → asked_of refusal task ≡ None → IsNotJudged refusal
+not_judged (task.Check file own context true traced) bytes (Verifier fault) refuses is none = absurd cc
+not_judged (task.Check file own context false traced) bytes (Verifier fault) refuses is none = absurd cc
+not_judged (task.Assemble file spelling target explained) bytes (Verifier fault) refuses is none = absurd refuses
+not_judged (task.Disassemble file own units explained) bytes (Verifier fault) refuses is none = absurd (no_program own bytes fault refuses)
+not_judged (task.Book file) bytes (Verifier fault) refuses is none = absurd refuses
+not_judged (task.ExplainDecisions file traitors) bytes (Verifier fault) refuses is none = absurd refuses
+not_judged (task.Form n m c filling) bytes (Verifier fault) refuses is none = absurd refuses
+not_judged (task.Play scenario schedule account explained) bytes (Verifier fault) refuses is none = absurd (no_campaign (is_plain account explained) bytes fault refuses)
+not_judged (task.Muster scenario explained) bytes (Verifier fault) refuses is none = absurd refuses
+not_judged (task.Audit scenario chronicle explained) bytes (Verifier fault) refuses is none = absurd (no_campaign (is_plain Chronicle explained) bytes fault refuses)
+not_judged task bytes (Codec error) refuses is none = tt
+not_judged task bytes (Object fault) refuses is none = tt
+not_judged task bytes (Assembly error) refuses is none = tt
+not_judged task bytes (Table error) refuses is none = tt
+not_judged task bytes (Scenario error) refuses is none = tt
+not_judged task bytes (Setting error) refuses is none = tt
+not_judged task bytes (Trace error) refuses is none = tt
+not_judged task bytes (Threads error) refuses is none = tt
+not_judged task bytes NotText refuses is none = tt
+not_judged task bytes Memory refuses is none = tt
+
+pub unasked_first : (task : Task) (known : Option (List ℕ)) (bytes : List ℕ) (cause : Refusal) (file : Bor (List ℕ)) (fault : Failure) → AreBytes known bytes
+    → file.now ≡ first_name task → Refuses task bytes cause → asked_of cause task ≡ None
+    → IsUnjudged (is_reported task cause) cause file (bytecode_in task bytes) fault → Stops ⊥ (IsRefused task known) (first_name task) fault
+unasked_first task known bytes cause file fault are named refuses none told =
+    unjudged_first task known bytes cause file fault are named refuses (λ is. not_judged task bytes cause refuses is none) told
+
+-- ---- a program that is read once more
 
 -- it is asked for of a program that the verifier refuses
 asked_in : (task : Task) (notation : Notation) (refusal : Refusal) → asked_of refusal task ≡ Some notation → explained_in task ≡ Some notation
@@ -84,10 +205,9 @@ asked_in task notation NotText is = absurd cc
 asked_in task notation Memory is = absurd cc
 
 -- bytes that spell no program
-unspelt : (code : List ℕ) (refusal : Refusal) → RefusesDisassembly code refusal
-    → RefusesCheck code refusal × ((task : Task) (bytes : List ℕ) → IsHint refusal task bytes (seems_behind refusal (bytecode_in task bytes)))
-unspelt code (Codec error) refuses = (refuses, λ task bytes. refl)
-unspelt code Memory refuses = (tt, λ task bytes. refl)
+unspelt : (code : List ℕ) (refusal : Refusal) → RefusesDisassembly code refusal → RefusesCheck code refusal × IsNotJudged refusal
+unspelt code (Codec error) refuses = (refuses, tt)
+unspelt code Memory refuses = (tt, tt)
 unspelt code (Object fault) refuses = absurd refuses
 unspelt code (Verifier fault) refuses = absurd refuses
 unspelt code (Assembly error) refuses = absurd refuses
@@ -99,12 +219,11 @@ unspelt code (Threads error) refuses = absurd refuses
 unspelt code NotText refuses = absurd refuses
 
 -- the file has no program
-by_notation : (notation : Notation) (bytes : List ℕ) (refusal : Refusal) → RefusesNotation notation bytes refusal
-    → RefusesCheckIn notation bytes refusal × ((task : Task) → IsHint refusal task bytes (seems_behind refusal (bytecode_in task bytes)))
-by_notation Bytecode bytes refusal refuses = let both = unspelt bytes refusal refuses in (both.0, λ task. both.1 task bytes)
-by_notation Texts bytes (Assembly error) refuses = (refuses, λ task. refl)
-by_notation Texts bytes NotText refuses = (refuses, λ task. refl)
-by_notation Texts bytes Memory refuses = (tt, λ task. refl)
+by_notation : (notation : Notation) (bytes : List ℕ) (refusal : Refusal) → RefusesNotation notation bytes refusal → RefusesCheckIn notation bytes refusal × IsNotJudged refusal
+by_notation Bytecode bytes refusal refuses = unspelt bytes refusal refuses
+by_notation Texts bytes (Assembly error) refuses = (refuses, tt)
+by_notation Texts bytes NotText refuses = (refuses, tt)
+by_notation Texts bytes Memory refuses = (tt, tt)
 by_notation Texts bytes (Codec error) refuses = absurd refuses
 by_notation Texts bytes (Object fault) refuses = absurd refuses
 by_notation Texts bytes (Verifier fault) refuses = absurd refuses
@@ -113,10 +232,8 @@ by_notation Texts bytes (Scenario error) refuses = absurd refuses
 by_notation Texts bytes (Setting error) refuses = absurd refuses
 by_notation Texts bytes (Trace error) refuses = absurd refuses
 by_notation Texts bytes (Threads error) refuses = absurd refuses
-by_notation (Objects entry) bytes refusal (inl (fault, is, none)) =
-    (inl (fault, is, none), λ task. subst (λ (r : Refusal). IsHint r task bytes (seems_behind r (bytecode_in task bytes))) (sym is) refl)
-by_notation (Objects entry) bytes refusal (inr (code, is, refuses)) =
-    let both = unspelt code refusal refuses in (inr (code, is, both.0), λ task. both.1 task bytes)
+by_notation (Objects entry) bytes refusal (inl (fault, is, none)) = (inl (fault, is, none), subst (λ (r : Refusal). IsNotJudged r) (sym is) tt)
+by_notation (Objects entry) bytes refusal (inr (code, is, refuses)) = let both = unspelt code refusal refuses in (inr (code, is, both.0), both.1)
 
 checks_in : (task : Task) (notation : Notation) (bytes : List ℕ) (refusal : Refusal) → explained_in task ≡ Some notation → RefusesCheckIn notation bytes refusal → Refuses task bytes refusal
 checks_in (task.Check file own context true traced) notation bytes refusal is refuses =
@@ -132,12 +249,12 @@ checks_in (task.Muster scenario explained) notation bytes refusal is refuses = a
 checks_in (task.Audit scenario chronicle explained) notation bytes refusal is refuses = absurd cc
 
 -- it cannot be told, since the file has no program
-pub stopped_unspelt : (task : Task) (notation : Notation) (known : Option (List ℕ)) (bytes : List ℕ) (first refusal : Refusal) (file : Bor (List ℕ)) → AreBytes known bytes
+pub unread_first : (task : Task) (notation : Notation) (known : Option (List ℕ)) (bytes : List ℕ) (first refusal : Refusal) (file : Bor (List ℕ)) (fault : Failure) → AreBytes known bytes
     → file.now ≡ first_name task → asked_of first task ≡ Some notation → RefusesNotation notation bytes refusal
-    → Stops ⊥ (IsRefused task known) (first_name task) (fault_of_bytes refusal file (bytecode_in task bytes))
-stopped_unspelt task notation known bytes first refusal file are named is refuses =
+    → IsUnjudged (is_reported task refusal) refusal file (bytecode_in task bytes) fault → Stops ⊥ (IsRefused task known) (first_name task) fault
+unread_first task notation known bytes first refusal file fault are named is refuses told =
     let both = by_notation notation bytes refusal refuses in
-    stopped_first task known bytes (bytecode_in task bytes) refusal file are named (checks_in task notation bytes refusal (asked_in task notation first is) both.0) (both.1 task)
+    unjudged_first task known bytes refusal file fault are named (checks_in task notation bytes refusal (asked_in task notation first is) both.0) (λ reported. both.1) told
 
 -- ---- why the task has no answer then
 

@@ -1,3 +1,4 @@
+pub mod WhyLemmas
 pub mod CampaignLemmas
 pub mod FaultLemmas
 pub mod FilesLemmas

@@ -1,23 +1,29 @@
 -- What the first bytes of a schedule's file tell of all.
-use Rattle.std.proofs.Common.{ℕ, ◌≡◌, ◌<◌, ◌++◌, false, List, [], length, ap, arith, refl, subst, sym}
+use Rattle.std.proofs.Common.{ℕ, ◌≡◌, ◌∙◌, ◌<◌, ◌≤◌, ◌++◌, Bool, true, false, List, [], length, take, ap, arith, refl, subst, sym}
 use Rattle.std.specs.Borrow.{Bor}
-use Rattle.std.specs.Prelude.{nat_le, Option, None, Some, Ok, Err, option_map}
+use Rattle.std.specs.Prelude.{nat_le, Option, None, Some, IfSome, Ok, Err, option_map}
 use Rattle.std.specs.Str.{IsUtf8}
-use Rattle.std.proofs.lemmas.Bool.{lt-leb}
-use Rattle.std.proofs.lemmas.List.{append-nil, length-append}
+use Rattle.std.proofs.lemmas.Bool.{leb-false, leb-true, lt-leb}
+use Rattle.std.proofs.lemmas.List.{append-nil, length-append, take-append-le}
 use Rattle.world.specs.declared.schedule.Repeat.{Repeat}
 use Rattle.trace.specs.Schedules.{schedule_told}
 use Rattle.trace.specs.declared.fault.Fault.TheVariants.{Line}
-use Rattle.trace.specs.declared.fault.TraceError.TheVariants.{At}
-use Rattle.lab.specs.Faults.{Stops, fault_of}
+use Rattle.trace.specs.declared.fault.TraceError.TheVariants.{At, Write, Memory}
+use Rattle.lab.specs.Faults.{IsToldIf, Stops}
+use Rattle.lab.specs.Whys.{TellsWhy, TellsWhyOf}
+use Rattle.lab.specs.declared.whys.Traced.TheVariants.{Schedule}
+use Rattle.streams.specs.Names.{shown}
+use Rattle.why.specs.Chronicles.{schedule_line_told, schedule_told as schedule_why}
+use Rattle.why.specs.Lines.{line_at}
 use Rattle.streams.specs.Reading.{BeginsSo, IsFront}
 use Rattle.lab.specs.Refusals.{RefusesSchedule, RefusesText}
-use Rattle.lab.specs.Serving.{IsScheduleOf, IsScheduleRefused, NoHint}
+use Rattle.lab.specs.Serving.{IsScheduleOf, IsScheduleRefused, IsScheduleTold}
 use Rattle.streams.specs.Reading.{AreBytes}
 use Rattle.lab.specs.declared.failure.Failure.{Failure}
 use Rattle.lab.specs.declared.refusal.Refusal.{Refusal}
 use Rattle.lab.specs.declared.refusal.Refusal.TheVariants as refusal
 use Rattle.lab.proofs.FilesLemmas.{second_told}
+use Rattle.lab.proofs.WhyLemmas.{stops_later, told_weaker}
 
 -- more bytes than a schedule has tell none
 pub too_many : (all front : List ℕ) → 1048576 < length front → BeginsSo 1048576 all front → schedule_told all ≡ Err (At Line 1)
@@ -44,26 +50,42 @@ front_told bytes second own front schedule is begins told =
     let all = all_of 1048576 (bytes own) front begins in
     second_told bytes second own all.0 schedule is all.1 (told all.0 all.2)
 
--- why it tells none
-refused_as : (unread : Type 0) (known : Option (List ℕ)) (all : List ℕ) (file : Bor (List ℕ)) (refusal : Refusal)
-    → AreBytes known all → RefusesText RefusesSchedule all refusal → Stops unread (NoHint (IsScheduleRefused (Some known))) file.now (fault_of refusal file)
-refused_as unread known all file (refusal.Codec error) are refuses = absurd refuses
-refused_as unread known all file (refusal.Object fault) are refuses = absurd refuses
-refused_as unread known all file (refusal.Verifier fault) are refuses = absurd refuses
-refused_as unread known all file (refusal.Assembly error) are refuses = absurd refuses
-refused_as unread known all file (refusal.Table error) are refuses = absurd refuses
-refused_as unread known all file (refusal.Scenario error) are refuses = absurd refuses
-refused_as unread known all file (refusal.Setting error) are refuses = absurd refuses
-refused_as unread known all file (refusal.Trace error) are refuses = (λ e. cc, ((λ e. cc, (all, are, refuses)), refl))
-refused_as unread known all file (refusal.Threads error) are refuses = absurd refuses
-refused_as unread known all file refusal.NotText are refuses = (((λ e. cc, (all, are, refuses)), refl), refl)
-refused_as unread known all file refusal.Memory are refuses = tt
+-- ---- why it tells none
 
-pub front_refused : {R : Type 0} (bytes : R → Option (List ℕ)) (unread : Type 0) (second : Option R) (own : R) (front : List ℕ) (file : Bor (List ℕ)) (refusal : Refusal) (fault : Failure)
-    → second ≡ Some own → IsFront 1048576 (bytes own) front → ((all : List ℕ) → BeginsSo 1048576 all front → RefusesText RefusesSchedule all refusal) → fault ≡ fault_of refusal file
-    → Stops unread (NoHint (IsScheduleRefused (option_map bytes second))) file.now fault
-front_refused {R} bytes unread second own front file refusal fault is begins refuses same =
+-- as many bytes as a schedule has, of those that begin so
+same_front : (all front : List ℕ) → BeginsSo 1048576 all front → take 1048576 front ≡ take 1048576 all
+same_front all front begins = by_length (nat_le (length front) 1048576) refl where
+  by_length : (few : Bool) → nat_le (length front) 1048576 ≡ few → take 1048576 front ≡ take 1048576 all
+  by_length true is = ap (take 1048576) (sym (begins.whole (leb-true (length front) 1048576 is)))
+  by_length false is = let more : 1048576 < length front = leb-false (length front) 1048576 is in
+      let long : 1048576 ≤ length front = omega (arith, more) in rw (begins.split, take-append-le 1048576 front begins.rest long) refl
+
+-- what is said of them is said of all
+front_says : (cause : Refusal) (name : Option (List ℕ)) (front all text : List ℕ) → take 1048576 front ≡ take 1048576 all → RefusesText RefusesSchedule all cause
+    → IfSome name (λ n. TellsWhy cause Schedule n front text) → IfSome name (λ n. TellsWhy cause Schedule n all text)
+unfolding schedule_why
+front_says cause None front all text same refuses says = tt
+front_says (refusal.Trace (At f line)) (Some n) front all text same refuses says = says ∙ ap (λ own. schedule_line_told n line (line_at own line)) same
+front_says (refusal.Trace Write) (Some n) front all text same refuses says = says
+front_says (refusal.Trace Memory) (Some n) front all text same refuses says = says
+front_says refusal.NotText (Some n) front all text same refuses says = says
+front_says refusal.Memory (Some n) front all text same refuses says = says
+front_says (refusal.Codec error) (Some n) front all text same refuses says = absurd refuses
+front_says (refusal.Object fault) (Some n) front all text same refuses says = absurd refuses
+front_says (refusal.Verifier fault) (Some n) front all text same refuses says = absurd refuses
+front_says (refusal.Assembly error) (Some n) front all text same refuses says = absurd refuses
+front_says (refusal.Table error) (Some n) front all text same refuses says = absurd refuses
+front_says (refusal.Scenario error) (Some n) front all text same refuses says = absurd refuses
+front_says (refusal.Setting error) (Some n) front all text same refuses says = absurd refuses
+front_says (refusal.Threads error) (Some n) front all text same refuses says = absurd refuses
+
+pub front_refused : {R : Type 0} (bytes : R → Option (List ℕ)) (unread : Type 0) (explained : Bool) (second : Option R) (own : R) (front : List ℕ) (file : Bor (List ℕ)) (cause : Refusal) (fault : Failure)
+    → second ≡ Some own → IsFront 1048576 (bytes own) front → ((all : List ℕ) → BeginsSo 1048576 all front → RefusesText RefusesSchedule all cause)
+    → IsToldIf explained cause file (TellsWhyOf cause Schedule file.now front) fault
+    → Stops unread (IsScheduleTold explained file.now (option_map bytes second)) file.now fault
+front_refused {R} bytes unread explained second own front file cause fault is begins refuses told =
     let all = all_of 1048576 (bytes own) front begins in
-    let stops : Stops unread (NoHint (IsScheduleRefused (Some (bytes own)))) file.now (fault_of refusal file) = refused_as unread (bytes own) all.0 file refusal all.1 (refuses all.0 all.2) in
-    subst (λ (o : Option R). Stops unread (NoHint (IsScheduleRefused (option_map bytes o))) file.now fault) (sym is)
-    (subst (λ (f : Failure). Stops unread (NoHint (IsScheduleRefused (Some (bytes own)))) file.now f) (sym same) stops)
+    let why : RefusesText RefusesSchedule all.0 cause = refuses all.0 all.2 in
+    subst (λ (o : Option R). Stops unread (IsScheduleTold explained file.now (option_map bytes o)) file.now fault) (sym is)
+    (stops_later unread explained (Some (bytes own)) (IsScheduleRefused (Some (bytes own))) Schedule all.0 cause file fault all.1 (λ other. (other, (all.0, all.1, why)))
+    (told_weaker explained cause file _ (TellsWhyOf cause Schedule file.now all.0) fault (λ text. front_says cause (shown file.now) front all.0 text (same_front all.0 front all.2) why) told))

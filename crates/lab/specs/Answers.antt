@@ -1,5 +1,5 @@
 -- What a task prints on files of some bytes.
-use Rattle.std.specs.Prelude.{ℕ, ◌≡◌, ◌++◌, Bool, true, false, List, [], Option, None, Some, length, string_bytes, unwrap_or}
+use Rattle.std.specs.Prelude.{ℕ, ◌≡◌, ◌++◌, Bool, true, false, List, [], Option, None, Some, codes, length, string_bytes, unwrap_or}
 use Rattle.insn.specs.declared.insn.Insn.{Insn}
 use Rattle.insn.specs.Program.{slots_of}
 use Rattle.semantics.specs.Relay.{oral}
@@ -11,14 +11,16 @@ use Rattle.command_line.specs.declared.tasks.Notation.{Notation}
 use Rattle.command_line.specs.declared.tasks.Spelling.TheVariants.{Hex, Raw}
 use Rattle.command_line.specs.declared.tasks.Task.{Task}
 use Rattle.command_line.specs.declared.tasks.Task.TheVariants.{Check, Assemble, Disassemble, Book, ExplainDecisions, Form, Play, Muster, Audit}
-use Rattle.scenario.specs.Told.{Tells, TellsAny}
-use Rattle.tables.specs.Answers.{DecidesTable, ExplainsTable, IsFormOf}
+use Rattle.command_line.specs.declared.tasks.Account.TheVariants.{Chronicle}
+use Rattle.scenario.specs.Told.{Tells}
+use Rattle.tables.specs.Answers.{DecidesTable, ExplainsTable, IsFilled, IsFormOf}
 use Rattle.verify.specs.Judgement.{judged}
 use Rattle.trial.specs.Setting.{Setting, bench, context_in}
 use Rattle.trial.specs.Told.{IsTried, Tells as TellsSetting}
 use Rattle.trial.specs.Trial.{Ending, trial}
+use Rattle.tracing.specs.Trace.{trace}
 use Rattle.lab.specs.Hints.{HasProgram, behind_lines}
-use Rattle.lab.specs.Campaigns.{Audits, Musters, Plays}
+use Rattle.lab.specs.Campaigns.{Audits, Musters, Plays, TellsCampaign, is_plain}
 use Rattle.lab.specs.Lines.{checked_lines, hex_line}
 use Rattle.lab.specs.declared.checking.Checked.{Checked}
 use Rattle.lab.specs.declared.first_answer.FirstAnswer.{FirstAnswer}
@@ -35,22 +37,30 @@ pub record IsRun (program : List Insn) (checked : Checked) : Type 0 where
   pub r0 : checked.r0 ≡ ending.r0
   pub steps : checked.steps ≡ ending.state.steps
 
--- the file has a program in its notation, and these are the lines of its run, and behind them its explanation, if it is asked for
-abbrev pub IsChecked : Notation → Bool → List ℕ → List ℕ → Type 0
-IsChecked notation explained bytes text =
-    (program : List Insn) × HasProgram notation bytes program
-    × ((checked : Checked) × IsRun program checked × (text ≡ checked_lines checked ++ behind_lines explained program))
+-- behind the lines of a run in this setting: nothing, or an empty line and its steps
+abbrev pub steps_behind : Bool → List Insn → Setting → List ℕ
+steps_behind false program s = []
+steps_behind true program s = codes "\n" ++ trace program (context_in s) (oral s.shape)
 
--- the bytes tell a setting, and these are the lines of the program's trial in it
-abbrev pub IsTriedBy : List ℕ → List Insn → List ℕ → Type 0
-IsTriedBy bytes program lines = (s : Setting) × TellsSetting bytes s × IsTried program s lines
+-- the file has a program in its notation, and these are the lines of its run, and behind them its steps and its explanation, where they
+-- are asked for
+abbrev pub IsChecked : Notation → Bool → Bool → List ℕ → List ℕ → Type 0
+IsChecked notation explained traced bytes text =
+    (program : List Insn) × HasProgram notation bytes program
+    × ((checked : Checked) × IsRun program checked × (text ≡ checked_lines checked ++ steps_behind traced program bench ++ behind_lines explained program))
+
+-- the bytes tell a setting, and these are the lines of the program's trial in it, and behind them its steps, where they are asked for
+abbrev pub IsTriedBy : Bool → List ℕ → List Insn → List ℕ → Type 0
+IsTriedBy traced bytes program text =
+    (s : Setting) × TellsSetting bytes s × ((lines : List ℕ) × IsTried program s lines × (text ≡ lines ++ steps_behind traced program s))
 
 -- the first file has a program that the verifier accepts, and which is sound, and these are the lines of its trial in the setting that
--- the second file tells, and behind them its explanation, where it is asked for; a second file that is missing counts as an empty one
-abbrev pub Tries : Notation → Bool → List ℕ → Option (List ℕ) → List ℕ → Type 0
-Tries notation explained first second text =
+-- the second file tells, and behind them its steps and its explanation, where they are asked for; a second file that is missing counts
+-- as an empty one
+abbrev pub Tries : Notation → Bool → Bool → List ℕ → Option (List ℕ) → List ℕ → Type 0
+Tries notation explained traced first second text =
     (program : List Insn) × HasProgram notation first program × (judged program ≡ None) × IsSound program
-    × ((lines : List ℕ) × IsTriedBy (unwrap_or second []) program lines × (text ≡ lines ++ behind_lines explained program))
+    × ((lines : List ℕ) × IsTriedBy traced (unwrap_or second []) program lines × (text ≡ lines ++ behind_lines explained program))
 
 -- the text says a program, and these are its bytes
 abbrev pub AssemblesRaw : List ℕ → List ℕ → Type 0
@@ -74,25 +84,28 @@ Disassembles notation units bytes text =
 
 -- the task prints this text on files of these bytes
 abbrev pub Prints : Task → List ℕ → Option (List ℕ) → List ℕ → Type 0
-Prints (Check file notation None explained traced) first second text = IsChecked notation explained first text
-Prints (Check file notation (Some context) explained traced) first second text = Tries notation explained first second text
+Prints (Check file notation None explained traced) first second text = IsChecked notation explained traced first text
+Prints (Check file notation (Some context) explained traced) first second text = Tries notation explained traced first second text
 Prints (Assemble file Hex target explained) first second text = Assembles first text
 Prints (Assemble file Raw target explained) first second text = AssemblesRaw first text
 Prints (Disassemble file notation units explained) first second text = Disassembles notation units first text
 Prints (Book file) first second text = DecidesTable first text
 Prints (ExplainDecisions file traitors) first second text = ExplainsTable first traitors.items text
-Prints (Form n m c filling) first second text = IsFormOf (string_bytes n) (string_bytes m) (string_bytes c) text
-Prints (Play scenario schedule account explained) first second text = Plays first second text
-Prints (Muster scenario explained) first second text = Musters first text
-Prints (Audit scenario chronicle explained) first second text = Audits first second text
+Prints (Form n m c None) first second text = IsFormOf (string_bytes n) (string_bytes m) (string_bytes c) text
+Prints (Form n m c (Some filling)) first second text = IsFilled (string_bytes n) (string_bytes m) (string_bytes c) filling.order filling.liar text
+Prints (Play scenario schedule account explained) first second text = Plays account explained first second text
+Prints (Muster scenario explained) first second text = Musters explained first text
+Prints (Audit scenario chronicle explained) first second text = Audits explained first second text
 
--- the task goes on with this behind its first file: a program to try, or a campaign
+-- the task goes on with this behind its first file: a program to try, with its steps or without them, or a campaign
 abbrev pub GoesOn : Task → List ℕ → FirstAnswer → Type 0
-GoesOn (Check file notation (Some context) explained traced) first (answer.Trial program) =
-    HasProgram notation first program × (judged program ≡ None) × IsSound program
-GoesOn (Play scenario schedule account explained) first (answer.Play c) = TellsAny first c
-GoesOn (Muster scenario explained) first (answer.Muster s) = Tells first s
-GoesOn (Audit scenario chronicle explained) first (answer.Audit c) = TellsAny first c
+GoesOn (Check file notation (Some context) explained traced) first (answer.Trial program told) =
+    HasProgram notation first program × (judged program ≡ None) × IsSound program × (told ≡ traced)
+GoesOn (Play scenario schedule account explained) first (answer.Play c told why) =
+    TellsCampaign (is_plain account explained) first c × (told ≡ account) × (why ≡ explained)
+GoesOn (Muster scenario explained) first (answer.Muster s why) = Tells first s × (why ≡ explained)
+GoesOn (Audit scenario chronicle explained) first (answer.Audit c why) =
+    TellsCampaign (is_plain Chronicle explained) first c × (why ≡ explained)
 GoesOn _ first _ = ⊥
 
 -- what the task comes to on its first file: a text, whatever the second has, or that with which it goes on

@@ -1,6 +1,11 @@
 -- What is printed of a campaign.
-use Rattle.std.specs.Prelude.{ℕ, suc, ◌≡◌, List, [], Option, None, Some, Ok, unwrap_or}
+use Rattle.std.specs.Prelude.{ℕ, suc, ◌≡◌, Bool, true, false, List, [], ◌∷◌, ◌++◌, Option, None, Some, Ok, unwrap_or}
 use Rattle.board.specs.Board.{IsLegal}
+use Rattle.command_line.specs.declared.tasks.Account.{Account}
+use Rattle.command_line.specs.declared.tasks.Account.TheVariants as accounts
+use Rattle.command_line.specs.declared.tasks.Lieutenants.{Lieutenants}
+use Rattle.command_line.specs.declared.tasks.Lieutenants.TheVariants as lieutenants
+use Rattle.retold.specs.Retold.{Explains, IsRetold}
 use Rattle.round.specs.Scenario.{Scenario}
 use Rattle.world.specs.declared.schedule.Repeat.{Repeat}
 use Rattle.world.specs.Chronicle.{Chronicle, chronicle_of}
@@ -10,7 +15,8 @@ use Rattle.world.specs.Promises.{AgreeUnderBound, IsVerdictOn, IsWellUnderBound}
 use Rattle.world.specs.Replay.{replay_of}
 use Rattle.world.specs.Schedules.{lines_by}
 use Rattle.world.specs.World.{opening, run}
-use Rattle.scenario.specs.Told.{Tells, TellsAny}
+use Rattle.scenario.specs.Told.{TellsAny}
+use Rattle.scenario.specs.Told as oral
 use Rattle.scenario.specs.declared.messages.Campaign.{Campaign}
 use Rattle.scenario.specs.declared.messages.Campaign.TheVariants.{Oral, Signed}
 use Rattle.signed.specs.Kind.{signed_kind}
@@ -33,9 +39,30 @@ played s schedule = chronicle_of (run (opening s) (listed s (lines_by schedule))
 abbrev pub signed_played : Scenario → List (List Repeat) → Chronicle
 signed_played s schedule = signed_chronicle_of (signed.played s (listed s (lines_by schedule)))
 
--- the text is that of the oral campaign's chronicle, whose decisions agree under the bound, and whose verdict means what it says
-pub record IsOralPlayed (s : Scenario) (schedule : List (List Repeat)) (text : List ℕ) : Type 0 where
-  pub told : text ≡ chronicle_text (played s schedule)
+-- the text gives this account of an oral campaign: its chronicle, or the message table that its letters tell, which decides what the chronicle says
+abbrev pub IsAccount : Account → Chronicle → List ℕ → Type 0
+IsAccount accounts.Chronicle c text = text ≡ chronicle_text c
+IsAccount accounts.Table c text = IsRetold c text
+
+-- the general who is asked for, or none where all are
+abbrev pub asked : Lieutenants → Option ℕ
+asked lieutenants.All = None
+asked (lieutenants.One g) = Some g
+
+-- behind it stands, where it is asked for, an empty line, and how the decisions come about
+abbrev pub IsBehind : Option Lieutenants → Chronicle → List ℕ → Type 0
+IsBehind None c behind = behind ≡ []
+IsBehind (Some who) c behind = (lines : List ℕ) × (behind ≡ 10 ∷ lines) × Explains c (asked who) lines
+
+-- the text is a front, and behind it the explanation that is asked for
+abbrev pub IsFollowed : Option Lieutenants → Chronicle → List ℕ → List ℕ → Type 0
+IsFollowed explained c front text = (behind : List ℕ) × (text ≡ front ++ behind) × IsBehind explained c behind
+
+-- the text gives this account of the oral campaign, and behind it the explanation; its decisions agree under the bound, and its verdict means what it says
+pub record IsOralPlayed (s : Scenario) (schedule : List (List Repeat)) (account : Account) (explained : Option Lieutenants) (text : List ℕ) : Type 0 where
+  pub front : List ℕ
+  pub told : IsAccount account (played s schedule) front
+  pub behind : IsFollowed explained (played s schedule) front text
   pub agree : AgreeUnderBound s (played s schedule).decisions
   pub verdict : IsVerdictOn s (played s schedule).decisions (played s schedule).verdict
   pub well : IsWellUnderBound (played s schedule).verdict
@@ -52,10 +79,21 @@ pub record IsSignedPlayed (s : Scenario) (schedule : List (List Repeat)) (text :
   pub verdict : IsSignedVerdictOn s (signed_played s schedule).decisions (signed_played s schedule).verdict
   pub well : IsWellUnderBound (signed_played s schedule).verdict
 
--- the text is that of the campaign by a schedule
-abbrev pub IsPlayed : Campaign → List (List Repeat) → List ℕ → Type 0
-IsPlayed (Oral s) schedule text = IsOralPlayed s schedule text
-IsPlayed (Signed s) schedule text = IsSignedPlayed s schedule text
+-- the text is that of the campaign by a schedule; of a signed one it is the chronicle alone
+abbrev pub IsPlayed : Campaign → List (List Repeat) → Account → Option Lieutenants → List ℕ → Type 0
+IsPlayed (Oral s) schedule account explained text = IsOralPlayed s schedule account explained text
+IsPlayed (Signed s) schedule account explained text = IsSignedPlayed s schedule text
+
+-- no table and no explanation is asked for, which a signed campaign has not
+abbrev pub is_plain : Account → Option Lieutenants → Bool
+is_plain accounts.Chronicle None = true
+is_plain _ _ = false
+
+-- the bytes tell this campaign, an oral one where more than its chronicle is asked for
+abbrev pub TellsCampaign : Bool → List ℕ → Campaign → Type 0
+TellsCampaign true bytes c = TellsAny bytes c
+TellsCampaign false bytes (Oral s) = oral.Tells bytes s
+TellsCampaign false bytes (Signed s) = ⊥
 
 -- the schedule that the second file's bytes tell, the empty one where there is no second file
 abbrev pub IsSchedule : Option (List ℕ) → List (List Repeat) → Type 0
@@ -63,16 +101,16 @@ IsSchedule None schedule = schedule ≡ []
 IsSchedule (Some bytes) schedule = schedule_told bytes ≡ Ok schedule
 
 -- the first file's bytes tell a campaign, the second's a schedule, and this is the text of the campaign
-abbrev pub Plays : List ℕ → Option (List ℕ) → List ℕ → Type 0
-Plays first second text =
-    (c : Campaign) × TellsAny first c
-    × ((schedule : List (List Repeat)) × IsSchedule second schedule × IsPlayed c schedule text)
+abbrev pub Plays : Account → Option Lieutenants → List ℕ → Option (List ℕ) → List ℕ → Type 0
+Plays account explained first second text =
+    (c : Campaign) × TellsCampaign (is_plain account explained) first c
+    × ((schedule : List (List Repeat)) × IsSchedule second schedule × IsPlayed c schedule account explained text)
 
--- the text is that of the chronicle of a complete run, which is the replay of its own accesses, a legal history of the board;
--- its decisions agree under the bound, and its verdict says of them what is so
-pub record IsMustered (s : Scenario) (text : List ℕ) : Type 0 where
+-- the text is that of the chronicle of a complete run, which is the replay of its own accesses, a legal history of the board, and behind it the
+-- explanation; its decisions agree under the bound, and its verdict says of them what is so
+pub record IsMustered (s : Scenario) (explained : Option Lieutenants) (text : List ℕ) : Type 0 where
   pub chronicle : Chronicle
-  pub told : text ≡ chronicle_text chronicle
+  pub told : IsFollowed explained chronicle (chronicle_text chronicle) text
   pub replay : chronicle ≡ chronicle_of (replay_of s chronicle.accesses)
   pub complete : IsComplete s (replayed s (names_in 1 chronicle.accesses (suc s.bound)))
   pub legal : IsLegal s.board chronicle.accesses
@@ -81,24 +119,25 @@ pub record IsMustered (s : Scenario) (text : List ℕ) : Type 0 where
   pub well : IsWellUnderBound chronicle.verdict
 
 -- the file's bytes tell an oral campaign, and this is its text by threads
-abbrev pub Musters : List ℕ → List ℕ → Type 0
-Musters first text = (s : Scenario) × Tells first s × IsMustered s text
+abbrev pub Musters : Option Lieutenants → List ℕ → List ℕ → Type 0
+Musters explained first text = (s : Scenario) × oral.Tells first s × IsMustered s explained text
 
--- the bytes are the text of a chronicle of the oral campaign, and the lines say so and give the verdict of its replay
-pub record IsOralAudited (s : Scenario) (bytes text : List ℕ) : Type 0 where
+-- the bytes are the text of a chronicle of the oral campaign, and the lines say so and give the verdict of its replay, and behind them the explanation
+pub record IsOralAudited (s : Scenario) (explained : Option Lieutenants) (bytes text : List ℕ) : Type 0 where
   pub sound : IsSoundText s bytes
-  pub told : text ≡ sound_lines (chronicle_told s bytes).verdict
+  pub told : IsFollowed explained (chronicle_told s bytes) (sound_lines (chronicle_told s bytes).verdict) text
 
 -- those of the signed one
 pub record IsSignedAudited (s : Scenario) (bytes text : List ℕ) : Type 0 where
   pub sound : IsSoundSignedText s bytes
   pub told : text ≡ sound_lines (signed_chronicle_told s bytes).verdict
 
--- the bytes are the text of a chronicle of the campaign, and the lines say so and give the verdict of its replay
-abbrev pub IsAudited : Campaign → List ℕ → List ℕ → Type 0
-IsAudited (Oral s) bytes text = IsOralAudited s bytes text
-IsAudited (Signed s) bytes text = IsSignedAudited s bytes text
+-- the bytes are the text of a chronicle of the campaign, and the lines say so and give the verdict of its replay; of a signed one no more is said
+abbrev pub IsAudited : Campaign → Option Lieutenants → List ℕ → List ℕ → Type 0
+IsAudited (Oral s) explained bytes text = IsOralAudited s explained bytes text
+IsAudited (Signed s) explained bytes text = IsSignedAudited s bytes text
 
 -- the first file's bytes tell a campaign, and these are the lines of the audit of the second's; where there is no second file its bytes are none
-abbrev pub Audits : List ℕ → Option (List ℕ) → List ℕ → Type 0
-Audits first second text = (c : Campaign) × TellsAny first c × IsAudited c (unwrap_or second []) text
+abbrev pub Audits : Option Lieutenants → List ℕ → Option (List ℕ) → List ℕ → Type 0
+Audits explained first second text =
+    (c : Campaign) × TellsCampaign (is_plain accounts.Chronicle explained) first c × IsAudited c explained (unwrap_or second []) text

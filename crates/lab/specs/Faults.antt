@@ -1,18 +1,24 @@
 -- The fault of a refusal, its line, its exit status and its cause.
-use Rattle.std.specs.Prelude.{ℕ, ◌≡◌, ◌≢◌, ◌⊎◌, ◌++◌, List, Option, None, Some, codes}
+use Rattle.std.specs.Prelude.{ℕ, ◌≡◌, ◌≢◌, ◌⊎◌, ◌++◌, Bool, true, false, List, Option, None, Some, String, codes}
+use Rattle.std.specs.declared.alloc.Global.{Global}
 use Rattle.std.specs.Borrow.{Bor}
 use Rattle.std.specs.Fmt.{◌++?◌}
+use Rattle.std.specs.declared.io.ErrorKind.{ErrorKind}
+use Rattle.std.specs.declared.io.ErrorKind.TheVariants.{OutOfMemory}
 use Rattle.command_line.specs.declared.tasks.Task.{Task}
 use Rattle.lab.specs.declared.first_answer.FirstAnswer.{FirstAnswer}
 use Rattle.lab.specs.declared.refusal.Refusal.{Refusal}
 use Rattle.lab.specs.declared.refusal.Refusal.TheVariants as refusal
 use Rattle.lab.specs.declared.failure.Failure.{Failure}
 use Rattle.lab.specs.declared.hint.Hint.{Hint}
+use Rattle.lab.specs.declared.hint.Hint.TheVariants.{Explained}
 use Rattle.lab.specs.declared.failure.Failure.TheVariants.{Read, Text, Refused, Write, Memory}
 use Rattle.streams.specs.Names.{shown}
 use Rattle.lab.specs.Hints.{hint_behind, seems_behind}
 use Rattle.lab.specs.Telling.{refusal_text}
-use Rattle.lab.specs.Serving.{Files, HasAnswer, IsRefused, IsRefusedLater, IsTaken, NoHint, first_name, second_name}
+use Rattle.lab.specs.Whys.{TellsWhyOf, is_explained}
+use Rattle.lab.specs.declared.whys.Traced.TheVariants as traced
+use Rattle.lab.specs.Serving.{Files, HasAnswer, IsRefused, IsTaken, IsToldLater, first_name, second_name}
 use Rattle.streams.specs.Reading.{AreBytes}
 
 -- the fault of a file with this name
@@ -26,6 +32,35 @@ abbrev pub fault_of_bytes : Refusal → Bor (List ℕ) → List ℕ → Failure
 fault_of_bytes refusal.Memory file bytes = Memory
 fault_of_bytes refusal.NotText file bytes = Text file
 fault_of_bytes other file bytes = Refused other (seems_behind other bytes)
+
+-- the fault of a file with this name, with this text behind its line
+abbrev pub text_fault : Refusal → Bor (List ℕ) → String Global → Failure
+text_fault refusal.Memory file text = Memory
+text_fault refusal.NotText file text = Text file
+text_fault other file text = Refused other (Some (Explained text))
+
+-- the fault of a file with this name that is refused so, with a text behind its line of which this holds
+abbrev pub IsTold : Refusal → Bor (List ℕ) → (List ℕ → Type 0) → Failure → Type 0
+IsTold cause file tells Memory = Unit {0}
+IsTold cause file tells (Text own) = (cause ≡ refusal.NotText) × (own ≡ file)
+IsTold cause file tells (Refused own hint) = (own ≡ cause) × (cause ≢ refusal.NotText) × (cause ≢ refusal.Memory) × tells (hint_behind hint)
+IsTold cause file tells fault = ⊥
+
+-- with such a text, where an explanation is asked for
+abbrev pub IsToldIf : Bool → Refusal → Bor (List ℕ) → (List ℕ → Type 0) → Failure → Type 0
+IsToldIf false cause file tells fault = fault ≡ fault_of cause file
+IsToldIf true cause file tells fault = IsTold cause file tells fault
+
+-- the fault of a first file with this name that is refused so, as it is told where it is not the verifier that refuses it: with the report
+-- of these bytes, where there is to be one
+abbrev pub IsUnjudged : Bool → Refusal → Bor (List ℕ) → List ℕ → Failure → Type 0
+IsUnjudged false cause file own fault = fault ≡ fault_of_bytes cause file own
+IsUnjudged true cause file own fault = IsTold cause file (TellsWhyOf cause traced.Nothing file.now own) fault
+
+-- the fault of a file with this name whose reading failed with an error of this kind
+abbrev pub unread_by : ErrorKind → Bor (List ℕ) → Failure
+unread_by OutOfMemory file = Memory
+unread_by _ file = Read file
 
 -- 3 for want of memory, else 1
 abbrev pub status_of : Failure → ℕ
@@ -56,9 +91,9 @@ StopsFirst task bytes fault = (known : Option (List ℕ)) → AreBytes known byt
 abbrev pub Prevents : Type 0 → Type 0 → Task → Files → Failure → Type 0
 Prevents unread second_unread task files fault =
     Stops unread (IsRefused task files.first) (first_name task) fault
-    ⊎ ((more : FirstAnswer) × IsTaken task files.first more × Stops second_unread (NoHint (IsRefusedLater more files.second)) (second_name task) fault)
+    ⊎ ((more : FirstAnswer) × IsTaken task files.first more × Stops second_unread (IsToldLater (is_explained task) (second_name task) files.second more) (second_name task) fault)
 
--- why a task is not done: it has no answer, or the output failed on its answer
-abbrev pub Undoes : Type 0 → Type 0 → Type 0 → Task → Files → Failure → Type 0
-Undoes unread second_unread unwritten task files Write = unwritten × HasAnswer task files
-Undoes unread second_unread unwritten task files fault = Prevents unread second_unread task files fault
+-- why a task is not done: it has no answer, or the output failed on its answer, of which at most a beginning was written
+abbrev pub Undoes : Type 0 → Type 0 → Type 0 → (List ℕ → Type 0) → Task → Files → Failure → Type 0
+Undoes unread second_unread unwritten begun task files Write = unwritten × HasAnswer begun task files
+Undoes unread second_unread unwritten begun task files fault = Prevents unread second_unread task files fault

@@ -1,21 +1,24 @@
--- What is said behind what a check says of a file: of a program its explanation, where it is asked for; of bytes that spell none what they
--- seem to be; of an object without a program the sentence of its fault.
-use Rattle.std.specs.Prelude.{ℕ, ◌≡◌, Bool, true, false, List, [], ◌++◌, Option, None, Some, Ok, codes, option_map, string_bytes}
+-- What is said behind what a task says of a file: of a program its explanation, and of a refusal its report, where they are asked for; of
+-- bytes that spell no program what they seem to be; of an object without one the sentence of its fault.
+use Rattle.std.specs.Prelude.{ℕ, ◌≡◌, Bool, true, false, List, [], ◌++◌, Option, None, Some, Ok, codes, option_map, string_bytes, unwrap_or}
 use Rattle.insn.specs.declared.insn.Insn.{Insn}
 use Rattle.asm.specs.Program.{program_of}
 use Rattle.codec.specs.Program.{SpellsProgram}
 use Rattle.elf.specs.Entry.{entry_of}
 use Rattle.elf.specs.Sentences.{sentence_of}
 use Rattle.explain.specs.Explained.{explained}
+use Rattle.command_line.specs.Told.{file_of}
 use Rattle.command_line.specs.declared.tasks.Notation.{Notation}
 use Rattle.command_line.specs.declared.tasks.Notation.TheVariants.{Bytecode, Assembly, Object}
 use Rattle.command_line.specs.declared.tasks.Task.{Task}
 use Rattle.command_line.specs.declared.tasks.Task.TheVariants.{Check, Disassemble}
 use Rattle.lab.specs.Seeming.{likeness_of, seems_text}
+use Rattle.lab.specs.Whys.{TellsWhyOf, is_explained}
 use Rattle.lab.specs.declared.hint.Hint.{Hint}
 use Rattle.lab.specs.declared.hint.Hint.TheVariants.{Seems, Fault, Explained}
 use Rattle.lab.specs.declared.refusal.Refusal.{Refusal}
 use Rattle.lab.specs.declared.refusal.Refusal.TheVariants.{Verifier, Object as NoEntry}
+use Rattle.lab.specs.declared.whys.Traced.TheVariants as traced
 
 -- the code of the object's entry, which has this name where it is named, spells the program
 abbrev pub HasEntry : Option (List ℕ) → List ℕ → List Insn → Type 0
@@ -73,6 +76,20 @@ IsSaid None bytes otherwise hint = hint ≡ otherwise
 IsSaid (Some notation) bytes otherwise (Some (Explained text)) = IsWhy notation bytes (string_bytes text)
 IsSaid (Some notation) bytes otherwise _ = ⊥
 
--- what is said behind this refusal of the task's first file
+-- whether more is said of a refusal than what is said of it always: of an object's fault there is no more
+abbrev pub is_reported : Task → Refusal → Bool
+is_reported task (NoEntry fault) = false
+is_reported task _ = is_explained task
+
+-- what is said behind this refusal of the task's first file, of which these bytes are to be bytecode: where more is asked for, the
+-- explanation of a program that the verifier refuses, or the report; else the sentence of an object's fault, or what the bytes seem to be
+abbrev pub IsHintBy : Bool → Refusal → Task → List ℕ → List ℕ → Option Hint → Type 0
+IsHintBy false refusal task bytes own hint = hint ≡ seems_behind refusal own
+IsHintBy true (Verifier fault) task bytes own hint = IsSaid (explained_in task) bytes None hint
+IsHintBy true refusal task bytes own hint = TellsWhyOf refusal traced.Nothing (unwrap_or (file_of task) []) own (hint_behind hint)
+
+abbrev pub IsHintOf : Refusal → Task → List ℕ → List ℕ → Option Hint → Type 0
+IsHintOf refusal task bytes own hint = IsHintBy (is_reported task refusal) refusal task bytes own hint
+
 abbrev pub IsHint : Refusal → Task → List ℕ → Option Hint → Type 0
-IsHint refusal task bytes hint = IsSaid (asked_of refusal task) bytes (seems_behind refusal (bytecode_in task bytes)) hint
+IsHint refusal task bytes hint = IsHintOf refusal task bytes (bytecode_in task bytes) hint

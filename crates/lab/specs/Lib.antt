@@ -1,6 +1,7 @@
 pub mod Answers
 pub mod Campaigns
 pub mod Faults
+pub mod Whys
 pub mod Hints
 pub mod Lines
 pub mod Reading

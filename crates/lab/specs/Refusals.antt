@@ -1,5 +1,5 @@
 -- Why a task does not take a file of some bytes.
-use Rattle.std.specs.Prelude.{ℕ, ◌≡◌, ◌≢◌, ◌⊎◌, List, Option, Some, Ok, Err, option_map, string_bytes}
+use Rattle.std.specs.Prelude.{ℕ, ◌≡◌, ◌≢◌, ◌⊎◌, Bool, true, false, List, Option, Some, Ok, Err, option_map, string_bytes}
 use Rattle.std.specs.Str.{IsUtf8}
 use Rattle.insn.specs.declared.insn.Insn.{Insn}
 use Rattle.codec.specs.Program.{IsFirstFault, SpellsProgram}
@@ -33,11 +33,13 @@ use Rattle.trace.specs.declared.fault.TraceError.TheVariants as trace
 use Rattle.verify.specs.declared.error.VerifyError.{VerifyError}
 use Rattle.verify.specs.declared.error.VerifyError.TheVariants as verifier
 use Rattle.verify.specs.Judgement.{judged}
+use Rattle.command_line.specs.declared.tasks.Account.TheVariants as accounts
 use Rattle.command_line.specs.declared.tasks.Notation.{Notation}
 use Rattle.command_line.specs.declared.tasks.Notation.TheVariants as notation
 use Rattle.command_line.specs.declared.tasks.Task.{Task}
 use Rattle.command_line.specs.declared.tasks.Task.TheVariants.{Check, Assemble, Disassemble, Book, ExplainDecisions, Form, Play, Muster, Audit}
 use Rattle.tables.specs.Numbers.{numbers_in}
+use Rattle.lab.specs.Campaigns.{is_plain}
 use Rattle.lab.specs.declared.refusal.Refusal.{Refusal}
 use Rattle.lab.specs.declared.refusal.Refusal.TheVariants.{Codec, Object, Verifier, Assembly, Table, Scenario, Setting, Trace, Threads, NotText, Memory}
 
@@ -134,6 +136,11 @@ RefusesCampaign text (Scenario error) = (error ≢ scenario.Memory) × ReadsAny 
 RefusesCampaign text Memory = Unit {0}
 RefusesCampaign text _ = ⊥
 
+-- the text tells no campaign, or no oral one where more than its chronicle is asked for
+abbrev pub RefusesAsked : Bool → List ℕ → Refusal → Type 0
+RefusesAsked true text refusal = RefusesCampaign text refusal
+RefusesAsked false text refusal = RefusesScenario text refusal
+
 -- the text tells no setting, by this first fault
 abbrev pub RefusesSetting : List ℕ → Refusal → Type 0
 RefusesSetting text (Setting error) = (error ≢ setting.Memory) × trial.Reads (parse_document text) (Err error)
@@ -190,6 +197,6 @@ Refuses (Disassemble file notation units explained) bytes refusal = RefusesNotat
 Refuses (Book file) bytes refusal = RefusesText RefusesTable bytes refusal
 Refuses (ExplainDecisions file traitors) bytes refusal = RefusesText RefusesTable bytes refusal
 Refuses (Form n m c filling) bytes refusal = RefusesForm (string_bytes n) (string_bytes m) (string_bytes c) refusal
-Refuses (Play scenario schedule account explained) bytes refusal = RefusesText RefusesCampaign bytes refusal
+Refuses (Play scenario schedule account explained) bytes refusal = RefusesText (RefusesAsked (is_plain account explained)) bytes refusal
 Refuses (Muster scenario explained) bytes refusal = RefusesText RefusesScenario bytes refusal
-Refuses (Audit scenario chronicle explained) bytes refusal = RefusesText RefusesCampaign bytes refusal
+Refuses (Audit scenario chronicle explained) bytes refusal = RefusesText (RefusesAsked (is_plain accounts.Chronicle explained)) bytes refusal

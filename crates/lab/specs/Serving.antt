@@ -1,7 +1,9 @@
 -- How a task on its files ends. What a file has and what a stream holds are given where they are known.
-use Rattle.std.specs.Prelude.{ℕ, ◌≡◌, ◌≢◌, ◌⊎◌, Bool, List, [], ◌∷◌, ◌++◌, Option, None, Some, IfSome, IsSomeAnd, codes, option_map, unwrap_or}
+use Rattle.std.specs.Prelude.{ℕ, ◌≡◌, ◌≢◌, ◌⊎◌, Bool, true, false, List, [], ◌∷◌, ◌++◌, Option, None, Some, IfSome, IsSomeAnd, codes, option_map, unwrap_or}
 use Rattle.std.specs.Io.KnownBytes.{Appends}
 use Rattle.command_line.specs.Told.{file_of, second_of}
+use Rattle.command_line.specs.declared.tasks.Account.{Account}
+use Rattle.command_line.specs.declared.tasks.Lieutenants.{Lieutenants}
 use Rattle.command_line.specs.declared.tasks.Task.{Task}
 use Rattle.insn.specs.declared.insn.Insn.{Insn}
 use Rattle.scenario.specs.declared.messages.Campaign.{Campaign}
@@ -17,6 +19,9 @@ use Rattle.streams.specs.Reading.{AreBytes}
 use Rattle.lab.specs.Hints.{behind_lines, hint_behind, IsHint}
 use Rattle.lab.specs.declared.hint.Hint.{Hint}
 use Rattle.lab.specs.Telling.{refusal_text}
+use Rattle.lab.specs.Whys.{TellsWhyOf, is_explained, traced_by}
+use Rattle.lab.specs.declared.whys.Traced.{Traced}
+use Rattle.lab.specs.declared.whys.Traced.TheVariants as traced
 use Rattle.lab.specs.Refusals.{Refuses, RefusesChronicle, RefusesMuster, RefusesSchedule, RefusesSetting, RefusesText}
 
 -- the only or first file's bytes, and the second's where there is one
@@ -55,21 +60,23 @@ abbrev pub IsScheduleOf : Option (Option (List ℕ)) → List (List Repeat) → 
 IsScheduleOf known schedule = (second : Option (List ℕ)) × AreSecond known second × IsSchedule second schedule
 
 -- the text is that of the campaign by the second file's schedule
-abbrev pub IsPlayedBy : Option (Option (List ℕ)) → Campaign → List ℕ → Type 0
-IsPlayedBy known c text = (schedule : List (List Repeat)) × IsScheduleOf known schedule × IsPlayed c schedule text
+abbrev pub IsPlayedBy : Option (Option (List ℕ)) → Campaign → Account → Option Lieutenants → List ℕ → Type 0
+IsPlayedBy known c account explained text = (schedule : List (List Repeat)) × IsScheduleOf known schedule × IsPlayed c schedule account explained text
 
 -- the lines are those of the audit of the second file
-abbrev pub IsAuditOf : Option (Option (List ℕ)) → Campaign → List ℕ → Type 0
-IsAuditOf known c text = (bytes : List ℕ) × AreSecondBytes known bytes × IsAudited c bytes text
+abbrev pub IsAuditOf : Option (Option (List ℕ)) → Campaign → Option Lieutenants → List ℕ → Type 0
+IsAuditOf known c explained text = (bytes : List ℕ) × AreSecondBytes known bytes × IsAudited c explained bytes text
 
--- the lines are those of the program's trial in the second file's setting, and behind them its explanation, if it is asked for
-abbrev pub IsTrialOf : Option (Option (List ℕ)) → Bool → List Insn → List ℕ → Type 0
-IsTrialOf known explained program text =
-    (bytes : List ℕ) × AreSecondBytes known bytes × ((lines : List ℕ) × IsTriedBy bytes program lines × (text ≡ lines ++ behind_lines explained program))
+-- the lines are those of the program's trial in the second file's setting, and behind them its steps and its explanation, where they are
+-- asked for
+abbrev pub IsTrialOf : Option (Option (List ℕ)) → Bool → Bool → List Insn → List ℕ → Type 0
+IsTrialOf known traced explained program text =
+    (bytes : List ℕ) × AreSecondBytes known bytes
+    × ((lines : List ℕ) × IsTriedBy traced bytes program lines × (text ≡ lines ++ behind_lines explained program))
 
--- the task has an answer on the files
-abbrev pub HasAnswer : Task → Files → Type 0
-HasAnswer task files = (text : List ℕ) × IsAnswer task files text
+-- the task has an answer on the files, with which it stands so
+abbrev pub HasAnswer : (List ℕ → Type 0) → Task → Files → Type 0
+HasAnswer stands task files = (text : List ℕ) × IsAnswer task files text × stands text
 
 -- the output has grown by the task's whole answer on the files, and by nothing else
 abbrev pub IsPrinted : Task → Files → Option (List ℕ) → Option (List ℕ) → Type 0
@@ -80,10 +87,6 @@ abbrev pub IsRefused : Task → Option (List ℕ) → Refusal → Option Hint �
 IsRefused task known refusal hint =
     (refusal ≢ Memory) × ((bytes : List ℕ) × AreBytes known bytes × Refuses task bytes refusal)
     × IfSome known (λ all. IsHint refusal task all hint)
-
--- it is refused so, and no more is said
-abbrev pub NoHint : (Refusal → Type 0) → Refusal → Option Hint → Type 0
-NoHint refused refusal hint = refused refusal × (hint ≡ None)
 
 -- the task takes its first file, and goes on with this
 abbrev pub IsTaken : Task → Option (List ℕ) → FirstAnswer → Type 0
@@ -110,11 +113,29 @@ IsUnmustered refusal = (refusal ≢ Memory) × RefusesMuster refusal
 
 -- behind a first file with which a task goes on so, it refuses so
 abbrev pub IsRefusedLater : FirstAnswer → Option (Option (List ℕ)) → Refusal → Type 0
-IsRefusedLater (answer.Trial program) known refusal = IsSettingRefused known refusal
-IsRefusedLater (answer.Play c) known refusal = IsScheduleRefused known refusal
-IsRefusedLater (answer.Muster s) known refusal = IsUnmustered refusal
-IsRefusedLater (answer.Audit c) known refusal = IsChronicleRefused c known refusal
+IsRefusedLater (answer.Trial program told) known refusal = IsSettingRefused known refusal
+IsRefusedLater (answer.Play c account explained) known refusal = IsScheduleRefused known refusal
+IsRefusedLater (answer.Muster s explained) known refusal = IsUnmustered refusal
+IsRefusedLater (answer.Audit c explained) known refusal = IsChronicleRefused c known refusal
 IsRefusedLater _ known refusal = ⊥
+
+-- of a second file's bytes, none where there is no such file
+abbrev pub IfKnown : Option (Option (List ℕ)) → (List ℕ → Type 0) → Type 0
+IfKnown None P = P []
+IfKnown (Some known) P = IfSome known P
+
+-- what is said behind this refusal of a second file with this name: nothing or, where an explanation is asked for, the report
+abbrev pub IsHintLater : Bool → List ℕ → Option (Option (List ℕ)) → Traced → Refusal → Option Hint → Type 0
+IsHintLater false name known of refusal hint = hint ≡ None
+IsHintLater true name known of refusal hint = IfKnown known (λ all. TellsWhyOf refusal of name all (hint_behind hint))
+
+-- behind such a first file it refuses so, and this is said behind it
+abbrev pub IsToldLater : Bool → List ℕ → Option (Option (List ℕ)) → FirstAnswer → Refusal → Option Hint → Type 0
+IsToldLater explained name known more refusal hint = IsRefusedLater more known refusal × IsHintLater explained name known (traced_by more) refusal hint
+
+-- the second file is refused so as a schedule, and this is said behind it
+abbrev pub IsScheduleTold : Bool → List ℕ → Option (Option (List ℕ)) → Refusal → Option Hint → Type 0
+IsScheduleTold explained name known refusal hint = IsScheduleRefused known refusal × IsHintLater explained name known traced.Schedule refusal hint
 
 -- the stream has grown by this line, or it failed
 abbrev pub Tells : Type 0 → Option (List ℕ) → Option (List ℕ) → List ℕ → Type 0
@@ -135,13 +156,13 @@ IsTurnedDown unread refused name tells =
     (unread × TellsName tells (codes "fault read ") name)
     ⊎ ((refusal : Refusal) × ((hint : Option Hint) × refused refusal hint × TellsRefusal name tells refusal hint))
 
--- the output failed on the task's answer, and a line says so
-abbrev pub IsUnwritten : Type 0 → Task → Files → (List ℕ → Type 0) → Type 0
-IsUnwritten unwritten task files tells = unwritten × HasAnswer task files × tells (codes "fault write")
+-- the output failed on the task's answer, of which so much was written, and a line says so
+abbrev pub IsUnwritten : Type 0 → (List ℕ → Type 0) → Task → Files → (List ℕ → Type 0) → Type 0
+IsUnwritten unwritten begun task files tells = unwritten × HasAnswer begun task files × tells (codes "fault write")
 
--- nothing is printed, since the first file is turned down, or what comes behind a first one that is taken; or the output failed on the answer
-abbrev pub IsFault : Type 0 → Type 0 → Type 0 → Task → Files → Type 0 → (List ℕ → Type 0) → Type 0
-IsFault unread second_unread unwritten task files kept tells =
+-- nothing is printed, since the first file is turned down, or what comes behind a first one that is taken; or the output failed on the answer, of which so much was written
+abbrev pub IsFault : Type 0 → Type 0 → Type 0 → (List ℕ → Type 0) → Task → Files → Type 0 → (List ℕ → Type 0) → Type 0
+IsFault unread second_unread unwritten begun task files kept tells =
     (kept × (IsTurnedDown unread (IsRefused task files.first) (first_name task) tells
-    ⊎ ((more : FirstAnswer) × IsTaken task files.first more × IsTurnedDown second_unread (NoHint (IsRefusedLater more files.second)) (second_name task) tells)))
-    ⊎ IsUnwritten unwritten task files tells
+    ⊎ ((more : FirstAnswer) × IsTaken task files.first more × IsTurnedDown second_unread (IsToldLater (is_explained task) (second_name task) files.second more) (second_name task) tells)))
+    ⊎ IsUnwritten unwritten begun task files tells

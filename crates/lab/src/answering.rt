@@ -7,12 +7,14 @@ use crate::checking::{accepted_in, check, checked_text};
 use crate::deciding::{decided, explained};
 use crate::explaining::with_explanation;
 use crate::first_answer::FirstAnswer;
-use crate::forming::formed;
-use crate::playing::{any_campaign, campaign};
+use crate::forming::{filled, formed};
+use crate::playing::{asked_campaign, campaign};
 use crate::refusal::Refusal;
+use crate::steps::with_steps;
 use crate::texts::as_text;
-use command_line::{Notation, Spelling, Task};
+use command_line::{Account, Notation, Spelling, Task};
 use std::alloc::Global;
+use trial::Setting;
 
 /// What the task comes to on an only or first file of these bytes.
 ///
@@ -28,13 +30,18 @@ pub fn answer(alloc: Global, task: &Task, bytes: &[u8]) -> Result<FirstAnswer, R
             notation,
             context: None,
             explained,
+            traced,
             ..
-        } => checked_in(alloc, notation, *explained, bytes)?,
+        } => checked_in(alloc, notation, *explained, *traced, bytes)?,
         Task::Check {
             notation,
             context: Some(_),
+            traced,
             ..
-        } => return Ok(FirstAnswer::Trial(accepted_in(alloc, notation, bytes)?)),
+        } => {
+            let program = accepted_in(alloc, notation, bytes)?;
+            return Ok(FirstAnswer::Trial(program, *traced));
+        }
         Task::Assemble {
             spelling: Spelling::Hex,
             ..
@@ -56,26 +63,52 @@ pub fn answer(alloc: Global, task: &Task, bytes: &[u8]) -> Result<FirstAnswer, R
             generals,
             bound,
             commander,
-            ..
+            filling: None,
         } => formed(alloc, generals.as_str(), bound.as_str(), commander.as_str())?,
-        Task::Play { .. } => return Ok(FirstAnswer::Play(any_campaign(alloc, bytes)?)),
-        Task::Muster { .. } => return Ok(FirstAnswer::Muster(campaign(alloc, bytes)?)),
-        Task::Audit { .. } => return Ok(FirstAnswer::Audit(any_campaign(alloc, bytes)?)),
+        Task::Form {
+            generals,
+            bound,
+            commander,
+            filling: Some(filling),
+        } => filled(
+            alloc,
+            generals.as_str(),
+            bound.as_str(),
+            commander.as_str(),
+            *filling,
+        )?,
+        Task::Play {
+            account,
+            explained,
+            ..
+        } => {
+            let campaign = asked_campaign(alloc, bytes, *account, *explained)?;
+            return Ok(FirstAnswer::Play(campaign, *account, *explained));
+        }
+        Task::Muster { explained, .. } => {
+            return Ok(FirstAnswer::Muster(campaign(alloc, bytes)?, *explained));
+        }
+        Task::Audit { explained, .. } => {
+            let campaign = asked_campaign(alloc, bytes, Account::Chronicle, *explained)?;
+            return Ok(FirstAnswer::Audit(campaign, *explained));
+        }
     };
     Ok(FirstAnswer::Text(text))
 }
 
-/// What a check prints of a file with a program in this notation, with its explanation or without it.
+/// What a check prints of a file with a program in this notation, with its steps and its explanation or without them.
 fn checked_in(
     alloc: Global,
     notation: &Notation,
     explained: bool,
+    traced: bool,
     bytes: &[u8],
 ) -> Result<String, Refusal>
-    ensures checked { IfOk result (λ text. IsChecked notation.now explained bytes.now (string_bytes text)) }
+    ensures checked { IfOk result (λ text. IsChecked notation.now explained traced bytes.now (string_bytes text)) }
     ensures refused { IfErr result (RefusesCheckIn notation.now bytes.now) }
 {
     let (verified, checked) = check(alloc, notation, bytes)?;
     let lines = checked_text(alloc, &checked)?;
+    let lines = with_steps(alloc, lines, traced, &verified, &Setting::bench(alloc))?;
     Ok(with_explanation(alloc, lines, explained, verified.program())?)
 }

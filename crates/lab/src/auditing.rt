@@ -1,44 +1,60 @@
 ghost use Rattle.std.specs.Prelude.{◌≡◌, IfOk, IfErr};
 ghost use Rattle.scenario.specs.declared.messages.Campaign.TheVariants.{Oral, Signed};
-ghost use Rattle.lab.specs.Campaigns.{IsAudited};
+ghost use Rattle.lab.specs.Campaigns.{IsAudited, IsSignedAudited};
 ghost use Rattle.lab.specs.Lines.{sound_lines};
 ghost use Rattle.lab.specs.Refusals.{RefusesChronicle, RefusesText};
 
+use crate::playing::with_decisions;
 use crate::refusal::Refusal;
 use crate::texts::as_text;
+use command_line::Lieutenants;
 use round::Scenario;
 use scenario::Campaign;
 use std::alloc::{AllocError, Global};
-use trace::{Latch, check, check_signed, write_verdict};
+use trace::{Latch, check_signed, sound_chronicle, write_verdict};
 use world::Verdict;
 
-/// The audit of the bytes: that they are the text of a chronicle of the campaign, and the verdict on it.
+/// The audit of the bytes: that they are the text of a chronicle of the campaign, and the verdict on it; behind them how
+/// these decisions of an oral one come about.
 ///
 /// # Errors
 ///
 /// The first line that is not the chronicle's, or want of memory.
-pub fn audited(alloc: Global, campaign: &Campaign, bytes: &[u8]) -> Result<Vec<u8>, Refusal>
-    ensures audited { IfOk result (λ text. IsAudited campaign.now bytes.now text.items) }
+pub fn audited(
+    alloc: Global,
+    campaign: &Campaign,
+    bytes: &[u8],
+    explained: Option<Lieutenants>,
+) -> Result<Vec<u8>, Refusal>
+    ensures audited { IfOk result (λ text. IsAudited campaign.now explained bytes.now text.items) }
     ensures refused { IfErr result (RefusesText (RefusesChronicle campaign.now) bytes.now) }
 {
     match campaign {
-        Campaign::Oral(scenario) => oral_audited(alloc, scenario, bytes),
+        Campaign::Oral(scenario) => oral_audited(alloc, scenario, bytes, explained),
         Campaign::Signed(scenario) => signed_audited(alloc, scenario, bytes),
     }
 }
 
 /// The audit of an oral campaign's.
-fn oral_audited(alloc: Global, scenario: &Scenario, bytes: &[u8]) -> Result<Vec<u8>, Refusal>
-    ensures audited { IfOk result (λ text. IsAudited (Oral scenario.now) bytes.now text.items) }
+#[tactic(auto, using(crate::proofs::CampaignLemmas::is_audited, crate::proofs::CampaignLemmas::told_wholly))]
+fn oral_audited(
+    alloc: Global,
+    scenario: &Scenario,
+    bytes: &[u8],
+    explained: Option<Lieutenants>,
+) -> Result<Vec<u8>, Refusal>
+    ensures audited { IfOk result (λ text. IsAudited (Oral scenario.now) explained bytes.now text.items) }
     ensures refused { IfErr result (RefusesText (RefusesChronicle (Oral scenario.now)) bytes.now) }
 {
-    let verdict = check(alloc, scenario, as_text(bytes)?)?;
-    Ok(sound_text(alloc, verdict)?)
+    scenario.recall();
+    let chronicle = sound_chronicle(alloc, scenario, as_text(bytes)?)?;
+    let lines = sound_text(alloc, chronicle.verdict())?;
+    Ok(with_decisions(alloc, lines, &chronicle, explained)?)
 }
 
 /// The audit of a signed one's.
 fn signed_audited(alloc: Global, scenario: &Scenario, bytes: &[u8]) -> Result<Vec<u8>, Refusal>
-    ensures audited { IfOk result (λ text. IsAudited (Signed scenario.now) bytes.now text.items) }
+    ensures audited { IfOk result (λ text. IsSignedAudited scenario.now bytes.now text.items) }
     ensures refused { IfErr result (RefusesText (RefusesChronicle (Signed scenario.now)) bytes.now) }
 {
     let verdict = check_signed(alloc, scenario, as_text(bytes)?)?;

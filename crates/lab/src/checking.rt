@@ -1,4 +1,4 @@
-ghost use Rattle.std.specs.Prelude.{◌≡◌, IfOk, IfErr, None, Some, string_bytes};
+ghost use Rattle.std.specs.Prelude.{◌≡◌, Ok, Err, IfOk, IfErr, MatchResult, None, Some, string_bytes};
 ghost use Rattle.asm.specs.Program.{program_of};
 ghost use Rattle.codec.specs.Program.{SpellsProgram};
 ghost use Rattle.semantics.specs.Run.{IsSound};
@@ -7,7 +7,7 @@ ghost use Rattle.lab.specs.Answers.{IsRun};
 ghost use Rattle.elf.specs.Symbol.{asked};
 ghost use Rattle.lab.specs.Hints.{HasEntry, HasProgram};
 ghost use Rattle.lab.specs.Lines.{checked_lines};
-ghost use Rattle.lab.specs.Refusals.{RefusesCheck, RefusesCheckAssembly, RefusesCheckIn, RefusesObject, RefusesProgram};
+ghost use Rattle.lab.specs.Refusals.{RefusesCheck, RefusesCheckAssembly, RefusesCheckIn, RefusesObject, RefusesProgram, verifier_refusal};
 
 use crate::programs::code_in;
 use crate::refusal::Refusal;
@@ -18,7 +18,7 @@ use command_line::Notation;
 use insn::Program;
 use std::alloc::{AllocError, Global};
 use trial::{Setting, first_lines, run_in};
-use verify::{Verified, verify};
+use verify::{Refused, Verified, verify};
 
 /// An accepted program and its run on the bench.
 #[derive(Clone, Copy, Debug, PartialEq, Eq)]
@@ -119,9 +119,16 @@ fn accepted_program(alloc: Global, program: Program) -> Result<Verified, Refusal
     ensures sound { IfOk result (λ verified. IsSound verified) }
     ensures refused { IfErr result (RefusesProgram program) }
 {
-    match verify(alloc, program) {
+    accepted_by(verify(alloc, program))
+}
+
+/// The verified program, or why it is refused.
+fn accepted_by(judgement: Result<Verified, Refused>) -> Result<Verified, Refusal>
+    ensures { MatchResult judgement (λ verified. result ≡ Ok verified) (λ refused. result ≡ Err (verifier_refusal refused.fault)) }
+{
+    match judgement {
         Ok(verified) => Ok(verified),
-        Err(refusal) => Err(Refusal::from(refusal.fault)),
+        Err(refused) => Err(Refusal::from(refused.fault)),
     }
 }
 

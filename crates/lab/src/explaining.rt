@@ -8,13 +8,14 @@ use crate::failure::Failure;
 use crate::hint::Hint;
 use crate::programs::program_in;
 use crate::refusal::Refusal;
+use crate::whys::unjudged;
 use command_line::{Notation, Task};
 use explain::explanation;
 use insn::Program;
 use std::alloc::{AllocError, Global};
 
 /// The notation of the program that the task is to explain, where it is to explain one.
-pub(crate) fn explained_in(task: &Task) -> Option<&Notation>
+fn explained_in(task: &Task) -> Option<&Notation>
     ensures { option_map (λ notation. notation.now) result ≡ explained_in task.now }
 {
     match task {
@@ -82,7 +83,7 @@ fn asked_of<'a>(refusal: &Refusal, task: &'a Task) -> Option<&'a Notation>
     }
 }
 
-/// The fault of a first file of these bytes that the task refuses so: of a program that it is to explain, with its explanation.
+/// The fault of a first file of these bytes that the task refuses so, with what is said behind it.
 pub(crate) fn refused<'a>(
     alloc: Global,
     task: &'a Task,
@@ -93,12 +94,13 @@ pub(crate) fn refused<'a>(
     ensures { StopsFirst task.entry.now bytes.now result }
 {
     let file = task.file().unwrap_or("");
+    let own = bytecode_in(task, bytes);
     let Some(notation) = asked_of(&refusal, task) else {
-        return Failure::of_bytes(refusal, file, bytecode_in(task, bytes));
+        return unjudged(alloc, task, refusal, file, own);
     };
     match why(alloc, notation, bytes) {
         Ok(text) => Failure::Refused(refusal, Some(Hint::Explained(text))),
         // It was read before, so this is want of memory.
-        Err(unread) => Failure::of_bytes(unread, file, bytecode_in(task, bytes)),
+        Err(unread) => unjudged(alloc, task, unread, file, own),
     }
 }

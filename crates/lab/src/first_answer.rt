@@ -1,3 +1,4 @@
+use command_line::{Account, Lieutenants};
 use round::Scenario;
 use scenario::Campaign;
 use verify::Verified;
@@ -9,12 +10,12 @@ pub enum FirstAnswer {
     Text(String),
     /// The same, where it is no text.
     Bytes(Vec<u8>),
-    /// A program to try, in the setting of the second file.
-    Trial(Verified),
-    /// A campaign to play, by the schedule of the second file.
-    Play(Campaign),
-    /// An oral campaign to run with a thread for each general.
-    Muster(Scenario),
-    /// A campaign whose chronicle the second file may be.
-    Audit(Campaign),
+    /// A program to try, in the setting of the second file, and whether its steps are told.
+    Trial(Verified, bool),
+    /// A campaign to play, by the schedule of the second file, the account to give of it, and whose decisions to explain.
+    Play(Campaign, Account, Option<Lieutenants>),
+    /// An oral campaign to run with a thread for each general, and whose decisions to explain.
+    Muster(Scenario, Option<Lieutenants>),
+    /// A campaign whose chronicle the second file may be, and whose decisions to explain.
+    Audit(Campaign, Option<Lieutenants>),
 }

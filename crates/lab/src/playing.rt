@@ -1,14 +1,20 @@
-ghost use Rattle.std.specs.Prelude.{◌≡◌, ℕ, List, IfOk, IfErr, Ok, Some};
+ghost use Rattle.std.specs.Prelude.{◌≡◌, ◌<◌, ℕ, List, length, IfOk, IfErr, Ok, Some};
 ghost use Rattle.scenario.specs.Told.{Tells, TellsAny};
 ghost use Rattle.trace.specs.Schedules.{schedule_told};
 ghost use Rattle.trace.specs.SignedText.{signed_text};
 ghost use Rattle.trace.specs.Text.{chronicle_text};
-ghost use Rattle.lab.specs.Campaigns.{IsOralPlayed, IsPlayed, IsSignedPlayed};
-ghost use Rattle.streams.specs.Reading.{IsFront};
-ghost use Rattle.lab.specs.Refusals.{RefusesCampaign, RefusesScenario, RefusesSchedule, RefusesText};
+ghost use Rattle.retold.specs.Retold.{IsWhole};
+ghost use Rattle.lab.specs.Campaigns.{IsAccount, IsFollowed, IsOralPlayed, IsPlayed, IsSignedPlayed, TellsCampaign, asked, is_plain};
+ghost use Rattle.streams.specs.Reading.{IsFront, MayBeginText};
+ghost use Rattle.lab.specs.Refusals.{RefusesAsked, RefusesCampaign, RefusesScenario, RefusesSchedule, RefusesText};
+ghost use Rattle.lab.specs.declared.refusal.Refusal.TheVariants.{NotText, Trace};
+ghost use Rattle.trace.specs.declared.fault.Fault.TheVariants.{Line};
+ghost use Rattle.trace.specs.declared.fault.TraceError.TheVariants.{At};
 
 use crate::refusal::Refusal;
 use crate::texts::as_text;
+use command_line::{Account, Lieutenants};
+use retold::table;
 use round::Scenario;
 use scenario::Campaign;
 use signed::{SignedChronicle, play_signed};
@@ -43,6 +49,29 @@ pub fn campaign(alloc: Global, bytes: &[u8]) -> Result<Scenario, Refusal>
     Ok(scenario::read(alloc, as_text(bytes)?)?)
 }
 
+/// The campaign that the bytes tell, of which this account is to be given, and these decisions explained: an oral one where
+/// that is more than its chronicle, since a signed one has no message table.
+///
+/// # Errors
+///
+/// The first fault of the scenario, or want of memory.
+pub(crate) fn asked_campaign(
+    alloc: Global,
+    bytes: &[u8],
+    account: Account,
+    explained: Option<Lieutenants>,
+) -> Result<Campaign, Refusal>
+    ensures told { IfOk result (TellsCampaign (is_plain account explained) bytes.now) }
+    ensures refused { IfErr result (RefusesText (RefusesAsked (is_plain account explained)) bytes.now) }
+{
+    match (account, explained) {
+        (Account::Chronicle, None) => any_campaign(alloc, bytes),
+        (Account::Chronicle, Some(_)) | (Account::Table, _) => {
+            Ok(Campaign::Oral(campaign(alloc, bytes)?))
+        }
+    }
+}
+
 /// The schedule that the bytes tell.
 ///
 /// # Errors
@@ -68,37 +97,73 @@ pub(crate) fn schedule_of(alloc: Global, front: &[u8]) -> Result<Schedule, Refus
     if front.len() <= MOST_SCHEDULE_BYTES {
         return schedule(alloc, front);
     }
-    if !may_begin_text(front) {
-        return Err(Refusal::NotText);
-    }
-    Err(Refusal::Trace(TraceError::At(Fault::Line, 1)))
+    Err(too_long(front))
 }
 
-/// The text of the chronicle of the campaign by a schedule. All of it is in memory, some bytes for each word and access
-/// that it tells.
+/// Why there is no schedule in a file that begins with these bytes, which are more than a schedule has.
+fn too_long(front: &[u8]) -> Refusal
+    requires { 1048576 < length front.now }
+    ensures text { MayBeginText front.now → result ≡ Trace (At Line 1) }
+    ensures no_text { (MayBeginText front.now → ⊥) → result ≡ NotText }
+    ensures refused { (all : List ℕ) → IsFront 1048576 (Some all) front.now → RefusesText RefusesSchedule all result }
+{
+    if !may_begin_text(front) {
+        return Refusal::NotText;
+    }
+    Refusal::Trace(TraceError::At(Fault::Line, 1))
+}
+
+/// The text of the campaign by a schedule: this account of it, and behind it how these decisions come about; of a signed
+/// one its chronicle alone. All of it is in memory, some bytes for each word and access that it tells.
 ///
 /// # Errors
 ///
 /// `AllocError` where memory is refused.
-pub fn played(alloc: Global, campaign: Campaign, schedule: &Schedule) -> Result<Vec<u8>, AllocError>
-    ensures { IfOk result (λ text. IsPlayed campaign schedule.now text.items) }
+pub fn played(
+    alloc: Global,
+    campaign: Campaign,
+    schedule: &Schedule,
+    account: Account,
+    explained: Option<Lieutenants>,
+) -> Result<Vec<u8>, AllocError>
+    ensures { IfOk result (λ text. IsPlayed campaign schedule.now account explained text.items) }
 {
     match campaign {
-        Campaign::Oral(scenario) => oral_played(alloc, scenario, schedule),
+        Campaign::Oral(scenario) => oral_played(alloc, scenario, schedule, account, explained),
         Campaign::Signed(scenario) => signed_played(alloc, scenario, schedule),
     }
 }
 
 /// That of an oral campaign.
+#[tactic(auto, using(crate::proofs::CampaignLemmas::played_wholly))]
 fn oral_played(
     alloc: Global,
     scenario: Scenario,
     schedule: &Schedule,
+    account: Account,
+    explained: Option<Lieutenants>,
 ) -> Result<Vec<u8>, AllocError>
-    ensures { IfOk result (λ text. IsOralPlayed scenario schedule.now text.items) }
+    ensures { IfOk result (λ text. IsOralPlayed scenario schedule.now account explained text.items) }
 {
+    scenario.recall();
     let chronicle = play(alloc, scenario, schedule)?;
-    chronicle_text(alloc, &chronicle)
+    let front = account_text(alloc, &chronicle, account)?;
+    with_decisions(alloc, front, &chronicle, explained)
+}
+
+/// This account of an oral campaign.
+fn account_text(
+    alloc: Global,
+    chronicle: &Chronicle,
+    account: Account,
+) -> Result<Vec<u8>, AllocError>
+    requires { IsWhole chronicle.now }
+    ensures { IfOk result (λ text. IsAccount account chronicle.now text.items) }
+{
+    match account {
+        Account::Chronicle => chronicle_text(alloc, chronicle),
+        Account::Table => Ok(table(alloc, chronicle)?.into_bytes()),
+    }
 }
 
 /// That of a signed one.
@@ -121,6 +186,37 @@ pub(crate) fn chronicle_text(alloc: Global, chronicle: &Chronicle) -> Result<Vec
     match write_chronicle(chronicle, &mut latch) {
         Ok(()) => Ok(latch.into_writer()),
         Err(_) => Err(AllocError),
+    }
+}
+
+/// The text, and behind it an empty line and how these decisions of the campaign come about, if it is asked for.
+#[tactic(auto, using(crate::proofs::CampaignLemmas::alone, crate::proofs::CampaignLemmas::followed))]
+pub(crate) fn with_decisions(
+    alloc: Global,
+    front: Vec<u8>,
+    chronicle: &Chronicle,
+    explained: Option<Lieutenants>,
+) -> Result<Vec<u8>, AllocError>
+    requires { IsWhole chronicle.now }
+    ensures { IfOk result (λ text. IsFollowed explained chronicle.now front.items text.items) }
+{
+    let Some(who) = explained else {
+        return Ok(front);
+    };
+    let lines = retold::explained(alloc, chronicle, asked(who))?;
+    let mut text = front;
+    text.push(b'\n')?;
+    text.extend_from_slice(lines.as_bytes())?;
+    Ok(text)
+}
+
+/// The general who is asked for; none where all are.
+fn asked(who: Lieutenants) -> Option<u8>
+    ensures { result ≡ asked who }
+{
+    match who {
+        Lieutenants::All => None,
+        Lieutenants::One(general) => Some(general),
     }
 }
 

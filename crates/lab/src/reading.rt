@@ -1,6 +1,7 @@
 //! A task's files are read here, no further than their bytes can matter.
 ghost use Rattle.std.specs.Prelude.{◌≡◌, ◌<◌, ◌*◌, ℕ, List, length, IfOk, IfErr, IsSomeAnd, option_map};
-ghost use Rattle.lab.specs.Faults.{Stops};
+ghost use Rattle.std.specs.IoError.{error_kind};
+ghost use Rattle.lab.specs.Faults.{Stops, unread_by};
 ghost use Rattle.lab.specs.Reading.{IsTooLong};
 ghost use Rattle.streams.specs.Reading.{IsFront};
 ghost use Rattle.lab.specs.Refusals.{RefusesBytes};
@@ -9,6 +10,7 @@ ghost use Rattle.streams.specs.Reading.{AreBytes};
 
 use crate::failure::Failure;
 use crate::refusal::Refusal;
+use crate::whys::unjudged;
 use codec::{CodecError, Fault as CodecFault};
 use command_line::{Notation, Task};
 use insn::Program;
@@ -40,7 +42,7 @@ pub(crate) fn read_first<'a, R: Source>(
             program: file,
             notation: Notation::Bytecode,
             ..
-        } => read_program(alloc, file.as_str(), first),
+        } => read_program(alloc, task, file.as_str(), first),
         _ => read(alloc, task.file().unwrap_or(""), first),
     }
 }
@@ -48,17 +50,19 @@ pub(crate) fn read_first<'a, R: Source>(
 /// All bytes of a file of bytecode, which are no more than a program has.
 fn read_program<'a, R: Source>(
     alloc: Global,
+    task: &'a Task,
     file: &'a str,
     source: R,
 ) -> Result<Vec<u8>, Failure<'a>>
+    requires { file.now ≡ first_name task.now }
     ensures whole { IfOk result (λ all. AreBytes (R.bytes source) all.items) }
-    ensures fault { IfErr result (Stops (R.fails source) (IsTooLong (R.bytes source)) file.entry.now) }
+    ensures fault { IfErr result (Stops (R.fails source) (IsTooLong task.entry.now (R.bytes source)) file.entry.now) }
 {
     match source.read_within(alloc, MOST_OF_A_PROGRAM) {
         Ok(Within::Whole(bytes)) => Ok(bytes),
         Ok(Within::Longer { front, number }) => {
             let refusal = Refusal::Codec(too_long(number));
-            Err(Failure::of_bytes(refusal, file, front.as_slice()))
+            Err(unjudged(alloc, task, refusal, file, front.as_slice()))
         }
         Err(error) => Err(unread(&error, file)),
     }
@@ -119,7 +123,8 @@ fn read<'a, R: Source>(alloc: Global, file: &'a str, source: R) -> Result<Vec<u8
 
 /// The fault of a file with this name whose reading failed so.
 fn unread<'a>(error: &io::Error, file: &'a str) -> Failure<'a>
-    ensures { Stops (Unit {0}) (λ _ _. ⊥) file.entry.now result }
+    ensures kind { result ≡ unread_by (error_kind error.now) file.entry }
+    ensures stops { Stops (Unit {0}) (λ _ _. ⊥) file.entry.now result }
 {
     match error.kind() {
         ErrorKind::OutOfMemory => Failure::Memory,

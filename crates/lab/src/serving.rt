@@ -1,18 +1,22 @@
-ghost use Rattle.std.specs.Prelude.{◌≡◌, ◌≢◌, ◌⊎◌, IfOk, IfErr, IsSomeAnd, OnOk, codes, option_map};
-ghost use Rattle.lab.specs.Faults.{Undoes, Prevents, Stops};
-ghost use Rattle.lab.specs.Serving.{IsAnswer, IsAuditOf, IsChronicleRefused, IsFault, IsPlayedBy, IsPrinted, IsScheduleOf, IsScheduleRefused, IsSettingRefused, IsTrialOf, NoHint, Tells, files, second_name};
+ghost use Rattle.std.specs.Prelude.{◌≡◌, ◌≢◌, ◌⊎◌, Ok, Err, IfOk, IfErr, IsSomeAnd, MatchResult, OnOk, codes, option_map};
+ghost use Rattle.lab.specs.Faults.{Undoes, Prevents, Stops, fault_of};
+ghost use Rattle.lab.specs.Serving.{IsAnswer, IsAuditOf, IsFault, IsPlayedBy, IsPrinted, IsScheduleOf, IsScheduleTold, IsToldLater, IsTrialOf, Tells, files, second_name};
+ghost use Rattle.lab.specs.declared.first_answer.FirstAnswer.TheVariants.{Trial, Play, Audit};
 ghost use Rattle.lab.specs.declared.failure.Failure.TheVariants.{Write as unwritten};
+ghost use Rattle.streams.specs.Writing.{AppendsFront};
 
 use crate::answering::answer;
 use crate::auditing::audited;
-use crate::explaining::{explained_in, refused, with_explanation};
+use crate::explaining::{refused, with_explanation};
 use crate::failure::Failure;
 use crate::first_answer::FirstAnswer;
 use crate::mustering::mustered;
 use crate::playing::{played, schedule_of};
 use crate::reading::{read_first, read_schedule, read_second};
+use crate::refusal::Refusal;
 use crate::trying::tried_by;
-use command_line::Task;
+use crate::whys::{Traced, is_explained, later};
+use command_line::{Account, Lieutenants, Task};
 use scenario::Campaign;
 use std::alloc::Global;
 use std::sync::Wait;
@@ -45,7 +49,7 @@ where
     ensures quiet { result ≡ 0 → fault.new ≡ fault.old }
 
     ensures at_fault { result ≡ 1 →
-        IsFault (R.fails first) (IsSomeAnd second R.fails) (O.fails out.old) task.now (files R.bytes first second)
+        IsFault (R.fails first) (IsSomeAnd second R.fails) (O.fails out.old) (AppendsFront (O.contents out.old) (O.contents out.new)) task.now (files R.bytes first second)
         (out.new ≡ out.old) (Tells (F.fails fault.old) (F.contents fault.old) (F.contents fault.new)) }
 
     ensures unprinted { result ≡ 3 → out.new ≡ out.old }
@@ -61,7 +65,7 @@ where
     }
 }
 
-/// Prints the whole answer, or nothing where there is none.
+/// Prints the whole answer, or nothing where there is none. Where the output fails, at most a beginning of the answer was printed.
 fn print<'a, T, R, O>(
     rt: &T,
     alloc: Global,
@@ -77,7 +81,7 @@ where
     ensures done { OnOk result
         (IsPrinted task.entry.now (files R.bytes first second) (O.contents out.old) (O.contents out.new)) }
     ensures fault { IfErr result
-        (Undoes (R.fails first) (IsSomeAnd second R.fails) (O.fails out.old) task.entry.now (files R.bytes first second)) }
+        (Undoes (R.fails first) (IsSomeAnd second R.fails) (O.fails out.old) (AppendsFront (O.contents out.old) (O.contents out.new)) task.entry.now (files R.bytes first second)) }
     ensures unprinted { IfErr result (λ fault. fault ≢ unwritten → out.new ≡ out.old) }
 {
     let text = answered(rt, alloc, task, first, second)?;
@@ -105,57 +109,82 @@ where
 {
     let bytes = read_first(alloc, task, first)?;
     let file = task.second().unwrap_or("");
+    let reported = is_explained(task);
     match answer(alloc, task, bytes.as_slice()) {
         Ok(FirstAnswer::Text(text)) => Ok(text.into_bytes()),
         Ok(FirstAnswer::Bytes(bytes)) => Ok(bytes),
-        Ok(FirstAnswer::Trial(program)) => {
-            trial_of(alloc, &program, explained_in(task).is_some(), file, second)
+        Ok(FirstAnswer::Trial(program, traced)) => {
+            trial_of(alloc, &program, traced, reported, file, second)
         }
-        Ok(FirstAnswer::Play(campaign)) => play_by(alloc, campaign, file, second),
-        Ok(FirstAnswer::Muster(scenario)) => match mustered(rt, alloc, scenario) {
-            Ok(text) => Ok(text),
-            Err(refusal) => Err(Failure::of(refusal, file)),
-        },
-        Ok(FirstAnswer::Audit(campaign)) => audit_of(alloc, &campaign, file, second),
+        Ok(FirstAnswer::Play(campaign, account, explained)) => {
+            play_by(alloc, campaign, account, explained, reported, file, second)
+        }
+        Ok(FirstAnswer::Muster(scenario, explained)) => {
+            mustered_text(mustered(rt, alloc, scenario, explained), file)
+        }
+        Ok(FirstAnswer::Audit(campaign, explained)) => {
+            audit_of(alloc, &campaign, explained, reported, file, second)
+        }
         Err(refusal) => Err(refused(alloc, task, refusal, bytes.as_slice())),
     }
 }
 
-/// The lines of the program's trial in the setting of the second file, with its explanation or without it.
+/// The text of a muster, or the fault of a campaign that is not mustered, whose second file has this name.
+fn mustered_text<'a>(text: Result<Vec<u8>, Refusal>, file: &'a str) -> Result<Vec<u8>, Failure<'a>>
+    ensures { MatchResult text (λ own. result ≡ Ok own) (λ refusal. result ≡ Err (fault_of refusal file.entry)) }
+{
+    match text {
+        Ok(text) => Ok(text),
+        Err(unmustered) => Err(Failure::of(unmustered, file)),
+    }
+}
+
+/// The lines of the program's trial in the setting of the second file, with its steps and its explanation or without them.
 fn trial_of<'a, R: Source>(
     alloc: Global,
     program: &Verified,
+    traced: bool,
     explained: bool,
     file: &'a str,
     second: Option<R>,
 ) -> Result<Vec<u8>, Failure<'a>>
-    ensures tried { IfOk result (λ text. IsTrialOf (option_map R.bytes second) explained program.now text.items) }
+    ensures tried { IfOk result (λ text. IsTrialOf (option_map R.bytes second) traced explained program.now text.items) }
     ensures fault { IfErr result
-        (Stops (IsSomeAnd second R.fails) (NoHint (IsSettingRefused (option_map R.bytes second))) file.entry.now) }
+        (Stops (IsSomeAnd second R.fails) (IsToldLater explained file.entry.now (option_map R.bytes second) (Trial program.now traced)) file.entry.now) }
 {
     let bytes = read_second(alloc, file, second)?;
-    match tried_by(alloc, program, bytes.as_slice()) {
+    match tried_by(alloc, program, traced, bytes.as_slice()) {
         Ok(lines) => match with_explanation(alloc, lines, explained, program.program()) {
             Ok(text) => Ok(text.into_bytes()),
             Err(_) => Err(Failure::Memory),
         },
-        Err(refusal) => Err(Failure::of(refusal, file)),
+        Err(refusal) => Err(later(
+            alloc,
+            explained,
+            Traced::Nothing,
+            refusal,
+            file,
+            bytes.as_slice(),
+        )),
     }
 }
 
-/// The text of the campaign by the schedule of the second file.
+/// The text of the campaign by the schedule of the second file: this account of it, and how these decisions come about.
 fn play_by<'a, R: Source>(
     alloc: Global,
     campaign: Campaign,
+    account: Account,
+    explained: Option<Lieutenants>,
+    reported: bool,
     file: &'a str,
     second: Option<R>,
 ) -> Result<Vec<u8>, Failure<'a>>
-    ensures played { IfOk result (λ text. IsPlayedBy (option_map R.bytes second) campaign text.items) }
+    ensures played { IfOk result (λ text. IsPlayedBy (option_map R.bytes second) campaign account explained text.items) }
     ensures fault { IfErr result
-        (Stops (IsSomeAnd second R.fails) (NoHint (IsScheduleRefused (option_map R.bytes second))) file.entry.now) }
+        (Stops (IsSomeAnd second R.fails) (IsToldLater reported file.entry.now (option_map R.bytes second) (Play campaign account explained)) file.entry.now) }
 {
-    let schedule = scheduled(alloc, file, second)?;
-    match played(alloc, campaign, &schedule) {
+    let schedule = scheduled(alloc, reported, file, second)?;
+    match played(alloc, campaign, &schedule, account, explained) {
         Ok(text) => Ok(text),
         Err(_) => Err(Failure::Memory),
     }
@@ -164,12 +193,13 @@ fn play_by<'a, R: Source>(
 /// The schedule of the second file, the empty one where there is none.
 fn scheduled<'a, R: Source>(
     alloc: Global,
+    reported: bool,
     file: &'a str,
     second: Option<R>,
 ) -> Result<Schedule, Failure<'a>>
     ensures told { IfOk result (λ schedule. IsScheduleOf (option_map R.bytes second) schedule) }
     ensures fault { IfErr result
-        (Stops (IsSomeAnd second R.fails) (NoHint (IsScheduleRefused (option_map R.bytes second))) file.entry.now) }
+        (Stops (IsSomeAnd second R.fails) (IsScheduleTold reported file.entry.now (option_map R.bytes second)) file.entry.now) }
 {
     let Some(second) = second else {
         return Ok(Schedule {
@@ -179,24 +209,44 @@ fn scheduled<'a, R: Source>(
     let front = read_schedule(alloc, file, second)?;
     match schedule_of(alloc, front.as_slice()) {
         Ok(schedule) => Ok(schedule),
-        Err(refusal) => Err(Failure::of(refusal, file)),
+        Err(refusal) => {
+            Err(later(
+                alloc,
+                reported,
+                Traced::Schedule,
+                refusal,
+                file,
+                front.as_slice(),
+            ))
+        }
     }
 }
 
-/// The audit of the second file as a chronicle of the campaign.
+/// The audit of the second file as a chronicle of the campaign, and how these decisions come about.
 fn audit_of<'a, R: Source>(
     alloc: Global,
     campaign: &Campaign,
+    explained: Option<Lieutenants>,
+    reported: bool,
     file: &'a str,
     second: Option<R>,
 ) -> Result<Vec<u8>, Failure<'a>>
-    ensures audited { IfOk result (λ text. IsAuditOf (option_map R.bytes second) campaign.now text.items) }
+    ensures audited { IfOk result (λ text. IsAuditOf (option_map R.bytes second) campaign.now explained text.items) }
     ensures fault { IfErr result
-        (Stops (IsSomeAnd second R.fails) (NoHint (IsChronicleRefused campaign.now (option_map R.bytes second))) file.entry.now) }
+        (Stops (IsSomeAnd second R.fails) (IsToldLater reported file.entry.now (option_map R.bytes second) (Audit campaign.now explained)) file.entry.now) }
 {
     let bytes = read_second(alloc, file, second)?;
-    match audited(alloc, campaign, bytes.as_slice()) {
+    match audited(alloc, campaign, bytes.as_slice(), explained) {
         Ok(text) => Ok(text),
-        Err(refusal) => Err(Failure::of(refusal, file)),
+        Err(refusal) => {
+            Err(later(
+                alloc,
+                reported,
+                Traced::Chronicle,
+                refusal,
+                file,
+                bytes.as_slice(),
+            ))
+        }
     }
 }

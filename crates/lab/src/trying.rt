@@ -3,21 +3,28 @@ ghost use Rattle.lab.specs.Answers.{IsTriedBy};
 ghost use Rattle.lab.specs.Refusals.{RefusesSetting, RefusesText};
 
 use crate::refusal::Refusal;
+use crate::steps::with_steps;
 use crate::texts::as_text;
 use std::alloc::Global;
 use trial::{read, tried};
 use verify::Verified;
 
-/// The lines of the program's trial in the setting that the bytes tell. The board that it asks is its own, and begins with
+/// The lines of the program's trial in the setting that the bytes tell, and behind them its steps, if they are asked for. The board that it asks is its own, and begins with
 /// zeros.
 ///
 /// # Errors
 ///
 /// The first fault of the setting, or want of memory.
-pub fn tried_by(alloc: Global, program: &Verified, bytes: &[u8]) -> Result<String, Refusal>
-    ensures tried { IfOk result (λ text. IsTriedBy bytes.now program.now (string_bytes text)) }
+pub fn tried_by(
+    alloc: Global,
+    program: &Verified,
+    traced: bool,
+    bytes: &[u8],
+) -> Result<String, Refusal>
+    ensures tried { IfOk result (λ text. IsTriedBy traced bytes.now program.now (string_bytes text)) }
     ensures refused { IfErr result (RefusesText RefusesSetting bytes.now) }
 {
     let setting = read(alloc, as_text(bytes)?)?;
-    Ok(tried(alloc, program, &setting)?)
+    let lines = tried(alloc, program, &setting)?;
+    Ok(with_steps(alloc, lines, traced, program, &setting)?)
 }

@@ -1,6 +1,7 @@
 //! The files of a row.
 ghost use Rattle.std.specs.Prelude.{◌≤◌, IfOk, length};
 
+use neighbours::Folder;
 use std::alloc::{AllocError, Global};
 use std::io::{self, ErrorKind, Read, Write};
 
@@ -75,6 +76,15 @@ impl Shelf {
     /// Takes the file away that was put last.
     pub fn drop_last(&mut self) {
         let _ = self.files.pop();
+    }
+}
+
+impl Folder for Shelf {
+    fn read(&self, alloc: Global, name: &str) -> io::Result<Vec<u8>> {
+        match self.find(name) {
+            Some(Content::Bytes(bytes)) => Ok(bytes.as_slice().to_vec(alloc)?),
+            Some(Content::Unreadable) | None => Err(io::Error::from(ErrorKind::NotFound)),
+        }
     }
 }
 

@@ -3,6 +3,7 @@ use crate::shelf::{Content, Input, Output, Shelf};
 use anyhow::{Result, bail};
 use command_line::{Task, TaskError, task};
 use lab::{FileName, serve};
+use neighbours::{Untaken, reads_scenario, with_files};
 use std::alloc::{AllocError, Global};
 use std::sync::Wait;
 use std::thread::Threads;
@@ -83,7 +84,28 @@ fn opened<R: Threads + Wait + Sync + AllocGlobal>(
             None => return unopened(rt.alloc(), name),
         },
     };
-    Ok(served(rt, task, first, second, output))
+    completed(rt, task, shelf, first, second, output)
+}
+
+/// Does the task on these files, of which a scenario gets those that it names.
+fn completed<R: Threads + Wait + Sync + AllocGlobal>(
+    rt: &R,
+    task: &Task,
+    shelf: &Shelf,
+    first: Input,
+    second: Option<Input>,
+    output: Output,
+) -> Result<Told, AllocError> {
+    let alloc = rt.alloc();
+    let bytes = match first {
+        Input::Bytes(bytes) if reads_scenario(task) => bytes.to_vec(alloc)?,
+        _ => return Ok(served(rt, task, first, second, output)),
+    };
+    match with_files(alloc, bytes, shelf) {
+        Ok(text) => Ok(served(rt, task, Input::Bytes(text.as_slice()), second, output)),
+        Err(Untaken::Told(text)) => Ok(Told::fault(alloc, 1, format!(in alloc; "{text}\n")?)),
+        Err(Untaken::Memory) => Err(AllocError),
+    }
 }
 
 /// What is told of a file that does not open.

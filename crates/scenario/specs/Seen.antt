@@ -5,7 +5,12 @@ use Rattle.verify.specs.Judgement.{judged}
 use Rattle.verify.specs.declared.error.VerifyError.TheVariants as verifier
 use Rattle.scenario.specs.declared.programs.Written.{Written}
 use Rattle.scenario.specs.declared.programs.Written.TheVariants as written
-use Rattle.scenario.specs.declared.fault.ProgramFault.TheVariants.{Verifier}
+use Rattle.asm.specs.declared.fault.AsmError.{AsmError}
+use Rattle.asm.specs.declared.fault.AsmError.TheVariants as assembler
+use Rattle.codec.specs.declared.fault.CodecError.{CodecError}
+use Rattle.codec.specs.declared.fault.CodecError.TheVariants as decoder
+use Rattle.verify.specs.declared.error.VerifyError.{VerifyError}
+use Rattle.scenario.specs.declared.fault.ProgramFault.TheVariants.{Asm, Code, Verifier}
 use Rattle.scenario.specs.declared.fault.ScenarioError.{ScenarioError}
 use Rattle.scenario.specs.declared.fault.ScenarioError.TheVariants as errors
 use Rattle.scenario.specs.Tables.{Source, Assembly, Hex}
@@ -29,3 +34,16 @@ Accepts g program (Ok accepted) = (accepted ≡ program) × (judged program ≡ 
 Accepts g program (Err (errors.Program h (Verifier reason unit))) = (h ≡ g) × (judged program ≡ Some (verifier.At reason unit))
 Accepts g program (Err errors.Memory) = Unit {0}
 Accepts g program (Err _) = ⊥
+
+-- the error that tells of the assembler's, the decoder's and the verifier's: memory of memory alone
+abbrev pub unassembled : ℕ → AsmError → ScenarioError
+unassembled g assembler.Memory = errors.Memory
+unassembled g (assembler.At fault line) = errors.Program g (Asm fault line)
+
+abbrev pub undecoded : ℕ → CodecError → ScenarioError
+undecoded g decoder.Memory = errors.Memory
+undecoded g (decoder.At fault unit) = errors.Program g (Code fault unit)
+
+abbrev pub unverified : ℕ → VerifyError → ScenarioError
+unverified g verifier.Memory = errors.Memory
+unverified g (verifier.At reason unit) = errors.Program g (Verifier reason unit)

@@ -1,11 +1,12 @@
 //! The values of single keys, each the value or the first fault of its checks.
 
-ghost use Rattle.std.specs.Prelude.{◌≡◌, ℕ, ◌≤◌, ◌<◌, ◌^◌, option_map, IfOk, IfSome};
+ghost use Rattle.std.specs.Prelude.{◌≡◌, ◌≢◌, ℕ, ◌≤◌, ◌<◌, ◌^◌, option_map, IfOk, IfSome, IfErr};
 ghost use Rattle.toml.specs.Data.{get_member};
 ghost use Rattle.toml.specs.View.{view, table_view, array_view, items_view};
 ghost use Rattle.scenario.specs.Names.{is_top_key, is_entry_key, text_of};
 ghost use Rattle.scenario.specs.Checks.{first_unknown, known, required, whole, elements, natural, number, optional_number, general};
 ghost use Rattle.scenario.specs.Flaws.{Gives};
+ghost use Rattle.scenario.specs.declared.fault.ScenarioError.TheVariants.{Memory};
 
 use crate::fault::{Fault, ScenarioError};
 use crate::place::{Name, Place};
@@ -92,7 +93,8 @@ pub fn at<'a>(table: &'a Table, name: Name) -> Option<&'a Value>
 
 /// The value of a required key.
 fn required(place: Place, value: Option<&Value>) -> Result<&Value, ScenarioError>
-    ensures { Gives (λ v. view v.now) result (required place (option_map (λ v. view v.now) value.entry)) }
+    ensures value { Gives (λ v. view v.now) result (required place (option_map (λ v. view v.now) value.entry)) }
+    ensures fault { IfErr result (λ e. e ≢ Memory) }
 {
     match value {
         Some(value) => Ok(value),
@@ -102,7 +104,8 @@ fn required(place: Place, value: Option<&Value>) -> Result<&Value, ScenarioError
 
 /// An integer.
 pub fn whole(place: Place, value: &Value) -> Result<i64, ScenarioError>
-    ensures { Gives (λ z. z) result (whole place (view value.now)) }
+    ensures value { Gives (λ z. z) result (whole place (view value.now)) }
+    ensures fault { IfErr result (λ e. e ≢ Memory) }
 {
     match value.as_integer() {
         Some(integer) => Ok(integer),
@@ -112,7 +115,8 @@ pub fn whole(place: Place, value: &Value) -> Result<i64, ScenarioError>
 
 /// The elements of an array.
 pub fn elements(place: Place, value: &Value) -> Result<&[Value], ScenarioError>
-    ensures { Gives (λ a. items_view a.now) result (elements place (view value.now)) }
+    ensures value { Gives (λ a. items_view a.now) result (elements place (view value.now)) }
+    ensures fault { IfErr result (λ e. e ≢ Memory) }
 {
     match value.as_array() {
         Some(array) => Ok(array.as_slice()),
@@ -122,7 +126,8 @@ pub fn elements(place: Place, value: &Value) -> Result<&[Value], ScenarioError>
 
 /// An integer that is not below 0.
 pub fn natural(fault: Fault, place: Place, integer: i64) -> Result<u64, ScenarioError>
-    ensures { Gives (λ n. n) result (natural fault place integer) }
+    ensures value { Gives (λ n. n) result (natural fault place integer) }
+    ensures fault { IfErr result (λ e. e ≢ Memory) }
 {
     match u64::try_from(integer) {
         Ok(number) => Ok(number),
@@ -140,6 +145,7 @@ pub fn number(
 ) -> Result<u32, ScenarioError>
     ensures value { Gives (λ n. n) result (number place least most (option_map (λ v. view v.now) value.entry)) }
     ensures within { IfOk result (λ n. (least ≤ n) × (n ≤ most)) }
+    ensures fault { IfErr result (λ e. e ≢ Memory) }
 {
     let value = required(place, value)?;
     let integer = whole(place, value)?;
@@ -160,6 +166,7 @@ pub fn optional_number(
 ) -> Result<Option<u32>, ScenarioError>
     ensures value { Gives (λ n. n) result (optional_number place least most (option_map (λ v. view v.now) value.entry)) }
     ensures within { IfOk result (λ o. IfSome o (λ n. (least ≤ n) × (n ≤ most))) }
+    ensures fault { IfErr result (λ e. e ≢ Memory) }
 {
     match value {
         None => Ok(None),
@@ -177,6 +184,7 @@ pub fn general(
 ) -> Result<u8, ScenarioError>
     ensures value { Gives (λ n. n) result (general place low generals (option_map (λ v. view v.now) value.entry)) }
     ensures small { IfOk result (λ g. g < generals) }
+    ensures fault { IfErr result (λ e. e ≢ Memory) }
 {
     let value = required(place, value)?;
     let integer = whole(place, value)?;

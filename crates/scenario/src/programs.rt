@@ -1,7 +1,7 @@
 //! The traitors' programs, assembled or decoded, and verified.
 ghost use Rattle.std.specs.Prelude.{◌≡◌};
 ghost use Rattle.scenario.specs.Tables.{Assembly, Hex};
-ghost use Rattle.scenario.specs.Seen.{source_of, Makes, Accepts};
+ghost use Rattle.scenario.specs.Seen.{source_of, Makes, Accepts, unassembled, undecoded, unverified};
 
 use crate::fault::{ProgramFault, ScenarioError};
 use asm::{AsmError, assemble};
@@ -9,7 +9,7 @@ use codec::{CodecError, decode};
 use hex::FromHexError;
 use insn::Program;
 use std::alloc::Global;
-use verify::{Refused, Verified, verify};
+use verify::{Refused, Verified, VerifyError, verify};
 
 /// A program as a table has it.
 #[derive(Clone, Copy, Debug)]
@@ -26,9 +26,18 @@ fn said(alloc: Global, general: u8, text: &str) -> Result<Program, ScenarioError
 {
     match assemble(alloc, text) {
         Ok(program) => Ok(program),
-        Err(AsmError::Memory) => Err(ScenarioError::Memory),
-        Err(AsmError::At(fault, line)) => {
-            Err(ScenarioError::Program(general, ProgramFault::Asm(fault, line)))
+        Err(error) => Err(unassembled(general, error)),
+    }
+}
+
+/// Why there is no program where the assembler made none.
+fn unassembled(general: u8, error: AsmError) -> ScenarioError
+    ensures { result ≡ unassembled general error }
+{
+    match error {
+        AsmError::Memory => ScenarioError::Memory,
+        AsmError::At(fault, line) => {
+            ScenarioError::Program(general, ProgramFault::Asm(fault, line))
         }
     }
 }
@@ -44,9 +53,18 @@ fn spelled(alloc: Global, general: u8, text: &str) -> Result<Program, ScenarioEr
     };
     match decode(alloc, bytes.as_slice()) {
         Ok(program) => Ok(program),
-        Err(CodecError::Memory) => Err(ScenarioError::Memory),
-        Err(CodecError::At(fault, unit)) => {
-            Err(ScenarioError::Program(general, ProgramFault::Code(fault, unit)))
+        Err(error) => Err(undecoded(general, error)),
+    }
+}
+
+/// Why there is no program where the decoder made none.
+fn undecoded(general: u8, error: CodecError) -> ScenarioError
+    ensures { result ≡ undecoded general error }
+{
+    match error {
+        CodecError::Memory => ScenarioError::Memory,
+        CodecError::At(fault, unit) => {
+            ScenarioError::Program(general, ProgramFault::Code(fault, unit))
         }
     }
 }
@@ -67,11 +85,18 @@ pub fn accepted(alloc: Global, general: u8, program: Program) -> Result<Verified
 {
     match verify(alloc, program) {
         Ok(verified) => Ok(verified),
-        Err(Refused { program: _, fault }) => match fault {
-            verify::VerifyError::Memory => Err(ScenarioError::Memory),
-            verify::VerifyError::At(reason, unit) => {
-                Err(ScenarioError::Program(general, ProgramFault::Verifier(reason, unit)))
-            }
-        },
+        Err(Refused { program: _, fault }) => Err(unverified(general, fault)),
+    }
+}
+
+/// Why the program is not accepted.
+fn unverified(general: u8, error: VerifyError) -> ScenarioError
+    ensures { result ≡ unverified general error }
+{
+    match error {
+        VerifyError::Memory => ScenarioError::Memory,
+        VerifyError::At(reason, unit) => {
+            ScenarioError::Program(general, ProgramFault::Verifier(reason, unit))
+        }
     }
 }

@@ -1,5 +1,5 @@
 //! Scenarios, read from their text.
-ghost use Rattle.std.specs.Prelude.{◌≡◌, ◌-◌, ◌≤◌, min, length, replicate, option_map, None, Some, IfOk, OnOk, MatchResult};
+ghost use Rattle.std.specs.Prelude.{◌≡◌, ◌≢◌, ◌-◌, ◌≤◌, min, length, replicate, option_map, None, Some, IfOk, OnOk, MatchResult, IfErr};
 ghost use Rattle.toml.specs.Parse.{parse_document};
 ghost use Rattle.toml.specs.View.{view, table_view, items_view};
 ghost use Rattle.scenario.specs.Flaws.{Gives};
@@ -23,7 +23,8 @@ use verify::Verified;
 
 /// The rule that a text names.
 fn rule_by_name(text: &str) -> Result<Rule, ScenarioError>
-    ensures { Gives (λ r. r) result (rule_by_name text.now) }
+    ensures value { Gives (λ r. r) result (rule_by_name text.now) }
+    ensures fault { IfErr result (λ e. e ≢ Memory) }
 {
     if text == "majority" {
         return Ok(Rule::Majority);
@@ -37,7 +38,8 @@ fn rule_by_name(text: &str) -> Result<Rule, ScenarioError>
 /// The rule, the majority where there is no key.
 #[tactic(auto, unfolding(crate::specs::Checks::rule))]
 fn rule(value: Option<&Value>) -> Result<Rule, ScenarioError>
-    ensures { Gives (λ r. r) result (rule (option_map (λ v. view v.now) value.entry)) }
+    ensures value { Gives (λ r. r) result (rule (option_map (λ v. view v.now) value.entry)) }
+    ensures fault { IfErr result (λ e. e ≢ Memory) }
 {
     let Some(value) = value else {
         return Ok(Rule::Majority);
@@ -50,7 +52,8 @@ fn rule(value: Option<&Value>) -> Result<Rule, ScenarioError>
 
 /// How orders are sent, as a text names it.
 fn messages_by_name(kinds: Kinds, text: &str) -> Result<Messages, ScenarioError>
-    ensures { Gives (λ m. m) result (messages_by_name kinds text.now) }
+    ensures value { Gives (λ m. m) result (messages_by_name kinds text.now) }
+    ensures fault { IfErr result (λ e. e ≢ Memory) }
 {
     match kinds {
         Kinds::OralAlone | Kinds::Both if text == "oral" => Ok(Messages::Oral),
@@ -64,7 +67,8 @@ fn messages_by_name(kinds: Kinds, text: &str) -> Result<Messages, ScenarioError>
 /// How orders are sent, orally where there is no key.
 #[tactic(auto, unfolding(crate::specs::Checks::messages))]
 fn messages(kinds: Kinds, value: Option<&Value>) -> Result<Messages, ScenarioError>
-    ensures { Gives (λ m. m) result (messages kinds (option_map (λ v. view v.now) value.entry)) }
+    ensures value { Gives (λ m. m) result (messages kinds (option_map (λ v. view v.now) value.entry)) }
+    ensures fault { IfErr result (λ e. e ≢ Memory) }
 {
     let Some(value) = value else {
         return Ok(Messages::Oral);
@@ -77,7 +81,8 @@ fn messages(kinds: Kinds, value: Option<&Value>) -> Result<Messages, ScenarioErr
 
 /// A signed campaign has no rule.
 fn fitting(messages: Messages, rule: Option<&Value>) -> Result<(), ScenarioError>
-    ensures { Gives (λ _. tt) result (fitting messages (option_map (λ v. view v.now) rule.entry)) }
+    ensures value { Gives (λ _. tt) result (fitting messages (option_map (λ v. view v.now) rule.entry)) }
+    ensures fault { IfErr result (λ e. e ≢ Memory) }
 {
     match (messages, rule) {
         (Messages::Signed, Some(_)) => {
@@ -131,7 +136,8 @@ fn head(alloc: Global, table: &Table, kinds: Kinds) -> Result<Head, ScenarioErro
 /// The traitors' tables, none where the key is absent.
 #[tactic(auto, unfolding(crate::specs::Checks::tables))]
 fn tables(value: Option<&Value>) -> Result<&[Value], ScenarioError>
-    ensures { Gives (λ t. items_view t.now) result (tables (option_map (λ v. view v.now) value.entry)) }
+    ensures value { Gives (λ t. items_view t.now) result (tables (option_map (λ v. view v.now) value.entry)) }
+    ensures fault { IfErr result (λ e. e ≢ Memory) }
 {
     match value {
         None => Ok(&[]),

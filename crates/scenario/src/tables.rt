@@ -1,10 +1,13 @@
 //! The traitors' tables, one after the other.
-ghost use Rattle.std.specs.Prelude.{◌≡◌, ◌≢◌, ◌<◌, ◌≤◌, ℕ, None, Some, Ok, option_map, IfOk, length, replicate};
+ghost use Rattle.std.specs.Prelude.{◌≡◌, ◌≢◌, ◌<◌, ◌≤◌, ℕ, not, None, Some, Ok, option_map, ok_or, IfOk, length, replicate, IfErr};
+ghost use Rattle.toml.specs.Data.{as_table};
 ghost use Rattle.toml.specs.View.{view, items_view, table_view};
-ghost use Rattle.scenario.specs.Flaws.{Gives};
+ghost use Rattle.scenario.specs.Checks.{test};
+ghost use Rattle.scenario.specs.Flaws.{Gives, faulty};
 ghost use Rattle.scenario.specs.Tables.{is_seated, source, table_in, table};
 ghost use Rattle.scenario.specs.Told.{TableGives};
 ghost use Rattle.scenario.specs.Seen.{source_of};
+ghost use Rattle.scenario.specs.declared.fault.ScenarioError.TheVariants.{Memory};
 
 use crate::fault::{Fault, ScenarioError};
 use crate::keys::{at, entry_is_known, general};
@@ -22,7 +25,8 @@ fn written<'a>(
     asm: Option<&'a Value>,
     code: Option<&'a Value>,
 ) -> Result<Written<'a>, ScenarioError>
-    ensures { Gives source_of result (source index (option_map (λ v. view v.now) asm.entry) (option_map (λ v. view v.now) code.entry)) }
+    ensures value { Gives source_of result (source index (option_map (λ v. view v.now) asm.entry) (option_map (λ v. view v.now) code.entry)) }
+    ensures fault { IfErr result (λ e. e ≢ Memory) }
 {
     match (asm, code) {
         (Some(asm), None) => match asm.as_str() {
@@ -47,6 +51,29 @@ fn is_seated(seats: &[Seat], general: u8) -> bool
     seats[usize::from(general)].program().is_some()
 }
 
+/// No table before seated the general.
+fn once(place: Place, seats: &[Seat], general: u8) -> Result<(), ScenarioError>
+    requires { general < length seats.now }
+    ensures value { Gives (λ _. tt) result (test (not (is_seated seats.now general)) Fault.Twice place) }
+    ensures fault { IfErr result (λ e. e ≢ Memory) }
+{
+    if is_seated(seats, general) {
+        return Err(ScenarioError::At(Fault::Twice, place));
+    }
+    Ok(())
+}
+
+/// An element of the list, which is a table.
+fn as_table(index: usize, value: &Value) -> Result<&Table, ScenarioError>
+    ensures value { Gives (λ t. table_view t.now) result (ok_or (as_table (view value.now)) (faulty Fault.Kind (Place.Table index))) }
+    ensures fault { IfErr result (λ e. e ≢ Memory) }
+{
+    match value.as_table() {
+        Some(table) => Ok(table),
+        None => Err(ScenarioError::At(Fault::Kind, Place::Table(index))),
+    }
+}
+
 /// The general of a table, and his program as it is written.
 #[tactic(auto, unfolding(crate::specs::Tables::table_in))]
 fn in_table<'a>(
@@ -63,9 +90,7 @@ fn in_table<'a>(
     entry_is_known(alloc, index, table)?;
     let place = Place::Entry(index, Name::General);
     let general = general(place, Fault::General, generals, at(table, Name::General))?;
-    if is_seated(seats, general) {
-        return Err(ScenarioError::At(Fault::Twice, place));
-    }
+    once(place, seats, general)?;
     let written = written(index, at(table, Name::Asm), at(table, Name::Code))?;
     Ok((general, written))
 }
@@ -83,10 +108,7 @@ fn table<'a>(
     ensures gives { Gives (λ t. record { general = t.0; source = source_of t.1 }) result (table generals seats.now index (view value.now)) }
     ensures small { IfOk result (λ t. t.0 < generals) }
 {
-    match value.as_table() {
-        Some(table) => in_table(alloc, generals, seats, index, table),
-        None => Err(ScenarioError::At(Fault::Kind, Place::Table(index))),
-    }
+    in_table(alloc, generals, seats, index, as_table(index, value)?)
 }
 
 /// The general of a table, and his verified program.

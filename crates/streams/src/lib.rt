@@ -1,12 +1,14 @@
 //! The files that a program reads and the streams that it writes, with what is said where a call fails.
 #![tactic(auto)]
 
+mod interrupted;
 mod name;
 mod output;
 mod pieces;
 mod source;
 mod texts;
 mod within;
+mod writing;
 
 pub use name::FileName;
 pub use output::Output;

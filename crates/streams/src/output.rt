@@ -1,6 +1,7 @@
 //! Where a task's texts go: every writer is an `Output`. Its contracts can say that a call failed,
 //! which those of `Write` cannot.
 
+use crate::writing::write_whole;
 use std::fmt::Display;
 use std::io::{self, Write};
 
@@ -9,6 +10,7 @@ pub trait Output {
     ghost use Rattle.std.specs.Prelude.{◌≡◌, ℕ, List, Option, IfSome, OnOk, OnErr};
     ghost use Rattle.std.specs.Fmt.{with_newline};
     ghost use Rattle.std.specs.Io.KnownBytes.{Appends};
+    ghost use Rattle.streams.specs.Writing.{AppendsFront};
 
     // What it holds, where that is known.
     ghost contents: { Self → Option (List ℕ) };
@@ -16,13 +18,14 @@ pub trait Output {
     // What a write that failed shows.
     ghost fails: { Self → Type 0 };
 
-    /// Writes the whole text, and flushes.
+    /// Writes the whole text, and flushes. Where that fails, at most a beginning of the text was written.
     ///
     /// # Errors
     ///
     /// A write that failed.
     fn put(&mut self, text: &[u8]) -> io::Result<()>
         ensures put { OnOk result (Appends (contents self.old) (contents self.new) text.now) }
+        ensures begun { OnErr result (AppendsFront (contents self.old) (contents self.new) text.now) }
         ensures failed { OnErr result (fails self.old) };
 
     /// Writes a line.
@@ -41,8 +44,9 @@ impl<W: Write> Output for W {
 
     ghost fails = { λ _. Unit {0} };
 
+    #[tactic(auto, using(crate::proofs::WriteLemmas::appends_kept, crate::proofs::WriteLemmas::appends_whole))]
     fn put(&mut self, text: &[u8]) -> io::Result<()> {
-        self.write_all(text)?;
+        write_whole(self, text)?;
         self.flush()
     }
 

@@ -1,7 +1,9 @@
 //! Reading in pieces, no further than is asked for.
-ghost use Rattle.std.specs.Prelude.{◌≡◌, ◌≤◌, IfOk, take, vec_len};
+ghost use Rattle.std.specs.Prelude.{◌≡◌, ◌≢◌, ◌≤◌, IfOk, IfErr, take, vec_len};
 ghost use Rattle.std.specs.Io.KnownBytes.{Consumes, IsAtEnd};
+ghost use Rattle.std.specs.IoError.{error_kind};
 
+use crate::interrupted::is_interrupted;
 use std::alloc::Global;
 use std::io::{self, ErrorKind, Read};
 
@@ -14,14 +16,16 @@ fn read_piece<R: Read>(reader: &mut R, piece: &mut [u8; PIECE]) -> io::Result<us
     ensures inside { IfOk result (λ n. n ≤ 8192) }
     ensures bytes { IfOk result (λ n. Consumes (R.remaining reader.old) (R.remaining reader.new) (take n piece.new)) }
     ensures end { IfOk result (λ n. n ≡ 0 → IsAtEnd (R.remaining reader.new)) }
+    ensures again { IfErr result (λ error. error_kind error ≢ ErrorKind.Interrupted) }
 {
     for _ in 0..u64::MAX {
         match reader.read(piece.as_mut_slice()) {
-            Err(error) if error.kind() == ErrorKind::Interrupted => {}
-            read => return read,
+            Ok(number) => return Ok(number),
+            Err(error) if is_interrupted(&error) => {}
+            Err(error) => return Err(error),
         }
     }
-    Err(io::Error::from(ErrorKind::Interrupted))
+    Err(io::Error::from(ErrorKind::Other))
 }
 
 /// Reads to the end, or until there are more than so many bytes: then nothing is read on.

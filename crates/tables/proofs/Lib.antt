@@ -1,2 +1,9 @@
+pub mod Endings
+pub mod Flattened
 pub mod FormLemmas
+pub mod Hearing
 pub mod LineLemmas
+pub mod Loyals
+pub mod Naming
+pub mod Reread
+pub mod Telling

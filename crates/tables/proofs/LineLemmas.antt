@@ -1,9 +1,9 @@
 -- The lieutenants' lines.
-use Rattle.std.proofs.Common.{ℕ, ◌+◌, ◌<◌, ◌≡◌, ◌≤◌, ◌∙◌, false, List, [], ◌∷◌, ◌++◌, Some, length, length-append, map, get_or, ap, arith, sym}
+use Rattle.std.proofs.Common.{ℕ, ◌+◌, ◌<◌, ◌≡◌, ◌≤◌, ◌∙◌, false, List, [], ◌∷◌, Some, length, length-append, map, get_or, ap, arith, sym}
 use Rattle.std.specs.Prelude.{slice_get, option_map}
 use Rattle.std.proofs.lemmas.Option.{slice_get-map, slice_get_within, get_or_from_slice_get}
 use Rattle.std.specs.List.{flat_map}
-use Rattle.std.proofs.lemmas.List.{flat_map_more, length-map}
+use Rattle.std.proofs.lemmas.List.{length-map}
 use Rattle.label.specs.Labels.{on, others}
 use Rattle.label.proofs.Bounds.{others_here}
 use Rattle.book.specs.Decisions.{decision_of, decisions_of, lieutenants}

@@ -1,24 +1,36 @@
 -- What is printed of a message table, and of the numbers of one.
-use Rattle.std.specs.Prelude.{ℕ, ◌≡◌, true, List, Some, Ok}
+use Rattle.std.specs.Prelude.{ℕ, ◌≡◌, true, List, Option, Some, Ok}
 use Rattle.combine.specs.declared.chosen.Rule.{Rule}
 use Rattle.book.specs.Decisions.{decisions_of, TableAgrees}
-use Rattle.book.specs.Explained.{explained}
+use Rattle.book.specs.Explained.{explained, explained_one}
 use Rattle.book.specs.Forms.{form_text}
 use Rattle.book.specs.Grammar.{is_within, table_told}
 use Rattle.book.specs.Table.{MessageTable}
 use Rattle.tables.specs.Lines.{decision_lines}
 use Rattle.tables.specs.Numbers.{numbers_in}
+use Rattle.tables.specs.Written.{loyal, written}
 
 -- the text tells a table, and this is how its decisions come about, where these generals are named as traitors
 abbrev pub ExplainsTable : List ℕ → List ℕ → List ℕ → Type 0
 ExplainsTable text traitors lines =
     (table : MessageTable) × (table_told text ≡ Ok table) × (lines ≡ explained table traitors)
 
+-- the text tells a table, and this is how the decision of one general comes about
+abbrev pub ExplainsOne : List ℕ → List ℕ → ℕ → List ℕ → Type 0
+ExplainsOne text traitors g lines =
+    (table : MessageTable) × (table_told text ≡ Ok table) × (lines ≡ explained_one table traitors g)
+
 -- the words are numbers within the limits of a campaign, and this is its table to fill in
 abbrev pub IsFormOf : List ℕ → List ℕ → List ℕ → List ℕ → Type 0
 IsFormOf n m c text =
     (head : ℕ × ℕ × ℕ × Rule) × (numbers_in n m c ≡ Some head) × (is_within head.0 head.1 head.2 ≡ true)
     × (text ≡ form_text head.0 head.1 head.2)
+
+-- the words are numbers within the limits of a campaign, and this is its table in which all tell this order, and what the liar tells is open
+abbrev pub IsFilled : List ℕ → List ℕ → List ℕ → ℕ → Option ℕ → List ℕ → Type 0
+IsFilled n m c order liar text =
+    (head : ℕ × ℕ × ℕ × Rule) × (numbers_in n m c ≡ Some head) × (is_within head.0 head.1 head.2 ≡ true)
+    × (text ≡ written (loyal order liar) head.0 head.1 head.2 head.3)
 
 -- the text tells a table, and these are its decisions, which agree where the bound holds
 abbrev pub DecidesTable : List ℕ → List ℕ → Type 0

@@ -1,3 +1,6 @@
 pub mod Answers
+pub mod Hearing
+pub mod Laws
 pub mod Lines
 pub mod Numbers
+pub mod Written

@@ -1,8 +1,18 @@
-//! What is printed of a message table: its decisions, how they come about, and the table to fill in.
+//! What is printed of a message table: its decisions, how they come about, the table to fill in, and tables that are
+//! filled in.
 #![tactic(auto)]
 
 mod deciding;
+mod filling;
 mod forming;
+mod laws;
+mod loyal;
+mod mark;
+mod trees;
+mod writing;
 
-pub use deciding::{decided, explained};
+pub use deciding::{decided, explained, explained_one};
+pub use filling::filled;
 pub use forming::formed;
+pub use laws::{loyal_tables_decide, tables_are_read};
+pub use trees::table_of;

@@ -75,15 +75,34 @@ fn difference(text: &[u8], version: Version, chronicle: &Chronicle) -> Option<us
 /// The audit of a text: the verdict of the campaign, if the text is the chronicle of one of the scenario's, in a version
 /// that its rule admits.
 ///
+/// # Errors
+///
+/// As `sound_chronicle`.
+pub fn check(alloc: Global, scenario: &Scenario, text: &str) -> Result<Verdict, TraceError>
+    ensures sound { IfOk result (λ v. IsSoundText scenario.now text.now) }
+    ensures verdict { IfOk result (λ v. v ≡ (chronicle_told scenario.now text.now).verdict) }
+    ensures unsound { IfErr result (λ e. e ≢ Memory → IsSoundText scenario.now text.now → ⊥) }
+    ensures fault { IfErr result (λ e. e ≢ Memory → IsFaultOf scenario.now text.now e) }
+{
+    let chronicle = sound_chronicle(alloc, scenario, text)?;
+    Ok(chronicle.verdict())
+}
+
+/// The same audit: the chronicle itself.
+///
 /// The accesses are replayed in the order that the text tells, and the chronicle of that replay is compared with the text.
 ///
 /// # Errors
 ///
 /// `Line` with the first line of no shape, or without its LF; where there is none, `Scenario` or `Differs` with the line
 /// of the first difference, `Scenario` in the first two lines. `Memory` where memory is refused.
-pub fn check(alloc: Global, scenario: &Scenario, text: &str) -> Result<Verdict, TraceError>
-    ensures sound { IfOk result (λ v. IsSoundText scenario.now text.now) }
-    ensures verdict { IfOk result (λ v. v ≡ (chronicle_told scenario.now text.now).verdict) }
+pub fn sound_chronicle(
+    alloc: Global,
+    scenario: &Scenario,
+    text: &str,
+) -> Result<Chronicle, TraceError>
+    ensures sound { IfOk result (λ _. IsSoundText scenario.now text.now) }
+    ensures chronicle { IfOk result (λ chronicle. chronicle ≡ chronicle_told scenario.now text.now) }
     ensures unsound { IfErr result (λ e. e ≢ Memory → IsSoundText scenario.now text.now → ⊥) }
     ensures fault { IfErr result (λ e. e ≢ Memory → IsFaultOf scenario.now text.now e) }
 {
@@ -93,7 +112,7 @@ pub fn check(alloc: Global, scenario: &Scenario, text: &str) -> Result<Verdict, 
     };
     let chronicle = replayed(alloc, scenario, text)?;
     match difference(text, version, &chronicle) {
-        None => Ok(chronicle.verdict()),
+        None => Ok(chronicle),
         Some(place) => Err(refusal(text, place)),
     }
 }

@@ -25,7 +25,7 @@ mod stops;
 mod version;
 mod writing;
 
-pub use auditing::check;
+pub use auditing::{check, sound_chronicle};
 pub use chronicling::{write_chronicle, write_verdict};
 pub use fault::{Fault, TraceError};
 pub use laws::{

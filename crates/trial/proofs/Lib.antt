@@ -4,3 +4,4 @@ pub mod Items
 pub mod Rows
 pub mod Serving
 pub mod Trying
+pub mod Owning

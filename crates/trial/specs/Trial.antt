@@ -1,5 +1,5 @@
 -- One run of a program with a board of its own, which begins with zeros (own).
-use Rattle.std.specs.Prelude.{ℕ, zero, suc, List, Option, None, Some, length, replicate}
+use Rattle.std.specs.Prelude.{ℕ, ◌≡◌, ◌++◌, zero, suc, List, All, Option, None, Some, length, replicate}
 use Rattle.insn.specs.declared.insn.Insn.{Insn}
 use Rattle.semantics.specs.Limits.{board_words}
 use Rattle.semantics.specs.Relay.{Relay}
@@ -7,7 +7,9 @@ use Rattle.semantics.specs.State.{State, Outcome, Next, Ask, Exit, Trap, entry}
 use Rattle.semantics.specs.Outbox.{empty_outbox}
 use Rattle.semantics.specs.Call.{resumed}
 use Rattle.semantics.specs.Execution.{step}
-use Rattle.board.specs.Board.{reply, next}
+use Rattle.label.specs.declared.shape.Shape.{Shape}
+use Rattle.board.specs.Board.{Access, reply, next}
+use Rattle.board.specs.Ledger.{RecordedBoard}
 
 -- how a run has ended: the number that it exited with, its last state, and the board's words
 pub record Ending : Type 0 where
@@ -34,3 +36,15 @@ trial_on words program context relay = ending program context relay (length prog
 -- the same with a board of zeros
 abbrev pub trial : List Insn → List ℕ → Relay → Option Ending
 trial program context relay = trial_on (replicate board_words 0) program context relay
+
+-- since it was the old one the board has served this general in this round alone
+pub record ServesOne (shape : Shape) (old new : RecordedBoard) : Type 0 where
+  pub opening : new.opening ≡ old.opening
+  pub more : List Access
+  pub ledger : new.ledger ≡ old.ledger ++ more
+  pub own : All (λ a. (a.general ≡ shape.general) × (a.round ≡ shape.round)) more
+
+-- it opened with zeros, and has never served another
+pub record IsOfOne (shape : Shape) (b : RecordedBoard) : Type 0 where
+  pub opening : b.opening ≡ replicate board_words 0
+  pub own : All (λ a. (a.general ≡ shape.general) × (a.round ≡ shape.round)) b.ledger

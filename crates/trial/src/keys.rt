@@ -1,10 +1,11 @@
 //! The values of single keys, each the value or the first fault of its checks.
-ghost use Rattle.std.specs.Prelude.{◌≡◌, ℕ, ◌≤◌, ◌<◌, option_map, IfOk};
+ghost use Rattle.std.specs.Prelude.{◌≡◌, ◌≢◌, ℕ, ◌≤◌, ◌<◌, option_map, IfOk, IfErr};
 ghost use Rattle.toml.specs.Data.{get_member};
 ghost use Rattle.toml.specs.View.{view, table_view, items_view};
 ghost use Rattle.trial.specs.Names.{is_key, text_of};
 ghost use Rattle.trial.specs.Checks.{first_unknown, known, required, whole, elements, natural, number, general};
 ghost use Rattle.trial.specs.Flaws.{Gives};
+ghost use Rattle.trial.specs.declared.fault.SettingError.TheVariants.{Memory};
 
 use crate::fault::{Fault, SettingError};
 use crate::place::{Name, Place};
@@ -59,7 +60,8 @@ pub fn at<'a>(table: &'a Table, name: Name) -> Option<&'a Value>
 
 /// The value of a required key.
 fn required(place: Place, value: Option<&Value>) -> Result<&Value, SettingError>
-    ensures { Gives (λ v. view v.now) result (required place (option_map (λ v. view v.now) value.entry)) }
+    ensures value { Gives (λ v. view v.now) result (required place (option_map (λ v. view v.now) value.entry)) }
+    ensures fault { IfErr result (λ e. e ≢ Memory) }
 {
     match value {
         Some(value) => Ok(value),
@@ -69,7 +71,8 @@ fn required(place: Place, value: Option<&Value>) -> Result<&Value, SettingError>
 
 /// An integer.
 pub fn whole(place: Place, value: &Value) -> Result<i64, SettingError>
-    ensures { Gives (λ z. z) result (whole place (view value.now)) }
+    ensures value { Gives (λ z. z) result (whole place (view value.now)) }
+    ensures fault { IfErr result (λ e. e ≢ Memory) }
 {
     match value.as_integer() {
         Some(integer) => Ok(integer),
@@ -79,7 +82,8 @@ pub fn whole(place: Place, value: &Value) -> Result<i64, SettingError>
 
 /// The elements of an array.
 pub fn elements(place: Place, value: &Value) -> Result<&[Value], SettingError>
-    ensures { Gives (λ a. items_view a.now) result (elements place (view value.now)) }
+    ensures value { Gives (λ a. items_view a.now) result (elements place (view value.now)) }
+    ensures fault { IfErr result (λ e. e ≢ Memory) }
 {
     match value.as_array() {
         Some(array) => Ok(array.as_slice()),
@@ -89,7 +93,8 @@ pub fn elements(place: Place, value: &Value) -> Result<&[Value], SettingError>
 
 /// An integer that is not below 0.
 fn natural(fault: Fault, place: Place, integer: i64) -> Result<u64, SettingError>
-    ensures { Gives (λ n. n) result (natural fault place integer) }
+    ensures value { Gives (λ n. n) result (natural fault place integer) }
+    ensures fault { IfErr result (λ e. e ≢ Memory) }
 {
     match u64::try_from(integer) {
         Ok(number) => Ok(number),
@@ -107,6 +112,7 @@ pub fn number(
 ) -> Result<u32, SettingError>
     ensures value { Gives (λ n. n) result (number place least most (option_map (λ v. view v.now) value.entry)) }
     ensures within { IfOk result (λ n. (least ≤ n) × (n ≤ most)) }
+    ensures fault { IfErr result (λ e. e ≢ Memory) }
 {
     let value = required(place, value)?;
     let integer = whole(place, value)?;
@@ -122,6 +128,7 @@ pub fn number(
 pub fn general(place: Place, generals: u32, value: Option<&Value>) -> Result<u32, SettingError>
     ensures value { Gives (λ n. n) result (general place generals (option_map (λ v. view v.now) value.entry)) }
     ensures small { IfOk result (λ g. g < generals) }
+    ensures fault { IfErr result (λ e. e ≢ Memory) }
 {
     let value = required(place, value)?;
     let integer = whole(place, value)?;

@@ -6,7 +6,7 @@ ghost use Rattle.semantics.specs.State.{entry};
 ghost use Rattle.semantics.specs.Outbox.{empty_outbox};
 ghost use Rattle.machine.specs.Advance.{IsOfRun};
 ghost use Rattle.trial.specs.Setting.{context_in};
-ghost use Rattle.trial.specs.Trial.{trial, trial_on};
+ghost use Rattle.trial.specs.Trial.{trial, trial_on, IsOfOne, ServesOne};
 
 use crate::setting::Setting;
 use board::Board;
@@ -36,6 +36,7 @@ pub struct Exited {
 pub fn run_in(alloc: Global, verified: &Verified, setting: &Setting) -> Result<Exited, AllocError>
     ensures ending { IfOk result (λ e. trial verified.now (context_in setting.now) (oral setting.now.shape) ≡ Some (record { r0 = e.r0; state = e.activation.state; words = e.board.words })) }
     ensures relay { IfOk result (λ e. e.activation.relay ≡ oral setting.now.shape) }
+    ensures board { IfOk result (λ e. IsOfOne setting.now.shape e.board) }
 {
     let bytes = setting.context(alloc)?;
     let context = Context::new(bytes.as_slice());
@@ -52,6 +53,7 @@ fn run(
     requires { IsShape shape }
     ensures ending { IfOk result (λ e. trial verified.now context.now (oral shape) ≡ Some (record { r0 = e.r0; state = e.activation.state; words = e.board.words })) }
     ensures relay { IfOk result (λ e. e.activation.relay ≡ oral shape) }
+    ensures board { IfOk result (λ e. IsOfOne shape e.board) }
 {
     let mut board = Board::new(alloc, [0; 64]);
     let mut activation = Activation::start(verified, context, Outbox::new(alloc, shape)?);
@@ -80,6 +82,7 @@ pub fn run_on(
     requires of_run { IsOfRun verified.now context.now activation.old }
     ensures ending { IfOk result (λ r0. trial_on board.old.words verified.now context.now (oral shape) ≡ Some (record { r0 = r0; state = activation.new.state; words = board.new.words })) }
     ensures relay { activation.new.relay ≡ oral shape }
+    ensures board { IfOk result (λ r0. ServesOne shape board.old board.new) }
 {
     // A sound program is over within as many steps as it has instructions.
     let limit = verified.program().len() as u32;

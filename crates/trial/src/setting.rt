@@ -58,7 +58,7 @@ impl Setting {
     }
 
     /// Whose relay it is.
-    pub(crate) fn shape(&self) -> Shape
+    pub fn shape(&self) -> Shape
         ensures same { result ≡ self.now.shape }
         ensures within { IsShape result }
     {
@@ -70,7 +70,7 @@ impl Setting {
     /// # Errors
     ///
     /// `AllocError` where the memory for them is refused.
-    pub(crate) fn context(&self, alloc: Global) -> Result<Vec<u8>, AllocError>
+    pub fn context(&self, alloc: Global) -> Result<Vec<u8>, AllocError>
         ensures bytes { IfOk result (λ bytes. bytes.items ≡ context_in self.now) }
         ensures whole { IfOk result (λ bytes. vec_len bytes ≡ 4096) }
     {

@@ -138,6 +138,7 @@ fn pass_state(
 }
 
 /// The next unit: what is kept for it flows on.
+#[inline(always)]
 pub fn pass_unit(
     alloc: Global,
     program: &Program,

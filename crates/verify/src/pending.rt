@@ -77,6 +77,7 @@ pub fn kept(pending: &Pending, unit: usize) -> Option<AbsState>
 }
 
 /// A state with what is kept already.
+#[inline(never)]
 fn joined(kept: &Option<Box<AbsState>>, mut state: Box<AbsState>) -> Box<AbsState>
     ensures { result.value ≡ joined_with (unboxed kept.now) state.value }
 {
@@ -112,6 +113,7 @@ pub fn second(
 }
 
 /// Keeps a state for a unit, with what is kept there.
+#[inline(always)]
 pub fn flow(pending: &mut Pending, unit: usize, state: Box<AbsState>)
     requires { unit < length pending.old.items }
     ensures { pending.new.items ≡ along (pos unit, state.value) pending.old.items }

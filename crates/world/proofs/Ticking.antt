@@ -57,7 +57,7 @@ few_in s g a c d e =
     (let l = due_few s g c e in let m = ap length same in omega arith)
 
 -- where it goes on or asks, a step is left
-one_left : (s : Scenario) (g n : ℕ) (a b : Activation) (words : List ℕ) → IsBoard words → IsDue s g a → Runs n a [] b → (o : Turn) → turn b ≡ o → (o ≡ Ended → ⊥) → suc n ≤ length a.program
+pub one_left : (s : Scenario) (g n : ℕ) (a b : Activation) (words : List ℕ) → IsBoard words → IsDue s g a → Runs n a [] b → (o : Turn) → turn b ≡ o → (o ≡ Ended → ⊥) → suc n ≤ length a.program
 one_left s g n a b words board d way (Goes c) e on =
     let due = (due_lasts s).goes g b c (runs_due s g n a b d way) e in
     let one : c.state.steps ≡ b.state.steps + 1 = (let A : Turn → Type 0 = λ o. CountsTurn b o in subst A e (turn_counts b)) in
@@ -72,7 +72,7 @@ one_left s g n a b words board d way (Asks q f) e on =
 one_left s g n a b words board d way Ended e on = absurd (on refl)
 
 -- so it does not go on past its program
-over_past : (s : Scenario) (g n : ℕ) (a b c : Activation) → {words : List ℕ} → IsBoard words → IsDue s g a → Runs n a [] b → turn b ≡ Goes c → length a.program ≤ b.state.steps → ⊥
+pub over_past : (s : Scenario) (g n : ℕ) (a b c : Activation) → {words : List ℕ} → IsBoard words → IsDue s g a → Runs n a [] b → turn b ≡ Goes c → length a.program ≤ b.state.steps → ⊥
 over_past s g n a b c board d way e p =
     let due = (due_lasts s).goes g b c (runs_due s g n a b d way) e in
     let one : c.state.steps ≡ b.state.steps + 1 = (let A : Turn → Type 0 = λ o. CountsTurn b o in subst A e (turn_counts b)) in

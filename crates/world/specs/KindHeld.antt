@@ -1,5 +1,5 @@
--- How code holds a world of some kind, and what one event leaves of its parts and its board (own). No claim rests on this: what a world is and does,
--- Kind.antt says.
+-- How code holds a world of some kind, and what one event leaves of its parts and its board (own). `apply` of both worlds cites `IsAnswer` of this:
+-- which error comes. What a world is and does, Kind.antt says.
 use Rattle.std.specs.Prelude.{ℕ, suc, ◌≡◌, ◌≤◌, ◌-◌, cond, Bool, List, [], ◌∷◌, length, slice_set, slice_get, Option, None, Some}
 use Rattle.board.specs.Board.{Access}
 use Rattle.board.specs.Ledger.{RecordedBoard}

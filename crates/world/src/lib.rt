@@ -29,7 +29,7 @@ pub use laws::{
 };
 pub use part::Part;
 pub use player::{play, replay};
-pub use playing::{play_listed, play_named};
+pub use playing::{play_listed, play_named, wind_up};
 pub use plays::Plays;
 pub use schedule::{Entries, Repeat, Schedule};
 pub use verdict::Verdict;

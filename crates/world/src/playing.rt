@@ -155,7 +155,11 @@ fn end_round<W: Plays>(world: &mut W, alloc: Global) -> Result<(), AllocError>
 }
 
 /// All loyal generals post, all traitors go to their ends, and the round is closed.
-fn wind_up<W: Plays>(world: &mut W, alloc: Global) -> Result<(), AllocError>
+///
+/// # Errors
+///
+/// `AllocError` where memory is refused. No more is said of the world then than of every world of its kind: let it go.
+pub fn wind_up<W: Plays>(world: &mut W, alloc: Global) -> Result<(), AllocError>
     ensures { OnOk result (W.seen world.new ≡ run W.kind (W.seen world.old) (wound_up (W.seen world.old).scenario)) }
 {
     all_post(world);

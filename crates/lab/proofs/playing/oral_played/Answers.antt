@@ -4,8 +4,8 @@ use Rattle.lab.proofs.playing.oral_played.Goals as goal
 
 pub returns : goal.returns
 returns c =
-    IfOk-weaker c.chronicle_text.result _ _
-    (λ text told.
-    is_played c.args.scenario c.args.schedule.now c.in_ok-chronicle.chronicle text.items c.in_ok-chronicle.ensures.listed
-    c.in_ok-chronicle.ensures.agree c.in_ok-chronicle.ensures.verdict c.in_ok-chronicle.ensures.well told)
-    c.chronicle_text.ensures
+    IfOk-weaker c.with_decisions.result _ _
+    (λ text behind.
+    is_played c.args.scenario c.args.schedule.now c.args.account c.args.explained c.in_ok-chronicle.chronicle c.in_ok-front.front.items text.items c.in_ok-chronicle.ensures.listed
+    c.in_ok-chronicle.ensures.agree c.in_ok-chronicle.ensures.verdict c.in_ok-chronicle.ensures.well c.in_ok-front.ensures behind)
+    c.with_decisions.ensures

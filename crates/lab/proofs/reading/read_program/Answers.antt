@@ -1,9 +1,10 @@
 use Rattle.streams.specs.Reading.{IsWithin}
 use Rattle.streams.specs.declared.within.Within.TheVariants.{Longer}
-use Rattle.lab.proofs.ReadLemmas.{refused_long}
+use Rattle.lab.proofs.ReadLemmas.{long_first}
 use Rattle.lab.proofs.reading.read_program.Goals as goal
 
 pub returns-in-Ok-Longer-clause-fault : goal.returns-in-Ok-Longer-clause-fault
 returns-in-Ok-Longer-clause-fault g c =
     let within : IsWithin 32768 (g.R.Source.bytes c.args.source) (Longer c.in-Ok-Longer.front c.in-Ok-Longer.number) = rw c.in-Ok-Longer.field-0-is at c.in-Ok-Longer.ensures.within in
-    rw (c.of_bytes.ensures, c.as_slice.ensures.value) (λ e. cc, refused_long (g.R.Source.bytes c.args.source) c.in-Ok-Longer.number c.in-Ok-Longer.front.items c.too_long.result within.1 c.too_long.ensures)
+    long_first _ c.args.task.now (g.R.Source.bytes c.args.source) c.in-Ok-Longer.number c.in-Ok-Longer.front.items c.too_long.result c.args.file c.unjudged.result c.requires
+    within.1 c.too_long.ensures (rw c.as_slice.ensures.value at c.unjudged.ensures)

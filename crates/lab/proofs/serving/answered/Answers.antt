@@ -1,13 +1,15 @@
-use Rattle.std.proofs.Common.{ℕ, ◌≡◌, ◌∙◌, Bool, Bor, List, Option, ap, refl, subst, sym}
-use Rattle.std.specs.Prelude.{is_some}
+use Rattle.std.proofs.Common.{ℕ, ◌≡◌, Bool, List, ap, refl, subst, sym}
 use Rattle.std.proofs.lemmas.Result.{IfErr-weaker, IfOk-weaker}
 use Rattle.lab.specs.Answers.{ComesTo, Prints}
-use Rattle.command_line.specs.declared.tasks.Notation.{Notation}
-use Rattle.lab.specs.Hints.{explained_in}
+use Rattle.lab.specs.Whys.{is_explained}
 use Rattle.lab.specs.Serving.{Files, IsTrialOf, files}
 use Rattle.lab.specs.declared.first_answer.FirstAnswer.TheVariants.{Text, Bytes, Trial, Play, Muster, Audit}
-use Rattle.lab.proofs.FilesLemmas.{answered_alone, answered_audited, answered_mustered, answered_played, answered_tried, mapped, prevented_later, second_named}
+use Rattle.lab.proofs.FilesLemmas.{answered_alone, answered_audited, answered_mustered, answered_played, answered_tried, prevented_later, second_named}
+use Rattle.lab.specs.Faults.{fault_of}
+use Rattle.lab.specs.declared.refusal.Refusal.{Refusal}
 use Rattle.lab.proofs.FirstLemmas.{prevented_first}
+use Rattle.lab.proofs.RefusalLemmas.{told_err, told_ok}
+use Rattle.lab.proofs.WhyLemmas.{unmustered}
 use Rattle.lab.proofs.serving.answered.Goals as goal
 
 pub returns-in-Ok-Text-clause-answer : goal.returns-in-Ok-Text-clause-answer
@@ -29,70 +31,87 @@ returns-in-Ok-Bytes-clause-answer g c =
 pub returns-in-Ok-Trial-clause-answer : goal.returns-in-Ok-Trial-clause-answer
 returns-in-Ok-Trial-clause-answer g c =
     let both : Files = files g.R.Source.bytes c.args.first c.args.second in
-    let is : c.in-Ok-Trial.field-0 ≡ Trial c.in-Ok-Trial.program = c.in-Ok-Trial.field-0-is in
-    let comes : ComesTo c.args.task.now c.in_ok-bytes.bytes.items (Trial c.in-Ok-Trial.program) = rw (c.as_slice.ensures.value, is) at c.in-Ok-Trial.ensures.answered in
-    let asked : c.is_some.result ≡ is_some (explained_in c.args.task.now) = c.is_some.ensures ∙ (mapped (λ (n : Bor Notation). n.now) c.explained_in.result ∙ ap (λ (o : Option Notation). is_some o) c.explained_in.ensures) in
+    let is : c.in-Ok-Trial.field-0 ≡ Trial c.in-Ok-Trial.program c.in-Ok-Trial.traced = c.in-Ok-Trial.field-0-is in
+    let comes : ComesTo c.args.task.now c.in_ok-bytes.bytes.items (Trial c.in-Ok-Trial.program c.in-Ok-Trial.traced) = rw (c.as_slice.ensures.value, is) at c.in-Ok-Trial.ensures.answered in
+    let asked : c.is_explained-reported.result ≡ is_explained c.args.task.now = c.is_explained-reported.ensures in
     IfOk-weaker c.trial_of.result _ _
-    (λ text tried. answered_tried c.args.task.now both c.in_ok-bytes.bytes.items text.items c.in-Ok-Trial.program c.in_ok-bytes.ensures.whole comes
-    (subst (λ (own : Bool). IsTrialOf both.second own c.in-Ok-Trial.program text.items) asked tried))
+    (λ text tried. answered_tried c.args.task.now both c.in_ok-bytes.bytes.items text.items c.in-Ok-Trial.program c.in-Ok-Trial.traced c.in_ok-bytes.ensures.whole comes
+    (subst (λ (own : Bool). IsTrialOf both.second c.in-Ok-Trial.traced own c.in-Ok-Trial.program text.items) asked tried))
     c.trial_of.ensures.tried
 
 pub returns-in-Ok-Trial-clause-fault : goal.returns-in-Ok-Trial-clause-fault
 returns-in-Ok-Trial-clause-fault g c =
     let both : Files = files g.R.Source.bytes c.args.first c.args.second in
-    let is : c.in-Ok-Trial.field-0 ≡ Trial c.in-Ok-Trial.program = c.in-Ok-Trial.field-0-is in
-    let comes : ComesTo c.args.task.now c.in_ok-bytes.bytes.items (Trial c.in-Ok-Trial.program) = rw (c.as_slice.ensures.value, is) at c.in-Ok-Trial.ensures.answered in
+    let is : c.in-Ok-Trial.field-0 ≡ Trial c.in-Ok-Trial.program c.in-Ok-Trial.traced = c.in-Ok-Trial.field-0-is in
+    let comes : ComesTo c.args.task.now c.in_ok-bytes.bytes.items (Trial c.in-Ok-Trial.program c.in-Ok-Trial.traced) = rw (c.as_slice.ensures.value, is) at c.in-Ok-Trial.ensures.answered in
     IfErr-weaker c.trial_of.result _ _
     (λ fault why.
-    prevented_later c.args.task.now both _ _ c.in_ok-bytes.bytes.items c.unwrap_or-file.result.now (Trial c.in-Ok-Trial.program) fault c.in_ok-bytes.ensures.whole comes
-    (second_named c.args.task.now c.second.result c.unwrap_or-file.result _ c.second.ensures c.unwrap_or-file.ensures refl) why)
+    prevented_later c.args.task.now both _ _ c.in_ok-bytes.bytes.items c.unwrap_or-file.result.now (Trial c.in-Ok-Trial.program c.in-Ok-Trial.traced) c.is_explained-reported.result fault c.in_ok-bytes.ensures.whole comes
+    (second_named c.args.task.now c.second.result c.unwrap_or-file.result _ c.second.ensures c.unwrap_or-file.ensures refl) c.is_explained-reported.ensures why)
     c.trial_of.ensures.fault
 
 pub returns-in-Ok-Play-clause-answer : goal.returns-in-Ok-Play-clause-answer
 returns-in-Ok-Play-clause-answer g c =
     let both : Files = files g.R.Source.bytes c.args.first c.args.second in
-    let is : c.in-Ok-Play.field-0 ≡ Play c.in-Ok-Play.campaign = c.in-Ok-Play.field-0-is in
-    let comes : ComesTo c.args.task.now c.in_ok-bytes.bytes.items (Play c.in-Ok-Play.campaign) = rw (c.as_slice.ensures.value, is) at c.in-Ok-Play.ensures.answered in
+    let is : c.in-Ok-Play.field-0 ≡ Play c.in-Ok-Play.campaign c.in-Ok-Play.account c.in-Ok-Play.explained = c.in-Ok-Play.field-0-is in
+    let comes : ComesTo c.args.task.now c.in_ok-bytes.bytes.items (Play c.in-Ok-Play.campaign c.in-Ok-Play.account c.in-Ok-Play.explained) = rw (c.as_slice.ensures.value, is) at c.in-Ok-Play.ensures.answered in
     IfOk-weaker c.play_by.result _ _
-    (λ text by. answered_played c.args.task.now both c.in_ok-bytes.bytes.items text.items c.in-Ok-Play.campaign c.in_ok-bytes.ensures.whole comes by)
+    (λ text by. answered_played c.args.task.now both c.in_ok-bytes.bytes.items text.items c.in-Ok-Play.campaign c.in-Ok-Play.account c.in-Ok-Play.explained c.in_ok-bytes.ensures.whole comes by)
     c.play_by.ensures.played
 
 pub returns-in-Ok-Play-clause-fault : goal.returns-in-Ok-Play-clause-fault
 returns-in-Ok-Play-clause-fault g c =
     let both : Files = files g.R.Source.bytes c.args.first c.args.second in
-    let is : c.in-Ok-Play.field-0 ≡ Play c.in-Ok-Play.campaign = c.in-Ok-Play.field-0-is in
-    let comes : ComesTo c.args.task.now c.in_ok-bytes.bytes.items (Play c.in-Ok-Play.campaign) = rw (c.as_slice.ensures.value, is) at c.in-Ok-Play.ensures.answered in
+    let is : c.in-Ok-Play.field-0 ≡ Play c.in-Ok-Play.campaign c.in-Ok-Play.account c.in-Ok-Play.explained = c.in-Ok-Play.field-0-is in
+    let comes : ComesTo c.args.task.now c.in_ok-bytes.bytes.items (Play c.in-Ok-Play.campaign c.in-Ok-Play.account c.in-Ok-Play.explained) = rw (c.as_slice.ensures.value, is) at c.in-Ok-Play.ensures.answered in
     IfErr-weaker c.play_by.result _ _
     (λ fault why.
-    prevented_later c.args.task.now both _ _ c.in_ok-bytes.bytes.items c.unwrap_or-file.result.now (Play c.in-Ok-Play.campaign) fault c.in_ok-bytes.ensures.whole comes
-    (second_named c.args.task.now c.second.result c.unwrap_or-file.result _ c.second.ensures c.unwrap_or-file.ensures refl) why)
+    prevented_later c.args.task.now both _ _ c.in_ok-bytes.bytes.items c.unwrap_or-file.result.now (Play c.in-Ok-Play.campaign c.in-Ok-Play.account c.in-Ok-Play.explained) c.is_explained-reported.result fault c.in_ok-bytes.ensures.whole comes
+    (second_named c.args.task.now c.second.result c.unwrap_or-file.result _ c.second.ensures c.unwrap_or-file.ensures refl) c.is_explained-reported.ensures why)
     c.play_by.ensures.fault
 
-pub returns-in-Ok-clause-answer : goal.returns-in-Ok-clause-answer
-returns-in-Ok-clause-answer g c =
+pub returns-in-Ok-Muster-clause-answer : goal.returns-in-Ok-Muster-clause-answer
+returns-in-Ok-Muster-clause-answer g c =
     let both : Files = files g.R.Source.bytes c.args.first c.args.second in
-    let is : c.in-Ok-Muster.field-0 ≡ Muster c.in-Ok-Muster.scenario = c.in-Ok-Muster.field-0-is in
-    let comes : ComesTo c.args.task.now c.in_ok-bytes.bytes.items (Muster c.in-Ok-Muster.scenario) = rw (c.as_slice.ensures.value, is) at c.in-Ok-Muster.ensures.answered in
-    answered_mustered c.args.task.now both c.in_ok-bytes.bytes.items c.in-Ok.text.items c.in-Ok-Muster.scenario c.in_ok-bytes.ensures.whole comes c.in-Ok.ensures.mustered
+    let is : c.in-Ok-Muster.field-0 ≡ Muster c.in-Ok-Muster.scenario c.in-Ok-Muster.explained = c.in-Ok-Muster.field-0-is in
+    let comes : ComesTo c.args.task.now c.in_ok-bytes.bytes.items (Muster c.in-Ok-Muster.scenario c.in-Ok-Muster.explained) = rw (c.as_slice.ensures.value, is) at c.in-Ok-Muster.ensures.answered in
+    told_ok (λ (refusal : Refusal). fault_of refusal c.unwrap_or-file.result) _ c.mustered.result c.mustered_text.result c.mustered_text.ensures
+    (IfOk-weaker c.mustered.result _ _
+    (λ text is. answered_mustered c.args.task.now both c.in_ok-bytes.bytes.items text.items c.in-Ok-Muster.scenario c.in-Ok-Muster.explained c.in_ok-bytes.ensures.whole comes is)
+    c.mustered.ensures.mustered)
+
+pub returns-in-Ok-Muster-clause-fault : goal.returns-in-Ok-Muster-clause-fault
+returns-in-Ok-Muster-clause-fault g c =
+    let both : Files = files g.R.Source.bytes c.args.first c.args.second in
+    let task = c.args.task.now in
+    let is : c.in-Ok-Muster.field-0 ≡ Muster c.in-Ok-Muster.scenario c.in-Ok-Muster.explained = c.in-Ok-Muster.field-0-is in
+    let comes : ComesTo task c.in_ok-bytes.bytes.items (Muster c.in-Ok-Muster.scenario c.in-Ok-Muster.explained) = rw (c.as_slice.ensures.value, is) at c.in-Ok-Muster.ensures.answered in
+    told_err (λ (refusal : Refusal). fault_of refusal c.unwrap_or-file.result) _ c.mustered.result c.mustered_text.result c.mustered_text.ensures
+    (IfErr-weaker c.mustered.result _ _
+    (λ refusal refuses.
+    prevented_later task both _ _ c.in_ok-bytes.bytes.items c.unwrap_or-file.result.now (Muster c.in-Ok-Muster.scenario c.in-Ok-Muster.explained) (is_explained task) (fault_of refusal c.unwrap_or-file.result)
+    c.in_ok-bytes.ensures.whole comes (second_named task c.second.result c.unwrap_or-file.result _ c.second.ensures c.unwrap_or-file.ensures refl) refl
+    (unmustered _ (is_explained task) both.second c.in-Ok-Muster.scenario c.in-Ok-Muster.explained refusal c.unwrap_or-file.result (λ other. (other, refuses))))
+    c.mustered.ensures.refused)
 
 pub returns-in-Ok-Audit-clause-answer : goal.returns-in-Ok-Audit-clause-answer
 returns-in-Ok-Audit-clause-answer g c =
     let both : Files = files g.R.Source.bytes c.args.first c.args.second in
-    let is : c.in-Ok-Audit.field-0 ≡ Audit c.in-Ok-Audit.campaign = c.in-Ok-Audit.field-0-is in
-    let comes : ComesTo c.args.task.now c.in_ok-bytes.bytes.items (Audit c.in-Ok-Audit.campaign) = rw (c.as_slice.ensures.value, is) at c.in-Ok-Audit.ensures.answered in
+    let is : c.in-Ok-Audit.field-0 ≡ Audit c.in-Ok-Audit.campaign c.in-Ok-Audit.explained = c.in-Ok-Audit.field-0-is in
+    let comes : ComesTo c.args.task.now c.in_ok-bytes.bytes.items (Audit c.in-Ok-Audit.campaign c.in-Ok-Audit.explained) = rw (c.as_slice.ensures.value, is) at c.in-Ok-Audit.ensures.answered in
     IfOk-weaker c.audit_of.result _ _
-    (λ text audit. answered_audited c.args.task.now both c.in_ok-bytes.bytes.items text.items c.in-Ok-Audit.campaign c.in_ok-bytes.ensures.whole comes audit)
+    (λ text audit. answered_audited c.args.task.now both c.in_ok-bytes.bytes.items text.items c.in-Ok-Audit.campaign c.in-Ok-Audit.explained c.in_ok-bytes.ensures.whole comes audit)
     c.audit_of.ensures.audited
 
 pub returns-in-Ok-Audit-clause-fault : goal.returns-in-Ok-Audit-clause-fault
 returns-in-Ok-Audit-clause-fault g c =
     let both : Files = files g.R.Source.bytes c.args.first c.args.second in
-    let is : c.in-Ok-Audit.field-0 ≡ Audit c.in-Ok-Audit.campaign = c.in-Ok-Audit.field-0-is in
-    let comes : ComesTo c.args.task.now c.in_ok-bytes.bytes.items (Audit c.in-Ok-Audit.campaign) = rw (c.as_slice.ensures.value, is) at c.in-Ok-Audit.ensures.answered in
+    let is : c.in-Ok-Audit.field-0 ≡ Audit c.in-Ok-Audit.campaign c.in-Ok-Audit.explained = c.in-Ok-Audit.field-0-is in
+    let comes : ComesTo c.args.task.now c.in_ok-bytes.bytes.items (Audit c.in-Ok-Audit.campaign c.in-Ok-Audit.explained) = rw (c.as_slice.ensures.value, is) at c.in-Ok-Audit.ensures.answered in
     IfErr-weaker c.audit_of.result _ _
     (λ fault why.
-    prevented_later c.args.task.now both _ _ c.in_ok-bytes.bytes.items c.unwrap_or-file.result.now (Audit c.in-Ok-Audit.campaign) fault c.in_ok-bytes.ensures.whole comes
-    (second_named c.args.task.now c.second.result c.unwrap_or-file.result _ c.second.ensures c.unwrap_or-file.ensures refl) why)
+    prevented_later c.args.task.now both _ _ c.in_ok-bytes.bytes.items c.unwrap_or-file.result.now (Audit c.in-Ok-Audit.campaign c.in-Ok-Audit.explained) c.is_explained-reported.result fault c.in_ok-bytes.ensures.whole comes
+    (second_named c.args.task.now c.second.result c.unwrap_or-file.result _ c.second.ensures c.unwrap_or-file.ensures refl) c.is_explained-reported.ensures why)
     c.audit_of.ensures.fault
 
 pub returns-clause-fault : goal.returns-clause-fault

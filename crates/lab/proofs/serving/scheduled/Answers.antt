@@ -8,5 +8,5 @@ returns-in-Ok-clause-told g c =
 
 pub returns-clause-fault : goal.returns-clause-fault
 returns-clause-fault g c =
-    front_refused g.R.Source.bytes _ c.args.second c.in-Some.second c.in_ok-front.front.items c.args.file c.in-Err.refusal _
-    c.in-Some.is c.in_ok-front.ensures.front (rw c.as_slice.ensures.value at c.in-Err.ensures.refused) c.of.ensures
+    front_refused g.R.Source.bytes _ c.args.reported c.args.second c.in-Some.second c.in_ok-front.front.items c.args.file c.in-Err.refusal c.later.result
+    c.in-Some.is c.in_ok-front.ensures.front (rw c.as_slice.ensures.value at c.in-Err.ensures.refused) (rw c.as_slice-in-Err.ensures.value at c.later.ensures)

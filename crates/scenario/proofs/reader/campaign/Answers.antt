@@ -16,13 +16,13 @@ returns-in_err-head c =
 pub returns-in_err-values : goal.returns-in_err-values
 returns-in_err-values c =
     let p = err_from_is_err_and c.from_residual-in_err-values.result c.from_residual-in_err-values.ensures.1 in
-    rw (p.1, p.2, c.in_ok-head.ensures) (begun_fails campaign_of c.in_ok-head.head (tables (get_member (codes "traitor") (table_view c.args.table.now))) c.in_err-values.field-0.0 (rw c.at.ensures at c.in_err-values.ensures))
+    rw (p.1, p.2, c.in_ok-head.ensures) (begun_fails campaign_of c.in_ok-head.head (tables (get_member (codes "traitor") (table_view c.args.table.now))) c.in_err-values.field-0.0 (rw c.at.ensures at c.in_err-values.ensures.value))
 
 pub returns-in_err-scenario : goal.returns-in_err-scenario
 returns-in_err-scenario c =
     let p = err_from_is_err_and c.from_residual-in_err-scenario.result c.from_residual-in_err-scenario.ensures.1 in
-    rw (p.1, p.2, c.in_ok-head.ensures) (campaign_failed c.in_ok-head.head (tables (get_member (codes "traitor") (table_view c.args.table.now))) (items_view c.in_ok-values.values.now) c.in_err-scenario.field-0.0 (rw c.at.ensures at c.in_ok-values.ensures) c.in_err-scenario.ensures)
+    rw (p.1, p.2, c.in_ok-head.ensures) (campaign_failed c.in_ok-head.head (tables (get_member (codes "traitor") (table_view c.args.table.now))) (items_view c.in_ok-values.values.now) c.in_err-scenario.field-0.0 (rw c.at.ensures at c.in_ok-values.ensures.value) c.in_err-scenario.ensures)
 
 pub returns : goal.returns
 returns c =
-    rw c.in_ok-head.ensures (campaign_told c.in_ok-head.head (tables (get_member (codes "traitor") (table_view c.args.table.now))) (items_view c.in_ok-values.values.now) c.in_ok-scenario.scenario c.campaign_by.result (rw c.at.ensures at c.in_ok-values.ensures) (rw (← c.head-2.view_is) c.campaign_by.ensures) c.in_ok-scenario.ensures)
+    rw c.in_ok-head.ensures (campaign_told c.in_ok-head.head (tables (get_member (codes "traitor") (table_view c.args.table.now))) (items_view c.in_ok-values.values.now) c.in_ok-scenario.scenario c.campaign_by.result (rw c.at.ensures at c.in_ok-values.ensures.value) (rw (← c.head-2.view_is) c.campaign_by.ensures) c.in_ok-scenario.ensures)

@@ -16,4 +16,4 @@ returns-in_err-head c =
 pub returns-in_err-values : goal.returns-in_err-values
 returns-in_err-values c =
     let p = err_from_is_err_and c.from_residual-in_err-values.result c.from_residual-in_err-values.ensures.1 in
-    rw (p.1, p.2, c.in_ok-head.ensures) (begun_fails scenario_of c.in_ok-head.head (tables (get_member (codes "traitor") (table_view c.args.table.now))) c.in_err-values.field-0.0 (rw c.at.ensures at c.in_err-values.ensures))
+    rw (p.1, p.2, c.in_ok-head.ensures) (begun_fails scenario_of c.in_ok-head.head (tables (get_member (codes "traitor") (table_view c.args.table.now))) c.in_err-values.field-0.0 (rw c.at.ensures at c.in_err-values.ensures.value))

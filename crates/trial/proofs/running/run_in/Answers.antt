@@ -1,6 +1,7 @@
 -- The run in the setting's context and relay.
 use Rattle.std.proofs.Common.{◌∙◌}
 use Rattle.std.proofs.lemmas.Result.{IfOk-weaker}
+use Rattle.trial.proofs.Owning.{board_in}
 use Rattle.trial.proofs.Trying.{ends_in, relay_in}
 use Rattle.trial.proofs.running.run_in.Goals as goal
 
@@ -11,3 +12,6 @@ returns-clause-ending c =
 
 pub returns-clause-relay : goal.returns-clause-relay
 returns-clause-relay c = IfOk-weaker c.run.result _ _ (λ e kept. relay_in c.args.setting.now c.shape.result e.activation.relay c.shape.ensures.same kept) c.run.ensures.relay
+
+pub returns-clause-board : goal.returns-clause-board
+returns-clause-board c = IfOk-weaker c.run.result _ _ (λ e own. board_in c.args.setting.now c.shape.result e.board c.shape.ensures.same own) c.run.ensures.board

@@ -1,0 +1,27 @@
+/*
+ * Does one thing so many times, for checks/growth, which counts instructions.
+ *
+ *     growth verify|run FILE TIMES      a program's bytes are verified; a program is run, verified once before
+ */
+#include <byzlab_sandbox.h>
+#include <stdio.h>
+#include <stdlib.h>
+#include <string.h>
+
+enum { MOST_RUNS = 9 };
+
+static uint8_t program[BYZLAB_MOST_BYTES], contexts[MOST_RUNS * BYZLAB_CONTEXT_BYTES];
+static struct byzlab_outcome outcomes[MOST_RUNS];
+
+int main(int count, char **words) {
+    struct byzlab_fault fault;
+    FILE *file = count == 4 ? fopen(words[2], "rb") : NULL;
+    if (!file) return fprintf(stderr, "growth verify|run FILE TIMES\n"), 2;
+    size_t length = fread(program, 1, sizeof program, file), times = strtoul(words[3], NULL, 10);
+    uint32_t status = 0;
+    if (strcmp(words[1], "run") == 0 && times <= MOST_RUNS)
+        status = byzlab_run_many(program, length, contexts, times * BYZLAB_CONTEXT_BYTES, &fault, outcomes, times);
+    else
+        for (size_t i = 0; i < times; i++) status |= byzlab_verify(program, length, &fault);
+    return (int)status;
+}

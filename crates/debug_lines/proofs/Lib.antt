@@ -1,0 +1,5 @@
+pub mod NumberLemmas
+pub mod EntryLemmas
+pub mod RowLemmas
+pub mod NameLemmas
+pub mod TextLemmas

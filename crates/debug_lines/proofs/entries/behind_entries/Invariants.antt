@@ -1,0 +1,10 @@
+-- The entries that are left stand behind the place.
+use Rattle.std.proofs.Common.{length, ◌≡◌, ◌-◌, ◌≤◌}
+use Rattle.debug_lines.specs.Entries.{behind_entries}
+use Rattle.debug_lines.proofs.entries.behind_entries.Given as goal
+
+abbrev pub invariant-loop-done : goal.invariant-loop-done
+invariant-loop-done l = record {
+  inside : l.next ≤ length l.bytes;
+  left : behind_entries l.entries l.count l.formats l.from l.bytes l.place ≡ behind_entries (l.entries - l.done) l.count l.formats l.from l.bytes l.next;
+}

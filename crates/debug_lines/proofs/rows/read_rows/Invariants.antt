@@ -1,0 +1,15 @@
+-- The machine has come so far.
+use Rattle.std.proofs.Common.{length, ◌-◌, ◌≤◌}
+use Rattle.debug_lines.specs.Rows.{Comes}
+use Rattle.debug_lines.specs.Sources.{origins_of}
+use Rattle.debug_lines.proofs.RowLemmas.{machine_at}
+use Rattle.debug_lines.proofs.rows.read_rows.Given as goal
+
+abbrev pub invariant-loop-place : goal.invariant-loop-place
+invariant-loop-place l = record {
+  inside : l.place ≤ length l.source.bytes.now;
+  come : Comes l.header l.source.bytes.now (origins_of l.source) (machine_at l.place l.registers l.rows.items);
+}
+
+abbrev pub decreases-loop-place : goal.decreases-loop-place
+decreases-loop-place l = length l.source.bytes.now - l.place

@@ -1,0 +1,16 @@
+use Rattle.std.proofs.Common.{arith}
+use Rattle.elf.proofs.FirstLemmas.{nothing_yet, nothing_more, found_first, nothing_left}
+use Rattle.debug_lines.specs.Tables.{relocates_here}
+use Rattle.debug_lines.proofs.tables.first_relocating.Goals as goal
+
+pub loop-index-init : goal.loop-index-init
+loop-index-init c = nothing_yet (relocates_here c.args.table.now c.args.home)
+
+pub loop-index-preserved : goal.loop-index-preserved
+loop-index-preserved c = nothing_more (relocates_here c.args.table.now c.args.home) c.loop-index.index c.loop-index.invariant c.in-None.ensures.here
+
+pub returns-in-Some-clause-first : goal.returns-in-Some-clause-first
+returns-in-Some-clause-first c = found_first (relocates_here c.args.table.now c.args.home) (c.args.count) c.loop-index.index c.in-Some.found (omega arith) c.loop-index.invariant c.in-Some.ensures.here
+
+pub returns-clause-first : goal.returns-clause-first
+returns-clause-first c = nothing_left (relocates_here c.args.table.now c.args.home) (c.args.count) c.loop-index.index (omega arith) c.loop-index.invariant

@@ -1,0 +1,97 @@
+-- Entries of the tables of directories and files (DWARF 5, section 6.2.4.1): formats, which are pairs of a content and
+-- a form, and for each entry a value in each form.
+use Rattle.std.specs.Prelude.{ℕ, zero, suc, ◌+◌, List, length, ◌==◌, ◌||◌, nat_lt, nat_le, if◌then◌else◌}
+use Rattle.std.specs.Prelude.{Option, Some, None, option_map, option_and_then}
+use Rattle.elf.specs.Number.{number_at}
+use Rattle.debug_lines.specs.declared.number.Read.{Read}
+use Rattle.debug_lines.specs.declared.entries.Format.{Format}
+use Rattle.debug_lines.specs.declared.entries.Entries.{Entries}
+use Rattle.debug_lines.specs.declared.entries.Path.{Path}
+use Rattle.debug_lines.specs.Numbers.{unsigned_at, string_at}
+
+-- how many bytes a form of a fixed size has, else 0: DW_FORM_data1, data2, data4, data8 and data16, and the offsets of
+-- DW_FORM_strp and DW_FORM_line_strp
+abbrev pub size_of : ℕ → ℕ
+size_of form =
+    if form == 0x0b then 1 else if form == 0x05 then 2 else if (form == 0x06) || (form == 0x0e) || (form == 0x1f) then 4
+    else if form == 0x07 then 8 else if form == 0x1e then 16 else 0
+
+-- the place, if it is not past the end
+abbrev pub within : List ℕ → ℕ → Option ℕ
+within bytes place = if nat_le place (length bytes) then Some place else None
+
+abbrev pub block_end : List ℕ → Read → Option ℕ
+block_end bytes size = within bytes (size.next + size.value)
+
+abbrev pub behind_block : ℕ → List ℕ → Option ℕ
+behind_block place bytes = option_and_then (block_end bytes) (unsigned_at place bytes)
+
+abbrev pub behind_number : ℕ → List ℕ → Option ℕ
+behind_number place bytes = option_map (λ number. number.next) (unsigned_at place bytes)
+
+-- behind a value of no fixed size: DW_FORM_string, with the zero behind it, DW_FORM_udata, DW_FORM_block
+abbrev pub behind_varying : ℕ → ℕ → List ℕ → Option ℕ
+behind_varying form place bytes =
+    if form == 0x08 then within bytes (place + length (string_at place bytes) + 1)
+    else if form == 0x0f then behind_number place bytes
+    else if form == 0x09 then behind_block place bytes
+    else None
+
+-- the place behind a value in a form
+abbrev pub behind_value : ℕ → ℕ → List ℕ → Option ℕ
+behind_value form place bytes =
+    if nat_lt 0 (size_of form) then within bytes (place + size_of form) else behind_varying form place bytes
+
+abbrev pub format_by : ℕ → Read → Format
+format_by content form = record { content = content; form = form.value; next = form.next }
+
+abbrev pub format_behind : List ℕ → Read → Option Format
+format_behind formats content = option_map (format_by content.value) (unsigned_at content.next formats)
+
+-- the format at a place
+abbrev pub format_at : ℕ → List ℕ → Option Format
+format_at place formats = option_and_then (format_behind formats) (unsigned_at place formats)
+
+-- behind so many formats
+unfoldable pub behind_formats : ℕ → ℕ → List ℕ → Option ℕ
+behind_formats zero place formats = Some place
+behind_formats (suc n) place formats = option_and_then (λ format. behind_formats n format.next formats) (format_at place formats)
+
+-- what follows a value in a format
+abbrev pub behind_then : {A : Type 0} → (ℕ → ℕ → Option A) → List ℕ → ℕ → Format → Option A
+behind_then next bytes place format = option_and_then (next format.next) (behind_value format.form place bytes)
+
+-- behind an entry with so many formats, which stand from a place on
+unfoldable pub behind_entry : ℕ → List ℕ → ℕ → List ℕ → ℕ → Option ℕ
+behind_entry zero formats from bytes place = Some place
+behind_entry (suc n) formats from bytes place =
+    option_and_then (behind_then (λ next. behind_entry n formats next bytes) bytes place) (format_at from formats)
+
+abbrev pub path_by : (ℕ → ℕ → Option Path) → List ℕ → ℕ → Format → Option Path
+path_by next bytes place format =
+    if format.content == 1 then Some (record { form = format.form; place = place }) else behind_then next bytes place format
+
+-- the value of such an entry whose content is the path (DW_LNCT_path)
+unfoldable pub path_in : ℕ → List ℕ → ℕ → List ℕ → ℕ → Option Path
+path_in zero formats from bytes place = None
+path_in (suc n) formats from bytes place =
+    option_and_then (path_by (λ next. path_in n formats next bytes) bytes place) (format_at from formats)
+
+-- behind so many entries
+unfoldable pub behind_entries : ℕ → ℕ → List ℕ → ℕ → List ℕ → ℕ → Option ℕ
+behind_entries zero count formats from bytes place = Some place
+behind_entries (suc n) count formats from bytes place =
+    option_and_then (behind_entries n count formats from bytes) (behind_entry count formats from bytes place)
+
+-- a table of version 5: a byte with the number of the formats, these, the number of the entries, and these; no table
+-- has more entries than bytes
+abbrev pub entries_by : ℕ → ℕ → List ℕ → Read → Option Entries
+entries_by formats from bytes count =
+    if nat_le count.value (length bytes) then Some (record { formats = formats; from = from; count = count.value; first = count.next }) else None
+
+abbrev pub entries_behind : ℕ → ℕ → List ℕ → ℕ → Option Entries
+entries_behind formats from bytes next = option_and_then (entries_by formats from bytes) (unsigned_at next bytes)
+
+abbrev pub entries_at : ℕ → List ℕ → Option Entries
+entries_at place bytes =
+    option_and_then (entries_behind (number_at 1 place bytes) (place + 1) bytes) (behind_formats (number_at 1 place bytes) (place + 1) bytes)

@@ -1,0 +1,10 @@
+pub mod Numbers
+pub mod Header
+pub mod Steps
+pub mod Origin
+pub mod Rows
+pub mod Sources
+pub mod Entries
+pub mod Names
+pub mod Tables
+pub mod Places

@@ -1,0 +1,38 @@
+-- The numbers and strings of line number information (DWARF 5, sections 7.6 and 7.5.5).
+use Rattle.std.specs.Prelude.{ℕ, zero, suc, ◌+◌, ◌-◌, ◌*◌, ◌%◌, ◌^◌, List, length, drop, Bool, false, true, ◌&&◌, nat_lt, nat_le, if◌then◌else◌}
+use Rattle.std.specs.Prelude.{Option, Some, None, option_map}
+use Rattle.text.specs.declared.stop.Stop.TheVariants.{Byte}
+use Rattle.text.specs.Parts.{before}
+use Rattle.elf.specs.Number.{number_at}
+use Rattle.debug_lines.specs.declared.number.Read.{Read}
+
+-- the last byte of a number is below 128; in a signed one its bit of 64 is the sign, which counts modulo 2^64
+abbrev pub last_byte : Bool → ℕ → ℕ
+last_byte signed byte = if signed && nat_le 64 byte then byte + (2 ^ 64 - 128) else byte
+
+-- a byte of 128 or more has the lowest seven bits of a number that goes on
+abbrev pub joined : ℕ → Read → Read
+joined byte more = record { value = (more.value * 128 % 2 ^ 64 + (byte - 128)) % 2 ^ 64; next = more.next }
+
+-- by the byte at a place, and what a number behind it would be
+abbrev pub number_on : Bool → ℕ → List ℕ → Option Read → Option Read
+number_on signed place bytes more =
+    if nat_le (length bytes) place then None
+    else if nat_lt (number_at 1 place bytes) 128
+    then Some (record { value = last_byte signed (number_at 1 place bytes); next = place + 1 })
+    else option_map (joined (number_at 1 place bytes)) more
+
+-- a number in LEB128 of at most so many bytes at a place, modulo 2^64, and the place behind it
+unfoldable pub number_in : Bool → ℕ → ℕ → List ℕ → Option Read
+number_in signed zero place bytes = None
+number_in signed (suc most) place bytes = number_on signed place bytes (number_in signed most (place + 1) bytes)
+
+abbrev pub unsigned_at : ℕ → List ℕ → Option Read
+unsigned_at = number_in false 10
+
+abbrev pub signed_at : ℕ → List ℕ → Option Read
+signed_at = number_in true 10
+
+-- the bytes from a place on, up to the first zero
+abbrev pub string_at : ℕ → List ℕ → List ℕ
+string_at place bytes = before (Byte 0) (drop place bytes)

@@ -1,0 +1,29 @@
+-- Where in the function's section an address of the line number program lies: a relocation names a symbol of the
+-- section, and the symbol's value is added (System V ABI, "Relocation"; R_BPF_64_ABS64 of LLVM's relocations).
+use Rattle.std.specs.Prelude.{ℕ, ◌+◌, ◌*◌, ◌/◌, ◌%◌, ◌^◌, List, length, ◌==◌, if◌then◌else◌}
+use Rattle.std.specs.Prelude.{Option, Some, None}
+use Rattle.elf.specs.declared.symbol.Symbol.{Symbol}
+use Rattle.elf.specs.Number.{number_at}
+use Rattle.elf.specs.First.{first_some}
+use Rattle.elf.specs.Relocation.{relocation_at}
+use Rattle.elf.specs.Symbol.{symbol_at}
+
+-- what is added to the symbol's value: of 16 bytes (Elf64_Rel) the number in place, of 24 (Elf64_Rela) r_addend
+abbrev pub addend_of : ℕ → ℕ → List ℕ → ℕ → List ℕ → ℕ
+addend_of size index relocations place bytes =
+    if size == 16 then number_at 8 place bytes else number_at 8 (size * index + 16) relocations
+
+-- the address in the section of this number, if the symbol lies there
+abbrev pub address_in : ℕ → Symbol → ℕ → Option ℕ
+address_in section symbol addend = if symbol.section == section then Some ((symbol.value + addend) % 2 ^ 64) else None
+
+abbrev pub origin_here : List ℕ → List ℕ → ℕ → ℕ → List ℕ → ℕ → ℕ → Option ℕ
+origin_here bytes symbols section size relocations place index =
+    if (relocation_at size index relocations).place == place
+    then address_in section (symbol_at (relocation_at size index relocations).symbol symbols) (addend_of size index relocations place bytes)
+    else None
+
+-- by the first relocation of the place that leads into the section
+abbrev pub origin_of : List ℕ → List ℕ → ℕ → ℕ → List ℕ → ℕ → Option ℕ
+origin_of bytes symbols section size relocations place =
+    first_some (origin_here bytes symbols section size relocations place) (length relocations / size)

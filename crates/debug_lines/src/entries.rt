@@ -1,0 +1,271 @@
+//! Entries of the tables of directories and files.
+ghost use Rattle.std.specs.Prelude.{◌≡◌, ◌≤◌, ◌+◌, length, IfSome};
+ghost use Rattle.debug_lines.specs.Entries.{size_of, within, behind_block, behind_number, behind_varying, behind_value, format_behind, format_at, behind_formats, behind_entry, path_in, behind_entries, entries_by, entries_behind, entries_at};
+
+use crate::number::{Read, string_at, unsigned_at};
+use elf::byte_at;
+
+/// What one value of an entry is.
+#[derive(Clone, Copy)]
+pub struct Format {
+    /// Its content: 1 is the path (DW_LNCT_path).
+    pub content: u64,
+    /// Its form (DW_FORM_..).
+    pub form: u64,
+    /// The place behind both.
+    pub next: usize,
+}
+
+/// A table of entries.
+#[derive(Clone, Copy)]
+pub struct Entries {
+    /// How many formats an entry has.
+    pub formats: u8,
+    /// Where they stand.
+    pub from: usize,
+    /// How many entries there are.
+    pub count: u64,
+    /// Where the first stands.
+    pub first: usize,
+}
+
+/// A path.
+#[derive(Clone, Copy)]
+pub struct Path {
+    /// Its form.
+    pub form: u64,
+    /// Where its value stands.
+    pub place: usize,
+}
+
+/// How many bytes a form of a fixed size has, else 0.
+fn size_of(form: u64) -> usize
+    ensures size { result ≡ size_of form }
+    ensures bound { result ≤ 16 }
+{
+    if form == 0x0b {
+        1
+    } else if form == 0x05 {
+        2
+    } else if form == 0x06 || form == 0x0e || form == 0x1f {
+        4
+    } else if form == 0x07 {
+        8
+    } else if form == 0x1e {
+        16
+    } else {
+        0
+    }
+}
+
+/// The place so many bytes behind one, if it is not past the end.
+fn within(bytes: &[u8], place: usize, size: u64) -> Option<usize>
+    requires { place ≤ length bytes.now }
+    ensures read { result ≡ within bytes.now (place + size) }
+    ensures within { IfSome result (λ next. next ≤ length bytes.now) }
+{
+    if size <= (bytes.len() - place) as u64 {
+        Some(place + size as usize)
+    } else {
+        None
+    }
+}
+
+/// Behind a block, whose size stands at a place.
+fn behind_block(bytes: &[u8], place: usize) -> Option<usize>
+    ensures read { result ≡ behind_block place bytes.now }
+    ensures within { IfSome result (λ next. next ≤ length bytes.now) }
+{
+    let size = unsigned_at(bytes, place)?;
+    within(bytes, size.next, size.value)
+}
+
+/// Behind a number.
+fn behind_number(bytes: &[u8], place: usize) -> Option<usize>
+    ensures read { result ≡ behind_number place bytes.now }
+    ensures within { IfSome result (λ next. next ≤ length bytes.now) }
+{
+    let number = unsigned_at(bytes, place)?;
+    Some(number.next)
+}
+
+/// Behind a value of no fixed size.
+fn behind_varying(bytes: &[u8], form: u64, place: usize) -> Option<usize>
+    requires few { length bytes.now ≤ 65536 }
+    requires inside { place ≤ length bytes.now }
+    ensures read { result ≡ behind_varying form place bytes.now }
+    ensures within { IfSome result (λ next. next ≤ length bytes.now) }
+{
+    if form == 0x08 {
+        within(bytes, place, string_at(bytes, place).len() as u64 + 1)
+    } else if form == 0x0f {
+        behind_number(bytes, place)
+    } else if form == 0x09 {
+        behind_block(bytes, place)
+    } else {
+        None
+    }
+}
+
+/// The place behind a value in a form.
+fn behind_value(bytes: &[u8], form: u64, place: usize) -> Option<usize>
+    requires few { length bytes.now ≤ 65536 }
+    requires inside { place ≤ length bytes.now }
+    ensures read { result ≡ behind_value form place bytes.now }
+    ensures within { IfSome result (λ next. next ≤ length bytes.now) }
+{
+    let size = size_of(form);
+    if size > 0 {
+        within(bytes, place, size as u64)
+    } else {
+        behind_varying(bytes, form, place)
+    }
+}
+
+/// The format at a place.
+fn format_at(formats: &[u8], place: usize) -> Option<Format>
+    ensures { result ≡ format_at place formats.now }
+{
+    let content = unsigned_at(formats, place)?;
+    format_behind(formats, content)
+}
+
+/// The format whose content was read.
+fn format_behind(formats: &[u8], content: Read) -> Option<Format>
+    ensures { result ≡ format_behind formats.now content }
+{
+    let form = unsigned_at(formats, content.next)?;
+    Some(Format {
+        content: content.value,
+        form: form.value,
+        next: form.next,
+    })
+}
+
+/// Behind so many formats.
+#[tactic(auto, using(crate::proofs::EntryLemmas::formats_none, crate::proofs::EntryLemmas::formats_some))]
+fn behind_formats(formats: &[u8], count: u8, place: usize) -> Option<usize>
+    ensures { result ≡ behind_formats count place formats.now }
+{
+    if count == 0 {
+        return Some(place);
+    }
+    match format_at(formats, place) {
+        Some(format) => behind_formats(formats, count - 1, format.next),
+        None => None,
+    }
+}
+
+/// Behind an entry with so many formats, which stand from a place on.
+#[tactic(auto, using(crate::proofs::EntryLemmas::entry_none, crate::proofs::EntryLemmas::entry_some))]
+fn behind_entry(formats: &[u8], count: u8, from: usize, bytes: &[u8], place: usize) -> Option<usize>
+    requires few { length bytes.now ≤ 65536 }
+    requires inside { place ≤ length bytes.now }
+    ensures read { result ≡ behind_entry count formats.now from bytes.now place }
+    ensures within { IfSome result (λ next. next ≤ length bytes.now) }
+{
+    if count == 0 {
+        return Some(place);
+    }
+    match format_at(formats, from) {
+        Some(format) => match behind_value(bytes, format.form, place) {
+            Some(next) => behind_entry(formats, count - 1, format.next, bytes, next),
+            None => None,
+        },
+        None => None,
+    }
+}
+
+/// The path of such an entry.
+#[tactic(auto, using(crate::proofs::EntryLemmas::path_none, crate::proofs::EntryLemmas::path_some))]
+pub fn path_in(formats: &[u8], count: u8, from: usize, bytes: &[u8], place: usize) -> Option<Path>
+    requires few { length bytes.now ≤ 65536 }
+    requires inside { place ≤ length bytes.now }
+    ensures { result ≡ path_in count formats.now from bytes.now place }
+{
+    if count == 0 {
+        return None;
+    }
+    match format_at(formats, from) {
+        Some(format) => {
+            if format.content == 1 {
+                return Some(Path {
+                    form: format.form,
+                    place,
+                });
+            }
+            match behind_value(bytes, format.form, place) {
+                Some(next) => path_in(formats, count - 1, format.next, bytes, next),
+                None => None,
+            }
+        }
+        None => None,
+    }
+}
+
+/// Behind so many entries.
+#[tactic(auto, using(crate::proofs::EntryLemmas::entries_none))]
+pub fn behind_entries(
+    entries: u64,
+    formats: &[u8],
+    count: u8,
+    from: usize,
+    bytes: &[u8],
+    place: usize,
+) -> Option<usize>
+    requires few { length bytes.now ≤ 65536 }
+    requires inside { place ≤ length bytes.now }
+    ensures read { result ≡ behind_entries entries count formats.now from bytes.now place }
+    ensures within { IfSome result (λ next. next ≤ length bytes.now) }
+{
+    let mut next = place;
+    for done in 0..entries {
+        let _ = done;
+        match behind_entry(formats, count, from, bytes, next) {
+            Some(behind) => next = behind,
+            None => return None,
+        }
+    }
+    Some(next)
+}
+
+/// The table whose number of entries was read.
+fn entries_by(bytes: &[u8], formats: u8, from: usize, count: Read) -> Option<Entries>
+    requires { count.next ≤ length bytes.now }
+    ensures read { result ≡ entries_by formats from bytes.now count }
+    ensures few { IfSome result (λ entries. entries.count ≤ length bytes.now) }
+    ensures within { IfSome result (λ entries. entries.first ≤ length bytes.now) }
+{
+    if count.value > bytes.len() as u64 {
+        return None;
+    }
+    Some(Entries {
+        formats,
+        from,
+        count: count.value,
+        first: count.next,
+    })
+}
+
+/// The table whose formats end at a place.
+fn entries_behind(bytes: &[u8], formats: u8, from: usize, next: usize) -> Option<Entries>
+    ensures read { result ≡ entries_behind formats from bytes.now next }
+    ensures few { IfSome result (λ entries. entries.count ≤ length bytes.now) }
+    ensures within { IfSome result (λ entries. entries.first ≤ length bytes.now) }
+{
+    let count = unsigned_at(bytes, next)?;
+    entries_by(bytes, formats, from, count)
+}
+
+/// The table of entries at a place.
+pub fn entries_at(bytes: &[u8], place: usize) -> Option<Entries>
+    requires few { length bytes.now ≤ 65536 }
+    requires inside { place ≤ length bytes.now }
+    ensures read { result ≡ entries_at place bytes.now }
+    ensures few { IfSome result (λ entries. entries.count ≤ length bytes.now) }
+    ensures within { IfSome result (λ entries. entries.first ≤ length bytes.now) }
+{
+    let formats = byte_at(bytes, place);
+    let next = behind_formats(bytes, formats, place + 1)?;
+    entries_behind(bytes, formats, place + 1, next)
+}

@@ -1,0 +1,97 @@
+//! The header of a line number program.
+ghost use Rattle.std.specs.Prelude.{◌≡◌, ◌<◌, ◌≤◌, ◌^◌, length, IfSome};
+ghost use Rattle.debug_lines.specs.Header.{fields_of, widened, header_from, header_in, is_read, header_of};
+
+use elf::{byte_at, half_at, word_at};
+
+/// The header, as far as addresses, files and lines need it.
+#[derive(Clone, Copy)]
+pub struct Header {
+    /// version: 4 or 5.
+    pub version: u16,
+    /// minimum_instruction_length.
+    pub shortest: u8,
+    /// line_base, modulo 2^64.
+    pub base: u64,
+    /// line_range.
+    pub range: u8,
+    /// opcode_base: one more than the standard opcodes.
+    pub opcodes: u8,
+    /// Where the tables of directories and files stand.
+    pub tables: usize,
+    /// Where the program begins.
+    pub program: usize,
+    /// Where it ends.
+    pub end: usize,
+}
+
+/// Where minimum_instruction_length stands.
+fn fields_of(version: u16) -> usize
+    ensures place { result ≡ fields_of version }
+    ensures low { 10 ≤ result }
+    ensures high { result ≤ 12 }
+{
+    if version == 5 { 12 } else { 10 }
+}
+
+/// A signed byte, modulo 2^64.
+fn widened(byte: u8) -> u64
+    ensures { result ≡ widened byte }
+{
+    if byte < 128 {
+        u64::from(byte)
+    } else {
+        u64::from(byte) + (u64::MAX - 255)
+    }
+}
+
+/// The fields from minimum_instruction_length on.
+fn header_from(bytes: &[u8], version: u16, fields: usize) -> Header
+    requires low { 10 ≤ fields }
+    requires high { fields ≤ 12 }
+    ensures { result ≡ header_from version fields bytes.now }
+{
+    let opcodes = byte_at(bytes, fields + 5);
+    Header {
+        version,
+        shortest: byte_at(bytes, fields),
+        base: widened(byte_at(bytes, fields + 3)),
+        range: byte_at(bytes, fields + 4),
+        opcodes,
+        tables: fields + 5 + usize::from(opcodes),
+        program: fields + word_at(bytes, fields - 4) as usize,
+        end: 4 + word_at(bytes, 0) as usize,
+    }
+}
+
+/// Whether a header is one that is read, and its program within the bytes.
+fn is_read(header: Header, bytes: &[u8]) -> bool
+    ensures { result ≡ is_read header bytes.now }
+{
+    (header.version == 4 || header.version == 5)
+        && byte_at(bytes, fields_of(header.version) + 1) == 1
+        && header.range > 0
+        && header.opcodes > 0
+        && header.opcodes <= 13
+        && header.tables <= header.program
+        && header.program <= header.end
+        && header.end <= bytes.len()
+}
+
+/// The header of the first line number program.
+pub fn header_of(bytes: &[u8]) -> Option<Header>
+    ensures read { result ≡ header_of bytes.now }
+    ensures range { IfSome result (λ header. 0 < header.range) }
+    ensures opcodes { IfSome result (λ header. header.opcodes ≤ 13) }
+    ensures begins { IfSome result (λ header. header.program ≤ header.end) }
+    ensures ends { IfSome result (λ header. header.end ≤ length bytes.now) }
+    ensures tables { IfSome result (λ header. header.tables ≤ header.program) }
+{
+    let version = half_at(bytes, 4);
+    let header = header_from(bytes, version, fields_of(version));
+    if is_read(header, bytes) {
+        Some(header)
+    } else {
+        None
+    }
+}

@@ -1,0 +1,208 @@
+//! The name of a file by its number.
+ghost use Rattle.std.specs.Prelude.{◌≡◌, ◌<◌, ◌≤◌, ◌+◌, ◌-◌, length, false, true, IfSome, MatchOption};
+ghost use Rattle.std.specs.List.{list_all};
+ghost use Rattle.elf.specs.First.{first_some};
+ghost use Rattle.debug_lines.specs.Names.{directories_end, empty_here, file_formats, files_at, files_behind, is_plain, is_visible, name_at, name_by, path_among, path_behind, path_in_five, path_in_four, path_of, path_of_entry};
+
+use crate::entries::{Entries, Path, behind_entries, entries_at, path_in};
+use crate::header::Header;
+use crate::number::string_at;
+use elf::{byte_at, word_at};
+
+/// The formats of version 4's files, in the words of version 5: the path (DW_FORM_string), and directory, time and size
+/// (DW_FORM_udata).
+const FILE_FORMATS: [u8; 8] = [1, 8, 2, 15, 3, 15, 4, 15];
+
+/// The path of the entry at a place.
+fn path_of_entry(bytes: &[u8], files: Entries, place: usize) -> Option<Path>
+    requires few { length bytes.now ≤ 65536 }
+    requires inside { place ≤ length bytes.now }
+    ensures { result ≡ path_of_entry bytes.now files place }
+{
+    path_in(bytes, files.formats, files.from, bytes, place)
+}
+
+/// The path of the entry of this number.
+fn path_among(bytes: &[u8], file: u64, files: Entries) -> Option<Path>
+    requires few { length bytes.now ≤ 65536 }
+    requires inside { files.first ≤ length bytes.now }
+    ensures { result ≡ path_among bytes.now file files }
+{
+    if file >= files.count {
+        return None;
+    }
+    let place = behind_entries(file, bytes, files.formats, files.from, bytes, files.first)?;
+    path_of_entry(bytes, files, place)
+}
+
+/// The table of files behind that of directories.
+fn files_behind(bytes: &[u8], directories: Entries) -> Option<Entries>
+    requires few { length bytes.now ≤ 65536 }
+    requires inside { directories.first ≤ length bytes.now }
+    ensures read { result ≡ files_behind bytes.now directories }
+    ensures within { IfSome result (λ entries. entries.first ≤ length bytes.now) }
+{
+    let Entries {
+        formats,
+        from,
+        count,
+        first,
+    } = directories;
+    let place = behind_entries(count, bytes, formats, from, bytes, first)?;
+    entries_at(bytes, place)
+}
+
+/// The table of files of version 5, whose tables stand at a place.
+fn files_at(bytes: &[u8], tables: usize) -> Option<Entries>
+    requires few { length bytes.now ≤ 65536 }
+    requires inside { tables ≤ length bytes.now }
+    ensures read { result ≡ files_at tables bytes.now }
+    ensures within { IfSome result (λ entries. entries.first ≤ length bytes.now) }
+{
+    let directories = entries_at(bytes, tables)?;
+    files_behind(bytes, directories)
+}
+
+/// The path of a file in version 5.
+fn path_in_five(bytes: &[u8], tables: usize, file: u64) -> Option<Path>
+    requires few { length bytes.now ≤ 65536 }
+    requires inside { tables ≤ length bytes.now }
+    ensures { result ≡ path_in_five tables bytes.now file }
+{
+    let files = files_at(bytes, tables)?;
+    path_among(bytes, file, files)
+}
+
+/// The place so many bytes behind one, if an empty string of a list of strings stands there.
+fn empty_here(bytes: &[u8], tables: usize, n: usize) -> Option<usize>
+    requires few { length bytes.now ≤ 65536 }
+    requires inside { tables + n < length bytes.now }
+    ensures here { result ≡ empty_here tables bytes.now n }
+    ensures within { IfSome result (λ place. place < length bytes.now) }
+{
+    let place = tables + n;
+    if byte_at(bytes, place) == 0 && (n == 0 || byte_at(bytes, place - 1) == 0) {
+        Some(place)
+    } else {
+        None
+    }
+}
+
+/// The empty string that ends the directories of version 4.
+fn directories_end(bytes: &[u8], tables: usize) -> Option<usize>
+    requires few { length bytes.now ≤ 65536 }
+    requires inside { tables ≤ length bytes.now }
+    ensures first { result ≡ directories_end tables bytes.now }
+    ensures within { IfSome result (λ place. place < length bytes.now) }
+{
+    for n in 0..bytes.len() - tables {
+        match empty_here(bytes, tables, n) {
+            Some(place) => return Some(place),
+            None => {}
+        }
+    }
+    None
+}
+
+/// The path of the file that has so many before it in version 4, whose directories end at a place.
+fn path_behind(bytes: &[u8], before: u64, end: usize) -> Option<Path>
+    requires few { length bytes.now ≤ 65536 }
+    requires inside { end < length bytes.now }
+    ensures { result ≡ path_behind bytes.now before end }
+{
+    let place = behind_entries(before, &FILE_FORMATS, 4, 0, bytes, end + 1)?;
+    path_in(&FILE_FORMATS, 4, 0, bytes, place)
+}
+
+/// The path of a file in version 4.
+fn path_in_four(bytes: &[u8], tables: usize, file: u64) -> Option<Path>
+    requires few { length bytes.now ≤ 65536 }
+    requires inside { tables ≤ length bytes.now }
+    ensures { result ≡ path_in_four tables bytes.now file }
+{
+    if file == 0 || file > bytes.len() as u64 {
+        return None;
+    }
+    let end = directories_end(bytes, tables)?;
+    path_behind(bytes, file - 1, end)
+}
+
+/// The path of a file.
+fn path_of(header: Header, bytes: &[u8], file: u64) -> Option<Path>
+    requires few { length bytes.now ≤ 65536 }
+    requires inside { header.tables ≤ length bytes.now }
+    ensures { result ≡ path_of header bytes.now file }
+{
+    if header.version == 5 {
+        path_in_five(bytes, header.tables, file)
+    } else {
+        path_in_four(bytes, header.tables, file)
+    }
+}
+
+/// The name of a path.
+fn name_at<'a>(bytes: &'a [u8], line_strings: &'a [u8], strings: &'a [u8], path: Path) -> &'a [u8]
+    ensures { result.now ≡ name_at bytes.now line_strings.now strings.now path }
+{
+    if path.form == 0x08 {
+        string_at(bytes, path.place)
+    } else if path.form == 0x1f {
+        string_at(line_strings, word_at(bytes, path.place) as usize)
+    } else if path.form == 0x0e {
+        string_at(strings, word_at(bytes, path.place) as usize)
+    } else {
+        &[]
+    }
+}
+
+/// The name of a file; none where the tables do not have it.
+pub fn name_of<'a>(
+    header: Header,
+    bytes: &'a [u8],
+    line_strings: &'a [u8],
+    strings: &'a [u8],
+    file: u64,
+) -> &'a [u8]
+    requires few { length bytes.now ≤ 65536 }
+    requires inside { header.tables ≤ length bytes.now }
+    ensures { result.now ≡ name_by bytes.now line_strings.now strings.now (path_of header bytes.now file) }
+{
+    match path_of(header, bytes, file) {
+        Some(path) => name_at(bytes, line_strings, strings, path),
+        None => &[],
+    }
+}
+
+/// Whether a byte is a visible character of ASCII, or a blank.
+fn is_visible(byte: u8) -> bool
+    ensures { result ≡ is_visible byte }
+{
+    32 <= byte && byte < 127
+}
+
+/// Whether all bytes are.
+fn are_visible(name: &[u8]) -> bool
+    ensures { result ≡ list_all is_visible name.now }
+{
+    name.iter().all(|byte| is_visible(*byte))
+}
+
+/// Whether a name can be told on a line.
+fn is_plain(name: &[u8]) -> bool
+    ensures { result ≡ is_plain name.now }
+{
+    !name.is_empty() && name.len() <= 255 && are_visible(name)
+}
+
+/// A name that can be told on a line, as text.
+pub fn plain(name: &[u8]) -> Option<&str>
+    ensures { MatchOption result (is_plain name.now ≡ false) (λ text. (is_plain name.now ≡ true) × (text.now ≡ name.now)) }
+{
+    if !is_plain(name) {
+        return None;
+    }
+    match str::from_utf8(name) {
+        Ok(text) => Some(text),
+        Err(_) => unreachable!(),
+    }
+}

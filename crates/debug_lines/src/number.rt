@@ -1,0 +1,103 @@
+//! Numbers and strings of line number information.
+ghost use Rattle.std.specs.Prelude.{◌≡◌, ◌<◌, ◌≤◌, length, drop, IfSome};
+ghost use Rattle.debug_lines.specs.Numbers.{last_byte, joined, number_in, unsigned_at, signed_at, string_at};
+
+use elf::byte_at;
+use text::{Stop, cut};
+
+/// The most bytes of a number in LEB128 that is read.
+const MOST: u8 = 10;
+
+/// A number that was read.
+#[derive(Clone, Copy)]
+pub struct Read {
+    /// The number, modulo 2^64.
+    pub value: u64,
+    /// The place behind it.
+    pub next: usize,
+}
+
+/// What the last byte of a number is worth.
+fn last_byte(signed: bool, byte: u8) -> u64
+    requires { byte < 128 }
+    ensures { result ≡ last_byte signed byte }
+{
+    if signed && byte >= 64 {
+        u64::from(byte) + (u64::MAX - 127)
+    } else {
+        u64::from(byte)
+    }
+}
+
+/// A number of which one more byte stands before the rest.
+fn joined(byte: u8, more: Read) -> Read
+    requires { 128 ≤ byte }
+    ensures { result ≡ joined byte more }
+{
+    let low = u64::from(byte - 128);
+    Read {
+        value: more.value.wrapping_mul(128).wrapping_add(low),
+        next: more.next,
+    }
+}
+
+/// A number in LEB128 of at most so many bytes at a place.
+#[tactic(auto, using(crate::proofs::NumberLemmas::number_none, crate::proofs::NumberLemmas::number_some))]
+fn number_in(signed: bool, most: u8, bytes: &[u8], place: usize) -> Option<Read>
+    ensures read { result ≡ number_in signed most place bytes.now }
+    ensures on { IfSome result (λ number. place < number.next) }
+    ensures within { IfSome result (λ number. number.next ≤ length bytes.now) }
+{
+    if most == 0 || place >= bytes.len() {
+        return None;
+    }
+    let byte = byte_at(bytes, place);
+    if byte < 128 {
+        return Some(Read {
+            value: last_byte(signed, byte),
+            next: place + 1,
+        });
+    }
+    match number_in(signed, most - 1, bytes, place + 1) {
+        Some(more) => Some(joined(byte, more)),
+        None => None,
+    }
+}
+
+/// An unsigned number in LEB128 at a place.
+pub fn unsigned_at(bytes: &[u8], place: usize) -> Option<Read>
+    ensures read { result ≡ unsigned_at place bytes.now }
+    ensures on { IfSome result (λ number. place < number.next) }
+    ensures within { IfSome result (λ number. number.next ≤ length bytes.now) }
+{
+    number_in(false, MOST, bytes, place)
+}
+
+/// A signed number in LEB128 at a place.
+pub fn signed_at(bytes: &[u8], place: usize) -> Option<Read>
+    ensures read { result ≡ signed_at place bytes.now }
+    ensures on { IfSome result (λ number. place < number.next) }
+    ensures within { IfSome result (λ number. number.next ≤ length bytes.now) }
+{
+    number_in(true, MOST, bytes, place)
+}
+
+/// What stands from a place on.
+fn rest(bytes: &[u8], place: usize) -> &[u8]
+    ensures { result.now ≡ drop place bytes.now }
+{
+    if place <= bytes.len() {
+        &bytes[place..]
+    } else {
+        &[]
+    }
+}
+
+/// The bytes from a place on, up to the first zero.
+pub fn string_at(bytes: &[u8], place: usize) -> &[u8]
+    ensures read { result.now ≡ string_at place bytes.now }
+    ensures bound { length result.now ≤ length bytes.now }
+{
+    let (string, _) = cut(Stop::Byte(0), rest(bytes, place));
+    string
+}

@@ -1,0 +1,74 @@
+//! Where in the function's section an address of the line number program lies.
+ghost use Rattle.std.specs.Prelude.{◌≡◌, ◌<◌, ◌≤◌, ◌+◌, ◌*◌, ◌/◌, ◌^◌, length};
+ghost use Rattle.elf.specs.First.{first_some};
+ghost use Rattle.debug_lines.specs.Origin.{addend_of, address_in, origin_here, origin_of};
+
+use elf::{Relocation, Symbol, double_at};
+
+/// What is added to the symbol's value.
+fn addend_of(bytes: &[u8], size: usize, relocations: &[u8], index: usize, place: usize) -> u64
+    requires { size * index + 24 < 2 ^ 64 }
+    ensures { result ≡ addend_of size index relocations.now place bytes.now }
+{
+    if size == 16 {
+        double_at(bytes, place)
+    } else {
+        double_at(relocations, size * index + 16)
+    }
+}
+
+/// The address in the section of this number, if the symbol lies there.
+fn address_in(section: u16, symbol: Symbol, addend: u64) -> Option<u64>
+    ensures { result ≡ address_in section symbol addend }
+{
+    if symbol.section == section {
+        Some(symbol.value.wrapping_add(addend))
+    } else {
+        None
+    }
+}
+
+/// The address of a place by the relocation of this number.
+fn origin_here(
+    bytes: &[u8],
+    symbols: &[u8],
+    section: u16,
+    size: usize,
+    relocations: &[u8],
+    place: usize,
+    index: usize,
+) -> Option<u64>
+    requires { size * index + 24 < 2 ^ 64 }
+    ensures { result ≡ origin_here bytes.now symbols.now section size relocations.now place index }
+{
+    let relocation = Relocation::read(relocations, size, index);
+    if relocation.place != place as u64 {
+        return None;
+    }
+    let symbol = Symbol::read(symbols, relocation.symbol as usize);
+    let addend = addend_of(bytes, size, relocations, index, place);
+    address_in(section, symbol, addend)
+}
+
+/// The address of the operand at a place, if it is one of the section of this number.
+pub fn origin_of(
+    bytes: &[u8],
+    symbols: &[u8],
+    section: u16,
+    size: usize,
+    relocations: &[u8],
+    place: usize,
+) -> Option<u64>
+    requires least { 16 ≤ size }
+    requires most { size ≤ 24 }
+    requires few { length relocations.now ≤ 65536 }
+    ensures { result ≡ origin_of bytes.now symbols.now section size relocations.now place }
+{
+    for index in 0..relocations.len() / size {
+        match origin_here(bytes, symbols, section, size, relocations, place, index) {
+            Some(address) => return Some(address),
+            None => {}
+        }
+    }
+    None
+}

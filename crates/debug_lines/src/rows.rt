@@ -1,0 +1,143 @@
+//! The state machine of a line number program.
+ghost use Rattle.std.specs.Prelude.{◌≡◌, ◌<◌, ◌≤◌, ◌++◌, length, IfOk, OnOk, option_to_list};
+ghost use Rattle.debug_lines.specs.Rows.{GivesRows, advanced, after, at_start, row_by, started};
+ghost use Rattle.debug_lines.specs.Sources.{IsSource, origins_of};
+
+use crate::header::Header;
+use crate::origin::origin_of;
+use crate::registers::{Registers, Row};
+use crate::source::Source;
+use crate::step::{Step, step_at};
+use std::alloc::{AllocError, Global};
+
+/// The registers as a sequence begins.
+fn at_start() -> Registers
+    ensures { result ≡ at_start }
+{
+    Registers {
+        address: 0,
+        inside: false,
+        file: 1,
+        line: 1,
+    }
+}
+
+/// The registers with address and line advanced.
+fn advanced(registers: Registers, address: u64, line: u64) -> Registers
+    ensures { result ≡ advanced registers address line }
+{
+    let mut next = registers;
+    next.address = registers.address.wrapping_add(address);
+    next.line = registers.line.wrapping_add(line);
+    next
+}
+
+/// The registers with an address that begins a sequence.
+fn started(registers: Registers, address: Option<u64>) -> Registers
+    ensures { result ≡ started registers address }
+{
+    let mut next = registers;
+    match address {
+        Some(address) => {
+            next.address = address;
+            next.inside = true;
+        }
+        None => next.inside = false,
+    }
+    next
+}
+
+/// The row that an instruction adds.
+fn row_by(registers: Registers, step: Step) -> Option<Row>
+    ensures { result ≡ row_by registers step }
+{
+    match step {
+        Step::Row(address, line) => Some(Row {
+            registers: advanced(registers, address, line),
+            last: false,
+        }),
+        Step::End => Some(Row {
+            registers,
+            last: true,
+        }),
+        _ => None,
+    }
+}
+
+/// Adds the row that an instruction adds.
+fn put_row(rows: &mut Vec<Row>, registers: Registers, step: Step) -> Result<(), AllocError>
+    ensures { OnOk result (rows.new.items ≡ rows.old.items ++ option_to_list (row_by registers step)) }
+{
+    match row_by(registers, step) {
+        Some(row) => {
+            rows.push(row)?;
+            Ok(())
+        }
+        None => Ok(()),
+    }
+}
+
+/// The registers behind an instruction.
+fn after(source: &Source, registers: Registers, step: Step) -> Registers
+    requires { IsSource source.now }
+    ensures { result ≡ after (origins_of source.now) registers step }
+{
+    match step {
+        Step::Row(address, line) => advanced(registers, address, line),
+        Step::Address(by) => advanced(registers, by, 0),
+        Step::Line(by) => advanced(registers, 0, by),
+        Step::File(file) => {
+            let mut next = registers;
+            next.file = file;
+            next
+        }
+        Step::Start(place) => started(registers, origin(source, place)),
+        Step::End => at_start(),
+        Step::Other => registers,
+    }
+}
+
+/// The address of the operand at a place, if it is one of the function's section.
+fn origin(source: &Source, place: usize) -> Option<u64>
+    requires { IsSource source.now }
+    ensures { result ≡ origins_of source.now place }
+{
+    origin_of(
+        source.bytes,
+        source.symbols,
+        source.section,
+        source.size,
+        source.relocations,
+        place,
+    )
+}
+
+/// The rows of a program that ends with the bytes; none of one that breaks off before.
+///
+/// # Errors
+///
+/// Want of memory.
+pub fn read_rows(
+    alloc: Global,
+    header: Header,
+    source: &Source,
+) -> Result<Option<Vec<Row>>, AllocError>
+    requires source { IsSource source.now }
+    requires range { 0 < header.range }
+    requires opcodes { header.opcodes ≤ 13 }
+    requires begins { header.program ≤ length source.now.bytes.now }
+    ensures { IfOk result (GivesRows header source.now.bytes.now (origins_of source.now)) }
+{
+    let mut rows = Vec::new(alloc);
+    let mut registers = at_start();
+    let mut place = header.program;
+    while place < source.bytes.len() {
+        let Some(stepped) = step_at(header, source.bytes, place) else {
+            return Ok(None);
+        };
+        put_row(&mut rows, registers, stepped.step)?;
+        registers = after(source, registers, stepped.step);
+        place = stepped.next;
+    }
+    Ok(Some(rows))
+}

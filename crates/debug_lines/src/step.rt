@@ -1,0 +1,230 @@
+//! The instructions of a line number program.
+ghost use Rattle.std.specs.Prelude.{◌≡◌, ◌<◌, ◌≤◌, ◌-◌, ◌*◌, ◌^◌, length, IfSome};
+ghost use Rattle.debug_lines.specs.Steps.{address_advance, special, by_number, advance_step, no_step, fixed_advance, alone, standard, extended_step, extended_of, extended, step_at};
+ghost use Rattle.debug_lines.specs.Numbers.{unsigned_at, signed_at};
+
+use crate::header::Header;
+use crate::number::{Read, signed_at, unsigned_at};
+use elf::{byte_at, half_at};
+
+/// What an instruction says of addresses, files and lines.
+#[derive(Clone, Copy)]
+pub enum Step {
+    /// Address and line advance by so much, and a row is added: a special opcode, or DW_LNS_copy.
+    Row(u64, u64),
+    /// The address advances.
+    Address(u64),
+    /// The line advances, modulo 2^64.
+    Line(u64),
+    /// The file of this number.
+    File(u64),
+    /// The address is the operand at this place.
+    Start(usize),
+    /// A row is added that ends the sequence.
+    End,
+    /// Nothing.
+    Other,
+}
+
+/// An instruction that was read.
+#[derive(Clone, Copy)]
+pub struct Stepped {
+    /// The instruction.
+    pub step: Step,
+    /// The place behind it.
+    pub next: usize,
+}
+
+/// By how much a special opcode, so many above the standard ones, advances the address.
+fn address_advance(header: Header, above: u8) -> u64
+    requires { 0 < header.range }
+    ensures { result ≡ address_advance header above }
+{
+    u64::from(header.shortest) * u64::from(above / header.range)
+}
+
+/// A special opcode, so many above the standard ones.
+fn special(header: Header, above: u8) -> Step
+    requires { 0 < header.range }
+    ensures { result ≡ special header above }
+{
+    let line = header.base.wrapping_add(u64::from(above % header.range));
+    Step::Row(address_advance(header, above), line)
+}
+
+/// DW_LNS_advance_pc, of which the operand stands at a place.
+fn advance_pc(header: Header, bytes: &[u8], place: usize) -> Option<Stepped>
+    ensures read { result ≡ by_number (advance_step header) (unsigned_at place bytes.now) }
+    ensures on { IfSome result (λ s. place < s.next) }
+    ensures within { IfSome result (λ s. s.next ≤ length bytes.now) }
+{
+    let number = unsigned_at(bytes, place)?;
+    let advance = u64::from(header.shortest).wrapping_mul(number.value);
+    Some(Stepped {
+        step: Step::Address(advance),
+        next: number.next,
+    })
+}
+
+/// DW_LNS_advance_line, of which the operand stands at a place.
+fn advance_line(bytes: &[u8], place: usize) -> Option<Stepped>
+    ensures read { result ≡ by_number Step.Line (signed_at place bytes.now) }
+    ensures on { IfSome result (λ s. place < s.next) }
+    ensures within { IfSome result (λ s. s.next ≤ length bytes.now) }
+{
+    let number = signed_at(bytes, place)?;
+    Some(Stepped {
+        step: Step::Line(number.value),
+        next: number.next,
+    })
+}
+
+/// DW_LNS_set_file, of which the operand stands at a place.
+fn set_file(bytes: &[u8], place: usize) -> Option<Stepped>
+    ensures read { result ≡ by_number Step.File (unsigned_at place bytes.now) }
+    ensures on { IfSome result (λ s. place < s.next) }
+    ensures within { IfSome result (λ s. s.next ≤ length bytes.now) }
+{
+    let number = unsigned_at(bytes, place)?;
+    Some(Stepped {
+        step: Step::File(number.value),
+        next: number.next,
+    })
+}
+
+/// An opcode that says nothing, of which the operand, a number, stands at a place.
+fn pass_number(bytes: &[u8], place: usize) -> Option<Stepped>
+    ensures read { result ≡ by_number no_step (unsigned_at place bytes.now) }
+    ensures on { IfSome result (λ s. place < s.next) }
+    ensures within { IfSome result (λ s. s.next ≤ length bytes.now) }
+{
+    let number = unsigned_at(bytes, place)?;
+    Some(Stepped {
+        step: Step::Other,
+        next: number.next,
+    })
+}
+
+/// DW_LNS_fixed_advance_pc, of which the operand stands at a place.
+fn fixed_advance(bytes: &[u8], place: usize) -> Option<Stepped>
+    ensures read { result ≡ fixed_advance place bytes.now }
+    ensures on { IfSome result (λ s. place ≤ s.next) }
+    ensures within { IfSome result (λ s. s.next ≤ length bytes.now) }
+{
+    if bytes.len() >= 2 && place <= bytes.len() - 2 {
+        Some(Stepped {
+            step: Step::Address(u64::from(half_at(bytes, place))),
+            next: place + 2,
+        })
+    } else {
+        None
+    }
+}
+
+/// A standard opcode, whose operands stand at a place.
+fn standard(header: Header, opcode: u8, bytes: &[u8], place: usize) -> Option<Stepped>
+    requires range { 0 < header.range }
+    requires opcodes { header.opcodes ≤ 13 }
+    requires place { place ≤ length bytes.now }
+    ensures read { result ≡ standard header opcode place bytes.now }
+    ensures on { IfSome result (λ s. place ≤ s.next) }
+    ensures within { IfSome result (λ s. s.next ≤ length bytes.now) }
+{
+    if opcode == 2 {
+        return advance_pc(header, bytes, place);
+    }
+    if opcode == 3 {
+        return advance_line(bytes, place);
+    }
+    if opcode == 4 {
+        return set_file(bytes, place);
+    }
+    if opcode == 5 || opcode == 12 {
+        return pass_number(bytes, place);
+    }
+    if opcode == 9 {
+        return fixed_advance(bytes, place);
+    }
+    Some(Stepped {
+        step: alone(header, opcode),
+        next: place,
+    })
+}
+
+/// A standard opcode that has no operands.
+fn alone(header: Header, opcode: u8) -> Step
+    requires range { 0 < header.range }
+    requires opcodes { header.opcodes ≤ 13 }
+    ensures { result ≡ alone header opcode }
+{
+    if opcode == 1 {
+        Step::Row(0, 0)
+    } else if opcode == 8 {
+        Step::Address(address_advance(header, 255 - header.opcodes))
+    } else {
+        Step::Other
+    }
+}
+
+/// An extended opcode of so many bytes, whose operands stand at a place.
+fn extended_step(size: u64, opcode: u8, place: usize) -> Step
+    ensures { result ≡ extended_step size opcode place }
+{
+    if opcode == 1 {
+        Step::End
+    } else if opcode == 2 && size == 9 {
+        Step::Start(place)
+    } else {
+        Step::Other
+    }
+}
+
+/// An extended opcode behind its size.
+fn extended_of(bytes: &[u8], size: Read) -> Option<Stepped>
+    requires { size.next ≤ length bytes.now }
+    ensures read { result ≡ extended_of bytes.now size }
+    ensures on { IfSome result (λ s. size.next < s.next) }
+    ensures within { IfSome result (λ s. s.next ≤ length bytes.now) }
+{
+    let left = (bytes.len() - size.next) as u64;
+    if size.value == 0 || size.value > left {
+        return None;
+    }
+    Some(Stepped {
+        step: extended_step(size.value, byte_at(bytes, size.next), size.next + 1),
+        next: size.next + size.value as usize,
+    })
+}
+
+/// An extended opcode, whose size stands at a place.
+fn extended(bytes: &[u8], place: usize) -> Option<Stepped>
+    ensures read { result ≡ extended place bytes.now }
+    ensures on { IfSome result (λ s. place < s.next) }
+    ensures within { IfSome result (λ s. s.next ≤ length bytes.now) }
+{
+    let size = unsigned_at(bytes, place)?;
+    extended_of(bytes, size)
+}
+
+/// The instruction at a place.
+#[tactic(auto, unfolding(crate::specs::Steps::step_at))]
+pub fn step_at(header: Header, bytes: &[u8], place: usize) -> Option<Stepped>
+    requires range { 0 < header.range }
+    requires opcodes { header.opcodes ≤ 13 }
+    requires place { place < length bytes.now }
+    ensures read { result ≡ step_at header place bytes.now }
+    ensures on { IfSome result (λ s. place < s.next) }
+    ensures within { IfSome result (λ s. s.next ≤ length bytes.now) }
+{
+    let opcode = byte_at(bytes, place);
+    if opcode >= header.opcodes {
+        return Some(Stepped {
+            step: special(header, opcode - header.opcodes),
+            next: place + 1,
+        });
+    }
+    if opcode == 0 {
+        return extended(bytes, place + 1);
+    }
+    standard(header, opcode, bytes, place + 1)
+}

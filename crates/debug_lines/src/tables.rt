@@ -1,0 +1,175 @@
+//! The sections of an object that have its line number information.
+ghost use Rattle.std.specs.Prelude.{◌≡◌, ◌<◌, ◌≤◌, ◌^◌, codes, length, IfSome};
+ghost use Rattle.elf.specs.First.{first_some};
+ghost use Rattle.elf.specs.Section.{section_at, section_count, section_table};
+ghost use Rattle.debug_lines.specs.Tables.{bytes_of, line_strings_in, lines_in, lines_section, named_here, origins_in, relocates_here, relocations_of, section_named, section_names, short, strings_in, symbols_in};
+ghost use Rattle.debug_lines.specs.Sources.{IsSource, origins_of};
+
+use crate::number::string_at;
+use crate::source::Source;
+use elf::{Relocation, Section, count_sections, find_symbols, half_at, read_table, word_at};
+
+/// The most bytes of a section that is read.
+const MOST: usize = 65_536;
+
+/// The bytes of a section; none of one of more than 2^16 bytes.
+fn short(bytes: &[u8]) -> &[u8]
+    ensures short { result.now ≡ short bytes.now }
+    ensures bound { length result.now ≤ 65536 }
+{
+    if bytes.len() <= MOST { bytes } else { &[] }
+}
+
+/// Those of the section of this number.
+fn bytes_of(object: &[u8], index: usize) -> &[u8]
+    requires { index < 2 ^ 32 }
+    ensures read { result.now ≡ bytes_of object.now index }
+    ensures bound { length result.now ≤ 65536 }
+{
+    short(Section::read(read_table(object), index).bytes(object))
+}
+
+/// The names of the sections.
+fn section_names(object: &[u8]) -> &[u8]
+    ensures { result.now ≡ section_names object.now }
+{
+    let index = usize::from(half_at(object, 62));
+    Section::read(read_table(object), index).bytes(object)
+}
+
+/// The number of a section, if it has this name.
+fn named_here(table: &[u8], names: &[u8], name: &[u8], index: usize) -> Option<usize>
+    requires { index < 2 ^ 32 }
+    ensures here { result ≡ named_here table.now names.now name.now index }
+    ensures same { IfSome result (λ found. found ≡ index) }
+{
+    let place = word_at(table, 64 * index) as usize;
+    if string_at(names, place) == name {
+        Some(index)
+    } else {
+        None
+    }
+}
+
+/// The first section of this name, if there is one.
+fn first_named(table: &[u8], count: usize, names: &[u8], name: &[u8]) -> Option<usize>
+    requires { count < 2 ^ 16 }
+    ensures first { result ≡ first_some (named_here table.now names.now name.now) count }
+    ensures bound { IfSome result (λ found. found < 2 ^ 16) }
+{
+    for index in 0..count {
+        match named_here(table, names, name, index) {
+            Some(found) => return Some(found),
+            None => {}
+        }
+    }
+    None
+}
+
+/// The first section of this name; 0 where there is none.
+fn section_named(object: &[u8], name: &[u8]) -> usize
+    ensures section { result ≡ section_named object.now name.now }
+    ensures bound { result < 2 ^ 16 }
+{
+    let table = read_table(object);
+    match first_named(table, count_sections(object), section_names(object), name) {
+        Some(index) => index,
+        None => 0,
+    }
+}
+
+/// The number of a section, if it has relocations of the section of this number.
+fn relocates_here(table: &[u8], home: usize, index: usize) -> Option<usize>
+    requires { index < 2 ^ 32 }
+    ensures here { result ≡ relocates_here table.now home index }
+    ensures same { IfSome result (λ found. found ≡ index) }
+{
+    let section = Section::read(table, index);
+    if section.holds_relocations() && section.info as usize == home {
+        Some(index)
+    } else {
+        None
+    }
+}
+
+/// The first section with relocations of the section of this number, if there is one.
+fn first_relocating(table: &[u8], count: usize, home: usize) -> Option<usize>
+    requires { count < 2 ^ 16 }
+    ensures first { result ≡ first_some (relocates_here table.now home) count }
+    ensures bound { IfSome result (λ found. found < 2 ^ 16) }
+{
+    for index in 0..count {
+        match relocates_here(table, home, index) {
+            Some(found) => return Some(found),
+            None => {}
+        }
+    }
+    None
+}
+
+/// The same; 0 where there is none.
+fn relocations_of(object: &[u8], home: usize) -> usize
+    ensures section { result ≡ relocations_of object.now home }
+    ensures bound { result < 2 ^ 16 }
+{
+    match first_relocating(read_table(object), count_sections(object), home) {
+        Some(index) => index,
+        None => 0,
+    }
+}
+
+/// The number of .debug_line; 0 where there is none.
+fn lines_section(object: &[u8]) -> usize
+    ensures section { result ≡ lines_section object.now }
+    ensures bound { result < 2 ^ 16 }
+{
+    section_named(object, b".debug_line")
+}
+
+/// The bytes of .debug_line.
+pub fn lines_in(object: &[u8]) -> &[u8]
+    ensures read { result.now ≡ lines_in object.now }
+    ensures bound { length result.now ≤ 65536 }
+{
+    bytes_of(object, lines_section(object))
+}
+
+/// Those of .debug_line_str.
+pub fn line_strings_in(object: &[u8]) -> &[u8]
+    ensures { result.now ≡ line_strings_in object.now }
+{
+    bytes_of(object, section_named(object, b".debug_line_str"))
+}
+
+/// Those of .debug_str.
+pub fn strings_in(object: &[u8]) -> &[u8]
+    ensures { result.now ≡ strings_in object.now }
+{
+    bytes_of(object, section_named(object, b".debug_str"))
+}
+
+/// The table of symbols.
+fn symbols_in(object: &[u8]) -> &[u8]
+    ensures { result.now ≡ symbols_in object.now }
+{
+    let table = read_table(object);
+    let home = find_symbols(table, count_sections(object));
+    Section::read(table, home).bytes(object)
+}
+
+/// What the program in these bytes needs of its object, for a function in the section of this number.
+pub fn source_in<'a>(object: &'a [u8], bytes: &'a [u8], section: u16) -> Source<'a>
+    ensures whole { IsSource result }
+    ensures bytes { result.bytes.now ≡ bytes.now }
+    ensures origins { origins_of result ≡ origins_in object.now bytes.now section }
+{
+    let index = relocations_of(object, lines_section(object));
+    let size = Relocation::size(Section::read(read_table(object), index));
+    Source {
+        bytes,
+        symbols: symbols_in(object),
+        section,
+        size,
+        relocations: bytes_of(object, index),
+    }
+}

@@ -1,0 +1,6 @@
+pub mod Gathered
+pub mod PlaceLemmas
+pub mod FactLemmas
+pub mod ShownLemmas
+pub mod RowLemmas
+pub mod SvgLaws

@@ -1,0 +1,9 @@
+use Rattle.std.proofs.Common.{◌≡◌, ◌∷◌}
+use Rattle.std.specs.Prelude.{nat_le}
+use Rattle.std.specs.List.{list_all}
+use Rattle.label.specs.Labels.{others}
+use Rattle.drawing.proofs.places.is_last.Given as goal
+
+-- whether none so far comes behind
+abbrev pub invariant-loop-other : goal.invariant-loop-other
+invariant-loop-other l = l.is_last ≡ list_all (λ i. nat_le i l.teller) (others l.other (l.general ∷ l.before))

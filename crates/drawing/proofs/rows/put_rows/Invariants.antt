@@ -1,0 +1,8 @@
+use Rattle.std.proofs.Common.{◌≡◌, ◌++◌, drop}
+use Rattle.std.specs.String.{string_bytes}
+use Rattle.drawing.specs.Rows.{rows_from}
+use Rattle.drawing.proofs.rows.put_rows.Given as goal
+
+-- the rows so far and those left
+abbrev pub invariant-loop-place : goal.invariant-loop-place
+invariant-loop-place l = string_bytes l.out ++ rows_from l.generals l.general l.place (drop l.place l.nodes) ≡ string_bytes l.fn.out ++ rows_from l.generals l.general 0 l.nodes

@@ -1,0 +1,7 @@
+use Rattle.std.proofs.Common.{◌≡◌, ◌<◌, ◌^◌, drop, max}
+use Rattle.drawing.specs.Rows.{widest}
+use Rattle.drawing.proofs.rows.widest.Given as goal
+
+-- the widest so far and of those left, and no width is large
+abbrev pub invariant-loop-node : goal.invariant-loop-node
+invariant-loop-node l = record { width : max (widest (drop l.node-index l.nodes)) l.widest ≡ widest l.nodes; small : l.widest < 2 ^ 100 }

@@ -1,0 +1,63 @@
+-- The tree of a lieutenant as a graph, in the language of Graphviz.
+use Rattle.std.specs.Prelude.{ℕ, ◌-◌, nat_lt, if◌then◌else◌, List, [], ◌++◌, take, length, codes}
+use Rattle.std.specs.Fmt.{decimal}
+use Rattle.std.specs.List.{flat_map}
+use Rattle.book.specs.Decisions.{decision_of}
+use Rattle.book.specs.Explained.{dotted}
+use Rattle.book.specs.Table.{MessageTable}
+use Rattle.drawing.specs.declared.node.Outcome.{Outcome}
+use Rattle.drawing.specs.declared.node.Outcome.TheVariants.{Divided}
+use Rattle.drawing.specs.declared.node.Mark.{Mark}
+use Rattle.drawing.specs.declared.node.Mark.TheVariants.{Honest, Traitor, Lie}
+use Rattle.drawing.specs.declared.node.Extent.{Extent}
+use Rattle.drawing.specs.declared.node.Extent.TheVariants.{Last, Open, Folded, Cut}
+use Rattle.drawing.specs.declared.node.Node.{Node}
+use Rattle.drawing.specs.declared.node.View.{View}
+use Rattle.drawing.specs.Shown.{nodes_of}
+use Rattle.drawing.specs.Words.{words}
+
+abbrev pub mark_style : Mark → List ℕ
+mark_style Honest = []
+mark_style Traitor = codes ", shape=octagon"
+mark_style (Lie general took) = codes ", shape=octagon, color=red, penwidth=2"
+
+abbrev pub outcome_style : Outcome → List ℕ
+outcome_style Divided = codes ", style=dashed"
+outcome_style _ = []
+
+abbrev pub extent_style : Extent → List ℕ
+extent_style Last = []
+extent_style Open = []
+extent_style (Folded count) = codes ", peripheries=2"
+extent_style (Cut count) = codes ", peripheries=2"
+
+-- from the label without its last general, if there is one
+abbrev pub edge : List ℕ → List ℕ
+edge w = if nat_lt (length w) 2 then [] else codes "  \"" ++ dotted (take (length w - 1) w) ++ codes "\" -> \"" ++ dotted w ++ codes "\";\n"
+
+-- a label's box, with what stands in it
+abbrev pub graph_box : Node → List ℕ
+graph_box node = codes "  \"" ++ dotted node.label ++ codes "\" [label=\"" ++ dotted node.label ++ codes "\\n" ++ words (codes "\\n") node
+
+abbrev pub graph_styles : Node → List ℕ
+graph_styles node = codes "\"" ++ mark_style node.mark ++ outcome_style node.outcome ++ extent_style node.extent
+
+abbrev pub graph_node : Node → List ℕ
+graph_node node = graph_box node ++ graph_styles node ++ codes "];\n" ++ edge node.label
+
+abbrev pub graph_nodes : List Node → List ℕ
+graph_nodes nodes = flat_map graph_node nodes
+
+-- what every graph begins with
+unfoldable pub graph_start : List ℕ
+graph_start = codes "digraph tree {\n  rankdir=LR;\n  ordering=out;\n  labelloc=t;\n  node [shape=box];\n"
+
+-- whose tree it is, and what he decides
+unfoldable pub graph_title : ℕ → ℕ → List ℕ
+graph_title p order = codes "  label=\"lieutenant " ++ (decimal p ++ (codes " decides " ++ (decimal order ++ codes "\";\n")))
+
+abbrev pub graph_head : ℕ → ℕ → List ℕ
+graph_head p order = graph_start ++ graph_title p order
+
+unfoldable pub graph_text : MessageTable → List ℕ → View → ℕ → List ℕ
+graph_text t traitors view p = graph_head p (decision_of t p) ++ graph_nodes (nodes_of t traitors view p) ++ codes "}\n"

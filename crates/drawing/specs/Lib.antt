@@ -1,0 +1,9 @@
+pub mod Facts
+pub mod Shown
+pub mod Words
+pub mod Places
+pub mod Lines
+pub mod Graph
+pub mod Rows
+pub mod Svg
+pub mod Laws

@@ -1,0 +1,88 @@
+-- The rows of a picture: lines, a shape and a text for each label.
+use Rattle.std.specs.Prelude.{ℕ, ◌+◌, ◌-◌, ◌*◌, max, List, [], ◌∷◌, ◌++◌, length, codes}
+use Rattle.std.specs.Fmt.{decimal}
+use Rattle.std.specs.List.{flat_map, range_with_len}
+use Rattle.drawing.specs.declared.node.Branch.{Branch}
+use Rattle.drawing.specs.declared.node.Branch.TheVariants.{Tee, Corner, Bar, Gap}
+use Rattle.drawing.specs.declared.node.Extent.{Extent}
+use Rattle.drawing.specs.declared.node.Extent.TheVariants.{Open}
+use Rattle.drawing.specs.declared.node.Mark.{Mark}
+use Rattle.drawing.specs.declared.node.Mark.TheVariants.{Honest, Traitor, Lie}
+use Rattle.drawing.specs.declared.node.Node.{Node}
+use Rattle.drawing.specs.declared.node.Outcome.{Outcome}
+use Rattle.drawing.specs.declared.node.Outcome.TheVariants.{Divided}
+use Rattle.drawing.specs.Places.{branch_at}
+use Rattle.drawing.specs.Words.{said}
+
+-- how far a row reaches: 28 units a general of its label, and 8 a byte of its text
+abbrev pub reach : Node → ℕ
+reach node = 28 * length node.label + 8 * length (said node)
+
+abbrev pub widest : List Node → ℕ
+widest [] = 0
+widest (node ∷ nodes) = max (reach node) (widest nodes)
+
+-- a way from a place at the top of the row
+unfoldable pub way : ℕ → List ℕ → List ℕ
+way left steps = codes "M" ++ (decimal left ++ steps)
+
+abbrev pub branch_way : ℕ → Branch → List ℕ
+branch_way left Tee = way left (codes " 0v24m0-12h22")
+branch_way left Corner = way left (codes " 0v12h22")
+branch_way left Bar = way left (codes " 0v24")
+branch_way left Gap = []
+
+-- the ways of the lines that lead to a label
+abbrev pub branch_ways : ℕ → ℕ → List ℕ → List ℕ
+branch_ways n p w = flat_map (λ i. branch_way (28 * i) (branch_at n p w i)) (range_with_len 0 (length w - 1))
+
+-- the way of the beginning of the lines to the labels below
+unfoldable pub stub : ℕ → Extent → List ℕ
+stub left Open = way left (codes " 18v6")
+stub left _ = []
+
+-- a circle, a square or a diamond, with dashes where no order has a majority
+abbrev pub kind : Mark → List ℕ
+kind Honest = codes "told"
+kind Traitor = codes "word"
+kind (Lie general took) = codes "lie"
+
+abbrev pub outcome_class : Outcome → List ℕ
+outcome_class Divided = codes " split"
+outcome_class _ = []
+
+abbrev pub outline : Mark → List ℕ
+outline Honest = codes " 6a6 6 0 0 1 0 12a6 6 0 0 1 0-12z"
+outline Traitor = codes " 6h6v12h-12v-12z"
+outline (Lie general took) = codes " 4l8 8l-8 8l-8-8z"
+
+unfoldable pub shape : ℕ → Mark → Outcome → List ℕ
+shape left mark outcome = codes "<path class=\"" ++ (kind mark ++ (outcome_class outcome ++ (codes "\" d=\"M" ++ (decimal left ++ (outline mark ++ codes "\"/>")))))
+
+-- what is said of a label, behind its shape
+unfoldable pub word_text : ℕ → Node → List ℕ
+word_text left node = codes "<text x=\"" ++ (decimal left ++ (codes "\" y=\"17\">" ++ (said node ++ codes "</text>")))
+
+-- what a row begins with, so many below the first, and its lines; and what these end in, and it
+unfoldable pub row_start : ℕ → List ℕ
+row_start place = codes "<g transform=\"translate(16 " ++ (decimal (36 + 24 * place) ++ codes ")\">")
+
+unfoldable pub lines_start : List ℕ
+lines_start = codes "<path class=\"line\" d=\""
+
+unfoldable pub lines_end : List ℕ
+lines_end = codes "\"/>"
+
+unfoldable pub row_end : List ℕ
+row_end = codes "</g>\n"
+
+-- the row of a label
+abbrev pub row : ℕ → ℕ → ℕ → Node → List ℕ
+row n p place node =
+    row_start place ++ lines_start ++ branch_ways n p node.label ++ stub (28 * (length node.label - 1)) node.extent ++ lines_end
+    ++ shape (28 * (length node.label - 1)) node.mark node.outcome ++ word_text (28 * (length node.label - 1) + 14) node ++ row_end
+
+-- rows below each other, the first of them so many below the first of all
+unfoldable pub rows_from : ℕ → ℕ → ℕ → List Node → List ℕ
+rows_from n p place [] = []
+rows_from n p place (node ∷ nodes) = row n p place node ++ rows_from n p (place + 1) nodes

@@ -1,0 +1,50 @@
+-- The tree of a lieutenant as a picture in SVG.
+use Rattle.std.specs.Prelude.{ℕ, ◌+◌, ◌*◌, List, ◌++◌, length, codes}
+use Rattle.std.specs.Fmt.{decimal}
+use Rattle.book.specs.Decisions.{decision_of}
+use Rattle.book.specs.Table.{MessageTable}
+use Rattle.drawing.specs.declared.node.View.{View}
+use Rattle.drawing.specs.Rows.{rows_from, widest}
+use Rattle.drawing.specs.Shown.{nodes_of}
+
+-- what every picture begins with
+unfoldable pub start : List ℕ
+start = codes "<svg xmlns=\"http://www.w3.org/2000/svg\" role=\"img\""
+
+unfoldable pub size : ℕ → ℕ → List ℕ
+size width height = codes " width=\"" ++ (decimal width ++ (codes "\" height=\"" ++ (decimal height ++ codes "\"")))
+
+unfoldable pub view_box : ℕ → ℕ → List ℕ
+view_box width height = codes " viewBox=\"0 0 " ++ (decimal width ++ (codes " " ++ (decimal height ++ codes "\">")))
+
+-- whose tree it is, and what he decides: as the picture's title, and as a line above the rows
+unfoldable pub title : ℕ → ℕ → List ℕ
+title p order = codes "<title>lieutenant " ++ (decimal p ++ (codes " decides " ++ (decimal order ++ codes "</title>")))
+
+unfoldable pub heading : ℕ → ℕ → List ℕ
+heading p order = codes "<text x=\"10\" y=\"24\">lieutenant " ++ (decimal p ++ (codes " decides " ++ (decimal order ++ codes "</text>\n")))
+
+-- what is told of the shapes to those who do not see them
+unfoldable pub key : List ℕ
+key =
+    codes "<desc>Each row is a label, below the label that it goes on from, with what he was told of it. Circle: the word of a general who is not named as a traitor, or tells what he took. "
+    ++ codes "Square: the word of a commander who is named. Diamond: a lie. Dashes: no order has a majority.</desc>\n"
+
+-- what the shapes look like: on paper, and on a dark ground where one is wished for
+unfoldable pub look : List ℕ
+look =
+    codes "<style>svg{background:#fff}text{fill:#111;font:14px sans-serif}.line{fill:none;stroke:#767676}.told{fill:#fff;stroke:#111}"
+    ++ codes ".word{fill:#ffd24d;stroke:#111}.lie{fill:#b00020;stroke:#111}.split{stroke-dasharray:3 2}"
+    ++ codes "@media(prefers-color-scheme:dark){svg{background:#111}text{fill:#eee}.told,.word,.lie{stroke:#eee}.told{fill:#111}}</style>\n"
+
+-- what stands before the rows
+abbrev pub head : ℕ → ℕ → List ℕ
+head p order = title p order ++ key ++ look ++ heading p order
+
+-- a picture of this width and height, its head, and its rows
+abbrev pub picture : ℕ → ℕ → List ℕ → List ℕ → List ℕ
+picture width height head rows = start ++ size width height ++ view_box width height ++ head ++ rows ++ codes "</svg>\n"
+
+unfoldable pub svg_text : MessageTable → List ℕ → View → ℕ → List ℕ
+svg_text t traitors view p =
+    picture (48 + widest (nodes_of t traitors view p)) (48 + 24 * length (nodes_of t traitors view p)) (head p (decision_of t p)) (rows_from t.generals p 0 (nodes_of t traitors view p))

@@ -1,0 +1,38 @@
+-- What is said of a label, in words: each phrase but the first behind a stop.
+use Rattle.std.specs.Prelude.{ℕ, List, [], ◌++◌, codes, Option}
+use Rattle.std.specs.Fmt.{decimal}
+use Rattle.book.specs.Explained.{dotted, order_words}
+use Rattle.drawing.specs.declared.node.Outcome.{Outcome}
+use Rattle.drawing.specs.declared.node.Outcome.TheVariants.{Told, Agreed, Divided, Middle}
+use Rattle.drawing.specs.declared.node.Mark.{Mark}
+use Rattle.drawing.specs.declared.node.Mark.TheVariants.{Honest, Traitor, Lie}
+use Rattle.drawing.specs.declared.node.Extent.{Extent}
+use Rattle.drawing.specs.declared.node.Extent.TheVariants.{Last, Open, Folded, Cut}
+use Rattle.drawing.specs.declared.node.Node.{Node}
+
+abbrev pub told_words : Option ℕ → List ℕ
+told_words told = codes "told " ++ order_words told
+
+abbrev pub outcome_words : List ℕ → Outcome → List ℕ
+outcome_words stop Told = []
+outcome_words stop (Agreed order) = stop ++ codes "majority " ++ decimal order
+outcome_words stop Divided = stop ++ codes "no majority, so 0"
+outcome_words stop (Middle order) = stop ++ codes "median " ++ decimal order
+
+abbrev pub mark_words : List ℕ → Mark → List ℕ
+mark_words stop Honest = []
+mark_words stop Traitor = stop ++ codes "by a traitor"
+mark_words stop (Lie general took) = stop ++ codes "a lie, " ++ decimal general ++ codes " took " ++ decimal took
+
+abbrev pub extent_words : List ℕ → Extent → List ℕ
+extent_words stop Last = []
+extent_words stop Open = []
+extent_words stop (Folded count) = stop ++ decimal count ++ codes " below told the same"
+extent_words stop (Cut count) = stop ++ decimal count ++ codes " below not shown"
+
+abbrev pub words : List ℕ → Node → List ℕ
+words stop node = told_words node.told ++ outcome_words stop node.outcome ++ mark_words stop node.mark ++ extent_words stop node.extent
+
+-- a label with what is said of it, on one line
+abbrev pub said : Node → List ℕ
+said node = dotted node.label ++ codes ": " ++ words (codes "; ") node

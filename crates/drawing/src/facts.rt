@@ -1,0 +1,270 @@
+//! What a message table says of a label, to one lieutenant.
+ghost use Rattle.std.specs.Prelude.{◌≡◌, ◌≤◌, ◌<◌, ◌+◌, ◌*◌, ◌^◌, ◌∷◌, ◌++◌, [], suc, length, true};
+ghost use Rattle.combine.specs.Rule.{is_most};
+ghost use Rattle.label.specs.Labels.{on};
+ghost use Rattle.book.specs.Conditions.{is_told};
+ghost use Rattle.book.specs.Explained.{held, list_of};
+ghost use Rattle.book.specs.Grammar.{is_place};
+ghost use Rattle.drawing.specs.Facts.{below, extent_at, is_alike, is_alike_by, is_honest, is_same, mark_at, node_at, outcome_at, outcome_of, tells};
+
+use crate::node::{Extent, Mark, Node, Outcome, View};
+use arrayvec::ArrayVec;
+use book::Table;
+use combine::{Combine, Rule};
+use label::Label;
+
+/// What the lieutenant holds of a label, with so many relays left: what he was told or, above the longest labels, what
+/// his list comes to.
+#[cycle(lists)]
+fn held(table: &Table, general: u8, label: &Label, relays: u8) -> Option<u32>
+    requires place { is_place table.now label.now general ≡ true }
+    requires relays { length label.now + relays ≡ table.now.bound + 1 }
+    ensures { result ≡ held table.now relays label.now general }
+{
+    if relays == 0 {
+        return table.told(label, general);
+    }
+    let orders = orders(table, general, label, relays - 1);
+    Some(table.rule().combine(orders.as_slice()))
+}
+
+/// The list that the lieutenant combines at a label, with so many relays left behind the next general.
+#[cycle(lists)]
+fn orders(table: &Table, general: u8, label: &Label, relays: u8) -> ArrayVec<u32, 13>
+    requires place { is_place table.now label.now general ≡ true }
+    requires relays { length label.now + relays ≡ table.now.bound }
+    ensures { result.items ≡ list_of table.now relays label.now general }
+{
+    let mut orders: ArrayVec<u32, 13> = ArrayVec::new();
+    for other in 0..table.generals() {
+        if other == general {
+            orders.push(table.told(label, general).unwrap_or(0));
+        } else if !label.has(other) {
+            orders.push(held(table, general, &label.with(other), relays).unwrap_or(0));
+        }
+    }
+    orders
+}
+
+/// What the list of a label comes to, with so many relays left.
+fn outcome(table: &Table, general: u8, label: &Label, relays: u8) -> Outcome
+    requires place { is_place table.now label.now general ≡ true }
+    requires relays { length label.now + relays ≡ table.now.bound + 1 }
+    ensures { result ≡ outcome_at table.now relays label.now general }
+{
+    if relays == 0 {
+        return Outcome::Told;
+    }
+    let orders = orders(table, general, label, relays - 1);
+    outcome_of(table.rule(), orders.as_slice())
+}
+
+/// What a list comes to.
+fn outcome_of(rule: Rule, orders: &[u32]) -> Outcome
+    ensures { result ≡ outcome_of rule orders.now }
+{
+    let order = rule.combine(orders);
+    match rule {
+        Rule::Median => Outcome::Middle(order),
+        Rule::Majority => {
+            if is_most(orders, order) {
+                Outcome::Agreed(order)
+            } else {
+                Outcome::Divided
+            }
+        }
+    }
+}
+
+/// Whether the order stands in more than half of the places.
+fn is_most(orders: &[u32], order: u32) -> bool
+    ensures { result ≡ is_most orders.now order }
+{
+    let count = orders.iter().filter(|x| **x == order).count();
+    count > orders.len() - count
+}
+
+/// Whether the general is named.
+pub(crate) fn is_named(traitors: &[u8], general: u8) -> bool
+    ensures { result ≡ on traitors.now general }
+{
+    traitors.iter().any(|x| *x == general)
+}
+
+/// Whether this order was told.
+fn is_told(order: u32, told: Option<u32>) -> bool
+    ensures { result ≡ is_told order told }
+{
+    match told {
+        Some(other) => other == order,
+        None => false,
+    }
+}
+
+/// Whether the same was told, or nothing both times.
+fn is_same(one: Option<u32>, other: Option<u32>) -> bool
+    ensures { result ≡ is_same one other }
+{
+    match one {
+        Some(order) => is_told(order, other),
+        None => other.is_none(),
+    }
+}
+
+/// How far the word of this general is to be trusted, who tells the lieutenant of a label: of the next label, which has him
+/// behind it.
+pub(crate) fn mark(
+    table: &Table,
+    traitors: &[u8],
+    general: u8,
+    label: &Label,
+    teller: u8,
+    next: &Label,
+) -> Mark
+    requires next { next.now ≡ label.now ++ teller ∷ [] }
+    requires place { is_place table.now next.now general ≡ true }
+    ensures { result ≡ mark_at table.now traitors.now label.now teller general }
+{
+    let _size = label.len();
+    let took = table.told(label, teller).unwrap_or(0);
+    let told = table.told(next, general);
+    if is_named(traitors, teller) && !is_told(took, told) {
+        Mark::Lie(teller, took)
+    } else {
+        Mark::Honest
+    }
+}
+
+/// Whether the lieutenant is told the same of a label and of the next one, and this is no lie.
+fn tells(
+    table: &Table,
+    traitors: &[u8],
+    general: u8,
+    label: &Label,
+    teller: u8,
+    next: &Label,
+) -> bool
+    requires next { next.now ≡ label.now ++ teller ∷ [] }
+    requires place { is_place table.now next.now general ≡ true }
+    ensures { result ≡ tells table.now traitors.now label.now teller general }
+{
+    let _size = label.len();
+    let mark = mark(table, traitors, general, label, teller, next);
+    is_same(table.told(next, general), table.told(label, general)) && is_honest(mark)
+}
+
+/// Whether it is no lie.
+fn is_honest(mark: Mark) -> bool
+    ensures { result ≡ is_honest mark }
+{
+    matches!(mark, Mark::Honest)
+}
+
+/// Whether the lieutenant is told the same of a label and of all that go on from it, with so many relays left, and none of
+/// these is a lie.
+#[cycle(alike)]
+fn is_alike(table: &Table, traitors: &[u8], general: u8, label: &Label, relays: u8) -> bool
+    requires place { is_place table.now label.now general ≡ true }
+    requires relays { length label.now + relays ≡ table.now.bound + 1 }
+    ensures { result ≡ is_alike table.now traitors.now relays label.now general }
+{
+    if relays == 0 {
+        return true;
+    }
+    let mut is_so = true;
+    for other in 0..table.generals() {
+        if other != general && !label.has(other) {
+            let next = label.with(other);
+            is_so = is_so && is_alike_by(table, traitors, general, label, other, &next, relays - 1);
+        }
+    }
+    is_so
+}
+
+/// The same of a label, the next one, and all that go on from that.
+#[cycle(alike)]
+fn is_alike_by(
+    table: &Table,
+    traitors: &[u8],
+    general: u8,
+    label: &Label,
+    teller: u8,
+    next: &Label,
+    relays: u8,
+) -> bool
+    requires next { next.now ≡ label.now ++ teller ∷ [] }
+    requires place { is_place table.now next.now general ≡ true }
+    requires relays { length next.now + relays ≡ table.now.bound + 1 }
+    ensures { result ≡ is_alike_by table.now traitors.now relays label.now teller general }
+{
+    tells(table, traitors, general, label, teller, next)
+        && is_alike(table, traitors, general, next, relays)
+}
+
+/// How many labels go on from one of this size and lack the lieutenant, with so many relays left.
+fn below(generals: u8, size: u8, relays: u8) -> u32
+    requires few { generals ≤ 13 }
+    requires rounds { relays ≤ 4 }
+    requires size { size + relays ≤ 13 }
+    ensures value { result ≡ below generals size relays }
+    ensures small { result < 13 ^ relays }
+{
+    if relays == 0 {
+        return 0;
+    }
+    let children = u32::from(generals.saturating_sub(1).saturating_sub(size));
+    children * (1 + below(generals, size + 1, relays - 1))
+}
+
+/// Whether the labels below a label are shown.
+fn extent(
+    table: &Table,
+    traitors: &[u8],
+    view: View,
+    general: u8,
+    label: &Label,
+    relays: u8,
+) -> Extent
+    requires place { is_place table.now label.now general ≡ true }
+    requires relays { length label.now + relays ≡ table.now.bound + 1 }
+    ensures { result ≡ extent_at table.now traitors.now view relays label.now general }
+{
+    if relays == 0 {
+        return Extent::Last;
+    }
+    let count = below(table.generals(), label.len() as u8, relays);
+    if view.folds && is_alike(table, traitors, general, label, relays) {
+        Extent::Folded(count)
+    } else if view.depth == 0 {
+        Extent::Cut(count)
+    } else {
+        Extent::Open
+    }
+}
+
+/// What is said of a label, with so many relays left.
+#[tactic(auto, unfolding(crate::specs::Facts::node_at))]
+pub(crate) fn node(
+    table: &Table,
+    traitors: &[u8],
+    view: View,
+    general: u8,
+    label: Label,
+    mark: Mark,
+    relays: u8,
+) -> Node
+    requires place { is_place table.now label general ≡ true }
+    requires relays { length label + relays ≡ table.now.bound + 1 }
+    ensures { result ≡ node_at table.now traitors.now view mark relays label general }
+{
+    let told = table.told(&label, general);
+    let outcome = outcome(table, general, &label, relays);
+    let extent = extent(table, traitors, view, general, &label, relays);
+    Node {
+        label,
+        told,
+        outcome,
+        mark,
+        extent,
+    }
+}

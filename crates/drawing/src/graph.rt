@@ -1,0 +1,147 @@
+//! A lieutenant's tree as a graph, for the program dot of Graphviz.
+ghost use Rattle.std.specs.Prelude.{◌≡◌, ◌≢◌, ◌<◌, ◌++◌, string_bytes, IfOk, OnOk};
+ghost use Rattle.drawing.specs.Graph.{edge, extent_style, graph_box, graph_head, graph_node, graph_nodes, graph_start, graph_styles, graph_text, graph_title, mark_style, outcome_style};
+
+use crate::node::{Extent, Mark, Node, Outcome, View};
+use crate::places::put_label;
+use crate::shown::nodes;
+use crate::words::put_words;
+use book::{Table, decision};
+use std::alloc::{AllocError, Global};
+
+/// The tree of what a lieutenant was told, as a graph: a box for each label that is shown, an octagon for a lie, with dashes
+/// where no order has a majority, and doubled where labels below are not shown.
+///
+/// # Errors
+///
+/// No memory for the text.
+#[tactic(auto, unfolding(crate::specs::Graph::graph_text))]
+pub fn tree_graph(
+    alloc: Global,
+    table: &Table,
+    traitors: &[u8],
+    view: View,
+    general: u8,
+) -> Result<String, AllocError>
+    requires general { general < table.now.generals }
+    requires lieutenant { general ≢ table.now.commander }
+    ensures { IfOk result (λ text. string_bytes text ≡ graph_text table.now traitors.now view general) }
+{
+    let nodes = nodes(alloc, table, traitors, view, general)?;
+    let mut text = String::new(alloc);
+    put_head(&mut text, general, decision(table, general))?;
+    put_nodes(&mut text, nodes.as_slice())?;
+    text.push_str("}\n")?;
+    Ok(text)
+}
+
+/// Adds what stands before the labels.
+fn put_head(out: &mut String, general: u8, order: u32) -> Result<(), AllocError>
+    ensures { OnOk result (string_bytes out.new ≡ string_bytes out.old ++ graph_head general order) }
+{
+    out.push_str(start())?;
+    put_title(out, general, order)
+}
+
+/// What every graph begins with.
+#[tactic(auto, unfolding(crate::specs::Graph::graph_start))]
+fn start() -> &'static str
+    ensures { result.now ≡ graph_start }
+{
+    "digraph tree {\n  rankdir=LR;\n  ordering=out;\n  labelloc=t;\n  node [shape=box];\n"
+}
+
+/// Adds whose tree it is, and what he decides.
+#[tactic(auto, unfolding(crate::specs::Graph::graph_title))]
+fn put_title(out: &mut String, general: u8, order: u32) -> Result<(), AllocError>
+    ensures { OnOk result (string_bytes out.new ≡ string_bytes out.old ++ graph_title general order) }
+{
+    write!(out, "  label=\"lieutenant {general} decides {order}\";\n")
+}
+
+/// Adds these labels.
+fn put_nodes(out: &mut String, nodes: &[Node]) -> Result<(), AllocError>
+    ensures { OnOk result (string_bytes out.new ≡ string_bytes out.old ++ graph_nodes nodes.now) }
+{
+    for node in nodes {
+        put_node(out, node)?;
+    }
+    Ok(())
+}
+
+/// Adds a label, and the edge that leads to it.
+fn put_node(out: &mut String, node: &Node) -> Result<(), AllocError>
+    ensures { OnOk result (string_bytes out.new ≡ string_bytes out.old ++ graph_node node.now) }
+{
+    put_box(out, node)?;
+    put_styles(out, node)?;
+    out.push_str("];\n")?;
+    put_edge(out, node.label.generals())
+}
+
+/// Adds the box of a label: its name, and what stands in it.
+fn put_box(out: &mut String, node: &Node) -> Result<(), AllocError>
+    ensures { OnOk result (string_bytes out.new ≡ string_bytes out.old ++ graph_box node.now) }
+{
+    out.push_str("  \"")?;
+    put_label(out, node.label.generals())?;
+    out.push_str("\" [label=\"")?;
+    put_label(out, node.label.generals())?;
+    out.push_str("\\n")?;
+    put_words(out, "\\n", node)
+}
+
+/// Adds how a label is drawn.
+fn put_styles(out: &mut String, node: &Node) -> Result<(), AllocError>
+    ensures { OnOk result (string_bytes out.new ≡ string_bytes out.old ++ graph_styles node.now) }
+{
+    let mark = mark_style(node.mark);
+    let outcome = outcome_style(node.outcome);
+    let extent = extent_style(node.extent);
+    write!(out, "\"{mark}{outcome}{extent}")
+}
+
+/// Adds the edge from the label that this one goes on from, if there is one.
+fn put_edge(out: &mut String, label: &[u8]) -> Result<(), AllocError>
+    ensures { OnOk result (string_bytes out.new ≡ string_bytes out.old ++ edge label.now) }
+{
+    if label.len() < 2 {
+        return Ok(());
+    }
+    out.push_str("  \"")?;
+    put_label(out, &label[..label.len() - 1])?;
+    out.push_str("\" -> \"")?;
+    put_label(out, label)?;
+    out.push_str("\";\n")
+}
+
+/// How a label is drawn by whose word it is.
+fn mark_style(mark: Mark) -> &'static str
+    ensures { result.now ≡ mark_style mark }
+{
+    match mark {
+        Mark::Honest => "",
+        Mark::Traitor => ", shape=octagon",
+        Mark::Lie(_, _) => ", shape=octagon, color=red, penwidth=2",
+    }
+}
+
+/// How it is drawn by what its list comes to.
+fn outcome_style(outcome: Outcome) -> &'static str
+    ensures { result.now ≡ outcome_style outcome }
+{
+    match outcome {
+        Outcome::Divided => ", style=dashed",
+        Outcome::Told | Outcome::Agreed(_) | Outcome::Middle(_) => "",
+    }
+}
+
+/// How it is drawn by what is shown below.
+fn extent_style(extent: Extent) -> &'static str
+    ensures { result.now ≡ extent_style extent }
+{
+    match extent {
+        Extent::Folded(_) | Extent::Cut(_) => ", peripheries=2",
+        Extent::Last | Extent::Open => "",
+    }
+}

@@ -1,0 +1,12 @@
+//! Laws of what is said and drawn: each function does nothing, and its contract is the law.
+ghost use Rattle.drawing.specs.Laws.{OutcomesAreExplained, PicturesAreElements};
+
+/// What is said of a label's list are the words by which `book::explain` says what it comes to.
+pub fn outcomes_are_explained()
+    ensures { OutcomesAreExplained }
+{}
+
+/// Each picture in SVG is one element, by the grammar of XML, and a line feed.
+pub fn pictures_are_elements()
+    ensures { PicturesAreElements }
+{}

@@ -1,0 +1,21 @@
+//! Pictures of what a lieutenant was told: his tree of messages (Lynch, Distributed Algorithms, section 6.2), as lines of
+//! text, as a graph for Graphviz, and as SVG.
+#![tactic(auto)]
+
+mod facts;
+mod graph;
+mod laws;
+mod lines;
+mod node;
+mod places;
+mod rows;
+mod shown;
+mod svg;
+mod words;
+
+pub use graph::tree_graph;
+pub use laws::{outcomes_are_explained, pictures_are_elements};
+pub use lines::tree_text;
+pub use node::{Branch, Extent, Mark, Node, Outcome, Style, View};
+pub use shown::nodes;
+pub use svg::tree_svg;

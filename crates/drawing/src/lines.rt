@@ -1,0 +1,126 @@
+//! A lieutenant's tree as lines of text.
+ghost use Rattle.std.specs.Prelude.{◌≡◌, ◌≢◌, ◌<◌, ◌++◌, string_bytes, IfOk, OnOk};
+ghost use Rattle.book.specs.Explained.{decision_line, mark};
+ghost use Rattle.drawing.specs.Lines.{branch_text, branches_text, node_line, node_lines, tree_text};
+
+use crate::facts::is_named;
+use crate::node::{Branch, Node, Style, View};
+use crate::places::branch_at;
+use crate::shown::nodes;
+use crate::words::put_said;
+use book::{Table, decision};
+use std::alloc::{AllocError, Global};
+
+/// The tree of what a lieutenant was told: a line for each label that is shown, below the label that it goes on from, with
+/// what he was told, what his list comes to, and whether it is a lie of one who is named as a traitor; then his decision.
+///
+/// # Errors
+///
+/// No memory for the text.
+#[tactic(auto, unfolding(crate::specs::Lines::tree_text))]
+pub fn tree_text(
+    alloc: Global,
+    table: &Table,
+    traitors: &[u8],
+    view: View,
+    style: Style,
+    general: u8,
+) -> Result<String, AllocError>
+    requires general { general < table.now.generals }
+    requires lieutenant { general ≢ table.now.commander }
+    ensures { IfOk result (λ text. string_bytes text ≡ tree_text table.now traitors.now view style general) }
+{
+    let nodes = nodes(alloc, table, traitors, view, general)?;
+    let mut text = format!(in alloc; "lieutenant {general}\n")?;
+    put_nodes(
+        &mut text,
+        style,
+        table.generals(),
+        general,
+        nodes.as_slice(),
+    )?;
+    put_decision(
+        &mut text,
+        general,
+        is_named(traitors, general),
+        decision(table, general),
+    )?;
+    Ok(text)
+}
+
+/// Adds the lines of these labels.
+fn put_nodes(
+    out: &mut String,
+    style: Style,
+    generals: u8,
+    general: u8,
+    nodes: &[Node],
+) -> Result<(), AllocError>
+    ensures { OnOk result (string_bytes out.new ≡ string_bytes out.old ++ node_lines style generals general nodes.now) }
+{
+    for node in nodes {
+        put_node(out, style, generals, general, node)?;
+    }
+    Ok(())
+}
+
+/// Adds the line of a label.
+fn put_node(
+    out: &mut String,
+    style: Style,
+    generals: u8,
+    general: u8,
+    node: &Node,
+) -> Result<(), AllocError>
+    ensures { OnOk result (string_bytes out.new ≡ string_bytes out.old ++ node_line style generals general node.now) }
+{
+    put_branches(out, style, generals, general, node.label.generals())?;
+    put_said(out, node)?;
+    out.push_str("\n")
+}
+
+/// Adds the lines that lead to a label.
+fn put_branches(
+    out: &mut String,
+    style: Style,
+    generals: u8,
+    general: u8,
+    label: &[u8],
+) -> Result<(), AllocError>
+    ensures { OnOk result (string_bytes out.new ≡ string_bytes out.old ++ branches_text style generals general label.now) }
+{
+    for place in 0..label.len().saturating_sub(1) {
+        out.push_str(branch_text(style, branch_at(generals, general, label, place)))?;
+    }
+    Ok(())
+}
+
+/// A line between labels, as it is drawn.
+fn branch_text(style: Style, branch: Branch) -> &'static str
+    ensures { result.now ≡ branch_text style branch }
+{
+    match (style, branch) {
+        (Style::Ascii, Branch::Tee) => "|-- ",
+        (Style::Ascii, Branch::Corner) => "`-- ",
+        (Style::Ascii, Branch::Bar) => "|   ",
+        (Style::Boxes, Branch::Tee) => "├── ",
+        (Style::Boxes, Branch::Corner) => "└── ",
+        (Style::Boxes, Branch::Bar) => "│   ",
+        (_, Branch::Gap) => "    ",
+    }
+}
+
+/// Adds the line of the decision.
+fn put_decision(out: &mut String, general: u8, is_named: bool, order: u32) -> Result<(), AllocError>
+    ensures { OnOk result (string_bytes out.new ≡ string_bytes out.old ++ decision_line general is_named order) }
+{
+    let mark = mark(is_named);
+    write!(out, "decision {general}{mark}{order}\n")
+}
+
+/// What marks the decision of one who is named.
+fn mark(named: bool) -> &'static str
+    ensures { result.now ≡ mark named }
+{
+    if named { " traitor " } else { " " }
+}

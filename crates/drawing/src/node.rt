@@ -1,0 +1,85 @@
+//! What a picture says of a label.
+use label::Label;
+
+/// What the list of a label comes to.
+#[derive(Clone, Copy, Debug, PartialEq, Eq, Drop)]
+pub enum Outcome {
+    /// No relay is left, so there is no list: what was told counts.
+    Told,
+    /// This order stands in more than half of the places.
+    Agreed(u32),
+    /// No order stands in more than half of the places, so it is RETREAT.
+    Divided,
+    /// This order is the median.
+    Middle(u32),
+}
+
+/// How far the word of a label's last general is to be trusted.
+#[derive(Clone, Copy, Debug, PartialEq, Eq, Drop)]
+pub enum Mark {
+    /// He is not named as a traitor, or told what he took.
+    Honest,
+    /// He is the commander, and named as a traitor.
+    Traitor,
+    /// This general is named as a traitor, and took this order, but told another one, or nothing.
+    Lie(u8, u32),
+}
+
+/// Whether labels below a label are shown.
+#[derive(Clone, Copy, Debug, PartialEq, Eq, Drop)]
+pub enum Extent {
+    /// There are none.
+    Last,
+    /// They are.
+    Open,
+    /// They are not: so many were told the same as the label, and none of them is a lie.
+    Folded(u32),
+    /// They are not, since so many are deeper than was asked for.
+    Cut(u32),
+}
+
+/// How much of a tree is shown.
+#[derive(Clone, Copy, Debug, PartialEq, Eq, Drop)]
+pub struct View {
+    /// How many levels below the commander's, of 0 to 4.
+    pub depth: u8,
+    /// Whether labels are folded into one above them, where all tell the same.
+    pub folds: bool,
+}
+
+/// How the lines between labels are drawn in a text.
+#[derive(Clone, Copy, Debug, PartialEq, Eq, Drop)]
+pub enum Style {
+    /// By characters of ASCII.
+    Ascii,
+    /// By box-drawing characters, in UTF-8.
+    Boxes,
+}
+
+/// The line between labels that a row has below one of its label's generals.
+#[derive(Clone, Copy, Debug, PartialEq, Eq, Drop)]
+pub enum Branch {
+    /// To this row, and on.
+    Tee,
+    /// To this row, the last.
+    Corner,
+    /// Past this row.
+    Bar,
+    /// None: the last has been.
+    Gap,
+}
+
+/// What is said of a label.
+#[derive(Drop)]
+pub struct Node {
+    /// Whom the order came through.
+    pub label: Label,
+    /// What the lieutenant was told, 0 for RETREAT, if anything.
+    pub told: Option<u32>,
+    /// What his list of the label comes to.
+    pub outcome: Outcome,
+    /// Whether what was told is a lie.
+    pub mark: Mark,
+    /// Whether the labels below are shown.
+    pub extent: Extent,
+}

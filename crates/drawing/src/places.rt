@@ -1,0 +1,72 @@
+//! Where a label stands in a tree: its name, and the lines that lead to it.
+ghost use Rattle.std.specs.Prelude.{◌≡◌, ◌<◌, ◌+◌, ◌++◌, ◌∷◌, length, string_bytes, OnOk};
+ghost use Rattle.label.specs.Labels.{on};
+ghost use Rattle.book.specs.Explained.{dotted};
+ghost use Rattle.drawing.specs.Places.{branch_at, branch_of, is_last, later_names};
+
+use crate::node::Branch;
+use std::alloc::AllocError;
+
+/// Adds a label as it is written: its generals, joined by dots.
+pub(crate) fn put_label(out: &mut String, label: &[u8]) -> Result<(), AllocError>
+    ensures { OnOk result (string_bytes out.new ≡ string_bytes out.old ++ dotted label.now) }
+{
+    match label {
+        [] => Ok(()),
+        [first, rest @ ..] => {
+            write!(out, "{first}")?;
+            put_rest(out, rest)
+        }
+    }
+}
+
+/// Adds generals, each behind a dot.
+fn put_rest(out: &mut String, rest: &[u8]) -> Result<(), AllocError>
+    ensures { OnOk result (string_bytes out.new ≡ string_bytes out.old ++ later_names rest.now) }
+{
+    for general in rest {
+        write!(out, ".{general}")?;
+    }
+    Ok(())
+}
+
+/// Whether no other label with the same generals before comes behind this general's.
+fn is_last(generals: u8, general: u8, before: &[u8], teller: u8) -> bool
+    ensures { result ≡ is_last generals (general ∷ before.now) teller }
+{
+    let mut is_last = true;
+    for other in 0..generals {
+        if other != general && !has(before, other) {
+            is_last = is_last && other <= teller;
+        }
+    }
+    is_last
+}
+
+/// Whether the general stands in the list.
+fn has(generals: &[u8], general: u8) -> bool
+    ensures { result ≡ on generals.now general }
+{
+    generals.iter().any(|x| *x == general)
+}
+
+/// The line that a row has below the general at this place of its label, the next behind it being the last of his or not.
+pub(crate) fn branch_at(generals: u8, general: u8, label: &[u8], place: usize) -> Branch
+    requires { place + 1 < length label.now }
+    ensures { result ≡ branch_at generals general label.now place }
+{
+    let is_last = is_last(generals, general, &label[..place + 1], label[place + 1]);
+    branch_of(is_last, place + 2 == label.len())
+}
+
+/// The same, where it is known whether it leads to the row.
+fn branch_of(is_last: bool, is_here: bool) -> Branch
+    ensures { result ≡ branch_of is_last is_here }
+{
+    match (is_last, is_here) {
+        (true, true) => Branch::Corner,
+        (false, true) => Branch::Tee,
+        (true, false) => Branch::Gap,
+        (false, false) => Branch::Bar,
+    }
+}

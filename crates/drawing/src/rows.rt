@@ -1,0 +1,200 @@
+//! The rows of a picture, each 24 units high, with 28 units between a label and one that goes on from it.
+ghost use Rattle.std.specs.Prelude.{◌≡◌, ◌≤◌, ◌<◌, ◌^◌, ◌++◌, length, string_bytes, IfOk, OnOk};
+ghost use Rattle.drawing.specs.Rows.{branch_way, branch_ways, kind, lines_end, lines_start, outcome_class, outline, reach, row, row_end, row_start, rows_from, shape, stub, way, widest, word_text};
+
+use crate::node::{Branch, Extent, Mark, Node, Outcome};
+use crate::places::branch_at;
+use crate::words::put_said;
+use std::alloc::{AllocError, Global};
+
+/// How far the widest row reaches to the right of the first label's place.
+pub(crate) fn widest(alloc: Global, nodes: &[Node]) -> Result<u128, AllocError>
+    ensures width { IfOk result (λ width. width ≡ widest nodes.now) }
+    ensures small { IfOk result (λ width. width < 2 ^ 100) }
+{
+    let mut widest = 0;
+    for node in nodes {
+        widest = reach(alloc, node)?.max(widest);
+    }
+    Ok(widest)
+}
+
+/// How far a row reaches: 28 units for each general of its label, and 8 for each byte of its text.
+fn reach(alloc: Global, node: &Node) -> Result<u128, AllocError>
+    ensures width { IfOk result (λ width. width ≡ reach node.now) }
+    ensures small { IfOk result (λ width. width < 2 ^ 100) }
+{
+    let mut text = String::new(alloc);
+    put_said(&mut text, node)?;
+    Ok(28 * node.label.len() as u128 + 8 * text.len() as u128)
+}
+
+/// Adds the rows of these labels.
+pub(crate) fn put_rows(
+    out: &mut String,
+    generals: u8,
+    general: u8,
+    nodes: &[Node],
+) -> Result<(), AllocError>
+    ensures { OnOk result (string_bytes out.new ≡ string_bytes out.old ++ rows_from generals general 0 nodes.now) }
+{
+    for (place, node) in nodes.iter().enumerate() {
+        put_row(out, generals, general, place, node)?;
+    }
+    Ok(())
+}
+
+/// Adds the row of a label, so many below the first.
+fn put_row(
+    out: &mut String,
+    generals: u8,
+    general: u8,
+    place: usize,
+    node: &Node,
+) -> Result<(), AllocError>
+    ensures { OnOk result (string_bytes out.new ≡ string_bytes out.old ++ row generals general place node.now) }
+{
+    let label = node.label.generals();
+    let left = 28 * label.len().saturating_sub(1);
+    put_start(out, place)?;
+    out.push_str(lines_start())?;
+    put_branches(out, generals, general, label)?;
+    put_stub(out, left, node.extent)?;
+    out.push_str(lines_end())?;
+    put_shape(out, left, node.mark, node.outcome)?;
+    put_word(out, left + 14, node)?;
+    out.push_str(row_end())?;
+    Ok(())
+}
+
+/// Adds what a row begins with.
+#[tactic(auto, unfolding(crate::specs::Rows::row_start))]
+fn put_start(out: &mut String, place: usize) -> Result<(), AllocError>
+    ensures { OnOk result (string_bytes out.new ≡ string_bytes out.old ++ row_start place) }
+{
+    let top = 36 + 24 * place as u128;
+    write!(out, "<g transform=\"translate(16 {top})\">")
+}
+
+/// What its lines begin with.
+#[tactic(auto, unfolding(crate::specs::Rows::lines_start))]
+fn lines_start() -> &'static str
+    ensures { result.now ≡ lines_start }
+{
+    "<path class=\"line\" d=\""
+}
+
+/// What its lines end in.
+#[tactic(auto, unfolding(crate::specs::Rows::lines_end))]
+fn lines_end() -> &'static str
+    ensures { result.now ≡ lines_end }
+{
+    "\"/>"
+}
+
+/// What a row ends in.
+#[tactic(auto, unfolding(crate::specs::Rows::row_end))]
+fn row_end() -> &'static str
+    ensures { result.now ≡ row_end }
+{
+    "</g>\n"
+}
+
+/// Adds what is said of a label.
+#[tactic(auto, unfolding(crate::specs::Rows::word_text))]
+fn put_word(out: &mut String, left: usize, node: &Node) -> Result<(), AllocError>
+    ensures { OnOk result (string_bytes out.new ≡ string_bytes out.old ++ word_text left node.now) }
+{
+    write!(out, "<text x=\"{left}\" y=\"17\">")?;
+    put_said(out, node)?;
+    out.push_str("</text>")?;
+    Ok(())
+}
+
+/// Adds the ways of the lines that lead to a label.
+fn put_branches(out: &mut String, generals: u8, general: u8, label: &[u8]) -> Result<(), AllocError>
+    requires { length label.now ≤ 13 }
+    ensures { OnOk result (string_bytes out.new ≡ string_bytes out.old ++ branch_ways generals general label.now) }
+{
+    for place in 0..label.len().saturating_sub(1) {
+        put_branch(out, 28 * place, branch_at(generals, general, label, place))?;
+    }
+    Ok(())
+}
+
+/// Adds the way of a line between labels.
+fn put_branch(out: &mut String, left: usize, branch: Branch) -> Result<(), AllocError>
+    ensures { OnOk result (string_bytes out.new ≡ string_bytes out.old ++ branch_way left branch) }
+{
+    match branch {
+        Branch::Tee => put_way(out, left, " 0v24m0-12h22"),
+        Branch::Corner => put_way(out, left, " 0v12h22"),
+        Branch::Bar => put_way(out, left, " 0v24"),
+        Branch::Gap => Ok(()),
+    }
+}
+
+/// Adds a way from a place at the top of the row.
+#[tactic(auto, unfolding(crate::specs::Rows::way))]
+fn put_way(out: &mut String, left: usize, steps: &str) -> Result<(), AllocError>
+    ensures { OnOk result (string_bytes out.new ≡ string_bytes out.old ++ way left steps.now) }
+{
+    write!(out, "M{left}{steps}")
+}
+
+/// Adds the way of the beginning of the lines to the labels below.
+#[tactic(auto, unfolding(crate::specs::Rows::stub))]
+fn put_stub(out: &mut String, left: usize, extent: Extent) -> Result<(), AllocError>
+    ensures { OnOk result (string_bytes out.new ≡ string_bytes out.old ++ stub left extent) }
+{
+    match extent {
+        Extent::Open => put_way(out, left, " 18v6"),
+        Extent::Last | Extent::Folded(_) | Extent::Cut(_) => Ok(()),
+    }
+}
+
+/// Adds the shape of a label.
+#[tactic(auto, unfolding(crate::specs::Rows::shape))]
+fn put_shape(out: &mut String, left: usize, mark: Mark, outcome: Outcome) -> Result<(), AllocError>
+    ensures { OnOk result (string_bytes out.new ≡ string_bytes out.old ++ shape left mark outcome) }
+{
+    let kind = kind(mark);
+    let class = outcome_class(outcome);
+    let outline = outline(mark);
+    write!(
+        out,
+        "<path class=\"{kind}{class}\" d=\"M{left}{outline}\"/>"
+    )
+}
+
+/// The class of a shape.
+fn kind(mark: Mark) -> &'static str
+    ensures { result.now ≡ kind mark }
+{
+    match mark {
+        Mark::Honest => "told",
+        Mark::Traitor => "word",
+        Mark::Lie(_, _) => "lie",
+    }
+}
+
+/// Its further class.
+fn outcome_class(outcome: Outcome) -> &'static str
+    ensures { result.now ≡ outcome_class outcome }
+{
+    match outcome {
+        Outcome::Divided => " split",
+        Outcome::Told | Outcome::Agreed(_) | Outcome::Middle(_) => "",
+    }
+}
+
+/// Its outline: a circle, a square or a diamond.
+fn outline(mark: Mark) -> &'static str
+    ensures { result.now ≡ outline mark }
+{
+    match mark {
+        Mark::Honest => " 6a6 6 0 0 1 0 12a6 6 0 0 1 0-12z",
+        Mark::Traitor => " 6h6v12h-12v-12z",
+        Mark::Lie(_, _) => " 4l8 8l-8 8l-8-8z",
+    }
+}

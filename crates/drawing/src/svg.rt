@@ -1,0 +1,113 @@
+//! A lieutenant's tree as a picture in SVG: a row for each label, below that of the label that it goes on from.
+ghost use Rattle.std.specs.Prelude.{◌≡◌, ◌≢◌, ◌<◌, ◌^◌, ◌++◌, string_bytes, IfOk, OnOk};
+ghost use Rattle.drawing.specs.Svg.{head, heading, key, look, size, start, svg_text, title, view_box};
+
+use crate::node::View;
+use crate::rows::{put_rows, widest};
+use crate::shown::nodes;
+use book::{Table, decision};
+use std::alloc::{AllocError, Global};
+
+/// The tree of what a lieutenant was told, in SVG: a circle for each label that is shown, a square for the word of a
+/// commander who is named as a traitor, a diamond for a lie, and dashes where no order has a majority.
+///
+/// # Errors
+///
+/// No memory for the text.
+#[tactic(auto, unfolding(crate::specs::Svg::svg_text))]
+pub fn tree_svg(
+    alloc: Global,
+    table: &Table,
+    traitors: &[u8],
+    view: View,
+    general: u8,
+) -> Result<String, AllocError>
+    requires general { general < table.now.generals }
+    requires lieutenant { general ≢ table.now.commander }
+    ensures { IfOk result (λ text. string_bytes text ≡ svg_text table.now traitors.now view general) }
+{
+    let nodes = nodes(alloc, table, traitors, view, general)?;
+    let width = 48 + widest(alloc, nodes.as_slice())?;
+    let height = 48 + 24 * nodes.len() as u128;
+    let mut text = String::from_str(alloc, start())?;
+    put_size(&mut text, width, height)?;
+    put_view_box(&mut text, width, height)?;
+    put_head(&mut text, general, decision(table, general))?;
+    put_rows(&mut text, table.generals(), general, nodes.as_slice())?;
+    text.push_str("</svg>\n")?;
+    Ok(text)
+}
+
+/// What every picture begins with.
+#[tactic(auto, unfolding(crate::specs::Svg::start))]
+fn start() -> &'static str
+    ensures { result.now ≡ start }
+{
+    "<svg xmlns=\"http://www.w3.org/2000/svg\" role=\"img\""
+}
+
+/// Adds the size of a picture.
+#[tactic(auto, unfolding(crate::specs::Svg::size))]
+fn put_size(out: &mut String, width: u128, height: u128) -> Result<(), AllocError>
+    ensures { OnOk result (string_bytes out.new ≡ string_bytes out.old ++ size width height) }
+{
+    write!(out, " width=\"{width}\" height=\"{height}\"")
+}
+
+/// Adds its units, which are those of its size, and ends its first tag.
+#[tactic(auto, unfolding(crate::specs::Svg::view_box))]
+fn put_view_box(out: &mut String, width: u128, height: u128) -> Result<(), AllocError>
+    ensures { OnOk result (string_bytes out.new ≡ string_bytes out.old ++ view_box width height) }
+{
+    write!(out, " viewBox=\"0 0 {width} {height}\">")
+}
+
+/// Adds what stands before the rows: whose tree it is, what it shows, and how it looks.
+fn put_head(out: &mut String, general: u8, order: u32) -> Result<(), AllocError>
+    ensures { OnOk result (string_bytes out.new ≡ string_bytes out.old ++ head general order) }
+{
+    put_title(out, general, order)?;
+    out.push_str(key())?;
+    out.push_str(look())?;
+    put_heading(out, general, order)
+}
+
+/// Adds the title.
+#[tactic(auto, unfolding(crate::specs::Svg::title))]
+fn put_title(out: &mut String, general: u8, order: u32) -> Result<(), AllocError>
+    ensures { OnOk result (string_bytes out.new ≡ string_bytes out.old ++ title general order) }
+{
+    write!(out, "<title>lieutenant {general} decides {order}</title>")
+}
+
+/// Adds the same, as a line above the rows.
+#[tactic(auto, unfolding(crate::specs::Svg::heading))]
+fn put_heading(out: &mut String, general: u8, order: u32) -> Result<(), AllocError>
+    ensures { OnOk result (string_bytes out.new ≡ string_bytes out.old ++ heading general order) }
+{
+    write!(
+        out,
+        "<text x=\"10\" y=\"24\">lieutenant {general} decides {order}</text>\n"
+    )
+}
+
+/// What is told of the shapes to those who do not see them.
+#[tactic(auto, unfolding(crate::specs::Svg::key))]
+fn key() -> &'static str
+    ensures { result.now ≡ key }
+{
+    "<desc>Each row is a label, below the label that it goes on from, with what he was told of it. Circle: the word of a \
+     general who is not named as a traitor, or tells what he took. Square: the word of a commander who is named. Diamond: \
+     a lie. Dashes: no order has a majority.</desc>\n"
+}
+
+/// What the shapes look like: on paper, and on a dark ground where one is wished for.
+#[tactic(auto, unfolding(crate::specs::Svg::look))]
+fn look() -> &'static str
+    ensures { result.now ≡ look }
+{
+    "<style>svg{background:#fff}text{fill:#111;font:14px sans-serif}.line{fill:none;stroke:#767676}\
+     .told{fill:#fff;stroke:#111}.word{fill:#ffd24d;stroke:#111}.lie{fill:#b00020;stroke:#111}.split{stroke-dasharray:3 2}\
+     @media(prefers-color-scheme:dark){svg{background:#111}text{fill:#eee}.told,.word,.lie{stroke:#eee}.told{fill:#111}}\
+     </style>\n"
+}

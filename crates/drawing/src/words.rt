@@ -1,0 +1,70 @@
+//! What is said of a label, in words.
+ghost use Rattle.std.specs.Prelude.{◌≡◌, ◌++◌, string_bytes, OnOk};
+ghost use Rattle.drawing.specs.Words.{extent_words, mark_words, outcome_words, said, told_words, words};
+
+use crate::node::{Extent, Mark, Node, Outcome};
+use crate::places::put_label;
+use std::alloc::AllocError;
+
+/// Adds a label, and what is said of it.
+pub(crate) fn put_said(out: &mut String, node: &Node) -> Result<(), AllocError>
+    ensures { OnOk result (string_bytes out.new ≡ string_bytes out.old ++ said node.now) }
+{
+    put_label(out, node.label.generals())?;
+    out.push_str(": ")?;
+    put_words(out, "; ", node)
+}
+
+/// Adds what is said of a label, each phrase but the first behind this stop.
+pub(crate) fn put_words(out: &mut String, stop: &str, node: &Node) -> Result<(), AllocError>
+    ensures { OnOk result (string_bytes out.new ≡ string_bytes out.old ++ words stop.now node.now) }
+{
+    put_told(out, node.told)?;
+    put_outcome(out, stop, node.outcome)?;
+    put_mark(out, stop, node.mark)?;
+    put_extent(out, stop, node.extent)
+}
+
+/// Adds what was told.
+fn put_told(out: &mut String, told: Option<u32>) -> Result<(), AllocError>
+    ensures { OnOk result (string_bytes out.new ≡ string_bytes out.old ++ told_words told) }
+{
+    match told {
+        Some(order) => write!(out, "told {order}"),
+        None => out.push_str("told nothing"),
+    }
+}
+
+/// Adds what the list comes to, if there is one.
+fn put_outcome(out: &mut String, stop: &str, outcome: Outcome) -> Result<(), AllocError>
+    ensures { OnOk result (string_bytes out.new ≡ string_bytes out.old ++ outcome_words stop.now outcome) }
+{
+    match outcome {
+        Outcome::Told => Ok(()),
+        Outcome::Agreed(order) => write!(out, "{stop}majority {order}"),
+        Outcome::Divided => write!(out, "{stop}no majority, so 0"),
+        Outcome::Middle(order) => write!(out, "{stop}median {order}"),
+    }
+}
+
+/// Adds whose word it is, where he is named as a traitor, and lies or is the commander.
+fn put_mark(out: &mut String, stop: &str, mark: Mark) -> Result<(), AllocError>
+    ensures { OnOk result (string_bytes out.new ≡ string_bytes out.old ++ mark_words stop.now mark) }
+{
+    match mark {
+        Mark::Honest => Ok(()),
+        Mark::Traitor => write!(out, "{stop}by a traitor"),
+        Mark::Lie(general, took) => write!(out, "{stop}a lie, {general} took {took}"),
+    }
+}
+
+/// Adds how many labels below are not shown, and why.
+fn put_extent(out: &mut String, stop: &str, extent: Extent) -> Result<(), AllocError>
+    ensures { OnOk result (string_bytes out.new ≡ string_bytes out.old ++ extent_words stop.now extent) }
+{
+    match extent {
+        Extent::Last | Extent::Open => Ok(()),
+        Extent::Folded(count) => write!(out, "{stop}{count} below told the same"),
+        Extent::Cut(count) => write!(out, "{stop}{count} below not shown"),
+    }
+}

@@ -1,0 +1,29 @@
+-- The replay of the names, its order and its outcome.
+use Rattle.std.proofs.Common.{◌+◌, ◌∙◌, suc, ap, arith, ◌≡◌}
+use Rattle.world.specs.Playing.{lists_in}
+use Rattle.world.specs.World.{oral_kind}
+use Rattle.world.specs.KindLists.{replayed}
+use Rattle.explore.specs.Entering.{entered}
+use Rattle.explore.specs.Orders.{order_of}
+use Rattle.explore.specs.Succession.{next_order}
+use Rattle.explore.proofs.Replaying.{on_ok, if_ok_along, accesses_few, decisions_are, order_is}
+use Rattle.explore.proofs.exploring.visit.Goals as goal
+
+pub order_in-requires : goal.order_in-requires
+order_in-requires c =
+    accesses_few c.args.scenario.now c.in_ok-copy.field-0 (lists_in c.args.names.now) c.in_ok-chronicle.chronicle c.in_ok-copy.ensures c.in_ok-chronicle.ensures.replayed c.recall.ensures c.accesses.result.now c.accesses.ensures
+
+pub returns-clause-entered : goal.returns-clause-entered
+returns-clause-entered c =
+    let ds = decisions_are c.args.scenario.now c.in_ok-copy.field-0 (lists_in c.args.names.now) c.in_ok-chronicle.chronicle c.in_ok-copy.ensures c.in_ok-chronicle.ensures.replayed c.decisions.result.now c.decisions.ensures in
+    let rounds : c.bound.result + 1 ≡ suc c.args.scenario.now.bound = omega (arith, c.bound.ensures.same) in
+    let rows = order_is c.args.scenario.now c.in_ok-copy.field-0 (lists_in c.args.names.now) c.in_ok-chronicle.chronicle c.in_ok-copy.ensures c.in_ok-chronicle.ensures.replayed
+    (lists_in c.in_ok-order.order.items) c.accesses.result.now (c.bound.result + 1) c.accesses.ensures rounds c.in_ok-order.ensures in
+    on_ok c.next_order.result _ (c.in_ok-enter.ensures ∙ (λ i. entered c.args.findings.now.items (ds i) ((ap lists_in c.as_slice.ensures.value ∙ rows) i)))
+
+pub returns-clause-next : goal.returns-clause-next
+returns-clause-next c =
+    let rounds : c.bound.result + 1 ≡ suc c.args.scenario.now.bound = omega (arith, c.bound.ensures.same) in
+    let rows = order_is c.args.scenario.now c.in_ok-copy.field-0 (lists_in c.args.names.now) c.in_ok-chronicle.chronicle c.in_ok-copy.ensures c.in_ok-chronicle.ensures.replayed
+    (lists_in c.in_ok-order.order.items) c.accesses.result.now (c.bound.result + 1) c.accesses.ensures rounds c.in_ok-order.ensures in
+    if_ok_along c.next_order.result _ (next_order (lists_in c.in_ok-order.order.items)) (next_order (order_of oral_kind c.args.scenario.now (replayed oral_kind c.args.scenario.now (lists_in c.args.names.now)))) (ap next_order rows) c.next_order.ensures

@@ -1,0 +1,5 @@
+use Rattle.explore.proofs.Merging.{proved_lists}
+use Rattle.explore.proofs.laws.alike_worlds_have_one_list.Goals as goal
+
+pub returns : goal.returns
+returns c = proved_lists

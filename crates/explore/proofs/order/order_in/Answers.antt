@@ -1,0 +1,9 @@
+-- One round more.
+use Rattle.std.proofs.Common.{◌+◌, arith}
+use Rattle.explore.proofs.Passing.{order_more}
+use Rattle.explore.proofs.order.order_in.Goals as goal
+
+pub loop-before-preserved : goal.loop-before-preserved
+loop-before-preserved c =
+    order_more c.loop-before.order.items c.push.new.self.items c.in_ok-names_of.field-0 c.args.accesses.now c.loop-before.before (c.from.result + 1)
+    (omega arith) c.loop-before.invariant c.in_ok-names_of.ensures c.in_ok-push.ensures.items

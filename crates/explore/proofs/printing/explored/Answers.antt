@@ -1,0 +1,10 @@
+-- What was explored can be printed.
+use Rattle.std.proofs.Common.{arith}
+use Rattle.explore.proofs.Replaying.{all_walk}
+use Rattle.explore.proofs.printing.explored.Goals as goal
+
+pub exploration_text-requires-clause-few : goal.exploration_text-requires-clause-few
+exploration_text-requires-clause-few c = (let h = c.in_ok-exploration.ensures.few in omega arith)
+
+pub exploration_text-requires-clause-walks : goal.exploration_text-requires-clause-walks
+exploration_text-requires-clause-walks c = all_walk c.args.scenario.now c.recall.ensures c.args.most c.in_ok-exploration.exploration c.in_ok-exploration.ensures

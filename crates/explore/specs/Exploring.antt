@@ -1,0 +1,71 @@
+-- What an exploration of a campaign's orders answers (own).
+use Rattle.std.specs.Prelude.{ℕ, ◌≡◌, ◌<◌, ◌≤◌, Bool, true, false, List, All, length, map, sum_by, count_by, bytes_eq}
+use Rattle.round.specs.Scenario.{Scenario}
+use Rattle.world.specs.declared.event.Event.{Event}
+use Rattle.world.specs.Kind.{Kind}
+use Rattle.world.specs.KindLists.{IsComplete}
+use Rattle.explore.specs.Orders.{IsOrder}
+use Rattle.explore.specs.Listing.{orders, Has, AreDifferent}
+use Rattle.explore.specs.Outcomes.{Outcome, outcome_in, outcome_of}
+
+-- in how many of these orders a campaign comes to these decisions
+abbrev pub ways_among : Kind → Outcome → Scenario → List (List (List ℕ)) → List ℕ → ℕ
+ways_among K D s visited ds = count_by (λ order. bytes_eq (outcome_of K D s order) ds) visited
+
+-- and in how many of all
+abbrev pub ways_to : Kind → Outcome → Scenario → List ℕ → ℕ
+ways_to K D s ds = ways_among K D s (orders K s) ds
+
+-- decisions, in how many orders they come about, and one of these
+pub record Finding : Type 0 where
+  pub decisions : List ℕ
+  pub count : ℕ
+  pub example : List (List ℕ)
+
+abbrev pub outcomes_of : List Finding → List (List ℕ)
+outcomes_of findings = map (λ (f : Finding). f.decisions) findings
+
+abbrev pub counted_in : List Finding → ℕ
+counted_in findings = sum_by (λ (f : Finding). f.count) findings
+
+-- its example is an order that leads there
+pub record IsReal (K : Kind) (D : Outcome) (s : Scenario) (f : Finding) : Type 0 where
+  pub example : IsOrder K s f.example
+  pub outcome : outcome_of K D s f.example ≡ f.decisions
+  pub some : 0 < f.count
+
+-- and so many orders lead there
+pub record IsFinding (K : Kind) (D : Outcome) (s : Scenario) (f : Finding) : Type 0 where
+  pub real : IsReal K D s f
+  pub count : f.count ≡ ways_to K D s f.decisions
+
+-- or at least so many
+pub record IsLowerFinding (K : Kind) (D : Outcome) (s : Scenario) (f : Finding) : Type 0 where
+  pub real : IsReal K D s f
+  pub count : f.count ≤ ways_to K D s f.decisions
+
+-- the findings of an exploration that met no limit: each is one, no two are of one outcome, no complete run comes to another,
+-- and together they count all orders
+pub record IsExplored (K : Kind) (D : Outcome) (s : Scenario) (findings : List Finding) : Type 0 where
+  pub each : All (IsFinding K D s) findings
+  pub different : AreDifferent (outcomes_of findings)
+  pub whole : (events : List Event) → IsComplete K s events → Has (outcomes_of findings) (outcome_in K D s events)
+  pub total : counted_in findings ≡ length (orders K s)
+
+-- and of one that was to count no more than so many orders and met that limit: there are more
+pub record IsExploredInPart (K : Kind) (D : Outcome) (s : Scenario) (most : ℕ) (findings : List Finding) : Type 0 where
+  pub each : All (IsLowerFinding K D s) findings
+  pub different : AreDifferent (outcomes_of findings)
+  pub total : counted_in findings ≡ most
+  pub more : most < length (orders K s)
+
+-- findings, and whether they are all
+pub record Exploration : Type 0 where
+  pub findings : List Finding
+  pub whole : Bool
+
+-- of all orders, or of so many where there are more
+pub record IsExploration (K : Kind) (D : Outcome) (s : Scenario) (most : ℕ) (e : Exploration) : Type 0 where
+  pub few : counted_in e.findings ≤ most
+  pub all : e.whole ≡ true → IsExplored K D s e.findings
+  pub part : e.whole ≡ false → IsExploredInPart K D s most e.findings

@@ -1,0 +1,12 @@
+pub mod Orders
+pub mod Listing
+pub mod Outcomes
+pub mod Exploring
+pub mod Merging
+pub mod Walks
+pub mod Schedules
+pub mod Planning
+pub mod Succession
+pub mod Entering
+pub mod Places
+pub mod Text

@@ -1,0 +1,41 @@
+-- Worlds of oral campaigns that go on alike: they differ in what was accessed and in how many steps, and in nothing that is told or that decides (own).
+use Rattle.std.specs.Prelude.{ℕ, ◌≡◌, List, [], ◌∷◌}
+use Rattle.round.specs.Letters.{Letter}
+use Rattle.world.specs.declared.event.Event.{Event}
+use Rattle.world.specs.Kind.{World}
+use Rattle.world.specs.World.{oral_kind, run}
+use Rattle.world.specs.Lists.{replayed_rounds}
+use Rattle.explore.specs.Orders.{IsRoundFrom, IsFrom}
+use Rattle.explore.specs.Listing.{round_orders, orders_from}
+use Rattle.explore.specs.Outcomes.{oral_outcome}
+
+-- letters of the same generals that tell the same, one by one
+abbrev pub TellAlike : List Letter → List Letter → Type 0
+TellAlike [] [] = Unit {0}
+TellAlike (l ∷ letters) (m ∷ others) = (l.general ≡ m.general) × (l.outbox ≡ m.outbox) × TellAlike letters others
+TellAlike _ _ = ⊥
+
+abbrev pub RoundsAlike : List (List Letter) → List (List Letter) → Type 0
+RoundsAlike [] [] = Unit {0}
+RoundsAlike (row ∷ rounds) (other ∷ others) = TellAlike row other × RoundsAlike rounds others
+RoundsAlike _ _ = ⊥
+
+-- the words and the activations are the same, and the closed rounds have told the same
+pub record AreAlike (w v : World) : Type 0 where
+  pub scenario : w.scenario ≡ v.scenario
+  pub words : w.words ≡ v.words
+  pub parts : w.parts ≡ v.parts
+  pub closed : RoundsAlike w.closed v.closed
+
+-- alike worlds stay alike; what can come from them, and what is decided then, is the same
+pub record AlikeWorldsGoOnAlike : Type 0 where
+  pub runs : (events : List Event) (w v : World) → AreAlike w v → AreAlike (run w events) (run v events)
+  pub rounds : (names : List ℕ) (w v : World) → AreAlike w v → IsRoundFrom oral_kind w names → IsRoundFrom oral_kind v names
+  pub orders : (k : ℕ) (order : List (List ℕ)) (w v : World) → AreAlike w v → IsFrom oral_kind w k order → IsFrom oral_kind v k order
+  pub outcomes : (k : ℕ) (order : List (List ℕ)) (w v : World) → AreAlike w v →
+      oral_outcome (run w (replayed_rounds w k order)) ≡ oral_outcome (run v (replayed_rounds v k order))
+
+-- the same can come behind alike worlds: so a state stands for all that are alike
+pub record AlikeWorldsHaveOneList : Type 0 where
+  pub round : (most : ℕ) (w v : World) → AreAlike w v → round_orders oral_kind most w ≡ round_orders oral_kind most v
+  pub all : (most k : ℕ) (w v : World) → AreAlike w v → orders_from oral_kind most w k ≡ orders_from oral_kind most v k

@@ -1,0 +1,15 @@
+-- Where decisions were found (own).
+use Rattle.std.specs.Prelude.{ℕ, ◌≡◌, ◌<◌, true, false, List, length, slice_index_or, bytes_eq}
+use Rattle.explore.specs.Exploring.{Finding}
+
+-- in none of so many findings from the first on
+abbrev pub AreElsewhere : ℕ → List Finding → List ℕ → Type 0
+AreElsewhere n findings ds = (k : ℕ) (d : Finding) → k < n → bytes_eq (slice_index_or findings k d).decisions ds ≡ false
+
+abbrev pub IsNowhere : List Finding → List ℕ → Type 0
+IsNowhere findings ds = AreElsewhere (length findings) findings ds
+
+-- the first place where they are
+abbrev pub IsPlaceOf : List Finding → List ℕ → ℕ → Type 0
+IsPlaceOf findings ds place =
+    (place < length findings) × AreElsewhere place findings ds × ((d : Finding) → bytes_eq (slice_index_or findings place d).decisions ds ≡ true)

@@ -1,0 +1,43 @@
+-- What becomes of names that are to make their accesses in their order (own).
+use Rattle.std.specs.Prelude.{ℕ, ◌≡◌, true, false, List, length, slice_get, Option, None, Some}
+use Rattle.round.specs.Scenario.{Scenario}
+use Rattle.world.specs.Kind.{Kind, World, opening, run}
+use Rattle.world.specs.declared.event.Event.{Event}
+use Rattle.world.specs.KindLists.{IsComplete, listed, replayed, ticks_named, names_events}
+use Rattle.world.specs.Schedules.{lines_by}
+use Rattle.explore.specs.declared.scheduled.Line.{Line}
+use Rattle.explore.specs.declared.scheduled.Line.TheVariants.{Made, Stuck}
+use Rattle.explore.specs.declared.scheduled.Scheduled.{Scheduled}
+use Rattle.explore.specs.declared.scheduled.Scheduled.TheVariants.{By, Never}
+use Rattle.explore.specs.Orders.{will_ask, past, order_of}
+use Rattle.explore.specs.Walks.{IsWalk, AreWalks, IsStuckAt, IsStuckIn, IsCompletion}
+use Rattle.explore.specs.Schedules.{entries_from, schedule_from}
+
+-- so many steps of a general, with which he has made one more access; or none, where he is to make none
+abbrev pub IsStepTo : Kind → World → ℕ → World → Option ℕ → Type 0
+IsStepTo K w g v None = will_ask (slice_get w.parts g) ≡ false
+IsStepTo K w g v (Some steps) = (will_ask (slice_get w.parts g) ≡ true) × (steps ≡ length (ticks_named g (slice_get w.parts g))) × (v ≡ past K w g)
+
+-- the entries of a round, with which these have made their accesses; or the first place where that cannot be
+abbrev pub IsLineOf : Kind → World → List ℕ → World → Line → Type 0
+IsLineOf K w names v (Made entries) = IsWalk K w names × (entries ≡ entries_from K w names) × (v ≡ run K w (names_events K w names))
+IsLineOf K w names v (Stuck place) = IsStuckAt K w names place
+
+-- the schedule from here on, or the first round and place
+abbrev pub IsScheduleOf : Kind → World → List (List ℕ) → Scheduled → Type 0
+IsScheduleOf K w names (By schedule) = AreWalks K w names × (schedule ≡ schedule_from K w names)
+IsScheduleOf K w names (Never round place) = IsStuckIn K w names round place
+
+-- played by it, these make their accesses first in each round; there is none only where these cannot do so
+abbrev pub IsPlan : Kind → Scenario → List (List ℕ) → Scheduled → Type 0
+IsPlan K s names (By schedule) = (listed s (lines_by schedule) ≡ replayed K s names) × IsCompletion names (order_of K s (listed s (lines_by schedule)))
+IsPlan K s names (Never round place) = AreWalks K (opening K s) names → ⊥
+
+-- played by it, the campaign is that run
+abbrev pub ComesAgain : Kind → Scenario → List Event → Scheduled → Type 0
+ComesAgain K s events (By schedule) = run K (opening K s) (listed s (lines_by schedule)) ≡ run K (opening K s) events
+ComesAgain K s events (Never round place) = ⊥
+
+-- where the names are who made the accesses of a complete run, that run comes again
+abbrev pub BringsBack : Kind → Scenario → List (List ℕ) → Scheduled → Type 0
+BringsBack K s names scheduled = (events : List Event) → IsComplete K s events → names ≡ order_of K s events → ComesAgain K s events scheduled

@@ -1,0 +1,57 @@
+-- What is printed of an exploration (own).
+use Rattle.std.specs.Prelude.{ℕ, ◌+◌, cond, Bool, true, false, List, [], ◌∷◌, ◌++◌, flat_map, decimal, codes, Option, None, Some}
+use Rattle.round.specs.Scenario.{Scenario}
+use Rattle.world.specs.declared.schedule.Repeat.{Repeat}
+use Rattle.world.specs.Chronicle.{verdict_of}
+use Rattle.world.specs.Kind.{Kind, opening}
+use Rattle.explore.specs.Exploring.{Finding, Exploration, counted_in}
+use Rattle.explore.specs.Schedules.{schedule_from}
+
+-- a number behind a space
+abbrev pub further : ℕ → List ℕ
+further n = codes " " ++ decimal n
+
+-- entries of a schedule, each behind a space
+abbrev pub entry_text : Repeat → List ℕ
+entry_text r = codes " " ++ decimal r.general ++ codes "*" ++ decimal r.times
+
+-- a line of a schedule's text, and the text
+abbrev pub line_text : List Repeat → List ℕ
+line_text [] = codes "\n"
+line_text (r ∷ line) = decimal r.general ++ codes "*" ++ decimal r.times ++ flat_map entry_text line ++ codes "\n"
+
+abbrev pub schedule_text : List (List Repeat) → List ℕ
+schedule_text lines = flat_map line_text lines
+
+-- a round's entries, with its number
+abbrev pub round_text : ℕ → List Repeat → List ℕ
+round_text round line = codes "round" ++ further round ++ flat_map entry_text line ++ codes "\n"
+
+abbrev pub rounds_text : ℕ → List (List Repeat) → List ℕ
+rounds_text round [] = []
+rounds_text round (line ∷ lines) = round_text round line ++ rounds_text (round + 1) lines
+
+abbrev pub yes_no : Bool → List ℕ
+yes_no true = codes "yes"
+yes_no false = codes "no"
+
+abbrev pub yes_no_none : Option Bool → List ℕ
+yes_no_none None = codes "-"
+yes_no_none (Some b) = yes_no b
+
+-- in how many orders, whether the loyal decide alike and obey, and what each lieutenant decides, ascending
+abbrev pub outcome_text : ℕ → Bool → Option Bool → List ℕ → List ℕ
+outcome_text count alike obeyed ds =
+    codes "outcome" ++ further count ++ codes " alike " ++ yes_no alike ++ codes " obeyed " ++ yes_no_none obeyed ++ codes " decisions" ++ flat_map further ds ++ codes "\n"
+
+-- and the schedule of its example, round by round
+abbrev pub finding_text : Kind → Scenario → Finding → List ℕ
+finding_text K s f =
+    outcome_text f.count (verdict_of s f.decisions).alike (verdict_of s f.decisions).obeyed f.decisions ++ rounds_text 1 (schedule_from K (opening K s) f.example)
+
+-- how many orders there are, or that there are more than were counted
+abbrev pub head_text : Bool → ℕ → List ℕ
+head_text whole count = cond whole (codes "orders") (codes "orders more than") ++ further count ++ codes "\n"
+
+abbrev pub exploration_text : Kind → Scenario → Exploration → List ℕ
+exploration_text K s e = head_text e.whole (counted_in e.findings) ++ flat_map (finding_text K s) e.findings

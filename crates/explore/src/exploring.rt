@@ -1,0 +1,103 @@
+//! All orders of a campaign, one after another, each played from the start.
+ghost use Rattle.std.specs.Prelude.{◌≡◌, ◌<◌, ◌+◌, ◌^◌, ℕ, All, IfOk, OnOk, MatchOption, true, false, length, slice_index_or, option_map, bytes_eq};
+ghost use Rattle.explore.specs.Entering.{entered};
+ghost use Rattle.explore.specs.Exploring.{Finding as Found, IsExploration, counted_in};
+ghost use Rattle.explore.specs.Orders.{order_of};
+ghost use Rattle.explore.specs.Outcomes.{oral_outcome, outcome_in};
+ghost use Rattle.explore.specs.Places.{IsPlaceOf, IsNowhere};
+ghost use Rattle.explore.specs.Succession.{next_order};
+ghost use Rattle.world.specs.Playing.{lists_in};
+ghost use Rattle.world.specs.KindLists.{replayed};
+ghost use Rattle.world.specs.World.{oral_kind};
+
+use crate::exploration::Exploration;
+use crate::finding::Finding;
+use crate::order::order_in;
+use crate::succession::next_order;
+use round::Scenario;
+use std::alloc::{AllocError, Global};
+use world::replay;
+
+/// The outcomes of all orders in which the traitors of an oral campaign can come to the board, where these are no more than
+/// `most`; else those of the `most` least orders, and that there are more.
+///
+/// # Errors
+///
+/// `AllocError` where memory is refused.
+pub fn explore(alloc: Global, scenario: &Scenario, most: u64) -> Result<Exploration, AllocError>
+    ensures { IfOk result (λ exploration. IsExploration oral_kind oral_outcome scenario.now most exploration) }
+{
+    scenario.recall();
+    let mut findings = Vec::new(alloc);
+    let mut names = Vec::new(alloc);
+    for visited in 0..most {
+        let _ = visited;
+        match visit(alloc, scenario, names.as_slice(), &mut findings)? {
+            Some(next) => names = next,
+            None => {
+                return Ok(Exploration {
+                    findings,
+                    whole: true,
+                });
+            }
+        }
+    }
+    Ok(Exploration {
+        findings,
+        whole: false,
+    })
+}
+
+/// The campaign in which these make their accesses first in each round, and then the others by number: its outcome is
+/// entered. What comes next are the names of the order that follows on its order; none behind the last.
+fn visit(
+    alloc: Global,
+    scenario: &Scenario,
+    names: &[Vec<u8>],
+    findings: &mut Vec<Finding>,
+) -> Result<Option<Vec<Vec<u8>>>, AllocError>
+    requires { counted_in findings.old.items + 1 < 2 ^ 64 }
+    ensures entered { OnOk result (findings.new.items ≡ entered findings.old.items (outcome_in oral_kind oral_outcome scenario.now (replayed oral_kind scenario.now (lists_in names.now)))
+        (order_of oral_kind scenario.now (replayed oral_kind scenario.now (lists_in names.now)))) }
+    ensures next { IfOk result (λ next. option_map (λ order. lists_in order.items) next ≡ next_order (order_of oral_kind scenario.now (replayed oral_kind scenario.now (lists_in names.now)))) }
+{
+    scenario.recall();
+    let chronicle = replay(alloc, scenario.copy(alloc)?, names)?;
+    let order = order_in(alloc, chronicle.accesses(), scenario.bound() + 1)?;
+    enter(alloc, findings, chronicle.decisions(), order.as_slice())?;
+    next_order(order)
+}
+
+/// One order more, which leads to these decisions.
+fn enter(
+    alloc: Global,
+    findings: &mut Vec<Finding>,
+    decisions: &[u32],
+    order: &[Vec<u8>],
+) -> Result<(), AllocError>
+    requires { counted_in findings.old.items + 1 < 2 ^ 64 }
+    ensures { OnOk result (findings.new.items ≡ entered findings.old.items decisions.now (lists_in order.now)) }
+{
+    match place_of(findings.as_slice(), decisions) {
+        Some(place) => {
+            findings[place].count_again();
+            Ok(())
+        }
+        None => {
+            findings.push(Finding::first(alloc, decisions, order)?)?;
+            Ok(())
+        }
+    }
+}
+
+/// Where these decisions were found first.
+fn place_of(findings: &[Finding], decisions: &[u32]) -> Option<usize>
+    ensures { MatchOption result (IsNowhere findings.now decisions.now) (λ place. IsPlaceOf findings.now decisions.now place) }
+{
+    for (place, finding) in findings.iter().enumerate() {
+        if finding.decisions() == decisions {
+            return Some(place);
+        }
+    }
+    None
+}

@@ -1,0 +1,74 @@
+//! What explorations find.
+ghost use Rattle.std.specs.Prelude.{◌≡◌, ◌+◌, ◌<◌, ◌^◌, IfOk};
+ghost use Rattle.world.specs.Playing.{lists_in};
+
+use crate::order::copied;
+use std::alloc::{AllocError, Global};
+use std::marker::Model;
+
+/// Decisions of a campaign's lieutenants, in how many orders of accesses they come about, and one of these.
+#[derive(Drop)]
+pub struct Finding {
+    decisions: Vec<u32>,
+    count: u64,
+    example: Vec<Vec<u8>>,
+}
+
+impl Model for Finding {
+    ghost use Rattle.explore.specs.Exploring.{Finding as Found};
+    ghost use Rattle.world.specs.Playing.{lists_in};
+
+    ghost Value = { Found };
+
+    ghost view = { λ f. record { decisions = f.decisions.items; count = f.count; example = lists_in f.example.items } };
+}
+
+impl Finding {
+    /// Decisions that come about in one order so far, which is the example.
+    ///
+    /// # Errors
+    ///
+    /// `AllocError` where memory is refused.
+    pub(crate) fn first(
+        alloc: Global,
+        decisions: &[u32],
+        order: &[Vec<u8>],
+    ) -> Result<Finding, AllocError>
+        ensures { IfOk result (λ finding. finding ≡ record { decisions = decisions.now; count = 1; example = lists_in order.now }) }
+    {
+        Ok(Finding {
+            decisions: Vec::from_slice(alloc, decisions)?,
+            count: 1,
+            example: copied(alloc, order)?,
+        })
+    }
+
+    /// They come about in one order more.
+    pub(crate) fn count_again(&mut self)
+        requires { self.old.count + 1 < 2 ^ 64 }
+        ensures { self.new ≡ record self.old { count = self.old.count + 1 } }
+    {
+        self.count += 1;
+    }
+
+    /// The decision of each lieutenant, ascending by number.
+    pub fn decisions(&self) -> &[u32]
+        ensures { result.now ≡ self.now.decisions }
+    {
+        self.decisions.as_slice()
+    }
+
+    /// In how many orders they come about.
+    pub fn count(&self) -> u64
+        ensures { result ≡ self.now.count }
+    {
+        self.count
+    }
+
+    /// One of these orders: for each round the generals who make the accesses, one after another.
+    pub fn example(&self) -> &[Vec<u8>]
+        ensures { lists_in result.now ≡ self.now.example }
+    {
+        self.example.as_slice()
+    }
+}

@@ -1,0 +1,249 @@
+//! What is printed of an exploration.
+ghost use Rattle.std.specs.Prelude.{◌≡◌, ◌≤◌, ◌<◌, ◌+◌, ◌^◌, ◌++◌, All, IfOk, OnOk, cond, codes, decimal, flat_map, string_bytes};
+ghost use Rattle.explore.specs.Exploring.{Exploration as Explored, IsExploration, counted_in};
+ghost use Rattle.explore.specs.Outcomes.{oral_outcome};
+ghost use Rattle.explore.specs.Text.{entry_text, exploration_text, finding_text, further, head_text, line_text, outcome_text, round_text, rounds_text, schedule_text, yes_no, yes_no_none};
+ghost use Rattle.explore.specs.Walks.{AreWalks};
+ghost use Rattle.world.specs.Chronicle.{verdict_of};
+ghost use Rattle.world.specs.Kind.{opening};
+ghost use Rattle.world.specs.World.{oral_kind};
+
+use crate::exploration::Exploration;
+use crate::exploring::explore;
+use crate::finding::Finding;
+use crate::scheduled::Scheduled;
+use crate::scheduling::schedule_names;
+use itoa::Buffer;
+use round::Scenario;
+use std::alloc::{AllocError, Global};
+use world::judging::{alike, loyal_decisions, obeyed};
+use world::{Entries, Repeat, Schedule};
+
+/// A number behind a space.
+fn put_further(out: &mut String, number: u64) -> Result<(), AllocError>
+    ensures { OnOk result (string_bytes out.new ≡ string_bytes out.old ++ further number) }
+{
+    let mut buffer = Buffer::new();
+    out.push_str(" ")?;
+    out.push_str(buffer.format(number))?;
+    Ok(())
+}
+
+/// An entry of a schedule.
+fn put_repeat(out: &mut String, repeat: Repeat) -> Result<(), AllocError>
+    ensures { OnOk result (string_bytes out.new ≡ string_bytes out.old ++ decimal repeat.general ++ codes "*" ++ decimal repeat.times) }
+{
+    let mut buffer = Buffer::new();
+    out.push_str(buffer.format(u64::from(repeat.general)))?;
+    out.push_str("*")?;
+    out.push_str(buffer.format(u64::from(repeat.times)))?;
+    Ok(())
+}
+
+/// An entry of a schedule behind a space.
+fn put_entry(out: &mut String, repeat: Repeat) -> Result<(), AllocError>
+    ensures { OnOk result (string_bytes out.new ≡ string_bytes out.old ++ entry_text repeat) }
+{
+    out.push_str(" ")?;
+    put_repeat(out, repeat)
+}
+
+/// Entries, each behind a space.
+fn put_entries(out: &mut String, repeats: &[Repeat]) -> Result<(), AllocError>
+    ensures { OnOk result (string_bytes out.new ≡ string_bytes out.old ++ flat_map entry_text repeats.now) }
+{
+    for repeat in repeats {
+        put_entry(out, *repeat)?;
+    }
+    Ok(())
+}
+
+/// A line of a schedule's text.
+fn put_line(out: &mut String, repeats: &[Repeat]) -> Result<(), AllocError>
+    ensures { OnOk result (string_bytes out.new ≡ string_bytes out.old ++ line_text repeats.now) }
+{
+    if let Some((first, rest)) = repeats.split_first() {
+        put_repeat(out, *first)?;
+        put_entries(out, rest)?;
+    }
+    out.push_str("\n")?;
+    Ok(())
+}
+
+/// The text of a schedule, a line for each round.
+///
+/// # Errors
+///
+/// `AllocError` where memory is refused.
+pub fn schedule_text(alloc: Global, schedule: &Schedule) -> Result<String, AllocError>
+    ensures { IfOk result (λ text. string_bytes text ≡ schedule_text schedule.now) }
+{
+    let mut out = String::new(alloc);
+    for line in &schedule.lines {
+        put_line(&mut out, line.repeats.as_slice())?;
+    }
+    Ok(out)
+}
+
+/// The line of a round.
+fn put_round(out: &mut String, round: u64, repeats: &[Repeat]) -> Result<(), AllocError>
+    ensures { OnOk result (string_bytes out.new ≡ string_bytes out.old ++ round_text round repeats.now) }
+{
+    out.push_str("round")?;
+    put_further(out, round)?;
+    put_entries(out, repeats)?;
+    out.push_str("\n")?;
+    Ok(())
+}
+
+/// The lines of a schedule, from round 1.
+fn put_rounds(out: &mut String, lines: &[Entries]) -> Result<(), AllocError>
+    ensures { OnOk result (string_bytes out.new ≡ string_bytes out.old ++ rounds_text 1 lines.now) }
+{
+    for (before, line) in lines.iter().enumerate() {
+        put_round(out, before as u64 + 1, line.repeats.as_slice())?;
+    }
+    Ok(())
+}
+
+/// Numbers, each behind a space.
+fn put_numbers(out: &mut String, numbers: &[u32]) -> Result<(), AllocError>
+    ensures { OnOk result (string_bytes out.new ≡ string_bytes out.old ++ flat_map further numbers.now) }
+{
+    for number in numbers {
+        put_further(out, u64::from(*number))?;
+    }
+    Ok(())
+}
+
+/// Yes or no, or a hyphen where nothing is said.
+fn put_answer(out: &mut String, answer: Option<bool>) -> Result<(), AllocError>
+    ensures { OnOk result (string_bytes out.new ≡ string_bytes out.old ++ yes_no_none answer) }
+{
+    match answer {
+        None => out.push_str("-")?,
+        Some(true) => out.push_str("yes")?,
+        Some(false) => out.push_str("no")?,
+    }
+    Ok(())
+}
+
+/// The line of an outcome, but its decisions.
+fn put_verdict(
+    out: &mut String,
+    count: u64,
+    alike: bool,
+    obeyed: Option<bool>,
+) -> Result<(), AllocError>
+    ensures { OnOk result (string_bytes out.new ≡ string_bytes out.old ++ codes "outcome" ++ further count ++ codes " alike " ++ yes_no alike ++ codes " obeyed " ++ yes_no_none obeyed) }
+{
+    out.push_str("outcome")?;
+    put_further(out, count)?;
+    out.push_str(" alike ")?;
+    put_answer(out, Some(alike))?;
+    out.push_str(" obeyed ")?;
+    put_answer(out, obeyed)
+}
+
+/// The line of an outcome.
+fn put_outcome(out: &mut String, scenario: &Scenario, finding: &Finding) -> Result<(), AllocError>
+    ensures { OnOk result (string_bytes out.new ≡ string_bytes out.old
+        ++ outcome_text finding.now.count (verdict_of scenario.now finding.now.decisions).alike (verdict_of scenario.now finding.now.decisions).obeyed finding.now.decisions) }
+{
+    let loyal = loyal_decisions(scenario, finding.decisions());
+    let alike = alike(loyal.as_slice());
+    let obeyed = obeyed(scenario, loyal.as_slice());
+    put_verdict(out, finding.count(), alike, obeyed)?;
+    out.push_str(" decisions")?;
+    put_numbers(out, finding.decisions())?;
+    out.push_str("\n")?;
+    Ok(())
+}
+
+/// The lines of a finding: its outcome, and the schedule of its example.
+fn put_finding(
+    alloc: Global,
+    out: &mut String,
+    scenario: &Scenario,
+    finding: &Finding,
+) -> Result<(), AllocError>
+    requires { AreWalks oral_kind (opening oral_kind scenario.now) finding.now.example }
+    ensures { OnOk result (string_bytes out.new ≡ string_bytes out.old ++ finding_text oral_kind scenario.now finding.now) }
+{
+    put_outcome(out, scenario, finding)?;
+    match schedule_names(alloc, scenario.copy(alloc)?, finding.example())? {
+        Scheduled::By(schedule) => put_rounds(out, schedule.lines.as_slice()),
+        Scheduled::Never(_, _) => unreachable!(),
+    }
+}
+
+/// How many orders were counted.
+fn counted(findings: &[Finding]) -> u64
+    requires { counted_in findings.now < 2 ^ 64 }
+    ensures { result ≡ counted_in findings.now }
+{
+    findings.iter().map(|finding| finding.count()).sum()
+}
+
+/// The first line.
+fn put_head(out: &mut String, whole: bool, count: u64) -> Result<(), AllocError>
+    ensures { OnOk result (string_bytes out.new ≡ string_bytes out.old ++ head_text whole count) }
+{
+    if whole {
+        out.push_str("orders")?;
+    } else {
+        out.push_str("orders more than")?;
+    }
+    put_further(out, count)?;
+    out.push_str("\n")?;
+    Ok(())
+}
+
+/// The lines of all findings.
+fn put_findings(
+    alloc: Global,
+    out: &mut String,
+    scenario: &Scenario,
+    findings: &[Finding],
+) -> Result<(), AllocError>
+    requires { All (λ f. AreWalks oral_kind (opening oral_kind scenario.now) f.example) findings.now }
+    ensures { OnOk result (string_bytes out.new ≡ string_bytes out.old ++ flat_map (finding_text oral_kind scenario.now) findings.now) }
+{
+    for finding in findings {
+        put_finding(alloc, out, scenario, finding)?;
+    }
+    Ok(())
+}
+
+/// The text of an exploration.
+fn exploration_text(
+    alloc: Global,
+    scenario: &Scenario,
+    exploration: &Exploration,
+) -> Result<String, AllocError>
+    requires few { counted_in exploration.now.findings < 2 ^ 64 }
+    requires walks { All (λ f. AreWalks oral_kind (opening oral_kind scenario.now) f.example) exploration.now.findings }
+    ensures { IfOk result (λ text. string_bytes text ≡ exploration_text oral_kind scenario.now exploration.now) }
+{
+    let mut out = String::new(alloc);
+    put_head(
+        &mut out,
+        exploration.is_whole(),
+        counted(exploration.findings()),
+    )?;
+    put_findings(alloc, &mut out, scenario, exploration.findings())?;
+    Ok(out)
+}
+
+/// What is printed of all orders of an oral campaign, or of the `most` least ones where there are more.
+///
+/// # Errors
+///
+/// `AllocError` where memory is refused.
+pub fn explored(alloc: Global, scenario: &Scenario, most: u64) -> Result<String, AllocError>
+    ensures { IfOk result (λ text. (e : Explored) × IsExploration oral_kind oral_outcome scenario.now most e × (string_bytes text ≡ exploration_text oral_kind scenario.now e)) }
+{
+    scenario.recall();
+    let exploration = explore(alloc, scenario, most)?;
+    exploration_text(alloc, scenario, &exploration)
+}

@@ -1,0 +1,104 @@
+//! Schedules under which generals make their accesses in an order.
+ghost use Rattle.std.specs.Prelude.{◌≡◌, ◌≤◌, IfOk, IfSome, slice_get};
+ghost use Rattle.explore.specs.Planning.{BringsBack, IsLineOf, IsPlan, IsScheduleOf, IsStepTo};
+ghost use Rattle.world.specs.Kind.{opening};
+ghost use Rattle.world.specs.Playing.{lists_in, program_length};
+ghost use Rattle.world.specs.World.{oral_kind};
+
+use crate::scheduled::{Line, Scheduled};
+use round::Scenario;
+use std::alloc::{AllocError, Global};
+use world::{Entries, Part, Plays, Repeat, Schedule, World, parts, wind_up};
+
+/// How many instructions the program of an acting general has, 1 to 4,096; none where nobody acts.
+fn instructions(standing: &[Part], general: u8) -> Option<u16>
+    ensures same { result ≡ program_length (slice_get standing.now general) }
+    ensures few { IfSome result (λ most. most ≤ 4096) }
+{
+    match standing.get(usize::from(general)) {
+        Some(Part::Acting(running)) => Some(running.program().program().len() as u16),
+        Some(Part::Silent) => None,
+        Some(Part::Posted) => None,
+        None => None,
+    }
+}
+
+/// A general's steps until he has made one more access; none where he is to make none.
+fn steps_to_access<W: Plays>(world: &mut W, general: u8) -> Result<Option<u16>, AllocError>
+    ensures { IfOk result (IsStepTo W.kind (W.seen world.old) general (W.seen world.new)) }
+{
+    world.campaign().recall();
+    let Some(most) = instructions(world.open_parts(), general) else {
+        return Ok(None);
+    };
+    let ahead = world.run_on(u32::from(general), u32::from(most));
+    if parts::is_still(world.open_parts(), u32::from(general)) {
+        return Ok(None);
+    }
+    world.tick(u32::from(general))?;
+    Ok(Some(ahead as u16 + 1))
+}
+
+/// The entries of a round in which these make their accesses in this order; the world is then as they have made them.
+fn line_of<W: Plays>(world: &mut W, alloc: Global, names: &[u8]) -> Result<Line, AllocError>
+    ensures { IfOk result (λ line. IsLineOf W.kind (W.seen world.old) names.now (W.seen world.new) line) }
+{
+    let mut repeats = Vec::new(alloc);
+    for (place, general) in names.iter().enumerate() {
+        match steps_to_access(world, *general)? {
+            Some(times) => repeats.push(Repeat {
+                general: *general,
+                times,
+            })?,
+            None => return Ok(Line::Stuck(place)),
+        }
+    }
+    Ok(Line::Made(Entries { repeats }))
+}
+
+/// The schedule by which these, round by round, make their accesses in this order, from a world where a round begins: one
+/// entry for each access. Else the first of them that makes none then.
+///
+/// # Errors
+///
+/// `AllocError` where memory is refused.
+pub fn schedule_from<W: Plays>(
+    world: &mut W,
+    alloc: Global,
+    names: &[Vec<u8>],
+) -> Result<Scheduled, AllocError>
+    ensures { IfOk result (λ scheduled. IsScheduleOf W.kind (W.seen world.old) (lists_in names.now) scheduled) }
+{
+    let mut lines = Vec::new(alloc);
+    for (round, line) in names.iter().enumerate() {
+        match line_of(world, alloc, line.as_slice())? {
+            Line::Made(entries) => {
+                lines.push(entries)?;
+                wind_up(world, alloc)?;
+            }
+            Line::Stuck(place) => return Ok(Scheduled::Never(round, place)),
+        }
+    }
+    Ok(Scheduled::By(Schedule { lines }))
+}
+
+/// The schedule by which these, round by round, make their accesses in this order in an oral campaign, before all others.
+/// Where they are those who made the accesses of a campaign of this scenario, however it was played, the schedule brings
+/// that campaign back.
+///
+/// # Errors
+///
+/// `AllocError` where memory is refused.
+pub fn schedule_names(
+    alloc: Global,
+    scenario: Scenario,
+    names: &[Vec<u8>],
+) -> Result<Scheduled, AllocError>
+    ensures made { IfOk result (λ scheduled. IsScheduleOf oral_kind (opening oral_kind scenario) (lists_in names.now) scheduled) }
+    ensures plan { IfOk result (λ scheduled. IsPlan oral_kind scenario (lists_in names.now) scheduled) }
+    ensures again { IfOk result (λ scheduled. BringsBack oral_kind scenario (lists_in names.now) scheduled) }
+{
+    scenario.recall();
+    let mut world = World::open(alloc, scenario)?;
+    schedule_from(&mut world, alloc, names)
+}

@@ -1,0 +1,66 @@
+//! Which order comes next.
+ghost use Rattle.std.specs.Prelude.{◌≡◌, IfOk, option_map};
+ghost use Rattle.explore.specs.Succession.{least_above, nearer, next_names, next_order};
+ghost use Rattle.world.specs.Playing.{lists_in};
+
+use std::alloc::AllocError;
+
+/// The lesser of the least so far and one more, where that is above the general.
+fn nearer(general: u8, other: u8, least: Option<u8>) -> Option<u8>
+    ensures { result ≡ nearer general other least }
+{
+    if general >= other {
+        return least;
+    }
+    match least {
+        None => Some(other),
+        Some(least) => Some(other.min(least)),
+    }
+}
+
+/// The least of the names that is above the general.
+fn least_above(general: u8, names: &[u8]) -> Option<u8>
+    ensures { result ≡ least_above general names.now }
+{
+    let mut least = None;
+    let mut place = names.len();
+    while place > 0 {
+        place -= 1;
+        least = nearer(general, names[place], least);
+    }
+    least
+}
+
+/// The beginning of the order that comes behind this one in a round: up to the last place where a greater name still comes,
+/// and the least such name there; none where there is no such place.
+fn next_names(mut names: Vec<u8>) -> Option<Vec<u8>>
+    ensures { option_map (λ next. next.items) result ≡ next_names names.items }
+{
+    let mut place = names.len();
+    while place > 0 {
+        place -= 1;
+        if let Some(general) = least_above(names[place], &names[place + 1..]) {
+            names[place] = general;
+            names.truncate(place + 1);
+            return Some(names);
+        }
+    }
+    None
+}
+
+/// The beginning of the order that comes behind this one, round by round; none behind the last.
+///
+/// # Errors
+///
+/// `AllocError` where memory is refused.
+pub(crate) fn next_order(mut order: Vec<Vec<u8>>) -> Result<Option<Vec<Vec<u8>>>, AllocError>
+    ensures { IfOk result (λ next. option_map (λ names. lists_in names.items) next ≡ next_order (lists_in order.items)) }
+{
+    while let Some(names) = order.pop() {
+        if let Some(next) = next_names(names) {
+            order.push(next)?;
+            return Ok(Some(order));
+        }
+    }
+    Ok(None)
+}

@@ -1,0 +1,74 @@
+-- Items, one word after the other.
+use Rattle.std.proofs.Common.{◌≡◌, ℕ, zero, suc, ◌+◌, ◌<◌, ◌≤◌, arith, length, drop, get_or, List, [], ◌∷◌, ◌++◌, Option, None, Some, Bor, Vec, Global, option_map, refl, sym, ap, ◌∙◌}
+use Rattle.std.proofs.lemmas.List.{drop_more}
+use Rattle.serde_json.specs.Data.{Data, array, number, unsigned, Items, no_items, item}
+use Rattle.serde_json.specs.View.{items_view, view}
+use Rattle.serde_json.specs.declared.value.Value.{Value, Array}
+use Rattle.serde_json.proofs.Views.{view-Array}
+use Rattle.text.specs.declared.stop.Stop.{Stop}
+use Rattle.text.specs.Parts.{GivesPieces, left, pieces}
+use Rattle.json_lines.specs.Labels.{numbers}
+use Rattle.json_lines.specs.Told.{Word, all}
+
+-- the items of both lists
+abbrev pub join : Items → Items → Items
+join no_items es = es
+join (item d ds) es = item d (join ds es)
+
+-- these items before the others, where there are others
+abbrev pub onto : Items → Option Items → Option Items
+onto ds None = None
+onto ds (Some es) = Some (join ds es)
+
+pub join_none : (ds : Items) → join ds no_items ≡ ds
+join_none no_items = refl
+join_none (item d ds) = ap (item d) (join_none ds)
+
+-- one value more
+pub join_last : (vs : List Value) (v : Value) (es : Items) → join (items_view (vs ++ v ∷ [])) es ≡ join (items_view vs) (item (view v) es)
+join_last [] v es = refl
+join_last (w ∷ vs) v es = ap (item (view w)) (join_last vs v es)
+
+onto_last : (vs : List Value) (v : Value) (o : Option Items) → onto (items_view (vs ++ v ∷ [])) o ≡ onto (items_view vs) (option_map (item (view v)) o)
+onto_last vs v None = refl
+onto_last vs v (Some es) = ap Some (join_last vs v es)
+
+-- a text as its first piece and those that are left
+given_left : (stop : Stop) (front : Word) (rest : Option (Bor (List ℕ))) (pieces : List Word) → GivesPieces stop front rest pieces → pieces ≡ front ∷ left stop rest
+given_left stop front None all h = h
+given_left stop front (Some r) all h = h
+
+module _ (tells : Word → Option Data) (stop : Stop) where
+  -- a word more is told
+  pub more_told : (old new : List Value) (v : Value) (bytes front : Word) (rest : Option (Bor (List ℕ))) (total : Option Items) → GivesPieces stop front rest (pieces stop bytes)
+      → new ≡ old ++ v ∷ [] → Some (view v) ≡ tells front → onto (items_view old) (all tells (pieces stop bytes)) ≡ total → onto (items_view new) (all tells (left stop rest)) ≡ total
+  more_told old new v bytes front rest total given pushed told so_far =
+      let first = rw (given_left stop front rest (pieces stop bytes) given) at so_far in
+      rw (pushed, onto_last old v (all tells (left stop rest))) (rw (← told) at first)
+
+  -- a word tells nothing
+  pub none_told : (old : Items) (bytes front : Word) (rest : Option (Bor (List ℕ))) (total : Option Items) → GivesPieces stop front rest (pieces stop bytes)
+      → None ≡ tells front → onto old (all tells (pieces stop bytes)) ≡ total → None ≡ option_map array total
+  none_told old bytes front rest total given none so_far =
+      let first = rw (given_left stop front rest (pieces stop bytes) given) at so_far in
+      ap (option_map array) (rw (← none) at first)
+
+-- all words are told
+pub all_told : (tells : Word → Option Data) (old : Vec Value Global) (total : Option Items) → onto (items_view old.items) (all tells []) ≡ total → Some (view (Array old)) ≡ option_map array total
+all_told tells old total so_far = ap (λ (d : Data). Some d) (view-Array old ∙ ap array (sym (join_none (items_view old.items)))) ∙ ap (option_map array) so_far
+
+-- one general more
+pub numbers_further : (old new : List Value) (v : Value) (i : ℕ) (ns : List ℕ) (n d : ℕ) (total : Items) → i < length ns → n ≡ get_or ns i d → new ≡ old ++ v ∷ [] → view v ≡ number (unsigned n)
+    → join (items_view old) (numbers (drop i ns)) ≡ total → join (items_view new) (numbers (drop (i + 1) ns)) ≡ total
+numbers_further old new v i ns n d total l e pushed seen so_far =
+    let first : numbers (drop i ns) ≡ item (number (unsigned n)) (numbers (drop (i + 1) ns)) = rw (drop_more ns i d l, ← e) refl in
+    rw (pushed, join_last old v (numbers (drop (i + 1) ns)), seen) (rw first at so_far)
+
+no_numbers : (i : ℕ) (ns : List ℕ) → length ns ≤ i → numbers (drop i ns) ≡ no_items
+no_numbers zero [] l = refl
+no_numbers zero (n ∷ ns) l = absurd (omega arith)
+no_numbers (suc i) [] l = refl
+no_numbers (suc i) (n ∷ ns) l = no_numbers i ns (omega arith)
+
+pub numbers_done : (i : ℕ) (ns : List ℕ) (old total : Items) → length ns ≤ i → join old (numbers (drop i ns)) ≡ total → old ≡ total
+numbers_done i ns old total l so_far = sym (join_none old) ∙ rw (no_numbers i ns l) at so_far

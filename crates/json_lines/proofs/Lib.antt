@@ -1,0 +1,4 @@
+mod CleanLemmas
+mod ItemLemmas
+mod LabelLemmas
+mod ToldLemmas

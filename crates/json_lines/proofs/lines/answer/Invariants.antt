@@ -1,0 +1,10 @@
+use Rattle.std.proofs.Common.{◌≡◌, ◌++◌, length}
+use Rattle.text.specs.Parts.{lines_of}
+use Rattle.json_lines.specs.Lines.{json_text, object_lines, objects}
+use Rattle.json_lines.proofs.lines.answer.Given as goal
+
+abbrev pub invariant-loop-first : goal.invariant-loop-first
+invariant-loop-first l = l.out.items ++ object_lines (objects l.held (lines_of l.rest)) ≡ json_text l.text
+
+abbrev pub decreases-loop-first : goal.decreases-loop-first
+decreases-loop-first l = length l.rest

@@ -1,0 +1,6 @@
+pub mod Told
+pub mod Shapes
+pub mod Labels
+pub mod Objects
+pub mod Lines
+pub mod Refusals

@@ -1,0 +1,57 @@
+//! One line of a file, as JSON.
+ghost use Rattle.std.specs.Prelude.{◌≡◌, false, IfOk};
+ghost use Rattle.serde_json.specs.View.{members_view};
+ghost use Rattle.serde_json.specs.Written.{members_have_float};
+ghost use Rattle.json_lines.specs.Lines.{object_line, with_file};
+ghost use Rattle.json_lines.specs.Labels.{at_first};
+ghost use Rattle.json_lines.specs.Objects.{line_object};
+ghost use Rattle.json_lines.specs.Refusals.{refusal_object};
+
+use crate::held::Held;
+use crate::lines::push_object;
+use crate::objects::line_object;
+use crate::refusals::refusal_object;
+use serde_json::{Map, Value, put};
+use std::alloc::{AllocError, Global};
+
+/// The line of an object, with the file's name in it.
+#[tactic(auto, using(crate::proofs::CleanLemmas::file_clean))]
+fn named(alloc: Global, file: &str, object: Map<String, Value>) -> Result<Vec<u8>, AllocError>
+    requires { members_have_float (members_view object.entries) ≡ false }
+    ensures { IfOk result (λ line. line.items ≡ object_line (with_file file.now (members_view object.entries))) }
+{
+    let mut object = object;
+    put(
+        &mut object,
+        alloc,
+        "file",
+        Value::try_from_str(alloc, file)?,
+    )?;
+    let mut out = Vec::new(alloc);
+    push_object(alloc, &mut out, object)?;
+    Ok(out)
+}
+
+/// A line of the answer on the file of this name, as a line of JSON.
+///
+/// # Errors
+///
+/// `AllocError` where memory is refused.
+pub fn answer_of(alloc: Global, file: &str, line: &[u8]) -> Result<Vec<u8>, AllocError>
+    ensures { IfOk result (λ out. out.items ≡ object_line (with_file file.now (line_object at_first line.now))) }
+{
+    let object = line_object(alloc, Held::at_first(), line)?;
+    named(alloc, file, object)
+}
+
+/// What is said where a task is not done on the file of this name, as a line of JSON.
+///
+/// # Errors
+///
+/// `AllocError` where memory is refused.
+pub fn refusal_of(alloc: Global, file: &str, text: &[u8]) -> Result<Vec<u8>, AllocError>
+    ensures { IfOk result (λ out. out.items ≡ object_line (with_file file.now (refusal_object text.now))) }
+{
+    let object = refusal_object(alloc, text)?;
+    named(alloc, file, object)
+}

@@ -1,0 +1,148 @@
+//! A line as an object.
+ghost use Rattle.std.specs.Prelude.{◌≡◌, IfOk, IfErr, OnOk, map, option_map};
+ghost use Rattle.serde_json.specs.View.{members_view, view};
+ghost use Rattle.text.specs.Parts.{pieces};
+ghost use Rattle.text.specs.Stop.{space};
+ghost use Rattle.json_lines.specs.Objects.{called, first_shaped, found, line_object, shaped, told_by, unshaped, with_mark, with_name};
+ghost use Rattle.json_lines.specs.Shapes.{row_of};
+
+use crate::held::Held;
+use crate::labels::put_place;
+use crate::shape::{Shape, shapes};
+use crate::stops::SPACE;
+use crate::told::{places, spelled, told};
+use serde_json::{Map, Value, put};
+use std::alloc::{AllocError, Global};
+use text::piece;
+
+/// Puts a member by its name, but for a dash.
+fn put_named(
+    alloc: Global,
+    object: &mut Map<String, Value>,
+    name: &str,
+    value: Value,
+) -> Result<(), AllocError>
+    ensures { OnOk result (members_view object.new.entries ≡ with_name name.now (view value) (members_view object.old.entries)) }
+{
+    if name == "-" {
+        return Ok(());
+    }
+    put(object, alloc, name, value)
+}
+
+/// Puts what the words of a line tell by the words of a shape and their names, and answers whether all of them fit.
+fn put_told(
+    alloc: Global,
+    object: &mut Map<String, Value>,
+    parts: &[(&'static str, &'static str)],
+    line: &[u8],
+) -> Result<bool, AllocError>
+    ensures { IfOk result (λ fits. found fits (members_view object.new.entries)
+        ≡ told_by (map (λ p. (p.0.now, p.1.now)) parts.now) (pieces space line.now) (members_view object.old.entries)) }
+{
+    let mut rest = Some(line);
+    for (kind, name) in parts {
+        if *kind == "*" {
+            let Some(value) = places(alloc, rest)? else {
+                return Ok(false);
+            };
+            put_named(alloc, object, name, value)?;
+            return Ok(true);
+        }
+        let Some(words) = rest else {
+            return Ok(false);
+        };
+        let (word, further) = piece(SPACE, words);
+        let Some(value) = told(alloc, kind.as_bytes(), word)? else {
+            return Ok(false);
+        };
+        put_named(alloc, object, name, value)?;
+        rest = further;
+    }
+    Ok(rest.is_none())
+}
+
+/// An object that says what a line is called.
+pub(crate) fn called(alloc: Global, line: &str) -> Result<Map<String, Value>, AllocError>
+    ensures { IfOk result (λ object. members_view object.entries ≡ called line.now) }
+{
+    let mut object = Map::new(alloc);
+    put(
+        &mut object,
+        alloc,
+        "line",
+        Value::try_from_str(alloc, line)?,
+    )?;
+    Ok(object)
+}
+
+/// Puts what holds of each line of a shape.
+fn put_mark(alloc: Global, object: &mut Map<String, Value>, shape: &Shape) -> Result<(), AllocError>
+    ensures { OnOk result (members_view object.new.entries ≡ with_mark (row_of shape.now) (members_view object.old.entries)) }
+{
+    if shape.mark.is_empty() {
+        return Ok(());
+    }
+    put(object, alloc, shape.mark, Value::Bool(shape.holds))
+}
+
+/// The object of a line of this shape; none where it does not fit.
+#[tactic(auto, unfolding(crate::specs::Objects::shaped))]
+fn shaped(
+    alloc: Global,
+    shape: &Shape,
+    line: &[u8],
+) -> Result<Option<Map<String, Value>>, AllocError>
+    ensures { IfOk result (λ o. option_map (λ object. members_view object.entries) o ≡ shaped (row_of shape.now) (pieces space line.now)) }
+{
+    let mut object = called(alloc, shape.line)?;
+    put_mark(alloc, &mut object, shape)?;
+    if put_told(alloc, &mut object, shape.parts, line)? {
+        Ok(Some(object))
+    } else {
+        Ok(None)
+    }
+}
+
+/// The object of a line by the first of these shapes that fits, with where the line stands.
+fn first_shaped(
+    alloc: Global,
+    held: Held,
+    shapes: &[Shape],
+    line: &[u8],
+) -> Result<Option<Map<String, Value>>, AllocError>
+    ensures { IfOk result (λ o. option_map (λ object. members_view object.entries) o ≡ first_shaped held (map row_of shapes.now) (pieces space line.now)) }
+{
+    for shape in shapes {
+        if let Some(object) = shaped(alloc, shape, line)? {
+            let mut placed = object;
+            put_place(alloc, &mut placed, held, shape.within)?;
+            return Ok(Some(placed));
+        }
+    }
+    Ok(None)
+}
+
+/// A line of no shape, as it is.
+pub(crate) fn unshaped(alloc: Global, line: &[u8]) -> Result<Map<String, Value>, AllocError>
+    ensures { IfOk result (λ object. members_view object.entries ≡ unshaped line.now) }
+{
+    let mut object = called(alloc, "text")?;
+    put(&mut object, alloc, "text", spelled(alloc, line)?)?;
+    Ok(object)
+}
+
+/// The object of a line.
+#[tactic(auto, unfolding(crate::specs::Objects::line_object))]
+pub(crate) fn line_object(
+    alloc: Global,
+    held: Held,
+    line: &[u8],
+) -> Result<Map<String, Value>, AllocError>
+    ensures { IfOk result (λ object. members_view object.entries ≡ line_object held line.now) }
+{
+    match first_shaped(alloc, held, shapes(), line)? {
+        Some(object) => Ok(object),
+        None => unshaped(alloc, line),
+    }
+}

@@ -1,0 +1,120 @@
+-- Refusals with a report behind their line.
+use Rattle.std.proofs.Common.{ℕ, ◌≡◌, ◌≢◌, Bool, true, false, List, [], refl, subst, sym}
+use Rattle.std.specs.Borrow.{Bor}
+use Rattle.std.specs.declared.alloc.Global.{Global}
+use Rattle.std.specs.Prelude.{Option, None, Some, IfSome, String, string_bytes}
+use Rattle.streams.specs.Names.{shown}
+use Rattle.lab.specs.Faults.{IsTold, IsToldIf, Stops, fault_of, text_fault}
+use Rattle.lab.specs.Hints.{hint_behind}
+use Rattle.lab.specs.Serving.{AreSecondBytes, IfKnown, IsHintLater, IsRefusedLater, IsToldLater}
+use Rattle.lab.specs.Whys.{TellsWhyOf}
+use Rattle.lab.specs.declared.whys.Traced.{Traced}
+use Rattle.lab.specs.declared.whys.Traced.TheVariants.{Nothing}
+use Rattle.lab.specs.declared.failure.Failure.{Failure}
+use Rattle.lab.specs.declared.failure.Failure.TheVariants.{Read, Text, Refused, Write, Memory}
+use Rattle.lab.specs.declared.first_answer.FirstAnswer.TheVariants.{Muster}
+use Rattle.round.specs.Scenario.{Scenario}
+use Rattle.command_line.specs.declared.tasks.Lieutenants.{Lieutenants}
+use Rattle.lab.specs.declared.hint.Hint.{Hint}
+use Rattle.lab.specs.declared.refusal.Refusal.{Refusal}
+use Rattle.lab.specs.declared.refusal.Refusal.TheVariants as refusal
+
+-- what is said with the name that was made for the file
+pub told_named : (name : Option (List ℕ)) (own : List ℕ) (P : List ℕ → Type 0) → IfSome name (λ n. own ≡ n) → P own → IfSome name P
+told_named None own P is p = tt
+told_named (Some n) own P is p = subst P is p
+
+-- nothing, whatever the name
+pub nothing_said : (name : Option (List ℕ)) → IfSome name (λ n. ◌≡◌ {A = List ℕ} [] [])
+nothing_said None = tt
+nothing_said (Some n) = refl
+
+-- a text behind the line
+pub by_text : (cause : Refusal) (file : Bor (List ℕ)) (text : String Global) (tells : List ℕ → Type 0) → tells (string_bytes text) → IsTold cause file tells (text_fault cause file text)
+by_text (refusal.Codec error) file text tells t = (refl, (λ e. cc), (λ e. cc), t)
+by_text (refusal.Object fault) file text tells t = (refl, (λ e. cc), (λ e. cc), t)
+by_text (refusal.Verifier fault) file text tells t = (refl, (λ e. cc), (λ e. cc), t)
+by_text (refusal.Assembly error) file text tells t = (refl, (λ e. cc), (λ e. cc), t)
+by_text (refusal.Table error) file text tells t = (refl, (λ e. cc), (λ e. cc), t)
+by_text (refusal.Scenario error) file text tells t = (refl, (λ e. cc), (λ e. cc), t)
+by_text (refusal.Setting error) file text tells t = (refl, (λ e. cc), (λ e. cc), t)
+by_text (refusal.Trace error) file text tells t = (refl, (λ e. cc), (λ e. cc), t)
+by_text (refusal.Threads error) file text tells t = (refl, (λ e. cc), (λ e. cc), t)
+by_text refusal.NotText file text tells t = (refl, refl)
+by_text refusal.Memory file text tells t = tt
+
+-- another fact of the text
+weaker : (cause : Refusal) (file : Bor (List ℕ)) (P Q : List ℕ → Type 0) (fault : Failure) → ((text : List ℕ) → P text → Q text) → IsTold cause file P fault → IsTold cause file Q fault
+weaker cause file P Q (Read own) f told = told
+weaker cause file P Q (Text own) f told = told
+weaker cause file P Q (Refused own hint) f told = (told.0, told.1, told.2, f (hint_behind hint) told.3)
+weaker cause file P Q Write f told = told
+weaker cause file P Q Memory f told = told
+
+pub told_weaker : (explained : Bool) (cause : Refusal) (file : Bor (List ℕ)) (P Q : List ℕ → Type 0) (fault : Failure) → ((text : List ℕ) → P text → Q text)
+    → IsToldIf explained cause file P fault → IsToldIf explained cause file Q fault
+told_weaker false cause file P Q fault f told = told
+told_weaker true cause file P Q fault f told = weaker cause file P Q fault f told
+
+-- ---- of a second file
+
+known_bytes : (known : Option (Option (List ℕ))) (bytes : List ℕ) (P : List ℕ → Type 0) → AreSecondBytes known bytes → P bytes → IfKnown known P
+known_bytes None bytes P are p = subst P are p
+known_bytes (Some None) bytes P are p = tt
+known_bytes (Some (Some all)) bytes P are p = subst P are p
+
+plain : (unread : Type 0) (known : Option (Option (List ℕ))) (R : Refusal → Type 0) (of : Traced) (cause : Refusal) (file : Bor (List ℕ))
+    → (cause ≢ refusal.Memory → R cause) → Stops unread (λ r h. R r × IsHintLater false file.now known of r h) file.now (fault_of cause file)
+plain unread known R of (refusal.Codec error) file refused = ((λ e. cc), (refused (λ e. cc), refl))
+plain unread known R of (refusal.Object fault) file refused = ((λ e. cc), (refused (λ e. cc), refl))
+plain unread known R of (refusal.Verifier fault) file refused = ((λ e. cc), (refused (λ e. cc), refl))
+plain unread known R of (refusal.Assembly error) file refused = ((λ e. cc), (refused (λ e. cc), refl))
+plain unread known R of (refusal.Table error) file refused = ((λ e. cc), (refused (λ e. cc), refl))
+plain unread known R of (refusal.Scenario error) file refused = ((λ e. cc), (refused (λ e. cc), refl))
+plain unread known R of (refusal.Setting error) file refused = ((λ e. cc), (refused (λ e. cc), refl))
+plain unread known R of (refusal.Trace error) file refused = ((λ e. cc), (refused (λ e. cc), refl))
+plain unread known R of (refusal.Threads error) file refused = ((λ e. cc), (refused (λ e. cc), refl))
+plain unread known R of refusal.NotText file refused = ((refused (λ e. cc), refl), refl)
+plain unread known R of refusal.Memory file refused = tt
+
+reported : (unread : Type 0) (known : Option (Option (List ℕ))) (R : Refusal → Type 0) (of : Traced) (bytes : List ℕ) (cause : Refusal) (file : Bor (List ℕ)) (fault : Failure)
+    → AreSecondBytes known bytes → (cause ≢ refusal.Memory → R cause) → IsTold cause file (TellsWhyOf cause of file.now bytes) fault
+    → Stops unread (λ r h. R r × IsHintLater true file.now known of r h) file.now fault
+reported unread known R of bytes cause file (Read own) are refused told = absurd told
+reported unread known R of bytes cause file (Text own) are refused told =
+    let other : cause ≢ refusal.Memory = λ e. let f = told.0 in cc in
+    ((subst R told.0 (refused other), known_bytes known bytes _ are (nothing_said (shown file.now))), subst (λ (f : Bor (List ℕ)). f.now ≡ file.now) (sym told.1) refl)
+reported unread known R of bytes cause file (Refused own hint) are refused told =
+    let P : Refusal → Type 0 = λ r. (r ≢ refusal.NotText) × (R r × IsHintLater true file.now known of r hint) in
+    subst P (sym told.0) (told.1, (refused told.2, known_bytes known bytes _ are told.3))
+reported unread known R of bytes cause file Write are refused told = absurd told
+reported unread known R of bytes cause file Memory are refused told = tt
+
+pub stops_later : (unread : Type 0) (explained : Bool) (known : Option (Option (List ℕ))) (R : Refusal → Type 0) (of : Traced) (bytes : List ℕ) (cause : Refusal) (file : Bor (List ℕ)) (fault : Failure)
+    → AreSecondBytes known bytes → (cause ≢ refusal.Memory → R cause) → IsToldIf explained cause file (TellsWhyOf cause of file.now bytes) fault
+    → Stops unread (λ r h. R r × IsHintLater explained file.now known of r h) file.now fault
+stops_later unread false known R of bytes cause file fault are refused told =
+    subst (λ (f : Failure). Stops unread (λ r h. R r × IsHintLater false file.now known of r h) file.now f) (sym told) (plain unread known R of cause file refused)
+stops_later unread true known R of bytes cause file fault are refused told = reported unread known R of bytes cause file fault are refused told
+
+-- ---- of threads
+
+nothing_known : (known : Option (Option (List ℕ))) (name : Option (List ℕ)) → IfKnown known (λ all. IfSome name (λ n. ◌≡◌ {A = List ℕ} [] []))
+nothing_known None name = nothing_said name
+nothing_known (Some None) name = tt
+nothing_known (Some (Some all)) name = nothing_said name
+
+pub unmustered : (unread : Type 0) (explained : Bool) (known : Option (Option (List ℕ))) (s : Scenario) (who : Option Lieutenants) (cause : Refusal) (file : Bor (List ℕ))
+    → (cause ≢ refusal.Memory → IsRefusedLater (Muster s who) known cause) → Stops unread (IsToldLater explained file.now known (Muster s who)) file.now (fault_of cause file)
+unmustered unread false known s who cause file refused = plain unread known (IsRefusedLater (Muster s who) known) Nothing cause file refused
+unmustered unread true known s who (refusal.Threads error) file refused = ((λ e. cc), (refused (λ e. cc), nothing_known known (shown file.now)))
+unmustered unread true known s who refusal.Memory file refused = tt
+unmustered unread true known s who (refusal.Codec error) file refused = absurd (refused (λ e. cc)).1
+unmustered unread true known s who (refusal.Object fault) file refused = absurd (refused (λ e. cc)).1
+unmustered unread true known s who (refusal.Verifier fault) file refused = absurd (refused (λ e. cc)).1
+unmustered unread true known s who (refusal.Assembly error) file refused = absurd (refused (λ e. cc)).1
+unmustered unread true known s who (refusal.Table error) file refused = absurd (refused (λ e. cc)).1
+unmustered unread true known s who (refusal.Scenario error) file refused = absurd (refused (λ e. cc)).1
+unmustered unread true known s who (refusal.Setting error) file refused = absurd (refused (λ e. cc)).1
+unmustered unread true known s who (refusal.Trace error) file refused = absurd (refused (λ e. cc)).1
+unmustered unread true known s who refusal.NotText file refused = absurd (refused (λ e. cc)).1

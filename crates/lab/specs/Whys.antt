@@ -1,0 +1,59 @@
+-- What is said behind the line of a refusal where an explanation is asked for: the report of crate `why`, by the file's name and bytes.
+use Rattle.std.specs.Prelude.{ℕ, ◌≡◌, Bool, true, false, List, [], ◌++◌, Option, None, Some, IfSome, codes, is_some}
+use Rattle.command_line.specs.declared.tasks.Task.{Task}
+use Rattle.command_line.specs.declared.tasks.Task.TheVariants.{Assemble, Audit, Check, Disassemble, ExplainDecisions, Muster, Play}
+use Rattle.asm.specs.declared.fault.AsmError.TheVariants as asm
+use Rattle.book.specs.declared.fault.TableError.TheVariants as book
+use Rattle.codec.specs.declared.fault.CodecError.TheVariants as codec
+use Rattle.trace.specs.declared.fault.TraceError.TheVariants as trace
+use Rattle.streams.specs.Names.{shown}
+use Rattle.why.specs.Assembly.{assembly_told}
+use Rattle.why.specs.Bytecode.{bytecode_told}
+use Rattle.why.specs.Chronicles.{chronicle_told, schedule_told}
+use Rattle.why.specs.Errors.{TellsScenario, TellsSetting}
+use Rattle.why.specs.Messages.{table_told}
+use Rattle.lab.specs.Seeming.{seems_at_first, seems_text}
+use Rattle.lab.specs.declared.first_answer.FirstAnswer.{FirstAnswer}
+use Rattle.lab.specs.declared.first_answer.FirstAnswer.TheVariants as answer
+use Rattle.lab.specs.declared.refusal.Refusal.{Refusal}
+use Rattle.lab.specs.declared.refusal.Refusal.TheVariants.{Codec, Assembly, Table, Scenario, Setting, Trace}
+use Rattle.lab.specs.declared.seeming.Likeness.{Likeness}
+use Rattle.lab.specs.declared.whys.Traced.{Traced}
+use Rattle.lab.specs.declared.whys.Traced.TheVariants as traced
+
+-- the task is to explain what it refuses
+abbrev pub is_explained : Task → Bool
+is_explained (Check file notation context explained traced) = explained
+is_explained (Assemble file spelling target explained) = explained
+is_explained (Disassemble file notation units explained) = explained
+is_explained (ExplainDecisions file traitors) = true
+is_explained (Play scenario schedule account explained) = is_some explained
+is_explained (Muster scenario explained) = is_some explained
+is_explained (Audit scenario chronicle explained) = is_some explained
+is_explained _ = false
+
+-- the line that bytes seem to be something else
+abbrev pub seems_line : Option Likeness → List ℕ
+seems_line None = []
+seems_line (Some likeness) = codes "\n" ++ seems_text likeness
+
+-- this text stands behind the line of a refusal of a file with this name, which is to be shown so, and these bytes
+abbrev pub TellsWhy : Refusal → Traced → List ℕ → List ℕ → List ℕ → Type 0
+TellsWhy (Trace (trace.At fault line)) traced.Schedule name bytes told = told ≡ schedule_told name bytes line
+TellsWhy (Trace (trace.At fault line)) traced.Chronicle name bytes told = told ≡ chronicle_told name bytes fault line None
+TellsWhy (Codec (codec.At fault unit)) of name bytes told = told ≡ seems_line (seems_at_first bytes) ++ bytecode_told name bytes fault unit
+TellsWhy (Assembly (asm.At fault line)) of name bytes told = told ≡ assembly_told name bytes fault line
+TellsWhy (Table (book.At fault line)) of name bytes told = told ≡ table_told name bytes fault line
+TellsWhy (Scenario error) of name bytes told = TellsScenario name bytes error told
+TellsWhy (Setting error) of name bytes told = TellsSetting name bytes error told
+TellsWhy _ of name bytes told = told ≡ []
+
+-- what a second file is, behind a first one with which the task goes on so
+abbrev pub traced_by : FirstAnswer → Traced
+traced_by (answer.Play c account explained) = traced.Schedule
+traced_by (answer.Audit c explained) = traced.Chronicle
+traced_by _ = traced.Nothing
+
+-- the same of the file's name as it is given; of one past ASCII with a control character nothing is said
+abbrev pub TellsWhyOf : Refusal → Traced → List ℕ → List ℕ → List ℕ → Type 0
+TellsWhyOf refusal of file bytes told = IfSome (shown file) (λ name. TellsWhy refusal of name bytes told)

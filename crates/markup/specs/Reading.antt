@@ -1,0 +1,27 @@
+-- What a reader of XML takes from a text without tags (XML 1.0, productions 14, 66 and 68).
+use Rattle.std.specs.Prelude.{ℕ, ◌==◌, if◌then◌else◌, List, [], ◌∷◌, ◌++◌, codes, bytes_eq, Option, None, Some, option_map}
+
+-- the character that a reference of this name stands for, of those that are written here
+abbrev pub meaning : List ℕ → Option ℕ
+meaning name =
+    if bytes_eq name (codes "amp") then Some 38
+    else if bytes_eq name (codes "lt") then Some 60
+    else if bytes_eq name (codes "gt") then Some 62
+    else if bytes_eq name (codes "quot") then Some 34
+    else if bytes_eq name (codes "#39") then Some 39
+    else if bytes_eq name (codes "#9") then Some 9
+    else if bytes_eq name (codes "#10") then Some 10
+    else if bytes_eq name (codes "#13") then Some 13
+    else None
+
+-- with one character before what else is read, if all can be read
+abbrev pub onto : Option ℕ → Option (List ℕ) → Option (List ℕ)
+onto None rest = None
+onto (Some c) rest = option_map (λ cs. c ∷ cs) rest
+
+-- what is read: outside of references, or inside of one whose name has begun so; a reference ends with a semicolon, and no tag is read
+abbrev pub read : Option (List ℕ) → List ℕ → Option (List ℕ)
+read None [] = Some []
+read (Some name) [] = None
+read None (c ∷ cs) = if c == 38 then read (Some []) cs else if c == 60 then None else onto (Some c) (read None cs)
+read (Some name) (c ∷ cs) = if c == 59 then onto (meaning name) (read None cs) else read (Some (name ++ c ∷ [])) cs

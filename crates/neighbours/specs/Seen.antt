@@ -1,0 +1,21 @@
+-- What is read of a scenario that names files (own).
+use Rattle.std.specs.Prelude.{ℕ, ◌≡◌, ◌⊎◌, Bool, true, false, List, Option, unwrap_or}
+use Rattle.std.specs.Str.{IsUtf8}
+use Rattle.toml.specs.Parse.{parse_document}
+use Rattle.command_line.specs.declared.tasks.Task.{Task}
+use Rattle.command_line.specs.declared.tasks.Task.TheVariants.{Play, Muster, Audit}
+use Rattle.references.specs.Names.{File}
+use Rattle.references.specs.Resolved.{Resolves}
+
+-- the task's first file is a scenario
+abbrev pub reads_scenario : Task → Bool
+reads_scenario (Play scenario schedule account explained) = true
+reads_scenario (Muster scenario explained) = true
+reads_scenario (Audit scenario chronicle explained) = true
+reads_scenario _ = false
+
+-- the bytes are no text, and stay; or the new ones are those in which these files stand, where that is another text
+abbrev pub Sees : List File → List ℕ → List ℕ → Type 0
+Sees files bytes new =
+    ((IsUtf8 bytes → ⊥) × (new ≡ bytes))
+    ⊎ ((text : Option (List ℕ)) × Resolves files (parse_document bytes) text × (new ≡ unwrap_or text bytes))

@@ -1,0 +1,10 @@
+//! The files beside a scenario, which it names.
+#![tactic(auto)]
+
+mod folder;
+mod naming;
+mod preparing;
+
+pub use folder::Folder;
+pub use naming::Untaken;
+pub use preparing::{reads_scenario, with_files};

@@ -1,0 +1,6 @@
+pub mod ByteLemmas
+pub mod LineLemmas
+pub mod NameLemmas
+pub mod RawLemmas
+pub mod RoundLemmas
+pub mod PieceLemmas

@@ -1,0 +1,59 @@
+-- The bytes that a text says, line by line.
+use Rattle.std.specs.Prelude.{ℕ, ◌+◌, ◌==◌, nat_eq, if◌then◌else◌, Bool, List, [], ◌∷◌, ◌++◌, codes, drop, slice_index, Result, Ok, Err}
+use Rattle.std.specs.List.{starts_with}
+use Rattle.std.specs.Str.{bytes_eq}
+use Rattle.hex.specs.Hex.{decode_sized}
+use Rattle.hex.specs.declared.error.FromHexError.{FromHexError}
+use Rattle.text.specs.declared.stop.Stop.TheVariants.{Blank, Solid}
+use Rattle.text.specs.Stop.{semicolon}
+use Rattle.text.specs.Parts.{before, from, lines_of}
+use Rattle.insn.specs.declared.insn.Insn.{Insn}
+use Rattle.codec.specs.Spelling.{program_bytes}
+use Rattle.asm.specs.declared.fault.Fault.{Fault}
+use Rattle.asm.specs.declared.fault.Fault.TheVariants.{Mnemonic, Operand, Count}
+use Rattle.asm.specs.declared.fault.AsmError.{AsmError}
+use Rattle.asm.specs.declared.fault.AsmError.TheVariants.{At, Memory}
+use Rattle.asm.specs.Faults.{at_line, ◌>>=◌}
+use Rattle.asm.specs.Line.{is_all_blank}
+use Rattle.asm.specs.Program.{said}
+
+-- what is no number of eight bytes is an operand of another kind
+abbrev pub in_bytes : Result (List ℕ) FromHexError → Result (List ℕ) Fault
+in_bytes (Ok bytes) = Ok bytes
+in_bytes (Err error) = Err Operand
+
+-- `0x` and sixteen digits: the eight bytes, in the order in which they stand
+abbrev pub eight_of : List ℕ → Result (List ℕ) Fault
+eight_of number = if starts_with nat_eq number (codes "0x") then in_bytes (decode_sized (drop 2 number) 8) else Err Operand
+
+-- the same with white space round it
+abbrev pub unit_in : List ℕ → Result (List ℕ) Fault
+unit_in operand = if is_all_blank (from Blank operand) then eight_of (before Blank operand) else Err Operand
+
+-- the word `.unit` and its operand
+abbrev pub raw_in : List ℕ → Result (List ℕ) Fault
+raw_in code = if bytes_eq (before Blank code) (codes ".unit") then unit_in (from Solid (from Blank code)) else Err Mnemonic
+
+-- what a line says that is assembled by itself, where names stand for nothing; one without an instruction says no bytes
+abbrev pub alone : Result (List Insn) AsmError → Result (List ℕ) Fault
+alone (Ok program) = Ok (program_bytes program)
+alone (Err (At Count line)) = Ok []
+alone (Err (At fault line)) = Err fault
+alone (Err Memory) = Ok []
+
+-- a dot begins no mnemonic
+abbrev pub is_dotted : List ℕ → Bool
+is_dotted line = slice_index (from Solid line) 0 == 46
+
+-- the bytes of a line, without its comment
+abbrev pub line_bytes : List ℕ → Result (List ℕ) Fault
+line_bytes line = if is_dotted line then raw_in (before semicolon (from Solid line)) else alone (said line)
+
+-- those of the lines from this number on, behind those that are done; the first fault of the first line that has one
+abbrev pub bytes_on : List ℕ → ℕ → List (List ℕ) → Result (List ℕ) AsmError
+bytes_on done number [] = Ok done
+bytes_on done number (line ∷ lines) = at_line number (line_bytes line) >>= λ bytes. bytes_on (done ++ bytes) (number + 1) lines
+
+-- the bytes that the text says, or its first fault
+unfoldable pub bytes_said : List ℕ → Result (List ℕ) AsmError
+bytes_said text = bytes_on [] 1 (lines_of text)

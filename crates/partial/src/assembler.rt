@@ -1,0 +1,117 @@
+//! The assembler of texts that have units as bytes.
+
+ghost use Rattle.std.specs.Prelude.{◌≡◌, ◌≢◌, ◌≤◌, drop, length, IfOk, IfErr, Ok, Err};
+ghost use Rattle.text.specs.Stop.{semicolon};
+ghost use Rattle.text.specs.Parts.{before};
+ghost use Rattle.asm.specs.declared.fault.AsmError.TheVariants.{Memory};
+ghost use Rattle.asm.specs.Faults.{at_line};
+ghost use Rattle.asm.specs.Program.{said};
+ghost use Rattle.partial.specs.Reading.{alone, bytes_said, eight_of, line_bytes, raw_in, unit_in};
+
+use crate::lines::first_line;
+use asm::{AsmError, Fault};
+use codec::encode;
+use std::alloc::Global;
+use text::{Stop, cut};
+
+/// The bytes that the text says, line by line: those of an instruction, or the eight of `.unit 0x..`. Names stand for
+/// nothing: a jump has its distance.
+///
+/// # Errors
+///
+/// The fault of the first line that has one, as of [`asm::assemble`]; or want of memory.
+#[tactic(auto, unfolding(crate::specs::Reading::bytes_said))]
+pub fn assemble(alloc: Global, text: &str) -> Result<Vec<u8>, AsmError>
+    ensures said { IfOk result (λ bytes. bytes_said text.now ≡ Ok bytes.items) }
+    ensures fault { IfErr result (λ e. e ≢ Memory → bytes_said text.now ≡ Err e) }
+{
+    let mut bytes = Vec::new(alloc);
+    let mut rest = text;
+    let mut number = 1;
+    while let Some((line, behind)) = first_line(rest) {
+        let own = bytes_in(alloc, number, line)?;
+        bytes.extend_from_slice(own.as_slice())?;
+        rest = behind;
+        number += 1;
+    }
+    Ok(bytes)
+}
+
+/// The bytes of the line of this number.
+fn bytes_in(alloc: Global, number: u64, line: &str) -> Result<Vec<u8>, AsmError>
+    ensures said { IfOk result (λ bytes. line_bytes line.now ≡ Ok bytes.items) }
+    ensures fault { IfErr result (λ e. e ≢ Memory → at_line number (line_bytes line.now) ≡ Err e) }
+{
+    let (_, solid) = cut(Stop::Solid, line.as_bytes());
+    if solid.is_empty() || solid[0] != b'.' {
+        return bytes_alone(alloc, number, line);
+    }
+    match raw(solid) {
+        Ok(unit) => Ok(unit.to_vec(alloc)?),
+        Err(fault) => Err(AsmError::At(fault, number)),
+    }
+}
+
+/// Those of a line that is assembled by itself.
+fn bytes_alone(alloc: Global, number: u64, line: &str) -> Result<Vec<u8>, AsmError>
+    ensures said { IfOk result (λ bytes. alone (said line.now) ≡ Ok bytes.items) }
+    ensures fault { IfErr result (λ e. e ≢ Memory → at_line number (alone (said line.now)) ≡ Err e) }
+{
+    match asm::assemble(alloc, line) {
+        Ok(program) => Ok(encode(alloc, &program)?),
+        Err(AsmError::At(Fault::Count, _)) => Ok(Vec::new(alloc)),
+        Err(AsmError::At(fault, _)) => Err(AsmError::At(fault, number)),
+        Err(AsmError::Memory) => Err(AsmError::Memory),
+    }
+}
+
+/// The eight bytes of a line that a dot begins.
+fn raw(solid: &[u8]) -> Result<[u8; 8], Fault>
+    ensures said { IfOk result (λ unit. raw_in (before semicolon solid.now) ≡ Ok unit) }
+    ensures fault { IfErr result (λ e. raw_in (before semicolon solid.now) ≡ Err e) }
+{
+    let (code, _) = cut(Stop::Byte(b';'), solid);
+    let (word, rest) = cut(Stop::Blank, code);
+    if word != b".unit".as_slice() {
+        return Err(Fault::Mnemonic);
+    }
+    let (_, operand) = cut(Stop::Solid, rest);
+    unit(operand)
+}
+
+/// The eight bytes of an operand, with white space behind it.
+fn unit(operand: &[u8]) -> Result<[u8; 8], Fault>
+    ensures said { IfOk result (λ unit. unit_in operand.now ≡ Ok unit) }
+    ensures fault { IfErr result (λ e. unit_in operand.now ≡ Err e) }
+{
+    let (number, rest) = cut(Stop::Blank, operand);
+    let (_, behind) = cut(Stop::Solid, rest);
+    if behind.is_empty() {
+        eight(number)
+    } else {
+        Err(Fault::Operand)
+    }
+}
+
+/// The eight bytes of `0x` and sixteen digits.
+fn eight(number: &[u8]) -> Result<[u8; 8], Fault>
+    ensures said { IfOk result (λ unit. eight_of number.now ≡ Ok unit) }
+    ensures fault { IfErr result (λ e. eight_of number.now ≡ Err e) }
+{
+    if !number.starts_with(b"0x") {
+        return Err(Fault::Operand);
+    }
+    let mut unit = [0; 8];
+    match hex::decode_to_slice(digits(number), &mut unit) {
+        Ok(()) => Ok(unit),
+        Err(_) => Err(Fault::Operand),
+    }
+}
+
+/// What stands behind the first two bytes.
+fn digits(number: &[u8]) -> &[u8]
+    requires { 2 ≤ length number.now }
+    ensures { result.now ≡ drop 2 number.now }
+{
+    &number[2..]
+}

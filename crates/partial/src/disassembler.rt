@@ -1,0 +1,122 @@
+//! The disassembler that goes on past what cannot be decoded.
+
+ghost use Rattle.std.specs.Prelude.{◌≡◌, ◌≢◌, ◌<◌, ◌≤◌, ◌/◌, ◌%◌, ◌++◌, codes, drop, length, slice_index, string_bytes, IfOk, IfErr, OnOk, Ok};
+ghost use Rattle.codec.specs.declared.fault.Fault.TheVariants.{Length};
+ghost use Rattle.codec.specs.declared.fault.CodecError.TheVariants.{At, Memory};
+ghost use Rattle.partial.specs.Pieces.{Piece, Raw, IsFirst};
+ghost use Rattle.partial.specs.Printing.{IsTextOf, kind_of, piece_text};
+ghost use Rattle.partial.specs.Reading.{bytes_said};
+
+use asm::put_instruction;
+use codec::{CodecError, Fault, instruction};
+use std::alloc::{AllocError, Global};
+
+/// The text of whole units: one instruction a line, as ever, and for each unit with which none begins a line
+/// `.unit 0x..` with its eight bytes and the code of why. [`crate::assemble`] gives the bytes back.
+///
+/// # Errors
+///
+/// `Length` where the number of bytes is no multiple of 8; or want of memory.
+pub fn disassemble(alloc: Global, bytes: &[u8]) -> Result<String, CodecError>
+    ensures text { IfOk result (λ text. IsTextOf bytes.now (string_bytes text)) }
+    // The text says these bytes, and no others.
+    ensures again { IfOk result (λ text. bytes_said (string_bytes text) ≡ Ok bytes.now) }
+    ensures cut { IfErr result (λ e. e ≢ Memory → length bytes.now % 8 ≢ 0) }
+    ensures fault { IfErr result (λ e. e ≢ Memory → e ≡ At Length (length bytes.now / 8)) }
+{
+    if bytes.len() % 8 != 0 {
+        return Err(CodecError::At(Fault::Length, bytes.len() / 8));
+    }
+    Ok(text_of(alloc, bytes)?)
+}
+
+/// The text of whole units.
+fn text_of(alloc: Global, bytes: &[u8]) -> Result<String, AllocError>
+    requires { length bytes.now % 8 ≡ 0 }
+    ensures text { IfOk result (λ text. IsTextOf bytes.now (string_bytes text)) }
+    ensures again { IfOk result (λ text. bytes_said (string_bytes text) ≡ Ok bytes.now) }
+{
+    let mut text = String::new(alloc);
+    let mut rest = bytes;
+    while !rest.is_empty() {
+        let size = put_line(alloc, &mut text, rest)?;
+        rest = behind(rest, size);
+    }
+    Ok(text)
+}
+
+/// What stands behind so many bytes.
+fn behind(bytes: &[u8], size: usize) -> &[u8]
+    requires { size ≤ length bytes.now }
+    ensures { result.now ≡ drop size bytes.now }
+{
+    &bytes[size..]
+}
+
+/// Adds the line of what the bytes begin with: how many bytes that is.
+fn put_line(alloc: Global, text: &mut String, bytes: &[u8]) -> Result<usize, AllocError>
+    requires { 8 ≤ length bytes.now }
+    ensures some { IfOk result (λ size. 0 < size) }
+    ensures inside { IfOk result (λ size. size ≤ length bytes.now) }
+    ensures whole { IfOk result (λ size. size % 8 ≡ 0) }
+    ensures piece { IfOk result (λ size. (piece : Piece) × IsFirst bytes.now piece (drop size bytes.now)
+        × (string_bytes text.new ≡ string_bytes text.old ++ (piece_text piece ++ codes "\n"))) }
+{
+    let size = put_piece(alloc, text, bytes)?;
+    text.push_str("\n")?;
+    Ok(size)
+}
+
+/// Adds what the bytes begin with: how many bytes that is.
+fn put_piece(alloc: Global, text: &mut String, bytes: &[u8]) -> Result<usize, AllocError>
+    requires { 8 ≤ length bytes.now }
+    ensures some { IfOk result (λ size. 0 < size) }
+    ensures inside { IfOk result (λ size. size ≤ length bytes.now) }
+    ensures whole { IfOk result (λ size. size % 8 ≡ 0) }
+    ensures piece { IfOk result (λ size. (piece : Piece) × IsFirst bytes.now piece (drop size bytes.now)
+        × (string_bytes text.new ≡ string_bytes text.old ++ piece_text piece)) }
+{
+    match instruction(bytes) {
+        Ok(insn) => {
+            put_instruction(text, &insn)?;
+            Ok(8 * insn.units() as usize)
+        }
+        Err(fault) => {
+            put_raw(alloc, text, &bytes[..8], fault)?;
+            Ok(8)
+        }
+    }
+}
+
+/// Adds a unit with which no instruction begins, by this fault.
+fn put_raw(alloc: Global, text: &mut String, unit: &[u8], fault: Fault) -> Result<(), AllocError>
+    requires { 0 < length unit.now }
+    ensures { OnOk result (string_bytes text.new ≡ string_bytes text.old ++ piece_text (Raw unit.now fault)) }
+{
+    let digits = hex::encode(alloc, unit)?;
+    let kind = kind(fault, unit[0]);
+    write!(text, ".unit 0x{digits} ; {fault}{kind}")
+}
+
+/// Which instruction is left out, by its opcode.
+fn kind(fault: Fault, opcode: u8) -> &'static str
+    ensures { result.now ≡ kind_of fault opcode }
+{
+    match fault {
+        Fault::LeftOut => left_out(opcode),
+        _ => "",
+    }
+}
+
+/// The same of an opcode that is left out.
+fn left_out(opcode: u8) -> &'static str
+    ensures { result.now ≡ kind_of Fault.LeftOut opcode }
+{
+    match opcode {
+        0x18 => " wide load",
+        0x85 => " call",
+        0xc3 => " atomic32",
+        0xdb => " atomic64",
+        _ => " packet",
+    }
+}

@@ -1,0 +1,4 @@
+pub mod Names
+pub mod Members
+pub mod Asking
+pub mod Resolved

@@ -1,0 +1,94 @@
+-- A scenario in which the files stand where they are named, and each traitor has a table of his own (own).
+use Rattle.std.specs.Prelude.{◌≡◌, ◌≤◌, ℕ, Bool, true, false, ◌||◌, if◌then◌else◌, List, Option, None, Some, is_some, option_map, option_and_then, codes, bytes_eq}
+use Rattle.toml.specs.Data.{Data, string, array, table, Items, no_items, item, Members, no_members, member, as_table, get_member, members_depth, members_have_valid_dates}
+use Rattle.toml.specs.Parse.{parse_document}
+use Rattle.references.specs.declared.key.Key.{Key}
+use Rattle.references.specs.Names.{File, key_of, name_at, place_of, seats, text_named, traitors}
+use Rattle.references.specs.Members.{join, put}
+
+-- what stands in the place of the file that a table names by the key k: of which program, and its text
+abbrev pub program : List File → Members → List ℕ → Option (Key × List ℕ)
+program files ms k =
+    option_and_then (λ key. option_and_then (λ name. option_map (λ t. (key, t)) (text_named files key name)) (name_at key ms)) (key_of k)
+
+-- an entry without a file: this general in place of those who share the table
+abbrev pub kept : Option Data → List ℕ → Data → Members → Members
+kept None k d done = put k d done
+kept (Some g) k d done = if bytes_eq k (codes "generals") then put (codes "general") g done else put k d done
+
+abbrev pub entry_by : Option (Key × List ℕ) → Option Data → List ℕ → Data → Members → Members
+entry_by None general k d done = kept general k d done
+entry_by (Some p) general k d done = put (place_of p.0) (string p.1) done
+
+-- an entry of the table ms
+abbrev pub entry : List File → Option Data → Members → List ℕ → Data → Members → Members
+entry files general ms k d done = entry_by (program files ms k) general k d done
+
+-- the entries of the table ms, one put after the other
+abbrev pub entries : List File → Option Data → Members → Members → Members → Members
+entries files general ms done no_members = done
+entries files general ms done (member k d more) = entries files general ms (entry files general ms k d done) more
+
+abbrev pub rebuilt : List File → Option Data → Members → Members
+rebuilt files general ms = entries files general ms no_members ms
+
+-- a table for each general who shares it
+abbrev pub one_each : List File → Members → Items → Items
+one_each files ms no_items = no_items
+one_each files ms (item g gs) = item (table (rebuilt files (Some g) ms)) (one_each files ms gs)
+
+abbrev pub by_seats : List File → Members → Option Items → Items
+by_seats files ms None = item (table (rebuilt files None ms)) no_items
+by_seats files ms (Some gs) = one_each files ms gs
+
+abbrev pub tables : List File → Members → Items
+tables files ms = by_seats files ms (seats ms)
+
+-- an element that is no table stays
+abbrev pub tables_by : List File → Data → Option Members → Items
+tables_by files d None = item d no_items
+tables_by files d (Some ms) = tables files ms
+
+abbrev pub tables_of : List File → Data → Items
+tables_of files d = tables_by files d (as_table d)
+
+abbrev pub resolved : List File → Items → Items
+resolved files no_items = no_items
+resolved files (item d ds) = join (tables_of files d) (resolved files ds)
+
+-- the document with this list of traitors resolved
+abbrev pub with_traitors : List File → Items → Members → Members
+with_traitors files ds ms = put (codes "traitor") (array (resolved files ds)) ms
+
+-- a table names a file, or generals who share it
+abbrev pub table_refers : Members → Bool
+table_refers ms = is_some (get_member (codes "asm_file") ms) || (is_some (get_member (codes "code_file") ms) || is_some (get_member (codes "generals") ms))
+
+abbrev pub refers_by : Option Members → Bool
+refers_by None = false
+refers_by (Some ms) = table_refers ms
+
+abbrev pub element_refers : Data → Bool
+element_refers d = refers_by (as_table d)
+
+abbrev pub refers : Items → Bool
+refers no_items = false
+refers (item d ds) = element_refers d || refers ds
+
+-- the text is this document's, where that nests no deeper than a reader goes; or there is none, since a date of it has no text
+abbrev pub IsPrinted : Members → Option (List ℕ) → Type 0
+IsPrinted ms None = members_have_valid_dates ms ≡ false
+IsPrinted ms (Some text) = members_depth ms ≤ 80 → parse_document text ≡ Some ms
+
+-- the new text is that of the document with its traitors resolved; there is none where no table refers
+abbrev pub IsPrintedIf : Bool → Members → Option (List ℕ) → Type 0
+IsPrintedIf true ms new = IsPrinted ms new
+IsPrintedIf false ms new = new ≡ None
+
+abbrev pub ResolvesList : List File → Members → Option Items → Option (List ℕ) → Type 0
+ResolvesList files ms None new = new ≡ None
+ResolvesList files ms (Some ds) new = IsPrintedIf (refers ds) (with_traitors files ds ms) new
+
+abbrev pub Resolves : List File → Option Members → Option (List ℕ) → Type 0
+Resolves files None new = new ≡ None
+Resolves files (Some ms) new = ResolvesList files ms (traitors ms) new

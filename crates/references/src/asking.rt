@@ -1,0 +1,96 @@
+//! Which files a scenario names.
+ghost use Rattle.std.specs.Prelude.{◌≡◌, ◌++◌, IfOk, OnOk};
+ghost use Rattle.toml.specs.Data.{as_table};
+ghost use Rattle.toml.specs.Parse.{parse_document};
+ghost use Rattle.toml.specs.View.{items_view, table_view, view};
+ghost use Rattle.references.specs.Asking.{asked, asked_by, asked_in, asked_of};
+
+use crate::key::Key;
+use crate::tables::{name_at, traitors};
+use std::alloc::{AllocError, Global};
+use std::marker::Model;
+use toml::{Table, Value};
+
+/// A file that a traitor's table names.
+#[derive(Debug, Drop)]
+pub struct Reference {
+    /// The number of the table, counted from 0.
+    pub index: usize,
+    pub key: Key,
+    pub name: String,
+}
+
+impl Model for Reference {
+    ghost use Rattle.std.specs.Prelude.{string_bytes};
+    ghost use Rattle.references.specs.Asking.{Asked};
+
+    ghost Value = { Asked };
+
+    ghost view = { λ a. record { index = a.index; key = a.key; name = string_bytes a.name } };
+}
+
+/// The file that a table names by a key, behind the others.
+fn ask(
+    alloc: Global,
+    done: &mut Vec<Reference>,
+    index: usize,
+    table: &Table,
+    key: Key,
+) -> Result<(), AllocError>
+    ensures { OnOk result (done.new.items ≡ done.old.items ++ asked_by index (table_view table.now) key) }
+{
+    if let Some(name) = name_at(table, key) {
+        done.push(Reference {
+            index,
+            key,
+            name: String::from_str(alloc, name)?,
+        })?;
+    }
+    Ok(())
+}
+
+/// The files that an element of the list names, behind the others.
+fn ask_all(
+    alloc: Global,
+    done: &mut Vec<Reference>,
+    index: usize,
+    value: &Value,
+) -> Result<(), AllocError>
+    ensures { OnOk result (done.new.items ≡ done.old.items ++ asked_of index (as_table (view value.now))) }
+{
+    let Some(table) = value.as_table() else {
+        return Ok(());
+    };
+    ask(alloc, done, index, table, Key::Assembly)?;
+    ask(alloc, done, index, table, Key::Bytecode)
+}
+
+/// The files that the list names.
+fn asked_in(alloc: Global, values: &[Value]) -> Result<Vec<Reference>, AllocError>
+    ensures { IfOk result (λ all. all.items ≡ asked_in 0 (items_view values.now)) }
+{
+    let mut done = Vec::new(alloc);
+    for index in 0..values.len() {
+        ask_all(alloc, &mut done, index, &values[index])?;
+    }
+    Ok(done)
+}
+
+/// The files that the text of a scenario names, by the order of its tables; none where the text is no TOML.
+///
+/// # Errors
+///
+/// `AllocError` where memory is refused.
+pub fn asked(alloc: Global, text: &str) -> Result<Vec<Reference>, AllocError>
+    ensures { IfOk result (λ all. all.items ≡ asked (parse_document text.now)) }
+{
+    let table = match toml::table_from_str(alloc, text) {
+        Ok(table) => table,
+        Err(error) if error.is_memory() => return Err(AllocError),
+        Err(_) => return Ok(Vec::new(alloc)),
+    };
+    match traitors(&table) {
+        Some(values) => asked_in(alloc, values),
+        None => Ok(Vec::new(alloc)),
+    }
+}

@@ -1,0 +1,210 @@
+//! The text of a scenario in which each file stands where it is named, and each traitor has a table of his own.
+ghost use Rattle.std.specs.Prelude.{◌≡◌, IfOk, OnOk, option_map, string_bytes};
+ghost use Rattle.toml.specs.Data.{item, no_items};
+ghost use Rattle.toml.specs.Parse.{parse_document};
+ghost use Rattle.toml.specs.View.{items_view, table_view, view};
+ghost use Rattle.references.specs.Members.{join};
+ghost use Rattle.references.specs.Names.{traitors};
+ghost use Rattle.references.specs.Resolved.{IsPrinted, Resolves, ResolvesList, element_refers, entry, one_each, program, rebuilt, refers, resolved, table_refers, tables, tables_of};
+
+use crate::beside::{Beside, text_named};
+use crate::key::Key;
+use crate::tables::{has, name_at, put, seats, traitors};
+use std::alloc::{AllocError, Global};
+use toml::{Table, Value};
+
+/// What stands in the place of the file that a table names by this key: the key of its program and its text; nothing where
+/// the key names none, or the file was not read.
+fn program<'a>(files: &'a [Beside], table: &Table, key: &str) -> Option<(Key, &'a str)>
+    ensures { option_map (λ p. (p.0, (p.1).now)) result ≡ program files.now (table_view table.now) key.now }
+{
+    let of = Key::of(key)?;
+    let name = name_at(table, of)?;
+    let text = text_named(files, of, name)?;
+    Some((of, text))
+}
+
+/// Puts an entry of a traitor's table: the program in place of its file, and this general in place of those who share it.
+fn put_entry(
+    alloc: Global,
+    done: &mut Table,
+    files: &[Beside],
+    general: Option<&Value>,
+    table: &Table,
+    key: &str,
+    value: &Value,
+) -> Result<(), AllocError>
+    ensures { OnOk result (table_view done.new
+        ≡ entry files.now (option_map (λ v. view v.now) general.entry) (table_view table.now) key.now (view value.now) (table_view done.old)) }
+{
+    match (program(files, table, key), general) {
+        (Some((of, text)), _) => put(alloc, done, of.place(), Value::string(alloc, text)?),
+        (None, Some(general)) if key == "generals" => put(alloc, done, "general", general.clone()?),
+        (None, _) => put(alloc, done, key, value.clone()?),
+    }
+}
+
+/// A traitor's table with the programs in place of their files, of this general where it is shared.
+fn rebuilt(
+    alloc: Global,
+    files: &[Beside],
+    general: Option<&Value>,
+    table: &Table,
+) -> Result<Table, AllocError>
+    ensures { IfOk result (λ t. table_view t ≡ rebuilt files.now (option_map (λ v. view v.now) general.entry) (table_view table.now)) }
+{
+    let mut done = Table::new(alloc);
+    for (key, value) in table {
+        put_entry(alloc, &mut done, files, general, table, key.as_str(), value)?;
+    }
+    Ok(done)
+}
+
+/// Pushes a value.
+fn push(done: &mut Vec<Value>, value: Value) -> Result<(), AllocError>
+    ensures { OnOk result (items_view done.new.items ≡ join (items_view done.old.items) (item (view value) no_items)) }
+{
+    Ok(done.push(value)?)
+}
+
+/// Pushes a table for each of the generals who share one.
+fn push_each(
+    alloc: Global,
+    done: &mut Vec<Value>,
+    files: &[Beside],
+    generals: &[Value],
+    table: &Table,
+) -> Result<(), AllocError>
+    ensures { OnOk result (items_view done.new.items ≡ join (items_view done.old.items) (one_each files.now (table_view table.now) (items_view generals.now))) }
+{
+    for index in 0..generals.len() {
+        let one = rebuilt(alloc, files, Some(&generals[index]), table)?;
+        push(done, Value::Table(one))?;
+    }
+    Ok(())
+}
+
+/// Pushes what stands in the place of a traitor's table.
+fn push_tables(
+    alloc: Global,
+    done: &mut Vec<Value>,
+    files: &[Beside],
+    table: &Table,
+) -> Result<(), AllocError>
+    ensures { OnOk result (items_view done.new.items ≡ join (items_view done.old.items) (tables files.now (table_view table.now))) }
+{
+    match seats(table) {
+        Some(generals) => push_each(alloc, done, files, generals, table),
+        None => push(done, Value::Table(rebuilt(alloc, files, None, table)?)),
+    }
+}
+
+/// Pushes what stands in the place of an element of the list; one that is no table stays.
+fn push_element(
+    alloc: Global,
+    done: &mut Vec<Value>,
+    files: &[Beside],
+    value: &Value,
+) -> Result<(), AllocError>
+    ensures { OnOk result (items_view done.new.items ≡ join (items_view done.old.items) (tables_of files.now (view value.now))) }
+{
+    match value.as_table() {
+        Some(table) => push_tables(alloc, done, files, table),
+        None => push(done, value.clone()?),
+    }
+}
+
+/// The list of traitors in which each has a table of his own, and his program.
+fn resolved_list(
+    alloc: Global,
+    files: &[Beside],
+    values: &[Value],
+) -> Result<Vec<Value>, AllocError>
+    ensures { IfOk result (λ all. items_view all.items ≡ resolved files.now (items_view values.now)) }
+{
+    let mut done = Vec::new(alloc);
+    for index in 0..values.len() {
+        push_element(alloc, &mut done, files, &values[index])?;
+    }
+    Ok(done)
+}
+
+/// Whether a traitor's table names a file, or generals who share it.
+fn table_refers(table: &Table) -> bool
+    ensures { result ≡ table_refers (table_view table.now) }
+{
+    has(table, "asm_file") || has(table, "code_file") || has(table, "generals")
+}
+
+/// Whether an element of the list is such a table.
+fn element_refers(value: &Value) -> bool
+    ensures { result ≡ element_refers (view value.now) }
+{
+    match value.as_table() {
+        Some(table) => table_refers(table),
+        None => false,
+    }
+}
+
+/// Whether a table of the list names a file, or generals who share it.
+fn refers(values: &[Value]) -> bool
+    ensures { result ≡ refers (items_view values.now) }
+{
+    for index in 0..values.len() {
+        if element_refers(&values[index]) {
+            return true;
+        }
+    }
+    false
+}
+
+/// The text of a table; none where a date of it has no text.
+fn printed(alloc: Global, table: &Table) -> Result<Option<String>, AllocError>
+    ensures { IfOk result (λ new. IsPrinted (table_view table.now) (option_map string_bytes new)) }
+{
+    match toml::table_to_string(alloc, table) {
+        Ok(text) => Ok(Some(text)),
+        Err(toml::ser::Error::DateInvalid) => Ok(None),
+        Err(_) => Err(AllocError),
+    }
+}
+
+/// The text of a document's table in which the files stand where they are named, and each traitor has a table of his own; none
+/// where no table names a file or several generals.
+fn resolved_document(
+    alloc: Global,
+    files: &[Beside],
+    table: Table,
+) -> Result<Option<String>, AllocError>
+    ensures { IfOk result (λ new. ResolvesList files.now (table_view table) (traitors (table_view table)) (option_map string_bytes new)) }
+{
+    let mut table = table;
+    let Some(values) = traitors(&table) else {
+        return Ok(None);
+    };
+    if !refers(values) {
+        return Ok(None);
+    }
+    let list = resolved_list(alloc, files, values)?;
+    put(alloc, &mut table, "traitor", Value::Array(list))?;
+    printed(alloc, &table)
+}
+
+/// The text of a scenario in which the files stand where they are named, and each traitor has a table of his own; none where
+/// the text is no TOML or no table names a file or several generals: then the text itself is to be read.
+///
+/// A file that is not among these stays named, and is refused as an unknown key; so does one in whose place the table has a
+/// program as well, and a list of generals beside a general.
+///
+/// # Errors
+///
+/// `AllocError` where memory is refused.
+pub fn resolved(alloc: Global, text: &str, files: &[Beside]) -> Result<Option<String>, AllocError>
+    ensures { IfOk result (λ new. Resolves files.now (parse_document text.now) (option_map string_bytes new)) }
+{
+    match toml::table_from_str(alloc, text) {
+        Ok(table) => resolved_document(alloc, files, table),
+        Err(error) if error.is_memory() => Err(AllocError),
+        Err(_) => Ok(None),
+    }
+}

@@ -1,0 +1,81 @@
+//! What a table has at a key.
+ghost use Rattle.std.specs.Prelude.{◌≡◌, OnOk, is_some, option_and_then, option_map, codes};
+ghost use Rattle.toml.specs.Data.{as_array, as_str, get_member};
+ghost use Rattle.toml.specs.View.{items_view, table_view, view};
+ghost use Rattle.references.specs.Names.{name_at, seats, traitors};
+ghost use Rattle.references.specs.Members.{put};
+
+use crate::key::Key;
+use std::alloc::{AllocError, Global};
+use toml::{Table, Value};
+
+/// Whether the table has the key.
+pub(crate) fn has(table: &Table, key: &str) -> bool
+    ensures { result ≡ is_some (get_member key.now (table_view table.now)) }
+{
+    table.get(key).is_some()
+}
+
+/// The text at a key, where one stands there.
+fn text_at<'a>(table: &'a Table, key: &str) -> Option<&'a str>
+    ensures { option_map (λ t. t.now) result ≡ option_and_then as_str (get_member key.now (table_view table.now)) }
+{
+    match table.get(key) {
+        Some(value) => value.as_str(),
+        None => None,
+    }
+}
+
+/// The elements of the list at a key, where one stands there.
+fn list_at<'a>(table: &'a Table, key: &str) -> Option<&'a [Value]>
+    ensures { option_map (λ ds. items_view ds.now) result ≡ option_and_then as_array (get_member key.now (table_view table.now)) }
+{
+    match table.get(key) {
+        Some(value) => match value.as_array() {
+            Some(array) => Some(array.as_slice()),
+            None => None,
+        },
+        None => None,
+    }
+}
+
+/// The file that a traitor's table names by a key, where it has no program in its place.
+pub(crate) fn name_at<'a>(table: &'a Table, key: Key) -> Option<&'a str>
+    ensures { option_map (λ n. n.now) result ≡ name_at key (table_view table.now) }
+{
+    if has(table, key.place()) {
+        return None;
+    }
+    text_at(table, key.reference())
+}
+
+/// The generals that share a traitor's table, where it names none by himself.
+pub(crate) fn seats(table: &Table) -> Option<&[Value]>
+    ensures { option_map (λ ds. items_view ds.now) result ≡ seats (table_view table.now) }
+{
+    if has(table, "general") {
+        return None;
+    }
+    list_at(table, "generals")
+}
+
+/// The list of traitors of a scenario.
+pub(crate) fn traitors(table: &Table) -> Option<&[Value]>
+    ensures { option_map (λ ds. items_view ds.now) result ≡ traitors (table_view table.now) }
+{
+    list_at(table, "traitor")
+}
+
+/// Puts a value at a key.
+pub(crate) fn put(
+    alloc: Global,
+    table: &mut Table,
+    key: &str,
+    value: Value,
+) -> Result<(), AllocError>
+    ensures { OnOk result (table_view table.new ≡ put key.now (view value) (table_view table.old)) }
+{
+    let name = String::from_str(alloc, key)?;
+    table.insert(name, value)?;
+    Ok(())
+}

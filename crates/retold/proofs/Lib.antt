@@ -1,0 +1,4 @@
+pub mod Heard
+pub mod Named
+pub mod Rounds
+pub mod Tables

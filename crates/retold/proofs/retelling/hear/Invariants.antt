@@ -1,0 +1,7 @@
+use Rattle.std.proofs.Common.{take}
+use Rattle.round.specs.Told.{WasTold}
+use Rattle.retold.proofs.retelling.hear.Given as goal
+
+-- the rounds so far
+abbrev pub invariant-loop-round : goal.invariant-loop-round
+invariant-loop-round l = WasTold l.scenario (take l.round-index l.letters) l.told

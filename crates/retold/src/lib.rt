@@ -1,0 +1,10 @@
+//! Campaigns as message tables, which show how their decisions come about.
+#![tactic(auto)]
+
+mod explaining;
+mod laws;
+mod retelling;
+
+pub use explaining::explained;
+pub use laws::runs_are_whole;
+pub use retelling::table;

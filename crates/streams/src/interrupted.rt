@@ -1,0 +1,12 @@
+//! Which calls are tried again.
+ghost use Rattle.std.specs.Prelude.{◌≡◌, ◌↔◌, IsTrue};
+ghost use Rattle.std.specs.IoError.{error_kind};
+
+use std::io::{self, ErrorKind};
+
+/// Whether a call failed since it was interrupted: it is to be tried again.
+pub(crate) fn is_interrupted(error: &io::Error) -> bool
+    ensures { IsTrue result ↔ (error_kind error.now ≡ ErrorKind.Interrupted) }
+{
+    error.kind() == ErrorKind::Interrupted
+}

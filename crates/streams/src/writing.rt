@@ -1,0 +1,32 @@
+//! Writing whole texts.
+ghost use Rattle.std.specs.Prelude.{OnOk, OnErr};
+ghost use Rattle.std.specs.Io.KnownBytes.{Appends};
+ghost use Rattle.streams.specs.Writing.{AppendsFront};
+
+use crate::interrupted::is_interrupted;
+use std::io::{self, ErrorKind, Write};
+
+/// Writes the whole text. Where that fails, a beginning of it was written.
+///
+/// # Errors
+///
+/// A write that failed, or that took nothing.
+#[tactic(auto, using(crate::proofs::WriteLemmas::appends_none, crate::proofs::WriteLemmas::appends_kept, crate::proofs::WriteLemmas::appends_more, crate::proofs::WriteLemmas::appends_all, crate::proofs::WriteLemmas::appends_front))]
+pub(crate) fn write_whole<W: Write>(writer: &mut W, text: &[u8]) -> io::Result<()>
+    ensures whole { OnOk result (Appends (W.contents writer.old) (W.contents writer.new) text.now) }
+    ensures begun { OnErr result (AppendsFront (W.contents writer.old) (W.contents writer.new) text.now) }
+{
+    let mut written = 0;
+    for _ in 0..u64::MAX {
+        if written == text.len() {
+            return Ok(());
+        }
+        match writer.write(&text[written..]) {
+            Ok(0) => return Err(io::Error::from(ErrorKind::WriteZero)),
+            Ok(number) => written += number,
+            Err(error) if is_interrupted(&error) => {}
+            Err(error) => return Err(error),
+        }
+    }
+    Err(io::Error::from(ErrorKind::Other))
+}

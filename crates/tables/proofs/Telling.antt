@@ -1,0 +1,99 @@
+-- Lines of a table that is written, and what is read of them.
+use Rattle.std.proofs.Common.{ℕ, ◌^◌, ◌<◌, ◌≡◌, Bool, not, List, [], ◌∷◌, ◌++◌, refl, ap, ◌∙◌, arith, append_assoc, append-nil, Some}
+use Rattle.std.specs.Prelude.{codes}
+use Rattle.std.specs.Fmt.{decimal}
+use Rattle.combine.specs.declared.chosen.Rule.{Rule}
+use Rattle.combine.specs.declared.chosen.Rule.TheVariants.{Majority, Median}
+use Rattle.text.specs.Stop.{space, feed, is_stop}
+use Rattle.text.specs.Parts.{pieces}
+use Rattle.text.proofs.BytesLemmas.{all-append}
+use Rattle.text.proofs.CutLemmas.{Lacks, pieces-append, pieces-all}
+use Rattle.text.proofs.DecimalLemmas.{decimal_of-decimal}
+use Rattle.book.specs.declared.message.Message.{Message}
+use Rattle.book.specs.Explained.{dotted}
+use Rattle.book.specs.Grammar.{head_of}
+use Rattle.book.proofs.FormLemmas.{AreFew, digits_lack, dotted_lack, no_feed, no_space, tell}
+use Rattle.tables.specs.Written.{rule_words}
+
+-- a message's line, without its LF
+abbrev pub tell_of : Message → List ℕ
+tell_of x = tell x.label x.receiver x.order
+
+-- it has no further line
+pub tell_lacks : (w : List ℕ) (p v : ℕ) → AreFew w → p < 13 → v < 2 ^ 32 → Lacks feed (tell w p v)
+tell_lacks w p v few lp lv =
+    let T : ℕ → Bool = λ c. not (is_stop feed c) in
+    let first : p < 2 ^ 64 = omega arith in
+    let second : v < 2 ^ 64 = omega arith in
+    all-append T (codes "tell " ++ dotted w ++ codes " " ++ decimal p ++ codes " ") (decimal v)
+    (all-append T (codes "tell " ++ dotted w ++ codes " " ++ decimal p) (codes " ")
+    (all-append T (codes "tell " ++ dotted w ++ codes " ") (decimal p)
+    (all-append T (codes "tell " ++ dotted w) (codes " ") (all-append T (codes "tell ") (dotted w) refl (dotted_lack feed no_feed refl w few)) refl)
+    (digits_lack feed no_feed p first)) refl) (digits_lack feed no_feed v second)
+
+-- the first line, without its LF
+abbrev pub head : ℕ → ℕ → ℕ → Rule → List ℕ
+head n m c rule = codes "generals " ++ decimal n ++ codes " bound " ++ decimal m ++ codes " commander " ++ decimal c ++ rule_words rule
+
+-- its front, up to the commander's number, and that number with what is behind it
+front_parted : (n m : ℕ) (rest : List ℕ) → codes "generals " ++ decimal n ++ codes " bound " ++ decimal m ++ codes " commander " ++ rest ≡ codes "generals" ++ 32 ∷ (decimal n ++ 32 ∷ (codes "bound" ++ 32 ∷ (decimal m ++ 32 ∷ (codes "commander" ++ 32 ∷ rest))))
+front_parted n m rest = simp append_assoc
+
+pieces_front : (n m : ℕ) (rest : List ℕ) → n < 2 ^ 64 → m < 2 ^ 64 → pieces space (codes "generals " ++ decimal n ++ codes " bound " ++ decimal m ++ codes " commander " ++ rest) ≡ codes "generals" ∷ decimal n ∷ codes "bound" ∷ decimal m ∷ codes "commander" ∷ pieces space rest
+pieces_front n m rest ln lm =
+    ap (pieces space) (front_parted n m rest)
+    ∙ (pieces-append space (codes "generals") 32 (decimal n ++ 32 ∷ (codes "bound" ++ 32 ∷ (decimal m ++ 32 ∷ (codes "commander" ++ 32 ∷ rest)))) refl refl
+    ∙ ap (λ ps. codes "generals" ∷ ps)
+    (pieces-append space (decimal n) 32 (codes "bound" ++ 32 ∷ (decimal m ++ 32 ∷ (codes "commander" ++ 32 ∷ rest))) (digits_lack space no_space n ln) refl
+    ∙ ap (λ ps. decimal n ∷ ps)
+    (pieces-append space (codes "bound") 32 (decimal m ++ 32 ∷ (codes "commander" ++ 32 ∷ rest)) refl refl
+    ∙ ap (λ ps. codes "bound" ∷ ps)
+    (pieces-append space (decimal m) 32 (codes "commander" ++ 32 ∷ rest) (digits_lack space no_space m lm) refl
+    ∙ ap (λ ps. decimal m ∷ ps)
+    (pieces-append space (codes "commander") 32 rest refl refl)))))
+
+rule_parted : (n m c : ℕ) (words : List ℕ) → codes "generals " ++ decimal n ++ codes " bound " ++ decimal m ++ codes " commander " ++ decimal c ++ words ≡ codes "generals " ++ decimal n ++ codes " bound " ++ decimal m ++ codes " commander " ++ (decimal c ++ words)
+rule_parted n m c words = append_assoc (codes "generals " ++ decimal n ++ codes " bound " ++ decimal m ++ codes " commander ") (decimal c) words
+
+-- the number of the commander, and the rule where it is named
+pieces_rule : (c : ℕ) → c < 2 ^ 64 → pieces space (decimal c ++ codes " rule median") ≡ decimal c ∷ codes "rule" ∷ codes "median" ∷ []
+pieces_rule c l =
+    pieces-append space (decimal c) 32 (codes "rule median") (digits_lack space no_space c l) refl
+    ∙ ap (λ ps. decimal c ∷ ps)
+    (pieces-append space (codes "rule") 32 (codes "median") refl refl
+    ∙ ap (λ ps. codes "rule" ∷ ps) (pieces-all space (codes "median") refl))
+
+-- what is behind the commander's number
+abbrev rule_parts_of : Rule → List (List ℕ)
+rule_parts_of Majority = []
+rule_parts_of Median = codes "rule" ∷ codes "median" ∷ []
+
+pieces_head : (n m c : ℕ) (rule : Rule) → n < 2 ^ 64 → m < 2 ^ 64 → c < 2 ^ 64 → pieces space (head n m c rule) ≡ codes "generals" ∷ decimal n ∷ codes "bound" ∷ decimal m ∷ codes "commander" ∷ decimal c ∷ rule_parts_of rule
+pieces_head n m c Majority ln lm lc =
+    ap (pieces space) (append-nil (codes "generals " ++ decimal n ++ codes " bound " ++ decimal m ++ codes " commander " ++ decimal c))
+    ∙ (pieces_front n m (decimal c) ln lm
+    ∙ ap (λ ps. codes "generals" ∷ decimal n ∷ codes "bound" ∷ decimal m ∷ codes "commander" ∷ ps) (pieces-all space (decimal c) (digits_lack space no_space c lc)))
+pieces_head n m c Median ln lm lc =
+    ap (pieces space) (rule_parted n m c (codes " rule median"))
+    ∙ (pieces_front n m (decimal c ++ codes " rule median") ln lm
+    ∙ ap (λ ps. codes "generals" ∷ decimal n ∷ codes "bound" ∷ decimal m ∷ codes "commander" ∷ ps) (pieces_rule c lc))
+
+-- what a first line that is written says
+pub head_read : (n m c : ℕ) (rule : Rule) → n < 2 ^ 64 → m < 2 ^ 64 → c < 2 ^ 64 → head_of (head n m c rule) ≡ Some (n, m, c, rule)
+unfolding head_of
+head_read n m c Majority ln lm lc = rw (pieces_head n m c Majority ln lm lc, decimal_of-decimal n ln, decimal_of-decimal m lm, decimal_of-decimal c lc) refl
+head_read n m c Median ln lm lc = rw (pieces_head n m c Median ln lm lc, decimal_of-decimal n ln, decimal_of-decimal m lm, decimal_of-decimal c lc) refl
+
+rule_lacks : (rule : Rule) → Lacks feed (rule_words rule)
+rule_lacks Majority = refl
+rule_lacks Median = refl
+
+pub head_lacks : (n m c : ℕ) (rule : Rule) → n < 2 ^ 64 → m < 2 ^ 64 → c < 2 ^ 64 → Lacks feed (head n m c rule)
+head_lacks n m c rule ln lm lc =
+    let T : ℕ → Bool = λ x. not (is_stop feed x) in
+    all-append T (codes "generals " ++ decimal n ++ codes " bound " ++ decimal m ++ codes " commander " ++ decimal c) (rule_words rule)
+    (all-append T (codes "generals " ++ decimal n ++ codes " bound " ++ decimal m ++ codes " commander ") (decimal c)
+    (all-append T (codes "generals " ++ decimal n ++ codes " bound " ++ decimal m) (codes " commander ")
+    (all-append T (codes "generals " ++ decimal n ++ codes " bound ") (decimal m)
+    (all-append T (codes "generals " ++ decimal n) (codes " bound ") (all-append T (codes "generals ") (decimal n) refl (digits_lack feed no_feed n ln)) refl)
+    (digits_lack feed no_feed m lm)) refl) (digits_lack feed no_feed c lc)) (rule_lacks rule)

@@ -1,0 +1,7 @@
+use Rattle.std.proofs.Common.{◌≡◌, take, None}
+use Rattle.std.specs.Prelude.{◌==◌, find}
+use Rattle.tables.proofs.trees.heard.Given as goal
+
+-- none so far is the receiver's
+abbrev pub invariant-loop-tree : goal.invariant-loop-tree
+invariant-loop-tree l = find (λ t. t.general == l.receiver) (take l.tree-index l.trees) ≡ None

@@ -1,0 +1,56 @@
+ghost use Rattle.std.specs.Prelude.{◌≡◌, ◌≢◌, IfOk, IfErr, Err, Some, string_bytes};
+ghost use Rattle.combine.specs.declared.chosen.Rule.TheVariants.{Majority};
+ghost use Rattle.book.specs.Grammar.{opened};
+ghost use Rattle.book.specs.Table.{AreNumbersWithin};
+ghost use Rattle.book.specs.declared.fault.TableError.TheVariants.{Memory};
+ghost use Rattle.tables.specs.Answers.{IsFilled};
+ghost use Rattle.tables.specs.Numbers.{numbers_in};
+
+use crate::loyal::LoyalMarks;
+use crate::writing::write;
+use book::{Fault, TableError};
+use combine::Rule;
+use std::alloc::Global;
+use text::decimal;
+
+/// The message table of a campaign with these numbers, filled in as loyal generals would to whom the commander gave this
+/// order. What the liar tells, if there is one, is left to fill in.
+///
+/// # Errors
+///
+/// What the first line of a table is refused for that has these numbers, or want of memory.
+pub fn filled(
+    alloc: Global,
+    generals: &str,
+    bound: &str,
+    commander: &str,
+    order: u32,
+    liar: Option<u8>,
+) -> Result<String, TableError>
+    ensures filled { IfOk result (λ text. IsFilled generals.now bound.now commander.now order liar (string_bytes text)) }
+    ensures refused { IfErr result (λ e. e ≢ Memory → opened (numbers_in generals.now bound.now commander.now) ≡ Err e) }
+{
+    let (generals, bound, commander) = numbers(generals, bound, commander)?;
+    let marks = LoyalMarks { order, liar };
+    Ok(write(alloc, &marks, generals, bound, commander, Rule::Majority)?)
+}
+
+/// The numbers of a campaign, as they stand on the first line of a table.
+#[tactic(auto, unfolding(crate::specs::Numbers::numbers_in))]
+fn numbers(generals: &str, bound: &str, commander: &str) -> Result<(u8, u8, u8), TableError>
+    ensures told { IfOk result (λ n. numbers_in generals.now bound.now commander.now ≡ Some (n.0, n.1, n.2, Majority)) }
+    ensures within { IfOk result (λ n. AreNumbersWithin n.0 n.1 n.2) }
+    ensures refused { IfErr result (λ e. (e ≢ Memory) × (opened (numbers_in generals.now bound.now commander.now) ≡ Err e)) }
+{
+    let (Some(generals), Some(bound), Some(commander)) = (
+        decimal(generals.as_bytes()),
+        decimal(bound.as_bytes()),
+        decimal(commander.as_bytes()),
+    ) else {
+        return Err(TableError::At(Fault::Line, 1));
+    };
+    if generals > 13 || bound > 4 || bound + 2 > generals || commander >= generals {
+        return Err(TableError::At(Fault::Range, 1));
+    }
+    Ok((generals as u8, bound as u8, commander as u8))
+}

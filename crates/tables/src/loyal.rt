@@ -1,0 +1,37 @@
+//! What loyal generals tell, where all are loyal but one.
+ghost use Rattle.std.specs.Prelude.{◌≡◌};
+ghost use Rattle.tables.specs.Written.{ends_in};
+
+use crate::mark::{Mark, Marks};
+use label::Label;
+
+/// All tell this order, and what the liar tells is open.
+#[derive(Clone, Copy)]
+pub(crate) struct LoyalMarks {
+    pub(crate) order: u32,
+    pub(crate) liar: Option<u8>,
+}
+
+impl Marks for LoyalMarks {
+    ghost use Rattle.tables.specs.Written.{loyal};
+
+    ghost marking = { λ l. loyal l.order l.liar };
+
+    fn mark(&self, label: &Label, _receiver: u8) -> Mark {
+        match self.liar {
+            Some(liar) if ends_in(label.generals(), liar) => Mark::Open,
+            _ => Mark::Order(self.order),
+        }
+    }
+}
+
+/// Whether the general is the last of the label.
+fn ends_in(label: &[u8], general: u8) -> bool
+    ensures { result ≡ ends_in label.now general }
+{
+    let mut is_last = false;
+    for other in label {
+        is_last = *other == general;
+    }
+    is_last
+}

@@ -1,0 +1,129 @@
+//! Message tables of what lieutenants' trees tell.
+ghost use Rattle.std.specs.Prelude.{◌≡◌, ◌<◌, ◌^◌, ℕ, IfOk, Ok, Some, slice_get, string_bytes};
+ghost use Rattle.book.specs.Grammar.{table_told};
+ghost use Rattle.book.specs.Table.{AreNumbersWithin, MessageTable};
+ghost use Rattle.tables.specs.Hearing.{heard, value_of};
+ghost use Rattle.tables.specs.Laws.{AreOrders, IsTableOf};
+ghost use Rattle.tables.specs.Written.{table_text};
+ghost use Rattle.tree.specs.LieutenantTree.{level_of};
+
+use crate::mark::{Mark, Marks};
+use crate::writing::write;
+use combine::Rule;
+use label::Label;
+use std::alloc::{AllocError, Global};
+use tree::Tree;
+
+/// The message table of a campaign with these numbers and this rule that tells what the lieutenants' trees tell. It is
+/// read again: the table has the same numbers, messages and decisions.
+///
+/// # Errors
+///
+/// No memory for the text.
+pub fn table_of(
+    alloc: Global,
+    trees: &[Tree],
+    generals: u8,
+    bound: u8,
+    commander: u8,
+    rule: Rule,
+) -> Result<String, AllocError>
+    requires { AreNumbersWithin generals bound commander }
+    ensures written { IfOk result (λ text. string_bytes text ≡ table_text (heard trees.now) generals bound commander rule) }
+    ensures read { IfOk result (λ text. (t : MessageTable) × (table_told (string_bytes text) ≡ Ok t) × IsTableOf (heard trees.now) generals bound commander rule t) }
+{
+    recall_orders(trees);
+    write(
+        alloc,
+        &TreeMarks { trees },
+        generals,
+        bound,
+        commander,
+        rule,
+    )
+}
+
+/// Each lieutenant's tree has what he was told.
+#[derive(Clone, Copy)]
+struct TreeMarks<'a> {
+    trees: &'a [Tree],
+}
+
+impl<'a> Marks for TreeMarks<'a> {
+    ghost use Rattle.tables.specs.Hearing.{heard};
+    ghost use Rattle.tables.specs.Written.{telling};
+
+    ghost marking = { λ t. telling (heard t.trees.now) };
+
+    fn mark(&self, label: &Label, receiver: u8) -> Mark {
+        match heard(self.trees, label, receiver) {
+            Some(order) => Mark::Order(order),
+            None => Mark::Silence,
+        }
+    }
+}
+
+/// What the receiver's tree has of the label, where he has one.
+#[tactic(auto, unfolding(crate::specs::Hearing::heard))]
+fn heard(trees: &[Tree], label: &Label, receiver: u8) -> Option<u32>
+    ensures { result ≡ heard trees.now label.now receiver }
+{
+    for tree in trees {
+        if tree.space().general == receiver {
+            return value(tree, label);
+        }
+    }
+    None
+}
+
+/// What a tree has of a label.
+fn value(tree: &Tree, label: &Label) -> Option<u32>
+    ensures { result ≡ value_of (Some tree.now) label.now }
+{
+    let _space = tree.space();
+    tree.value(label)
+}
+
+/// Does nothing. What trees tell are orders of 32 bits.
+fn recall_orders(trees: &[Tree])
+    ensures { AreOrders (heard trees.now) }
+{
+    for tree in trees {
+        recall_tree(tree);
+    }
+}
+
+/// Does nothing. What a tree tells are orders of 32 bits.
+fn recall_tree(tree: &Tree)
+    ensures { (k i v : ℕ) → slice_get (level_of tree.now k) i ≡ Some (Some v) → v < 2 ^ 32 }
+{
+    let _space = tree.space();
+    for size in 0..tree.bound() + 1 {
+        recall_level(tree.level(size + 1));
+    }
+}
+
+/// Does nothing. What a level tells are orders of 32 bits.
+fn recall_level(level: &[Option<u32>])
+    ensures { (i v : ℕ) → slice_get level.now i ≡ Some (Some v) → v < 2 ^ 32 }
+{
+    for told in level {
+        recall_told(*told);
+    }
+}
+
+/// Does nothing. An order has 32 bits.
+fn recall_told(told: Option<u32>)
+    ensures { (v : ℕ) → told ≡ Some v → v < 2 ^ 32 }
+{
+    if let Some(order) = told {
+        recall_order(order);
+    }
+}
+
+/// Does nothing. An order has 32 bits.
+fn recall_order(order: u32)
+    ensures { order < 2 ^ 32 }
+{
+    let _order = order;
+}

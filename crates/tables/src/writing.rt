@@ -1,0 +1,163 @@
+//! Message tables, written line by line.
+ghost use Rattle.std.specs.Prelude.{◌≡◌, ◌≤◌, ◌+◌, ◌++◌, ◌∷◌, [], length, IfOk, OnOk, string_bytes};
+ghost use Rattle.book.specs.Explained.{dotted};
+ghost use Rattle.book.specs.Table.{AreNumbersWithin};
+ghost use Rattle.tables.specs.Written.{first_line, line_of, lines_from, rule_words, written};
+
+use crate::mark::{Mark, Marks};
+use combine::Rule;
+use label::Label;
+use std::alloc::{AllocError, Global};
+
+/// The table of a campaign with these numbers and this rule: its first line, and a line for each place that has a mark, the
+/// shorter labels first.
+///
+/// # Errors
+///
+/// No memory for the text.
+pub(crate) fn write<M: Marks>(
+    alloc: Global,
+    marks: &M,
+    generals: u8,
+    bound: u8,
+    commander: u8,
+    rule: Rule,
+) -> Result<String, AllocError>
+    requires { AreNumbersWithin generals bound commander }
+    ensures { IfOk result (λ text. string_bytes text ≡ written (M.marking marks.now) generals bound commander rule) }
+{
+    let mut text = first_line(alloc, generals, bound, commander, rule)?;
+    let label = Label::of(commander);
+    let name = alone(alloc, commander)?;
+    for more in 0..bound + 1 {
+        push_labels(
+            alloc,
+            &mut text,
+            marks,
+            generals,
+            &label,
+            name.as_str(),
+            more,
+        )?;
+    }
+    Ok(text)
+}
+
+/// How the label of one general is written.
+fn alone(alloc: Global, general: u8) -> Result<String, AllocError>
+    ensures { IfOk result (λ name. string_bytes name ≡ dotted (general ∷ [])) }
+{
+    format!(in alloc; "{general}")
+}
+
+/// How a label that is written so is written with one general more.
+fn prolonged(alloc: Global, label: &Label, name: &str, general: u8) -> Result<String, AllocError>
+    requires { name.now ≡ dotted label.now }
+    ensures { IfOk result (λ name. string_bytes name ≡ dotted (label.now ++ general ∷ [])) }
+{
+    let _generals = label.len();
+    format!(in alloc; "{name}.{general}")
+}
+
+/// The campaign's numbers, and its rule where it is not the majority.
+fn first_line(
+    alloc: Global,
+    generals: u8,
+    bound: u8,
+    commander: u8,
+    rule: Rule,
+) -> Result<String, AllocError>
+    ensures { IfOk result (λ text. string_bytes text ≡ first_line generals bound commander rule) }
+{
+    let rule = rule_words(rule);
+    format!(in alloc; "generals {generals} bound {bound} commander {commander}{rule}\n")
+}
+
+/// What stands behind the numbers.
+fn rule_words(rule: Rule) -> &'static str
+    ensures { result.now ≡ rule_words rule }
+{
+    match rule {
+        Rule::Majority => "",
+        Rule::Median => " rule median",
+    }
+}
+
+/// Adds the lines of the labels that have so many generals more than this one, which is written so.
+fn push_labels<M: Marks>(
+    alloc: Global,
+    text: &mut String,
+    marks: &M,
+    generals: u8,
+    label: &Label,
+    name: &str,
+    more: u8,
+) -> Result<(), AllocError>
+    requires few { generals ≤ 13 }
+    requires room { length label.now + more ≤ 13 }
+    requires name { name.now ≡ dotted label.now }
+    ensures { OnOk result (string_bytes text.new ≡ string_bytes text.old ++ lines_from (M.marking marks.now) generals more label.now) }
+{
+    if more == 0 {
+        return push_receivers(alloc, text, marks, generals, label, name);
+    }
+    for general in 0..generals {
+        if !label.has(general) {
+            let longer = prolonged(alloc, label, name, general)?;
+            let next = label.with(general);
+            push_labels(
+                alloc,
+                text,
+                marks,
+                generals,
+                &next,
+                longer.as_str(),
+                more - 1,
+            )?;
+        }
+    }
+    Ok(())
+}
+
+/// Adds the lines of a label, which is written so, for all who are off it.
+fn push_receivers<M: Marks>(
+    alloc: Global,
+    text: &mut String,
+    marks: &M,
+    generals: u8,
+    label: &Label,
+    name: &str,
+) -> Result<(), AllocError>
+    requires { name.now ≡ dotted label.now }
+    ensures { OnOk result (string_bytes text.new ≡ string_bytes text.old ++ lines_from (M.marking marks.now) generals 0 label.now) }
+{
+    for receiver in 0..generals {
+        if !label.has(receiver) {
+            push_line(alloc, text, name, receiver, marks.mark(label, receiver))?;
+        }
+    }
+    Ok(())
+}
+
+/// Adds the line of a label that is written so, if it has one.
+fn push_line(
+    alloc: Global,
+    text: &mut String,
+    label: &str,
+    receiver: u8,
+    mark: Mark,
+) -> Result<(), AllocError>
+    ensures { OnOk result (string_bytes text.new ≡ string_bytes text.old ++ line_of label.now receiver mark) }
+{
+    match mark {
+        Mark::Silence => Ok(()),
+        Mark::Open => {
+            let line = format!(in alloc; "tell {label} {receiver} ?\n")?;
+            text.push_str(line.as_str())
+        }
+        Mark::Order(order) => {
+            let line = format!(in alloc; "tell {label} {receiver} {order}\n")?;
+            text.push_str(line.as_str())
+        }
+    }
+}

@@ -1,0 +1,4 @@
+pub mod Values
+pub mod Reads
+pub mod Lines
+pub mod Trace

@@ -1,0 +1,74 @@
+-- What is told of one step: the instruction, what it read, and what it wrote.
+use Rattle.std.specs.Prelude.{ℕ, List, [], ◌∷◌, ◌++◌, codes, decimal, slice_index, Option, Some, None}
+use Rattle.insn.specs.declared.insn.Insn.{Insn}
+use Rattle.insn.specs.declared.insn.Insn.TheVariants.{Arithmetic, Negate, SignExtend, Swap, LoadImmediate, Jump, LongJump, Branch, Load, LoadSigned, Store, Call, Exit}
+use Rattle.semantics.specs.declared.value.Value.{Value}
+use Rattle.semantics.specs.declared.request.Request.{Request}
+use Rattle.semantics.specs.declared.request.Request.TheVariants as request
+use Rattle.semantics.specs.State.{value_at}
+use Rattle.asm.specs.Printing.{insn_text}
+use Rattle.tracing.specs.Reads.{read_by}
+use Rattle.tracing.specs.Values.{register_told, place_told}
+
+-- ---- before the step
+
+abbrev pub read_told : List Value → Option ℕ → List ℕ
+read_told registers None = []
+read_told registers (Some r) = codes " ; " ++ register_told registers r
+
+abbrev pub reads_told : List Value → List (Option ℕ) → List ℕ
+reads_told registers (first ∷ second ∷ third ∷ []) = read_told registers first ++ read_told registers second ++ read_told registers third
+reads_told registers _ = []
+
+-- where it stores, if it does
+abbrev pub stored_told : List Value → Insn → List ℕ
+stored_told registers (Store size base offset source) = place_told offset (value_at registers base)
+stored_told registers i = []
+
+-- `UNIT INSTRUCTION`, the registers that it reads, and where it stores
+abbrev pub before_told : ℕ → List Value → Insn → List ℕ
+before_told unit registers i = decimal unit ++ codes " " ++ insn_text i ++ reads_told registers (read_by i) ++ stored_told registers i
+
+-- ---- behind it
+
+abbrev pub wrote : List Value → ℕ → List ℕ
+wrote registers r = codes " -> " ++ register_told registers r
+
+abbrev pub went : ℕ → List ℕ
+went unit = codes " -> unit " ++ decimal unit
+
+-- the register that it wrote, of a call r0; of a jump where it led
+abbrev pub after_told : ℕ → List Value → Insn → List ℕ
+after_told unit registers (Arithmetic w operation dst operand) = wrote registers dst
+after_told unit registers (Negate w dst) = wrote registers dst
+after_told unit registers (SignExtend w part dst src) = wrote registers dst
+after_told unit registers (Swap order size dst) = wrote registers dst
+after_told unit registers (LoadImmediate dst number) = wrote registers dst
+after_told unit registers (Load size dst base offset) = wrote registers dst
+after_told unit registers (LoadSigned part dst base offset) = wrote registers dst
+after_told unit registers (Call helper) = wrote registers 0
+after_told unit registers (Jump distance) = went unit
+after_told unit registers (LongJump distance) = went unit
+after_told unit registers (Branch w condition dst operand distance) = went unit
+after_told unit registers (Store size base offset source) = []
+after_told unit registers Exit = []
+
+-- the word of the board that it asked for, before and after
+abbrev pub word_told : ℕ → List ℕ → List ℕ → List ℕ
+word_told slot words left =
+    codes " ; word " ++ decimal slot ++ codes " " ++ decimal (slice_index words slot) ++ codes " to " ++ decimal (slice_index left slot)
+
+abbrev pub slot_of : Request → Option ℕ
+slot_of (request.Get slot) = Some slot
+slot_of (request.Swap slot value) = Some slot
+slot_of (request.Add slot value) = Some slot
+slot_of (request.Cas slot expected new) = Some slot
+slot_of (request.Copy span) = None
+
+abbrev pub asked_told : Option ℕ → List ℕ → List ℕ → List ℕ
+asked_told None words left = []
+asked_told (Some slot) words left = word_told slot words left
+
+-- what is told of a request, of the board's words before and after it; of a copy nothing more than its count
+abbrev pub request_told : Request → List ℕ → List ℕ → List ℕ
+request_told r words left = asked_told (slot_of r) words left

@@ -1,0 +1,28 @@
+-- What a register holds, as it is told.
+use Rattle.std.specs.Prelude.{ℕ, ℤ, ◌+ℤ◌, List, [], ◌++◌, codes, decimal}
+use Rattle.std.specs.Fmt.{signed_decimal}
+use Rattle.semantics.specs.declared.value.Region.{Region}
+use Rattle.semantics.specs.declared.value.Region.TheVariants.{Stack, Context}
+use Rattle.semantics.specs.declared.value.Value.{Value}
+use Rattle.semantics.specs.declared.value.Value.TheVariants.{Unset, Number, Pointer}
+use Rattle.semantics.specs.State.{value_at}
+use Rattle.asm.specs.Printing.{register_text}
+
+abbrev pub region_text : Region → List ℕ
+region_text Stack = codes "stack"
+region_text Context = codes "context"
+
+-- a number, or a region and an offset
+abbrev pub value_text : Value → List ℕ
+value_text Unset = codes "unset"
+value_text (Number n) = decimal n
+value_text (Pointer region offset) = region_text region ++ codes " " ++ signed_decimal offset
+
+-- `r3 stack -8`
+abbrev pub register_told : List Value → ℕ → List ℕ
+register_told registers r = register_text r ++ codes " " ++ value_text (value_at registers r)
+
+-- where a store with this offset writes
+abbrev pub place_told : ℤ → Value → List ℕ
+place_told offset (Pointer region at) = codes " -> " ++ region_text region ++ codes " " ++ signed_decimal (at +ℤ offset)
+place_told offset _ = []

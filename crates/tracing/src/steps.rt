@@ -1,0 +1,157 @@
+//! The line of a step.
+ghost use Rattle.std.specs.Prelude.{◌≡◌, ◌++◌, ◌<◌, codes, decimal, length, slice_index, string_bytes, OnOk};
+ghost use Rattle.tracing.specs.Lines.{read_told, reads_told, stored_told, before_told, wrote, went, after_told, word_told, slot_of, asked_told, request_told};
+ghost use Rattle.tracing.specs.Values.{register_told, place_told};
+
+use crate::reads::{Registers, numbered, read_by};
+use crate::values::{Held, Place};
+use asm::put_instruction;
+use insn::{Insn, Reg};
+use machine::Activation;
+use semantics::{Request, Slot, Value};
+use std::alloc::AllocError;
+
+/// Adds a register and what it holds.
+fn put_register(out: &mut String, activation: &Activation, register: Reg) -> Result<(), AllocError>
+    ensures { OnOk result (string_bytes out.new ≡ string_bytes out.old ++ register_told activation.now.state.registers register) }
+{
+    let held = Held(activation.value(register));
+    let number = register.number();
+    write!(out, "r{number} {held}")
+}
+
+/// Adds a register that is read.
+fn put_read(
+    out: &mut String,
+    activation: &Activation,
+    register: Option<Reg>,
+) -> Result<(), AllocError>
+    ensures { OnOk result (string_bytes out.new ≡ string_bytes out.old ++ read_told activation.now.state.registers register) }
+{
+    let Some(register) = register else {
+        return Ok(());
+    };
+    out.push_str(" ; ")?;
+    put_register(out, activation, register)
+}
+
+/// Adds the registers that are read.
+fn put_reads(out: &mut String, activation: &Activation, read: Registers) -> Result<(), AllocError>
+    ensures { OnOk result (string_bytes out.new ≡ string_bytes out.old ++ reads_told activation.now.state.registers read) }
+{
+    let [first, second, third] = read;
+    put_read(out, activation, first)?;
+    put_read(out, activation, second)?;
+    put_read(out, activation, third)
+}
+
+/// Adds where a store with this offset writes.
+fn put_place(out: &mut String, base: Value, offset: i16) -> Result<(), AllocError>
+    ensures { OnOk result (string_bytes out.new ≡ string_bytes out.old ++ place_told offset base) }
+{
+    let Value::Pointer(region, at) = base else {
+        return Ok(());
+    };
+    let place = Place(region);
+    let at = i64::from(at) + i64::from(offset);
+    write!(out, " -> {place} {at}")
+}
+
+/// Adds where an instruction stores, if it does.
+fn put_stored(out: &mut String, activation: &Activation, insn: &Insn) -> Result<(), AllocError>
+    ensures { OnOk result (string_bytes out.new ≡ string_bytes out.old ++ stored_told activation.now.state.registers insn.now) }
+{
+    match insn {
+        Insn::Store { base, offset, .. } => put_place(out, activation.value(*base), *offset),
+        _ => Ok(()),
+    }
+}
+
+/// Adds what is told before a step: the unit, its instruction, the registers that it reads, and where it stores.
+pub fn put_before(out: &mut String, activation: &Activation, insn: &Insn) -> Result<(), AllocError>
+    ensures { OnOk result (string_bytes out.new ≡ string_bytes out.old ++ before_told activation.now.state.unit activation.now.state.registers insn.now) }
+{
+    let unit = activation.unit();
+    write!(out, "{unit} ")?;
+    put_instruction(out, insn)?;
+    put_reads(out, activation, read_by(insn))?;
+    put_stored(out, activation, insn)
+}
+
+/// Adds a register that was written.
+fn put_wrote(out: &mut String, activation: &Activation, register: Reg) -> Result<(), AllocError>
+    ensures { OnOk result (string_bytes out.new ≡ string_bytes out.old ++ wrote activation.now.state.registers register) }
+{
+    out.push_str(" -> ")?;
+    put_register(out, activation, register)
+}
+
+/// Adds where a jump led.
+fn put_went(out: &mut String, activation: &Activation) -> Result<(), AllocError>
+    ensures { OnOk result (string_bytes out.new ≡ string_bytes out.old ++ went activation.now.state.unit) }
+{
+    let unit = activation.unit();
+    write!(out, " -> unit {unit}")
+}
+
+/// Adds what is told behind a step: the register that it wrote, or where it led.
+pub fn put_after(out: &mut String, activation: &Activation, insn: &Insn) -> Result<(), AllocError>
+    ensures { OnOk result (string_bytes out.new ≡ string_bytes out.old ++ after_told activation.now.state.unit activation.now.state.registers insn.now) }
+{
+    match insn {
+        Insn::Arithmetic { dst, .. } => put_wrote(out, activation, *dst),
+        Insn::Negate { dst, .. } => put_wrote(out, activation, *dst),
+        Insn::SignExtend { dst, .. } => put_wrote(out, activation, *dst),
+        Insn::Swap { dst, .. } => put_wrote(out, activation, *dst),
+        Insn::LoadImmediate { dst, .. } => put_wrote(out, activation, *dst),
+        Insn::Load { dst, .. } => put_wrote(out, activation, *dst),
+        Insn::LoadSigned { dst, .. } => put_wrote(out, activation, *dst),
+        Insn::Call { .. } => put_wrote(out, activation, numbered(0)),
+        Insn::Jump { .. } | Insn::LongJump { .. } | Insn::Branch { .. } => {
+            put_went(out, activation)
+        }
+        Insn::Store { .. } | Insn::Exit => Ok(()),
+    }
+}
+
+/// The word of the board that is asked for.
+fn slot_of(request: &Request) -> Option<Slot>
+    ensures { result ≡ slot_of request.now }
+{
+    match request {
+        Request::Get { slot }
+        | Request::Swap { slot, .. }
+        | Request::Add { slot, .. }
+        | Request::Cas { slot, .. } => Some(*slot),
+        Request::Copy { .. } => None,
+    }
+}
+
+/// Adds a word of the board, before and after.
+fn put_word(
+    out: &mut String,
+    slot: Slot,
+    words: &[u64; 64],
+    left: &[u64; 64],
+) -> Result<(), AllocError>
+    ensures { OnOk result (string_bytes out.new ≡ string_bytes out.old ++ word_told slot words.now left.now) }
+{
+    let slot = slot.number();
+    let (before, after) = (words[slot], left[slot]);
+    write!(out, " ; word {slot} {before} to {after}")
+}
+
+/// Adds what is told of a request, of the board's words before and after it.
+pub fn put_request(
+    out: &mut String,
+    request: &Request,
+    words: &[u64; 64],
+    left: &[u64; 64],
+) -> Result<(), AllocError>
+    ensures { OnOk result (string_bytes out.new ≡ string_bytes out.old ++ request_told request.now words.now left.now) }
+{
+    match slot_of(request) {
+        None => Ok(()),
+        Some(slot) => put_word(out, slot, words, left),
+    }
+}

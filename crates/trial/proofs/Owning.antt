@@ -1,0 +1,40 @@
+-- A board that serves one general in one round alone.
+use Rattle.std.proofs.Common.{◌≡◌, List, [], ◌∷◌, ◌++◌, All, refl, append-nil, append_assoc, sym, ◌∙◌, ap, subst}
+use Rattle.std.specs.Prelude.{replicate}
+use Rattle.std.proofs.lemmas.List.Elements.{All-nil, All-push}
+use Rattle.label.specs.declared.shape.Shape.{Shape}
+use Rattle.semantics.specs.Limits.{board_words}
+use Rattle.board.specs.Board.{Access}
+use Rattle.board.specs.Ledger.{RecordedBoard}
+use Rattle.trial.specs.Setting.{Setting}
+use Rattle.trial.specs.Trial.{IsOfOne, ServesOne}
+
+-- none so far
+pub serves_none : (shape : Shape) (b : RecordedBoard) → ServesOne shape b b
+serves_none shape b = record {
+  opening = refl;
+  more = [];
+  ledger = sym (append-nil b.ledger);
+  own = All-nil (λ (a : Access). (a.general ≡ shape.general) × (a.round ≡ shape.round));
+}
+
+-- one more access of his
+pub one_more : (shape : Shape) (old b d : RecordedBoard) (a : Access) → ServesOne shape old b → d.opening ≡ b.opening → d.ledger ≡ b.ledger ++ a ∷ [] → a.general ≡ shape.general → a.round ≡ shape.round → ServesOne shape old d
+one_more shape old b d a one opened entered general round =
+    let P : Access → Type 0 = λ x. (x.general ≡ shape.general) × (x.round ≡ shape.round) in
+    record {
+      opening = opened ∙ one.opening;
+      more = one.more ++ a ∷ [];
+      ledger = entered ∙ (ap (λ (l : List Access). l ++ a ∷ []) one.ledger ∙ append_assoc old.ledger one.more (a ∷ []));
+      own = All-push P one.more a one.own (general, round);
+    }
+
+-- of a board that has served none before it is all
+pub all_of_one : (shape : Shape) (b d : RecordedBoard) → b.opening ≡ replicate board_words 0 → b.ledger ≡ [] → ServesOne shape b d → IsOfOne shape d
+all_of_one shape b d zeros none one =
+    let P : Access → Type 0 = λ a. (a.general ≡ shape.general) × (a.round ≡ shape.round) in
+    let all : d.ledger ≡ one.more = one.ledger ∙ ap (λ (l : List Access). l ++ one.more) none in
+    record { opening = one.opening ∙ zeros; own = subst (λ (l : List Access). All P l) (sym all) one.own }
+
+pub board_in : (setting : Setting) (shape : Shape) (b : RecordedBoard) → shape ≡ setting.shape → IsOfOne shape b → IsOfOne setting.shape b
+board_in setting shape b same own = subst (λ (sh : Shape). IsOfOne sh b) same own

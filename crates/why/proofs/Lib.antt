@@ -1,0 +1,6 @@
+pub mod TrimLemmas
+pub mod TakenLemmas
+pub mod FeedLemmas
+pub mod PlaceLemmas
+pub mod SayingLemmas
+pub mod TellingLaws

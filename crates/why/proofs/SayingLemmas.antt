@@ -1,0 +1,230 @@
+-- No sentence is empty.
+use Rattle.std.proofs.Common.{ℕ, ◌≢◌, List, [], ◌∷◌, Bool, true, false, cond}
+use Rattle.std.specs.Prelude.{Option, None, Some}
+use Rattle.asm.specs.declared.fault.Fault.{Fault as AsmFault}
+use Rattle.asm.specs.declared.fault.Fault.TheVariants as asm
+use Rattle.codec.specs.declared.fault.Fault.{Fault as CodecFault}
+use Rattle.codec.specs.declared.fault.Fault.TheVariants as codec
+use Rattle.book.specs.declared.fault.Fault.{Fault as TableFault}
+use Rattle.book.specs.declared.fault.Fault.TheVariants as table
+use Rattle.trace.specs.declared.fault.Fault.{Fault as TraceFault}
+use Rattle.trace.specs.declared.fault.Fault.TheVariants as trace
+use Rattle.scenario.specs.declared.fault.Fault.{Fault as ScenarioFault}
+use Rattle.scenario.specs.declared.fault.Fault.TheVariants as faults
+use Rattle.scenario.specs.declared.place.Name.{Name}
+use Rattle.scenario.specs.declared.place.Name.TheVariants as names
+use Rattle.scenario.specs.declared.place.Place.{Place}
+use Rattle.scenario.specs.declared.place.Place.TheVariants as places
+use Rattle.trial.specs.declared.fault.Fault.{Fault as SettingFault}
+use Rattle.trial.specs.declared.fault.Fault.TheVariants as setting
+use Rattle.trial.specs.declared.place.Name.{Name as SettingName}
+use Rattle.trial.specs.declared.place.Name.TheVariants as setting_names
+use Rattle.trial.specs.declared.place.Place.{Place as SettingPlace}
+use Rattle.trial.specs.declared.place.Place.TheVariants as setting_places
+use Rattle.why.specs.declared.mnemonics.Takes.{Takes}
+use Rattle.why.specs.declared.mnemonics.Takes.TheVariants as takes
+use Rattle.why.specs.Assembly.{assembly_sentence, call_sentence, mnemonic_in, operand_sentence, operands_in, outline_sentence, past_ascii, range_sentence}
+use Rattle.why.specs.Bytecode.{byte_of, choice_sentence, left_out_sentence, unit_sentence}
+use Rattle.why.specs.Chronicles.{chronicle_sentence}
+use Rattle.why.specs.Messages.{table_sentence}
+use Rattle.why.specs.Mnemonics.{taken, takes_text}
+use Rattle.why.specs.Scenarios.{kind_sentence, missing_sentence, name_sentence, place_sentence, range_sentence as name_range_sentence, word_sentence}
+use Rattle.why.specs.Settings.{order_sentence, setting_kind_sentence, setting_name_sentence, setting_range_sentence, setting_sentence}
+
+-- one sentence or another
+if-says : (b : Bool) (s t : List ℕ) → s ≢ [] → t ≢ [] → cond b s t ≢ []
+if-says true s t says other = says
+if-says false s t says other = other
+
+-- a text with a first character
+some-says : (c : ℕ) (cs : List ℕ) → c ∷ cs ≢ []
+some-says c cs = λ e. cc
+
+-- ---- assembly
+
+outline-says : (past : List ℕ) → outline_sentence past ≢ []
+outline-says [] = λ e. cc
+outline-says (c ∷ cs) = λ e. cc
+
+takes-says : (t : Takes) → takes_text t ≢ []
+takes-says takes.Arithmetic = λ e. cc
+takes-says takes.Register = λ e. cc
+takes-says takes.Registers = λ e. cc
+takes-says takes.Target = λ e. cc
+takes-says takes.Branch = λ e. cc
+takes-says takes.Load = λ e. cc
+takes-says takes.StoreRegister = λ e. cc
+takes-says takes.StoreNumber = λ e. cc
+takes-says takes.Wide = λ e. cc
+takes-says takes.Call = λ e. cc
+takes-says takes.Nothing = λ e. cc
+
+call-says : (operands : List ℕ) → call_sentence operands ≢ []
+call-says [] = λ e. cc
+call-says (c ∷ cs) = search (if-says, some-says)
+
+operand-says : (t : Option Takes) (operands : List ℕ) → operand_sentence t operands ≢ []
+operand-says None operands = λ e. cc
+operand-says (Some takes.Call) operands = call-says operands
+operand-says (Some takes.Arithmetic) operands = λ e. cc
+operand-says (Some takes.Register) operands = λ e. cc
+operand-says (Some takes.Registers) operands = λ e. cc
+operand-says (Some takes.Target) operands = λ e. cc
+operand-says (Some takes.Branch) operands = λ e. cc
+operand-says (Some takes.Load) operands = λ e. cc
+operand-says (Some takes.StoreRegister) operands = λ e. cc
+operand-says (Some takes.StoreNumber) operands = λ e. cc
+operand-says (Some takes.Wide) operands = λ e. cc
+operand-says (Some takes.Nothing) operands = λ e. cc
+
+range-says : (t : Option Takes) → range_sentence t ≢ []
+range-says None = λ e. cc
+range-says (Some takes.Wide) = λ e. cc
+range-says (Some takes.Load) = λ e. cc
+range-says (Some takes.Target) = λ e. cc
+range-says (Some takes.Branch) = λ e. cc
+range-says (Some takes.StoreRegister) = λ e. cc
+range-says (Some takes.StoreNumber) = λ e. cc
+range-says (Some takes.Arithmetic) = λ e. cc
+range-says (Some takes.Register) = λ e. cc
+range-says (Some takes.Registers) = λ e. cc
+range-says (Some takes.Call) = λ e. cc
+range-says (Some takes.Nothing) = λ e. cc
+
+pub assembly-says : (f : AsmFault) (code : List ℕ) → assembly_sentence f code ≢ []
+assembly-says asm.Line code = outline-says (past_ascii code)
+assembly-says asm.Mnemonic code = λ e. cc
+assembly-says asm.Operand code = operand-says (taken (mnemonic_in code)) (operands_in code)
+assembly-says asm.Label code = λ e. cc
+assembly-says asm.Twice code = λ e. cc
+assembly-says asm.Range code = range-says (taken (mnemonic_in code))
+assembly-says asm.Count code = λ e. cc
+
+-- ---- bytecode
+
+left_out-says : (opcode : ℕ) → left_out_sentence opcode ≢ []
+left_out-says opcode = search (if-says, some-says)
+
+choice-says : (opcode : ℕ) → choice_sentence opcode ≢ []
+choice-says opcode = search (if-says, some-says)
+
+pub unit-says : (f : CodecFault) (digits : List ℕ) → unit_sentence f digits ≢ []
+unit-says codec.Length digits = λ e. cc
+unit-says codec.Opcode digits = λ e. cc
+unit-says codec.Reserved digits = λ e. cc
+unit-says codec.WideCut digits = λ e. cc
+unit-says codec.Register digits = λ e. cc
+unit-says codec.LeftOut digits = left_out-says (byte_of digits)
+unit-says codec.Operand digits = choice-says (byte_of digits)
+unit-says codec.Count digits = λ e. cc
+
+-- ---- tables and chronicles
+
+pub table-says : (f : TableFault) (number : ℕ) → table_sentence f number ≢ []
+table-says table.Line number = search (if-says, some-says)
+table-says table.Range number = λ e. cc
+table-says table.Place number = λ e. cc
+table-says table.Twice number = λ e. cc
+
+pub chronicle-says : (f : TraceFault) → chronicle_sentence f ≢ []
+chronicle-says trace.Line = λ e. cc
+chronicle-says trace.Scenario = λ e. cc
+chronicle-says trace.Differs = λ e. cc
+
+-- ---- scenarios
+
+missing-says : (name : Name) → missing_sentence name ≢ []
+missing-says names.Generals = λ e. cc
+missing-says names.Bound = λ e. cc
+missing-says names.Commander = λ e. cc
+missing-says names.Order = λ e. cc
+missing-says names.Board = λ e. cc
+missing-says names.Patience = λ e. cc
+missing-says names.Rule = λ e. cc
+missing-says names.Messages = λ e. cc
+missing-says names.Traitor = λ e. cc
+missing-says names.General = λ e. cc
+missing-says names.Asm = λ e. cc
+missing-says names.Code = λ e. cc
+
+kind-says : (name : Name) → kind_sentence name ≢ []
+kind-says names.Generals = λ e. cc
+kind-says names.Bound = λ e. cc
+kind-says names.Commander = λ e. cc
+kind-says names.Order = λ e. cc
+kind-says names.Board = λ e. cc
+kind-says names.Patience = λ e. cc
+kind-says names.Rule = λ e. cc
+kind-says names.Messages = λ e. cc
+kind-says names.Traitor = λ e. cc
+kind-says names.General = λ e. cc
+kind-says names.Asm = λ e. cc
+kind-says names.Code = λ e. cc
+
+name_range-says : (name : Name) → name_range_sentence name ≢ []
+name_range-says names.Generals = λ e. cc
+name_range-says names.Bound = λ e. cc
+name_range-says names.Commander = λ e. cc
+name_range-says names.Order = λ e. cc
+name_range-says names.Board = λ e. cc
+name_range-says names.Patience = λ e. cc
+name_range-says names.Rule = λ e. cc
+name_range-says names.Messages = λ e. cc
+name_range-says names.Traitor = λ e. cc
+name_range-says names.General = λ e. cc
+name_range-says names.Asm = λ e. cc
+name_range-says names.Code = λ e. cc
+
+name-says : (f : ScenarioFault) (name : Name) → name_sentence f name ≢ []
+name-says faults.Key name = missing-says name
+name-says faults.Kind name = kind-says name
+name-says faults.Range name = name_range-says name
+name-says faults.General name = λ e. cc
+name-says faults.Twice name = λ e. cc
+
+word-says : (f : ScenarioFault) → word_sentence f ≢ []
+word-says faults.Key = λ e. cc
+word-says faults.Kind = λ e. cc
+word-says faults.Range = λ e. cc
+word-says faults.General = λ e. cc
+word-says faults.Twice = λ e. cc
+
+pub place-says : (f : ScenarioFault) (place : Place) → place_sentence f place ≢ []
+place-says f (places.Key name) = name-says f name
+place-says f (places.Word index) = word-says f
+place-says f (places.Table index) = λ e. cc
+place-says f (places.Entry index name) = name-says f name
+
+-- ---- settings
+
+setting_kind-says : (name : SettingName) → setting_kind_sentence name ≢ []
+setting_kind-says setting_names.Generals = λ e. cc
+setting_kind-says setting_names.Bound = λ e. cc
+setting_kind-says setting_names.Commander = λ e. cc
+setting_kind-says setting_names.General = λ e. cc
+setting_kind-says setting_names.Round = λ e. cc
+setting_kind-says setting_names.Taken = λ e. cc
+
+setting_range-says : (name : SettingName) → setting_range_sentence name ≢ []
+setting_range-says setting_names.Generals = λ e. cc
+setting_range-says setting_names.Bound = λ e. cc
+setting_range-says setting_names.Commander = λ e. cc
+setting_range-says setting_names.General = λ e. cc
+setting_range-says setting_names.Round = λ e. cc
+setting_range-says setting_names.Taken = λ e. cc
+
+setting_name-says : (f : SettingFault) (name : SettingName) → setting_name_sentence f name ≢ []
+setting_name-says setting.Key name = λ e. cc
+setting_name-says setting.Kind name = setting_kind-says name
+setting_name-says setting.Range name = setting_range-says name
+setting_name-says setting.General name = λ e. cc
+
+order-says : (f : SettingFault) → order_sentence f ≢ []
+order-says setting.Key = λ e. cc
+order-says setting.Kind = λ e. cc
+order-says setting.Range = λ e. cc
+order-says setting.General = λ e. cc
+
+pub setting-says : (f : SettingFault) (place : SettingPlace) → setting_sentence f place ≢ []
+setting-says f (setting_places.Key name) = setting_name-says f name
+setting-says f (setting_places.Order rank) = order-says f

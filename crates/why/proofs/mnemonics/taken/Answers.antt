@@ -1,0 +1,9 @@
+use Rattle.std.proofs.Common.{◌∙◌}
+use Rattle.asm.specs.Table.{mnemonic_of, mnemonics}
+use Rattle.why.specs.Mnemonics.{taken}
+use Rattle.why.proofs.TakenLemmas.{taken_by}
+use Rattle.why.proofs.mnemonics.taken.Goals as goal
+
+pub returns : goal.returns
+unfolding taken mnemonic_of mnemonics
+returns c = c.search.ensures ∙ taken_by c.args.word.now mnemonics

@@ -1,0 +1,6 @@
+use Rattle.why.specs.Scenarios.{entry_key_told}
+use Rattle.why.proofs.scenarios.unknown_in_table.Goals as goal
+
+pub returns : goal.returns
+unfolding entry_key_told
+returns c = rw (c.entry_line-line.ensures, c.in_ok-known.ensures) at c.key_report.ensures

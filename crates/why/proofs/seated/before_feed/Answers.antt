@@ -1,0 +1,9 @@
+use Rattle.std.proofs.Common.{◌∙◌, sym}
+use Rattle.why.proofs.FeedLemmas.{before_more}
+use Rattle.why.proofs.seated.before_feed.Goals as goal
+
+pub loop-i-preserved : goal.loop-i-preserved
+loop-i-preserved c =
+    c.loop-i.invariant
+    ∙ before_more c.args.text.now c.loop-i.i c.loop-i-test.true (rw c.behind-rest.ensures at (sym c.is_feed.ensures ∙ c.if-is_feed.false))
+    (rw c.behind-rest.ensures at (sym c.is_quote.ensures ∙ c.if-is_quote.false))

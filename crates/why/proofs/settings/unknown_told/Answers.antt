@@ -1,0 +1,6 @@
+use Rattle.why.specs.Settings.{setting_unknown_told}
+use Rattle.why.proofs.settings.unknown_told.Goals as goal
+
+pub returns : goal.returns
+unfolding setting_unknown_told
+returns c = rw (c.find_line-line.ensures, c.in_ok-known.ensures) at c.key_report.ensures

@@ -1,0 +1,189 @@
+-- What is said of a fault of an assembly text: the sentence of each code, the place in the line, and a help.
+use Rattle.std.specs.Prelude.{ℕ, List, [], ◌∷◌, Bool, true, false, ◌+◌, ◌-◌, ◌==◌, ◌&&◌, ◌||◌, nat_lt, nat_eq, if◌then◌else◌, Option, None, Some, codes, drop, length, option_map}
+use Rattle.std.specs.Borrow.{Bor}
+use Rattle.std.specs.List.{list_any, starts_with}
+use Rattle.text.specs.declared.stop.Stop.TheVariants.{Blank, Solid}
+use Rattle.text.specs.Stop.{colon, comma, is_within, semicolon}
+use Rattle.text.specs.Parts.{before, from, pieces, until}
+use Rattle.asm.specs.Helper.{helpers}
+use Rattle.asm.specs.declared.fault.Fault.{Fault}
+use Rattle.asm.specs.declared.fault.Fault.TheVariants as fault
+use Rattle.why.specs.declared.mnemonics.Takes.{Takes}
+use Rattle.why.specs.declared.mnemonics.Takes.TheVariants as takes
+use Rattle.why.specs.Lines.{line_at, marked, trimmed}
+use Rattle.why.specs.Mnemonics.{mnemonic_names, taken, takes_text}
+use Rattle.why.specs.Nearest.{near}
+use Rattle.why.specs.Report.{Mark, near_words, report_text}
+
+-- ---- the parts of a line
+
+-- what stands before the comment, without the white space round it
+unfoldable pub code_in : List ℕ → List ℕ
+code_in line = from Solid (trimmed (before semicolon line))
+
+-- a colon stands in the first word
+abbrev pub has_name : List ℕ → Bool
+has_name code = nat_lt (until colon (before Blank code)) (length (before Blank code))
+
+-- behind the name, if there is one: the mnemonic and its operands
+unfoldable pub statement_in : List ℕ → List ℕ
+statement_in code = if has_name code then from Solid (drop 1 (from colon code)) else code
+
+abbrev pub mnemonic_in : List ℕ → List ℕ
+mnemonic_in code = before Blank (statement_in code)
+
+abbrev pub operands_in : List ℕ → List ℕ
+operands_in code = from Solid (from Blank (statement_in code))
+
+-- the last piece between commas
+abbrev pub last_of : List (List ℕ) → List ℕ
+last_of [] = []
+last_of (piece ∷ []) = piece
+last_of (piece ∷ next ∷ pieces) = last_of (next ∷ pieces)
+
+unfoldable pub last_operand : List ℕ → List ℕ
+last_operand operands = from Solid (last_of (pieces comma operands))
+
+-- from the first byte past ASCII on
+abbrev pub past_ascii : List ℕ → List ℕ
+past_ascii [] = []
+past_ascii (c ∷ cs) = if nat_lt c 128 then past_ascii cs else c ∷ cs
+
+-- ---- the place
+
+-- a part of the code: the end of the code that it begins, and its size
+abbrev pub Part : Type 0
+Part = List ℕ × ℕ
+
+-- the code's own part, seen so
+abbrev pub part_view : Bor (List ℕ) × ℕ → Part
+part_view part = (part.0.now, part.1)
+
+abbrev pub all_of : List ℕ → Part
+all_of end = (end, length end)
+
+abbrev pub mnemonic_part : List ℕ → Part
+mnemonic_part statement = (statement, until Blank statement)
+
+-- the first character past ASCII, or all of the code
+abbrev pub outline_part : List ℕ → List ℕ → Part
+outline_part code [] = all_of code
+outline_part code (c ∷ cs) = (c ∷ cs, 1)
+
+-- the operands or, where there are none, the mnemonic
+abbrev pub operands_part : List ℕ → List ℕ → Part
+operands_part statement [] = mnemonic_part statement
+operands_part statement (c ∷ cs) = all_of (c ∷ cs)
+
+-- what is at fault: the name, the mnemonic, its operands, the last of them, or all of the code
+abbrev pub part_of : Fault → List ℕ → Part
+part_of fault.Line code = outline_part code (past_ascii code)
+part_of fault.Mnemonic code = mnemonic_part (statement_in code)
+part_of fault.Operand code = operands_part (statement_in code) (operands_in code)
+part_of fault.Label code = all_of (last_operand (operands_in code))
+part_of fault.Twice code = (code, until colon code)
+part_of fault.Range code = operands_part (statement_in code) (operands_in code)
+part_of fault.Count code = all_of code
+
+-- how many bytes of the line stand before the part, the code being what stands before the comment, and how many it has
+abbrev pub behind_front : List ℕ → Part → ℕ × ℕ
+behind_front line part = (length (trimmed (before semicolon line)) - length part.0, part.1)
+
+unfoldable pub place_in : Fault → List ℕ → ℕ × ℕ
+place_in f line = behind_front line (part_of f (code_in line))
+
+-- the part, marked in a line behind the front of another, which is empty where the line is one of the file
+abbrev pub assembly_mark : Fault → ℕ → List ℕ → ℕ → List ℕ → Mark
+assembly_mark f number shown front line = marked number shown (front + (place_in f line).0) (place_in f line).1
+
+-- ---- the sentence
+
+abbrev pub outline_sentence : List ℕ → List ℕ
+outline_sentence [] = codes "a line is `[name:] [mnemonic operands] [; comment]`, with commas between the operands"
+outline_sentence (c ∷ cs) = codes "a character that is not of ASCII stands outside a comment"
+
+-- no operand, or one that begins no number, is taken for a helper's name
+abbrev pub call_sentence : List ℕ → List ℕ
+call_sentence [] = takes_text takes.Call
+call_sentence (c ∷ cs) = if is_within 97 122 c || is_within 65 90 c || c == 95 then codes "there is no helper of this name" else takes_text takes.Call
+
+abbrev pub operand_sentence : Option Takes → List ℕ → List ℕ
+operand_sentence None operands = codes "the operands are not those of the mnemonic"
+operand_sentence (Some takes.Call) operands = call_sentence operands
+operand_sentence (Some takes) operands = takes_text takes
+
+abbrev pub range_sentence : Option Takes → List ℕ
+range_sentence (Some takes.Wide) = codes "a number here is -9223372036854775808 to 18446744073709551615"
+range_sentence (Some takes.Load) = codes "an offset is -32768 to 32767"
+range_sentence (Some takes.Target) = codes "a jump leads at most 32767 units on (with `ja.w` 2147483647)"
+range_sentence (Some takes.Branch) = codes "a number here is -2147483648 to 2147483647, and a jump leads at most 32767 units on"
+range_sentence (Some takes.StoreRegister) = codes "an offset is -32768 to 32767"
+range_sentence (Some takes.StoreNumber) = codes "a number here is -2147483648 to 2147483647, and an offset -32768 to 32767"
+range_sentence _ = codes "a number here is -2147483648 to 2147483647"
+
+abbrev pub assembly_sentence : Fault → List ℕ → List ℕ
+assembly_sentence fault.Line code = outline_sentence (past_ascii code)
+assembly_sentence fault.Mnemonic code = codes "there is no such mnemonic"
+assembly_sentence fault.Operand code = operand_sentence (taken (mnemonic_in code)) (operands_in code)
+assembly_sentence fault.Label code = codes "no line has this name"
+assembly_sentence fault.Twice code = codes "a line before has this name"
+assembly_sentence fault.Range code = range_sentence (taken (mnemonic_in code))
+assembly_sentence fault.Count code = codes "a program has 1 to 4096 units"
+
+-- ---- the help
+
+abbrev pub has : ℕ → List ℕ → Bool
+has byte bytes = list_any (λ b. b == byte) bytes
+
+abbrev pub has_capital : List ℕ → Bool
+has_capital bytes = list_any (λ b. is_within 65 90 b) bytes
+
+-- the three bytes of a mark of the byte order
+abbrev pub order_mark : List ℕ
+order_mark = 239 ∷ 187 ∷ 191 ∷ []
+
+abbrev pub begins_marked : ℕ → List ℕ → Bool
+begins_marked number line = number == 1 && starts_with nat_eq line order_mark
+
+-- of the outline: what is likely by the first of these characters that stands in the line
+abbrev pub outline_advice : ℕ → List ℕ → List ℕ → Option (List ℕ)
+outline_advice number line code =
+    if begins_marked number line then Some (codes "the file begins with a byte order mark: save it without one")
+    else if has 13 line then Some (codes "a carriage return stands only before a line feed: these are other line ends")
+    else if has 35 code || has 47 code then Some (codes "a comment begins with `;`")
+    else if has 61 code then Some (codes "`r0 = 1` is written `mov r0, 1`")
+    else if has 91 code then Some (codes "inside an operand stands no blank: `[r1+8]`")
+    else None
+
+-- a nearly equal name; without one, a capital letter
+abbrev pub or_small : List ℕ → Option (List ℕ) → Option (List ℕ)
+or_small code (Some advice) = Some advice
+or_small code None = if has_capital code then Some (codes "mnemonics, registers and helpers are written small") else None
+
+abbrev pub is_call : Option Takes → Bool
+is_call (Some takes.Call) = true
+is_call _ = false
+
+abbrev pub operand_advice : Option Takes → List ℕ → Option (List ℕ)
+operand_advice takes operands = or_small operands (if is_call takes then option_map (near_words (codes "helper")) (near operands helpers) else None)
+
+abbrev pub assembly_advice : Fault → ℕ → List ℕ → List ℕ → Option (List ℕ)
+assembly_advice fault.Line number line code = outline_advice number line code
+assembly_advice fault.Mnemonic number line code = or_small (mnemonic_in code) (option_map (near_words (codes "mnemonic")) (near (mnemonic_in code) mnemonic_names))
+assembly_advice fault.Operand number line code = operand_advice (taken (mnemonic_in code)) (operands_in code)
+assembly_advice _ number line code = None
+
+-- ---- all of it
+
+-- of a fault in a line of code, which stands in a line of the file with this name, behind so many bytes of it
+abbrev pub code_told : List ℕ → Fault → ℕ → List ℕ → ℕ → List ℕ → List ℕ
+code_told name f number shown front line =
+    report_text name (assembly_sentence f (code_in line)) (Some (assembly_mark f number (trimmed shown) front line)) (assembly_advice f number line (code_in line))
+
+abbrev pub line_told : List ℕ → Fault → ℕ → Option (List ℕ) → List ℕ
+line_told name f number None = report_text name (assembly_sentence f []) None None
+line_told name f number (Some line) = code_told name f number line 0 line
+
+-- of a fault at a line of the text of a file with this name
+unfoldable pub assembly_told : List ℕ → List ℕ → Fault → ℕ → List ℕ
+assembly_told name text f number = line_told name f number (line_at text number)

@@ -1,0 +1,72 @@
+-- What is said of a fault of bytecode: the sentence of each code, and the place among the digits in hex of the unit.
+use Rattle.std.specs.Prelude.{ℕ, List, [], ◌∷◌, ◌*◌, ◌==◌, ◌||◌, if◌then◌else◌, Option, None, Some, codes, drop, take, unwrap_or}
+use Rattle.codec.specs.declared.fault.Fault.{Fault}
+use Rattle.codec.specs.declared.fault.Fault.TheVariants as fault
+use Rattle.hex.specs.Hex.{encode_lower}
+use Rattle.text.specs.Number.{digits_on}
+use Rattle.why.specs.Lines.{marked}
+use Rattle.why.specs.Report.{Mark, report_text}
+
+-- the number of two digits
+abbrev pub byte_of : List ℕ → ℕ
+byte_of digits = unwrap_or (digits_on 16 0 (take 2 digits)) 0
+
+-- an instruction that is left out, by its opcode, with its group (RFC 9669, sections 2.4 and 5)
+abbrev pub left_out_sentence : ℕ → List ℕ
+left_out_sentence opcode =
+    if opcode == 0x85 then codes "a call of a function of the program, a local call (group base32), is left out, and one of a helper by its BTF"
+    else if opcode == 0x18 then codes "a map load, a wide load of a map, a variable or code (group base64), is left out"
+    else if opcode == 0xc3 then codes "an atomic instruction of 32 bits (group atomic32) is left out"
+    else if opcode == 0xdb then codes "an atomic instruction of 64 bits (group atomic64) is left out"
+    else codes "a packet load (group packet) is left out"
+
+-- what an operand chooses, by the opcode
+abbrev pub choice_sentence : ℕ → List ℕ
+choice_sentence opcode =
+    if opcode == 0xd4 || opcode == 0xd7 || opcode == 0xdc then codes "a swap is of 16, 32 or 64 bits, as the number behind says"
+    else if opcode == 0xbc || opcode == 0xbf then codes "the offset of a move is 0, or 8, 16 or (of 64 bits) 32 to extend so many bits by their sign"
+    else codes "the offset of a division or a remainder is 0, or 1 for the signed one"
+
+-- of a fault in a unit of these digits
+abbrev pub unit_sentence : Fault → List ℕ → List ℕ
+unit_sentence fault.Length digits = codes "the file ends within this unit, and a unit has 8 bytes"
+unit_sentence fault.Opcode digits = codes "no instruction has this opcode"
+unit_sentence fault.Reserved digits = codes "a field that this instruction does not use is not zero"
+unit_sentence fault.WideCut digits = codes "the second half of this wide instruction is missing"
+unit_sentence fault.Register digits = codes "the registers are r0 to r10"
+unit_sentence fault.LeftOut digits = left_out_sentence (byte_of digits)
+unit_sentence fault.Operand digits = choice_sentence (byte_of digits)
+unit_sentence fault.Count digits = codes "a program has 1 to 4096 units"
+
+-- a call and a wide load are left out for their source register, which stands in the second byte
+abbrev pub left_out_place : ℕ → ℕ × ℕ
+left_out_place opcode = if opcode == 0x85 || opcode == 0x18 then (2, 2) else (0, 2)
+
+-- a swap is chosen by the last four bytes, another form by the offset
+abbrev pub choice_place : ℕ → ℕ × ℕ
+choice_place opcode = if opcode == 0xd4 || opcode == 0xd7 || opcode == 0xdc then (8, 8) else (4, 4)
+
+-- before the part so many digits, and so many in it
+abbrev pub unit_place : Fault → List ℕ → ℕ × ℕ
+unit_place fault.Opcode digits = (0, 2)
+unit_place fault.Register digits = (2, 2)
+unit_place fault.LeftOut digits = left_out_place (byte_of digits)
+unit_place fault.Operand digits = choice_place (byte_of digits)
+unit_place _ digits = (0, 16)
+
+-- the bytes of a unit, of those that a program may have
+abbrev pub unit_at : List ℕ → ℕ → List ℕ
+unit_at bytes unit = take 8 (drop (8 * unit) (take 32768 bytes))
+
+-- the unit, with the part marked: none where the file has too many units or none
+abbrev pub unit_marked : Fault → ℕ → List ℕ → Option Mark
+unit_marked fault.Count unit digits = None
+unit_marked f unit [] = None
+unit_marked f unit (d ∷ ds) = Some (marked unit (d ∷ ds) (unit_place f (d ∷ ds)).0 (unit_place f (d ∷ ds)).1)
+
+abbrev pub unit_told : List ℕ → Fault → ℕ → List ℕ → List ℕ
+unit_told name f unit digits = report_text name (unit_sentence f digits) (unit_marked f unit digits) None
+
+-- of a fault at a unit of the file with this name and these bytes
+unfoldable pub bytecode_told : List ℕ → List ℕ → Fault → ℕ → List ℕ
+bytecode_told name bytes f unit = unit_told name f unit (encode_lower (unit_at bytes unit))

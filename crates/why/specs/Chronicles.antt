@@ -1,0 +1,51 @@
+-- What is said of a fault of a schedule or a chronicle.
+use Rattle.std.specs.Prelude.{ℕ, List, if◌then◌else◌, Option, None, Some, codes, option_map, take}
+use Rattle.trace.specs.declared.fault.Fault.{Fault}
+use Rattle.trace.specs.declared.fault.Fault.TheVariants as fault
+use Rattle.why.specs.Assembly.{begins_marked, has}
+use Rattle.why.specs.Lines.{all_marked, line_at, trimmed}
+use Rattle.why.specs.Report.{has_words, report_text}
+
+-- ---- of a schedule
+
+abbrev pub schedule_sentence : List ℕ
+schedule_sentence = codes "a line is entries with one space between them, `G` or `G*K` for K of them, G being 0 to 12 and K 1 to 4096; a schedule has at most 5 lines and 1048576 bytes"
+
+abbrev pub schedule_advice : ℕ → List ℕ → Option (List ℕ)
+schedule_advice number line =
+    if begins_marked number line then Some (codes "the file begins with a byte order mark: save it without one")
+    else if has 13 line then Some (codes "the file has Windows line ends: a line ends with a line feed alone")
+    else if has 35 line then Some (codes "a schedule has no comments")
+    else None
+
+abbrev pub schedule_line_told : List ℕ → ℕ → Option (List ℕ) → List ℕ
+schedule_line_told name number None = report_text name schedule_sentence None None
+schedule_line_told name number (Some line) = report_text name schedule_sentence (Some (all_marked number (trimmed line))) (schedule_advice number line)
+
+-- of a line of the schedule of a file with this name, as far as a schedule goes
+unfoldable pub schedule_told : List ℕ → List ℕ → ℕ → List ℕ
+schedule_told name text number = schedule_line_told name number (line_at (take 1048576 text) number)
+
+-- ---- of a chronicle
+
+abbrev pub chronicle_sentence : Fault → List ℕ
+chronicle_sentence fault.Line = codes "no line of a chronicle has this shape"
+chronicle_sentence fault.Scenario = codes "the first two lines are not those of this scenario's campaign"
+chronicle_sentence fault.Differs = codes "this line is not the campaign's"
+
+-- the line that is to stand there, where it is known; else by the first of these that stands in the line
+abbrev pub chronicle_advice : ℕ → Option (List ℕ) → List ℕ → Option (List ℕ)
+chronicle_advice number (Some wanted) line = Some (has_words wanted)
+chronicle_advice number None line =
+    if begins_marked number line then Some (codes "the file begins with a byte order mark: save it without one")
+    else if has 13 line then Some (codes "the file has Windows line ends: a line ends with a line feed alone")
+    else None
+
+abbrev pub chronicle_line_told : List ℕ → Fault → ℕ → Option (List ℕ) → Option (List ℕ) → List ℕ
+chronicle_line_told name f number wanted None = report_text name (chronicle_sentence f) None (option_map has_words wanted)
+chronicle_line_told name f number wanted (Some line) =
+    report_text name (chronicle_sentence f) (Some (all_marked number (trimmed line))) (chronicle_advice number wanted line)
+
+-- of a fault at a line of the chronicle of a file with this name, where the campaign has another line
+unfoldable pub chronicle_told : List ℕ → List ℕ → Fault → ℕ → Option (List ℕ) → List ℕ
+chronicle_told name text f number wanted = chronicle_line_told name f number wanted (line_at text number)

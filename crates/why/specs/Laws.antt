@@ -1,0 +1,52 @@
+-- The law of what is said: each refusal has a sentence, and the place that is told lies within the file.
+use Rattle.std.specs.Prelude.{ℕ, ◌≡◌, ◌≢◌, ◌+◌, ◌≤◌, List, [], Option, None, IfSome, length, take, unwrap_or}
+use Rattle.hex.specs.Hex.{encode_lower}
+use Rattle.asm.specs.declared.fault.Fault.{Fault as AsmFault}
+use Rattle.codec.specs.declared.fault.Fault.{Fault as CodecFault}
+use Rattle.book.specs.declared.fault.Fault.{Fault as TableFault}
+use Rattle.trace.specs.declared.fault.Fault.{Fault as TraceFault}
+use Rattle.scenario.specs.declared.fault.ScenarioError.{ScenarioError}
+use Rattle.scenario.specs.declared.fault.ScenarioError.TheVariants as scenario
+use Rattle.trial.specs.declared.fault.SettingError.{SettingError}
+use Rattle.trial.specs.declared.fault.SettingError.TheVariants as setting
+use Rattle.std.specs.Str.{IsUtf8}
+use Rattle.toml.specs.Parse.{parse_document}
+use Rattle.why.specs.Assembly.{assembly_told}
+use Rattle.why.specs.Bytecode.{bytecode_told, unit_at}
+use Rattle.why.specs.Chronicles.{chronicle_told, schedule_told}
+use Rattle.why.specs.Errors.{TellsScenario, TellsSetting}
+use Rattle.why.specs.Lines.{line_at, trimmed}
+use Rattle.why.specs.Messages.{table_told}
+use Rattle.why.specs.Report.{Mark, report_text}
+
+-- the mark is a part of a line of the text, or stands behind its last line
+pub record IsInText (text : List ℕ) (m : Mark) : Type 0 where
+  pub line : m.line ≡ trimmed (unwrap_or (line_at text m.number) [])
+  pub part : m.from + m.size ≤ length m.line
+
+-- the mark is a part of the digits of a unit of the bytes
+pub record IsInUnit (bytes : List ℕ) (m : Mark) : Type 0 where
+  pub unit : m.line ≡ encode_lower (unit_at bytes m.number)
+  pub some : m.line ≢ []
+  pub part : m.from + m.size ≤ length m.line
+
+-- what is told is a report, with a sentence, and a place of which this holds
+pub record IsReport (IsIn : Mark → Type 0) (name told : List ℕ) : Type 0 where
+  pub sentence : List ℕ
+  pub place : Option Mark
+  pub help : Option (List ℕ)
+  pub is : told ≡ report_text name sentence place help
+  pub says : sentence ≢ []
+  pub within : IfSome place IsIn
+
+-- each refusal of each kind of file is told by a report; of a text that is no TOML where it is one in UTF-8
+pub record RefusalsAreTold : Type 0 where
+  pub assembly : (name text : List ℕ) (fault : AsmFault) (line : ℕ) → IsReport (IsInText text) name (assembly_told name text fault line)
+  pub bytecode : (name bytes : List ℕ) (fault : CodecFault) (unit : ℕ) → IsReport (IsInUnit bytes) name (bytecode_told name bytes fault unit)
+  pub table : (name text : List ℕ) (fault : TableFault) (line : ℕ) → IsReport (IsInText text) name (table_told name text fault line)
+  pub schedule : (name text : List ℕ) (line : ℕ) → IsReport (IsInText (take 1048576 text)) name (schedule_told name text line)
+  pub chronicle : (name text : List ℕ) (fault : TraceFault) (line : ℕ) (wanted : Option (List ℕ)) → IsReport (IsInText text) name (chronicle_told name text fault line wanted)
+  pub scenario : (name text told : List ℕ) (error : ScenarioError) → (error ≡ scenario.Toml → IsUtf8 text × (parse_document text ≡ None))
+      → TellsScenario name text error told → IsReport (IsInText text) name told
+  pub setting : (name text told : List ℕ) (error : SettingError) → (error ≡ setting.Toml → IsUtf8 text × (parse_document text ≡ None))
+      → TellsSetting name text error told → IsReport (IsInText text) name told

@@ -1,0 +1,14 @@
+pub mod Report
+pub mod Lines
+pub mod Nearest
+pub mod Mnemonics
+pub mod Assembly
+pub mod Messages
+pub mod Bytecode
+pub mod Chronicles
+pub mod Keys
+pub mod Toml
+pub mod Scenarios
+pub mod Settings
+pub mod Errors
+pub mod Laws

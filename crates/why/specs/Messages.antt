@@ -1,0 +1,38 @@
+-- What is said of a fault of a message table.
+use Rattle.std.specs.Prelude.{ℕ, List, ◌==◌, ◌||◌, if◌then◌else◌, Option, None, Some, codes, length}
+use Rattle.book.specs.declared.fault.Fault.{Fault}
+use Rattle.book.specs.declared.fault.Fault.TheVariants as fault
+use Rattle.why.specs.Assembly.{begins_marked, has}
+use Rattle.why.specs.Lines.{all_marked, line_at, trimmed}
+use Rattle.why.specs.Report.{report_text}
+
+abbrev pub table_sentence : Fault → ℕ → List ℕ
+table_sentence fault.Line number =
+    if number == 1 then codes "the first line is `generals N bound M commander C`, perhaps with ` rule majority` or ` rule median` behind it"
+    else codes "a line is `tell LABEL RECEIVER ORDER`: the label's generals joined by dots, numbers without leading zeros, an order of at most 4294967295"
+table_sentence fault.Range number = codes "a table has 2 to 13 generals, a bound of 0 to 4 and at most generals - 2, and a commander below generals"
+table_sentence fault.Place number = codes "nobody is told of this label, or not this receiver: a label begins with the commander, has at most bound + 1 generals, none twice, and the receiver is not on it"
+table_sentence fault.Twice number = codes "a line before tells this receiver of this label"
+
+-- what is likely by the first of these characters that stands in the line
+abbrev pub shape_advice : ℕ → List ℕ → Option (List ℕ)
+shape_advice number line =
+    if begins_marked number line then Some (codes "the file begins with a byte order mark: save it without one")
+    else if has 13 line then Some (codes "the file has Windows line ends: a line ends with a line feed alone")
+    else if length line == 0 then Some (codes "a table has no empty line")
+    else if has 63 line then Some (codes "an order, a number, is to stand in place of `?`")
+    else if has 35 line || has 59 line then Some (codes "a table has no comments")
+    else if has 9 line then Some (codes "one space stands between two parts, and no tab")
+    else None
+
+abbrev pub table_advice : Fault → ℕ → List ℕ → Option (List ℕ)
+table_advice fault.Line number line = shape_advice number line
+table_advice _ number line = None
+
+abbrev pub table_line_told : List ℕ → Fault → ℕ → Option (List ℕ) → List ℕ
+table_line_told name f number None = report_text name (table_sentence f number) None None
+table_line_told name f number (Some line) = report_text name (table_sentence f number) (Some (all_marked number (trimmed line))) (table_advice f number line)
+
+-- of a fault at a line of the text of a file with this name
+unfoldable pub table_told : List ℕ → List ℕ → Fault → ℕ → List ℕ
+table_told name text f number = table_line_told name f number (line_at text number)

@@ -1,0 +1,198 @@
+-- What is said of a fault of a scenario: the sentence of each code, and the place in the text.
+use Rattle.std.specs.Prelude.{ℕ, suc, zero, List, [], ◌∷◌, ◌++◌, Bool, true, false, ◌+◌, ◌-◌, ◌*◌, ◌^◌, ◌==◌, ◌&&◌, ◌||◌, nat_eq, nat_le, nat_lt, if◌then◌else◌, Option, None, Some, codes, drop, length, option_and_then, option_map, take}
+use Rattle.std.specs.Fmt.{decimal}
+use Rattle.std.specs.List.{starts_with}
+use Rattle.asm.specs.declared.fault.Fault.{Fault as AsmFault}
+use Rattle.codec.specs.declared.fault.Fault.{Fault as CodecFault}
+use Rattle.verify.specs.Telling.{code_of}
+use Rattle.verify.specs.declared.reason.Reason.{Reason}
+use Rattle.scenario.specs.Names.{text_of}
+use Rattle.scenario.specs.declared.place.Name.{Name}
+use Rattle.scenario.specs.declared.place.Name.TheVariants as names
+use Rattle.scenario.specs.declared.place.Place.{Place}
+use Rattle.scenario.specs.declared.place.Place.TheVariants as places
+use Rattle.scenario.specs.declared.fault.Fault.{Fault}
+use Rattle.scenario.specs.declared.fault.Fault.TheVariants as faults
+use Rattle.scenario.specs.declared.fault.ProgramFault.{ProgramFault}
+use Rattle.scenario.specs.declared.fault.ProgramFault.TheVariants as programs
+use Rattle.why.specs.Assembly.{assembly_sentence, code_told}
+use Rattle.why.specs.Bytecode.{unit_place, unit_sentence}
+use Rattle.why.specs.Keys.{Found, entry_line, found, header, or_else, shown_at, table_of, value_end}
+use Rattle.why.specs.Lines.{line_at, marked, trimmed}
+use Rattle.why.specs.Nearest.{near}
+use Rattle.why.specs.Report.{Mark, near_words, report_text}
+
+-- ---- a fault at a place
+
+abbrev pub missing_sentence : Name → List ℕ
+missing_sentence names.Rule = codes "a signed campaign combines nothing, and has no rule"
+missing_sentence names.Asm = codes "a traitor's table has one of `asm` and `code`, and not both"
+missing_sentence name = codes "the key `" ++ text_of name ++ codes "` is missing"
+
+abbrev pub kind_sentence : Name → List ℕ
+kind_sentence names.Board = codes "a board is a list of whole numbers"
+kind_sentence names.Rule = codes "a rule is a text, \"majority\" or \"median\""
+kind_sentence names.Messages = codes "messages are a text, \"oral\" or \"signed\""
+kind_sentence names.Traitor = codes "the traitors are a list of tables, each begun by `[[traitor]]`"
+kind_sentence names.Asm = codes "a program is a text in quotation marks, as `asm = \"mov r0, 0\\nexit\"`"
+kind_sentence names.Code = codes "bytecode is a text in quotation marks, of digits in hex"
+kind_sentence name = codes "a whole number is wanted here"
+
+abbrev pub range_sentence : Name → List ℕ
+range_sentence names.Generals = codes "there are 2 to 13 generals"
+range_sentence names.Bound = codes "a bound is 0 to 4, and at most generals - 2"
+range_sentence names.Commander = codes "a general is numbered from 0 on"
+range_sentence names.Order = codes "an order is 0 to 4294967295"
+range_sentence names.Board = codes "a board has at most 64 words"
+range_sentence names.Patience = codes "a patience is 1 to 4096 steps"
+range_sentence names.Rule = codes "a rule is \"majority\" or \"median\""
+range_sentence names.Messages = codes "messages are \"oral\" or \"signed\", and of a muster, a message table or an explanation \"oral\""
+range_sentence name = codes "this value is out of its range"
+
+abbrev pub name_sentence : Fault → Name → List ℕ
+name_sentence faults.Key name = missing_sentence name
+name_sentence faults.Kind name = kind_sentence name
+name_sentence faults.Range name = range_sentence name
+name_sentence faults.General name = codes "no general has this number: they are 0 to generals - 1"
+name_sentence faults.Twice name = codes "a table before is of this general"
+
+abbrev pub word_sentence : Fault → List ℕ
+word_sentence faults.Kind = codes "a word of the board is a whole number"
+word_sentence f = codes "a word of the board is 0 to 9223372036854775807"
+
+abbrev pub place_sentence : Fault → Place → List ℕ
+place_sentence f (places.Key name) = name_sentence f name
+place_sentence f (places.Word index) = word_sentence f
+place_sentence f (places.Table index) = codes "a traitor is a table, begun by `[[traitor]]`"
+place_sentence f (places.Entry index name) = name_sentence f name
+
+-- a missing key is one of the word, any other fault one of its value
+abbrev pub is_of_value : Fault → Bool
+is_of_value faults.Key = false
+is_of_value f = true
+
+abbrev pub place_mark : Fault → Place → List ℕ → Option Mark
+place_mark f (places.Key name) text = option_map (shown_at (is_of_value f) (text_of name)) (found 0 (text_of name) text)
+place_mark f (places.Word index) text = option_map (shown_at true (codes "board")) (found 0 (codes "board") text)
+place_mark f (places.Table index) text = option_map (shown_at false header) (entry_line index header text)
+place_mark f (places.Entry index name) text = option_map (shown_at (is_of_value f) (text_of name)) (entry_line index (text_of name) text)
+
+unfoldable pub place_told : List ℕ → List ℕ → Fault → Place → List ℕ
+place_told name text f place = report_text name (place_sentence f place) (place_mark f place text) None
+
+-- ---- an unknown key
+
+abbrev pub top_keys : List (List ℕ)
+top_keys =
+    codes "generals" ∷ codes "bound" ∷ codes "commander" ∷ codes "order" ∷ codes "board" ∷ codes "patience" ∷ codes "rule" ∷ codes "messages" ∷ codes "traitor" ∷ []
+
+abbrev pub entry_keys : List (List ℕ)
+entry_keys = codes "general" ∷ codes "asm" ∷ codes "code" ∷ []
+
+-- the sentence, the key in its line, and a key that is near
+abbrev pub key_told : List ℕ → List ℕ → List ℕ → Option Found → Option (List ℕ) → List ℕ
+key_told name sentence key line known = report_text name sentence (option_map (shown_at false key) line) (option_map (near_words (codes "key")) known)
+
+unfoldable pub top_key_told : List ℕ → List ℕ → List ℕ → List ℕ
+top_key_told name text key = key_told name (codes "a scenario has no such key") key (found 0 key text) (near key top_keys)
+
+unfoldable pub entry_key_told : List ℕ → List ℕ → ℕ → List ℕ → List ℕ
+entry_key_told name text index key = key_told name (codes "a traitor's table has no such key") key (entry_line index key text) (near key entry_keys)
+
+abbrev pub unknown_told : List ℕ → List ℕ → Option ℕ → List ℕ → List ℕ
+unknown_told name text None key = top_key_told name text key
+unknown_told name text (Some index) key = entry_key_told name text index key
+
+-- ---- a program
+
+-- the line of a key of the table of this general, as far as `general = G` stands in it
+unfoldable pub program_line : ℕ → List ℕ → List ℕ → Option Found
+program_line general word text = option_and_then (λ table. found table word text) (table_of general text)
+
+-- the text goes on over lines, between three quotation marks
+abbrev pub is_long : List ℕ → Bool
+is_long value = starts_with nat_eq value (codes "\"\"\"") || starts_with nat_eq value (codes "'''")
+
+-- a line feed of a text on one line, written `\n`
+abbrev pub is_feed : List ℕ → Bool
+is_feed (c ∷ d ∷ cs) = c == 92 && d == 110
+is_feed _ = false
+
+-- the quotation mark that ends such a text
+abbrev pub is_quote : List ℕ → Bool
+is_quote [] = false
+is_quote (c ∷ cs) = c == 34
+
+-- behind the first line feed
+abbrev pub behind_feed : List ℕ → List ℕ
+behind_feed [] = []
+behind_feed (c ∷ cs) = if is_feed (c ∷ cs) then drop 1 cs else behind_feed cs
+
+-- behind so many of them
+abbrev pub behind_feeds : ℕ → List ℕ → List ℕ
+behind_feeds zero text = text
+behind_feeds (suc n) text = behind_feeds n (behind_feed text)
+
+-- before the next one, and before the end of the text
+abbrev pub before_feed : List ℕ → List ℕ
+before_feed [] = []
+before_feed (c ∷ cs) = if is_feed (c ∷ cs) || is_quote (c ∷ cs) then [] else c ∷ before_feed cs
+
+-- of a fault in a line of the program whose text begins here, in the line of the file that has it
+abbrev pub at_end_told : List ℕ → AsmFault → Found → List ℕ → List ℕ → List ℕ
+at_end_told name f line end code = code_told name f line.number line.line (length line.line - length end) code
+
+-- the line that stands so many behind the line of this number, by its own number, which has 64 bits
+unfoldable pub line_behind : List ℕ → ℕ → ℕ → Option (ℕ × List ℕ)
+line_behind text first more = if nat_lt (first + more) (2 ^ 64) then option_map (λ line. (first + more, line)) (line_at text (first + more)) else None
+
+abbrev pub at_line_told : List ℕ → AsmFault → Option (ℕ × List ℕ) → List ℕ
+at_line_told name f None = report_text name (assembly_sentence f []) None None
+at_line_told name f (Some line) = code_told name f line.0 line.1 0 line.1
+
+-- a long text begins on its key's line or, where nothing stands behind its quotation marks there, on the next
+abbrev pub long_told : List ℕ → List ℕ → AsmFault → ℕ → Found → List ℕ → List ℕ
+long_told name text f number line rest =
+    if length (trimmed rest) == 0 then at_line_told name f (line_behind text line.number number)
+    else if nat_le number 1 then at_end_told name f line rest rest
+    else at_line_told name f (line_behind text line.number (number - 1))
+
+abbrev pub short_told : List ℕ → AsmFault → Found → List ℕ → List ℕ
+short_told name f line end = at_end_told name f line end (before_feed end)
+
+abbrev pub text_told : List ℕ → List ℕ → AsmFault → ℕ → Option Found → List ℕ
+text_told name text f number None = report_text name (assembly_sentence f []) None None
+text_told name text f number (Some line) =
+    if is_long (value_end line.line) then long_told name text f number line (drop 3 (value_end line.line))
+    else short_told name f line (behind_feeds (number - 1) (drop 1 (value_end line.line)))
+
+-- the digits of a unit that a program may have, from them on
+abbrev pub unit_end : List ℕ → ℕ → List ℕ
+unit_end line unit = if nat_le unit 4096 then drop (16 * unit) (drop 1 (value_end line)) else []
+
+abbrev pub unit_in_told : List ℕ → CodecFault → List ℕ → List ℕ → Found → List ℕ
+unit_in_told name f digits end line =
+    report_text name (unit_sentence f digits)
+    (Some (marked line.number (trimmed line.line) (length line.line - length end + (unit_place f digits).0) (unit_place f digits).1)) None
+
+abbrev pub code_line_told : List ℕ → CodecFault → ℕ → Option Found → List ℕ
+code_line_told name f unit None = report_text name (unit_sentence f []) None None
+code_line_told name f unit (Some line) = unit_in_told name f (take 16 (unit_end line.line unit)) (unit_end line.line unit) line
+
+abbrev pub verifier_sentence : Reason → ℕ → List ℕ
+verifier_sentence reason unit = codes "the verifier refuses this program, by " ++ (code_of reason ++ (codes " at its unit " ++ decimal unit))
+
+-- the line of the program: that of its assembly, else that of its bytecode
+abbrev pub source_line : ℕ → List ℕ → Option Found
+source_line general text = or_else (program_line general (codes "asm") text) (program_line general (codes "code") text)
+
+abbrev pub refused_told : List ℕ → List ℕ → ℕ → Reason → ℕ → List ℕ
+refused_told name text general reason unit =
+    report_text name (verifier_sentence reason unit) (option_map (shown_at false (codes "asm")) (source_line general text)) None
+
+abbrev pub program_told : List ℕ → List ℕ → ℕ → ProgramFault → List ℕ
+program_told name text general (programs.Asm f number) = text_told name text f number (program_line general (codes "asm") text)
+program_told name text general programs.Hex =
+    report_text name (codes "bytecode is an even number of digits in hex, without blanks") (option_map (shown_at true (codes "code")) (program_line general (codes "code") text)) None
+program_told name text general (programs.Code f unit) = code_line_told name f unit (program_line general (codes "code") text)
+program_told name text general (programs.Verifier reason unit) = refused_told name text general reason unit

@@ -1,0 +1,34 @@
+-- What is said of a text that is no TOML: what its parser says, and where.
+use Rattle.std.specs.Prelude.{ℕ, ◌≡◌, ◌-◌, ◌≤◌, List, [], ◌++◌, None, Some, codes, length, take, unwrap_or}
+use Rattle.std.specs.Str.{IsUtf8}
+use Rattle.text.specs.Stop.{feed}
+use Rattle.text.specs.Parts.{pieces}
+use Rattle.toml.specs.Parse.{parse_document}
+use Rattle.why.specs.Assembly.{last_of}
+use Rattle.why.specs.Lines.{line_at, marked, trimmed}
+use Rattle.why.specs.Report.{Mark, report_text}
+
+-- the bytes of a text between these two places, marked in the line of the first
+abbrev pub span_marked : List ℕ → ℕ → ℕ → Mark
+span_marked text start end =
+    let lines = pieces feed (take start text) in
+    marked (length lines) (trimmed (unwrap_or (line_at text (length lines)) [])) (length (last_of lines)) (end - start)
+
+abbrev pub unread_sentence : List ℕ → List ℕ
+unread_sentence message = codes "the text is no TOML: " ++ message
+
+abbrev pub span_told : List ℕ → List ℕ → List ℕ → ℕ → ℕ → List ℕ
+span_told name text message start end = report_text name (unread_sentence message) (Some (span_marked text start end)) None
+
+-- the text is told with a message at a place of its own; what the message says is the parser's affair
+pub record IsUnread (name text told : List ℕ) : Type 0 where
+  pub message : List ℕ
+  pub start : ℕ
+  pub end : ℕ
+  pub ordered : start ≤ end
+  pub within : end ≤ length text
+  pub is : told ≡ span_told name text message start end
+
+-- of a text that is no TOML
+abbrev pub TellsToml : List ℕ → List ℕ → List ℕ → Type 0
+TellsToml name text told = IsUtf8 text → parse_document text ≡ None → IsUnread name text told

@@ -1,0 +1,422 @@
+//! What is said of a fault of an assembly text.
+ghost use Rattle.std.specs.Prelude.{◌≡◌, ◌≤◌, IfOk, codes, drop, length, option_map, string_bytes};
+ghost use Rattle.asm.specs.Helper.{helpers};
+ghost use Rattle.text.specs.declared.stop.Stop.TheVariants.{Blank};
+ghost use Rattle.text.specs.Stop.{comma, semicolon};
+ghost use Rattle.text.specs.Parts.{before, pieces, until};
+ghost use Rattle.why.specs.Assembly.{assembly_advice, assembly_sentence, assembly_told, begins_marked, call_sentence, code_in, code_told, has, has_capital, is_call, last_of, last_operand, line_told, mnemonic_in, operand_advice, operand_sentence, operands_in, operands_part, or_small, outline_advice, mnemonic_part, outline_part, outline_sentence, part_of, part_view, past_ascii, place_in, range_sentence, statement_in};
+ghost use Rattle.why.specs.Mnemonics.{mnemonic_names};
+ghost use Rattle.why.specs.Nearest.{near};
+ghost use Rattle.why.specs.Lines.{trimmed};
+ghost use Rattle.why.specs.Report.{help_words, near_words};
+
+use crate::lines::{line_at, marked, trimmed};
+use crate::mnemonics::{self, Takes, taken};
+use crate::nearest::near;
+use crate::report::{Help, report};
+use asm::Fault;
+use std::alloc::{AllocError, Global};
+use text::{Stop, cut, find, piece};
+
+/// The helpers, by their numbers.
+static HELPERS: [&'static str; 11] = [
+    "board_get",
+    "board_swap",
+    "board_add",
+    "board_cas",
+    "board_copy",
+    "send",
+    "send_row",
+    "sway",
+    "honest",
+    "sign_order",
+    "pass_on",
+];
+
+/// What stands before the comment of a line, without the white space at its end.
+fn before_comment(line: &[u8]) -> &[u8]
+    ensures { result.now ≡ trimmed (before semicolon line.now) }
+{
+    trimmed(cut(Stop::Byte(b';'), line).0)
+}
+
+/// The same without the blanks before it.
+#[tactic(auto, unfolding(crate::specs::Assembly::code_in))]
+fn code_in(line: &[u8]) -> &[u8]
+    ensures { result.now ≡ code_in line.now }
+{
+    cut(Stop::Solid, before_comment(line)).1
+}
+
+/// What stands behind the first byte.
+fn behind_first(bytes: &[u8]) -> &[u8]
+    ensures { result.now ≡ drop 1 bytes.now }
+{
+    match bytes {
+        [] => bytes,
+        [_, rest @ ..] => rest,
+    }
+}
+
+/// The mnemonic of the code and its operands.
+#[tactic(auto, unfolding(crate::specs::Assembly::statement_in))]
+fn statement_in(code: &[u8]) -> &[u8]
+    ensures { result.now ≡ statement_in code.now }
+{
+    let (word, _) = cut(Stop::Blank, code);
+    if find(Stop::Byte(b':'), word) < word.len() {
+        let (_, behind) = cut(Stop::Byte(b':'), code);
+        cut(Stop::Solid, behind_first(behind)).1
+    } else {
+        code
+    }
+}
+
+/// The mnemonic.
+fn mnemonic_in(code: &[u8]) -> &[u8]
+    ensures { result.now ≡ mnemonic_in code.now }
+{
+    cut(Stop::Blank, statement_in(code)).0
+}
+
+/// Its operands.
+fn operands_in(code: &[u8]) -> &[u8]
+    ensures { result.now ≡ operands_in code.now }
+{
+    let (_, behind) = cut(Stop::Blank, statement_in(code));
+    cut(Stop::Solid, behind).1
+}
+
+/// The last of the pieces between commas.
+fn last_piece(operands: &[u8]) -> &[u8]
+    ensures { result.now ≡ last_of (pieces comma operands.now) }
+{
+    let (mut last, mut rest) = piece(Stop::Byte(b','), operands);
+    while let Some(more) = rest {
+        (last, rest) = piece(Stop::Byte(b','), more);
+    }
+    last
+}
+
+/// The last of the operands.
+#[tactic(auto, unfolding(crate::specs::Assembly::last_operand))]
+fn last_operand(operands: &[u8]) -> &[u8]
+    ensures { result.now ≡ last_operand operands.now }
+{
+    cut(Stop::Solid, last_piece(operands)).1
+}
+
+/// The code from its first byte past ASCII on.
+fn past_ascii(code: &[u8]) -> &[u8]
+    ensures { result.now ≡ past_ascii code.now }
+{
+    for (i, byte) in code.iter().enumerate() {
+        if *byte >= 128 {
+            return &code[i..];
+        }
+    }
+    &[]
+}
+
+/// The first character past ASCII, or all of the code.
+fn outline_part(code: &[u8]) -> (&[u8], usize)
+    ensures { part_view result ≡ outline_part code.now (past_ascii code.now) }
+{
+    match past_ascii(code) {
+        [] => (code, code.len()),
+        end => (end, 1),
+    }
+}
+
+/// The operands or, where there are none, the mnemonic.
+fn operands_part(code: &[u8]) -> (&[u8], usize)
+    ensures { part_view result ≡ operands_part (statement_in code.now) (operands_in code.now) }
+{
+    match operands_in(code) {
+        [] => mnemonic_part(code),
+        operands => (operands, operands.len()),
+    }
+}
+
+/// The mnemonic.
+fn mnemonic_part(code: &[u8]) -> (&[u8], usize)
+    ensures { part_view result ≡ mnemonic_part (statement_in code.now) }
+{
+    let statement = statement_in(code);
+    (statement, find(Stop::Blank, statement))
+}
+
+/// The part of the code that is at fault: the end of the code that it begins, and its size.
+fn part_of(fault: Fault, code: &[u8]) -> (&[u8], usize)
+    ensures { part_view result ≡ part_of fault code.now }
+{
+    match fault {
+        Fault::Line => outline_part(code),
+        Fault::Mnemonic => mnemonic_part(code),
+        Fault::Operand | Fault::Range => operands_part(code),
+        Fault::Label => {
+            let operand = last_operand(operands_in(code));
+            (operand, operand.len())
+        }
+        Fault::Twice => (code, find(Stop::Byte(b':'), code)),
+        Fault::Count => (code, code.len()),
+    }
+}
+
+/// How many bytes of the line stand before the part that is at fault, and how many it has.
+#[tactic(auto, unfolding(crate::specs::Assembly::place_in))]
+fn place_in(fault: Fault, line: &[u8]) -> (usize, usize)
+    ensures place { result ≡ place_in fault line.now }
+    ensures inside { result.0 ≤ length line.now }
+{
+    let (end, size) = part_of(fault, code_in(line));
+    (before_comment(line).len().saturating_sub(end.len()), size)
+}
+
+/// What is wrong with the outline of the code.
+fn outline_sentence(code: &[u8]) -> &'static str
+    ensures { result.now ≡ outline_sentence (past_ascii code.now) }
+{
+    match past_ascii(code) {
+        [] =>
+            "a line is `[name:] [mnemonic operands] [; comment]`, with commas between the operands",
+        _ => "a character that is not of ASCII stands outside a comment",
+    }
+}
+
+/// What is wrong with what is called.
+fn call_sentence(operands: &[u8]) -> &'static str
+    ensures { result.now ≡ call_sentence operands.now }
+{
+    match operands {
+        [b'a'..=b'z' | b'A'..=b'Z' | b'_', ..] => "there is no helper of this name",
+        _ => Takes::Call.text(),
+    }
+}
+
+/// What is wrong with the operands.
+fn operand_sentence(takes: Option<Takes>, operands: &[u8]) -> &'static str
+    ensures { result.now ≡ operand_sentence takes operands.now }
+{
+    match takes {
+        None => "the operands are not those of the mnemonic",
+        Some(Takes::Call) => call_sentence(operands),
+        Some(takes) => takes.text(),
+    }
+}
+
+/// Which numbers the mnemonic takes.
+fn range_sentence(takes: Option<Takes>) -> &'static str
+    ensures { result.now ≡ range_sentence takes }
+{
+    match takes {
+        Some(Takes::Wide) => "a number here is -9223372036854775808 to 18446744073709551615",
+        Some(Takes::Load | Takes::StoreRegister) => "an offset is -32768 to 32767",
+        Some(Takes::Target) => "a jump leads at most 32767 units on (with `ja.w` 2147483647)",
+        Some(Takes::Branch) =>
+            "a number here is -2147483648 to 2147483647, and a jump leads at most 32767 units on",
+        Some(Takes::StoreNumber) =>
+            "a number here is -2147483648 to 2147483647, and an offset -32768 to 32767",
+        _ => "a number here is -2147483648 to 2147483647",
+    }
+}
+
+/// What was wanted.
+pub(crate) fn sentence(fault: Fault, code: &[u8]) -> &'static str
+    ensures { result.now ≡ assembly_sentence fault code.now }
+{
+    match fault {
+        Fault::Line => outline_sentence(code),
+        Fault::Mnemonic => "there is no such mnemonic",
+        Fault::Operand => operand_sentence(taken(mnemonic_in(code)), operands_in(code)),
+        Fault::Label => "no line has this name",
+        Fault::Twice => "a line before has this name",
+        Fault::Range => range_sentence(taken(mnemonic_in(code))),
+        Fault::Count => "a program has 1 to 4096 units",
+    }
+}
+
+/// Whether the byte is one of these.
+pub(crate) fn has(byte: u8, bytes: &[u8]) -> bool
+    ensures { result ≡ has byte bytes.now }
+{
+    bytes.iter().any(|b| *b == byte)
+}
+
+/// Whether a capital letter is among the bytes.
+fn has_capital(bytes: &[u8]) -> bool
+    ensures { result ≡ has_capital bytes.now }
+{
+    bytes.iter().any(|b| b'A' <= *b && *b <= b'Z')
+}
+
+/// Whether the file begins with a mark of the byte order.
+pub(crate) fn begins_marked(number: u64, line: &[u8]) -> bool
+    ensures { result ≡ begins_marked number line.now }
+{
+    number == 1 && line.starts_with(b"\xEF\xBB\xBF")
+}
+
+/// What may mend an outline.
+fn outline_help(number: u64, line: &[u8], code: &[u8]) -> Option<Help<'static>>
+    ensures { option_map help_words result ≡ outline_advice number line.now code.now }
+{
+    let sentence = if begins_marked(number, line) {
+        "the file begins with a byte order mark: save it without one"
+    } else if has(b'\r', line) {
+        "a carriage return stands only before a line feed: these are other line ends"
+    } else if has(b'#', code) || has(b'/', code) {
+        "a comment begins with `;`"
+    } else if has(b'=', code) {
+        "`r0 = 1` is written `mov r0, 1`"
+    } else if has(b'[', code) {
+        "inside an operand stands no blank: `[r1+8]`"
+    } else {
+        return None;
+    };
+    Some(Help::Said(sentence))
+}
+
+/// A name of this kind, if one is near; without one, that capital letters are none.
+fn or_small(code: &[u8], kind: &'static str, name: Option<&'static str>) -> Option<Help<'static>>
+    ensures { option_map help_words result ≡ or_small code.now (option_map (near_words kind.now) (option_map (λ n. n.now) name.entry)) }
+{
+    match name {
+        Some(name) => Some(Help::Near(kind, name)),
+        None if has_capital(code) => Some(Help::Said(
+            "mnemonics, registers and helpers are written small",
+        )),
+        None => None,
+    }
+}
+
+/// The helper whose name is near.
+fn near_helper(alloc: Global, word: &[u8]) -> Result<Option<&'static str>, AllocError>
+    ensures { IfOk result (λ name. option_map (λ n. n.now) name ≡ near word.now helpers) }
+{
+    near(alloc, word, &HELPERS)
+}
+
+/// Whether the mnemonic takes a helper.
+fn is_call(takes: Option<Takes>) -> bool
+    ensures { result ≡ is_call takes }
+{
+    match takes {
+        Some(Takes::Call) => true,
+        _ => false,
+    }
+}
+
+/// What may mend a helper's name.
+fn helper_help(alloc: Global, word: &[u8]) -> Result<Option<Help<'static>>, AllocError>
+    ensures { IfOk result (λ help. option_map help_words help ≡ or_small word.now (option_map (near_words (codes "helper")) (near word.now helpers))) }
+{
+    let name = near_helper(alloc, word)?;
+    Ok(or_small(word, "helper", name))
+}
+
+/// What may mend operands.
+fn operand_help(
+    alloc: Global,
+    takes: Option<Takes>,
+    operands: &[u8],
+) -> Result<Option<Help<'static>>, AllocError>
+    ensures { IfOk result (λ help. option_map help_words help ≡ operand_advice takes operands.now) }
+{
+    if is_call(takes) {
+        return helper_help(alloc, operands);
+    }
+    Ok(or_small(operands, "helper", None))
+}
+
+/// What may mend a mnemonic.
+fn mnemonic_help(alloc: Global, word: &[u8]) -> Result<Option<Help<'static>>, AllocError>
+    ensures { IfOk result (λ help. option_map help_words help ≡ or_small word.now (option_map (near_words (codes "mnemonic")) (near word.now mnemonic_names))) }
+{
+    let names = mnemonics::names(alloc)?;
+    let name = near(alloc, word, names.as_slice())?;
+    Ok(or_small(word, "mnemonic", name))
+}
+
+/// What may mend a line.
+fn help(
+    alloc: Global,
+    fault: Fault,
+    number: u64,
+    line: &[u8],
+    code: &[u8],
+) -> Result<Option<Help<'static>>, AllocError>
+    ensures { IfOk result (λ help. option_map help_words help ≡ assembly_advice fault number line.now code.now) }
+{
+    match fault {
+        Fault::Line => Ok(outline_help(number, line, code)),
+        Fault::Mnemonic => mnemonic_help(alloc, mnemonic_in(code)),
+        Fault::Operand => operand_help(alloc, taken(mnemonic_in(code)), operands_in(code)),
+        _ => Ok(None),
+    }
+}
+
+/// Where a line of code stands in a file: in this line of it, behind this front.
+#[derive(Clone, Copy)]
+pub(crate) struct Spot<'a> {
+    pub number: u64,
+    pub shown: &'a [u8],
+    pub front: &'a [u8],
+}
+
+/// What is said of a fault in a line of code.
+pub(crate) fn code_told(
+    alloc: Global,
+    name: &str,
+    fault: Fault,
+    spot: Spot<'_>,
+    line: &[u8],
+) -> Result<String, AllocError>
+    ensures { IfOk result (λ told. string_bytes told ≡ code_told name.now fault spot.entry.number spot.entry.shown.now (length spot.entry.front.now) line.now) }
+{
+    let code = code_in(line);
+    let (from, size) = place_in(fault, line);
+    let help = help(alloc, fault, spot.number, line, code)?;
+    let mark = marked(
+        spot.number,
+        trimmed(spot.shown),
+        spot.front.len() + from,
+        size,
+    );
+    report(alloc, name, sentence(fault, code), Some(mark), help)
+}
+
+/// What is said of a fault in this line of a file.
+fn line_told(
+    alloc: Global,
+    name: &str,
+    fault: Fault,
+    number: u64,
+    line: Option<&[u8]>,
+) -> Result<String, AllocError>
+    ensures { IfOk result (λ told. string_bytes told ≡ line_told name.now fault number (option_map (λ l. l.now) line.entry)) }
+{
+    let Some(line) = line else {
+        return report(alloc, name, sentence(fault, &[]), None, None);
+    };
+    let spot = Spot {
+        number,
+        shown: line,
+        front: &[],
+    };
+    code_told(alloc, name, fault, spot, line)
+}
+
+/// What is said of a fault at a line of the assembly text of the file with this name.
+#[tactic(auto, unfolding(crate::specs::Assembly::assembly_told))]
+pub fn of_assembly(
+    alloc: Global,
+    name: &str,
+    text: &[u8],
+    fault: Fault,
+    number: u64,
+) -> Result<String, AllocError>
+    ensures { IfOk result (λ told. string_bytes told ≡ assembly_told name.now text.now fault number) }
+{
+    line_told(alloc, name, fault, number, line_at(text, number))
+}

@@ -1,0 +1,140 @@
+//! What is said of a fault of bytecode.
+ghost use Rattle.std.specs.Prelude.{◌≡◌, ◌≤◌, IfOk, option_map, string_bytes};
+ghost use Rattle.why.specs.Bytecode.{byte_of, bytecode_told, choice_place, choice_sentence, left_out_place, left_out_sentence, unit_at, unit_marked, unit_place, unit_sentence, unit_told};
+ghost use Rattle.why.specs.Report.{mark_view};
+
+use crate::lines::marked;
+use crate::report::{Mark, behind, front, report};
+use codec::Fault;
+use std::alloc::{AllocError, Global};
+use text::{Base, digits};
+
+/// The most bytes of a program.
+const MOST_BYTES: usize = 32768;
+
+/// The number of two digits.
+fn byte_of(hex: &[u8]) -> u128
+    ensures { result ≡ byte_of hex.now }
+{
+    digits(Base::Sixteen, front(hex, 2)).unwrap_or(0)
+}
+
+/// Which instruction is left out, by its opcode.
+fn left_out_sentence(opcode: u128) -> &'static str
+    ensures { result.now ≡ left_out_sentence opcode }
+{
+    match opcode {
+        0x85 =>
+            "a call of a function of the program, a local call (group base32), is left out, and one of a helper by its BTF",
+        0x18 => "a map load, a wide load of a map, a variable or code (group base64), is left out",
+        0xc3 => "an atomic instruction of 32 bits (group atomic32) is left out",
+        0xdb => "an atomic instruction of 64 bits (group atomic64) is left out",
+        _ => "a packet load (group packet) is left out",
+    }
+}
+
+/// What an operand chooses, by the opcode.
+fn choice_sentence(opcode: u128) -> &'static str
+    ensures { result.now ≡ choice_sentence opcode }
+{
+    match opcode {
+        0xd4 | 0xd7 | 0xdc => "a swap is of 16, 32 or 64 bits, as the number behind says",
+        0xbc | 0xbf =>
+            "the offset of a move is 0, or 8, 16 or (of 64 bits) 32 to extend so many bits by their sign",
+        _ => "the offset of a division or a remainder is 0, or 1 for the signed one",
+    }
+}
+
+/// What was wanted of a unit of these digits.
+pub(crate) fn unit_sentence(fault: Fault, hex: &[u8]) -> &'static str
+    ensures { result.now ≡ unit_sentence fault hex.now }
+{
+    match fault {
+        Fault::Length => "the file ends within this unit, and a unit has 8 bytes",
+        Fault::Opcode => "no instruction has this opcode",
+        Fault::Reserved => "a field that this instruction does not use is not zero",
+        Fault::WideCut => "the second half of this wide instruction is missing",
+        Fault::Register => "the registers are r0 to r10",
+        Fault::LeftOut => left_out_sentence(byte_of(hex)),
+        Fault::Operand => choice_sentence(byte_of(hex)),
+        Fault::Count => "a program has 1 to 4096 units",
+    }
+}
+
+/// Where an instruction that is left out says so.
+fn left_out_place(opcode: u128) -> (usize, usize)
+    ensures { result ≡ left_out_place opcode }
+{
+    match opcode {
+        0x85 | 0x18 => (2, 2),
+        _ => (0, 2),
+    }
+}
+
+/// Where an operand chooses.
+fn choice_place(opcode: u128) -> (usize, usize)
+    ensures { result ≡ choice_place opcode }
+{
+    match opcode {
+        0xd4 | 0xd7 | 0xdc => (8, 8),
+        _ => (4, 4),
+    }
+}
+
+/// How many digits stand before the part that is at fault, and how many it has.
+pub(crate) fn unit_place(fault: Fault, hex: &[u8]) -> (usize, usize)
+    ensures place { result ≡ unit_place fault hex.now }
+    ensures few { result.0 ≤ 8 }
+{
+    match fault {
+        Fault::Opcode => (0, 2),
+        Fault::Register => (2, 2),
+        Fault::LeftOut => left_out_place(byte_of(hex)),
+        Fault::Operand => choice_place(byte_of(hex)),
+        _ => (0, 16),
+    }
+}
+
+/// The bytes of a unit, of those that a program may have.
+fn unit_at(bytes: &[u8], unit: usize) -> &[u8]
+    ensures { result.now ≡ unit_at bytes.now unit }
+{
+    let program = front(bytes, MOST_BYTES);
+    if unit >= 4096 {
+        return &[];
+    }
+    front(behind(program, 8 * unit), 8)
+}
+
+/// The unit with the part that is at fault, if it is one of the file.
+fn unit_marked(fault: Fault, unit: usize, hex: &[u8]) -> Option<Mark<'_>>
+    ensures { option_map mark_view result ≡ unit_marked fault unit hex.now }
+{
+    if fault == Fault::Count || hex.is_empty() {
+        return None;
+    }
+    let (from, size) = unit_place(fault, hex);
+    Some(marked(unit as u64, hex, from, size))
+}
+
+/// What is said of a fault at a unit of the file with this name and these bytes.
+#[tactic(auto, unfolding(crate::specs::Bytecode::bytecode_told))]
+pub fn of_bytecode(
+    alloc: Global,
+    name: &str,
+    bytes: &[u8],
+    fault: Fault,
+    unit: usize,
+) -> Result<String, AllocError>
+    ensures { IfOk result (λ told. string_bytes told ≡ bytecode_told name.now bytes.now fault unit) }
+{
+    let hex = hex::encode(alloc, unit_at(bytes, unit))?;
+    let hex = hex.as_bytes();
+    report(
+        alloc,
+        name,
+        unit_sentence(fault, hex),
+        unit_marked(fault, unit, hex),
+        None,
+    )
+}

@@ -1,0 +1,138 @@
+//! What is said of a fault of a schedule or a chronicle.
+ghost use Rattle.std.specs.Prelude.{◌≡◌, IfOk, option_map, string_bytes};
+ghost use Rattle.why.specs.Chronicles.{chronicle_advice, chronicle_line_told, chronicle_sentence, chronicle_told, schedule_advice, schedule_line_told, schedule_sentence, schedule_told};
+ghost use Rattle.why.specs.Report.{help_words};
+
+use crate::assembly::{begins_marked, has};
+use crate::lines::{all_marked, line_at, trimmed};
+use crate::report::{Help, front, report};
+use std::alloc::{AllocError, Global};
+use trace::{Fault, MOST_SCHEDULE_BYTES};
+
+/// What may mend a text that comes from another system.
+fn ends_help(number: u64, line: &[u8]) -> Option<Help<'static>>
+    ensures { option_map help_words result ≡ chronicle_advice number None line.now }
+{
+    if begins_marked(number, line) {
+        Some(Help::Said("the file begins with a byte order mark: save it without one"))
+    } else if has(b'\r', line) {
+        Some(Help::Said("the file has Windows line ends: a line ends with a line feed alone"))
+    } else {
+        None
+    }
+}
+
+/// What may mend a line of a schedule.
+fn schedule_help(number: u64, line: &[u8]) -> Option<Help<'static>>
+    ensures { option_map help_words result ≡ schedule_advice number line.now }
+{
+    match ends_help(number, line) {
+        Some(help) => Some(help),
+        None if has(b'#', line) => Some(Help::Said("a schedule has no comments")),
+        None => None,
+    }
+}
+
+/// What is said of this line of a schedule.
+fn schedule_line_told(
+    alloc: Global,
+    name: &str,
+    number: u64,
+    line: Option<&[u8]>,
+) -> Result<String, AllocError>
+    ensures { IfOk result (λ told. string_bytes told ≡ schedule_line_told name.now number (option_map (λ l. l.now) line.entry)) }
+{
+    let sentence =
+        "a line is entries with one space between them, `G` or `G*K` for K of them, G being 0 to 12 and K 1 to 4096; a schedule has at most 5 lines and 1048576 bytes";
+    let Some(line) = line else {
+        return report(alloc, name, sentence, None, None);
+    };
+    let mark = all_marked(number, trimmed(line));
+    report(
+        alloc,
+        name,
+        sentence,
+        Some(mark),
+        schedule_help(number, line),
+    )
+}
+
+/// What is said of a line of the schedule of the file with this name, as far as a schedule goes.
+#[tactic(auto, unfolding(crate::specs::Chronicles::schedule_told))]
+pub fn of_schedule(
+    alloc: Global,
+    name: &str,
+    text: &[u8],
+    number: u64,
+) -> Result<String, AllocError>
+    ensures { IfOk result (λ told. string_bytes told ≡ schedule_told name.now text.now number) }
+{
+    let line = line_at(front(text, MOST_SCHEDULE_BYTES), number);
+    schedule_line_told(alloc, name, number, line)
+}
+
+/// What is wrong with a line of a chronicle.
+fn chronicle_sentence(fault: Fault) -> &'static str
+    ensures { result.now ≡ chronicle_sentence fault }
+{
+    match fault {
+        Fault::Line => "no line of a chronicle has this shape",
+        Fault::Scenario => "the first two lines are not those of this scenario's campaign",
+        Fault::Differs => "this line is not the campaign's",
+    }
+}
+
+/// What may mend a line of a chronicle: the campaign's, where it is known.
+fn chronicle_help<'a>(number: u64, wanted: Option<&'a str>, line: &[u8]) -> Option<Help<'a>>
+    ensures { option_map help_words result ≡ chronicle_advice number (option_map (λ w. w.now) wanted.entry) line.now }
+{
+    match wanted {
+        Some(wanted) => Some(Help::Has(wanted)),
+        None => ends_help(number, line),
+    }
+}
+
+/// What is said of this line of a chronicle.
+fn chronicle_line_told(
+    alloc: Global,
+    name: &str,
+    fault: Fault,
+    number: u64,
+    wanted: Option<&str>,
+    line: Option<&[u8]>,
+) -> Result<String, AllocError>
+    ensures { IfOk result (λ told. string_bytes told ≡ chronicle_line_told name.now fault number (option_map (λ w. w.now) wanted.entry) (option_map (λ l. l.now) line.entry)) }
+{
+    let sentence = chronicle_sentence(fault);
+    match line {
+        Some(line) => {
+            let mark = all_marked(number, trimmed(line));
+            report(
+                alloc,
+                name,
+                sentence,
+                Some(mark),
+                chronicle_help(number, wanted, line),
+            )
+        }
+        None => match wanted {
+            Some(wanted) => report(alloc, name, sentence, None, Some(Help::Has(wanted))),
+            None => report(alloc, name, sentence, None, None),
+        },
+    }
+}
+
+/// What is said of a fault at a line of the chronicle of the file with this name, where the campaign has this line, if it is known.
+#[tactic(auto, unfolding(crate::specs::Chronicles::chronicle_told))]
+pub fn of_chronicle(
+    alloc: Global,
+    name: &str,
+    text: &[u8],
+    fault: Fault,
+    number: u64,
+    wanted: Option<&str>,
+) -> Result<String, AllocError>
+    ensures { IfOk result (λ told. string_bytes told ≡ chronicle_told name.now text.now fault number (option_map (λ w. w.now) wanted.entry)) }
+{
+    chronicle_line_told(alloc, name, fault, number, wanted, line_at(text, number))
+}

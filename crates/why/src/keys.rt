@@ -1,0 +1,167 @@
+//! Where a key of a TOML text stands.
+ghost use Rattle.std.specs.Prelude.{◌≡◌, ◌+◌, ◌<◌, ◌≤◌, ◌^◌, IfOk, option_map};
+ghost use Rattle.why.specs.Keys.{begins_with, ends_word, entry_line, found, found_view, header, shown_at, table_at, table_of, value_end, value_in, value_marked, word_marked};
+ghost use Rattle.why.specs.Report.{mark_view};
+
+use crate::lines::{all_marked, marked, trimmed};
+use crate::report::{Mark, behind};
+use std::alloc::{AllocError, Global};
+use text::{Stop, cut, find};
+
+/// A line by its number, and behind how many headers it stands.
+#[derive(Clone, Copy)]
+pub(crate) struct Found<'a> {
+    pub number: u64,
+    pub line: &'a [u8],
+    pub tables: u64,
+}
+
+/// What begins a table of a traitor.
+pub(crate) fn header() -> &'static [u8]
+    ensures { result.now ≡ header }
+{
+    b"[[traitor]]"
+}
+
+/// Whether a word ends here.
+fn ends_word(bytes: &[u8]) -> bool
+    ensures { result ≡ ends_word bytes.now }
+{
+    match bytes {
+        [] => true,
+        [byte, ..] => *byte == b'='
+            || *byte == b'#'
+            || *byte == b' '
+            || *byte == b'\t'
+            || *byte == b'\r',
+    }
+}
+
+/// Whether the line begins with this word.
+fn begins_with(word: &[u8], line: &[u8]) -> bool
+    ensures { result ≡ begins_with word.now line.now }
+{
+    let (_, solid) = cut(Stop::Solid, line);
+    solid.starts_with(word) && ends_word(behind(solid, word.len()))
+}
+
+/// How many headers stand up to this line, behind so many.
+fn table_at(tables: u64, line: &[u8]) -> u64
+    requires { tables + 1 < 2 ^ 64 }
+    ensures at { result ≡ table_at tables line.now }
+    ensures bound { result ≤ tables + 1 }
+{
+    if begins_with(header(), line) {
+        tables + 1
+    } else {
+        tables
+    }
+}
+
+/// The first line that begins with this word and has so many headers up to it.
+#[tactic(auto, unfolding(crate::specs::Keys::found))]
+pub(crate) fn find_line<'a>(sought: u128, word: &[u8], text: &'a [u8]) -> Option<Found<'a>>
+    ensures { option_map found_view result ≡ found sought word.now text.now }
+{
+    let mut rest = text;
+    let mut tables = 0;
+    let mut number = 1;
+    while let Some((line, after)) = text::line(rest) {
+        tables = table_at(tables, line);
+        if u128::from(tables) == sought && begins_with(word, line) {
+            return Some(Found {
+                number,
+                line,
+                tables,
+            });
+        }
+        number += 1;
+        rest = after;
+    }
+    None
+}
+
+/// The end of a line that begins with its value.
+pub(crate) fn value_end(line: &[u8]) -> &[u8]
+    ensures { result.now ≡ value_end line.now }
+{
+    let (_, behind_key) = cut(Stop::Byte(b'='), line);
+    cut(Stop::Solid, behind(behind_key, 1)).1
+}
+
+/// The value, without a comment.
+pub(crate) fn value_in(line: &[u8]) -> &[u8]
+    ensures { result.now ≡ value_in line.now }
+{
+    trimmed(cut(Stop::Byte(b'#'), value_end(line)).0)
+}
+
+/// Behind how many headers the first line stands that names the general.
+#[tactic(auto, unfolding(crate::specs::Keys::table_of))]
+pub(crate) fn table_of(alloc: Global, general: u8, text: &[u8]) -> Result<Option<u64>, AllocError>
+    ensures { IfOk result (λ table. table ≡ table_of general text.now) }
+{
+    let digits = format!(in alloc; "{general}")?;
+    let mut rest = text;
+    let mut tables = 0;
+    while let Some((line, after)) = text::line(rest) {
+        tables = table_at(tables, line);
+        if begins_with(b"general", line) && value_in(line) == digits.as_bytes() {
+            return Ok(Some(tables));
+        }
+        rest = after;
+    }
+    Ok(None)
+}
+
+/// The word that a line begins with.
+fn word_marked<'a>(word: &[u8], found: Found<'a>) -> Mark<'a>
+    ensures { mark_view result ≡ word_marked word.now (found_view found.entry) }
+{
+    marked(
+        found.number,
+        trimmed(found.line),
+        find(Stop::Solid, found.line),
+        word.len(),
+    )
+}
+
+/// Its value.
+fn value_marked(found: Found<'_>) -> Mark<'_>
+    ensures { mark_view result ≡ value_marked (found_view found.entry) }
+{
+    let before = found.line.len().saturating_sub(value_end(found.line).len());
+    marked(
+        found.number,
+        trimmed(found.line),
+        before,
+        value_in(found.line).len(),
+    )
+}
+
+/// The word or its value; in a line that begins otherwise, all of it.
+pub(crate) fn shown_at<'a>(by_value: bool, word: &[u8], found: Found<'a>) -> Mark<'a>
+    ensures { mark_view result ≡ shown_at by_value word.now (found_view found.entry) }
+{
+    if !begins_with(word, found.line) {
+        all_marked(found.number, trimmed(found.line))
+    } else if by_value {
+        value_marked(found)
+    } else {
+        word_marked(word, found)
+    }
+}
+
+/// The line of a key of the table of this number or, without one, of the table's header or, without one, of the key `traitor`.
+pub(crate) fn entry_line<'a>(index: usize, word: &[u8], text: &'a [u8]) -> Option<Found<'a>>
+    ensures { option_map found_view result ≡ entry_line index word.now text.now }
+{
+    let table = index as u128 + 1;
+    if let Some(line) = find_line(table, word, text) {
+        return Some(line);
+    }
+    if let Some(line) = find_line(table, header(), text) {
+        return Some(line);
+    }
+    find_line(0, b"traitor", text)
+}

@@ -1,0 +1,25 @@
+//! Why a file is refused: the sentence of each code, its place in the file, and a help where one is likely.
+#![tactic(auto)]
+
+mod assembly;
+mod bytecode;
+mod chronicles;
+mod keys;
+mod laws;
+mod lines;
+mod messages;
+mod mnemonics;
+mod nearest;
+mod report;
+mod scenarios;
+mod seated;
+mod settings;
+mod telling;
+mod unread;
+
+pub use assembly::of_assembly;
+pub use bytecode::of_bytecode;
+pub use chronicles::{of_chronicle, of_schedule};
+pub use laws::refusals_are_told;
+pub use messages::of_table;
+pub use telling::{of_scenario, of_setting};

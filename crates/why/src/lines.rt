@@ -1,0 +1,63 @@
+//! The lines of a file, and the places in them.
+ghost use Rattle.std.specs.Prelude.{◌≡◌, option_map};
+ghost use Rattle.why.specs.Lines.{all_marked, is_white, line_at, marked, trimmed};
+ghost use Rattle.why.specs.Report.{mark_view};
+
+use crate::report::Mark;
+use text::{Stop, find};
+
+/// Whether a byte is a space, a tab or a carriage return.
+fn is_white(byte: u8) -> bool
+    ensures { result ≡ is_white byte }
+{
+    byte == b' ' || byte == b'\t' || byte == b'\r'
+}
+
+/// The line without the white space at its end.
+pub(crate) fn trimmed(line: &[u8]) -> &[u8]
+    ensures { result.now ≡ trimmed line.now }
+{
+    let mut size = line.len();
+    'ends: while size > 0 {
+        if !is_white(line[size - 1]) {
+            return &line[..size];
+        }
+        size -= 1;
+    }
+    &[]
+}
+
+/// The line of this number, from 1 on.
+pub(crate) fn line_at(text: &[u8], number: u64) -> Option<&[u8]>
+    ensures { option_map (λ line. line.now) result ≡ line_at text.now number }
+{
+    let mut rest = text;
+    let mut left = number;
+    'lines: while left > 1 {
+        let (_, after) = text::line(rest)?;
+        rest = after;
+        left -= 1;
+    }
+    let (line, _) = text::line(rest)?;
+    Some(line)
+}
+
+/// So many bytes of a line behind so many others, as far as the line goes.
+pub(crate) fn marked(number: u64, line: &[u8], before: usize, size: usize) -> Mark<'_>
+    ensures { mark_view result ≡ marked number line.now before size }
+{
+    let from = before.min(line.len());
+    Mark {
+        number,
+        line,
+        from,
+        size: size.min(line.len() - from),
+    }
+}
+
+/// All of a line but the blanks before it.
+pub(crate) fn all_marked(number: u64, line: &[u8]) -> Mark<'_>
+    ensures { mark_view result ≡ all_marked number line.now }
+{
+    marked(number, line, find(Stop::Solid, line), line.len())
+}

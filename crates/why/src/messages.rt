@@ -1,0 +1,91 @@
+//! What is said of a fault of a message table.
+ghost use Rattle.std.specs.Prelude.{◌≡◌, IfOk, option_map, string_bytes};
+ghost use Rattle.why.specs.Messages.{shape_advice, table_advice, table_line_told, table_sentence, table_told};
+ghost use Rattle.why.specs.Report.{help_words};
+
+use crate::assembly::{begins_marked, has};
+use crate::lines::{all_marked, line_at, trimmed};
+use crate::report::{Help, report};
+use book::Fault;
+use std::alloc::{AllocError, Global};
+
+/// What was wanted in a line of this number.
+fn sentence(fault: Fault, number: u64) -> &'static str
+    ensures { result.now ≡ table_sentence fault number }
+{
+    match fault {
+        Fault::Line if number == 1 =>
+            "the first line is `generals N bound M commander C`, perhaps with ` rule majority` or ` rule median` behind it",
+        Fault::Line =>
+            "a line is `tell LABEL RECEIVER ORDER`: the label's generals joined by dots, numbers without leading zeros, an order of at most 4294967295",
+        Fault::Range =>
+            "a table has 2 to 13 generals, a bound of 0 to 4 and at most generals - 2, and a commander below generals",
+        Fault::Place =>
+            "nobody is told of this label, or not this receiver: a label begins with the commander, has at most bound + 1 generals, none twice, and the receiver is not on it",
+        Fault::Twice => "a line before tells this receiver of this label",
+    }
+}
+
+/// What may mend the shape of a line.
+fn shape_help(number: u64, line: &[u8]) -> Option<Help<'static>>
+    ensures { option_map help_words result ≡ shape_advice number line.now }
+{
+    let sentence = if begins_marked(number, line) {
+        "the file begins with a byte order mark: save it without one"
+    } else if has(b'\r', line) {
+        "the file has Windows line ends: a line ends with a line feed alone"
+    } else if line.is_empty() {
+        "a table has no empty line"
+    } else if has(b'?', line) {
+        "an order, a number, is to stand in place of `?`"
+    } else if has(b'#', line) || has(b';', line) {
+        "a table has no comments"
+    } else if has(b'\t', line) {
+        "one space stands between two parts, and no tab"
+    } else {
+        return None;
+    };
+    Some(Help::Said(sentence))
+}
+
+/// What may mend a line.
+fn help(fault: Fault, number: u64, line: &[u8]) -> Option<Help<'static>>
+    ensures { option_map help_words result ≡ table_advice fault number line.now }
+{
+    match fault {
+        Fault::Line => shape_help(number, line),
+        _ => None,
+    }
+}
+
+/// What is said of a fault in this line of a file.
+fn line_told(
+    alloc: Global,
+    name: &str,
+    fault: Fault,
+    number: u64,
+    line: Option<&[u8]>,
+) -> Result<String, AllocError>
+    ensures { IfOk result (λ told. string_bytes told ≡ table_line_told name.now fault number (option_map (λ l. l.now) line.entry)) }
+{
+    let sentence = sentence(fault, number);
+    let Some(line) = line else {
+        return report(alloc, name, sentence, None, None);
+    };
+    let mark = all_marked(number, trimmed(line));
+    report(alloc, name, sentence, Some(mark), help(fault, number, line))
+}
+
+/// What is said of a fault at a line of the message table of the file with this name.
+#[tactic(auto, unfolding(crate::specs::Messages::table_told))]
+pub fn of_table(
+    alloc: Global,
+    name: &str,
+    text: &[u8],
+    fault: Fault,
+    number: u64,
+) -> Result<String, AllocError>
+    ensures { IfOk result (λ told. string_bytes told ≡ table_told name.now text.now fault number) }
+{
+    line_told(alloc, name, fault, number, line_at(text, number))
+}

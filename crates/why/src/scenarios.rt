@@ -1,0 +1,264 @@
+//! What is said of a fault of a scenario.
+ghost use Rattle.std.specs.Prelude.{◌≡◌, false, true, IfOk, codes, option_map, string_bytes};
+ghost use Rattle.why.specs.Keys.{found_view, shown_at};
+ghost use Rattle.why.specs.Nearest.{near};
+ghost use Rattle.why.specs.Report.{help_words, mark_view, near_words};
+ghost use Rattle.why.specs.Scenarios.{entry_key_told, entry_keys, is_of_value, key_told, kind_sentence, missing_sentence, name_sentence, place_mark, place_sentence, place_told, range_sentence, top_key_told, top_keys, unknown_told, word_sentence};
+
+use crate::keys::{Found, entry_line, find_line, header, shown_at};
+use crate::nearest::near;
+use crate::report::{Help, Mark, report};
+use scenario::{Fault, Name, Place};
+use std::alloc::{AllocError, Global};
+
+/// The keys at the top.
+static TOP_KEYS: [&'static str; 9] = [
+    "generals",
+    "bound",
+    "commander",
+    "order",
+    "board",
+    "patience",
+    "rule",
+    "messages",
+    "traitor",
+];
+
+/// Those of a traitor's table.
+static ENTRY_KEYS: [&'static str; 3] = ["general", "asm", "code"];
+
+/// What is missing.
+fn missing_sentence(alloc: Global, name: Name) -> Result<String, AllocError>
+    ensures { IfOk result (λ text. string_bytes text ≡ missing_sentence name) }
+{
+    match name {
+        Name::Rule => String::from_str(
+            alloc,
+            "a signed campaign combines nothing, and has no rule",
+        ),
+        Name::Asm => String::from_str(
+            alloc,
+            "a traitor's table has one of `asm` and `code`, and not both",
+        ),
+        name => format!(in alloc; "the key `{}` is missing", name.text()),
+    }
+}
+
+/// Of which kind the value is to be.
+fn kind_sentence(name: Name) -> &'static str
+    ensures { result.now ≡ kind_sentence name }
+{
+    match name {
+        Name::Board => "a board is a list of whole numbers",
+        Name::Rule => "a rule is a text, \"majority\" or \"median\"",
+        Name::Messages => "messages are a text, \"oral\" or \"signed\"",
+        Name::Traitor => "the traitors are a list of tables, each begun by `[[traitor]]`",
+        Name::Asm => "a program is a text in quotation marks, as `asm = \"mov r0, 0\\nexit\"`",
+        Name::Code => "bytecode is a text in quotation marks, of digits in hex",
+        _ => "a whole number is wanted here",
+    }
+}
+
+/// In which range it is to be.
+fn range_sentence(name: Name) -> &'static str
+    ensures { result.now ≡ range_sentence name }
+{
+    match name {
+        Name::Generals => "there are 2 to 13 generals",
+        Name::Bound => "a bound is 0 to 4, and at most generals - 2",
+        Name::Commander => "a general is numbered from 0 on",
+        Name::Order => "an order is 0 to 4294967295",
+        Name::Board => "a board has at most 64 words",
+        Name::Patience => "a patience is 1 to 4096 steps",
+        Name::Rule => "a rule is \"majority\" or \"median\"",
+        Name::Messages =>
+            "messages are \"oral\" or \"signed\", and of a muster, a message table or an explanation \"oral\"",
+        _ => "this value is out of its range",
+    }
+}
+
+/// What is wrong with a key or its value.
+fn name_sentence(alloc: Global, fault: Fault, name: Name) -> Result<String, AllocError>
+    ensures { IfOk result (λ text. string_bytes text ≡ name_sentence fault name) }
+{
+    let sentence = match fault {
+        Fault::Key => return missing_sentence(alloc, name),
+        Fault::Kind => kind_sentence(name),
+        Fault::Range => range_sentence(name),
+        Fault::General => "no general has this number: they are 0 to generals - 1",
+        Fault::Twice => "a table before is of this general",
+    };
+    String::from_str(alloc, sentence)
+}
+
+/// What is wrong with a word of the board.
+fn word_sentence(fault: Fault) -> &'static str
+    ensures { result.now ≡ word_sentence fault }
+{
+    match fault {
+        Fault::Kind => "a word of the board is a whole number",
+        _ => "a word of the board is 0 to 9223372036854775807",
+    }
+}
+
+/// What is wrong at a place.
+fn place_sentence(alloc: Global, fault: Fault, place: Place) -> Result<String, AllocError>
+    ensures { IfOk result (λ text. string_bytes text ≡ place_sentence fault place) }
+{
+    match place {
+        Place::Key(name) | Place::Entry(_, name) => name_sentence(alloc, fault, name),
+        Place::Word(_) => String::from_str(alloc, word_sentence(fault)),
+        Place::Table(_) => String::from_str(alloc, "a traitor is a table, begun by `[[traitor]]`"),
+    }
+}
+
+/// Whether a fault is one of the value.
+fn is_of_value(fault: Fault) -> bool
+    ensures { result ≡ is_of_value fault }
+{
+    match fault {
+        Fault::Key => false,
+        _ => true,
+    }
+}
+
+/// Where a place stands in the text.
+fn place_mark(fault: Fault, place: Place, text: &[u8]) -> Option<Mark<'_>>
+    ensures { option_map mark_view result ≡ place_mark fault place text.now }
+{
+    match place {
+        Place::Key(name) => {
+            let word = name.text().as_bytes();
+            Some(shown_at(is_of_value(fault), word, find_line(0, word, text)?))
+        }
+        Place::Word(_) => Some(shown_at(true, b"board", find_line(0, b"board", text)?)),
+        Place::Table(index) => {
+            Some(shown_at(false, header(), entry_line(index, header(), text)?))
+        }
+        Place::Entry(index, name) => {
+            let word = name.text().as_bytes();
+            Some(shown_at(is_of_value(fault), word, entry_line(index, word, text)?))
+        }
+    }
+}
+
+/// What is said of a fault at a place in the scenario of the file with this name.
+#[tactic(auto, unfolding(crate::specs::Scenarios::place_told))]
+pub(crate) fn place_told(
+    alloc: Global,
+    name: &str,
+    text: &[u8],
+    fault: Fault,
+    place: Place,
+) -> Result<String, AllocError>
+    ensures { IfOk result (λ told. string_bytes told ≡ place_told name.now text.now fault place) }
+{
+    let sentence = place_sentence(alloc, fault, place)?;
+    let mark = place_mark(fault, place, text);
+    report(alloc, name, sentence.as_str(), mark, None)
+}
+
+/// The key at the top that is near.
+fn near_top_key(alloc: Global, word: &[u8]) -> Result<Option<&'static str>, AllocError>
+    ensures { IfOk result (λ key. option_map (λ k. k.now) key ≡ near word.now top_keys) }
+{
+    near(alloc, word, &TOP_KEYS)
+}
+
+/// The key of a table that is near.
+fn near_entry_key(alloc: Global, word: &[u8]) -> Result<Option<&'static str>, AllocError>
+    ensures { IfOk result (λ key. option_map (λ k. k.now) key ≡ near word.now entry_keys) }
+{
+    near(alloc, word, &ENTRY_KEYS)
+}
+
+/// What is said of an unknown key in its line, where another one is near.
+pub(crate) fn key_report(
+    alloc: Global,
+    name: &str,
+    sentence: &str,
+    word: &[u8],
+    line: Option<Found<'_>>,
+    known: Option<&'static str>,
+) -> Result<String, AllocError>
+    ensures { IfOk result (λ told. string_bytes told ≡ key_told name.now sentence.now word.now (option_map found_view line.entry) (option_map (λ k. k.now) known.entry)) }
+{
+    report(alloc, name, sentence, key_mark(word, line), key_help(known))
+}
+
+/// What is said of an unknown key at the top.
+fn unknown_at_top(alloc: Global, name: &str, text: &[u8], word: &[u8]) -> Result<String, AllocError>
+    ensures { IfOk result (λ told. string_bytes told ≡ top_key_told name.now text.now word.now) }
+{
+    let known = near_top_key(alloc, word)?;
+    let line = find_line(0, word, text);
+    key_report(alloc, name, "a scenario has no such key", word, line, known)
+}
+
+/// What is said of an unknown key of the traitor's table of this number.
+fn unknown_in_table(
+    alloc: Global,
+    name: &str,
+    text: &[u8],
+    index: usize,
+    word: &[u8],
+) -> Result<String, AllocError>
+    ensures { IfOk result (λ told. string_bytes told ≡ entry_key_told name.now text.now index word.now) }
+{
+    let known = near_entry_key(alloc, word)?;
+    let line = entry_line(index, word, text);
+    key_report(
+        alloc,
+        name,
+        "a traitor's table has no such key",
+        word,
+        line,
+        known,
+    )
+}
+
+/// What is said of an unknown key, at the top or of the traitor's table of this number.
+pub(crate) fn unknown_told(
+    alloc: Global,
+    name: &str,
+    text: &[u8],
+    index: Option<usize>,
+    key: &str,
+) -> Result<String, AllocError>
+    ensures { IfOk result (λ told. string_bytes told ≡ unknown_told name.now text.now index key.now) }
+{
+    match index {
+        None => unknown_at_top(alloc, name, text, key.as_bytes()),
+        Some(index) => unknown_in_table(alloc, name, text, index, key.as_bytes()),
+    }
+}
+
+/// The key in its line.
+pub(crate) fn key_mark<'a>(word: &[u8], line: Option<Found<'a>>) -> Option<Mark<'a>>
+    ensures { option_map mark_view result ≡ option_map (shown_at false word.now) (option_map found_view line.entry) }
+{
+    match line {
+        Some(line) => Some(shown_at(false, word, line)),
+        None => None,
+    }
+}
+
+/// The value of a key in its line.
+pub(crate) fn value_mark<'a>(word: &[u8], line: Option<Found<'a>>) -> Option<Mark<'a>>
+    ensures { option_map mark_view result ≡ option_map (shown_at true word.now) (option_map found_view line.entry) }
+{
+    match line {
+        Some(line) => Some(shown_at(true, word, line)),
+        None => None,
+    }
+}
+
+/// A key that is near.
+pub(crate) fn key_help(known: Option<&'static str>) -> Option<Help<'static>>
+    ensures { option_map help_words result ≡ option_map (near_words (codes "key")) (option_map (λ key. key.now) known.entry) }
+{
+    match known {
+        Some(key) => Some(Help::Near("key", key)),
+        None => None,
+    }
+}

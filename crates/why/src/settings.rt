@@ -1,0 +1,133 @@
+//! What is said of a fault of a setting.
+ghost use Rattle.std.specs.Prelude.{◌≡◌, IfOk, option_map, string_bytes};
+ghost use Rattle.why.specs.Nearest.{near};
+ghost use Rattle.why.specs.Report.{mark_view};
+ghost use Rattle.why.specs.Settings.{order_sentence, setting_keys, setting_kind_sentence, setting_mark, setting_name_sentence, setting_place_told, setting_range_sentence, setting_sentence, setting_unknown_told, setting_word};
+
+use crate::keys::find_line;
+use crate::nearest::near;
+use crate::report::{Mark, report};
+use crate::scenarios::{key_report, value_mark};
+use std::alloc::{AllocError, Global};
+use trial::{Fault, Name, Place};
+
+/// The keys of a setting.
+static KEYS: [&'static str; 6] = [
+    "generals",
+    "bound",
+    "commander",
+    "general",
+    "round",
+    "taken",
+];
+
+/// Of which kind the value is to be.
+fn kind_sentence(name: Name) -> &'static str
+    ensures { result.now ≡ setting_kind_sentence name }
+{
+    match name {
+        Name::Taken => "the orders taken are a list of whole numbers",
+        _ => "a whole number is wanted here",
+    }
+}
+
+/// In which range it is to be.
+fn range_sentence(name: Name) -> &'static str
+    ensures { result.now ≡ setting_range_sentence name }
+{
+    match name {
+        Name::Generals => "there are 2 to 13 generals",
+        Name::Bound => "a bound is 0 to 4, and at most generals - 2",
+        Name::Round => "a round is 1 to bound + 1",
+        Name::Taken => "these are more orders than he relays labels in this round",
+        _ => "this value is out of its range",
+    }
+}
+
+/// What is wrong with a key or its value.
+fn name_sentence(alloc: Global, fault: Fault, name: Name) -> Result<String, AllocError>
+    ensures { IfOk result (λ text. string_bytes text ≡ setting_name_sentence fault name) }
+{
+    let sentence = match fault {
+        Fault::Key => return format!(in alloc; "the key `{}` is missing", name.text()),
+        Fault::Kind => kind_sentence(name),
+        Fault::Range => range_sentence(name),
+        Fault::General => "no general has this number: they are 0 to generals - 1",
+    };
+    String::from_str(alloc, sentence)
+}
+
+/// What is wrong with an order that was taken.
+fn order_sentence(fault: Fault) -> &'static str
+    ensures { result.now ≡ order_sentence fault }
+{
+    match fault {
+        Fault::Kind => "an order that was taken is a whole number",
+        _ => "an order is 0 to 4294967295",
+    }
+}
+
+/// What is wrong at a place.
+fn sentence(alloc: Global, fault: Fault, place: Place) -> Result<String, AllocError>
+    ensures { IfOk result (λ text. string_bytes text ≡ setting_sentence fault place) }
+{
+    match place {
+        Place::Key(name) => name_sentence(alloc, fault, name),
+        Place::Order(_) => String::from_str(alloc, order_sentence(fault)),
+    }
+}
+
+/// The key whose value is at fault.
+fn word(place: Place) -> &'static str
+    ensures { result.now ≡ setting_word place }
+{
+    match place {
+        Place::Key(name) => name.text(),
+        Place::Order(_) => "taken",
+    }
+}
+
+/// The value that is at fault.
+fn mark(place: Place, text: &[u8]) -> Option<Mark<'_>>
+    ensures { option_map mark_view result ≡ setting_mark place text.now }
+{
+    let word = word(place).as_bytes();
+    value_mark(word, find_line(0, word, text))
+}
+
+/// What is said of a fault at a place in the setting of the file with this name.
+#[tactic(auto, unfolding(crate::specs::Settings::setting_place_told))]
+pub(crate) fn place_told(
+    alloc: Global,
+    name: &str,
+    text: &[u8],
+    fault: Fault,
+    place: Place,
+) -> Result<String, AllocError>
+    ensures { IfOk result (λ told. string_bytes told ≡ setting_place_told name.now text.now fault place) }
+{
+    let sentence = sentence(alloc, fault, place)?;
+    let mark = mark(place, text);
+    report(alloc, name, sentence.as_str(), mark, None)
+}
+
+/// The key that is near.
+fn near_key(alloc: Global, word: &[u8]) -> Result<Option<&'static str>, AllocError>
+    ensures { IfOk result (λ key. option_map (λ k. k.now) key ≡ near word.now setting_keys) }
+{
+    near(alloc, word, &KEYS)
+}
+
+/// What is said of an unknown key.
+pub(crate) fn unknown_told(
+    alloc: Global,
+    name: &str,
+    text: &[u8],
+    word: &[u8],
+) -> Result<String, AllocError>
+    ensures { IfOk result (λ told. string_bytes told ≡ setting_unknown_told name.now text.now word.now) }
+{
+    let known = near_key(alloc, word)?;
+    let line = find_line(0, word, text);
+    key_report(alloc, name, "a setting has no such key", word, line, known)
+}

@@ -1,0 +1,52 @@
+//! What is said of the errors of a scenario and a setting.
+ghost use Rattle.std.specs.Prelude.{IfOk, string_bytes};
+ghost use Rattle.why.specs.Errors.{TellsScenario, TellsSetting};
+
+use crate::report::report;
+use crate::seated::program_told;
+use crate::unread::not_toml;
+use crate::{scenarios, settings};
+use scenario::ScenarioError;
+use std::alloc::{AllocError, Global};
+use trial::SettingError;
+
+/// What is said of an error of the scenario of the file with this name.
+pub fn of_scenario(
+    alloc: Global,
+    name: &str,
+    text: &[u8],
+    error: &ScenarioError,
+) -> Result<String, AllocError>
+    ensures { IfOk result (λ told. TellsScenario name.now text.now error.now (string_bytes told)) }
+{
+    match error {
+        ScenarioError::Toml => not_toml(alloc, name, text),
+        ScenarioError::Unknown(at, key) => {
+            scenarios::unknown_told(alloc, name, text, *at, key.as_str())
+        }
+        ScenarioError::At(fault, place) => {
+            scenarios::place_told(alloc, name, text, *fault, *place)
+        }
+        ScenarioError::Program(general, fault) => {
+            program_told(alloc, name, text, *general, *fault)
+        }
+        ScenarioError::Memory => report(alloc, name, "there is not enough memory", None, None),
+    }
+}
+
+/// What is said of an error of the setting of the file with this name.
+pub fn of_setting(
+    alloc: Global,
+    name: &str,
+    text: &[u8],
+    error: &SettingError,
+) -> Result<String, AllocError>
+    ensures { IfOk result (λ told. TellsSetting name.now text.now error.now (string_bytes told)) }
+{
+    match error {
+        SettingError::Toml => not_toml(alloc, name, text),
+        SettingError::Unknown(key) => settings::unknown_told(alloc, name, text, key.as_bytes()),
+        SettingError::At(fault, place) => settings::place_told(alloc, name, text, *fault, *place),
+        SettingError::Memory => report(alloc, name, "there is not enough memory", None, None),
+    }
+}

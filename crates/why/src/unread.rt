@@ -1,0 +1,76 @@
+//! What is said of a text that is no TOML.
+ghost use Rattle.std.specs.Prelude.{◌≡◌, IfOk, length, string_bytes};
+ghost use Rattle.text.specs.Stop.{feed};
+ghost use Rattle.text.specs.Parts.{pieces};
+ghost use Rattle.why.specs.Assembly.{last_of};
+ghost use Rattle.why.specs.Report.{mark_view};
+ghost use Rattle.why.specs.Toml.{TellsToml, span_marked, span_told};
+
+use crate::lines::{line_at, marked, trimmed};
+use crate::report::{Mark, front, report};
+use std::alloc::{AllocError, Global};
+use text::{Stop, piece};
+use toml::table_from_str;
+
+/// How many lines there are up to the end of the bytes, and the last of them, which ends there.
+fn last_line(bytes: &[u8]) -> (u64, &[u8])
+    ensures number { result.0 ≡ length (pieces feed bytes.now) }
+    ensures last { result.1.now ≡ last_of (pieces feed bytes.now) }
+{
+    let mut number = 1;
+    let (mut last, mut rest) = piece(Stop::Byte(b'\n'), bytes);
+    while let Some(more) = rest {
+        (last, rest) = piece(Stop::Byte(b'\n'), more);
+        number += 1;
+    }
+    (number, last)
+}
+
+/// The bytes of a text between these two places.
+fn span_marked(text: &[u8], start: usize, end: usize) -> Mark<'_>
+    ensures { mark_view result ≡ span_marked text.now start end }
+{
+    let (number, last) = last_line(front(text, start));
+    let line = line_at(text, number).unwrap_or(&[]);
+    marked(number, trimmed(line), last.len(), end.saturating_sub(start))
+}
+
+/// What is said of a text between these two places.
+fn span_told(
+    alloc: Global,
+    name: &str,
+    text: &[u8],
+    message: &str,
+    start: usize,
+    end: usize,
+) -> Result<String, AllocError>
+    ensures { IfOk result (λ told. string_bytes told ≡ span_told name.now text.now message.now start end) }
+{
+    let sentence = format!(in alloc; "the text is no TOML: {message}")?;
+    let mark = span_marked(text, start, end);
+    report(alloc, name, sentence.as_str(), Some(mark), None)
+}
+
+/// What is said of the text of the file with this name, which is no TOML: what the parser says, and where.
+pub(crate) fn not_toml(alloc: Global, name: &str, text: &[u8]) -> Result<String, AllocError>
+    ensures { IfOk result (λ told. TellsToml name.now text.now (string_bytes told)) }
+{
+    let Ok(text) = str::from_utf8(text) else {
+        return report(alloc, name, "the text is not UTF-8", None, None);
+    };
+    let error = match table_from_str(alloc, text) {
+        Ok(_) => return report(alloc, name, "the text is TOML", None, None),
+        Err(error) => error,
+    };
+    let Some(span) = error.span() else {
+        return Err(AllocError);
+    };
+    span_told(
+        alloc,
+        name,
+        text.as_bytes(),
+        error.message(),
+        span.start,
+        span.end,
+    )
+}
