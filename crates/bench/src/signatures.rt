@@ -123,19 +123,19 @@ const TURNS: &[(Event, u32)] = &[
 ];
 
 /// All generals act to their end in the open round.
-fn act(alloc: Global, world: &mut SignedWorld) -> Result<(), EventError> {
+fn act(world: &mut SignedWorld) -> Result<(), EventError> {
     for (event, times) in TURNS {
         for _ in 0..*times {
-            world.apply(alloc, *event)?;
+            world.apply(*event)?;
         }
     }
     Ok(())
 }
 
 /// The time of a close, in nanoseconds.
-fn close<C: Clock>(alloc: Global, clock: &C, world: &mut SignedWorld) -> Result<u64> {
+fn close<C: Clock>(clock: &C, world: &mut SignedWorld) -> Result<u64> {
     let start = Instant::now(clock)?;
-    world.apply(alloc, Event::Close)?;
+    world.apply(Event::Close)?;
     nanoseconds(clock, start)
 }
 
@@ -144,8 +144,8 @@ impl<C: Clock> Timed for Closing<'_, C> {
         let mut world = SignedWorld::open(self.alloc, self.scenario.copy(self.alloc)?)?;
         let mut dearest = 0;
         for _ in 0..=self.scenario.bound() {
-            act(self.alloc, &mut world)?;
-            dearest = close(self.alloc, self.clock, &mut world)?.max(dearest);
+            act(&mut world)?;
+            dearest = close(self.clock, &mut world)?.max(dearest);
         }
         Ok(dearest)
     }

@@ -74,7 +74,7 @@ pub fn schedule_from<W: Plays>(
         match line_of(world, alloc, line.as_slice())? {
             Line::Made(entries) => {
                 lines.push(entries)?;
-                wind_up(world, alloc)?;
+                wind_up(world)?;
             }
             Line::Stuck(place) => return Ok(Scheduled::Never(round, place)),
         }

@@ -29,6 +29,7 @@ impl SignedWorld {
         let signers = signers(alloc, scenario.generals(), scenario.commander())?;
         let board = Board::new(alloc, *scenario.board());
         Ok(SignedWorld {
+            alloc,
             scenario,
             closed: Vec::new(alloc),
             board,
@@ -47,7 +48,7 @@ impl SignedWorld {
     /// After an error the world is as it was. `NotOpen` where all rounds are closed; `NoGeneral` where there is no such
     /// general, or he is not of the event's kind; `Memory` where neither is so and memory is refused
     /// to a tick or a close: a post takes none.
-    pub fn apply(&mut self, alloc: Global, event: Event) -> Result<(), EventError>
+    pub fn apply(&mut self, event: Event) -> Result<(), EventError>
         ensures done { OnOk result (self.new ≡ happen signed_kind self.old event) }
         ensures undone { OnErr result (self.new ≡ self.old) }
         ensures fit { OnOk result (refusal self.old event ≡ None) }
@@ -65,7 +66,7 @@ impl SignedWorld {
                 self.post(general);
                 Ok(())
             }
-            Event::Close => Ok(self.close(alloc)?),
+            Event::Close => Ok(self.close()?),
         }
     }
 
@@ -125,12 +126,13 @@ impl SignedWorld {
     /// The end of the round. All memory that it takes is taken before anything changes: the drafts of the letters, room for
     /// their list, the chains that they send, and the next round's parts, which are told what these chains bring them. Then
     /// the letters are moved from the parts into the list, which cannot fail.
-    pub(crate) fn close(&mut self, alloc: Global) -> Result<(), AllocError>
+    pub(crate) fn close(&mut self) -> Result<(), AllocError>
         requires { length self.old.closed ≤ self.old.scenario.bound }
         ensures done { OnOk result (self.new ≡ happen signed_kind self.old Close) }
         ensures undone { OnErr result (self.new ≡ self.old) }
     {
         self.scenario.recall();
+        let alloc = self.alloc;
         let round = self.round();
         let generals = self.scenario.generals();
         let accesses = since(self.board.ledger(), self.opened);

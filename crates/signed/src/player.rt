@@ -82,7 +82,7 @@ fn played_listed(
 {
     scenario.recall();
     let mut world = SignedWorld::open(alloc, scenario)?;
-    play_listed(&mut world, alloc, schedule)?;
+    play_listed(&mut world, schedule)?;
     Ok(world)
 }
 
@@ -97,6 +97,6 @@ fn played_named(
 {
     scenario.recall();
     let mut world = SignedWorld::open(alloc, scenario)?;
-    play_named(&mut world, alloc, names)?;
+    play_named(&mut world, names)?;
     Ok(world)
 }

@@ -3,7 +3,7 @@ ghost use Rattle.signed.specs.Kind.{signed_kind};
 
 use crate::signed_world::SignedWorld;
 use round::Scenario;
-use std::alloc::{AllocError, Global};
+use std::alloc::AllocError;
 use world::{Part, Plays};
 
 impl Plays for SignedWorld {
@@ -35,7 +35,7 @@ impl Plays for SignedWorld {
         self.post(general);
     }
 
-    fn close_round(&mut self, alloc: Global) -> Result<(), AllocError> {
-        self.close(alloc)
+    fn close_round(&mut self) -> Result<(), AllocError> {
+        self.close()
     }
 }

@@ -3,12 +3,15 @@ use crate::outgoing::SentRound;
 use crate::signer::Signer;
 use board::Board;
 use round::{Round, Scenario};
+use std::alloc::Global;
 use std::marker::Model;
 use world::Part;
 
 /// A scenario's campaign of signed messages as events have left it.
 #[derive(Drop)]
 pub struct SignedWorld {
+    /// Where its lists are kept.
+    pub(crate) alloc: Global,
     pub(crate) scenario: Scenario,
     /// The letters of the closed rounds.
     pub(crate) closed: Vec<Round>,

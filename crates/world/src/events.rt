@@ -27,6 +27,7 @@ impl World {
         brief(&mut parts, &told, &scenario, &[]);
         let board = Board::new(alloc, *scenario.board());
         Ok(World {
+            alloc,
             scenario,
             closed: Vec::new(alloc),
             board,
@@ -44,7 +45,7 @@ impl World {
     /// After an error the world is as it was. `NotOpen` where all rounds are closed; `NoGeneral` where there is no such
     /// general, or he is not of the event's kind; `Memory` where neither is so and memory is refused
     /// to a tick or a close: a post takes none.
-    pub fn apply(&mut self, alloc: Global, event: Event) -> Result<(), EventError>
+    pub fn apply(&mut self, event: Event) -> Result<(), EventError>
         ensures done { OnOk result (self.new ≡ happen self.old event) }
         ensures undone { OnErr result (self.new ≡ self.old) }
         ensures fit { OnOk result (refusal self.old event ≡ None) }
@@ -62,7 +63,7 @@ impl World {
                 self.post(general);
                 Ok(())
             }
-            Event::Close => Ok(self.close(alloc)?),
+            Event::Close => Ok(self.close()?),
         }
     }
 
@@ -108,12 +109,13 @@ impl World {
     /// The end of the round. All memory that it takes is taken before anything changes: room for the list among the closed
     /// rounds and for the letters in it, the drafts of the letters, and the next round's parts. Then the letters are
     /// moved from the parts into the list and told, and the next parts are told their contexts, which cannot fail.
-    pub(crate) fn close(&mut self, alloc: Global) -> Result<(), AllocError>
+    pub(crate) fn close(&mut self) -> Result<(), AllocError>
         requires { length self.old.closed ≤ self.old.scenario.bound }
         ensures done { OnOk result (self.new ≡ happen self.old Close) }
         ensures undone { OnErr result (self.new ≡ self.old) }
     {
         self.scenario.recall();
+        let alloc = self.alloc;
         let round = self.round();
         let generals = self.scenario.generals();
         let accesses = since(self.board.ledger(), self.opened);

@@ -64,7 +64,7 @@ fn played(alloc: Global, scenario: Scenario, schedule: &Schedule) -> Result<Worl
 {
     scenario.recall();
     let mut world = World::open(alloc, scenario)?;
-    play_listed(&mut world, alloc, schedule)?;
+    play_listed(&mut world, schedule)?;
     Ok(world)
 }
 
@@ -75,6 +75,6 @@ fn replayed(alloc: Global, scenario: Scenario, names: &[Vec<u8>]) -> Result<Worl
 {
     scenario.recall();
     let mut world = World::open(alloc, scenario)?;
-    play_named(&mut world, alloc, names)?;
+    play_named(&mut world, names)?;
     Ok(world)
 }

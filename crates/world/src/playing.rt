@@ -10,7 +10,7 @@ ghost use Rattle.world.specs.Playing.{line_events, lists_in};
 use crate::parts;
 use crate::plays::Plays;
 use crate::schedule::{Repeat, Schedule};
-use std::alloc::{AllocError, Global};
+use std::alloc::AllocError;
 
 /// So many ticks of a general. They are not gone through one by one: from one access to the next he runs on.
 fn tick_often<W: Plays>(world: &mut W, general: u32, times: u32) -> Result<(), AllocError>
@@ -145,13 +145,13 @@ fn all_end<W: Plays>(world: &mut W) -> Result<(), AllocError>
 }
 
 /// The end of the round, where one is open.
-fn end_round<W: Plays>(world: &mut W, alloc: Global) -> Result<(), AllocError>
+fn end_round<W: Plays>(world: &mut W) -> Result<(), AllocError>
     ensures { OnOk result (W.seen world.new ≡ happen W.kind (W.seen world.old) Close) }
 {
     if world.rounds() > usize::from(world.campaign().bound()) {
         return Ok(());
     }
-    world.close_round(alloc)
+    world.close_round()
 }
 
 /// All loyal generals post, all traitors go to their ends, and the round is closed.
@@ -159,28 +159,28 @@ fn end_round<W: Plays>(world: &mut W, alloc: Global) -> Result<(), AllocError>
 /// # Errors
 ///
 /// `AllocError` where memory is refused. No more is said of the world then than of every world of its kind: let it go.
-pub fn wind_up<W: Plays>(world: &mut W, alloc: Global) -> Result<(), AllocError>
+pub fn wind_up<W: Plays>(world: &mut W) -> Result<(), AllocError>
     ensures { OnOk result (W.seen world.new ≡ run W.kind (W.seen world.old) (wound_up (W.seen world.old).scenario)) }
 {
     all_post(world);
     all_end(world)?;
-    end_round(world, alloc)
+    end_round(world)
 }
 
 /// A round by a line of a schedule.
-fn listed_round<W: Plays>(world: &mut W, alloc: Global, line: &[Repeat]) -> Result<(), AllocError>
+fn listed_round<W: Plays>(world: &mut W, line: &[Repeat]) -> Result<(), AllocError>
     ensures { OnOk result (W.seen world.new ≡ run W.kind (run W.kind (W.seen world.old) (line_events (W.seen world.old).scenario (entries_of line.now))) (wound_up (W.seen world.old).scenario)) }
 {
     play_line(world, line)?;
-    wind_up(world, alloc)
+    wind_up(world)
 }
 
 /// A round by names.
-fn named_round<W: Plays>(world: &mut W, alloc: Global, names: &[u8]) -> Result<(), AllocError>
+fn named_round<W: Plays>(world: &mut W, names: &[u8]) -> Result<(), AllocError>
     ensures { OnOk result (W.seen world.new ≡ run W.kind (run W.kind (W.seen world.old) (names_events W.kind (W.seen world.old) names.now)) (wound_up (W.seen world.old).scenario)) }
 {
     play_names(world, names)?;
-    wind_up(world, alloc)
+    wind_up(world)
 }
 
 /// As many rounds more as the campaign has, by a schedule: from its opening on, all of it.
@@ -190,14 +190,13 @@ fn named_round<W: Plays>(world: &mut W, alloc: Global, names: &[u8]) -> Result<(
 /// `AllocError` where memory is refused. No more is said of the world then than of every world of its kind: let it go.
 pub fn play_listed<W: Plays>(
     world: &mut W,
-    alloc: Global,
     schedule: &Schedule,
 ) -> Result<(), AllocError>
     ensures { OnOk result (W.seen world.new ≡ run W.kind (W.seen world.old) (listed_rounds (W.seen world.old).scenario (suc (W.seen world.old).scenario.bound) (lines_by schedule.now))) }
 {
     let rounds = usize::from(world.campaign().bound()) + 1;
     for round in 0..rounds {
-        listed_round(world, alloc, line_at(schedule, round))?;
+        listed_round(world, line_at(schedule, round))?;
     }
     Ok(())
 }
@@ -210,14 +209,13 @@ pub fn play_listed<W: Plays>(
 /// `AllocError` where memory is refused. No more is said of the world then than of every world of its kind: let it go.
 pub fn play_named<W: Plays>(
     world: &mut W,
-    alloc: Global,
     names: &[Vec<u8>],
 ) -> Result<(), AllocError>
     ensures { OnOk result (W.seen world.new ≡ run W.kind (W.seen world.old) (replayed_rounds W.kind (W.seen world.old) (suc (W.seen world.old).scenario.bound) (lists_in names.now))) }
 {
     let rounds = usize::from(world.campaign().bound()) + 1;
     for round in 0..rounds {
-        named_round(world, alloc, names_at(names, round))?;
+        named_round(world, names_at(names, round))?;
     }
     Ok(())
 }

@@ -9,7 +9,7 @@ ghost use Rattle.world.specs.World.{oral_kind};
 use crate::part::Part;
 use crate::world::World;
 use round::Scenario;
-use std::alloc::{AllocError, Global};
+use std::alloc::AllocError;
 
 /// A world that can be played on, turn by turn, post by post and close by close.
 pub trait Plays {
@@ -54,7 +54,7 @@ pub trait Plays {
     /// # Errors
     ///
     /// `AllocError` where memory is refused; the world is then as it was.
-    fn close_round(&mut self, alloc: Global) -> Result<(), AllocError>
+    fn close_round(&mut self) -> Result<(), AllocError>
         requires { length (seen self.old).closed ≤ (seen self.old).scenario.bound }
         ensures done { OnOk result (seen self.new ≡ happen kind (seen self.old) Close) }
         ensures undone { OnErr result (seen self.new ≡ seen self.old) };
@@ -89,7 +89,7 @@ impl Plays for World {
         self.post(general);
     }
 
-    fn close_round(&mut self, alloc: Global) -> Result<(), AllocError> {
-        self.close(alloc)
+    fn close_round(&mut self) -> Result<(), AllocError> {
+        self.close()
     }
 }

@@ -2,11 +2,14 @@
 use crate::part::Part;
 use board::Board;
 use round::{Round, Scenario, Told};
+use std::alloc::Global;
 use std::marker::Model;
 
 /// A scenario's campaign as events have left it.
 #[derive(Drop)]
 pub struct World {
+    /// Where its lists are kept.
+    pub(crate) alloc: Global,
     pub(crate) scenario: Scenario,
     /// The letters of the closed rounds.
     pub(crate) closed: Vec<Round>,

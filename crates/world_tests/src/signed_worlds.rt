@@ -89,9 +89,9 @@ const WITH_STRANGERS: &[Step] = &[
 ];
 
 /// Whether each of these events is done.
-fn are_done(alloc: Global, world: &mut SignedWorld, events: &[Event]) -> bool {
+fn are_done(world: &mut SignedWorld, events: &[Event]) -> bool {
     for event in events {
-        if world.apply(alloc, *event).is_err() {
+        if world.apply(*event).is_err() {
             return false;
         }
     }
@@ -100,14 +100,13 @@ fn are_done(alloc: Global, world: &mut SignedWorld, events: &[Event]) -> bool {
 
 /// Whether each of these events is refused for this reason, and the decisions stay.
 fn are_refused(
-    alloc: Global,
     world: &mut SignedWorld,
     events: &[Event],
     reason: EventError,
 ) -> bool {
     let before = world.decisions();
     for event in events {
-        if world.apply(alloc, *event) != Err(reason) {
+        if world.apply(*event) != Err(reason) {
             return false;
         }
         if world.decisions().as_slice() != before.as_slice() {
@@ -118,19 +117,19 @@ fn are_refused(
 }
 
 /// Whether the step goes as it says.
-fn goes(alloc: Global, world: &mut SignedWorld, step: Step) -> bool {
+fn goes(world: &mut SignedWorld, step: Step) -> bool {
     match step {
-        Step::Done(events) => are_done(alloc, world, events),
-        Step::Refused(events, reason) => are_refused(alloc, world, events, reason),
+        Step::Done(events) => are_done(world, events),
+        Step::Refused(events, reason) => are_refused(world, events, reason),
         Step::Full(full) => world.full() == full,
         Step::Decided(orders) => world.decisions().as_slice() == orders,
     }
 }
 
 /// Whether all steps go as they say.
-fn go(alloc: Global, world: &mut SignedWorld, steps: &[Step]) -> bool {
+fn go(world: &mut SignedWorld, steps: &[Step]) -> bool {
     for step in steps {
-        if !goes(alloc, world, *step) {
+        if !goes(world, *step) {
             return false;
         }
     }
@@ -164,7 +163,7 @@ const OBEYED: Verdict = Verdict {
 fn three_generals_agree_beside_one_who_passes_on(rt: HostRuntime) -> Result<(), Fail> {
     let alloc = rt.alloc();
     let mut world = SignedWorld::open(alloc, three(alloc, PASSING)?)?;
-    assert!(rt; go(alloc, &mut world, BESIDE_ONE_WHO_PASSES_ON));
+    assert!(rt; go(&mut world, BESIDE_ONE_WHO_PASSES_ON));
     let chronicle = world.chronicle().ok_or("no chronicle")?;
     assert!(rt; is_passed_on(&chronicle) && chronicle.verdict() == OBEYED);
     Ok(())
@@ -176,7 +175,7 @@ fn three_generals_agree_under_a_commander_who_signs_two_orders(
 ) -> Result<(), Fail> {
     let alloc = rt.alloc();
     let mut world = SignedWorld::open(alloc, three(alloc, SIGNING_TWICE)?)?;
-    assert!(rt; go(alloc, &mut world, UNDER_TWO_ORDERS));
+    assert!(rt; go(&mut world, UNDER_TWO_ORDERS));
     let chronicle = world.chronicle().ok_or("no chronicle")?;
     assert!(rt; chronicle.sent(0, 1).len() == 2 && chronicle.sent(1, 2).len() == 1);
     assert!(rt; chronicle.verdict().obeyed.is_none());
@@ -187,7 +186,7 @@ fn three_generals_agree_under_a_commander_who_signs_two_orders(
 fn signed_events_of_nobody_are_refused(rt: HostRuntime) -> Result<(), Fail> {
     let alloc = rt.alloc();
     let mut world = SignedWorld::open(alloc, three(alloc, PASSING)?)?;
-    assert!(rt; go(alloc, &mut world, WITH_STRANGERS));
+    assert!(rt; go(&mut world, WITH_STRANGERS));
     assert!(rt; world.chronicle().is_none());
     Ok(())
 }

@@ -2,7 +2,6 @@
 
 use crate::scenarios::told;
 use crate::texts::{FOUR, SWAYING, TORN};
-use std::alloc::Global;
 use std::test::Fail;
 use world::{Event, EventError, Verdict, World};
 
@@ -84,9 +83,9 @@ const WORLDS: &[(&str, &[Step], Option<Verdict>)] = &[
 ];
 
 /// Whether each of these events is done.
-fn are_done(alloc: Global, world: &mut World, events: &[Event]) -> bool {
+fn are_done(world: &mut World, events: &[Event]) -> bool {
     for event in events {
-        if world.apply(alloc, *event).is_err() {
+        if world.apply(*event).is_err() {
             return false;
         }
     }
@@ -94,10 +93,10 @@ fn are_done(alloc: Global, world: &mut World, events: &[Event]) -> bool {
 }
 
 /// Whether each of these events is refused for this reason, and the decisions stay.
-fn are_refused(alloc: Global, world: &mut World, events: &[Event], reason: EventError) -> bool {
+fn are_refused(world: &mut World, events: &[Event], reason: EventError) -> bool {
     let before = world.decisions();
     for event in events {
-        if world.apply(alloc, *event) != Err(reason) {
+        if world.apply(*event) != Err(reason) {
             return false;
         }
         if world.decisions().as_slice() != before.as_slice() {
@@ -108,19 +107,19 @@ fn are_refused(alloc: Global, world: &mut World, events: &[Event], reason: Event
 }
 
 /// Whether the step goes as it says.
-fn goes(alloc: Global, world: &mut World, step: Step) -> bool {
+fn goes(world: &mut World, step: Step) -> bool {
     match step {
-        Step::Done(events) => are_done(alloc, world, events),
-        Step::Refused(events, reason) => are_refused(alloc, world, events, reason),
+        Step::Done(events) => are_done(world, events),
+        Step::Refused(events, reason) => are_refused(world, events, reason),
         Step::Full(full) => world.full() == full,
         Step::Decided(orders) => world.decisions().as_slice() == orders,
     }
 }
 
 /// Whether all steps go as they say, in a world that is opened for them and then has a chronicle of this verdict, if any.
-fn go(alloc: Global, mut world: World, steps: &[Step], verdict: Option<Verdict>) -> bool {
+fn go(mut world: World, steps: &[Step], verdict: Option<Verdict>) -> bool {
     for step in steps {
-        if !goes(alloc, &mut world, *step) {
+        if !goes(&mut world, *step) {
             return false;
         }
     }
@@ -133,7 +132,7 @@ fn worlds_are_led_by_events(rt: HostRuntime) -> Result<(), Fail> {
     let alloc = rt.alloc();
     for (row, &(traitors, steps, verdict)) in WORLDS.iter().enumerate() {
         let world = World::open(alloc, told(alloc, FOUR, traitors)?)?;
-        assert!(rt; go(alloc, world, steps, verdict), "row {row}");
+        assert!(rt; go(world, steps, verdict), "row {row}");
     }
     Ok(())
 }

@@ -67,7 +67,7 @@ pub fn opens<R: Print + AllocGlobal>(rt: &R, campaign: Campaign) -> Result<Outco
 fn opened(alloc: Global, answer: Result<World, AllocError>, campaign: Campaign) -> Result<Told> {
     match answer {
         Ok(mut world) => {
-            let _is_refused = happen(alloc, &mut world, campaign.events(alloc)?.as_slice())?;
+            let _is_refused = happen(&mut world, campaign.events(alloc)?.as_slice())?;
             Ok(Told::Bytes(told(alloc, world)?))
         }
         Err(_) => Ok(Told::Memory),
@@ -80,7 +80,7 @@ pub fn happens<R: Print + AllocGlobal>(rt: &R, campaign: Campaign) -> Result<Out
     let events = campaign.events(alloc)?;
     let mut world = World::open(alloc, campaign.scenario(alloc)?)?;
     ready(rt);
-    let happened = happen(alloc, &mut world, events.as_slice());
+    let happened = happen(&mut world, events.as_slice());
     back(rt);
     let first = told(alloc, world)?;
     led(
@@ -91,10 +91,10 @@ pub fn happens<R: Print + AllocGlobal>(rt: &R, campaign: Campaign) -> Result<Out
 }
 
 /// Lets the events happen. The answer is whether memory was refused to any of them.
-fn happen(alloc: Global, world: &mut World, events: &[Event]) -> Result<bool> {
+fn happen(world: &mut World, events: &[Event]) -> Result<bool> {
     let mut is_refused = false;
     for event in events {
-        if is_refused_first(alloc, world, *event)? {
+        if is_refused_first(world, *event)? {
             is_refused = true;
         }
     }
@@ -103,9 +103,9 @@ fn happen(alloc: Global, world: &mut World, events: &[Event]) -> Result<bool> {
 
 /// Lets the event happen. The answer is whether memory was refused first: then the decisions were as before, and the event was
 /// given again.
-fn is_refused_first(alloc: Global, world: &mut World, event: Event) -> Result<bool> {
+fn is_refused_first(world: &mut World, event: Event) -> Result<bool> {
     let before = world.decisions();
-    match world.apply(alloc, event) {
+    match world.apply(event) {
         Ok(()) => return Ok(false),
         Err(EventError::Memory) => {}
         Err(_) => bail!("an event is refused"),
@@ -113,7 +113,7 @@ fn is_refused_first(alloc: Global, world: &mut World, event: Event) -> Result<bo
     if world.decisions().as_slice() != before.as_slice() {
         bail!("a refused event changed the decisions");
     }
-    if world.apply(alloc, event).is_err() {
+    if world.apply(event).is_err() {
         bail!("an event is refused twice");
     }
     Ok(true)
