@@ -1,0 +1,6 @@
+//! The schedule by which a campaign comes again.
+#![tactic(auto)]
+
+mod schedules;
+
+pub use schedules::retraced;
