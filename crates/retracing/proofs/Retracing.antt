@@ -1,0 +1,37 @@
+-- The schedule of a chronicle's accesses.
+use Rattle.std.proofs.Common.{◌≡◌, ◌<◌, ℕ, List, refl, sym, ap, subst, arith}
+use Rattle.std.specs.Prelude.{All}
+use Rattle.board.specs.Board.{Access}
+use Rattle.round.specs.Scenario.{Scenario, IsScenario}
+use Rattle.world.specs.declared.schedule.Repeat.{Repeat}
+use Rattle.world.specs.Chronicle.{chronicle_of}
+use Rattle.world.specs.Lists.{replayed}
+use Rattle.world.specs.World.{oral_kind}
+use Rattle.world.proofs.Campaigns.{oral_campaigns}
+use Rattle.world.proofs.Lasting.{replayed_complete}
+use Rattle.world.proofs.Replaying.{runs_are_replays}
+use Rattle.explore.specs.Text.{schedule_text}
+use Rattle.trace.specs.Names.{chronicle_told, names_of}
+use Rattle.retracing.specs.Retraced.{ComesAgain, IsLedgerOfRun, IsRetraced}
+
+-- what an audit replays is a complete run
+ledger_told : (s : Scenario) (t : List ℕ) → IsScenario s → IsLedgerOfRun s (chronicle_told s t).accesses
+unfolding chronicle_told
+ledger_told s t is = (replayed s (names_of t), replayed_complete oral_kind s (oral_campaigns s is) (names_of t), refl)
+
+pub ledger_at : (s : Scenario) (t : List ℕ) (accesses : List Access) → IsScenario s → accesses ≡ (chronicle_told s t).accesses → IsLedgerOfRun s accesses
+ledger_at s t accesses is e = subst (λ (accesses : List Access). IsLedgerOfRun s accesses) (sym e) (ledger_told s t is)
+
+pub few : (s : Scenario) (accesses : List Access) → IsScenario s → IsLedgerOfRun s accesses → All (λ a. a.general < 256) accesses
+few s accesses is h =
+    let own = (runs_are_replays oral_kind oral_campaigns).generals s h.0 is h.1 in
+    let most = is.few in
+    subst (λ (accesses : List Access). All (λ a. a.general < 256) accesses) h.2 (λ k d lt. let e = own k d lt in omega arith)
+
+pub retraced_by : (s : Scenario) (t : List ℕ) (accesses : List Access) (schedule : List (List Repeat)) → {lines : List ℕ} → IsScenario s → accesses ≡ (chronicle_told s t).accesses → ComesAgain s accesses schedule → lines ≡ schedule_text schedule → IsRetraced s t lines
+unfolding chronicle_told
+retraced_by s t accesses schedule is e comes written = record {
+  schedule = schedule;
+  written = written;
+  again = ap chronicle_of (comes (replayed s (names_of t)) (replayed_complete oral_kind s (oral_campaigns s is) (names_of t)) (sym e));
+}

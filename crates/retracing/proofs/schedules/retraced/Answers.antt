@@ -1,0 +1,12 @@
+use Rattle.std.proofs.Common.{ap, ◌∙◌}
+use Rattle.retracing.proofs.Retracing.{ledger_at, retraced_by}
+use Rattle.retracing.proofs.schedules.retraced.Goals as goal
+
+pub schedule_of-requires : goal.schedule_of-requires
+schedule_of-requires c =
+    ledger_at c.args.scenario.now c.args.text.now c.accesses.result.now c.recall.ensures (c.accesses.ensures ∙ ap (λ chronicle. chronicle.accesses) c.in_ok-chronicle.ensures.chronicle)
+
+pub returns-clause-retraced : goal.returns-clause-retraced
+returns-clause-retraced c =
+    retraced_by c.args.scenario.now c.args.text.now c.accesses.result.now c.in_ok-schedule.schedule c.recall.ensures (c.accesses.ensures ∙ ap (λ chronicle. chronicle.accesses) c.in_ok-chronicle.ensures.chronicle)
+    c.in_ok-schedule.ensures c.in_ok-schedule_text.ensures

@@ -1,0 +1,18 @@
+-- Schedules that are written are read again (own). The statement is the contract of a function of this crate.
+use Rattle.std.specs.Prelude.{◌≡◌, ◌≤◌, List, length, Ok}
+use Rattle.std.specs.List.{AllByRecursion}
+use Rattle.world.specs.declared.schedule.Repeat.{Repeat}
+use Rattle.explore.specs.Text.{schedule_text}
+use Rattle.trace.specs.Schedules.{schedule_told}
+
+-- a general's number, and how often he acts
+pub record IsEntry (r : Repeat) : Type 0 where
+  pub general : r.general ≤ 12
+  pub least : 1 ≤ r.times
+  pub most : r.times ≤ 4096
+
+-- the text of a schedule of such entries, of at most five lines and so many bytes as a schedule may have, is read as that schedule
+abbrev pub SchedulesAreRead : Type 0
+SchedulesAreRead =
+    (lines : List (List Repeat)) → AllByRecursion (AllByRecursion IsEntry) lines → length lines ≤ 5 → length (schedule_text lines) ≤ 1048576 →
+    schedule_told (schedule_text lines) ≡ Ok lines

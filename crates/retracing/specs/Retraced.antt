@@ -1,0 +1,27 @@
+-- Schedules by which a campaign comes again (own).
+use Rattle.std.specs.Prelude.{ℕ, ◌≡◌, List}
+use Rattle.board.specs.Board.{Access}
+use Rattle.round.specs.Scenario.{Scenario}
+use Rattle.world.specs.declared.event.Event.{Event}
+use Rattle.world.specs.declared.schedule.Repeat.{Repeat}
+use Rattle.world.specs.Chronicle.{chronicle_of}
+use Rattle.world.specs.Lists.{IsComplete, listed}
+use Rattle.world.specs.Schedules.{lines_by}
+use Rattle.world.specs.World.{opening, run}
+use Rattle.explore.specs.Text.{schedule_text}
+use Rattle.trace.specs.Names.{chronicle_told}
+
+-- the accesses of a complete run
+abbrev pub IsLedgerOfRun : Scenario → List Access → Type 0
+IsLedgerOfRun s accesses = (events : List Event) × IsComplete s events × ((run (opening s) events).ledger ≡ accesses)
+
+-- played by the schedule, each complete run with these accesses comes again
+abbrev pub ComesAgain : Scenario → List Access → List (List Repeat) → Type 0
+ComesAgain s accesses schedule =
+    (events : List Event) → IsComplete s events → (run (opening s) events).ledger ≡ accesses → run (opening s) (listed s (lines_by schedule)) ≡ run (opening s) events
+
+-- the lines are the text of a schedule by which the campaign has the chronicle that a text tells
+pub record IsRetraced (s : Scenario) (text lines : List ℕ) : Type 0 where
+  pub schedule : List (List Repeat)
+  pub written : lines ≡ schedule_text schedule
+  pub again : chronicle_of (run (opening s) (listed s (lines_by schedule))) ≡ chronicle_told s text
