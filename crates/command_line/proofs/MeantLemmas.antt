@@ -5,17 +5,17 @@ use Rattle.std.specs.Option.{option_map_or}
 use Rattle.text.specs.Options.{◌>>=◌}
 use Rattle.clap.specs.Walk.{Text}
 use Rattle.command_line.specs.Asked.{has_filling, has_lieutenants, has_notation, if_of, is_meant, reads, wants}
-use Rattle.command_line.specs.Generals.{general_in, generals_in, order_in}
-use Rattle.command_line.specs.Told.{AreExplained, IsFilling, IsMisused, IsNotation, NamesGeneral, Says, Told, campaigns, has, is_of, named, programs, word_of}
+use Rattle.command_line.specs.Generals.{count_in, general_in, generals_in, order_in}
+use Rattle.command_line.specs.Told.{AreExplained, IsFilling, IsMisused, IsNotation, NamesCount, NamesGeneral, Says, Told, campaigns, has, is_of, named, programs, word_of}
 use Rattle.command_line.specs.declared.tasks.Filling.{Filling}
 use Rattle.command_line.specs.declared.tasks.Lieutenants.{Lieutenants}
 use Rattle.command_line.specs.declared.tasks.Lieutenants.TheVariants.{All, One}
 use Rattle.command_line.specs.declared.tasks.Notation.{Notation}
 use Rattle.command_line.specs.declared.tasks.Notation.TheVariants.{Bytecode, Assembly, Object}
 use Rattle.command_line.specs.declared.tasks.Task.{Task}
-use Rattle.command_line.specs.declared.tasks.Task.TheVariants.{Check, Assemble, Disassemble, Book, ExplainDecisions, Form, Play, Muster, Audit}
+use Rattle.command_line.specs.declared.tasks.Task.TheVariants.{Check, Assemble, Disassemble, Book, ExplainDecisions, Form, Play, Muster, Audit, Explore}
 use Rattle.command_line.specs.declared.errors.Misuse.{Misuse}
-use Rattle.command_line.specs.declared.errors.Misuse.TheVariants.{Traitors, Of, Lie, Loyal, TwoNotations, EntryAlone, OfAlone, LieAlone}
+use Rattle.command_line.specs.declared.errors.Misuse.TheVariants.{Traitors, Of, Lie, Loyal, Most, TwoNotations, EntryAlone, OfAlone, LieAlone}
 
 -- ---- the rules hold
 
@@ -32,6 +32,10 @@ module _ (told : Told) where
   general_holds : (name : Text) (g : Option ℕ) → NamesGeneral name told g → reads general_in name told ≡ true
   general_holds name None is = rw is refl
   general_holds name (Some g) is = read_where general_in (word_of name told) g is
+
+  count_holds : (name : Text) (n : Option ℕ) → NamesCount name told n → reads count_in name told ≡ true
+  count_holds name None is = rw is refl
+  count_holds name (Some n) is = read_where count_in (word_of name told) n is
 
   filling_holds : (filling : Option Filling) → IsFilling told filling → has_filling told ≡ true
   filling_holds None is = rw (is.0, is.1) refl
@@ -67,6 +71,7 @@ says_meant told (Form n m c filling) says = rw says.0 (rw (filling_holds told fi
 says_meant told (Play scenario schedule account explained) says = rw says.0 (rw (lieutenants_hold told explained says.4) refl)
 says_meant told (Muster scenario explained) says = rw says.0 (rw (lieutenants_hold told explained says.2) refl)
 says_meant told (Audit scenario chronicle explained) says = rw says.0 (rw (lieutenants_hold told explained says.3) refl)
+says_meant told (Explore scenario most) says = rw says.0 (rw (count_holds told (codes "most") most says.2) refl)
 
 -- ---- a rule is broken
 
@@ -76,33 +81,21 @@ not_read read told name word is none = rw (is, none) refl
 broken : (names : List Text) (told : Told) (holds : Bool) → is_of names told ≡ true → holds ≡ false → if_of names told holds ≡ false
 broken names told holds of fails = rw (of, fails) refl
 
-module _ (a b c d : Bool) where
-  first_broken : a ≡ false → a && b && c && d ≡ false
-  first_broken e = rw e refl
+module _ (a b c d e : Bool) where
+  first_broken : a ≡ false → a && b && c && d && e ≡ false
+  first_broken is = and_left (a && b && c && d) e (and_left (a && b && c) d (and_left (a && b) c (and_left a b is)))
 
-  second_broken : b ≡ false → a && b && c && d ≡ false
-  second_broken e = rw e (go a)
-    where
-      go : (a : Bool) → a && false && c && d ≡ false
-      go true = refl
-      go false = refl
+  second_broken : b ≡ false → a && b && c && d && e ≡ false
+  second_broken is = and_left (a && b && c && d) e (and_left (a && b && c) d (and_left (a && b) c (and_right a b is)))
 
-  third_broken : c ≡ false → a && b && c && d ≡ false
-  third_broken e = rw e (go a b)
-    where
-      go : (a b : Bool) → a && b && false && d ≡ false
-      go true true = refl
-      go true false = refl
-      go false b = refl
+  third_broken : c ≡ false → a && b && c && d && e ≡ false
+  third_broken is = and_left (a && b && c && d) e (and_left (a && b && c) d (and_right (a && b) c is))
 
-  fourth_broken : d ≡ false → a && b && c && d ≡ false
-  fourth_broken e = rw e (go a b c)
-    where
-      go : (a b c : Bool) → a && b && c && false ≡ false
-      go true true true = refl
-      go true true false = refl
-      go true false c = refl
-      go false b c = refl
+  fourth_broken : d ≡ false → a && b && c && d && e ≡ false
+  fourth_broken is = and_left (a && b && c && d) e (and_right (a && b && c) d is)
+
+  fifth_broken : e ≡ false → a && b && c && d && e ≡ false
+  fifth_broken is = and_right (a && b && c && d) e is
 
 module _ (told : Told) where
   abbrev of_program : Bool
@@ -117,17 +110,24 @@ module _ (told : Told) where
   abbrev of_campaign : Bool
   of_campaign = if_of campaigns told (has_lieutenants told)
 
+  abbrev of_exploration : Bool
+  of_exploration = if_of (codes "explore" ∷ []) told (reads count_in (codes "most") told)
+
   program_broken : is_of programs told ≡ true → has_notation told ≡ false → is_meant told ≡ false
-  program_broken of fails = first_broken of_program of_book of_table of_campaign (broken programs told (has_notation told) of fails)
+  program_broken of fails = first_broken of_program of_book of_table of_campaign of_exploration (broken programs told (has_notation told) of fails)
 
   book_broken : is_of (codes "book" ∷ []) told ≡ true → reads generals_in (codes "traitors") told ≡ false → is_meant told ≡ false
-  book_broken of fails = second_broken of_program of_book of_table of_campaign (broken (codes "book" ∷ []) told (reads generals_in (codes "traitors") told) of fails)
+  book_broken of fails = second_broken of_program of_book of_table of_campaign of_exploration (broken (codes "book" ∷ []) told (reads generals_in (codes "traitors") told) of fails)
 
   table_broken : is_of (codes "table" ∷ []) told ≡ true → has_filling told ≡ false → is_meant told ≡ false
-  table_broken of fails = third_broken of_program of_book of_table of_campaign (broken (codes "table" ∷ []) told (has_filling told) of fails)
+  table_broken of fails = third_broken of_program of_book of_table of_campaign of_exploration (broken (codes "table" ∷ []) told (has_filling told) of fails)
 
   campaign_broken : is_of campaigns told ≡ true → has_lieutenants told ≡ false → is_meant told ≡ false
-  campaign_broken of fails = fourth_broken of_program of_book of_table of_campaign (broken campaigns told (has_lieutenants told) of fails)
+  campaign_broken of fails = fourth_broken of_program of_book of_table of_campaign of_exploration (broken campaigns told (has_lieutenants told) of fails)
+
+  exploration_broken : is_of (codes "explore" ∷ []) told ≡ true → reads count_in (codes "most") told ≡ false → is_meant told ≡ false
+  exploration_broken of fails = fifth_broken of_program of_book of_table of_campaign of_exploration
+      (broken (codes "explore" ∷ []) told (reads count_in (codes "most") told) of fails)
 
   not_wanted : (name other : Text) → has name told ≡ true → has other told ≡ false → wants name other told ≡ false
   not_wanted name other there lacks = rw (there, lacks) refl
@@ -142,6 +142,7 @@ misused_not_meant told (Lie word) is = table_broken told is.0
 misused_not_meant told (Loyal word) is = table_broken told is.0
     (and_left (reads order_in (codes "loyal") told && reads general_in (codes "lie") told) (wants (codes "lie") (codes "loyal") told)
     (and_left (reads order_in (codes "loyal") told) (reads general_in (codes "lie") told) (not_read order_in told (codes "loyal") (string_bytes word) is.1 is.2)))
+misused_not_meant told (Most word) is = exploration_broken told is.0 (not_read count_in told (codes "most") (string_bytes word) is.1 is.2)
 misused_not_meant told TwoNotations is = program_broken told is.0 (rw (is.1, is.2) refl)
 misused_not_meant told EntryAlone is = program_broken told is.0 (and_right (not (has (codes "asm") told && has (codes "elf") told)) (wants (codes "entry") (codes "elf") told) (not_wanted told (codes "entry") (codes "elf") is.1 is.2))
 misused_not_meant told OfAlone is = campaign_broken told is.0

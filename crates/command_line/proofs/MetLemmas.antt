@@ -39,8 +39,9 @@ off known name apart = elim (cases_Bool (bytes_eq known name)) [
 -- each task has one of the names
 pub no_other_task : (told : Told) → has_places told ≡ true
     → (told.name ≡ codes "check" → ⊥) → (told.name ≡ codes "asm" → ⊥) → (told.name ≡ codes "dis" → ⊥) → (told.name ≡ codes "book" → ⊥)
-    → (told.name ≡ codes "table" → ⊥) → (told.name ≡ codes "muster" → ⊥) → (told.name ≡ codes "play" → ⊥) → (told.name ≡ codes "audit" → ⊥) → ⊥
-no_other_task told is check asm dis book table muster play audit =
+    → (told.name ≡ codes "table" → ⊥) → (told.name ≡ codes "muster" → ⊥) → (told.name ≡ codes "play" → ⊥) → (told.name ≡ codes "audit" → ⊥)
+    → (told.name ≡ codes "explore" → ⊥) → ⊥
+no_other_task told is check asm dis book table muster play audit explore =
     let bad : false ≡ true = rw (
       off (codes "check") told.name check,
       off (codes "asm") told.name asm,
@@ -50,4 +51,5 @@ no_other_task told is check asm dis book table muster play audit =
       off (codes "muster") told.name muster,
       off (codes "play") told.name play,
       off (codes "audit") told.name audit,
+      off (codes "explore") told.name explore,
     ) at is in absurd cc

@@ -3,7 +3,7 @@ use Rattle.std.specs.Prelude.{◌&&◌, ◌||◌, not, Bool, true, List, [], ◌
 use Rattle.std.specs.Prelude.{codes, if◌then◌else◌, is_some, map, option_and_then, option_map}
 use Rattle.std.specs.Borrow.{Bor}
 use Rattle.std.specs.Option.{option_map_or}
-use Rattle.command_line.specs.Generals.{general_in, generals_in, order_in}
+use Rattle.command_line.specs.Generals.{count_in, general_in, generals_in, order_in}
 use Rattle.command_line.specs.Told.{Told, campaigns, has, is_of, programs, word_of}
 use Rattle.command_line.specs.Usage.{Text, Usage, taken_in, value_at}
 use Rattle.command_line.specs.Usages.{usage_named}
@@ -52,6 +52,7 @@ is_meant told = if_of programs told (has_notation told)
     && if_of (codes "book" ∷ []) told (reads generals_in (codes "traitors") told)
     && if_of (codes "table" ∷ []) told (has_filling told)
     && if_of campaigns told (has_lieutenants told)
+    && if_of (codes "explore" ∷ []) told (reads count_in (codes "most") told)
 
 -- what the words ask for: what they spell, where that is no misuse
 abbrev pub asked : List Text → Option Told

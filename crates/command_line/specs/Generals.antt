@@ -1,5 +1,5 @@
 -- Generals and orders that a word names.
-use Rattle.std.specs.Prelude.{ℕ, nat_lt, ◌^◌, if◌then◌else◌, List, [], ◌∷◌, ◌++◌, Option, Some, None}
+use Rattle.std.specs.Prelude.{ℕ, nat_lt, ◌&&◌, ◌^◌, if◌then◌else◌, List, [], ◌∷◌, ◌++◌, Option, Some, None}
 use Rattle.text.specs.Options.{◌>>=◌}
 use Rattle.text.specs.Stop.{comma}
 use Rattle.text.specs.Parts.{pieces}
@@ -16,6 +16,10 @@ general_in word = below 13 word
 -- an order, 0 to 4294967295
 unfoldable pub order_in : List ℕ → Option ℕ
 order_in word = below (2 ^ 32) word
+
+-- a number of something, 1 to 18446744073709551615
+unfoldable pub count_in : List ℕ → Option ℕ
+count_in word = decimal_of word >>= λ n. if nat_lt 0 n && nat_lt n (2 ^ 64) then Some n else None
 
 -- the generals of some parts, behind those before
 abbrev pub generals_behind : List ℕ → List (List ℕ) → Option (List ℕ)

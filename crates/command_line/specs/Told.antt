@@ -5,7 +5,7 @@ use Rattle.std.specs.Str.{bytes_eq}
 use Rattle.std.specs.String.{string_bytes}
 use Rattle.text.specs.Options.{◌>>=◌}
 use Rattle.clap.specs.declared.error.Error.{Error}
-use Rattle.command_line.specs.Generals.{general_in, generals_in, order_in}
+use Rattle.command_line.specs.Generals.{count_in, general_in, generals_in, order_in}
 use Rattle.command_line.specs.Usage.{Text}
 use Rattle.command_line.specs.declared.tasks.Account.{Account}
 use Rattle.command_line.specs.declared.tasks.Account.TheVariants.{Chronicle, Table}
@@ -17,9 +17,9 @@ use Rattle.command_line.specs.declared.tasks.Notation.TheVariants.{Bytecode, Ass
 use Rattle.command_line.specs.declared.tasks.Spelling.{Spelling}
 use Rattle.command_line.specs.declared.tasks.Spelling.TheVariants.{Hex, Raw}
 use Rattle.command_line.specs.declared.tasks.Task.{Task}
-use Rattle.command_line.specs.declared.tasks.Task.TheVariants.{Check, Assemble, Disassemble, Book, ExplainDecisions, Form, Play, Muster, Audit}
+use Rattle.command_line.specs.declared.tasks.Task.TheVariants.{Check, Assemble, Disassemble, Book, ExplainDecisions, Form, Play, Muster, Audit, Explore}
 use Rattle.command_line.specs.declared.errors.Misuse.{Misuse}
-use Rattle.command_line.specs.declared.errors.Misuse.TheVariants.{Traitors, Of, Lie, Loyal, TwoNotations, EntryAlone, OfAlone, LieAlone}
+use Rattle.command_line.specs.declared.errors.Misuse.TheVariants.{Traitors, Of, Lie, Loyal, Most, TwoNotations, EntryAlone, OfAlone, LieAlone}
 use Rattle.command_line.specs.declared.errors.TaskError.{TaskError}
 use Rattle.command_line.specs.declared.errors.TaskError.TheVariants as error
 
@@ -82,6 +82,11 @@ AreExplained told None = (has (codes "explain") told ≡ false) × (word_of (cod
 AreExplained told (Some All) = (has (codes "explain") told ≡ true) × (word_of (codes "of") told ≡ None)
 AreExplained told (Some (One g)) = (has (codes "explain") told ≡ true) × NamesGeneral (codes "of") told (Some g)
 
+-- the option names this number, and is not there where there is none
+abbrev pub NamesCount : Text → Told → Option ℕ → Type 0
+NamesCount name told None = word_of name told ≡ None
+NamesCount name told (Some n) = (word_of name told >>= count_in) ≡ Some n
+
 -- ---- the words say this task
 
 abbrev pub Says : Told → Task → Type 0
@@ -113,6 +118,8 @@ Says told (Muster scenario explained) = (told.name ≡ codes "muster")
 Says told (Audit scenario chronicle explained) = (told.name ≡ codes "audit")
     × (word_of (codes "SCENARIO") told ≡ Some (string_bytes scenario))
     × (word_of (codes "CHRONICLE") told ≡ Some (string_bytes chronicle)) × AreExplained told explained
+Says told (Explore scenario most) = (told.name ≡ codes "explore")
+    × (word_of (codes "SCENARIO") told ≡ Some (string_bytes scenario)) × NamesCount (codes "most") told most
 
 -- ---- the names of the task's files: of its only or first, of the second, and of the one that it writes
 
@@ -126,6 +133,7 @@ file_of (Form n m c filling) = None
 file_of (Play scenario schedule account explained) = Some (string_bytes scenario)
 file_of (Muster scenario explained) = Some (string_bytes scenario)
 file_of (Audit scenario chronicle explained) = Some (string_bytes scenario)
+file_of (Explore scenario most) = Some (string_bytes scenario)
 
 abbrev pub second_of : Task → Option Text
 second_of (Check file notation context explained traced) = option_map string_bytes context
@@ -149,6 +157,8 @@ IsMisused told (Lie word) = (is_of (codes "table" ∷ []) told ≡ true)
     × (word_of (codes "lie") told ≡ Some (string_bytes word)) × (general_in (string_bytes word) ≡ None)
 IsMisused told (Loyal word) = (is_of (codes "table" ∷ []) told ≡ true)
     × (word_of (codes "loyal") told ≡ Some (string_bytes word)) × (order_in (string_bytes word) ≡ None)
+IsMisused told (Most word) = (is_of (codes "explore" ∷ []) told ≡ true)
+    × (word_of (codes "most") told ≡ Some (string_bytes word)) × (count_in (string_bytes word) ≡ None)
 IsMisused told TwoNotations = (is_of programs told ≡ true) × (has (codes "asm") told ≡ true) × (has (codes "elf") told ≡ true)
 IsMisused told EntryAlone = (is_of programs told ≡ true) × (has (codes "entry") told ≡ true) × (has (codes "elf") told ≡ false)
 IsMisused told OfAlone = (is_of campaigns told ≡ true) × (has (codes "of") told ≡ true) × (has (codes "explain") told ≡ false)

@@ -55,8 +55,11 @@ audit = record {
   flags = switch (codes "explain") ∷ option (codes "of") ∷ [];
 }
 
+abbrev pub explore : Usage
+explore = record { name = codes "explore"; places = codes "SCENARIO" ∷ []; flags = option (codes "most") ∷ [] }
+
 abbrev pub usages : List Usage
-usages = check ∷ asm ∷ dis ∷ book ∷ table ∷ muster ∷ play ∷ audit ∷ []
+usages = check ∷ asm ∷ dis ∷ book ∷ table ∷ muster ∷ play ∷ audit ∷ explore ∷ []
 
 abbrev pub usage_named : Text → Option Usage
 usage_named name = find (λ usage. bytes_eq usage.name name) usages

@@ -24,6 +24,8 @@ pub enum Misuse {
     Lie(String),
     /// The word behind `--loyal` is no order.
     Loyal(String),
+    /// The word behind `--most` is no number of orders.
+    Most(String),
     /// A file is said to be assembly text and an ELF object.
     TwoNotations,
     /// `--entry` stands without `--elf`.
@@ -72,6 +74,10 @@ impl fmt::Display for Misuse {
             Misuse::Loyal(word) => write!(
                 f,
                 "invalid value {word:?} for '--loyal <V>': an order, 0 to 4294967295"
+            ),
+            Misuse::Most(word) => write!(
+                f,
+                "invalid value {word:?} for '--most <N>': a whole number, 1 to 18446744073709551615"
             ),
             Misuse::TwoNotations => {
                 f.write_str("the argument '--elf' cannot be used with '--asm'")

@@ -1,5 +1,5 @@
 ghost use Rattle.std.specs.Prelude.{◌≡◌, ◌≢◌, IfOk, IfErr, Some, None};
-ghost use Rattle.command_line.specs.Generals.{general_in, generals_in, order_in};
+ghost use Rattle.command_line.specs.Generals.{count_in, general_in, generals_in, order_in};
 ghost use Rattle.command_line.specs.declared.generals.GeneralsError.TheVariants.{Memory};
 
 use std::alloc::{AllocError, Global};
@@ -65,6 +65,19 @@ pub(crate) fn order(word: &[u8]) -> Option<u32>
     let number = decimal(word)?;
     if number < 4_294_967_296 {
         Some(number as u32)
+    } else {
+        None
+    }
+}
+
+/// A number of something, which is some.
+#[tactic(auto, unfolding(crate::specs::Generals::count_in))]
+pub(crate) fn count(word: &[u8]) -> Option<u64>
+    ensures { result ≡ count_in word.now }
+{
+    let number = decimal(word)?;
+    if 0 < number && number < 18_446_744_073_709_551_616 {
+        Some(number as u64)
     } else {
         None
     }

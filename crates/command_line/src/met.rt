@@ -2,10 +2,10 @@ ghost use Rattle.std.specs.Prelude.{◌≡◌, if◌then◌else◌, IfOk, IfErr,
 ghost use Rattle.clap.specs.Words.{subcommand_rows_of};
 ghost use Rattle.command_line.specs.Lab.{is_given, task_met};
 ghost use Rattle.command_line.specs.Met.{has_places, told_by};
-ghost use Rattle.command_line.specs.Told.{AreExplained, IsErrorOf, IsFilling, IsNotation, NamesGeneral, Says, campaigns, has, is_of, is_raw, is_table, programs, word_of};
+ghost use Rattle.command_line.specs.Told.{AreExplained, IsErrorOf, IsFilling, IsNotation, NamesCount, NamesGeneral, Says, campaigns, has, is_of, is_raw, is_table, programs, word_of};
 
 use crate::errors::{Misuse, TaskError};
-use crate::generals::{GeneralsError, general, generals, order};
+use crate::generals::{GeneralsError, count, general, generals, order};
 use crate::tasks::{Account, Filling, Lieutenants, Notation, Spelling, Task};
 use clap::ArgMatches;
 use clap::parser::ValueSource;
@@ -80,6 +80,7 @@ impl<'m, 'a> Met<'m, 'a> {
             "muster" => self.muster(alloc),
             "play" => self.play(alloc),
             "audit" => self.audit(alloc),
+            "explore" => self.explore(alloc),
             _ => unreachable!(),
         }
     }
@@ -215,6 +216,34 @@ impl<'m, 'a> Met<'m, 'a> {
             chronicle: self.required(alloc, "CHRONICLE")?,
             explained: self.lieutenants(alloc)?,
         })
+    }
+
+    /// The task of `explore`.
+    fn explore(self, alloc: Global) -> Result<Task, TaskError>
+        requires name { self.name.now ≡ codes "explore" }
+        requires scenario { has (codes "SCENARIO") (told_by self) ≡ true }
+        ensures task { IfOk result (Says (told_by self.entry)) }
+        ensures refused { IfErr result (IsErrorOf (told_by self.entry)) }
+    {
+        Ok(Task::Explore {
+            scenario: self.required(alloc, "SCENARIO")?,
+            most: self.most(alloc)?,
+        })
+    }
+
+    /// In how many orders a campaign is played at most.
+    fn most(self, alloc: Global) -> Result<Option<u64>, TaskError>
+        requires { is_of (codes "explore" ∷ []) (told_by self) ≡ true }
+        ensures named { IfOk result (NamesCount (codes "most") (told_by self.entry)) }
+        ensures refused { IfErr result (IsErrorOf (told_by self.entry)) }
+    {
+        let Some(word) = self.value("most") else {
+            return Ok(None);
+        };
+        match count(word.as_bytes()) {
+            Some(most) => Ok(Some(most)),
+            None => Err(TaskError::Misuse(Misuse::Most(String::from_str(alloc, word)?))),
+        }
     }
 
     /// How the program is written.

@@ -221,7 +221,18 @@ const AUDIT: Subcommand<'static> = Subcommand {
     ],
 };
 
+const EXPLORE: Subcommand<'static> = Subcommand {
+    name: "explore",
+    about: "Plays a campaign in each order of its accesses and prints what it comes to",
+    places: &[SCENARIO],
+    flags: &[Flag::Option {
+        name: "most",
+        value: "N",
+        help: "Stops after this many orders; without it all are played, however many",
+    }],
+};
+
 /// All subcommands, as help lists them.
 pub(crate) const SUBCOMMANDS: &[Subcommand<'static>] = &[
-    CHECK, ASM, DIS, BOOK, TABLE, MUSTER, PLAY, AUDIT,
+    CHECK, ASM, DIS, BOOK, TABLE, MUSTER, PLAY, AUDIT, EXPLORE,
 ];

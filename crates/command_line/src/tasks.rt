@@ -56,6 +56,11 @@ pub enum Task {
         chronicle: String,
         explained: Option<Lieutenants>,
     },
+    /// Play a campaign in each order of its accesses, or in this many, 1 or more, where there are more.
+    Explore {
+        scenario: String,
+        most: Option<u64>,
+    },
 }
 
 /// How a program is written.
@@ -120,7 +125,8 @@ impl Task {
             | Task::ExplainDecisions { table: file, .. }
             | Task::Play { scenario: file, .. }
             | Task::Muster { scenario: file, .. }
-            | Task::Audit { scenario: file, .. } => Some(file.as_str()),
+            | Task::Audit { scenario: file, .. }
+            | Task::Explore { scenario: file, .. } => Some(file.as_str()),
             Task::Form { .. } => None,
         }
     }

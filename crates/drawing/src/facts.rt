@@ -111,8 +111,8 @@ fn is_same(one: Option<u32>, other: Option<u32>) -> bool
     }
 }
 
-/// How far the word of this general is to be trusted, who tells the lieutenant of a label: of the next label, which has him
-/// behind it.
+/// How far the word of this general is to be trusted, who tells the lieutenant of a label: the next label has him behind
+/// it.
 pub(crate) fn mark(
     table: &Table,
     traitors: &[u8],
@@ -160,8 +160,8 @@ fn is_honest(mark: Mark) -> bool
     matches!(mark, Mark::Honest)
 }
 
-/// Whether the lieutenant is told the same of a label and of all that go on from it, with so many relays left, and none of
-/// these is a lie.
+/// Whether the lieutenant is told the same of a label and of all that go on from it, with so many relays left, and none
+/// of these is a lie.
 #[cycle(alike)]
 fn is_alike(table: &Table, traitors: &[u8], general: u8, label: &Label, relays: u8) -> bool
     requires place { is_place table.now label.now general ≡ true }

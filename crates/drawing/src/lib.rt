@@ -1,5 +1,5 @@
-//! Pictures of what a lieutenant was told: his tree of messages (Lynch, Distributed Algorithms, section 6.2), as lines of
-//! text, as a graph for Graphviz, and as SVG.
+//! Pictures of what a lieutenant was told: his tree of messages (Lynch, Distributed Algorithms, section 6.2), as lines
+//! of text, as a graph for Graphviz, and as SVG.
 #![tactic(auto)]
 
 mod facts;

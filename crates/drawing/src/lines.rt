@@ -11,8 +11,9 @@ use crate::words::put_said;
 use book::{Table, decision};
 use std::alloc::{AllocError, Global};
 
-/// The tree of what a lieutenant was told: a line for each label that is shown, below the label that it goes on from, with
-/// what he was told, what his list comes to, and whether it is a lie of one who is named as a traitor; then his decision.
+/// The tree of what a lieutenant was told: a line for each label that is shown, below the label that it goes on from,
+/// with what he was told, what his list comes to, and whether it is a lie of one who is named as a traitor; then his
+/// decision.
 ///
 /// # Errors
 ///

@@ -96,9 +96,9 @@ fn put_heading(out: &mut String, general: u8, order: u32) -> Result<(), AllocErr
 fn key() -> &'static str
     ensures { result.now ≡ key }
 {
-    "<desc>Each row is a label, below the label that it goes on from, with what he was told of it. Circle: the word of a \
-     general who is not named as a traitor, or tells what he took. Square: the word of a commander who is named. Diamond: \
-     a lie. Dashes: no order has a majority.</desc>\n"
+    "<desc>Each row is a label, below the label that it goes on from, with what he was told of it. Circle: the word of \
+     a general who is not named as a traitor, or tells what he took. Square: the word of a commander who is named. \
+     Diamond: a lie. Dashes: no order has a majority.</desc>\n"
 }
 
 /// What the shapes look like: on paper, and on a dark ground where one is wished for.
@@ -107,7 +107,7 @@ fn look() -> &'static str
     ensures { result.now ≡ look }
 {
     "<style>svg{background:#fff}text{fill:#111;font:14px sans-serif}.line{fill:none;stroke:#767676}\
-     .told{fill:#fff;stroke:#111}.word{fill:#ffd24d;stroke:#111}.lie{fill:#b00020;stroke:#111}.split{stroke-dasharray:3 2}\
-     @media(prefers-color-scheme:dark){svg{background:#111}text{fill:#eee}.told,.word,.lie{stroke:#eee}.told{fill:#111}}\
-     </style>\n"
+     .told{fill:#fff;stroke:#111}.word{fill:#ffd24d;stroke:#111}.lie{fill:#b00020;stroke:#111}\
+     .split{stroke-dasharray:3 2}@media(prefers-color-scheme:dark){svg{background:#111}text{fill:#eee}\
+     .told,.word,.lie{stroke:#eee}.told{fill:#111}}</style>\n"
 }

@@ -16,3 +16,4 @@ pub mod Passing
 pub mod Replaying
 pub mod Stepping
 pub mod Planned
+pub mod Agreeing

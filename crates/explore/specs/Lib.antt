@@ -10,3 +10,4 @@ pub mod Succession
 pub mod Entering
 pub mod Places
 pub mod Text
+pub mod Agreeing

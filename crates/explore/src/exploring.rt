@@ -18,8 +18,8 @@ use round::Scenario;
 use std::alloc::{AllocError, Global};
 use world::replay;
 
-/// The outcomes of all orders in which the traitors of an oral campaign can come to the board, where these are no more than
-/// `most`; else those of the `most` least orders, and that there are more.
+/// The outcomes of all orders in which the traitors of an oral campaign can come to the board, where these are no more
+/// than `most`; else those of the `most` least orders, and that there are more.
 ///
 /// # Errors
 ///

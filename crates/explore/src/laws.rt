@@ -1,4 +1,5 @@
 //! Laws of orders: each function does nothing, and its contract is the law.
+ghost use Rattle.explore.specs.Agreeing.{FindingsAgree};
 ghost use Rattle.explore.specs.Listing.{OrdersAreListed, OrdersAreWhole};
 ghost use Rattle.explore.specs.Merging.{AlikeWorldsGoOnAlike, AlikeWorldsHaveOneList};
 ghost use Rattle.explore.specs.Orders.{OrdersDecide};
@@ -23,6 +24,12 @@ pub fn orders_are_whole()
 /// Each order is that of a schedule.
 pub fn orders_are_schedules()
     ensures { OrdersAreSchedules oral_kind }
+{}
+
+/// Of an oral campaign whose bound holds, in each outcome that is found the loyal lieutenants decide alike, and the order of a
+/// loyal commander (TOPLAS 1982, Theorem 1).
+pub fn findings_agree()
+    ensures { FindingsAgree }
 {}
 
 /// Worlds of the same words and activations, whose rounds have told the same, go on alike: so states may be merged.

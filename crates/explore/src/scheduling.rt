@@ -56,8 +56,8 @@ fn line_of<W: Plays>(world: &mut W, alloc: Global, names: &[u8]) -> Result<Line,
     Ok(Line::Made(Entries { repeats }))
 }
 
-/// The schedule by which these, round by round, make their accesses in this order, from a world where a round begins: one
-/// entry for each access. Else the first of them that makes none then.
+/// The schedule by which these, round by round, make their accesses in this order, from a world where a round begins:
+/// one entry for each access. Else the first of them that makes none then.
 ///
 /// # Errors
 ///
@@ -82,9 +82,9 @@ pub fn schedule_from<W: Plays>(
     Ok(Scheduled::By(Schedule { lines }))
 }
 
-/// The schedule by which these, round by round, make their accesses in this order in an oral campaign, before all others.
-/// Where they are those who made the accesses of a campaign of this scenario, however it was played, the schedule brings
-/// that campaign back.
+/// The schedule by which these, round by round, make their accesses in this order in an oral campaign, before all
+/// others. Where they are those who made the accesses of a campaign of this scenario, however it was played, the
+/// schedule brings that campaign back.
 ///
 /// # Errors
 ///

@@ -31,8 +31,8 @@ fn least_above(general: u8, names: &[u8]) -> Option<u8>
     least
 }
 
-/// The beginning of the order that comes behind this one in a round: up to the last place where a greater name still comes,
-/// and the least such name there; none where there is no such place.
+/// The beginning of the order that comes behind this one in a round: up to the last place where a greater name still
+/// comes, and the least such name there; none where there is no such place.
 fn next_names(mut names: Vec<u8>) -> Option<Vec<u8>>
     ensures { option_map (λ next. next.items) result ≡ next_names names.items }
 {

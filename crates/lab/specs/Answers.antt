@@ -10,7 +10,7 @@ use Rattle.asm.specs.Printing.{text_of, unit_lines}
 use Rattle.command_line.specs.declared.tasks.Notation.{Notation}
 use Rattle.command_line.specs.declared.tasks.Spelling.TheVariants.{Hex, Raw}
 use Rattle.command_line.specs.declared.tasks.Task.{Task}
-use Rattle.command_line.specs.declared.tasks.Task.TheVariants.{Check, Assemble, Disassemble, Book, ExplainDecisions, Form, Play, Muster, Audit}
+use Rattle.command_line.specs.declared.tasks.Task.TheVariants.{Check, Assemble, Disassemble, Book, ExplainDecisions, Form, Play, Muster, Audit, Explore}
 use Rattle.command_line.specs.declared.tasks.Account.TheVariants.{Chronicle}
 use Rattle.scenario.specs.Told.{Tells}
 use Rattle.tables.specs.Answers.{DecidesTable, ExplainsTable, IsFilled, IsFormOf}
@@ -19,6 +19,7 @@ use Rattle.trial.specs.Setting.{Setting, bench, context_in}
 use Rattle.trial.specs.Told.{IsTried, Tells as TellsSetting}
 use Rattle.trial.specs.Trial.{Ending, trial}
 use Rattle.tracing.specs.Trace.{trace}
+use Rattle.lab.specs.Exploring.{Explores}
 use Rattle.lab.specs.Hints.{HasProgram, behind_lines}
 use Rattle.lab.specs.Campaigns.{Audits, Musters, Plays, TellsCampaign, is_plain}
 use Rattle.lab.specs.Lines.{checked_lines, hex_line}
@@ -96,6 +97,7 @@ Prints (Form n m c (Some filling)) first second text = IsFilled (string_bytes n)
 Prints (Play scenario schedule account explained) first second text = Plays account explained first second text
 Prints (Muster scenario explained) first second text = Musters explained first text
 Prints (Audit scenario chronicle explained) first second text = Audits explained first second text
+Prints (Explore scenario most) first second text = Explores most first text
 
 -- the task goes on with this behind its first file: a program to try, with its steps or without them, or a campaign
 abbrev pub GoesOn : Task → List ℕ → FirstAnswer → Type 0

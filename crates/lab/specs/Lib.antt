@@ -1,5 +1,6 @@
 pub mod Answers
 pub mod Campaigns
+pub mod Exploring
 pub mod Faults
 pub mod Whys
 pub mod Hints

@@ -37,7 +37,7 @@ use Rattle.command_line.specs.declared.tasks.Account.TheVariants as accounts
 use Rattle.command_line.specs.declared.tasks.Notation.{Notation}
 use Rattle.command_line.specs.declared.tasks.Notation.TheVariants as notation
 use Rattle.command_line.specs.declared.tasks.Task.{Task}
-use Rattle.command_line.specs.declared.tasks.Task.TheVariants.{Check, Assemble, Disassemble, Book, ExplainDecisions, Form, Play, Muster, Audit}
+use Rattle.command_line.specs.declared.tasks.Task.TheVariants.{Check, Assemble, Disassemble, Book, ExplainDecisions, Form, Play, Muster, Audit, Explore}
 use Rattle.tables.specs.Numbers.{numbers_in}
 use Rattle.lab.specs.Campaigns.{is_plain}
 use Rattle.lab.specs.declared.refusal.Refusal.{Refusal}
@@ -200,3 +200,4 @@ Refuses (Form n m c filling) bytes refusal = RefusesForm (string_bytes n) (strin
 Refuses (Play scenario schedule account explained) bytes refusal = RefusesText (RefusesAsked (is_plain account explained)) bytes refusal
 Refuses (Muster scenario explained) bytes refusal = RefusesText RefusesScenario bytes refusal
 Refuses (Audit scenario chronicle explained) bytes refusal = RefusesText (RefusesAsked (is_plain accounts.Chronicle explained)) bytes refusal
+Refuses (Explore scenario most) bytes refusal = RefusesText RefusesScenario bytes refusal

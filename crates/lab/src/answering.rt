@@ -6,6 +6,7 @@ use crate::assembling::{assembled, assembled_raw, disassembled};
 use crate::checking::{accepted_in, check, checked_text};
 use crate::deciding::{decided, explained};
 use crate::explaining::with_explanation;
+use crate::exploring::explored as orders_of;
 use crate::first_answer::FirstAnswer;
 use crate::forming::{filled, formed};
 use crate::playing::{asked_campaign, campaign};
@@ -77,6 +78,7 @@ pub fn answer(alloc: Global, task: &Task, bytes: &[u8]) -> Result<FirstAnswer, R
             commander.as_str(),
             *filling,
         )?,
+        Task::Explore { most, .. } => orders_of(alloc, &campaign(alloc, bytes)?, *most)?,
         Task::Play {
             account,
             explained,

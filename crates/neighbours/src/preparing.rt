@@ -16,7 +16,7 @@ pub fn reads_scenario(task: &Task) -> bool
     ensures { result ≡ reads_scenario task.now }
 {
     match task {
-        Task::Play { .. } | Task::Muster { .. } | Task::Audit { .. } => true,
+        Task::Play { .. } | Task::Muster { .. } | Task::Audit { .. } | Task::Explore { .. } => true,
         Task::Check { .. }
         | Task::Assemble { .. }
         | Task::Disassemble { .. }

@@ -1,0 +1,34 @@
+-- What is found agrees under the bound.
+use Rattle.std.proofs.Common.{◌≡◌, List, ℕ, Bool, true, false, All, refl, sym, subst, ◌∙◌}
+use Rattle.std.proofs.lemmas.List.Elements.{All-weaker}
+use Rattle.label.specs.Lieutenants.{AgreeInList}
+use Rattle.round.specs.Letters.{messages}
+use Rattle.round.specs.Scenario.{Scenario, IsScenario, is_traitor}
+use Rattle.world.specs.Chronicle.{decisions}
+use Rattle.world.specs.Kind.{World, opening, run}
+use Rattle.world.specs.KindLists.{replayed}
+use Rattle.world.specs.Promises.{AgreeUnderBound}
+use Rattle.world.specs.World.{oral_kind}
+use Rattle.world.proofs.Campaigns.{oral_campaigns}
+use Rattle.world.proofs.Listed.{replayed_finished}
+use Rattle.world.proofs.Punctual.{run_scenario}
+use Rattle.world.proofs.Verdicts.{proved_decisions_agree}
+use Rattle.explore.specs.Outcomes.{oral_outcome}
+use Rattle.explore.specs.Exploring.{Finding, Exploration, IsReal, IsFinding, IsLowerFinding, IsExploration}
+use Rattle.explore.specs.Agreeing.{FindingsAgree}
+
+real_agrees : (s : Scenario) → IsScenario s → (f : Finding) → IsReal oral_kind oral_outcome s f → AgreeUnderBound s f.decisions
+real_agrees s is f h bound =
+    let es = replayed oral_kind s f.example in
+    let w : World = run oral_kind (opening oral_kind s) es in
+    let done = replayed_finished oral_kind oral_campaigns s f.example w is refl in
+    let same : w.scenario ≡ s = run_scenario oral_kind es (opening oral_kind s) in
+    let A : List ℕ → Type 0 = λ ds. AgreeInList s.generals s.commander s.order (is_traitor s) ds in
+    subst A ((λ i. decisions (sym same i) (messages w.closed)) ∙ h.outcome) (proved_decisions_agree s es is done bound)
+
+pub proved_findings_agree : FindingsAgree
+proved_findings_agree s most e is h = by e.whole refl
+  where
+    by : (b : Bool) → e.whole ≡ b → All (λ (f : Finding). AgreeUnderBound s f.decisions) e.findings
+    by true t = All-weaker (IsFinding oral_kind oral_outcome s) (λ (f : Finding). AgreeUnderBound s f.decisions) (λ f k. real_agrees s is f k.real) e.findings (h.all t).each
+    by false t = All-weaker (IsLowerFinding oral_kind oral_outcome s) (λ (f : Finding). AgreeUnderBound s f.decisions) (λ f k. real_agrees s is f k.real) e.findings (h.part t).each
