@@ -1,7 +1,7 @@
 /* Each request for memory is refused in turn. Link with -Wl,--wrap=malloc,--wrap=realloc,--wrap=free.
  *
- * A refused request gives status 3, with nothing written, or is done without: then all is as if it had been granted. No
- * block stays behind. */
+ * A refused request gives status 3, with nothing written, or is done without: then all is as if it had been granted.
+ * Bytes that spell no program are told so, whichever is refused. No block stays behind. */
 #include <byzlab_sandbox.h>
 #include <stdio.h>
 #include <string.h>
@@ -36,6 +36,7 @@ static const uint8_t program[56] = {
     0x07, 2,    0, 0, 1, 0, 0, 0, 0x85, 0, 0, 0, 3, 0, 0, 0, 0x95,
 };
 static const uint8_t unset[16] = {0xbf, 0x20, 0, 0, 0, 0, 0, 0, 0x95};
+static const uint8_t misspelt[16] = {0xb7, 0, 0, 0, 0, 0, 0, 0, 0xff};
 static const uint8_t contexts[3 * 4096] = {[0] = 9, [4096] = 10};
 
 /* All that a call may write. */
@@ -56,7 +57,9 @@ static uint32_t call(int which, struct written *all) {
     case 3: return byzlab_explain(program, 56, all->text, sizeof all->text, &all->needed, fault);
     case 4: return byzlab_explain(unset, 16, all->text, sizeof all->text, &all->needed, fault);
     case 5: return byzlab_disassemble(program, 56, all->text, sizeof all->text, &all->needed, fault);
-    default: return byzlab_verify(unset, 16, fault);
+    case 6: return byzlab_verify(unset, 16, fault);
+    case 7: return byzlab_verify(misspelt, 16, fault);
+    default: return byzlab_disassemble(misspelt, 16, all->text, sizeof all->text, &all->needed, fault);
     }
 }
 
@@ -82,18 +85,20 @@ int main(void) {
     static const char *const names[] = {
         "byzlab_verify",           "byzlab_run",         "byzlab_run_many",        "byzlab_explain",
         "byzlab_explain, refused", "byzlab_disassemble", "byzlab_verify, refused",
+        "byzlab_verify, misspelt", "byzlab_disassemble, misspelt",
     };
-    static const uint32_t wanted[] = {0, 0, 0, 0, 2, 0, 2};
+    static const uint32_t wanted[] = {0, 0, 0, 0, 2, 0, 2, 1, 1};
     static struct written full, all;
     int wrong = 0;
-    for (int which = 0; which < 7; which++) {
+    for (int which = 0; which < 9; which++) {
         uint32_t last = asked(which, -1, &full);
         long count = requests, without = 0;
         wrong += last != wanted[which] || count == 0 || held != 0;
         for (long granted = 0; granted < count; granted++) {
             uint32_t status = asked(which, granted, &all);
             int is_done = status == last && !memcmp(&all, &full, sizeof all);
-            wrong += held != 0 || !(is_done || (status == BYZLAB_MEMORY && is_untouched(which, &all)));
+            int may_want = status == BYZLAB_MEMORY && last != BYZLAB_MISSPELT;
+            wrong += held != 0 || !(is_done || (may_want && is_untouched(which, &all)));
             without += is_done;
         }
         printf("%s: %ld requests, status 3 at %ld", names[which], count, count - without);

@@ -5,6 +5,7 @@ use Rattle.codec.specs.Program.{SpellsProgram, IsFirstFault}
 use Rattle.verify.specs.declared.reason.Reason.{Reason}
 use Rattle.verify.specs.declared.error.VerifyError.TheVariants.{At}
 use Rattle.verify.specs.Judgement.{judged}
+use Rattle.capi.specs.Bytes.{IsProgram}
 use Rattle.capi.specs.declared.refusal.Refusal.{Refusal}
 use Rattle.capi.specs.declared.refusal.Refusal.TheVariants as refusals
 
@@ -20,8 +21,8 @@ status_of (refusals.Misspelt fault unit) = 1
 status_of (refusals.Refused reason unit) = 2
 status_of refusals.Memory = 3
 
--- the refusal is that of these bytes; of want of memory nothing is said
+-- the refusal is that of these bytes; memory wants only where they spell a program
 abbrev pub Refuses : List ℕ → Refusal → Type 0
 Refuses bytes (refusals.Misspelt fault unit) = IsFirstFault bytes fault unit
 Refuses bytes (refusals.Refused reason unit) = IsJudged bytes reason unit
-Refuses bytes refusals.Memory = Unit {0}
+Refuses bytes refusals.Memory = IsProgram bytes

@@ -10,11 +10,24 @@ ghost use Rattle.capi.specs.Texts.{IsExplanation, IsAssembly};
 
 use crate::refusal::Refusal;
 use asm::disassemble;
-use codec::{CodecError, decode};
+use codec::{CodecError, decode, first_fault, no_fault_in_programs};
 use explain::explanation;
 use insn::Program;
 use std::alloc::Global;
 use verify::{Verified, VerifyError, verify};
+
+/// What is told of the bytes where memory was refused to their decoding: their first fault, which takes none to be found.
+fn undecoded(bytes: &[u8]) -> Refusal
+    ensures refused { Refuses bytes.now result }
+    ensures unjudged { status_of result ≢ 2 }
+    ensures only { IsProgram bytes.now → result ≡ Refusal.Memory }
+{
+    no_fault_in_programs();
+    match first_fault(bytes) {
+        Some((fault, unit)) => Refusal::Misspelt(fault, unit),
+        None => Refusal::Memory,
+    }
+}
 
 /// The program that the bytes spell.
 fn spelt(alloc: Global, bytes: &[u8]) -> Result<Program, Refusal>
@@ -27,7 +40,7 @@ fn spelt(alloc: Global, bytes: &[u8]) -> Result<Program, Refusal>
     match decode(alloc, bytes) {
         Ok(program) => Ok(program),
         Err(CodecError::At(fault, unit)) => Err(Refusal::Misspelt(fault, unit)),
-        Err(CodecError::Memory) => Err(Refusal::Memory),
+        Err(CodecError::Memory) => Err(undecoded(bytes)),
     }
 }
 

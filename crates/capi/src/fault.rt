@@ -1,7 +1,7 @@
 //! Faults as C sees them.
 ghost use Rattle.std.specs.Prelude.{◌≡◌, ◌≤◌, ℕ, List};
 ghost use Rattle.capi.specs.Numbers.{fault_number, reason_number};
-ghost use Rattle.capi.specs.Bytes.{IsMisspelt, IsRefused};
+ghost use Rattle.capi.specs.Bytes.{IsProgram, IsMisspelt, IsRefused};
 ghost use Rattle.capi.specs.Refusals.{Refuses, status_of};
 
 use crate::refusal::Refusal;
@@ -64,6 +64,7 @@ pub fn tell(refusal: Refusal, fault: &mut Fault) -> u32
     ensures refused { (bytes : List ℕ) → Refuses bytes refusal → result ≡ 2 →
         IsRefused bytes fault.new.number fault.new.unit }
     ensures memory { refusal ≡ Refusal.Memory → result ≡ 3 }
+    ensures spelt { (bytes : List ℕ) → Refuses bytes refusal → result ≡ 3 → IsProgram bytes }
     ensures untold { result ≡ 3 → fault.new ≡ fault.old }
 {
     match refusal {

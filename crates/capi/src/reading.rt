@@ -33,6 +33,9 @@ pub extern "C" fn byzlab_explain(
     ensures misspelt { result ≡ 1 → IsMisspelt program.now fault.new.number fault.new.unit }
     ensures refused { result ≡ 2 → IsRefused program.now fault.new.number fault.new.unit }
 
+    // 3 only where the bytes spell a program.
+    ensures spelt { result ≡ 3 → IsProgram program.now }
+
     // Nothing else is written.
     ensures untold { (result ≡ 0) ⊎ (result ≡ 3) → fault.new ≡ fault.old }
     ensures unwritten { (result ≡ 1) ⊎ (result ≡ 3) → (text.new ≡ text.old) × (needed.new ≡ needed.old) }
@@ -67,6 +70,9 @@ pub extern "C" fn byzlab_disassemble(
 
     // The fault, by its number and unit.
     ensures misspelt { result ≡ 1 → IsMisspelt program.now fault.new.number fault.new.unit }
+
+    // 3 only where the bytes spell a program.
+    ensures spelt { result ≡ 3 → IsProgram program.now }
 
     // Nothing else is written.
     ensures untold { (result ≡ 0) ⊎ (result ≡ 3) → fault.new ≡ fault.old }

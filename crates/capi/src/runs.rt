@@ -1,6 +1,6 @@
 //! The exports that run programs.
 ghost use Rattle.std.specs.Prelude.{◌≡◌, ◌≤◌, ◌≢◌, ◌*◌, ◌⊎◌, length};
-ghost use Rattle.capi.specs.Bytes.{IsAccepted, IsMisspelt, IsRefused};
+ghost use Rattle.capi.specs.Bytes.{IsProgram, IsAccepted, IsMisspelt, IsRefused};
 ghost use Rattle.capi.specs.Runs.{IsRun};
 ghost use Rattle.capi.specs.Many.{AreRuns, AreBegun};
 
@@ -37,6 +37,9 @@ pub extern "C" fn byzlab_run(
     // The fault, by its number and unit.
     ensures misspelt { result ≡ 1 → IsMisspelt program.now fault.new.number fault.new.unit }
     ensures refused { result ≡ 2 → IsRefused program.now fault.new.number fault.new.unit }
+
+    // 3 only where the bytes spell a program.
+    ensures spelt { result ≡ 3 → IsProgram program.now }
 
     // Nothing else is written.
     ensures untold { (result ≡ 1) ⊎ (result ≡ 2) ⊎ (fault.new ≡ fault.old) }
@@ -85,6 +88,9 @@ pub extern "C" fn byzlab_run_many(
     // The fault, by its number and unit.
     ensures misspelt { result ≡ 1 → IsMisspelt program.now fault.new.number fault.new.unit }
     ensures refused { result ≡ 2 → IsRefused program.now fault.new.number fault.new.unit }
+
+    // 3 only where the bytes spell a program.
+    ensures spelt { result ≡ 3 → IsProgram program.now }
 
     // Nothing else is written, but outcomes of runs before one to which memory was refused.
     ensures untold { (result ≡ 1) ⊎ (result ≡ 2) ⊎ (fault.new ≡ fault.old) }

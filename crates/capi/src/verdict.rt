@@ -1,6 +1,6 @@
 //! The export that verifies.
 ghost use Rattle.std.specs.Prelude.{◌≡◌, ◌≤◌, ◌⊎◌};
-ghost use Rattle.capi.specs.Bytes.{IsAccepted, IsSoundProgram, IsMisspelt, IsRefused};
+ghost use Rattle.capi.specs.Bytes.{IsProgram, IsAccepted, IsSoundProgram, IsMisspelt, IsRefused};
 
 use crate::decoding::accepted;
 use crate::fault::{Fault, tell};
@@ -20,6 +20,9 @@ pub extern "C" fn byzlab_verify(alloc: Global, program: &[u8], fault: &mut Fault
     // The fault, by its number and unit.
     ensures misspelt { result ≡ 1 → IsMisspelt program.now fault.new.number fault.new.unit }
     ensures refused { result ≡ 2 → IsRefused program.now fault.new.number fault.new.unit }
+
+    // 3 only where the bytes spell a program.
+    ensures spelt { result ≡ 3 → IsProgram program.now }
 
     // No fault is written where none is told.
     ensures untold { (result ≡ 0) ⊎ (result ≡ 3) → fault.new ≡ fault.old }
