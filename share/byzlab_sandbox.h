@@ -35,7 +35,7 @@ enum byzlab_status {
     BYZLAB_DONE = 0,     /* the program is accepted (byzlab_disassemble: is one), and what was asked is done */
     BYZLAB_MISSPELT = 1, /* the bytes spell no program; the fault has a number of 1 to 8 */
     BYZLAB_REFUSED = 2,  /* the program is not accepted; the fault has a number of 101 to 113 */
-    BYZLAB_MEMORY = 3,   /* malloc or realloc gave NULL; nothing is said of the program */
+    BYZLAB_MEMORY = 3,   /* malloc or realloc gave NULL; the bytes spell a program */
     BYZLAB_LENGTH = 4    /* the context has not 4,096 bytes, or the contexts not 4,096 for each outcome */
 };
 

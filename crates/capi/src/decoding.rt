@@ -16,7 +16,7 @@ use insn::Program;
 use std::alloc::Global;
 use verify::{Verified, VerifyError, verify};
 
-/// What is told of the bytes where memory was refused to their decoding: their first fault, which takes none to be found.
+/// What is told of the bytes where decoding was refused memory: their first fault, which takes none to be found.
 fn undecoded(bytes: &[u8]) -> Refusal
     ensures refused { Refuses bytes.now result }
     ensures unjudged { status_of result ≢ 2 }

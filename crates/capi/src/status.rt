@@ -9,7 +9,7 @@ pub const MISSPELT: u32 = 1;
 /// The bytes spell a program that is refused.
 pub const REFUSED: u32 = 2;
 
-/// Memory was refused; nothing is said of the bytes.
+/// Memory was refused; no more is said of the bytes than that they spell a program.
 pub const MEMORY: u32 = 3;
 
 /// The contexts have another length.
