@@ -1,3 +1,4 @@
+pub mod Drawn
 pub mod Facts
 pub mod Shown
 pub mod Words

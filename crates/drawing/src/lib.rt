@@ -2,7 +2,9 @@
 //! of text, as a graph for Graphviz, and as SVG.
 #![tactic(auto)]
 
+mod drawn;
 mod facts;
+mod form;
 mod graph;
 mod laws;
 mod lines;
@@ -13,6 +15,8 @@ mod shown;
 mod svg;
 mod words;
 
+pub use drawn::drawn;
+pub use form::Form;
 pub use graph::tree_graph;
 pub use laws::{outcomes_are_explained, pictures_are_elements};
 pub use lines::tree_text;

@@ -1,5 +1,6 @@
 pub mod WhyLemmas
 pub mod CampaignLemmas
+pub mod ExploringLemmas
 pub mod FaultLemmas
 pub mod FilesLemmas
 pub mod ReadLemmas

@@ -1,0 +1,55 @@
+//! A general's tree by the text of a message table.
+ghost use Rattle.std.specs.Prelude.{◌≡◌, ◌≢◌, IfErr, IfOk, Err, string_bytes};
+ghost use Rattle.book.specs.Grammar.{table_told};
+ghost use Rattle.book.specs.declared.fault.TableError.TheVariants.{Memory};
+ghost use Rattle.drawing.specs.Drawn.{DrawsTable, drawn};
+
+use crate::form::Form;
+use crate::graph::tree_graph;
+use crate::lines::tree_text;
+use crate::node::View;
+use crate::svg::tree_svg;
+use book::{Table, TableError, read_table};
+use std::alloc::{AllocError, Global};
+
+/// What this general was told by the message table, in this form, where these are named as traitors; nothing where he is
+/// no lieutenant of the table.
+///
+/// # Errors
+///
+/// What the table refuses, or want of memory.
+pub fn drawn(
+    alloc: Global,
+    text: &str,
+    traitors: &[u8],
+    view: View,
+    form: Form,
+    general: u8,
+) -> Result<String, TableError>
+    ensures drawn { IfOk result (λ picture. DrawsTable text.now traitors.now view form general (string_bytes picture)) }
+    ensures refused { IfErr result (λ e. e ≢ Memory → table_told text.now ≡ Err e) }
+{
+    let table = read_table(alloc, text)?;
+    Ok(tree_of(alloc, &table, traitors, view, form, general)?)
+}
+
+/// His tree of the table.
+fn tree_of(
+    alloc: Global,
+    table: &Table,
+    traitors: &[u8],
+    view: View,
+    form: Form,
+    general: u8,
+) -> Result<String, AllocError>
+    ensures { IfOk result (λ picture. string_bytes picture ≡ drawn table.now traitors.now view form general) }
+{
+    if general >= table.generals() || general == table.commander() {
+        return Ok(String::new(alloc));
+    }
+    match form {
+        Form::Lines(style) => tree_text(alloc, table, traitors, view, style, general),
+        Form::Graph => tree_graph(alloc, table, traitors, view, general),
+        Form::Svg => tree_svg(alloc, table, traitors, view, general),
+    }
+}
