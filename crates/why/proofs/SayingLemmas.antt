@@ -126,10 +126,12 @@ table-says table.Range number = λ e. cc
 table-says table.Place number = λ e. cc
 table-says table.Twice number = λ e. cc
 
-pub chronicle-says : (f : TraceFault) → chronicle_sentence f ≢ []
-chronicle-says trace.Line = λ e. cc
-chronicle-says trace.Scenario = λ e. cc
-chronicle-says trace.Differs = λ e. cc
+pub chronicle-says : (last : Bool) (f : TraceFault) → chronicle_sentence last f ≢ []
+chronicle-says true trace.Line = λ e. cc
+chronicle-says true f = λ e. cc
+chronicle-says false trace.Line = λ e. cc
+chronicle-says false trace.Scenario = λ e. cc
+chronicle-says false trace.Differs = λ e. cc
 
 -- ---- scenarios
 
