@@ -34,7 +34,7 @@ use Rattle.why.specs.Scenarios.{at_end_told, at_line_told, code_line_told, is_lo
 use Rattle.why.specs.Settings.{setting_place_told, setting_unknown_told, setting_word}
 use Rattle.why.specs.Toml.{TellsToml, span_marked}
 use Rattle.why.proofs.PlaceLemmas.{entry-at, found-at, found-in, marked-in, or-at}
-use Rattle.why.proofs.SayingLemmas.{assembly-says, chronicle-says, place-says, setting-says, table-says, unit-says}
+use Rattle.why.proofs.SayingLemmas.{assembly-says, chronicle-says, muster-says, object-says, place-says, setting-says, table-says, unit-says}
 
 -- a report by its parts
 report : (IsIn : Mark → Type 0) (name sentence : List ℕ) (place : Option Mark) (help : Option (List ℕ)) → sentence ≢ [] → IfSome place IsIn
@@ -200,6 +200,8 @@ told = record {
   table = table_report;
   schedule = schedule_report;
   chronicle = chronicle_report;
+  object = object-says;
+  muster = muster-says;
   scenario = scenario_report;
   setting = setting_report;
 }

@@ -6,7 +6,7 @@ use Rattle.trace.specs.declared.fault.Fault.{Fault}
 use Rattle.trace.specs.declared.fault.Fault.TheVariants as fault
 use Rattle.why.specs.Assembly.{begins_marked, has}
 use Rattle.why.specs.Lines.{all_marked, line_at, trimmed}
-use Rattle.why.specs.Report.{has_words, report_text}
+use Rattle.why.specs.Report.{has_words, report_text, shown_line}
 
 -- ---- of a schedule
 
@@ -55,6 +55,15 @@ chronicle_line_told name last f number wanted None = report_text name (chronicle
 chronicle_line_told name last f number wanted (Some line) =
     report_text name (chronicle_sentence last f) (Some (all_marked number (trimmed line))) (chronicle_advice number wanted line)
 
--- of a fault at a line of the chronicle of a file with this name, where the campaign has another line
+-- of a fault at a line of the chronicle of a file with this name, where the campaign has this line
 unfoldable pub chronicle_told : List ℕ → List ℕ → Fault → ℕ → Option (List ℕ) → List ℕ
 chronicle_told name text f number wanted = chronicle_line_told name (is_last text number) f number wanted (line_at text number)
+
+-- the line that the campaign has, as it is shown, where its text is this: of a line of no shape it is not said
+abbrev pub wanted_in : Fault → List ℕ → ℕ → Option (List ℕ)
+wanted_in fault.Line again number = None
+wanted_in f again number = option_map shown_line (line_at again number)
+
+-- the same, where the campaign has this text
+abbrev pub replayed_told : List ℕ → List ℕ → Fault → ℕ → List ℕ → List ℕ
+replayed_told name text f number again = chronicle_told name text f number (wanted_in f again number)
