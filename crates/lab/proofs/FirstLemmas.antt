@@ -14,7 +14,7 @@ use Rattle.lab.specs.Hints.{IsHint, IsHintBy, IsSaid, IsWhy, asked_of, bytecode_
 use Rattle.lab.specs.Refusals.{Refuses, RefusesAsked, RefusesCheck, RefusesCheckIn, RefusesDisassembly, RefusesNotation}
 use Rattle.lab.specs.Serving.{Files, IsRefused, first_name}
 use Rattle.lab.specs.Whys.{TellsWhyOf, is_explained}
-use Rattle.lab.specs.declared.whys.Traced.TheVariants.{Nothing}
+use Rattle.lab.specs.Whys.{Nothing}
 use Rattle.streams.specs.Names.{shown}
 use Rattle.streams.specs.Reading.{AreBytes}
 use Rattle.lab.specs.declared.failure.Failure.{Failure}

@@ -24,7 +24,7 @@ use Rattle.lab.specs.declared.hint.Hint.{Hint}
 use Rattle.lab.specs.declared.hint.Hint.TheVariants.{Seems}
 use Rattle.lab.specs.declared.refusal.Refusal.{Refusal}
 use Rattle.lab.specs.declared.refusal.Refusal.TheVariants.{Codec, Object, Verifier, Assembly, Table, Scenario, Setting, Trace, Threads, NotText, Memory as NoMemoryLeft}
-use Rattle.lab.specs.declared.whys.Traced.TheVariants.{Nothing}
+use Rattle.lab.specs.Whys.{Nothing}
 use Rattle.streams.specs.Names.{shown}
 use Rattle.streams.specs.Reading.{AreBytes}
 use Rattle.why.specs.Bytecode.{bytecode_told, unit_told}

@@ -1,6 +1,6 @@
 -- What the verifier's refusals say of the program.
 use Rattle.std.proofs.Common.{◌≡◌, ◌⊎◌, List, inl, inr, sym, subst}
-use Rattle.std.specs.Prelude.{Some, Result, Ok, Err, IfOk, IfErr, MatchResult}
+use Rattle.std.specs.Prelude.{Some, Result, Ok, Err, IfOk, IfErr, IsErrAnd, MatchResult}
 use Rattle.insn.specs.declared.insn.Insn.{Insn}
 use Rattle.verify.specs.declared.error.VerifyError.{VerifyError}
 use Rattle.verify.specs.declared.error.VerifyError.TheVariants.{At, Memory}
@@ -24,3 +24,15 @@ told_ok {T} {E} {F} f P (Err e) own is p = subst (λ (r : Result T F). IfOk r P)
 pub told_err : {T E F : Type 0} (f : E → F) (P : F → Type 0) (answer : Result T E) (own : Result T F) → MatchResult answer (λ t. own ≡ Ok t) (λ e. own ≡ Err (f e)) → IfErr answer (λ e. P (f e)) → IfErr own P
 told_err {T} {E} {F} f P (Ok t) own is p = subst (λ (r : Result T F). IfErr r P) (sym is) tt
 told_err {T} {E} {F} f P (Err e) own is p = subst (λ (r : Result T F). IfErr r P) (sym is) p
+
+-- or of which the error is told so
+pub either_ok : {T E F : Type 0} (Q : E → F → Type 0) (P : T → Type 0) (answer : Result T E) (own : Result T F) → MatchResult answer (λ t. own ≡ Ok t) (λ e. IsErrAnd own (Q e)) → IfOk answer P → IfOk own P
+either_ok {T} {E} {F} Q P (Ok t) own is p = subst (λ (r : Result T F). IfOk r P) (sym is) p
+either_ok {T} {E} {F} Q P (Err e) (Ok t) is p = absurd is
+either_ok {T} {E} {F} Q P (Err e) (Err f) is p = tt
+
+pub either_err : {T E F : Type 0} (Q : E → F → Type 0) (R : E → Type 0) (P : F → Type 0) (answer : Result T E) (own : Result T F) → MatchResult answer (λ t. own ≡ Ok t) (λ e. IsErrAnd own (Q e))
+    → ((e : E) (f : F) → R e → Q e f → P f) → IfErr answer R → IfErr own P
+either_err {T} {E} {F} Q R P (Ok t) own is weaker r = subst (λ (x : Result T F). IfErr x P) (sym is) tt
+either_err {T} {E} {F} Q R P (Err e) (Ok t) is weaker r = absurd is
+either_err {T} {E} {F} Q R P (Err e) (Err f) is weaker r = weaker e f r is

@@ -11,7 +11,7 @@ use Rattle.trace.specs.declared.fault.Fault.TheVariants.{Line}
 use Rattle.trace.specs.declared.fault.TraceError.TheVariants.{At, Write, Memory}
 use Rattle.lab.specs.Faults.{IsToldIf, Stops}
 use Rattle.lab.specs.Whys.{TellsWhy, TellsWhyOf}
-use Rattle.lab.specs.declared.whys.Traced.TheVariants.{Schedule}
+use Rattle.lab.specs.Whys.{Schedule}
 use Rattle.streams.specs.Names.{shown}
 use Rattle.why.specs.Chronicles.{schedule_line_told, schedule_told as schedule_why}
 use Rattle.why.specs.Lines.{line_at}

@@ -7,9 +7,8 @@ use Rattle.streams.specs.Names.{shown}
 use Rattle.lab.specs.Faults.{IsTold, IsToldIf, Stops, fault_of, text_fault}
 use Rattle.lab.specs.Hints.{hint_behind}
 use Rattle.lab.specs.Serving.{AreSecondBytes, IfKnown, IsHintLater, IsRefusedLater, IsToldLater}
-use Rattle.lab.specs.Whys.{TellsWhyOf}
-use Rattle.lab.specs.declared.whys.Traced.{Traced}
-use Rattle.lab.specs.declared.whys.Traced.TheVariants.{Nothing}
+use Rattle.lab.specs.Whys.{Nothing, Role, TellsWhyOf}
+use Rattle.threads.specs.declared.error.MusterError.{MusterError}
 use Rattle.lab.specs.declared.failure.Failure.{Failure}
 use Rattle.lab.specs.declared.failure.Failure.TheVariants.{Read, Text, Refused, Write, Memory}
 use Rattle.lab.specs.declared.first_answer.FirstAnswer.TheVariants.{Muster}
@@ -63,7 +62,7 @@ known_bytes None bytes P are p = subst P are p
 known_bytes (Some None) bytes P are p = tt
 known_bytes (Some (Some all)) bytes P are p = subst P are p
 
-plain : (unread : Type 0) (known : Option (Option (List ℕ))) (R : Refusal → Type 0) (of : Traced) (cause : Refusal) (file : Bor (List ℕ))
+plain : (unread : Type 0) (known : Option (Option (List ℕ))) (R : Refusal → Type 0) (of : Role) (cause : Refusal) (file : Bor (List ℕ))
     → (cause ≢ refusal.Memory → R cause) → Stops unread (λ r h. R r × IsHintLater false file.now known of r h) file.now (fault_of cause file)
 plain unread known R of (refusal.Codec error) file refused = ((λ e. cc), (refused (λ e. cc), refl))
 plain unread known R of (refusal.Object fault) file refused = ((λ e. cc), (refused (λ e. cc), refl))
@@ -77,7 +76,7 @@ plain unread known R of (refusal.Threads error) file refused = ((λ e. cc), (ref
 plain unread known R of refusal.NotText file refused = ((refused (λ e. cc), refl), refl)
 plain unread known R of refusal.Memory file refused = tt
 
-reported : (unread : Type 0) (known : Option (Option (List ℕ))) (R : Refusal → Type 0) (of : Traced) (bytes : List ℕ) (cause : Refusal) (file : Bor (List ℕ)) (fault : Failure)
+reported : (unread : Type 0) (known : Option (Option (List ℕ))) (R : Refusal → Type 0) (of : Role) (bytes : List ℕ) (cause : Refusal) (file : Bor (List ℕ)) (fault : Failure)
     → AreSecondBytes known bytes → (cause ≢ refusal.Memory → R cause) → IsTold cause file (TellsWhyOf cause of file.now bytes) fault
     → Stops unread (λ r h. R r × IsHintLater true file.now known of r h) file.now fault
 reported unread known R of bytes cause file (Read own) are refused told = absurd told
@@ -90,7 +89,7 @@ reported unread known R of bytes cause file (Refused own hint) are refused told 
 reported unread known R of bytes cause file Write are refused told = absurd told
 reported unread known R of bytes cause file Memory are refused told = tt
 
-pub stops_later : (unread : Type 0) (explained : Bool) (known : Option (Option (List ℕ))) (R : Refusal → Type 0) (of : Traced) (bytes : List ℕ) (cause : Refusal) (file : Bor (List ℕ)) (fault : Failure)
+pub stops_later : (unread : Type 0) (explained : Bool) (known : Option (Option (List ℕ))) (R : Refusal → Type 0) (of : Role) (bytes : List ℕ) (cause : Refusal) (file : Bor (List ℕ)) (fault : Failure)
     → AreSecondBytes known bytes → (cause ≢ refusal.Memory → R cause) → IsToldIf explained cause file (TellsWhyOf cause of file.now bytes) fault
     → Stops unread (λ r h. R r × IsHintLater explained file.now known of r h) file.now fault
 stops_later unread false known R of bytes cause file fault are refused told =
@@ -99,22 +98,42 @@ stops_later unread true known R of bytes cause file fault are refused told = rep
 
 -- ---- of threads
 
-nothing_known : (known : Option (Option (List ℕ))) (name : Option (List ℕ)) → IfKnown known (λ all. IfSome name (λ n. ◌≡◌ {A = List ℕ} [] []))
-nothing_known None name = nothing_said name
-nothing_known (Some None) name = tt
-nothing_known (Some (Some all)) name = nothing_said name
+any_bytes : (known : Option (Option (List ℕ))) (P : Type 0) → P → IfKnown known (λ all. P)
+any_bytes None P p = p
+any_bytes (Some None) P p = tt
+any_bytes (Some (Some all)) P p = p
 
-pub unmustered : (unread : Type 0) (explained : Bool) (known : Option (Option (List ℕ))) (s : Scenario) (who : Option Lieutenants) (cause : Refusal) (file : Bor (List ℕ))
-    → (cause ≢ refusal.Memory → IsRefusedLater (Muster s who) known cause) → Stops unread (IsToldLater explained file.now known (Muster s who)) file.now (fault_of cause file)
-unmustered unread false known s who cause file refused = plain unread known (IsRefusedLater (Muster s who) known) Nothing cause file refused
-unmustered unread true known s who (refusal.Threads error) file refused = ((λ e. cc), (refused (λ e. cc), nothing_known known (shown file.now)))
-unmustered unread true known s who refusal.Memory file refused = tt
-unmustered unread true known s who (refusal.Codec error) file refused = absurd (refused (λ e. cc)).1
-unmustered unread true known s who (refusal.Object fault) file refused = absurd (refused (λ e. cc)).1
-unmustered unread true known s who (refusal.Verifier fault) file refused = absurd (refused (λ e. cc)).1
-unmustered unread true known s who (refusal.Assembly error) file refused = absurd (refused (λ e. cc)).1
-unmustered unread true known s who (refusal.Table error) file refused = absurd (refused (λ e. cc)).1
-unmustered unread true known s who (refusal.Scenario error) file refused = absurd (refused (λ e. cc)).1
-unmustered unread true known s who (refusal.Setting error) file refused = absurd (refused (λ e. cc)).1
-unmustered unread true known s who (refusal.Trace error) file refused = absurd (refused (λ e. cc)).1
-unmustered unread true known s who refusal.NotText file refused = absurd (refused (λ e. cc)).1
+threads_told : (unread : Type 0) (known : Option (Option (List ℕ))) (s : Scenario) (who : Option Lieutenants) (error : MusterError) (file : Bor (List ℕ)) (fault : Failure)
+    → IsRefusedLater (Muster s who) known (refusal.Threads error) → IsTold (refusal.Threads error) file (TellsWhyOf (refusal.Threads error) Nothing file.now []) fault
+    → Stops unread (IsToldLater true file.now known (Muster s who)) file.now fault
+threads_told unread known s who error file (Read own) refused told = absurd told
+threads_told unread known s who error file (Text own) refused told = let f = told.0 in absurd cc
+threads_told unread known s who error file (Refused own hint) refused told =
+    let P : Refusal → Type 0 = λ r. (r ≢ refusal.NotText) × IsToldLater true file.now known (Muster s who) r hint in
+    subst P (sym told.0) (told.1, (refused, any_bytes known _ told.3))
+threads_told unread known s who error file Write refused told = absurd told
+threads_told unread known s who error file Memory refused told = tt
+
+memory_told : (unread : Type 0) (R : Refusal → Option Hint → Type 0) (tells : List ℕ → Type 0) (file : Bor (List ℕ)) (fault : Failure) → IsTold refusal.Memory file tells fault → Stops unread R file.now fault
+memory_told unread R tells file (Read own) told = absurd told
+memory_told unread R tells file (Text own) told = let f = told.0 in absurd cc
+memory_told unread R tells file (Refused own hint) told = absurd (told.2 refl)
+memory_told unread R tells file Write told = absurd told
+memory_told unread R tells file Memory told = tt
+
+pub unmustered : (unread : Type 0) (explained : Bool) (known : Option (Option (List ℕ))) (s : Scenario) (who : Option Lieutenants) (cause : Refusal) (file : Bor (List ℕ)) (fault : Failure)
+    → (cause ≢ refusal.Memory → IsRefusedLater (Muster s who) known cause) → IsToldIf explained cause file (TellsWhyOf cause Nothing file.now []) fault
+    → Stops unread (IsToldLater explained file.now known (Muster s who)) file.now fault
+unmustered unread false known s who cause file fault refused told =
+    subst (λ (f : Failure). Stops unread (IsToldLater false file.now known (Muster s who)) file.now f) (sym told) (plain unread known (IsRefusedLater (Muster s who) known) Nothing cause file refused)
+unmustered unread true known s who (refusal.Threads error) file fault refused told = threads_told unread known s who error file fault (refused (λ e. cc)) told
+unmustered unread true known s who refusal.Memory file fault refused told = memory_told unread _ _ file fault told
+unmustered unread true known s who (refusal.Codec error) file fault refused told = absurd (refused (λ e. cc)).1
+unmustered unread true known s who (refusal.Object fault) file fault refused told = absurd (refused (λ e. cc)).1
+unmustered unread true known s who (refusal.Verifier fault) file fault refused told = absurd (refused (λ e. cc)).1
+unmustered unread true known s who (refusal.Assembly error) file fault refused told = absurd (refused (λ e. cc)).1
+unmustered unread true known s who (refusal.Table error) file fault refused told = absurd (refused (λ e. cc)).1
+unmustered unread true known s who (refusal.Scenario error) file fault refused told = absurd (refused (λ e. cc)).1
+unmustered unread true known s who (refusal.Setting error) file fault refused told = absurd (refused (λ e. cc)).1
+unmustered unread true known s who (refusal.Trace error) file fault refused told = absurd (refused (λ e. cc)).1
+unmustered unread true known s who refusal.NotText file fault refused told = absurd (refused (λ e. cc)).1

@@ -17,7 +17,7 @@ use Rattle.streams.specs.Names.{shown}
 use Rattle.lab.specs.Hints.{hint_behind, seems_behind}
 use Rattle.lab.specs.Telling.{refusal_text}
 use Rattle.lab.specs.Whys.{TellsWhyOf, is_explained}
-use Rattle.lab.specs.declared.whys.Traced.TheVariants as traced
+use Rattle.lab.specs.Whys as role
 use Rattle.lab.specs.Serving.{Files, HasAnswer, IsRefused, IsTaken, IsToldLater, first_name, second_name}
 use Rattle.streams.specs.Reading.{AreBytes}
 
@@ -55,7 +55,7 @@ IsToldIf true cause file tells fault = IsTold cause file tells fault
 -- of these bytes, where there is to be one
 abbrev pub IsUnjudged : Bool → Refusal → Bor (List ℕ) → List ℕ → Failure → Type 0
 IsUnjudged false cause file own fault = fault ≡ fault_of_bytes cause file own
-IsUnjudged true cause file own fault = IsTold cause file (TellsWhyOf cause traced.Nothing file.now own) fault
+IsUnjudged true cause file own fault = IsTold cause file (TellsWhyOf cause role.Nothing file.now own) fault
 
 -- the fault of a file with this name whose reading failed with an error of this kind
 abbrev pub unread_by : ErrorKind → Bor (List ℕ) → Failure

@@ -14,11 +14,11 @@ use Rattle.command_line.specs.declared.tasks.Task.{Task}
 use Rattle.command_line.specs.declared.tasks.Task.TheVariants.{Check, Disassemble}
 use Rattle.lab.specs.Seeming.{likeness_of, seems_text}
 use Rattle.lab.specs.Whys.{TellsWhyOf, is_explained}
+use Rattle.lab.specs.Whys as role
 use Rattle.lab.specs.declared.hint.Hint.{Hint}
 use Rattle.lab.specs.declared.hint.Hint.TheVariants.{Seems, Fault, Explained}
 use Rattle.lab.specs.declared.refusal.Refusal.{Refusal}
 use Rattle.lab.specs.declared.refusal.Refusal.TheVariants.{Verifier, Object as NoEntry}
-use Rattle.lab.specs.declared.whys.Traced.TheVariants as traced
 
 -- the code of the object's entry, which has this name where it is named, spells the program
 abbrev pub HasEntry : Option (List ℕ) → List ℕ → List Insn → Type 0
@@ -86,7 +86,7 @@ is_reported task _ = is_explained task
 abbrev pub IsHintBy : Bool → Refusal → Task → List ℕ → List ℕ → Option Hint → Type 0
 IsHintBy false refusal task bytes own hint = hint ≡ seems_behind refusal own
 IsHintBy true (Verifier fault) task bytes own hint = IsSaid (explained_in task) bytes None hint
-IsHintBy true refusal task bytes own hint = TellsWhyOf refusal traced.Nothing (unwrap_or (file_of task) []) own (hint_behind hint)
+IsHintBy true refusal task bytes own hint = TellsWhyOf refusal role.Nothing (unwrap_or (file_of task) []) own (hint_behind hint)
 
 abbrev pub IsHintOf : Refusal → Task → List ℕ → List ℕ → Option Hint → Type 0
 IsHintOf refusal task bytes own hint = IsHintBy (is_reported task refusal) refusal task bytes own hint

@@ -19,9 +19,8 @@ use Rattle.streams.specs.Reading.{AreBytes}
 use Rattle.lab.specs.Hints.{behind_lines, hint_behind, IsHint}
 use Rattle.lab.specs.declared.hint.Hint.{Hint}
 use Rattle.lab.specs.Telling.{refusal_text}
-use Rattle.lab.specs.Whys.{TellsWhyOf, is_explained, traced_by}
-use Rattle.lab.specs.declared.whys.Traced.{Traced}
-use Rattle.lab.specs.declared.whys.Traced.TheVariants as traced
+use Rattle.lab.specs.Whys.{Role, TellsWhyOf, is_explained, role_behind}
+use Rattle.lab.specs.Whys as role
 use Rattle.lab.specs.Refusals.{Refuses, RefusesChronicle, RefusesMuster, RefusesSchedule, RefusesSetting, RefusesText}
 
 -- the only or first file's bytes, and the second's where there is one
@@ -125,17 +124,17 @@ IfKnown None P = P []
 IfKnown (Some known) P = IfSome known P
 
 -- what is said behind this refusal of a second file with this name: nothing or, where an explanation is asked for, the report
-abbrev pub IsHintLater : Bool → List ℕ → Option (Option (List ℕ)) → Traced → Refusal → Option Hint → Type 0
+abbrev pub IsHintLater : Bool → List ℕ → Option (Option (List ℕ)) → Role → Refusal → Option Hint → Type 0
 IsHintLater false name known of refusal hint = hint ≡ None
 IsHintLater true name known of refusal hint = IfKnown known (λ all. TellsWhyOf refusal of name all (hint_behind hint))
 
 -- behind such a first file it refuses so, and this is said behind it
 abbrev pub IsToldLater : Bool → List ℕ → Option (Option (List ℕ)) → FirstAnswer → Refusal → Option Hint → Type 0
-IsToldLater explained name known more refusal hint = IsRefusedLater more known refusal × IsHintLater explained name known (traced_by more) refusal hint
+IsToldLater explained name known more refusal hint = IsRefusedLater more known refusal × IsHintLater explained name known (role_behind more) refusal hint
 
 -- the second file is refused so as a schedule, and this is said behind it
 abbrev pub IsScheduleTold : Bool → List ℕ → Option (Option (List ℕ)) → Refusal → Option Hint → Type 0
-IsScheduleTold explained name known refusal hint = IsScheduleRefused known refusal × IsHintLater explained name known traced.Schedule refusal hint
+IsScheduleTold explained name known refusal hint = IsScheduleRefused known refusal × IsHintLater explained name known role.Schedule refusal hint
 
 -- the stream has grown by this line, or it failed
 abbrev pub Tells : Type 0 → Option (List ℕ) → Option (List ℕ) → List ℕ → Type 0

@@ -9,17 +9,21 @@ use Rattle.trace.specs.declared.fault.TraceError.TheVariants as trace
 use Rattle.streams.specs.Names.{shown}
 use Rattle.why.specs.Assembly.{assembly_told}
 use Rattle.why.specs.Bytecode.{bytecode_told}
-use Rattle.why.specs.Chronicles.{chronicle_told, schedule_told}
+use Rattle.why.specs.Chronicles.{replayed_told, schedule_told}
 use Rattle.why.specs.Errors.{TellsScenario, TellsSetting}
 use Rattle.why.specs.Messages.{table_told}
 use Rattle.lab.specs.Seeming.{seems_at_first, seems_text}
 use Rattle.lab.specs.declared.first_answer.FirstAnswer.{FirstAnswer}
 use Rattle.lab.specs.declared.first_answer.FirstAnswer.TheVariants as answer
 use Rattle.lab.specs.declared.refusal.Refusal.{Refusal}
-use Rattle.lab.specs.declared.refusal.Refusal.TheVariants.{Codec, Assembly, Table, Scenario, Setting, Trace}
+use Rattle.lab.specs.declared.refusal.Refusal.TheVariants.{Codec, Assembly, Table, Scenario, Setting, Trace, Threads}
 use Rattle.lab.specs.declared.seeming.Likeness.{Likeness}
 use Rattle.lab.specs.declared.whys.Traced.{Traced}
 use Rattle.lab.specs.declared.whys.Traced.TheVariants as traced
+use Rattle.scenario.specs.declared.messages.Campaign.{Campaign}
+use Rattle.scenario.specs.declared.messages.Campaign.TheVariants as campaigns
+use Rattle.trace.specs.Again.{signed_told_again, told_again}
+use Rattle.why.specs.Musters.{muster_told}
 
 -- the task is to explain what it refuses
 abbrev pub is_explained : Task → Bool
@@ -37,23 +41,41 @@ abbrev pub seems_line : Option Likeness → List ℕ
 seems_line None = []
 seems_line (Some likeness) = codes "\n" ++ seems_text likeness
 
+-- what a file is in which a line is at fault: a schedule, a chronicle of this campaign, or none of these
+pub data Role : Type 0 where
+  Schedule : Role
+  Chronicle : Campaign → Role
+  Nothing : Role
+
+-- the code's own role, seen so
+abbrev pub role_view : Traced → Role
+role_view traced.Schedule = Schedule
+role_view (traced.Chronicle campaign) = Chronicle campaign.now
+role_view traced.Nothing = Nothing
+
+-- the text that a campaign has in place of one that is not sound
+abbrev pub campaign_again : Campaign → List ℕ → List ℕ
+campaign_again (campaigns.Oral s) text = told_again s text
+campaign_again (campaigns.Signed s) text = signed_told_again s text
+
 -- this text stands behind the line of a refusal of a file with this name, which is to be shown so, and these bytes
-abbrev pub TellsWhy : Refusal → Traced → List ℕ → List ℕ → List ℕ → Type 0
-TellsWhy (Trace (trace.At fault line)) traced.Schedule name bytes told = told ≡ schedule_told name bytes line
-TellsWhy (Trace (trace.At fault line)) traced.Chronicle name bytes told = told ≡ chronicle_told name bytes fault line None
+abbrev pub TellsWhy : Refusal → Role → List ℕ → List ℕ → List ℕ → Type 0
+TellsWhy (Trace (trace.At fault line)) Schedule name bytes told = told ≡ schedule_told name bytes line
+TellsWhy (Trace (trace.At fault line)) (Chronicle c) name bytes told = told ≡ replayed_told name bytes fault line (campaign_again c bytes)
 TellsWhy (Codec (codec.At fault unit)) of name bytes told = told ≡ seems_line (seems_at_first bytes) ++ bytecode_told name bytes fault unit
 TellsWhy (Assembly (asm.At fault line)) of name bytes told = told ≡ assembly_told name bytes fault line
 TellsWhy (Table (book.At fault line)) of name bytes told = told ≡ table_told name bytes fault line
 TellsWhy (Scenario error) of name bytes told = TellsScenario name bytes error told
 TellsWhy (Setting error) of name bytes told = TellsSetting name bytes error told
+TellsWhy (Threads error) of name bytes told = told ≡ muster_told error
 TellsWhy _ of name bytes told = told ≡ []
 
 -- what a second file is, behind a first one with which the task goes on so
-abbrev pub traced_by : FirstAnswer → Traced
-traced_by (answer.Play c account explained) = traced.Schedule
-traced_by (answer.Audit c explained) = traced.Chronicle
-traced_by _ = traced.Nothing
+abbrev pub role_behind : FirstAnswer → Role
+role_behind (answer.Play c account explained) = Schedule
+role_behind (answer.Audit c explained) = Chronicle c
+role_behind _ = Nothing
 
 -- the same of the file's name as it is given; of one past ASCII with a control character nothing is said
-abbrev pub TellsWhyOf : Refusal → Traced → List ℕ → List ℕ → List ℕ → Type 0
+abbrev pub TellsWhyOf : Refusal → Role → List ℕ → List ℕ → List ℕ → Type 0
 TellsWhyOf refusal of file bytes told = IfSome (shown file) (λ name. TellsWhy refusal of name bytes told)

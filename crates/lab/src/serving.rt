@@ -1,5 +1,6 @@
-ghost use Rattle.std.specs.Prelude.{◌≡◌, ◌≢◌, ◌⊎◌, Ok, Err, IfOk, IfErr, IsSomeAnd, MatchResult, OnOk, codes, option_map};
-ghost use Rattle.lab.specs.Faults.{Undoes, Prevents, Stops, fault_of};
+ghost use Rattle.std.specs.Prelude.{◌≡◌, ◌≢◌, ◌⊎◌, [], Ok, IfOk, IfErr, IsErrAnd, IsSomeAnd, MatchResult, OnOk, codes, option_map};
+ghost use Rattle.lab.specs.Faults.{IsToldIf, Undoes, Prevents, Stops};
+ghost use Rattle.lab.specs.Whys.{Nothing, TellsWhyOf};
 ghost use Rattle.lab.specs.Serving.{IsAnswer, IsAuditOf, IsFault, IsPlayedBy, IsPrinted, IsScheduleOf, IsScheduleTold, IsToldLater, IsTrialOf, Tells, files, second_name};
 ghost use Rattle.lab.specs.declared.first_answer.FirstAnswer.TheVariants.{Trial, Play, Audit};
 ghost use Rattle.lab.specs.declared.failure.Failure.TheVariants.{Write as unwritten};
@@ -120,7 +121,8 @@ where
             play_by(alloc, campaign, account, explained, reported, file, second)
         }
         Ok(FirstAnswer::Muster(scenario, explained)) => {
-            mustered_text(mustered(rt, alloc, scenario, explained), file)
+            let text = mustered(rt, alloc, scenario, explained);
+            mustered_text(alloc, text, reported, file)
         }
         Ok(FirstAnswer::Audit(campaign, explained)) => {
             audit_of(alloc, &campaign, explained, reported, file, second)
@@ -130,12 +132,17 @@ where
 }
 
 /// The text of a muster, or the fault of a campaign that is not mustered, whose second file has this name.
-fn mustered_text<'a>(text: Result<Vec<u8>, Refusal>, file: &'a str) -> Result<Vec<u8>, Failure<'a>>
-    ensures { MatchResult text (λ own. result ≡ Ok own) (λ refusal. result ≡ Err (fault_of refusal file.entry)) }
+fn mustered_text<'a>(
+    alloc: Global,
+    text: Result<Vec<u8>, Refusal>,
+    explained: bool,
+    file: &'a str,
+) -> Result<Vec<u8>, Failure<'a>>
+    ensures { MatchResult text (λ own. result ≡ Ok own) (λ refusal. IsErrAnd result (IsToldIf explained refusal file.entry (TellsWhyOf refusal Nothing file.entry.now []))) }
 {
     match text {
         Ok(text) => Ok(text),
-        Err(unmustered) => Err(Failure::of(unmustered, file)),
+        Err(unmustered) => Err(later(alloc, explained, Traced::Nothing, unmustered, file, &[])),
     }
 }
 
@@ -242,7 +249,7 @@ fn audit_of<'a, R: Source>(
             Err(later(
                 alloc,
                 reported,
-                Traced::Chronicle,
+                Traced::Chronicle(campaign),
                 refusal,
                 file,
                 bytes.as_slice(),

@@ -6,7 +6,7 @@ ghost use Rattle.lab.specs.Faults.{IsTold, IsToldIf, IsUnjudged, text_fault};
 ghost use Rattle.lab.specs.Hints.{is_reported};
 ghost use Rattle.lab.specs.Seeming.{seems_at_first};
 ghost use Rattle.lab.specs.declared.refusal.Refusal.TheVariants.{Trace};
-ghost use Rattle.lab.specs.Whys.{TellsWhy, TellsWhyOf, is_explained, seems_line};
+ghost use Rattle.lab.specs.Whys.{TellsWhy, TellsWhyOf, campaign_again, is_explained, role_view, seems_line};
 
 use crate::failure::Failure;
 use crate::hint::Hint;
@@ -16,15 +16,16 @@ use asm::AsmError;
 use book::TableError;
 use codec::CodecError;
 use command_line::Task;
+use scenario::Campaign;
 use std::alloc::{AllocError, Global};
 use streams::FileName;
-use trace::TraceError;
+use trace::{TraceError, signed_told_again, told_again};
 
-/// What a file is in which a line is at fault: a schedule, a chronicle, or none of these.
-#[derive(Clone, Copy, Debug, PartialEq, Eq)]
-pub(crate) enum Traced {
+/// What a file is in which a line is at fault: a schedule, a chronicle of this campaign, or none of these.
+#[derive(Clone, Copy)]
+pub(crate) enum Traced<'a> {
     Schedule,
-    Chronicle,
+    Chronicle(&'a Campaign),
     Nothing,
 }
 
@@ -71,22 +72,33 @@ fn bytecode_told(
     }
 }
 
+/// The text that a campaign has in place of this one, which is not sound.
+fn campaign_again(alloc: Global, campaign: &Campaign, text: &[u8]) -> Result<Vec<u8>, AllocError>
+    ensures { IfOk result (λ again. again.items ≡ campaign_again campaign.now text.now) }
+{
+    match campaign {
+        Campaign::Oral(scenario) => told_again(alloc, scenario, text),
+        Campaign::Signed(scenario) => signed_told_again(alloc, scenario, text),
+    }
+}
+
 /// Of a schedule or a chronicle: why a line is refused.
 fn trace_told(
     alloc: Global,
-    of: Traced,
+    of: Traced<'_>,
     error: &TraceError,
     name: &str,
     bytes: &[u8],
 ) -> Result<String, AllocError>
-    ensures { IfOk result (λ told. TellsWhy (Trace error.now) of name.now bytes.now (string_bytes told)) }
+    ensures { IfOk result (λ told. TellsWhy (Trace error.now) (role_view of.entry) name.now bytes.now (string_bytes told)) }
 {
     match (error, of) {
         (TraceError::At(_, line), Traced::Schedule) => {
             why::of_schedule(alloc, name, bytes, *line)
         }
-        (TraceError::At(fault, line), Traced::Chronicle) => {
-            why::of_chronicle(alloc, name, bytes, *fault, *line, None)
+        (TraceError::At(fault, line), Traced::Chronicle(campaign)) => {
+            let again = campaign_again(alloc, campaign, bytes)?;
+            why::of_chronicle(alloc, name, bytes, *fault, *line, again.as_slice())
         }
         (TraceError::At(..), Traced::Nothing) => Ok(String::new(alloc)),
         (TraceError::Write, _) => Ok(String::new(alloc)),
@@ -97,12 +109,12 @@ fn trace_told(
 /// What stands behind the line of a refusal of a file with this name and these bytes.
 fn told_by(
     alloc: Global,
-    of: Traced,
+    of: Traced<'_>,
     refusal: &Refusal,
     name: &str,
     bytes: &[u8],
 ) -> Result<String, AllocError>
-    ensures { IfOk result (λ told. TellsWhy refusal.now of name.now bytes.now (string_bytes told)) }
+    ensures { IfOk result (λ told. TellsWhy refusal.now (role_view of.entry) name.now bytes.now (string_bytes told)) }
 {
     match refusal {
         Refusal::Codec(CodecError::At(fault, unit)) => {
@@ -122,7 +134,7 @@ fn told_by(
         Refusal::Table(TableError::Memory) => Ok(String::new(alloc)),
         Refusal::Object(_) => Ok(String::new(alloc)),
         Refusal::Verifier(_) => Ok(String::new(alloc)),
-        Refusal::Threads(_) => Ok(String::new(alloc)),
+        Refusal::Threads(error) => why::of_muster(alloc, *error),
         Refusal::NotText => Ok(String::new(alloc)),
         Refusal::Memory => Ok(String::new(alloc)),
     }
@@ -142,12 +154,12 @@ fn with_text<'a>(refusal: Refusal, file: &'a str, text: String) -> Failure<'a>
 /// The fault of a file with this name and these bytes, with what is said behind its line.
 pub(crate) fn told<'a>(
     alloc: Global,
-    of: Traced,
+    of: Traced<'_>,
     refusal: Refusal,
     file: &'a str,
     bytes: &[u8],
 ) -> Failure<'a>
-    ensures { IsTold refusal file.entry (TellsWhyOf refusal of file.entry.now bytes.now) result }
+    ensures { IsTold refusal file.entry (TellsWhyOf refusal (role_view of.entry) file.entry.now bytes.now) result }
 {
     let Ok(name) = shown_name(alloc, file) else {
         return Failure::Memory;
@@ -190,12 +202,12 @@ pub(crate) fn unjudged<'a>(
 pub(crate) fn later<'a>(
     alloc: Global,
     explained: bool,
-    of: Traced,
+    of: Traced<'_>,
     refusal: Refusal,
     file: &'a str,
     bytes: &[u8],
 ) -> Failure<'a>
-    ensures { IsToldIf explained refusal file.entry (TellsWhyOf refusal of file.entry.now bytes.now) result }
+    ensures { IsToldIf explained refusal file.entry (TellsWhyOf refusal (role_view of.entry) file.entry.now bytes.now) result }
 {
     if explained {
         told(alloc, of, refusal, file, bytes)

@@ -12,3 +12,4 @@ pub mod Telling
 pub mod SignedText
 pub mod SignedAudit
 pub mod SignedLaws
+pub mod Again

@@ -44,7 +44,7 @@ fn line_version(rule: Rule, line: &[u8]) -> Option<Version>
 
 /// The version that a text names, where a campaign by this rule may be told in it.
 #[tactic(auto, unfolding(crate::specs::Audit::version_named))]
-fn version_named(rule: Rule, text: &[u8]) -> Option<Version>
+pub(crate) fn version_named(rule: Rule, text: &[u8]) -> Option<Version>
     ensures { result ≡ version_named rule text.now }
 {
     let (line, _) = piece(FEED, text);
@@ -53,7 +53,11 @@ fn version_named(rule: Rule, text: &[u8]) -> Option<Version>
 
 /// The chronicle of the campaign in which the generals make their accesses in the order that the text tells.
 #[tactic(auto, unfolding(crate::specs::Names::chronicle_told, crate::specs::Names::names_of))]
-fn replayed(alloc: Global, scenario: &Scenario, text: &[u8]) -> Result<Chronicle, AllocError>
+pub(crate) fn replayed(
+    alloc: Global,
+    scenario: &Scenario,
+    text: &[u8],
+) -> Result<Chronicle, AllocError>
     ensures { IfOk result (λ chronicle. chronicle ≡ chronicle_told scenario.now text.now) }
 {
     // The names before the first round, and those of each of the campaign's rounds.

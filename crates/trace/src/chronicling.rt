@@ -67,6 +67,18 @@ fn put_whole<S: Sink>(sink: &mut S, chronicle: &Chronicle)
     put_chronicle(sink, version, chronicle);
 }
 
+/// Writes the text of a chronicle, in this version.
+pub(crate) fn write_in<S: Sink>(
+    version: Version,
+    chronicle: &Chronicle,
+    sink: &mut S,
+) -> Result<(), TraceError>
+    ensures { OnOk result (Appends (S.contents sink.old) (S.contents sink.new) (text_in version chronicle.now)) }
+{
+    put_chronicle(sink, version, chronicle);
+    written(sink)
+}
+
 /// Writes the text of a chronicle, in the version of its campaign. It takes no memory.
 ///
 /// # Errors

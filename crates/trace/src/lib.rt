@@ -1,6 +1,7 @@
 //! The texts of campaigns: chronicles and schedules.
 #![tactic(auto)]
 
+mod again;
 mod auditing;
 mod chains;
 mod chronicling;
@@ -25,6 +26,7 @@ mod stops;
 mod version;
 mod writing;
 
+pub use again::{signed_told_again, told_again};
 pub use auditing::{check, sound_chronicle};
 pub use chronicling::{write_chronicle, write_verdict};
 pub use fault::{Fault, TraceError};

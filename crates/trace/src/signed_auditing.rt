@@ -27,7 +27,7 @@ fn is_third_version(text: &[u8]) -> bool
 }
 
 /// The chronicle of the signed campaign in which the generals make their accesses in the order that the text tells.
-fn signed_replayed(
+pub(crate) fn signed_replayed(
     alloc: Global,
     scenario: &Scenario,
     text: &[u8],

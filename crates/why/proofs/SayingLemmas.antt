@@ -7,6 +7,12 @@ use Rattle.codec.specs.declared.fault.Fault.{Fault as CodecFault}
 use Rattle.codec.specs.declared.fault.Fault.TheVariants as codec
 use Rattle.book.specs.declared.fault.Fault.{Fault as TableFault}
 use Rattle.book.specs.declared.fault.Fault.TheVariants as table
+use Rattle.elf.specs.Sentences.{sentence_of}
+use Rattle.elf.specs.declared.fault.Damage.TheVariants as damages
+use Rattle.elf.specs.declared.fault.Fault.{Fault as ObjectFault}
+use Rattle.elf.specs.declared.fault.Fault.TheVariants as objects
+use Rattle.threads.specs.declared.error.MusterError.{MusterError}
+use Rattle.threads.specs.declared.error.MusterError.TheVariants as musters
 use Rattle.trace.specs.declared.fault.Fault.{Fault as TraceFault}
 use Rattle.trace.specs.declared.fault.Fault.TheVariants as trace
 use Rattle.scenario.specs.declared.fault.Fault.{Fault as ScenarioFault}
@@ -27,6 +33,7 @@ use Rattle.why.specs.Assembly.{assembly_sentence, call_sentence, mnemonic_in, op
 use Rattle.why.specs.Bytecode.{byte_of, choice_sentence, left_out_sentence, unit_sentence}
 use Rattle.why.specs.Chronicles.{chronicle_sentence}
 use Rattle.why.specs.Messages.{table_sentence}
+use Rattle.why.specs.Musters.{muster_sentence}
 use Rattle.why.specs.Mnemonics.{taken, takes_text}
 use Rattle.why.specs.Scenarios.{kind_sentence, missing_sentence, name_sentence, place_sentence, range_sentence as name_range_sentence, word_sentence}
 use Rattle.why.specs.Settings.{order_sentence, setting_kind_sentence, setting_name_sentence, setting_range_sentence, setting_sentence}
@@ -126,10 +133,29 @@ table-says table.Range number = λ e. cc
 table-says table.Place number = λ e. cc
 table-says table.Twice number = λ e. cc
 
-pub chronicle-says : (f : TraceFault) → chronicle_sentence f ≢ []
-chronicle-says trace.Line = λ e. cc
-chronicle-says trace.Scenario = λ e. cc
-chronicle-says trace.Differs = λ e. cc
+pub chronicle-says : (last : Bool) (f : TraceFault) → chronicle_sentence last f ≢ []
+chronicle-says true trace.Line = λ e. cc
+chronicle-says true f = λ e. cc
+chronicle-says false trace.Line = λ e. cc
+chronicle-says false trace.Scenario = λ e. cc
+chronicle-says false trace.Differs = λ e. cc
+
+pub muster-says : (e : MusterError) → muster_sentence e ≢ []
+muster-says musters.Unaccounted = λ e. cc
+muster-says musters.Spawn = λ e. cc
+muster-says musters.Post = λ e. cc
+muster-says musters.Memory = λ e. cc
+
+pub object-says : (f : ObjectFault) → sentence_of f ≢ []
+object-says objects.NoObject = λ e. cc
+object-says (objects.Damaged damages.Sections) = λ e. cc
+object-says (objects.Damaged (damages.Section place)) = λ e. cc
+object-says (objects.Damaged (damages.Symbol place)) = λ e. cc
+object-says (objects.Damaged (damages.Relocations place)) = λ e. cc
+object-says objects.NoFunction = λ e. cc
+object-says objects.Several = λ e. cc
+object-says (objects.Names place) = λ e. cc
+object-says (objects.Leaves place) = λ e. cc
 
 -- ---- scenarios
 

@@ -34,7 +34,7 @@ use Rattle.why.specs.Scenarios.{at_end_told, at_line_told, code_line_told, is_lo
 use Rattle.why.specs.Settings.{setting_place_told, setting_unknown_told, setting_word}
 use Rattle.why.specs.Toml.{TellsToml, span_marked}
 use Rattle.why.proofs.PlaceLemmas.{entry-at, found-at, found-in, marked-in, or-at}
-use Rattle.why.proofs.SayingLemmas.{assembly-says, chronicle-says, place-says, setting-says, table-says, unit-says}
+use Rattle.why.proofs.SayingLemmas.{assembly-says, chronicle-says, muster-says, object-says, place-says, setting-says, table-says, unit-says}
 
 -- a report by its parts
 report : (IsIn : Mark → Type 0) (name sentence : List ℕ) (place : Option Mark) (help : Option (List ℕ)) → sentence ≢ [] → IfSome place IsIn
@@ -72,14 +72,14 @@ schedule_report : (name text : List ℕ) (number : ℕ) → IsReport (IsInText (
 unfolding schedule_told
 schedule_report name text number = schedule_line name (take 1048576 text) number (line_at (take 1048576 text) number) refl
 
-chronicle_line : (name text : List ℕ) (f : TraceFault) (number : ℕ) (wanted line : Option (List ℕ)) → line_at text number ≡ line
-    → IsReport (IsInText text) name (chronicle_line_told name f number wanted line)
-chronicle_line name text f number wanted None is = report (IsInText text) name _ _ _ (chronicle-says f) tt
-chronicle_line name text f number wanted (Some line) is = report (IsInText text) name _ _ _ (chronicle-says f) (marked-in text line number _ _ is)
+chronicle_line : (name text : List ℕ) (last : Bool) (f : TraceFault) (number : ℕ) (wanted line : Option (List ℕ)) → line_at text number ≡ line
+    → IsReport (IsInText text) name (chronicle_line_told name last f number wanted line)
+chronicle_line name text last f number wanted None is = report (IsInText text) name _ _ _ (chronicle-says last f) tt
+chronicle_line name text last f number wanted (Some line) is = report (IsInText text) name _ _ _ (chronicle-says last f) (marked-in text line number _ _ is)
 
 chronicle_report : (name text : List ℕ) (f : TraceFault) (number : ℕ) (wanted : Option (List ℕ)) → IsReport (IsInText text) name (chronicle_told name text f number wanted)
 unfolding chronicle_told
-chronicle_report name text f number wanted = chronicle_line name text f number wanted (line_at text number) refl
+chronicle_report name text f number wanted = chronicle_line name text _ f number wanted (line_at text number) refl
 
 -- ---- bytecode
 
@@ -111,14 +111,14 @@ at-program general word text f is = at-table (table_of general text) word text f
   at-table None word text f is = absurd cc
   at-table (Some table) word text f is = found-at table word text f is
 
-at_line_report : (name text : List ℕ) (f : AsmFault) (first more : ℕ) → IsReport (IsInText text) name (at_line_told name f (line_behind text first more))
+at_line_report : (name text : List ℕ) (f : AsmFault) (quote : List ℕ) (first more : ℕ) → IsReport (IsInText text) name (at_line_told name f quote (line_behind text first more))
 unfolding line_behind
-at_line_report name text f first more = within (nat_lt (first + more) (2 ^ 64)) where
-  by-line : (line : Option (List ℕ)) → line_at text (first + more) ≡ line → IsReport (IsInText text) name (at_line_told name f (option_map (λ line. (first + more, line)) line))
+at_line_report name text f quote first more = within (nat_lt (first + more) (2 ^ 64)) where
+  by-line : (line : Option (List ℕ)) → line_at text (first + more) ≡ line → IsReport (IsInText text) name (at_line_told name f quote (option_map (λ line. (first + more, line)) line))
   by-line None is = report (IsInText text) name _ _ _ (assembly-says f _) tt
   by-line (Some line) is = report (IsInText text) name _ _ _ (assembly-says f _) (marked-in text line (first + more) _ _ is)
 
-  within : (b : Bool) → IsReport (IsInText text) name (at_line_told name f (cond b (option_map (λ line. (first + more, line)) (line_at text (first + more))) None))
+  within : (b : Bool) → IsReport (IsInText text) name (at_line_told name f quote (cond b (option_map (λ line. (first + more, line)) (line_at text (first + more))) None))
   within true = by-line (line_at text (first + more)) refl
   within false = report (IsInText text) name _ _ _ (assembly-says f _) tt
 
@@ -129,8 +129,8 @@ text_report name text f number (Some line) at =
     let here : (end code : List ℕ) → IsReport (IsInText text) name (at_end_told name f line end code) =
     λ end code. report (IsInText text) name _ _ _ (assembly-says f _) (marked-in text line.line line.number _ _ (at line refl)) in
     if-report (IsInText text) name (is_long (value_end line.line)) _ _
-    (if-report (IsInText text) name _ _ _ (at_line_report name text f line.number number)
-    (if-report (IsInText text) name _ _ _ (here _ _) (at_line_report name text f line.number (number - 1))))
+    (if-report (IsInText text) name _ _ _ (at_line_report name text f _ line.number number)
+    (if-report (IsInText text) name _ _ _ (here _ _) (at_line_report name text f _ line.number (number - 1))))
     (here _ _)
 
 code_report : (name text : List ℕ) (f : CodecFault) (unit : ℕ) (line : Option Found) → ((g : Found) → line ≡ Some g → line_at text g.number ≡ Some g.line)
@@ -200,6 +200,8 @@ told = record {
   table = table_report;
   schedule = schedule_report;
   chronicle = chronicle_report;
+  object = object-says;
+  muster = muster-says;
   scenario = scenario_report;
   setting = setting_report;
 }

@@ -1,10 +1,12 @@
 -- What is said of a fault of a schedule or a chronicle.
-use Rattle.std.specs.Prelude.{ℕ, List, if◌then◌else◌, Option, None, Some, codes, option_map, take}
+use Rattle.std.specs.Prelude.{ℕ, List, Bool, true, false, ◌==◌, if◌then◌else◌, Option, None, Some, codes, length, option_map, take}
+use Rattle.text.specs.Stop.{feed}
+use Rattle.text.specs.Parts.{pieces}
 use Rattle.trace.specs.declared.fault.Fault.{Fault}
 use Rattle.trace.specs.declared.fault.Fault.TheVariants as fault
 use Rattle.why.specs.Assembly.{begins_marked, has}
 use Rattle.why.specs.Lines.{all_marked, line_at, trimmed}
-use Rattle.why.specs.Report.{has_words, report_text}
+use Rattle.why.specs.Report.{has_words, report_text, shown_line}
 
 -- ---- of a schedule
 
@@ -28,10 +30,17 @@ schedule_told name text number = schedule_line_told name number (line_at (take 1
 
 -- ---- of a chronicle
 
-abbrev pub chronicle_sentence : Fault → List ℕ
-chronicle_sentence fault.Line = codes "no line of a chronicle has this shape"
-chronicle_sentence fault.Scenario = codes "the first two lines are not those of this scenario's campaign"
-chronicle_sentence fault.Differs = codes "this line is not the campaign's"
+-- behind the last line feed of the text stands this line
+abbrev pub is_last : List ℕ → ℕ → Bool
+is_last text number = number == length (pieces feed text)
+
+-- by whether the line is the last one: a shape that it lacks is then its line feed, and any other fault is that no line stands there
+abbrev pub chronicle_sentence : Bool → Fault → List ℕ
+chronicle_sentence true fault.Line = codes "the file is cut off: this line has no line feed at its end"
+chronicle_sentence true f = codes "the file ends here, and the campaign has more lines"
+chronicle_sentence false fault.Line = codes "no line of a chronicle has this shape"
+chronicle_sentence false fault.Scenario = codes "the first two lines are not those of this scenario's campaign"
+chronicle_sentence false fault.Differs = codes "this line is not the campaign's"
 
 -- the line that is to stand there, where it is known; else by the first of these that stands in the line
 abbrev pub chronicle_advice : ℕ → Option (List ℕ) → List ℕ → Option (List ℕ)
@@ -41,11 +50,20 @@ chronicle_advice number None line =
     else if has 13 line then Some (codes "the file has Windows line ends: a line ends with a line feed alone")
     else None
 
-abbrev pub chronicle_line_told : List ℕ → Fault → ℕ → Option (List ℕ) → Option (List ℕ) → List ℕ
-chronicle_line_told name f number wanted None = report_text name (chronicle_sentence f) None (option_map has_words wanted)
-chronicle_line_told name f number wanted (Some line) =
-    report_text name (chronicle_sentence f) (Some (all_marked number (trimmed line))) (chronicle_advice number wanted line)
+abbrev pub chronicle_line_told : List ℕ → Bool → Fault → ℕ → Option (List ℕ) → Option (List ℕ) → List ℕ
+chronicle_line_told name last f number wanted None = report_text name (chronicle_sentence last f) None (option_map has_words wanted)
+chronicle_line_told name last f number wanted (Some line) =
+    report_text name (chronicle_sentence last f) (Some (all_marked number (trimmed line))) (chronicle_advice number wanted line)
 
--- of a fault at a line of the chronicle of a file with this name, where the campaign has another line
+-- of a fault at a line of the chronicle of a file with this name, where the campaign has this line
 unfoldable pub chronicle_told : List ℕ → List ℕ → Fault → ℕ → Option (List ℕ) → List ℕ
-chronicle_told name text f number wanted = chronicle_line_told name f number wanted (line_at text number)
+chronicle_told name text f number wanted = chronicle_line_told name (is_last text number) f number wanted (line_at text number)
+
+-- the line that the campaign has, as it is shown, where its text is this: of a line of no shape it is not said
+abbrev pub wanted_in : Fault → List ℕ → ℕ → Option (List ℕ)
+wanted_in fault.Line again number = None
+wanted_in f again number = option_map shown_line (line_at again number)
+
+-- the same, where the campaign has this text
+abbrev pub replayed_told : List ℕ → List ℕ → Fault → ℕ → List ℕ → List ℕ
+replayed_told name text f number again = chronicle_told name text f number (wanted_in f again number)

@@ -17,6 +17,10 @@ use Rattle.why.specs.Chronicles.{chronicle_told, schedule_told}
 use Rattle.why.specs.Errors.{TellsScenario, TellsSetting}
 use Rattle.why.specs.Lines.{line_at, trimmed}
 use Rattle.why.specs.Messages.{table_told}
+use Rattle.why.specs.Musters.{muster_sentence}
+use Rattle.elf.specs.Sentences.{sentence_of}
+use Rattle.elf.specs.declared.fault.Fault.{Fault as ObjectFault}
+use Rattle.threads.specs.declared.error.MusterError.{MusterError}
 use Rattle.why.specs.Report.{Mark, report_text}
 
 -- the mark is a part of a line of the text, or stands behind its last line
@@ -39,13 +43,16 @@ pub record IsReport (IsIn : Mark → Type 0) (name told : List ℕ) : Type 0 whe
   pub says : sentence ≢ []
   pub within : IfSome place IsIn
 
--- each refusal of each kind of file is told by a report; of a text that is no TOML where it is one in UTF-8
+-- each refusal of each kind of file is told by a report, of a text that is no TOML where it is one in UTF-8; an object's fault and a
+-- muster's, which are none of a line, by a sentence
 pub record RefusalsAreTold : Type 0 where
   pub assembly : (name text : List ℕ) (fault : AsmFault) (line : ℕ) → IsReport (IsInText text) name (assembly_told name text fault line)
   pub bytecode : (name bytes : List ℕ) (fault : CodecFault) (unit : ℕ) → IsReport (IsInUnit bytes) name (bytecode_told name bytes fault unit)
   pub table : (name text : List ℕ) (fault : TableFault) (line : ℕ) → IsReport (IsInText text) name (table_told name text fault line)
   pub schedule : (name text : List ℕ) (line : ℕ) → IsReport (IsInText (take 1048576 text)) name (schedule_told name text line)
   pub chronicle : (name text : List ℕ) (fault : TraceFault) (line : ℕ) (wanted : Option (List ℕ)) → IsReport (IsInText text) name (chronicle_told name text fault line wanted)
+  pub object : (fault : ObjectFault) → sentence_of fault ≢ []
+  pub muster : (error : MusterError) → muster_sentence error ≢ []
   pub scenario : (name text told : List ℕ) (error : ScenarioError) → (error ≡ scenario.Toml → IsUtf8 text × (parse_document text ≡ None))
       → TellsScenario name text error told → IsReport (IsInText text) name told
   pub setting : (name text told : List ℕ) (error : SettingError) → (error ≡ setting.Toml → IsUtf8 text × (parse_document text ≡ None))

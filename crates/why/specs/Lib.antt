@@ -6,6 +6,7 @@ pub mod Assembly
 pub mod Messages
 pub mod Bytecode
 pub mod Chronicles
+pub mod Musters
 pub mod Keys
 pub mod Toml
 pub mod Scenarios

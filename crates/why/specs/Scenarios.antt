@@ -26,7 +26,7 @@ use Rattle.why.specs.Report.{Mark, near_words, report_text}
 
 abbrev pub missing_sentence : Name → List ℕ
 missing_sentence names.Rule = codes "a signed campaign combines nothing, and has no rule"
-missing_sentence names.Asm = codes "a traitor's table has one of `asm` and `code`, and not both"
+missing_sentence names.Asm = codes "a traitor's table has one of `asm`, `code`, `asm_file` and `code_file`, and no second"
 missing_sentence name = codes "the key `" ++ text_of name ++ codes "` is missing"
 
 abbrev pub kind_sentence : Name → List ℕ
@@ -87,7 +87,7 @@ top_keys =
     codes "generals" ∷ codes "bound" ∷ codes "commander" ∷ codes "order" ∷ codes "board" ∷ codes "patience" ∷ codes "rule" ∷ codes "messages" ∷ codes "traitor" ∷ []
 
 abbrev pub entry_keys : List (List ℕ)
-entry_keys = codes "general" ∷ codes "asm" ∷ codes "code" ∷ []
+entry_keys = codes "general" ∷ codes "generals" ∷ codes "asm" ∷ codes "asm_file" ∷ codes "code" ∷ codes "code_file" ∷ []
 
 -- the sentence, the key in its line, and a key that is near
 abbrev pub key_told : List ℕ → List ℕ → List ℕ → Option Found → Option (List ℕ) → List ℕ
@@ -118,11 +118,6 @@ abbrev pub is_feed : List ℕ → Bool
 is_feed (c ∷ d ∷ cs) = c == 92 && d == 110
 is_feed _ = false
 
--- the quotation mark that ends such a text
-abbrev pub is_quote : List ℕ → Bool
-is_quote [] = false
-is_quote (c ∷ cs) = c == 34
-
 -- behind the first line feed
 abbrev pub behind_feed : List ℕ → List ℕ
 behind_feed [] = []
@@ -133,10 +128,15 @@ abbrev pub behind_feeds : ℕ → List ℕ → List ℕ
 behind_feeds zero text = text
 behind_feeds (suc n) text = behind_feeds n (behind_feed text)
 
--- before the next one, and before the end of the text
-abbrev pub before_feed : List ℕ → List ℕ
-before_feed [] = []
-before_feed (c ∷ cs) = if is_feed (c ∷ cs) || is_quote (c ∷ cs) then [] else c ∷ before_feed cs
+-- before the next one, and before the quotation mark that ends the text
+abbrev pub before_feed : List ℕ → List ℕ → List ℕ
+before_feed quote [] = []
+before_feed quote (c ∷ cs) = if is_feed (c ∷ cs) || starts_with nat_eq (c ∷ cs) quote then [] else c ∷ before_feed quote cs
+
+-- before the quotation mark that ends a text that goes on over lines
+abbrev pub before_quote : List ℕ → List ℕ → List ℕ
+before_quote quote [] = []
+before_quote quote (c ∷ cs) = if starts_with nat_eq (c ∷ cs) quote then [] else c ∷ before_quote quote cs
 
 -- of a fault in a line of the program whose text begins here, in the line of the file that has it
 abbrev pub at_end_told : List ℕ → AsmFault → Found → List ℕ → List ℕ → List ℕ
@@ -146,25 +146,26 @@ at_end_told name f line end code = code_told name f line.number line.line (lengt
 unfoldable pub line_behind : List ℕ → ℕ → ℕ → Option (ℕ × List ℕ)
 line_behind text first more = if nat_lt (first + more) (2 ^ 64) then option_map (λ line. (first + more, line)) (line_at text (first + more)) else None
 
-abbrev pub at_line_told : List ℕ → AsmFault → Option (ℕ × List ℕ) → List ℕ
-at_line_told name f None = report_text name (assembly_sentence f []) None None
-at_line_told name f (Some line) = code_told name f line.0 line.1 0 line.1
+-- of a fault in a line of the file that is one of the program, which this quotation mark ends
+abbrev pub at_line_told : List ℕ → AsmFault → List ℕ → Option (ℕ × List ℕ) → List ℕ
+at_line_told name f quote None = report_text name (assembly_sentence f []) None None
+at_line_told name f quote (Some line) = code_told name f line.0 line.1 0 (before_quote quote line.1)
 
 -- a long text begins on its key's line or, where nothing stands behind its quotation marks there, on the next
-abbrev pub long_told : List ℕ → List ℕ → AsmFault → ℕ → Found → List ℕ → List ℕ
-long_told name text f number line rest =
-    if length (trimmed rest) == 0 then at_line_told name f (line_behind text line.number number)
-    else if nat_le number 1 then at_end_told name f line rest rest
-    else at_line_told name f (line_behind text line.number (number - 1))
+abbrev pub long_told : List ℕ → List ℕ → AsmFault → ℕ → Found → List ℕ → List ℕ → List ℕ
+long_told name text f number line quote rest =
+    if length (trimmed rest) == 0 then at_line_told name f quote (line_behind text line.number number)
+    else if nat_le number 1 then at_end_told name f line rest (before_quote quote rest)
+    else at_line_told name f quote (line_behind text line.number (number - 1))
 
-abbrev pub short_told : List ℕ → AsmFault → Found → List ℕ → List ℕ
-short_told name f line end = at_end_told name f line end (before_feed end)
+abbrev pub short_told : List ℕ → AsmFault → Found → List ℕ → List ℕ → List ℕ
+short_told name f line quote end = at_end_told name f line end (before_feed quote end)
 
 abbrev pub text_told : List ℕ → List ℕ → AsmFault → ℕ → Option Found → List ℕ
 text_told name text f number None = report_text name (assembly_sentence f []) None None
 text_told name text f number (Some line) =
-    if is_long (value_end line.line) then long_told name text f number line (drop 3 (value_end line.line))
-    else short_told name f line (behind_feeds (number - 1) (drop 1 (value_end line.line)))
+    if is_long (value_end line.line) then long_told name text f number line (take 3 (value_end line.line)) (drop 3 (value_end line.line))
+    else short_told name f line (take 1 (value_end line.line)) (behind_feeds (number - 1) (drop 1 (value_end line.line)))
 
 -- the digits of a unit that a program may have, from them on
 abbrev pub unit_end : List ℕ → ℕ → List ℕ

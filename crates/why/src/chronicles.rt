@@ -1,11 +1,12 @@
 //! What is said of a fault of a schedule or a chronicle.
 ghost use Rattle.std.specs.Prelude.{◌≡◌, IfOk, option_map, string_bytes};
-ghost use Rattle.why.specs.Chronicles.{chronicle_advice, chronicle_line_told, chronicle_sentence, chronicle_told, schedule_advice, schedule_line_told, schedule_sentence, schedule_told};
+ghost use Rattle.why.specs.Chronicles.{chronicle_advice, chronicle_line_told, chronicle_sentence, chronicle_told, is_last, replayed_told, schedule_advice, schedule_line_told, schedule_sentence, schedule_told, wanted_in};
 ghost use Rattle.why.specs.Report.{help_words};
 
 use crate::assembly::{begins_marked, has};
 use crate::lines::{all_marked, line_at, trimmed};
-use crate::report::{Help, front, report};
+use crate::report::{Help, front, report, shown_line};
+use crate::unread::last_line;
 use std::alloc::{AllocError, Global};
 use trace::{Fault, MOST_SCHEDULE_BYTES};
 
@@ -71,11 +72,20 @@ pub fn of_schedule(
     schedule_line_told(alloc, name, number, line)
 }
 
-/// What is wrong with a line of a chronicle.
-fn chronicle_sentence(fault: Fault) -> &'static str
-    ensures { result.now ≡ chronicle_sentence fault }
+/// Whether the line stands behind the last line feed of the text.
+fn is_last(text: &[u8], number: u64) -> bool
+    ensures { result ≡ is_last text.now number }
+{
+    number == last_line(text).0
+}
+
+/// What is wrong with a line of a chronicle, by whether it is the last one.
+fn chronicle_sentence(last: bool, fault: Fault) -> &'static str
+    ensures { result.now ≡ chronicle_sentence last fault }
 {
     match fault {
+        Fault::Line if last => "the file is cut off: this line has no line feed at its end",
+        _ if last => "the file ends here, and the campaign has more lines",
         Fault::Line => "no line of a chronicle has this shape",
         Fault::Scenario => "the first two lines are not those of this scenario's campaign",
         Fault::Differs => "this line is not the campaign's",
@@ -96,14 +106,15 @@ fn chronicle_help<'a>(number: u64, wanted: Option<&'a str>, line: &[u8]) -> Opti
 fn chronicle_line_told(
     alloc: Global,
     name: &str,
+    last: bool,
     fault: Fault,
     number: u64,
     wanted: Option<&str>,
     line: Option<&[u8]>,
 ) -> Result<String, AllocError>
-    ensures { IfOk result (λ told. string_bytes told ≡ chronicle_line_told name.now fault number (option_map (λ w. w.now) wanted.entry) (option_map (λ l. l.now) line.entry)) }
+    ensures { IfOk result (λ told. string_bytes told ≡ chronicle_line_told name.now last fault number (option_map (λ w. w.now) wanted.entry) (option_map (λ l. l.now) line.entry)) }
 {
-    let sentence = chronicle_sentence(fault);
+    let sentence = chronicle_sentence(last, fault);
     match line {
         Some(line) => {
             let mark = all_marked(number, trimmed(line));
@@ -122,9 +133,27 @@ fn chronicle_line_told(
     }
 }
 
-/// What is said of a fault at a line of the chronicle of the file with this name, where the campaign has this line, if it is known.
+/// The line that the campaign has, as it is shown, where its text is this.
+fn wanted_in(
+    alloc: Global,
+    fault: Fault,
+    again: &[u8],
+    number: u64,
+) -> Result<Option<String>, AllocError>
+    ensures { IfOk result (λ wanted. option_map string_bytes wanted ≡ wanted_in fault again.now number) }
+{
+    if fault == Fault::Line {
+        return Ok(None);
+    }
+    match line_at(again, number) {
+        Some(line) => Ok(Some(shown_line(alloc, line)?)),
+        None => Ok(None),
+    }
+}
+
+/// What is said of a fault at a line of a chronicle, where the campaign has this line, if it is known.
 #[tactic(auto, unfolding(crate::specs::Chronicles::chronicle_told))]
-pub fn of_chronicle(
+fn chronicle_told(
     alloc: Global,
     name: &str,
     text: &[u8],
@@ -134,5 +163,24 @@ pub fn of_chronicle(
 ) -> Result<String, AllocError>
     ensures { IfOk result (λ told. string_bytes told ≡ chronicle_told name.now text.now fault number (option_map (λ w. w.now) wanted.entry)) }
 {
-    chronicle_line_told(alloc, name, fault, number, wanted, line_at(text, number))
+    let last = is_last(text, number);
+    let line = line_at(text, number);
+    chronicle_line_told(alloc, name, last, fault, number, wanted, line)
+}
+
+/// What is said of a fault at a line of the chronicle of the file with this name, in place of which the campaign has this text.
+pub fn of_chronicle(
+    alloc: Global,
+    name: &str,
+    text: &[u8],
+    fault: Fault,
+    number: u64,
+    again: &[u8],
+) -> Result<String, AllocError>
+    ensures { IfOk result (λ told. string_bytes told ≡ replayed_told name.now text.now fault number again.now) }
+{
+    match wanted_in(alloc, fault, again, number)? {
+        Some(wanted) => chronicle_told(alloc, name, text, fault, number, Some(wanted.as_str())),
+        None => chronicle_told(alloc, name, text, fault, number, None),
+    }
 }

@@ -58,7 +58,7 @@ fn shown_byte(byte: u8) -> u8
 }
 
 /// A line as it is shown.
-fn shown_line(alloc: Global, line: &[u8]) -> Result<String, AllocError>
+pub(crate) fn shown_line(alloc: Global, line: &[u8]) -> Result<String, AllocError>
     ensures { IfOk result (λ text. string_bytes text ≡ shown_line line.now) }
 {
     let mut shown = Vec::with_capacity(alloc, line.len())?;

@@ -25,7 +25,14 @@ static TOP_KEYS: [&'static str; 9] = [
 ];
 
 /// Those of a traitor's table.
-static ENTRY_KEYS: [&'static str; 3] = ["general", "asm", "code"];
+static ENTRY_KEYS: [&'static str; 6] = [
+    "general",
+    "generals",
+    "asm",
+    "asm_file",
+    "code",
+    "code_file",
+];
 
 /// What is missing.
 fn missing_sentence(alloc: Global, name: Name) -> Result<String, AllocError>
@@ -38,7 +45,7 @@ fn missing_sentence(alloc: Global, name: Name) -> Result<String, AllocError>
         ),
         Name::Asm => String::from_str(
             alloc,
-            "a traitor's table has one of `asm` and `code`, and not both",
+            "a traitor's table has one of `asm`, `code`, `asm_file` and `code_file`, and no second",
         ),
         name => format!(in alloc; "the key `{}` is missing", name.text()),
     }

@@ -1,7 +1,8 @@
 //! What is said of a traitor's program that is none.
-ghost use Rattle.std.specs.Prelude.{◌≡◌, IfOk, option_map, string_bytes};
+ghost use Rattle.std.specs.Prelude.{◌≡◌, IfOk, nat_eq, option_map, string_bytes};
+ghost use Rattle.std.specs.List.{starts_with};
 ghost use Rattle.why.specs.Keys.{found_view};
-ghost use Rattle.why.specs.Scenarios.{at_end_told, at_line_told, before_feed, behind_feed, behind_feeds, code_line_told, is_feed, is_long, is_quote, line_behind, long_told, program_line, program_told, refused_told, source_line, text_told, unit_end, verifier_sentence};
+ghost use Rattle.why.specs.Scenarios.{at_end_told, at_line_told, before_feed, before_quote, behind_feed, behind_feeds, code_line_told, is_feed, is_long, line_behind, long_told, program_line, program_told, refused_told, source_line, text_told, unit_end, verifier_sentence};
 
 use crate::assembly::{Spot, code_told, sentence};
 use crate::bytecode::{unit_place, unit_sentence};
@@ -56,16 +57,6 @@ fn is_feed(text: &[u8]) -> bool
     }
 }
 
-/// Whether a quotation mark stands here.
-fn is_quote(text: &[u8]) -> bool
-    ensures { result ≡ is_quote text.now }
-{
-    match text {
-        [first, ..] => *first == b'"',
-        [] => false,
-    }
-}
-
 /// Behind the first line feed.
 fn behind_feed(text: &[u8]) -> &[u8]
     ensures { result.now ≡ behind_feed text.now }
@@ -90,13 +81,33 @@ fn behind_feeds(text: &[u8], number: u64) -> &[u8]
     rest
 }
 
-/// Before the next one, and before the end of the text.
-fn before_feed(text: &[u8]) -> &[u8]
-    ensures { result.now ≡ before_feed text.now }
+/// Whether this quotation mark stands here.
+fn stands_at(quote: &[u8], text: &[u8]) -> bool
+    ensures { result ≡ starts_with nat_eq text.now quote.now }
+{
+    text.starts_with(quote)
+}
+
+/// Before the next one, and before the quotation mark that ends the text.
+fn before_feed<'a>(quote: &[u8], text: &'a [u8]) -> &'a [u8]
+    ensures { result.now ≡ before_feed quote.now text.now }
 {
     for i in 0..text.len() {
         let rest = behind(text, i);
-        if is_feed(rest) || is_quote(rest) {
+        if is_feed(rest) || stands_at(quote, rest) {
+            return &text[..i];
+        }
+    }
+    text
+}
+
+/// Before the quotation mark that ends a text that goes on over lines.
+fn before_quote<'a>(quote: &[u8], text: &'a [u8]) -> &'a [u8]
+    ensures { result.now ≡ before_quote quote.now text.now }
+{
+    for i in 0..text.len() {
+        let rest = behind(text, i);
+        if stands_at(quote, rest) {
             return &text[..i];
         }
     }
@@ -133,14 +144,15 @@ fn line_behind(text: &[u8], first: u64, more: u64) -> Option<(u64, &[u8])>
     Some((number, line))
 }
 
-/// What is said of a fault in this line, which is one of the program.
+/// What is said of a fault in this line, which is one of the program that this quotation mark ends.
 fn at_line_told(
     alloc: Global,
     name: &str,
     fault: asm::Fault,
+    quote: &[u8],
     line: Option<(u64, &[u8])>,
 ) -> Result<String, AllocError>
-    ensures { IfOk result (λ told. string_bytes told ≡ at_line_told name.now fault (option_map (λ l. (l.0, l.1.now)) line.entry)) }
+    ensures { IfOk result (λ told. string_bytes told ≡ at_line_told name.now fault quote.now (option_map (λ l. (l.0, l.1.now)) line.entry)) }
 {
     let Some((number, line)) = line else {
         return report(alloc, name, sentence(fault, &[]), None, None);
@@ -150,10 +162,11 @@ fn at_line_told(
         shown: line,
         front: &[],
     };
-    code_told(alloc, name, fault, spot, line)
+    code_told(alloc, name, fault, spot, before_quote(quote, line))
 }
 
-/// What is said of a fault in a line of a program that goes on over lines, and begins at this end of its key's line.
+/// What is said of a fault in a line of a program that goes on over lines to this quotation mark, and begins at this end of
+/// its key's line.
 fn long_told(
     alloc: Global,
     name: &str,
@@ -161,21 +174,20 @@ fn long_told(
     fault: asm::Fault,
     number: u64,
     line: Found<'_>,
+    quote: &[u8],
     rest: &[u8],
 ) -> Result<String, AllocError>
-    ensures { IfOk result (λ told. string_bytes told ≡ long_told name.now text.now fault number (found_view line.entry) rest.now) }
+    ensures { IfOk result (λ told. string_bytes told ≡ long_told name.now text.now fault number (found_view line.entry) quote.now rest.now) }
 {
     if trimmed(rest).is_empty() {
-        at_line_told(alloc, name, fault, line_behind(text, line.number, number))
+        let line = line_behind(text, line.number, number);
+        at_line_told(alloc, name, fault, quote, line)
     } else if number <= 1 {
-        at_end_told(alloc, name, fault, line, rest, rest)
+        let code = before_quote(quote, rest);
+        at_end_told(alloc, name, fault, line, rest, code)
     } else {
-        at_line_told(
-            alloc,
-            name,
-            fault,
-            line_behind(text, line.number, number - 1),
-        )
+        let line = line_behind(text, line.number, number - 1);
+        at_line_told(alloc, name, fault, quote, line)
     }
 }
 
@@ -195,10 +207,12 @@ fn text_told(
     };
     let value = value_end(line.line);
     if is_long(value) {
-        return long_told(alloc, name, text, fault, number, line, behind(value, 3));
+        let (quote, rest) = (front(value, 3), behind(value, 3));
+        return long_told(alloc, name, text, fault, number, line, quote, rest);
     }
     let end = behind_feeds(behind(value, 1), number.saturating_sub(1));
-    at_end_told(alloc, name, fault, line, end, before_feed(end))
+    let code = before_feed(front(value, 1), end);
+    at_end_told(alloc, name, fault, line, end, code)
 }
 
 /// The digits of a unit, from them on.

@@ -13,7 +13,7 @@ use text::{Stop, piece};
 use toml::table_from_str;
 
 /// How many lines there are up to the end of the bytes, and the last of them, which ends there.
-fn last_line(bytes: &[u8]) -> (u64, &[u8])
+pub(crate) fn last_line(bytes: &[u8]) -> (u64, &[u8])
     ensures number { result.0 ≡ length (pieces feed bytes.now) }
     ensures last { result.1.now ≡ last_of (pieces feed bytes.now) }
 {

@@ -1,14 +1,16 @@
-use Rattle.std.proofs.Common.{ℕ, ◌≡◌, Bool, List, ap, refl, subst, sym}
+use Rattle.std.proofs.Common.{ℕ, ◌≡◌, [], Bool, List, ap, refl, subst, sym}
 use Rattle.std.proofs.lemmas.Result.{IfErr-weaker, IfOk-weaker}
 use Rattle.lab.specs.Answers.{ComesTo, Prints}
-use Rattle.lab.specs.Whys.{is_explained}
+use Rattle.lab.specs.Whys.{Nothing, TellsWhyOf, is_explained}
 use Rattle.lab.specs.Serving.{Files, IsTrialOf, files}
 use Rattle.lab.specs.declared.first_answer.FirstAnswer.TheVariants.{Text, Bytes, Trial, Play, Muster, Audit}
 use Rattle.lab.proofs.FilesLemmas.{answered_alone, answered_audited, answered_mustered, answered_played, answered_tried, prevented_later, second_named}
-use Rattle.lab.specs.Faults.{fault_of}
+use Rattle.lab.specs.Faults.{IsToldIf}
+use Rattle.lab.specs.declared.failure.Failure.{Failure}
 use Rattle.lab.specs.declared.refusal.Refusal.{Refusal}
+use Rattle.lab.specs.Refusals.{RefusesMuster}
 use Rattle.lab.proofs.FirstLemmas.{prevented_first}
-use Rattle.lab.proofs.RefusalLemmas.{told_err, told_ok}
+use Rattle.lab.proofs.RefusalLemmas.{either_err, either_ok}
 use Rattle.lab.proofs.WhyLemmas.{unmustered}
 use Rattle.lab.proofs.serving.answered.Goals as goal
 
@@ -75,10 +77,10 @@ returns-in-Ok-Muster-clause-answer g c =
     let both : Files = files g.R.Source.bytes c.args.first c.args.second in
     let is : c.in-Ok-Muster.field-0 ≡ Muster c.in-Ok-Muster.scenario c.in-Ok-Muster.explained = c.in-Ok-Muster.field-0-is in
     let comes : ComesTo c.args.task.now c.in_ok-bytes.bytes.items (Muster c.in-Ok-Muster.scenario c.in-Ok-Muster.explained) = rw (c.as_slice.ensures.value, is) at c.in-Ok-Muster.ensures.answered in
-    told_ok (λ (refusal : Refusal). fault_of refusal c.unwrap_or-file.result) _ c.mustered.result c.mustered_text.result c.mustered_text.ensures
-    (IfOk-weaker c.mustered.result _ _
+    either_ok (λ (cause : Refusal). λ (fault : Failure). IsToldIf c.is_explained-reported.result cause c.unwrap_or-file.result (TellsWhyOf cause Nothing c.unwrap_or-file.result.now []) fault) _ c.mustered-text.result c.mustered_text.result c.mustered_text.ensures
+    (IfOk-weaker c.mustered-text.result _ _
     (λ text is. answered_mustered c.args.task.now both c.in_ok-bytes.bytes.items text.items c.in-Ok-Muster.scenario c.in-Ok-Muster.explained c.in_ok-bytes.ensures.whole comes is)
-    c.mustered.ensures.mustered)
+    c.mustered-text.ensures.mustered)
 
 pub returns-in-Ok-Muster-clause-fault : goal.returns-in-Ok-Muster-clause-fault
 returns-in-Ok-Muster-clause-fault g c =
@@ -86,13 +88,12 @@ returns-in-Ok-Muster-clause-fault g c =
     let task = c.args.task.now in
     let is : c.in-Ok-Muster.field-0 ≡ Muster c.in-Ok-Muster.scenario c.in-Ok-Muster.explained = c.in-Ok-Muster.field-0-is in
     let comes : ComesTo task c.in_ok-bytes.bytes.items (Muster c.in-Ok-Muster.scenario c.in-Ok-Muster.explained) = rw (c.as_slice.ensures.value, is) at c.in-Ok-Muster.ensures.answered in
-    told_err (λ (refusal : Refusal). fault_of refusal c.unwrap_or-file.result) _ c.mustered.result c.mustered_text.result c.mustered_text.ensures
-    (IfErr-weaker c.mustered.result _ _
-    (λ refusal refuses.
-    prevented_later task both _ _ c.in_ok-bytes.bytes.items c.unwrap_or-file.result.now (Muster c.in-Ok-Muster.scenario c.in-Ok-Muster.explained) (is_explained task) (fault_of refusal c.unwrap_or-file.result)
-    c.in_ok-bytes.ensures.whole comes (second_named task c.second.result c.unwrap_or-file.result _ c.second.ensures c.unwrap_or-file.ensures refl) refl
-    (unmustered _ (is_explained task) both.second c.in-Ok-Muster.scenario c.in-Ok-Muster.explained refusal c.unwrap_or-file.result (λ other. (other, refuses))))
-    c.mustered.ensures.refused)
+    either_err (λ (cause : Refusal). λ (fault : Failure). IsToldIf c.is_explained-reported.result cause c.unwrap_or-file.result (TellsWhyOf cause Nothing c.unwrap_or-file.result.now []) fault) RefusesMuster _ c.mustered-text.result c.mustered_text.result c.mustered_text.ensures
+    (λ refusal fault refuses told.
+    prevented_later task both _ _ c.in_ok-bytes.bytes.items c.unwrap_or-file.result.now (Muster c.in-Ok-Muster.scenario c.in-Ok-Muster.explained) c.is_explained-reported.result fault
+    c.in_ok-bytes.ensures.whole comes (second_named task c.second.result c.unwrap_or-file.result _ c.second.ensures c.unwrap_or-file.ensures refl) c.is_explained-reported.ensures
+    (unmustered _ c.is_explained-reported.result both.second c.in-Ok-Muster.scenario c.in-Ok-Muster.explained refusal c.unwrap_or-file.result fault (λ other. (other, refuses)) told))
+    c.mustered-text.ensures.refused
 
 pub returns-in-Ok-Audit-clause-answer : goal.returns-in-Ok-Audit-clause-answer
 returns-in-Ok-Audit-clause-answer g c =

@@ -3,4 +3,4 @@ use Rattle.why.specs.Scenarios.{before_feed}
 use Rattle.why.proofs.seated.before_feed.Given as goal
 
 abbrev pub invariant-loop-i : goal.invariant-loop-i
-invariant-loop-i l = before_feed l.text ≡ take l.i l.text ++ before_feed (drop l.i l.text)
+invariant-loop-i l = before_feed l.quote l.text ≡ take l.i l.text ++ before_feed l.quote (drop l.i l.text)

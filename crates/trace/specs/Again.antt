@@ -1,0 +1,21 @@
+-- The text that a campaign has in place of one that is not sound: that of the replay of the accesses that the text tells (own).
+use Rattle.std.specs.Prelude.{ℕ, List, Option, Some, None}
+use Rattle.round.specs.Scenario.{Scenario}
+use Rattle.world.specs.Chronicle.{Chronicle}
+use Rattle.trace.specs.declared.version.Version.{Version}
+use Rattle.trace.specs.Audit.{version_named}
+use Rattle.trace.specs.Names.{chronicle_told}
+use Rattle.trace.specs.SignedAudit.{signed_chronicle_told}
+use Rattle.trace.specs.SignedText.{signed_text}
+use Rattle.trace.specs.Text.{chronicle_text, text_in}
+
+-- in the version that is named or, without one, in that of its campaign
+abbrev pub text_again : Option Version → Chronicle → List ℕ
+text_again None c = chronicle_text c
+text_again (Some version) c = text_in version c
+
+abbrev pub told_again : Scenario → List ℕ → List ℕ
+told_again s t = text_again (version_named s.rule t) (chronicle_told s t)
+
+abbrev pub signed_told_again : Scenario → List ℕ → List ℕ
+signed_told_again s t = signed_text (signed_chronicle_told s t)

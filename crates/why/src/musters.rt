@@ -1,0 +1,29 @@
+//! What is said of a muster that gave no chronicle.
+ghost use Rattle.std.specs.Prelude.{◌≡◌, IfOk, string_bytes};
+ghost use Rattle.why.specs.Musters.{muster_sentence, muster_told};
+
+use std::alloc::{AllocError, Global};
+use threads::MusterError;
+
+/// Why there is no chronicle.
+fn sentence(error: MusterError) -> &'static str
+    ensures { result.now ≡ muster_sentence error }
+{
+    match error {
+        MusterError::Unaccounted =>
+            "the board's accesses do not account for the letters that the threads gave back: this is a fault of the program or the machine, and of no file",
+        MusterError::Spawn =>
+            "the system starts no further thread, and a muster has one for each general: `play` needs none",
+        MusterError::Post =>
+            "a general's letter found the post full: this is a fault of the program, and of no file",
+        MusterError::Memory => "there is not enough memory",
+    }
+}
+
+/// What is said of a muster that gave no chronicle, which is a fault of no file.
+pub fn of_muster(alloc: Global, error: MusterError) -> Result<String, AllocError>
+    ensures { IfOk result (λ told. string_bytes told ≡ muster_told error) }
+{
+    let sentence = sentence(error);
+    format!(in alloc; "\nerror: {sentence}")
+}
