@@ -13,6 +13,7 @@ use Rattle.scenario.specs.declared.messages.Campaign.{Campaign}
 use Rattle.world.specs.declared.schedule.Repeat.{Repeat}
 use Rattle.trace.specs.Schedules.{schedule_told}
 use Rattle.lab.specs.Answers.{ComesTo, GoesOn, IsTriedBy, Prints}
+use Rattle.lab.specs.Hints.{explained_in}
 use Rattle.lab.specs.Whys.{is_explained}
 use Rattle.lab.specs.Campaigns.{IsAudited, IsMustered, IsPlayed}
 use Rattle.lab.specs.Faults.{Prevents, Stops}
@@ -95,7 +96,7 @@ answered_audited (Audit scenario chronicle explained) files first text s why are
 
 -- an answer in the second file's setting
 pub answered_tried : (task : Task) (files : Files) (first text : List ℕ) (program : List Insn) (steps : Bool) → AreBytes files.first first
-    → ComesTo task first (answer.Trial program steps) → IsTrialOf files.second steps (is_explained task) program text → IsAnswer task files text
+    → ComesTo task first (answer.Trial program steps) → IsTrialOf files.second steps (explained_in task) first program text → IsAnswer task files text
 answered_tried (Check file notation None explained traced) files first text program steps are comes tried = absurd comes
 answered_tried (Check file notation (Some context) true traced) files first text program steps are comes (bytes, known, (lines, tried, behind)) =
     let second = second_bytes files.second bytes known in

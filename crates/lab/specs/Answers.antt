@@ -19,7 +19,7 @@ use Rattle.trial.specs.Setting.{Setting, bench, context_in}
 use Rattle.trial.specs.Told.{IsTried, Tells as TellsSetting}
 use Rattle.trial.specs.Trial.{Ending, trial}
 use Rattle.tracing.specs.Trace.{trace}
-use Rattle.lab.specs.Hints.{HasProgram, behind_lines}
+use Rattle.lab.specs.Hints.{HasProgram, IsBehind, if_asked}
 use Rattle.lab.specs.Campaigns.{Audits, Musters, Plays, TellsCampaign, is_plain}
 use Rattle.lab.specs.Lines.{checked_lines, hex_line}
 use Rattle.lab.specs.declared.checking.Checked.{Checked}
@@ -47,7 +47,8 @@ steps_behind true program s = codes "\n" ++ trace program (context_in s) (oral s
 abbrev pub IsChecked : Notation → Bool → Bool → List ℕ → List ℕ → Type 0
 IsChecked notation explained traced bytes text =
     (program : List Insn) × HasProgram notation bytes program
-    × ((checked : Checked) × IsRun program checked × (text ≡ checked_lines checked ++ steps_behind traced program bench ++ behind_lines explained program))
+    × ((checked : Checked) × IsRun program checked
+    × IsBehind (if_asked explained notation) bytes program (checked_lines checked ++ steps_behind traced program bench) text)
 
 -- the bytes tell a setting, and these are the lines of the program's trial in it, and behind them its steps, where they are asked for
 abbrev pub IsTriedBy : Bool → List ℕ → List Insn → List ℕ → Type 0
@@ -60,7 +61,7 @@ IsTriedBy traced bytes program text =
 abbrev pub Tries : Notation → Bool → Bool → List ℕ → Option (List ℕ) → List ℕ → Type 0
 Tries notation explained traced first second text =
     (program : List Insn) × HasProgram notation first program × (judged program ≡ None) × IsSound program
-    × ((lines : List ℕ) × IsTriedBy traced (unwrap_or second []) program lines × (text ≡ lines ++ behind_lines explained program))
+    × ((lines : List ℕ) × IsTriedBy traced (unwrap_or second []) program lines × IsBehind (if_asked explained notation) first program lines text)
 
 -- the text says a program, and these are its bytes
 abbrev pub AssemblesRaw : List ℕ → List ℕ → Type 0

@@ -1,12 +1,17 @@
 -- What is said behind what a task says of a file: of a program its explanation, and of a refusal its report, where they are asked for; of
 -- bytes that spell no program what they seem to be; of an object without one the sentence of its fault.
-use Rattle.std.specs.Prelude.{ℕ, ◌≡◌, Bool, true, false, List, [], ◌++◌, Option, None, Some, Ok, codes, option_map, string_bytes, unwrap_or}
+use Rattle.std.specs.Prelude.{ℕ, ◌≡◌, Bool, true, false, List, [], ◌++◌, Option, None, Some, Ok, String, codes, map, option_map, string_bytes, unwrap_or}
+use Rattle.std.specs.Str.{IsUtf8}
+use Rattle.std.specs.declared.alloc.Global.{Global}
 use Rattle.insn.specs.declared.insn.Insn.{Insn}
-use Rattle.asm.specs.Program.{program_of}
+use Rattle.asm.specs.Program.{lines_of, nothing, program_of, read_on}
 use Rattle.codec.specs.Program.{SpellsProgram}
-use Rattle.elf.specs.Entry.{entry_of}
+use Rattle.asm.specs.Places.{AreWritten}
+use Rattle.elf.specs.Entry.{entry_of, function_of}
+use Rattle.debug_lines.specs.Places.{AreEntryPlaces}
 use Rattle.elf.specs.Sentences.{sentence_of}
-use Rattle.explain.specs.Explained.{explained}
+use Rattle.explain.specs.Explained.{explained_at}
+use Rattle.explain.specs.Units.{places_in}
 use Rattle.command_line.specs.Told.{file_of}
 use Rattle.command_line.specs.declared.tasks.Notation.{Notation}
 use Rattle.command_line.specs.declared.tasks.Notation.TheVariants.{Bytecode, Assembly, Object}
@@ -35,10 +40,26 @@ abbrev pub explained_in : Task → Option Notation
 explained_in (Check file notation context true traced) = Some notation
 explained_in _ = None
 
--- behind the lines of an accepted program: nothing, or an empty line and its explanation
-abbrev pub behind_lines : Bool → List Insn → List ℕ
-behind_lines true program = explained program ++ codes "\n"
-behind_lines false program = []
+-- where each unit of the program that a file has is written: of assembly on which line, of an object in which line of which file
+abbrev pub ArePlaces : Notation → List ℕ → List (List ℕ) → Type 0
+ArePlaces Bytecode bytes places = places ≡ []
+ArePlaces Assembly text places = IsUtf8 text → AreWritten (read_on nothing 1 (lines_of text)) places
+ArePlaces (Object entry) object places = AreEntryPlaces object (function_of object (option_map string_bytes entry)) places
+
+-- the text explains a program, with the places of its units
+abbrev pub Explains : Notation → List ℕ → List Insn → List ℕ → Type 0
+Explains notation bytes program text =
+    (places : List (String Global)) × ArePlaces notation bytes (map string_bytes places) × (text ≡ explained_at (places_in places) program)
+
+abbrev pub if_asked : Bool → Notation → Option Notation
+if_asked true notation = Some notation
+if_asked false notation = None
+
+-- behind the lines of an accepted program stands nothing or, where it is asked for, an empty line and its explanation
+abbrev pub IsBehind : Option Notation → List ℕ → List Insn → List ℕ → List ℕ → Type 0
+IsBehind None bytes program lines text = text ≡ lines
+IsBehind (Some notation) bytes program lines text =
+    (told : List ℕ) × Explains notation bytes program told × (text ≡ lines ++ (told ++ codes "\n"))
 
 -- behind the line of a refusal: nothing, or further lines
 abbrev pub hint_text : Hint → List ℕ
@@ -52,7 +73,7 @@ hint_behind (Some hint) = hint_text hint
 
 -- the text explains the program that the file has
 abbrev pub IsWhy : Notation → List ℕ → List ℕ → Type 0
-IsWhy notation bytes text = (program : List Insn) × HasProgram notation bytes program × (text ≡ explained program)
+IsWhy notation bytes text = (program : List Insn) × HasProgram notation bytes program × Explains notation bytes program text
 
 -- the bytes of the task's first file that are to be bytecode themselves: none of those of an object
 abbrev pub bytecode_in : Task → List ℕ → List ℕ

@@ -4,6 +4,7 @@ use Rattle.std.specs.Io.KnownBytes.{Appends}
 use Rattle.command_line.specs.Told.{file_of, second_of}
 use Rattle.command_line.specs.declared.tasks.Account.{Account}
 use Rattle.command_line.specs.declared.tasks.Lieutenants.{Lieutenants}
+use Rattle.command_line.specs.declared.tasks.Notation.{Notation}
 use Rattle.command_line.specs.declared.tasks.Task.{Task}
 use Rattle.insn.specs.declared.insn.Insn.{Insn}
 use Rattle.scenario.specs.declared.messages.Campaign.{Campaign}
@@ -16,7 +17,7 @@ use Rattle.lab.specs.Answers.{GoesOn, IsTriedBy, Prints}
 use Rattle.lab.specs.Campaigns.{IsAudited, IsPlayed, IsSchedule}
 use Rattle.streams.specs.Names.{shown}
 use Rattle.streams.specs.Reading.{AreBytes}
-use Rattle.lab.specs.Hints.{behind_lines, hint_behind, IsHint}
+use Rattle.lab.specs.Hints.{hint_behind, IsBehind, IsHint}
 use Rattle.lab.specs.declared.hint.Hint.{Hint}
 use Rattle.lab.specs.Telling.{refusal_text}
 use Rattle.lab.specs.Whys.{TellsWhyOf, is_explained, traced_by}
@@ -69,10 +70,9 @@ IsAuditOf known c explained text = (bytes : List ℕ) × AreSecondBytes known by
 
 -- the lines are those of the program's trial in the second file's setting, and behind them its steps and its explanation, where they are
 -- asked for
-abbrev pub IsTrialOf : Option (Option (List ℕ)) → Bool → Bool → List Insn → List ℕ → Type 0
-IsTrialOf known traced explained program text =
-    (bytes : List ℕ) × AreSecondBytes known bytes
-    × ((lines : List ℕ) × IsTriedBy traced bytes program lines × (text ≡ lines ++ behind_lines explained program))
+abbrev pub IsTrialOf : Option (Option (List ℕ)) → Bool → Option Notation → List ℕ → List Insn → List ℕ → Type 0
+IsTrialOf known traced asked first program text =
+    (bytes : List ℕ) × AreSecondBytes known bytes × ((lines : List ℕ) × IsTriedBy traced bytes program lines × IsBehind asked first program lines text)
 
 -- the task has an answer on the files, with which it stands so
 abbrev pub HasAnswer : (List ℕ → Type 0) → Task → Files → Type 0

@@ -110,5 +110,6 @@ fn checked_in(
     let (verified, checked) = check(alloc, notation, bytes)?;
     let lines = checked_text(alloc, &checked)?;
     let lines = with_steps(alloc, lines, traced, &verified, &Setting::bench(alloc))?;
-    Ok(with_explanation(alloc, lines, explained, verified.program())?)
+    let asked = if explained { Some(notation) } else { None };
+    Ok(with_explanation(alloc, lines, asked, bytes, verified.program())?)
 }

@@ -1,7 +1,7 @@
 //! What `check --explain` says of a program behind what `check` says of it.
 ghost use Rattle.std.specs.Prelude.{◌≡◌, ◌++◌, IfOk, IfErr, option_map, string_bytes};
 ghost use Rattle.lab.specs.Faults.{StopsFirst};
-ghost use Rattle.lab.specs.Hints.{IsWhy, asked_of, behind_lines, bytecode_in, explained_in};
+ghost use Rattle.lab.specs.Hints.{Explains, IsBehind, IsWhy, asked_of, bytecode_in, explained_in};
 ghost use Rattle.lab.specs.Refusals.{Refuses, RefusesNotation};
 
 use crate::failure::Failure;
@@ -9,13 +9,14 @@ use crate::hint::Hint;
 use crate::programs::program_in;
 use crate::refusal::Refusal;
 use crate::whys::unjudged;
+use crate::written::written_in;
 use command_line::{Notation, Task};
-use explain::explanation;
+use explain::explanation_at;
 use insn::Program;
 use std::alloc::{AllocError, Global};
 
 /// The notation of the program that the task is to explain, where it is to explain one.
-fn explained_in(task: &Task) -> Option<&Notation>
+pub(crate) fn explained_in(task: &Task) -> Option<&Notation>
     ensures { option_map (λ notation. notation.now) result ≡ explained_in task.now }
 {
     match task {
@@ -28,20 +29,36 @@ fn explained_in(task: &Task) -> Option<&Notation>
     }
 }
 
-/// The lines of an accepted program, and behind them an empty one and its explanation, if it is asked for.
+/// The explanation of a program that a file of these bytes has in this notation.
+fn told(
+    alloc: Global,
+    notation: &Notation,
+    bytes: &[u8],
+    program: &Program,
+) -> Result<String, AllocError>
+    ensures { IfOk result (λ text. Explains notation.now bytes.now program.now (string_bytes text)) }
+{
+    let places = written_in(alloc, notation, bytes)?;
+    explanation_at(alloc, program, places.as_slice())
+}
+
+/// The lines of an accepted program that a file of these bytes has, and behind them an empty one and its explanation, if it
+/// is asked for, in the notation in which it is.
 pub(crate) fn with_explanation(
     alloc: Global,
     lines: String,
-    explained: bool,
+    asked: Option<&Notation>,
+    bytes: &[u8],
     program: &Program,
 ) -> Result<String, AllocError>
-    ensures { IfOk result (λ text. string_bytes text ≡ string_bytes lines ++ behind_lines explained program.now) }
+    ensures { IfOk result (λ text. IsBehind (option_map (λ notation. notation.now) asked.entry) bytes.now program.now (string_bytes lines) (string_bytes text)) }
 {
-    if !explained {
+    let Some(notation) = asked else {
         return Ok(lines);
-    }
+    };
+    let told = told(alloc, notation, bytes, program)?;
     let mut text = lines;
-    text.push_str(explanation(alloc, program)?.as_str())?;
+    text.push_str(told.as_str())?;
     text.push_str("\n")?;
     Ok(text)
 }
@@ -52,7 +69,7 @@ fn why(alloc: Global, notation: &Notation, bytes: &[u8]) -> Result<String, Refus
     ensures refused { IfErr result (RefusesNotation notation.now bytes.now) }
 {
     let program = program_in(alloc, notation, bytes)?;
-    Ok(explanation(alloc, &program)?)
+    Ok(told(alloc, notation, bytes, &program)?)
 }
 
 /// The bytes of the task's first file that are to be bytecode themselves: none of those of an object.

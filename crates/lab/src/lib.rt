@@ -22,6 +22,7 @@ mod steps;
 mod texts;
 mod trying;
 mod whys;
+mod written;
 
 pub use answering::answer;
 pub use assembling::{assembled, assembled_raw, disassembled};

@@ -1,5 +1,7 @@
 ghost use Rattle.std.specs.Prelude.{◌≡◌, ◌≢◌, ◌⊎◌, Ok, Err, IfOk, IfErr, IsSomeAnd, MatchResult, OnOk, codes, option_map};
 ghost use Rattle.lab.specs.Faults.{Undoes, Prevents, Stops, fault_of};
+ghost use Rattle.lab.specs.Hints.{explained_in};
+ghost use Rattle.lab.specs.Whys.{is_explained};
 ghost use Rattle.lab.specs.Serving.{IsAnswer, IsAuditOf, IsFault, IsPlayedBy, IsPrinted, IsScheduleOf, IsScheduleTold, IsToldLater, IsTrialOf, Tells, files, second_name};
 ghost use Rattle.lab.specs.declared.first_answer.FirstAnswer.TheVariants.{Trial, Play, Audit};
 ghost use Rattle.lab.specs.declared.failure.Failure.TheVariants.{Write as unwritten};
@@ -7,7 +9,7 @@ ghost use Rattle.streams.specs.Writing.{AppendsFront};
 
 use crate::answering::answer;
 use crate::auditing::audited;
-use crate::explaining::{refused, with_explanation};
+use crate::explaining::{explained_in, refused, with_explanation};
 use crate::failure::Failure;
 use crate::first_answer::FirstAnswer;
 use crate::mustering::mustered;
@@ -114,7 +116,7 @@ where
         Ok(FirstAnswer::Text(text)) => Ok(text.into_bytes()),
         Ok(FirstAnswer::Bytes(bytes)) => Ok(bytes),
         Ok(FirstAnswer::Trial(program, traced)) => {
-            trial_of(alloc, &program, traced, reported, file, second)
+            trial_of(alloc, task, bytes.as_slice(), &program, traced, file, second)
         }
         Ok(FirstAnswer::Play(campaign, account, explained)) => {
             play_by(alloc, campaign, account, explained, reported, file, second)
@@ -142,25 +144,26 @@ fn mustered_text<'a>(text: Result<Vec<u8>, Refusal>, file: &'a str) -> Result<Ve
 /// The lines of the program's trial in the setting of the second file, with its steps and its explanation or without them.
 fn trial_of<'a, R: Source>(
     alloc: Global,
+    task: &Task,
+    first: &[u8],
     program: &Verified,
     traced: bool,
-    explained: bool,
     file: &'a str,
     second: Option<R>,
 ) -> Result<Vec<u8>, Failure<'a>>
-    ensures tried { IfOk result (λ text. IsTrialOf (option_map R.bytes second) traced explained program.now text.items) }
+    ensures tried { IfOk result (λ text. IsTrialOf (option_map R.bytes second) traced (explained_in task.now) first.now program.now text.items) }
     ensures fault { IfErr result
-        (Stops (IsSomeAnd second R.fails) (IsToldLater explained file.entry.now (option_map R.bytes second) (Trial program.now traced)) file.entry.now) }
+        (Stops (IsSomeAnd second R.fails) (IsToldLater (is_explained task.now) file.entry.now (option_map R.bytes second) (Trial program.now traced)) file.entry.now) }
 {
     let bytes = read_second(alloc, file, second)?;
     match tried_by(alloc, program, traced, bytes.as_slice()) {
-        Ok(lines) => match with_explanation(alloc, lines, explained, program.program()) {
+        Ok(lines) => match with_explanation(alloc, lines, explained_in(task), first, program.program()) {
             Ok(text) => Ok(text.into_bytes()),
             Err(_) => Err(Failure::Memory),
         },
         Err(refusal) => Err(later(
             alloc,
-            explained,
+            is_explained(task),
             Traced::Nothing,
             refusal,
             file,

@@ -1,6 +1,7 @@
 use Rattle.std.proofs.Common.{ℕ, ◌≡◌, Bool, List, ap, refl, subst, sym}
 use Rattle.std.proofs.lemmas.Result.{IfErr-weaker, IfOk-weaker}
 use Rattle.lab.specs.Answers.{ComesTo, Prints}
+use Rattle.lab.specs.Hints.{explained_in}
 use Rattle.lab.specs.Whys.{is_explained}
 use Rattle.lab.specs.Serving.{Files, IsTrialOf, files}
 use Rattle.lab.specs.declared.first_answer.FirstAnswer.TheVariants.{Text, Bytes, Trial, Play, Muster, Audit}
@@ -33,10 +34,9 @@ returns-in-Ok-Trial-clause-answer g c =
     let both : Files = files g.R.Source.bytes c.args.first c.args.second in
     let is : c.in-Ok-Trial.field-0 ≡ Trial c.in-Ok-Trial.program c.in-Ok-Trial.traced = c.in-Ok-Trial.field-0-is in
     let comes : ComesTo c.args.task.now c.in_ok-bytes.bytes.items (Trial c.in-Ok-Trial.program c.in-Ok-Trial.traced) = rw (c.as_slice.ensures.value, is) at c.in-Ok-Trial.ensures.answered in
-    let asked : c.is_explained-reported.result ≡ is_explained c.args.task.now = c.is_explained-reported.ensures in
     IfOk-weaker c.trial_of.result _ _
     (λ text tried. answered_tried c.args.task.now both c.in_ok-bytes.bytes.items text.items c.in-Ok-Trial.program c.in-Ok-Trial.traced c.in_ok-bytes.ensures.whole comes
-    (subst (λ (own : Bool). IsTrialOf both.second c.in-Ok-Trial.traced own c.in-Ok-Trial.program text.items) asked tried))
+    (subst (λ (own : List ℕ). IsTrialOf both.second c.in-Ok-Trial.traced (explained_in c.args.task.now) own c.in-Ok-Trial.program text.items) c.as_slice-in-Ok-Trial.ensures.value tried))
     c.trial_of.ensures.tried
 
 pub returns-in-Ok-Trial-clause-fault : goal.returns-in-Ok-Trial-clause-fault
@@ -46,8 +46,8 @@ returns-in-Ok-Trial-clause-fault g c =
     let comes : ComesTo c.args.task.now c.in_ok-bytes.bytes.items (Trial c.in-Ok-Trial.program c.in-Ok-Trial.traced) = rw (c.as_slice.ensures.value, is) at c.in-Ok-Trial.ensures.answered in
     IfErr-weaker c.trial_of.result _ _
     (λ fault why.
-    prevented_later c.args.task.now both _ _ c.in_ok-bytes.bytes.items c.unwrap_or-file.result.now (Trial c.in-Ok-Trial.program c.in-Ok-Trial.traced) c.is_explained-reported.result fault c.in_ok-bytes.ensures.whole comes
-    (second_named c.args.task.now c.second.result c.unwrap_or-file.result _ c.second.ensures c.unwrap_or-file.ensures refl) c.is_explained-reported.ensures why)
+    prevented_later c.args.task.now both _ _ c.in_ok-bytes.bytes.items c.unwrap_or-file.result.now (Trial c.in-Ok-Trial.program c.in-Ok-Trial.traced) (is_explained c.args.task.now) fault c.in_ok-bytes.ensures.whole comes
+    (second_named c.args.task.now c.second.result c.unwrap_or-file.result _ c.second.ensures c.unwrap_or-file.ensures refl) refl why)
     c.trial_of.ensures.fault
 
 pub returns-in-Ok-Play-clause-answer : goal.returns-in-Ok-Play-clause-answer
