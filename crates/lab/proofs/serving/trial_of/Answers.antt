@@ -11,4 +11,4 @@ returns-clause-fault g c =
     let known = option_map g.R.Source.bytes c.args.second in
     stops_later _ (is_explained c.args.task.now) known (IsRefusedLater (Trial c.args.program.now c.args.traced) known) Nothing c.in_ok-bytes.bytes.items c.in-Err.refusal c.args.file c.later.result
     c.in_ok-bytes.ensures.whole (λ other. (other, (c.in_ok-bytes.bytes.items, c.in_ok-bytes.ensures.whole, rw c.as_slice.ensures.value at c.in-Err.ensures.refused)))
-    (rw c.as_slice-in-Err.ensures.value at c.later.ensures)
+    (rw (c.as_slice-in-Err.ensures.value, c.is_explained.ensures) at c.later.ensures)
