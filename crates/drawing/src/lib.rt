@@ -2,7 +2,7 @@
 //! of text, as a graph for Graphviz, and as SVG.
 #![tactic(auto)]
 
-mod drawn;
+mod by_table;
 mod facts;
 mod form;
 mod graph;
@@ -15,7 +15,7 @@ mod shown;
 mod svg;
 mod words;
 
-pub use drawn::drawn;
+pub use by_table::drawn;
 pub use form::Form;
 pub use graph::tree_graph;
 pub use laws::{outcomes_are_explained, pictures_are_elements};
