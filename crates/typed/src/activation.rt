@@ -57,8 +57,8 @@ impl Activation {
         self.machine.steps()
     }
 
-    /// Runs it on until it asks the board or exits, or until it has taken `limit` steps. The program and the context are
-    /// those of its start.
+    /// Runs it on until it asks the board or exits, or until it has taken `limit` steps. The program and the context
+    /// are those of its start.
     pub fn advance(self, verified: &Verified, context: &Context, limit: u32) -> Pause
         requires { IsOfRun verified.now context.now self }
         ensures pauses { (answers : List (List ℕ)) → Reached verified.now context.now self.relay answers self.state →

@@ -1,4 +1,4 @@
-//! The machine by types: what has asked the board is answered or taken back once, and only then there is a program to run on.
+//! The machine by types: what has asked the board is answered or taken back once, and only then can be run on.
 #![tactic(auto)]
 
 mod activation;
