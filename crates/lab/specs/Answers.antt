@@ -19,10 +19,7 @@ use Rattle.trial.specs.Setting.{Setting, bench, context_in}
 use Rattle.trial.specs.Told.{IsTried, Tells as TellsSetting}
 use Rattle.trial.specs.Trial.{Ending, trial}
 use Rattle.tracing.specs.Trace.{trace}
-<<<<<<< HEAD
 use Rattle.lab.specs.Exploring.{Explores}
-=======
->>>>>>> sandbox
 use Rattle.lab.specs.Hints.{HasProgram, IsBehind, if_asked}
 use Rattle.lab.specs.Campaigns.{Audits, Musters, Plays, TellsCampaign, is_plain}
 use Rattle.lab.specs.Lines.{checked_lines, hex_line}

@@ -1,14 +1,7 @@
-<<<<<<< HEAD
 ghost use Rattle.std.specs.Prelude.{◌≡◌, ◌≢◌, ◌⊎◌, [], Ok, Err, IfOk, IfErr, IsErrAnd, IsSomeAnd, MatchResult, OnOk, codes, option_map};
 ghost use Rattle.lab.specs.Faults.{IsToldIf, Undoes, Prevents, Stops};
 ghost use Rattle.lab.specs.Hints.{explained_in};
 ghost use Rattle.lab.specs.Whys.{Nothing, TellsWhyOf, is_explained};
-=======
-ghost use Rattle.std.specs.Prelude.{◌≡◌, ◌≢◌, ◌⊎◌, Ok, Err, IfOk, IfErr, IsSomeAnd, MatchResult, OnOk, codes, option_map};
-ghost use Rattle.lab.specs.Faults.{Undoes, Prevents, Stops, fault_of};
-ghost use Rattle.lab.specs.Hints.{explained_in};
-ghost use Rattle.lab.specs.Whys.{is_explained};
->>>>>>> sandbox
 ghost use Rattle.lab.specs.Serving.{IsAnswer, IsAuditOf, IsFault, IsPlayedBy, IsPrinted, IsScheduleOf, IsScheduleTold, IsToldLater, IsTrialOf, Tells, files, second_name};
 ghost use Rattle.lab.specs.declared.first_answer.FirstAnswer.TheVariants.{Trial, Play, Audit};
 ghost use Rattle.lab.specs.declared.failure.Failure.TheVariants.{Write as unwritten};

@@ -2,11 +2,7 @@ use Rattle.std.proofs.Common.{ℕ, ◌≡◌, [], Bool, List, ap, refl, subst, s
 use Rattle.std.proofs.lemmas.Result.{IfErr-weaker, IfOk-weaker}
 use Rattle.lab.specs.Answers.{ComesTo, Prints}
 use Rattle.lab.specs.Hints.{explained_in}
-<<<<<<< HEAD
 use Rattle.lab.specs.Whys.{Nothing, TellsWhyOf, is_explained}
-=======
-use Rattle.lab.specs.Whys.{is_explained}
->>>>>>> sandbox
 use Rattle.lab.specs.Serving.{Files, IsTrialOf, files}
 use Rattle.lab.specs.declared.first_answer.FirstAnswer.TheVariants.{Text, Bytes, Trial, Play, Muster, Audit}
 use Rattle.lab.proofs.FilesLemmas.{answered_alone, answered_audited, answered_mustered, answered_played, answered_tried, prevented_later, second_named}
