@@ -127,7 +127,7 @@ pub unmustered : (unread : Type 0) (explained : Bool) (known : Option (Option (L
 unmustered unread false known s who cause file fault refused told =
     subst (λ (f : Failure). Stops unread (IsToldLater false file.now known (Muster s who)) file.now f) (sym told) (plain unread known (IsRefusedLater (Muster s who) known) Nothing cause file refused)
 unmustered unread true known s who (refusal.Threads error) file fault refused told = threads_told unread known s who error file fault (refused (λ e. cc)) told
-unmustered unread true known s who refusal.Memory file fault refused told = memory_told unread _ _ file fault told
+unmustered unread true known s who refusal.Memory file fault refused told = memory_told unread (IsToldLater true file.now known (Muster s who)) (TellsWhyOf refusal.Memory Nothing file.now []) file fault told
 unmustered unread true known s who (refusal.Codec error) file fault refused told = absurd (refused (λ e. cc)).1
 unmustered unread true known s who (refusal.Object own) file fault refused told = absurd (refused (λ e. cc)).1
 unmustered unread true known s who (refusal.Verifier own) file fault refused told = absurd (refused (λ e. cc)).1
