@@ -4,8 +4,8 @@ use Rattle.std.specs.Fmt.{decimal}
 use Rattle.std.specs.List.{range_with_len}
 use Rattle.board.specs.Board.{Access}
 use Rattle.diagram.specs.declared.stroke.Stroke.{Stroke}
-use Rattle.diagram.specs.Layout.{access_top, board, column, fan_top, height, rows_top, top_of, width}
-use Rattle.diagram.specs.Shapes.{group_end, group_start, line, mark, stroke_end, stroke_start, text_end, text_start, title_end, title_start}
+use Rattle.diagram.specs.Layout.{access_top, board, column, fan_top, height, rows_top, top_of}
+use Rattle.diagram.specs.Shapes.{group_at, line, mark, stroke_at, text_at, title}
 use Rattle.diagram.specs.Words.{access_words, kind, outline, row_words, shown_words, stroke_words}
 
 unfoldable pub round_words : ℕ → List ℕ
@@ -25,11 +25,10 @@ lives n accesses height = board_line n accesses height ++ flat_map (λ g. life (
 -- an access: a point, a line to the board, which is so far to the right, and what is said of it
 abbrev pub point : ℕ → Access → List ℕ
 point far a =
-    title_start ++ access_words a ++ title_end ++ line (codes "access") 0 0 far 0 ++ mark (codes "point") (codes "M0-4a4 4 0 0 1 0 8a4 4 0 0 1 0-8z")
-    ++ text_start (codes "small") (far + 12) 4 ++ shown_words a ++ text_end
+    title (access_words a) ++ line (codes "access") 0 0 far 0 ++ mark (codes "point") (codes "M0-4a4 4 0 0 1 0 8a4 4 0 0 1 0-8z") ++ text_at (codes "small") (far + 12) 4 (shown_words a)
 
 abbrev pub access : ℕ → ℕ → ℕ → Access → List ℕ
-access n top round a = if a.round == round then group_start (column a.general) top ++ point (board n - column a.general) a ++ group_end else []
+access n top round a = if a.round == round then group_at (column a.general) top (point (board n - column a.general) a) else []
 
 -- those of a round, in the board's order, the first of them with this place among all
 unfoldable pub accesses_from : ℕ → List Access → ℕ → ℕ → List Access → List ℕ
@@ -39,29 +38,26 @@ accesses_from n all round place (a ∷ rest) = access n (access_top all round pl
 -- a stroke from its teller to its receiver, as wide as it has labels, up to 5
 abbrev pub stroke : ℕ → ℕ → Stroke → List ℕ
 stroke n top st =
-    stroke_start (kind st) (min st.labels 5) (column st.teller) top (column st.receiver) (top + 16 + 16 * n + 6 * min st.row 8)
-    ++ title_start ++ stroke_words st ++ title_end ++ stroke_end
+    stroke_at (kind st) (min st.labels 5) (column st.teller) top (column st.receiver) (top + 16 + 16 * n + 6 * min st.row 8) (stroke_words st)
 
 -- its row in its receiver's list
 abbrev pub row : ℕ → Stroke → List ℕ
 row top st =
-    group_start (column st.receiver) (top + 12 + 18 * st.row) ++ title_start ++ stroke_words st ++ title_end ++ mark (kind st) (outline st)
-    ++ text_start (codes "small") 12 4 ++ row_words st ++ text_end ++ group_end
+    group_at (column st.receiver) (top + 12 + 18 * st.row) (title (stroke_words st) ++ mark (kind st) (outline st) ++ text_at (codes "small") 12 4 (row_words st))
 
 -- both, where it is of this round
 abbrev pub drawn : ℕ → List Access → ℕ → Stroke → List ℕ
 drawn n accesses round st = if st.round == round then stroke n (fan_top accesses round) st ++ row (rows_top n accesses round) st else []
 
--- the band behind so many rounds
-abbrev pub band : ℕ → List Stroke → List Access → ℕ → List ℕ
-band n strokes accesses before =
-    group_start 0 (top_of n strokes accesses before)
-    ++ line (codes "rule") 16 0 (width n accesses) 0
-    ++ text_start (codes "round") 16 24 ++ round_words (before + 1) ++ text_end
+-- the band behind so many rounds, of this width
+abbrev pub band : ℕ → List Stroke → List Access → ℕ → ℕ → List ℕ
+band n strokes accesses wide before =
+    group_at 0 (top_of n strokes accesses before)
+    (line (codes "rule") 16 0 wide 0
+    ++ text_at (codes "round") 16 24 (round_words (before + 1))
     ++ lives n accesses (height n strokes accesses (before + 1))
     ++ accesses_from n accesses (before + 1) 0 accesses
-    ++ flat_map (drawn n accesses (before + 1)) strokes
-    ++ group_end
+    ++ flat_map (drawn n accesses (before + 1)) strokes)
 
-abbrev pub bands : ℕ → List Stroke → List Access → ℕ → List ℕ
-bands n strokes accesses rounds = flat_map (band n strokes accesses) (range_with_len 0 rounds)
+abbrev pub bands : ℕ → List Stroke → List Access → ℕ → ℕ → List ℕ
+bands n strokes accesses wide rounds = flat_map (band n strokes accesses wide) (range_with_len 0 rounds)

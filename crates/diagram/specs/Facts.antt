@@ -1,5 +1,5 @@
 -- Who told whom what in a campaign, by the message table t that its letters tell.
-use Rattle.std.specs.Prelude.{ℕ, zero, suc, ◌+◌, ◌-◌, ◌==◌, Bool, true, false, not, ◌&&◌, if◌then◌else◌, bool_eq, List, [], ◌∷◌, ◌++◌, length, take, filter, slice_index, Option, None, Some}
+use Rattle.std.specs.Prelude.{ℕ, zero, suc, ◌+◌, ◌-◌, ◌==◌, Bool, true, false, not, ◌&&◌, if◌then◌else◌, bool_eq, List, [], ◌∷◌, ◌++◌, length, take, count_by, slice_index, Option, None, Some}
 use Rattle.std.specs.List.{list_any}
 use Rattle.book.specs.Table.{MessageTable}
 use Rattle.drawing.specs.declared.node.Mark.{Mark}
@@ -53,8 +53,8 @@ added order p nodes place done node =
       receiver = p;
       told = node.told;
       differs = differs order node;
-      labels = length (filter (is_same order node) nodes);
-      row = length (filter (is_before (length node.label) p) done);
+      labels = count_by (is_same order node) nodes;
+      row = count_by (is_before (length node.label) p) done;
     } ∷ []
 
 -- with those of labels, the first of which has this place

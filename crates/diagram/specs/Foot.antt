@@ -5,8 +5,8 @@ use Rattle.std.specs.List.{range_with_len}
 use Rattle.round.specs.Scenario.{Scenario, is_traitor}
 use Rattle.world.specs.Chronicle.{Chronicle}
 use Rattle.world.specs.declared.verdict.Verdict.{Verdict}
-use Rattle.diagram.specs.Layout.{column, width}
-use Rattle.diagram.specs.Shapes.{group_end, group_start, line, mark, text_end, text_start}
+use Rattle.diagram.specs.Layout.{column}
+use Rattle.diagram.specs.Shapes.{group_at, line, mark, text_at}
 
 -- a general's shape: a square for a traitor, a circle for a loyal one
 abbrev pub sort_of : Bool → List ℕ
@@ -21,7 +21,7 @@ unfoldable pub decides_words : ℕ → List ℕ
 decides_words order = codes "decides " ++ decimal order
 
 abbrev pub decided_at : ℕ → Bool → ℕ → List ℕ
-decided_at g traitor order = group_start (column g) 24 ++ mark (sort_of traitor) (shape_of traitor) ++ text_start (codes "name") 12 4 ++ decides_words order ++ text_end ++ group_end
+decided_at g traitor order = group_at (column g) 24 (mark (sort_of traitor) (shape_of traitor) ++ text_at (codes "name") 12 4 (decides_words order))
 
 -- the place of a lieutenant's decision, under this commander
 abbrev pub place_of : ℕ → ℕ → ℕ
@@ -52,11 +52,9 @@ bound_words false = codes "The bound does not hold: there are too many traitors,
 
 abbrev pub verdict_lines : Verdict → List ℕ
 verdict_lines v =
-    text_start (codes "name") 120 64 ++ alike_words v.alike ++ text_end
-    ++ text_start (codes "name") 120 84 ++ obeyed_words v.obeyed ++ text_end
-    ++ text_start (codes "name") 120 104 ++ bound_words v.bound ++ text_end
+    text_at (codes "name") 120 64 (alike_words v.alike) ++ text_at (codes "name") 120 84 (obeyed_words v.obeyed) ++ text_at (codes "name") 120 104 (bound_words v.bound)
 
-abbrev pub foot : Chronicle → ℕ → List ℕ
-foot c top =
-    group_start 0 top ++ line (codes "rule") 16 0 (width c.scenario.generals c.accesses) 0 ++ text_start (codes "round") 16 28 ++ codes "decisions" ++ text_end
-    ++ decisions c.scenario c.decisions ++ verdict_lines c.verdict ++ group_end
+abbrev pub foot : Chronicle → ℕ → ℕ → List ℕ
+foot c wide top =
+    group_at 0 top
+    (line (codes "rule") 16 0 wide 0 ++ text_at (codes "round") 16 28 (codes "decisions") ++ decisions c.scenario c.decisions ++ verdict_lines c.verdict)

@@ -1,7 +1,8 @@
 -- Where the parts of a picture stand, in units of it: a column for each general, and a band for each round.
-use Rattle.std.specs.Prelude.{ℕ, zero, suc, ◌+◌, ◌-◌, ◌*◌, ◌==◌, nat_lt, Bool, max, if◌then◌else◌, List, [], ◌∷◌, count_by}
+use Rattle.std.specs.Prelude.{ℕ, zero, suc, ◌+◌, ◌-◌, ◌*◌, ◌==◌, nat_lt, Bool, max, if◌then◌else◌, List, [], ◌∷◌, length, count_by}
 use Rattle.board.specs.Board.{Access}
 use Rattle.diagram.specs.declared.stroke.Stroke.{Stroke}
+use Rattle.diagram.specs.Words.{shown_words}
 
 abbrev pub column : ℕ → ℕ
 column g = 120 + 200 * g
@@ -10,10 +11,17 @@ column g = 120 + 200 * g
 abbrev pub board : ℕ → ℕ
 board n = 120 + 200 * n
 
--- how wide the picture is: with room for what is said of accesses, where there are any
+-- how much room what is said of accesses takes beside the board: 7 for each byte
+abbrev pub room : Access → ℕ
+room a = 28 + 7 * length (shown_words a)
+
+abbrev pub widest : List Access → ℕ
+widest [] = 0
+widest (a ∷ accesses) = max (room a) (widest accesses)
+
+-- how wide the picture is
 abbrev pub width : ℕ → List Access → ℕ
-width n [] = board n
-width n (a ∷ accesses) = board n + 520
+width n accesses = board n + widest accesses
 
 abbrev pub is_in : ℕ → Access → Bool
 is_in round a = a.round == round

@@ -11,7 +11,7 @@ use Rattle.diagram.specs.Bands.{bands}
 use Rattle.diagram.specs.Facts.{strokes_of}
 use Rattle.diagram.specs.Foot.{foot, shape_of, sort_of}
 use Rattle.diagram.specs.Layout.{board, column, top_of, width}
-use Rattle.diagram.specs.Shapes.{group_end, group_start, mark, text_end, text_start, title_end, title_start}
+use Rattle.diagram.specs.Shapes.{group_at, mark, text_at, title}
 use Rattle.diagram.specs.Words.{general_words, role_words}
 
 -- what every picture begins with, and its size, with its units
@@ -40,27 +40,27 @@ unfoldable pub look : List ℕ
 look =
     codes "<style>svg{background:#fff}text{fill:#111;font:13px sans-serif}.head{font:bold 16px sans-serif}.round{font-weight:bold}.small{font"
     ++ codes "-size:11px}.life{stroke:#8a8a8a}.rule{stroke:#8a8a8a;stroke-dasharray:2 4}.access{stroke:#0b5fa5}.stroke{fill:none;stroke:#111;str"
-    ++ codes "oke-opacity:.6}.stroke.lie{stroke:#b00020;stroke-opacity:1;stroke-dasharray:9 4}.stroke.none{stroke:#b00020;stroke-opacity:1;strok"
-    ++ codes "e-dasharray:2 5}.mark{fill:#fff;stroke:#111;stroke-width:1.5}.mark.lie{fill:#b00020;stroke:#b00020}.mark.none{fill:none;stroke:#b0"
-    ++ codes "0020;stroke-width:2.5}.mark.point{fill:#0b5fa5;stroke:#0b5fa5}.mark.traitor{fill:#b00020}@media(prefers-color-scheme:dark){svg{bac"
-    ++ codes "kground:#111}text{fill:#eee}.stroke,.mark{stroke:#eee}.mark{fill:#111}.access{stroke:#6cb8f5}.mark.point{fill:#6cb8f5;stroke:#6cb8"
-    ++ codes "f5}.stroke.lie,.stroke.none,.mark.none{stroke:#ff8095}.mark.lie{fill:#ff8095;stroke:#ff8095}.mark.traitor{fill:#ff8095}}</style>\n"
+    ++ codes "oke-opacity:.45}.stroke.lie{stroke:#b00020;stroke-opacity:1;stroke-dasharray:9 4}.stroke.none{stroke:#b00020;stroke-opacity:1;stro"
+    ++ codes "ke-dasharray:2 5}.mark{fill:#fff;stroke:#111;stroke-width:1.5}.mark.lie{fill:#b00020;stroke:#b00020}.mark.none{fill:none;stroke:#b"
+    ++ codes "00020;stroke-width:2.5}.mark.point{fill:#0b5fa5;stroke:#0b5fa5}.mark.traitor{fill:#b00020}@media(prefers-color-scheme:dark){svg{ba"
+    ++ codes "ckground:#111}text{fill:#eee}.stroke,.mark{stroke:#eee}.mark{fill:#111}.access{stroke:#6cb8f5}.mark.point{fill:#6cb8f5;stroke:#6cb"
+    ++ codes "8f5}.stroke.lie,.stroke.none,.mark.none{stroke:#ff8095}.mark.lie{fill:#ff8095;stroke:#ff8095}.mark.traitor{fill:#ff8095}}</style>"
+    ++ codes "\n"
 
 -- what stands before the columns
 abbrev pub head : Scenario → List ℕ
 head s =
-    title_start ++ campaign_words s.generals s.bound s.commander s.order ++ title_end ++ key ++ look
-    ++ text_start (codes "head") 16 28 ++ campaign_words s.generals s.bound s.commander s.order ++ text_end
+    title (campaign_words s.generals s.bound s.commander s.order) ++ key ++ look ++ text_at (codes "head") 16 28 (campaign_words s.generals s.bound s.commander s.order)
 
 -- who has which column
 abbrev pub general_head : ℕ → Bool → Bool → List ℕ
 general_head g commander traitor =
-    group_start (column g) 50 ++ mark (sort_of traitor) (shape_of traitor) ++ text_start (codes "name") 12 4 ++ general_words g ++ text_end
-    ++ text_start (codes "small") 12 20 ++ role_words commander traitor ++ text_end ++ group_end
+    group_at (column g) 50
+    (mark (sort_of traitor) (shape_of traitor) ++ text_at (codes "name") 12 4 (general_words g) ++ text_at (codes "small") 12 20 (role_words commander traitor))
 
 abbrev pub board_head : ℕ → List Access → List ℕ
 board_head n [] = []
-board_head n (a ∷ accesses) = text_start (codes "name") (board n) 54 ++ codes "board" ++ text_end
+board_head n (a ∷ accesses) = text_at (codes "name") (board n) 54 (codes "board")
 
 abbrev pub heads : Scenario → List Access → List ℕ
 heads s accesses = board_head s.generals accesses ++ flat_map (λ g. general_head g (g == s.commander) (is_traitor s g)) (range_with_len 0 s.generals)
@@ -74,8 +74,8 @@ abbrev pub svg_with : List Stroke → Chronicle → List ℕ
 svg_with strokes c =
     let s = c.scenario in
     let bottom = top_of s.generals strokes c.accesses (s.bound + 1) in
-    picture (width s.generals c.accesses + 16) (bottom + 124)
-    (head s ++ heads s c.accesses ++ bands s.generals strokes c.accesses (s.bound + 1) ++ foot c bottom)
+    let wide = width s.generals c.accesses in
+    picture (wide + 16) (bottom + 124) (head s ++ heads s c.accesses ++ bands s.generals strokes c.accesses wide (s.bound + 1) ++ foot c wide bottom)
 
 -- the picture of a chronicle, whose letters tell this message table
 unfoldable pub svg_text : MessageTable → Chronicle → List ℕ

@@ -3,7 +3,7 @@ ghost use Rattle.std.specs.Prelude.{◌≡◌, ◌++◌, ◌+◌, ◌<◌, ◌�
 ghost use Rattle.std.specs.List.{range_with_len};
 ghost use Rattle.diagram.specs.Bands.{access, accesses_from, band, bands, board_line, drawn, life, lives, point, round_words, row, stroke};
 
-use crate::layout::{access_top, board, column, fan_top, height, rows_top, top_of, width};
+use crate::layout::{access_top, board, column, fan_top, height, rows_top, top_of};
 use crate::shapes::{
     put_group_end, put_group_start, put_line, put_mark, put_stroke_end, put_stroke_start,
     put_text_end, put_text_start, put_title_end, put_title_start,
@@ -21,13 +21,14 @@ pub(crate) fn put_bands(
     generals: u8,
     strokes: &[Stroke],
     accesses: &[Access],
+    wide: u128,
     rounds: u8,
 ) -> Result<(), AllocError>
     requires { rounds < 255 }
-    ensures { OnOk result (string_bytes out.new ≡ string_bytes out.old ++ bands generals strokes.now accesses.now rounds) }
+    ensures { OnOk result (string_bytes out.new ≡ string_bytes out.old ++ bands generals strokes.now accesses.now wide rounds) }
 {
     for before in 0..rounds {
-        put_band(out, generals, strokes, accesses, before)?;
+        put_band(out, generals, strokes, accesses, wide, before)?;
     }
     Ok(())
 }
@@ -38,14 +39,15 @@ fn put_band(
     generals: u8,
     strokes: &[Stroke],
     accesses: &[Access],
+    wide: u128,
     before: u8,
 ) -> Result<(), AllocError>
     requires { before < 255 }
-    ensures { OnOk result (string_bytes out.new ≡ string_bytes out.old ++ band generals strokes.now accesses.now before) }
+    ensures { OnOk result (string_bytes out.new ≡ string_bytes out.old ++ band generals strokes.now accesses.now wide before) }
 {
     let round = u32::from(before) + 1;
     put_group_start(out, 0, top_of(generals, strokes, accesses, before))?;
-    put_line(out, "rule", 16, 0, width(generals, accesses), 0)?;
+    put_line(out, "rule", 16, 0, wide, 0)?;
     put_text_start(out, "round", 16, 24)?;
     put_round(out, round)?;
     put_text_end(out)?;

@@ -1,5 +1,5 @@
 //! The strokes of a campaign, by the message table that its letters tell.
-ghost use Rattle.std.specs.Prelude.{◌≡◌, ◌≢◌, ◌<◌, ◌≤◌, IfOk, OnOk, filter, length};
+ghost use Rattle.std.specs.Prelude.{◌≡◌, ◌≢◌, ◌<◌, ◌≤◌, IfOk, OnOk, count_by, length};
 ghost use Rattle.diagram.specs.Facts.{added, differs, everyone, is_before, is_same, is_same_told, strokes_below, strokes_of, strokes_with, teller, whole};
 
 use crate::stroke::Stroke;
@@ -102,12 +102,13 @@ fn push_stroke(
         differs: differs(order, node),
         labels,
         row,
-    })
+    })?;
+    Ok(())
 }
 
 /// How many strokes of a round and a receiver there are.
 fn rows(strokes: &[Stroke], round: usize, receiver: u8) -> usize
-    ensures { result ≡ length (filter (is_before round receiver) strokes.now) }
+    ensures { result ≡ count_by (is_before round receiver) strokes.now }
 {
     strokes
         .iter()
@@ -117,7 +118,7 @@ fn rows(strokes: &[Stroke], round: usize, receiver: u8) -> usize
 
 /// Of how many labels the same was told.
 fn alike(order: u32, nodes: &[Node], node: &Node) -> usize
-    ensures { result ≡ length (filter (is_same order node.now) nodes.now) }
+    ensures { result ≡ count_by (is_same order node.now) nodes.now }
 {
     nodes.iter().filter(|x| is_same(order, node, x)).count()
 }

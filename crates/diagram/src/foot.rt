@@ -3,7 +3,7 @@ ghost use Rattle.std.specs.Prelude.{◌≡◌, ◌≤◌, ◌<◌, ◌++◌, fla
 ghost use Rattle.std.specs.List.{range_with_len};
 ghost use Rattle.diagram.specs.Foot.{alike_words, bound_words, decided, decided_at, decisions, decides_words, foot, obeyed_words, place_of, shape_of, sort_of, verdict_lines};
 
-use crate::layout::{column, width};
+use crate::layout::column;
 use crate::shapes::{
     put_group_end, put_group_start, put_line, put_mark, put_text_end, put_text_start,
 };
@@ -12,11 +12,10 @@ use std::alloc::AllocError;
 use world::{Chronicle, Verdict};
 
 /// Adds the decisions and the verdict, at this height.
-pub(crate) fn put_foot(out: &mut String, chronicle: &Chronicle, top: u128) -> Result<(), AllocError>
-    ensures { OnOk result (string_bytes out.new ≡ string_bytes out.old ++ foot chronicle.now top) }
+pub(crate) fn put_foot(out: &mut String, chronicle: &Chronicle, wide: u128, top: u128) -> Result<(), AllocError>
+    ensures { OnOk result (string_bytes out.new ≡ string_bytes out.old ++ foot chronicle.now wide top) }
 {
     let scenario = chronicle.scenario();
-    let wide = width(scenario.generals(), chronicle.accesses());
     put_group_start(out, 0, top)?;
     put_line(out, "rule", 16, 0, wide, 0)?;
     put_text_start(out, "round", 16, 28)?;

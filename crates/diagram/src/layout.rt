@@ -1,9 +1,11 @@
 //! Where the parts of a picture stand, in units of it: a column for each general, and a band for each round.
-ghost use Rattle.std.specs.Prelude.{◌≡◌, ◌<◌, ◌+◌, ◌*◌, ◌^◌, count_by};
-ghost use Rattle.diagram.specs.Layout.{access_top, board, column, fan_top, height, is_earlier, is_in, most, reach, rows_top, top_of, width};
+ghost use Rattle.std.specs.Prelude.{◌≡◌, ◌<◌, ◌+◌, ◌*◌, ◌^◌, count_by, IfOk};
+ghost use Rattle.diagram.specs.Layout.{access_top, board, column, fan_top, height, is_earlier, is_in, most, reach, rows_top, room, top_of, widest};
 
 use crate::stroke::Stroke;
+use crate::words::put_shown;
 use board::Access;
+use std::alloc::{AllocError, Global};
 
 /// Where the column of a general is.
 pub(crate) fn column(general: u32) -> u128
@@ -19,15 +21,34 @@ pub(crate) fn board(generals: u8) -> u128
     120 + 200 * u128::from(generals)
 }
 
-/// How wide the picture is: with room for what is said of accesses, where there are any.
-pub(crate) fn width(generals: u8, accesses: &[Access]) -> u128
-    ensures { result ≡ width generals accesses.now }
+/// How wide the picture is: with room beside the board for what is said of accesses.
+pub(crate) fn width(alloc: Global, generals: u8, accesses: &[Access]) -> Result<u128, AllocError>
+    ensures value { IfOk result (λ width. width ≡ board generals + widest accesses.now) }
+    ensures small { IfOk result (λ width. width < 2 ^ 101) }
 {
-    if accesses.is_empty() {
-        board(generals)
-    } else {
-        board(generals) + 520
+    Ok(board(generals) + widest(alloc, accesses)?)
+}
+
+/// How much room what is said of accesses takes beside the board.
+fn widest(alloc: Global, accesses: &[Access]) -> Result<u128, AllocError>
+    ensures value { IfOk result (λ width. width ≡ widest accesses.now) }
+    ensures small { IfOk result (λ width. width < 2 ^ 100) }
+{
+    let mut widest = 0;
+    for access in accesses {
+        widest = room(alloc, access)?.max(widest);
     }
+    Ok(widest)
+}
+
+/// How much room what is said of an access takes: 7 for each byte of it.
+fn room(alloc: Global, access: &Access) -> Result<u128, AllocError>
+    ensures value { IfOk result (λ width. width ≡ room access.now) }
+    ensures small { IfOk result (λ width. width < 2 ^ 100) }
+{
+    let mut text = String::new(alloc);
+    put_shown(&mut text, access)?;
+    Ok(28 + 7 * text.len() as u128)
 }
 
 /// How many accesses a round has.

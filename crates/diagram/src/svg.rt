@@ -37,14 +37,14 @@ pub fn campaign_svg(
     let strokes = strokes(alloc, table, scenario.order())?;
     let generals = scenario.generals();
     let rounds = scenario.bound() + 1;
-    let wide = width(generals, accesses) + 16;
+    let wide = width(alloc, generals, accesses)?;
     let bottom = top_of(generals, strokes.as_slice(), accesses, rounds);
     let mut text = String::from_str(alloc, start())?;
-    put_box(&mut text, wide, bottom + 124)?;
+    put_box(&mut text, wide + 16, bottom + 124)?;
     put_head(&mut text, scenario)?;
     put_heads(&mut text, scenario, accesses)?;
-    put_bands(&mut text, generals, strokes.as_slice(), accesses, rounds)?;
-    put_foot(&mut text, chronicle, bottom)?;
+    put_bands(&mut text, generals, strokes.as_slice(), accesses, wide, rounds)?;
+    put_foot(&mut text, chronicle, wide, bottom)?;
     text.push_str("</svg>\n")?;
     Ok(text)
 }
@@ -111,7 +111,7 @@ fn look() -> &'static str
 {
     "<style>svg{background:#fff}text{fill:#111;font:13px sans-serif}.head{font:bold 16px sans-serif}.round{font-weight:bold}\
      .small{font-size:11px}.life{stroke:#8a8a8a}.rule{stroke:#8a8a8a;stroke-dasharray:2 4}.access{stroke:#0b5fa5}\
-     .stroke{fill:none;stroke:#111;stroke-opacity:.6}.stroke.lie{stroke:#b00020;stroke-opacity:1;stroke-dasharray:9 4}\
+     .stroke{fill:none;stroke:#111;stroke-opacity:.45}.stroke.lie{stroke:#b00020;stroke-opacity:1;stroke-dasharray:9 4}\
      .stroke.none{stroke:#b00020;stroke-opacity:1;stroke-dasharray:2 5}.mark{fill:#fff;stroke:#111;stroke-width:1.5}\
      .mark.lie{fill:#b00020;stroke:#b00020}.mark.none{fill:none;stroke:#b00020;stroke-width:2.5}.mark.point{fill:#0b5fa5;stroke:#0b5fa5}\
      .mark.traitor{fill:#b00020}@media(prefers-color-scheme:dark){svg{background:#111}text{fill:#eee}.stroke,.mark{stroke:#eee}\
