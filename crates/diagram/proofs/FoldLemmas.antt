@@ -5,20 +5,20 @@ use Rattle.board.specs.Board.{Access}
 use Rattle.book.specs.Table.{MessageTable}
 use Rattle.drawing.specs.declared.node.Node.{Node}
 use Rattle.diagram.specs.declared.stroke.Stroke.{Stroke}
-use Rattle.diagram.specs.Bands.{access, accesses_from}
+use Rattle.diagram.specs.Bands.{access_at, accesses_from}
 use Rattle.diagram.specs.Facts.{added, strokes_below, strokes_of, strokes_to, strokes_with}
 use Rattle.diagram.specs.Layout.{access_top}
 
 -- one access more, and all of them
 pub access_more : (n round place : ℕ) (xs : List Access) (a : Access) (old new whole : List ℕ) → place < length xs → a ≡ get_or xs place a
-    → old ++ accesses_from n xs round place (drop place xs) ≡ whole → new ≡ old ++ access n (access_top xs round place) round a
+    → old ++ accesses_from n xs round place (drop place xs) ≡ whole → new ≡ old ++ access_at n (access_top xs round place) round a
     → new ++ accesses_from n xs round (place + 1) (drop (place + 1) xs) ≡ whole
 unfolding accesses_from
 access_more n round place xs a old new whole within is so e =
     let rest : List Access = drop (place + 1) xs in
     let left : drop place xs ≡ a ∷ rest = drop_more xs place a within ∙ ap (λ x. x ∷ rest) (sym is) in
     ap (λ ys. ys ++ accesses_from n xs round (place + 1) rest) e
-    ∙ (append_assoc old (access n (access_top xs round place) round a) (accesses_from n xs round (place + 1) rest)
+    ∙ (append_assoc old (access_at n (access_top xs round place) round a) (accesses_from n xs round (place + 1) rest)
     ∙ (ap (λ ys. old ++ accesses_from n xs round place ys) (sym left) ∙ so))
 
 pub accesses_all : (n round place : ℕ) (xs : List Access) (out whole : List ℕ) → length xs ≤ place → out ++ accesses_from n xs round place (drop place xs) ≡ whole → out ≡ whole

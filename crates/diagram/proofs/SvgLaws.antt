@@ -13,9 +13,9 @@ use Rattle.round.specs.Scenario.{Scenario, is_traitor}
 use Rattle.world.specs.Chronicle.{Chronicle}
 use Rattle.world.specs.declared.verdict.Verdict.{Verdict}
 use Rattle.diagram.specs.declared.stroke.Stroke.{Stroke}
-use Rattle.diagram.specs.Bands.{access, accesses_from, band, bands, board_line, drawn, life, lives, point, round_words, row, stroke}
+use Rattle.diagram.specs.Bands.{access_at, accesses_from, band, bands, board_line, drawn, life, lives, point, round_words, row, stroke_line}
 use Rattle.diagram.specs.Facts.{strokes_of}
-use Rattle.diagram.specs.Foot.{alike_words, bound_words, decided, decided_at, decided_if, decides_words, decisions, foot, obeyed_words, place_of, shape_of, sort_of, verdict_lines}
+use Rattle.diagram.specs.Foot.{alike_words, bound_words, decided, decided_all, decided_at, decided_if, decides_words, foot, obeyed_words, place_of, shape_of, sort_of, verdict_lines}
 use Rattle.diagram.specs.Laws.{DiagramsAreElements}
 use Rattle.diagram.specs.Layout.{access_top, board, column, fan_top, height, rows_top, top_of, width}
 use Rattle.diagram.specs.Shapes.{group_at, group_start, line, mark, stroke_at, stroke_start, text_at, text_start, title}
@@ -321,7 +321,7 @@ point_content far a =
     (mark_content (codes "point") (codes "M0-4a4 4 0 0 1 0 8a4 4 0 0 1 0-8z") (bare_text (codes "point") refl) (bare_text (codes "M0-4a4 4 0 0 1 0 8a4 4 0 0 1 0-8z") refl)))
     (text_content (codes "small") (far + 12) 4 (shown_words a) small (shown_text a))
 
-access_content : (n top round : ℕ) (a : Access) → IsContent (access n top round a)
+access_content : (n top round : ℕ) (a : Access) → IsContent (access_at n top round a)
 access_content n top round a =
     let far : ℕ = board n - column a.general in
     cond_both (a.round == round) (group_at (column a.general) top (point far a)) [] IsContent (λ _. group_content (column a.general) top (point far a) (point_content far a)) (λ _. text [] no_text)
@@ -330,7 +330,7 @@ accesses_content : (n : ℕ) (whole : List Access) (round place : ℕ) (rest : L
 unfolding accesses_from
 accesses_content n whole round place [] = text [] no_text
 accesses_content n whole round place (a ∷ rest) =
-    joined (access n (access_top whole round place) round a) (accesses_from n whole round (place + 1) rest) (access_content n (access_top whole round place) round a)
+    joined (access_at n (access_top whole round place) round a) (accesses_from n whole round (place + 1) rest) (access_content n (access_top whole round place) round a)
     (accesses_content n whole round (place + 1) rest)
 
 drawn_content : (n : ℕ) (accesses : List Access) (round : ℕ) (st : Stroke) → IsContent (drawn n accesses round st)
@@ -340,18 +340,18 @@ drawn_content n accesses round st =
     let t : List ℕ = title (stroke_words st) in
     let m : List ℕ = mark (kind st) (outline st) in
     let w : List ℕ = text_at (codes "small") 12 4 (row_words st) in
-    cond_both (st.round == round) (stroke n top st ++ row below st) [] IsContent
-    (λ _. joined (stroke n top st) (row below st)
+    cond_both (st.round == round) (stroke_line n top st ++ row below st) [] IsContent
+    (λ _. joined (stroke_line n top st) (row below st)
     (stroke_content (kind st) (min st.labels 5) (column st.teller) top (column st.receiver) (top + 16 + 16 * n + 6 * min st.row 8) (stroke_words st) (kind_text st.differs st.told) (stroke_text st))
     (group_content (column st.receiver) (below + 12 + 18 * st.row) (t ++ m ++ w)
     (joined (t ++ m) w (joined t m (title_content (stroke_words st) (stroke_text st)) (mark_content (kind st) (outline st) (kind_text st.differs st.told) (outline_text st.differs st.told)))
     (text_content (codes "small") 12 4 (row_words st) small (row_text st)))))
     (λ _. text [] no_text)
 
-band_content : (n : ℕ) (strokes : List Stroke) (accesses : List Access) (before : ℕ) → IsContent (band n strokes accesses before)
-band_content n strokes accesses before =
+band_content : (n : ℕ) (strokes : List Stroke) (accesses : List Access) (wide before : ℕ) → IsContent (band n strokes accesses wide before)
+band_content n strokes accesses wide before =
     let r : ℕ = before + 1 in
-    let a : List ℕ = line (codes "rule") 16 0 (width n accesses) 0 in
+    let a : List ℕ = line (codes "rule") 16 0 wide 0 in
     let b : List ℕ = text_at (codes "round") 16 24 (round_words r) in
     let c : List ℕ = lives n accesses (height n strokes accesses r) in
     let d : List ℕ = accesses_from n accesses r 0 accesses in
@@ -360,7 +360,7 @@ band_content n strokes accesses before =
     (joined (a ++ b ++ c ++ d) e
     (joined (a ++ b ++ c) d
     (joined (a ++ b) c
-    (joined a b (line_content (codes "rule") 16 0 (width n accesses) 0 (bare_text (codes "rule") refl)) (text_content (codes "round") 16 24 (round_words r) (bare_text (codes "round") refl) (round_text r)))
+    (joined a b (line_content (codes "rule") 16 0 wide 0 (bare_text (codes "rule") refl)) (text_content (codes "round") 16 24 (round_words r) (bare_text (codes "round") refl) (round_text r)))
     (lives_content n accesses (height n strokes accesses r)))
     (accesses_content n accesses r 0 accesses))
     (all (drawn n accesses r) strokes (drawn_content n accesses r)))
@@ -378,7 +378,7 @@ decided_content g traitor (Some order) =
     group_content (column g) 24 (m ++ w)
     (joined m w (mark_content (sort_of traitor) (shape_of traitor) (sort_text traitor) (shape_text traitor)) (text_content (codes "name") 12 4 (decides_words order) name (decides_text order)))
 
-decisions_content : (s : Scenario) (ds : List ℕ) → IsContent (decisions s ds)
+decisions_content : (s : Scenario) (ds : List ℕ) → IsContent (decided_all s ds)
 decisions_content s ds =
     all (decided s ds) (range_with_len 0 s.generals)
     (λ g. cond_both (g == s.commander) [] (decided_if g (is_traitor s g) (slice_get ds (place_of s.commander g))) IsContent (λ _. text [] no_text)
@@ -392,12 +392,11 @@ verdict_content v =
     (joined a b (text_content (codes "name") 120 64 (alike_words v.alike) name (alike_text v.alike)) (text_content (codes "name") 120 84 (obeyed_words v.obeyed) name (obeyed_text v.obeyed)))
     (text_content (codes "name") 120 104 (bound_words v.bound) name (bound_text v.bound))
 
-foot_content : (c : Chronicle) (top : ℕ) → IsContent (foot c top)
-foot_content c top =
-    let wide : ℕ = width c.scenario.generals c.accesses in
+foot_content : (c : Chronicle) (wide top : ℕ) → IsContent (foot c wide top)
+foot_content c wide top =
     let a : List ℕ = line (codes "rule") 16 0 wide 0 in
     let b : List ℕ = text_at (codes "round") 16 28 (codes "decisions") in
-    let d : List ℕ = decisions c.scenario c.decisions in
+    let d : List ℕ = decided_all c.scenario c.decisions in
     group_content 0 top (a ++ b ++ d ++ verdict_lines c.verdict)
     (joined (a ++ b ++ d) (verdict_lines c.verdict)
     (joined (a ++ b) d
@@ -409,10 +408,10 @@ foot_content c top =
 
 abbrev key_words : List ℕ
 key_words =
-    codes "A column for each general, and a band for each round, from above. In a band a line leads from who tells something to whom he"
-    ++ codes " tells it, as wide as he tells it of labels, and below stands in the receiver's column what he was told. Circle and plain line: as"
-    ++ codes " an honest relay tells it. Diamond and dashes: something else. Cross and dots: nothing, where something was to be told. Above the "
-    ++ codes "lines stand the accesses to the board, in its order. Square: a traitor."
+    codes "A column for each general, and a band for each round, from above. In a band a line leads from who tells something to who"
+    ++ codes "m he tells it, as wide as he tells it of labels, and below stands in the receiver's column what he was told. Circle and plain "
+    ++ codes "line: as an honest relay tells it. Diamond and dashes: something else. Cross and dots: nothing, where something was to be told"
+    ++ codes ". Above the lines stand the accesses to the board, in its order. Square: a traitor."
 
 key_content : IsContent key
 unfolding key
@@ -420,13 +419,14 @@ key_content = fed (element (codes "desc") [] key_words) (nested (codes "desc") [
 
 abbrev look_words : List ℕ
 look_words =
-    codes "svg{background:#fff}text{fill:#111;font:13px sans-serif}.head{font:bold 16px sans-serif}.round{font-weight:bold}.small{font"
-    ++ codes "-size:11px}.life{stroke:#8a8a8a}.rule{stroke:#8a8a8a;stroke-dasharray:2 4}.access{stroke:#0b5fa5}.stroke{fill:none;stroke:#111;str"
-    ++ codes "oke-opacity:.6}.stroke.lie{stroke:#b00020;stroke-opacity:1;stroke-dasharray:9 4}.stroke.none{stroke:#b00020;stroke-opacity:1;strok"
-    ++ codes "e-dasharray:2 5}.mark{fill:#fff;stroke:#111;stroke-width:1.5}.mark.lie{fill:#b00020;stroke:#b00020}.mark.none{fill:none;stroke:#b0"
-    ++ codes "0020;stroke-width:2.5}.mark.point{fill:#0b5fa5;stroke:#0b5fa5}.mark.traitor{fill:#b00020}@media(prefers-color-scheme:dark){svg{bac"
-    ++ codes "kground:#111}text{fill:#eee}.stroke,.mark{stroke:#eee}.mark{fill:#111}.access{stroke:#6cb8f5}.mark.point{fill:#6cb8f5;stroke:#6cb8"
-    ++ codes "f5}.stroke.lie,.stroke.none,.mark.none{stroke:#ff8095}.mark.lie{fill:#ff8095;stroke:#ff8095}.mark.traitor{fill:#ff8095}}"
+    codes "svg{background:#fff}text{fill:#111;font:13px sans-serif}.head{font:bold 16px sans-serif}.round{font-weight:bold}.small{"
+    ++ codes "font-size:11px}.life{stroke:#8a8a8a}.rule{stroke:#8a8a8a;stroke-dasharray:2 4}.access{stroke:#0b5fa5}.stroke{fill:none;stroke:"
+    ++ codes "#111;stroke-opacity:.45}.stroke.lie{stroke:#b00020;stroke-opacity:1;stroke-dasharray:9 4}.stroke.none{stroke:#b00020;stroke-op"
+    ++ codes "acity:1;stroke-dasharray:2 5}.mark{fill:#fff;stroke:#111;stroke-width:1.5}.mark.lie{fill:#b00020;stroke:#b00020}.mark.none{fil"
+    ++ codes "l:none;stroke:#b00020;stroke-width:2.5}.mark.point{fill:#0b5fa5;stroke:#0b5fa5}.mark.traitor{fill:#b00020}@media(prefers-color"
+    ++ codes "-scheme:dark){svg{background:#111}text{fill:#eee}.stroke,.mark{stroke:#eee}.mark{fill:#111}.access{stroke:#6cb8f5}.mark.point{"
+    ++ codes "fill:#6cb8f5;stroke:#6cb8f5}.stroke.lie,.stroke.none,.mark.none{stroke:#ff8095}.mark.lie{fill:#ff8095;stroke:#ff8095}.mark.tra"
+    ++ codes "itor{fill:#ff8095}}"
 
 look_content : IsContent look
 unfolding look
@@ -502,17 +502,18 @@ proved_diagrams_are_elements t c =
     let s : Scenario = c.scenario in
     let strokes : List Stroke = strokes_of t s.order in
     let bottom : ℕ = top_of s.generals strokes c.accesses (s.bound + 1) in
-    let w : ℕ = width s.generals c.accesses + 16 in
+    let wide : ℕ = width s.generals c.accesses in
+    let w : ℕ = wide + 16 in
     let h : ℕ = bottom + 124 in
     let a : List ℕ = head s in
     let b : List ℕ = heads s c.accesses in
-    let d : List ℕ = bands s.generals strokes c.accesses (s.bound + 1) in
-    let e : List ℕ = foot c bottom in
+    let d : List ℕ = bands s.generals strokes c.accesses wide (s.bound + 1) in
+    let e : List ℕ = foot c wide bottom in
     let inside : List ℕ = a ++ b ++ d ++ e in
     let is : IsContent inside =
         joined (a ++ b ++ d) e
-        (joined (a ++ b) d (joined a b (head_content s) (heads_content s c.accesses)) (all (band s.generals strokes c.accesses) (range_with_len 0 (s.bound + 1)) (band_content s.generals strokes c.accesses)))
-        (foot_content c bottom) in (
+        (joined (a ++ b) d (joined a b (head_content s) (heads_content s c.accesses)) (all (band s.generals strokes c.accesses wide) (range_with_len 0 (s.bound + 1)) (band_content s.generals strokes c.accesses wide)))
+        (foot_content c wide bottom) in (
       element (codes "svg") (attributes (decimal w) (decimal h)) (codes "\n" ++ inside),
       record {
         name = codes "svg";

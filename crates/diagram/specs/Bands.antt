@@ -27,17 +27,17 @@ abbrev pub point : ℕ → Access → List ℕ
 point far a =
     title (access_words a) ++ line (codes "access") 0 0 far 0 ++ mark (codes "point") (codes "M0-4a4 4 0 0 1 0 8a4 4 0 0 1 0-8z") ++ text_at (codes "small") (far + 12) 4 (shown_words a)
 
-abbrev pub access : ℕ → ℕ → ℕ → Access → List ℕ
-access n top round a = if a.round == round then group_at (column a.general) top (point (board n - column a.general) a) else []
+abbrev pub access_at : ℕ → ℕ → ℕ → Access → List ℕ
+access_at n top round a = if a.round == round then group_at (column a.general) top (point (board n - column a.general) a) else []
 
 -- those of a round, in the board's order, the first of them with this place among all
 unfoldable pub accesses_from : ℕ → List Access → ℕ → ℕ → List Access → List ℕ
 accesses_from n all round place [] = []
-accesses_from n all round place (a ∷ rest) = access n (access_top all round place) round a ++ accesses_from n all round (place + 1) rest
+accesses_from n all round place (a ∷ rest) = access_at n (access_top all round place) round a ++ accesses_from n all round (place + 1) rest
 
 -- a stroke from its teller to its receiver, as wide as it has labels, up to 5
-abbrev pub stroke : ℕ → ℕ → Stroke → List ℕ
-stroke n top st =
+abbrev pub stroke_line : ℕ → ℕ → Stroke → List ℕ
+stroke_line n top st =
     stroke_at (kind st) (min st.labels 5) (column st.teller) top (column st.receiver) (top + 16 + 16 * n + 6 * min st.row 8) (stroke_words st)
 
 -- its row in its receiver's list
@@ -47,7 +47,7 @@ row top st =
 
 -- both, where it is of this round
 abbrev pub drawn : ℕ → List Access → ℕ → Stroke → List ℕ
-drawn n accesses round st = if st.round == round then stroke n (fan_top accesses round) st ++ row (rows_top n accesses round) st else []
+drawn n accesses round st = if st.round == round then stroke_line n (fan_top accesses round) st ++ row (rows_top n accesses round) st else []
 
 -- the band behind so many rounds, of this width
 abbrev pub band : ℕ → List Stroke → List Access → ℕ → ℕ → List ℕ

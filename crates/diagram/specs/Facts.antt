@@ -1,5 +1,5 @@
 -- Who told whom what in a campaign, by the message table t that its letters tell.
-use Rattle.std.specs.Prelude.{ℕ, zero, suc, ◌+◌, ◌-◌, ◌==◌, Bool, true, false, not, ◌&&◌, if◌then◌else◌, bool_eq, List, [], ◌∷◌, ◌++◌, length, take, count_by, slice_index, Option, None, Some}
+use Rattle.std.specs.Prelude.{ℕ, zero, suc, ◌+◌, ◌-◌, ◌==◌, Bool, true, false, not, ◌&&◌, if◌then◌else◌, List, [], ◌∷◌, ◌++◌, length, take, count_by, slice_index, Option, None, Some}
 use Rattle.std.specs.List.{list_any}
 use Rattle.book.specs.Table.{MessageTable}
 use Rattle.drawing.specs.declared.node.Mark.{Mark}
@@ -27,18 +27,22 @@ is_same_told None None = true
 is_same_told _ _ = false
 
 -- an honest relay would have told something else: of a label what its last general took, and the commander the order that he was given
+abbrev pub differs_by : ℕ → Option ℕ → Mark → Bool
+differs_by order told Honest = false
+differs_by order told (Lie general took) = true
+differs_by order told Traitor = not (is_same_told (Some order) told)
+
 abbrev pub differs : ℕ → Node → Bool
-differs order node = by order node.told node.mark
-where
-  by : ℕ → Option ℕ → Mark → Bool
-  by order told Honest = false
-  by order told (Lie general took) = true
-  by order told Traitor = not (is_same_told (Some order) told)
+differs order node = differs_by order node.told node.mark
+
+abbrev pub is_alike : Bool → Bool → Bool
+is_alike true other = other
+is_alike false other = not other
 
 -- both labels make one stroke: the same general told the same in the same round
 abbrev pub is_same : ℕ → Node → Node → Bool
 is_same order one other =
-    length one.label == length other.label && teller one == teller other && is_same_told one.told other.told && bool_eq (differs order one) (differs order other)
+    length one.label == length other.label && teller one == teller other && is_same_told one.told other.told && is_alike (differs order one) (differs order other)
 
 abbrev pub is_before : ℕ → ℕ → Stroke → Bool
 is_before round p stroke = stroke.round == round && stroke.receiver == p

@@ -34,8 +34,8 @@ decided_if g traitor (Some order) = decided_at g traitor order
 abbrev pub decided : Scenario → List ℕ → ℕ → List ℕ
 decided s ds g = if g == s.commander then [] else decided_if g (is_traitor s g) (slice_get ds (place_of s.commander g))
 
-abbrev pub decisions : Scenario → List ℕ → List ℕ
-decisions s ds = flat_map (decided s ds) (range_with_len 0 s.generals)
+abbrev pub decided_all : Scenario → List ℕ → List ℕ
+decided_all s ds = flat_map (decided s ds) (range_with_len 0 s.generals)
 
 abbrev pub alike_words : Bool → List ℕ
 alike_words true = codes "The loyal lieutenants decide alike."
@@ -57,4 +57,4 @@ verdict_lines v =
 abbrev pub foot : Chronicle → ℕ → ℕ → List ℕ
 foot c wide top =
     group_at 0 top
-    (line (codes "rule") 16 0 wide 0 ++ text_at (codes "round") 16 28 (codes "decisions") ++ decisions c.scenario c.decisions ++ verdict_lines c.verdict)
+    (line (codes "rule") 16 0 wide 0 ++ text_at (codes "round") 16 28 (codes "decisions") ++ decided_all c.scenario c.decisions ++ verdict_lines c.verdict)

@@ -30,22 +30,22 @@ campaign_words n m c order =
 -- what is told of the picture to those who do not see it
 unfoldable pub key : List ℕ
 key =
-    codes "<desc>A column for each general, and a band for each round, from above. In a band a line leads from who tells something to whom he"
-    ++ codes " tells it, as wide as he tells it of labels, and below stands in the receiver's column what he was told. Circle and plain line: as"
-    ++ codes " an honest relay tells it. Diamond and dashes: something else. Cross and dots: nothing, where something was to be told. Above the "
-    ++ codes "lines stand the accesses to the board, in its order. Square: a traitor.</desc>\n"
+    codes "<desc>A column for each general, and a band for each round, from above. In a band a line leads from who tells something to who"
+    ++ codes "m he tells it, as wide as he tells it of labels, and below stands in the receiver's column what he was told. Circle and plain "
+    ++ codes "line: as an honest relay tells it. Diamond and dashes: something else. Cross and dots: nothing, where something was to be told"
+    ++ codes ". Above the lines stand the accesses to the board, in its order. Square: a traitor.</desc>\n"
 
 -- how it looks: on paper, and on a dark ground where one is wished for
 unfoldable pub look : List ℕ
 look =
-    codes "<style>svg{background:#fff}text{fill:#111;font:13px sans-serif}.head{font:bold 16px sans-serif}.round{font-weight:bold}.small{font"
-    ++ codes "-size:11px}.life{stroke:#8a8a8a}.rule{stroke:#8a8a8a;stroke-dasharray:2 4}.access{stroke:#0b5fa5}.stroke{fill:none;stroke:#111;str"
-    ++ codes "oke-opacity:.45}.stroke.lie{stroke:#b00020;stroke-opacity:1;stroke-dasharray:9 4}.stroke.none{stroke:#b00020;stroke-opacity:1;stro"
-    ++ codes "ke-dasharray:2 5}.mark{fill:#fff;stroke:#111;stroke-width:1.5}.mark.lie{fill:#b00020;stroke:#b00020}.mark.none{fill:none;stroke:#b"
-    ++ codes "00020;stroke-width:2.5}.mark.point{fill:#0b5fa5;stroke:#0b5fa5}.mark.traitor{fill:#b00020}@media(prefers-color-scheme:dark){svg{ba"
-    ++ codes "ckground:#111}text{fill:#eee}.stroke,.mark{stroke:#eee}.mark{fill:#111}.access{stroke:#6cb8f5}.mark.point{fill:#6cb8f5;stroke:#6cb"
-    ++ codes "8f5}.stroke.lie,.stroke.none,.mark.none{stroke:#ff8095}.mark.lie{fill:#ff8095;stroke:#ff8095}.mark.traitor{fill:#ff8095}}</style>"
-    ++ codes "\n"
+    codes "<style>svg{background:#fff}text{fill:#111;font:13px sans-serif}.head{font:bold 16px sans-serif}.round{font-weight:bold}.small{"
+    ++ codes "font-size:11px}.life{stroke:#8a8a8a}.rule{stroke:#8a8a8a;stroke-dasharray:2 4}.access{stroke:#0b5fa5}.stroke{fill:none;stroke:"
+    ++ codes "#111;stroke-opacity:.45}.stroke.lie{stroke:#b00020;stroke-opacity:1;stroke-dasharray:9 4}.stroke.none{stroke:#b00020;stroke-op"
+    ++ codes "acity:1;stroke-dasharray:2 5}.mark{fill:#fff;stroke:#111;stroke-width:1.5}.mark.lie{fill:#b00020;stroke:#b00020}.mark.none{fil"
+    ++ codes "l:none;stroke:#b00020;stroke-width:2.5}.mark.point{fill:#0b5fa5;stroke:#0b5fa5}.mark.traitor{fill:#b00020}@media(prefers-color"
+    ++ codes "-scheme:dark){svg{background:#111}text{fill:#eee}.stroke,.mark{stroke:#eee}.mark{fill:#111}.access{stroke:#6cb8f5}.mark.point{"
+    ++ codes "fill:#6cb8f5;stroke:#6cb8f5}.stroke.lie,.stroke.none,.mark.none{stroke:#ff8095}.mark.lie{fill:#ff8095;stroke:#ff8095}.mark.tra"
+    ++ codes "itor{fill:#ff8095}}</style>\n"
 
 -- what stands before the columns
 abbrev pub head : Scenario → List ℕ

@@ -1,7 +1,7 @@
 //! The bands of a picture, one for each round.
 ghost use Rattle.std.specs.Prelude.{◌≡◌, ◌++◌, ◌+◌, ◌<◌, ◌≤◌, ◌^◌, length, flat_map, string_bytes, OnOk};
 ghost use Rattle.std.specs.List.{range_with_len};
-ghost use Rattle.diagram.specs.Bands.{access, accesses_from, band, bands, board_line, drawn, life, lives, point, round_words, row, stroke};
+ghost use Rattle.diagram.specs.Bands.{access_at, accesses_from, band, bands, board_line, drawn, life, lives, point, round_words, row, stroke_line};
 
 use crate::layout::{access_top, board, column, fan_top, height, rows_top, top_of};
 use crate::shapes::{
@@ -126,7 +126,7 @@ fn put_access(
     round: u32,
     access: &Access,
 ) -> Result<(), AllocError>
-    ensures { OnOk result (string_bytes out.new ≡ string_bytes out.old ++ access generals top round access.now) }
+    ensures { OnOk result (string_bytes out.new ≡ string_bytes out.old ++ access_at generals top round access.now) }
 {
     if access.round != round {
         return Ok(());
@@ -188,7 +188,7 @@ fn put_drawn(
 /// Adds a stroke that begins at this height.
 fn put_stroke(out: &mut String, generals: u8, top: u128, stroke: &Stroke) -> Result<(), AllocError>
     requires { top < 2 ^ 100 }
-    ensures { OnOk result (string_bytes out.new ≡ string_bytes out.old ++ stroke generals top stroke.now) }
+    ensures { OnOk result (string_bytes out.new ≡ string_bytes out.old ++ stroke_line generals top stroke.now) }
 {
     put_stroke_start(
         out,

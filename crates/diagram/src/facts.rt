@@ -1,6 +1,6 @@
 //! The strokes of a campaign, by the message table that its letters tell.
 ghost use Rattle.std.specs.Prelude.{◌≡◌, ◌≢◌, ◌<◌, ◌≤◌, IfOk, OnOk, count_by, length};
-ghost use Rattle.diagram.specs.Facts.{added, differs, everyone, is_before, is_same, is_same_told, strokes_below, strokes_of, strokes_with, teller, whole};
+ghost use Rattle.diagram.specs.Facts.{added, differs, everyone, is_alike, is_before, is_same, is_same_told, strokes_below, strokes_of, strokes_with, teller, whole};
 
 use crate::stroke::Stroke;
 use book::Table;
@@ -154,6 +154,13 @@ fn is_same_told(one: Option<u32>, other: Option<u32>) -> bool
     }
 }
 
+/// Whether both are so, or neither.
+fn is_alike(one: bool, other: bool) -> bool
+    ensures { result ≡ is_alike one other }
+{
+    if one { other } else { !other }
+}
+
 /// Whether both labels make one stroke.
 fn is_same(order: u32, one: &Node, other: &Node) -> bool
     ensures { result ≡ is_same order one.now other.now }
@@ -161,5 +168,5 @@ fn is_same(order: u32, one: &Node, other: &Node) -> bool
     one.label.len() == other.label.len()
         && teller(one) == teller(other)
         && is_same_told(one.told, other.told)
-        && differs(order, one) == differs(order, other)
+        && is_alike(differs(order, one), differs(order, other))
 }

@@ -1,7 +1,7 @@
 //! What stands below the bands of a picture: the decisions and the verdict.
 ghost use Rattle.std.specs.Prelude.{◌≡◌, ◌≤◌, ◌<◌, ◌++◌, flat_map, string_bytes, OnOk, slice_get};
 ghost use Rattle.std.specs.List.{range_with_len};
-ghost use Rattle.diagram.specs.Foot.{alike_words, bound_words, decided, decided_at, decisions, decides_words, foot, obeyed_words, place_of, shape_of, sort_of, verdict_lines};
+ghost use Rattle.diagram.specs.Foot.{alike_words, bound_words, decided, decided_all, decided_at, decides_words, foot, obeyed_words, place_of, shape_of, sort_of, verdict_lines};
 
 use crate::layout::column;
 use crate::shapes::{
@@ -28,7 +28,7 @@ pub(crate) fn put_foot(out: &mut String, chronicle: &Chronicle, wide: u128, top:
 
 /// Adds what each lieutenant decides.
 fn put_decisions(out: &mut String, scenario: &Scenario, decisions: &[u32]) -> Result<(), AllocError>
-    ensures { OnOk result (string_bytes out.new ≡ string_bytes out.old ++ decisions scenario.now decisions.now) }
+    ensures { OnOk result (string_bytes out.new ≡ string_bytes out.old ++ decided_all scenario.now decisions.now) }
 {
     for general in 0..scenario.generals() {
         put_decided(out, scenario, decisions, general)?;
