@@ -1,5 +1,5 @@
 -- What is gathered of a list, one of it after another.
-use Rattle.std.proofs.Common.{ℕ, zero, suc, ◌+◌, ◌<◌, ◌≤◌, ◌≡◌, List, [], ◌∷◌, ◌++◌, length, drop, get_or, ap, sym, ◌∙◌, append_assoc, append-nil}
+use Rattle.std.proofs.Common.{ℕ, zero, suc, ◌+◌, ◌<◌, ◌≤◌, ◌≡◌, List, [], ◌∷◌, ◌++◌, length, drop, get_or, ap, sym, ◌∙◌, append_assoc, append-nil, arith}
 use Rattle.std.proofs.lemmas.List.{drop_all, drop_more}
 use Rattle.board.specs.Board.{Access}
 use Rattle.book.specs.Table.{MessageTable}
@@ -43,4 +43,6 @@ told_all order p place nodes out whole past so = ap (λ xs. strokes_below order 
 -- one receiver more
 pub receiver_more : (t : MessageTable) (order p : ℕ) (old new : List Stroke) → old ≡ strokes_to t order p → new ≡ strokes_with t order p old → new ≡ strokes_to t order (p + 1)
 unfolding strokes_to
-receiver_more t order p old new is e = e ∙ ap (strokes_with t order p) is
+receiver_more t order p old new is e =
+    let next : p + 1 ≡ suc p = omega arith in
+    e ∙ (ap (strokes_with t order p) is ∙ sym (ap (λ (i : ℕ). strokes_to t order i) next))

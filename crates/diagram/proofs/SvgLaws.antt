@@ -1,5 +1,6 @@
 -- Pictures are elements of XML.
-use Rattle.std.proofs.Common.{ℕ, zero, suc, ◌+◌, ◌-◌, ◌*◌, ◌≡◌, Bool, true, false, List, [], ◌∷◌, ◌++◌, Option, Some, None, cond_both, refl, sym, subst, append_assoc, append-nil}
+use Rattle.std.proofs.Common.{ℕ, zero, suc, ◌+◌, ◌-◌, ◌*◌, ◌≡◌, Bool, true, false, List, [], ◌∷◌, ◌++◌, Option, Some, None, refl, sym, ap, ◌∙◌, subst, append_assoc, append-nil}
+use Rattle.std.proofs.lemmas.Bool.{cond_both}
 use Rattle.std.specs.Prelude.{codes, ◌==◌, min, slice_get}
 use Rattle.std.specs.Fmt.{decimal}
 use Rattle.std.specs.List.{flat_map, range_with_len}
@@ -13,14 +14,14 @@ use Rattle.round.specs.Scenario.{Scenario, is_traitor}
 use Rattle.world.specs.Chronicle.{Chronicle}
 use Rattle.world.specs.declared.verdict.Verdict.{Verdict}
 use Rattle.diagram.specs.declared.stroke.Stroke.{Stroke}
-use Rattle.diagram.specs.Bands.{access_at, accesses_from, band, bands, board_line, drawn, life, lives, point, round_words, row, stroke_line}
+use Rattle.diagram.specs.Bands.{access_at, accesses_from, band, bands, board_line, drawn, general_life, life, lives, point, round_words, row, stroke_line}
 use Rattle.diagram.specs.Facts.{strokes_of}
 use Rattle.diagram.specs.Foot.{alike_words, bound_words, decided, decided_all, decided_at, decided_if, decides_words, foot, obeyed_words, place_of, shape_of, sort_of, verdict_lines}
 use Rattle.diagram.specs.Laws.{DiagramsAreElements}
 use Rattle.diagram.specs.Layout.{access_top, board, column, fan_top, height, rows_top, top_of, width}
-use Rattle.diagram.specs.Shapes.{group_at, group_start, line, mark, stroke_at, stroke_start, text_at, text_start, title}
-use Rattle.diagram.specs.Svg.{board_head, box_words, campaign_words, general_head, head, heads, key, look, picture, start, svg_text, svg_with}
-use Rattle.diagram.specs.Words.{access_words, answer_words, asked_words, differs_words, from_words, general_words, is_copy, kind, kind_of, labels_words, order_words, outline, outline_of, role_words, row_words, shown_words, stroke_words, tells_words, word_words}
+use Rattle.diagram.specs.Shapes.{group_at, group_start, line, mark, stroke_at, stroke_open, stroke_way, text_at, text_start, title}
+use Rattle.diagram.specs.Svg.{board_head, box_words, campaign_words, general_head, head, head_of, heads, key, look, picture, start, svg_text, svg_with}
+use Rattle.diagram.specs.Words.{access_words, answer_words, asked_words, differs_words, from_words, general_words, is_copy, kind, kind_of, labels_words, order_words, outline, outline_of, role_words, row_words, shown_words, stroke_words, swap_words, tells_words, word_words}
 
 -- ---- words
 
@@ -76,20 +77,19 @@ outline_text true None = bare_text (codes "M-5-5L5 5M5-5L-5 5") refl
 numbered : (words : List ℕ) (n : ℕ) → IsText words → IsText (words ++ decimal n)
 numbered words n t = many words (decimal n) t (decimal_text n)
 
-asked_text : (r : Request) → IsText (asked_words r)
-asked_text (Get slot) = numbered (codes "reads word ") slot (bare_text (codes "reads word ") refl)
-asked_text (Swap slot value) =
+swap_text : (value slot : ℕ) → IsText (swap_words value slot)
+swap_text value slot =
     numbered (codes "writes " ++ decimal value ++ codes " into word ") slot
     (many (codes "writes " ++ decimal value) (codes " into word ") (numbered (codes "writes ") value (bare_text (codes "writes ") refl)) (bare_text (codes " into word ") refl))
+
+asked_text : (r : Request) → IsText (asked_words r)
+asked_text (Get slot) = numbered (codes "reads word ") slot (bare_text (codes "reads word ") refl)
+asked_text (Swap slot value) = swap_text value slot
 asked_text (Add slot value) =
     numbered (codes "adds " ++ decimal value ++ codes " to word ") slot
     (many (codes "adds " ++ decimal value) (codes " to word ") (numbered (codes "adds ") value (bare_text (codes "adds ") refl)) (bare_text (codes " to word ") refl))
 asked_text (Cas slot expected new) =
-    numbered (codes "writes " ++ decimal new ++ codes " into word " ++ decimal slot ++ codes " if it is ") expected
-    (many (codes "writes " ++ decimal new ++ codes " into word " ++ decimal slot) (codes " if it is ")
-    (numbered (codes "writes " ++ decimal new ++ codes " into word ") slot
-    (many (codes "writes " ++ decimal new) (codes " into word ") (numbered (codes "writes ") new (bare_text (codes "writes ") refl)) (bare_text (codes " into word ") refl)))
-    (bare_text (codes " if it is ") refl))
+    numbered (swap_words new slot ++ codes " if it is ") expected (many (swap_words new slot) (codes " if it is ") (swap_text new slot) (bare_text (codes " if it is ") refl))
 asked_text (Copy span) =
     numbered (codes "copies " ++ decimal span.1 ++ codes " words from word ") span.0
     (many (codes "copies " ++ decimal span.1) (codes " words from word ") (numbered (codes "copies ") span.1 (bare_text (codes "copies ") refl)) (bare_text (codes " words from word ") refl))
@@ -182,10 +182,15 @@ text_tag class x y c t u = record {
       (attributed (codes "x") x (attribute (codes "y") y ++ []) (codes "y" ∷ []) refl t refl (attributed (codes "y") y [] [] refl u refl no_attributes));
 }
 
+text_parts : (s p1 class q p2 x p3 y g words close feed : List ℕ)
+    → ((s ++ p1) ++ (class ++ ((q ++ p2) ++ (x ++ ((q ++ p3) ++ (y ++ (q ++ g))))))) ++ words ++ (close ++ feed)
+    ≡ ((s ++ ((p1 ++ class ++ q) ++ ((p2 ++ x ++ q) ++ ((p3 ++ y ++ q) ++ []))) ++ g) ++ words ++ close) ++ feed
+text_parts s p1 class q p2 x p3 y g words close feed = simp (append_assoc, append-nil)
+
 text_whole : (class x y words : List ℕ)
     → (codes "<text class=\"" ++ (class ++ (codes "\" x=\"" ++ (x ++ (codes "\" y=\"" ++ (y ++ codes "\">")))))) ++ words ++ codes "</text>\n"
     ≡ element (codes "text") (text_attributes class x y) words ++ codes "\n"
-text_whole class x y words = simp append_assoc
+text_whole class x y words = text_parts (codes "<text") (codes " class=\"") class (codes "\"") (codes " x=\"") x (codes " y=\"") y (codes ">") words (codes "</text>") (codes "\n")
 
 text_content : (class : List ℕ) (x y : ℕ) (words : List ℕ) → IsText class → IsText words → IsContent (text_at class x y words)
 unfolding text_start
@@ -216,10 +221,15 @@ way_text x y u v =
     (many (codes "L") (decimal u ++ (codes " " ++ decimal v)) (bare_text (codes "L") refl)
     (many (decimal u) (codes " " ++ decimal v) (decimal_text u) (numbered (codes " ") v (bare_text (codes " ") refl)))))))
 
+line_parts : (s p1 class q p2 m x b y l u v g feed : List ℕ)
+    → (s ++ p1) ++ (class ++ ((q ++ p2 ++ m) ++ (x ++ (b ++ (y ++ (l ++ (u ++ (b ++ (v ++ (q ++ g ++ feed))))))))))
+    ≡ (s ++ ((p1 ++ class ++ q) ++ ((p2 ++ (m ++ (x ++ (b ++ (y ++ (l ++ (u ++ (b ++ v))))))) ++ q) ++ [])) ++ g) ++ feed
+line_parts s p1 class q p2 m x b y l u v g feed = simp (append_assoc, append-nil)
+
 line_whole : (class x y u v : List ℕ)
     → codes "<path class=\"" ++ (class ++ (codes "\" d=\"M" ++ (x ++ (codes " " ++ (y ++ (codes "L" ++ (u ++ (codes " " ++ (v ++ codes "\"/>\n")))))))))
     ≡ empty (codes "path") (path_attributes class (way_of x y u v)) ++ codes "\n"
-line_whole class x y u v = simp append_assoc
+line_whole class x y u v = line_parts (codes "<path") (codes " class=\"") class (codes "\"") (codes " d=\"") (codes "M") x (codes " ") y (codes "L") u v (codes "/>") (codes "\n")
 
 line_content : (class : List ℕ) (x y u v : ℕ) → IsText class → IsContent (line class x y u v)
 unfolding line
@@ -228,9 +238,13 @@ line_content class x y u v c =
     subst IsContent (sym (line_whole class (decimal x) (decimal y) (decimal u) (decimal v)))
     (fed (empty (codes "path") (path_attributes class way)) (alone (codes "path") (path_attributes class way) (path_tag class way c (way_text x y u v))))
 
-mark_whole : (kind outline : List ℕ)
-    → codes "<path class=\"mark " ++ (kind ++ (codes "\" d=\"" ++ (outline ++ codes "\"/>\n"))) ≡ empty (codes "path") (path_attributes (codes "mark " ++ kind) outline) ++ codes "\n"
-mark_whole kind outline = simp append_assoc
+mark_parts : (s p1 k sort q p2 way g feed : List ℕ)
+    → (s ++ p1 ++ k) ++ (sort ++ ((q ++ p2) ++ (way ++ (q ++ g ++ feed)))) ≡ (s ++ ((p1 ++ (k ++ sort) ++ q) ++ ((p2 ++ way ++ q) ++ [])) ++ g) ++ feed
+mark_parts s p1 k sort q p2 way g feed = simp (append_assoc, append-nil)
+
+mark_whole : (sort way : List ℕ)
+    → codes "<path class=\"mark " ++ (sort ++ (codes "\" d=\"" ++ (way ++ codes "\"/>\n"))) ≡ empty (codes "path") (path_attributes (codes "mark " ++ sort) way) ++ codes "\n"
+mark_whole sort way = mark_parts (codes "<path") (codes " class=\"") (codes "mark ") sort (codes "\"") (codes " d=\"") way (codes "/>") (codes "\n")
 
 mark_content : (kind outline : List ℕ) → IsText kind → IsText outline → IsContent (mark kind outline)
 unfolding mark
@@ -239,8 +253,11 @@ mark_content kind outline k o =
     (fed (empty (codes "path") (path_attributes (codes "mark " ++ kind) outline))
     (alone (codes "path") (path_attributes (codes "mark " ++ kind) outline) (path_tag (codes "mark " ++ kind) outline (many (codes "mark ") kind (bare_text (codes "mark ") refl) k) o)))
 
+title_parts : (first words close feed : List ℕ) → first ++ words ++ (close ++ feed) ≡ (first ++ words ++ close) ++ feed
+title_parts first words close feed = simp append_assoc
+
 title_whole : (words : List ℕ) → codes "<title>" ++ words ++ codes "</title>\n" ≡ element (codes "title") [] words ++ codes "\n"
-title_whole words = simp append_assoc
+title_whole words = title_parts (codes "<title>") words (codes "</title>") (codes "\n")
 
 title_content : (words : List ℕ) → IsText words → IsContent (title words)
 title_content words t =
@@ -257,13 +274,20 @@ stroke_tag class width way c t w = record {
       (attributed (codes "stroke-width") width (attribute (codes "d") way ++ []) (codes "d" ∷ []) refl t refl (attributed (codes "d") way [] [] refl w refl no_attributes));
 }
 
-stroke_whole : (kind width x y u v inside : List ℕ)
-    → (codes "<path class=\"stroke " ++ (kind ++ (codes "\" stroke-width=\"" ++ (width ++ (codes "\" d=\"M" ++ (x ++ (codes " " ++ (y ++ (codes "L" ++ (u ++ (codes " " ++ (v ++ codes "\">")))))))))))) ++ inside ++ codes "</path>\n"
-    ≡ element (codes "path") (stroke_attributes (codes "stroke " ++ kind) width (way_of x y u v)) inside ++ codes "\n"
-stroke_whole kind width x y u v inside = simp append_assoc
+stroke_parts : (s p1 k sort q p2 wide p3 m x b y l u v g inside close feed : List ℕ)
+    → ((s ++ p1 ++ k) ++ (sort ++ ((q ++ p2) ++ (wide ++ (q ++ p3)))) ++ (m ++ (x ++ (b ++ (y ++ (l ++ (u ++ (b ++ (v ++ (q ++ g)))))))))) ++ inside ++ (close ++ feed)
+    ≡ ((s ++ ((p1 ++ (k ++ sort) ++ q) ++ ((p2 ++ wide ++ q) ++ ((p3 ++ (m ++ (x ++ (b ++ (y ++ (l ++ (u ++ (b ++ v))))))) ++ q) ++ []))) ++ g) ++ inside ++ close) ++ feed
+stroke_parts s p1 k sort q p2 wide p3 m x b y l u v g inside close feed = simp (append_assoc, append-nil)
+
+stroke_whole : (sort wide x y u v inside : List ℕ)
+    → (codes "<path class=\"stroke " ++ (sort ++ (codes "\" stroke-width=\"" ++ (wide ++ codes "\" d=\"")))
+    ++ (codes "M" ++ (x ++ (codes " " ++ (y ++ (codes "L" ++ (u ++ (codes " " ++ (v ++ codes "\">"))))))))) ++ inside ++ codes "</path>\n"
+    ≡ element (codes "path") (stroke_attributes (codes "stroke " ++ sort) wide (way_of x y u v)) inside ++ codes "\n"
+stroke_whole sort wide x y u v inside =
+    stroke_parts (codes "<path") (codes " class=\"") (codes "stroke ") sort (codes "\"") (codes " stroke-width=\"") wide (codes " d=\"") (codes "M") x (codes " ") y (codes "L") u v (codes ">") inside (codes "</path>") (codes "\n")
 
 stroke_content : (kind : List ℕ) (width x y u v : ℕ) (words : List ℕ) → IsText kind → IsText words → IsContent (stroke_at kind width x y u v words)
-unfolding stroke_start
+unfolding stroke_open stroke_way
 stroke_content kind width x y u v words k t =
     let way : List ℕ = way_of (decimal x) (decimal y) (decimal u) (decimal v) in
     let class : List ℕ = codes "stroke " ++ kind in
@@ -275,10 +299,15 @@ stroke_content kind width x y u v words k t =
 abbrev place_words : List ℕ → List ℕ → List ℕ
 place_words x y = codes "translate(" ++ (x ++ (codes " " ++ (y ++ codes ")")))
 
+group_parts : (s p t x b y z q g inside close feed : List ℕ)
+    → ((s ++ p ++ t) ++ (x ++ (b ++ (y ++ (z ++ q ++ g ++ feed))))) ++ inside ++ (close ++ feed)
+    ≡ ((s ++ ((p ++ (t ++ (x ++ (b ++ (y ++ z)))) ++ q) ++ []) ++ g) ++ (feed ++ inside) ++ close) ++ feed
+group_parts s p t x b y z q g inside close feed = simp (append_assoc, append-nil)
+
 group_whole : (x y inside : List ℕ)
     → (codes "<g transform=\"translate(" ++ (x ++ (codes " " ++ (y ++ codes ")\">\n")))) ++ inside ++ codes "</g>\n"
     ≡ element (codes "g") (attribute (codes "transform") (place_words x y) ++ []) (codes "\n" ++ inside) ++ codes "\n"
-group_whole x y inside = simp append_assoc
+group_whole x y inside = group_parts (codes "<g") (codes " transform=\"") (codes "translate(") x (codes " ") y (codes ")") (codes "\"") (codes ">") inside (codes "</g>") (codes "\n")
 
 group_content : (x y : ℕ) (inside : List ℕ) → IsContent inside → IsContent (group_at x y inside)
 unfolding group_start
@@ -307,8 +336,8 @@ board_content n (a ∷ accesses) h = life_content (board n) h
 
 lives_content : (n : ℕ) (accesses : List Access) (h : ℕ) → IsContent (lives n accesses h)
 lives_content n accesses h =
-    joined (board_line n accesses h) (flat_map (λ g. life (column g) h) (range_with_len 0 n)) (board_content n accesses h)
-    (all (λ g. life (column g) h) (range_with_len 0 n) (λ g. life_content (column g) h))
+    joined (board_line n accesses h) (flat_map (general_life h) (range_with_len 0 n)) (board_content n accesses h)
+    (all (general_life h) (range_with_len 0 n) (λ g. life_content (column g) h))
 
 point_content : (far : ℕ) (a : Access) → IsContent (point far a)
 point_content far a =
@@ -409,9 +438,9 @@ foot_content c wide top =
 abbrev key_words : List ℕ
 key_words =
     codes "A column for each general, and a band for each round, from above. In a band a line leads from who tells something to who"
-    ++ codes "m he tells it, as wide as he tells it of labels, and below stands in the receiver's column what he was told. Circle and plain "
-    ++ codes "line: as an honest relay tells it. Diamond and dashes: something else. Cross and dots: nothing, where something was to be told"
-    ++ codes ". Above the lines stand the accesses to the board, in its order. Square: a traitor."
+    ++ codes "m he tells it, as wide as he tells it of labels, and below stands in the column of the receiver what he was told. Circle and p"
+    ++ codes "lain line: as an honest relay tells it. Diamond and dashes: something else. Cross and dots: nothing, where something was to be"
+    ++ codes " told. Above the lines stand the accesses to the board, in its order. Square: a traitor."
 
 key_content : IsContent key
 unfolding key
@@ -455,8 +484,8 @@ board_head_content n (a ∷ accesses) = text_content (codes "name") (board n) 54
 
 heads_content : (s : Scenario) (accesses : List Access) → IsContent (heads s accesses)
 heads_content s accesses =
-    joined (board_head s.generals accesses) (flat_map (λ g. general_head g (g == s.commander) (is_traitor s g)) (range_with_len 0 s.generals)) (board_head_content s.generals accesses)
-    (all (λ g. general_head g (g == s.commander) (is_traitor s g)) (range_with_len 0 s.generals) (λ g. general_content g (g == s.commander) (is_traitor s g)))
+    joined (board_head s.generals accesses) (flat_map (head_of s) (range_with_len 0 s.generals)) (board_head_content s.generals accesses)
+    (all (head_of s) (range_with_len 0 s.generals) (λ g. general_content g (g == s.commander) (is_traitor s g)))
 
 -- ---- the whole
 
@@ -465,10 +494,15 @@ attributes w h =
     attribute (codes "xmlns") (codes "http://www.w3.org/2000/svg")
     ++ (attribute (codes "role") (codes "img") ++ (attribute (codes "width") w ++ (attribute (codes "height") h ++ (attribute (codes "viewBox") (codes "0 0 " ++ (w ++ (codes " " ++ h))) ++ []))))
 
+box_parts : (p1 w q p2 h p3 o b g : List ℕ)
+    → p1 ++ (w ++ ((q ++ p2) ++ (h ++ ((q ++ p3 ++ o) ++ (w ++ (b ++ (h ++ (q ++ g))))))))
+    ≡ (p1 ++ w ++ q) ++ ((p2 ++ h ++ q) ++ ((p3 ++ (o ++ (w ++ (b ++ h))) ++ q) ++ g))
+box_parts p1 w q p2 h p3 o b g = simp append_assoc
+
 box_whole : (w h : List ℕ)
     → codes " width=\"" ++ (w ++ (codes "\" height=\"" ++ (h ++ (codes "\" viewBox=\"0 0 " ++ (w ++ (codes " " ++ (h ++ codes "\">\n")))))))
     ≡ attribute (codes "width") w ++ (attribute (codes "height") h ++ (attribute (codes "viewBox") (codes "0 0 " ++ (w ++ (codes " " ++ h))) ++ codes ">\n"))
-box_whole w h = simp append_assoc
+box_whole w h = box_parts (codes " width=\"") w (codes "\"") (codes " height=\"") h (codes " viewBox=\"") (codes "0 0 ") (codes " ") (codes ">\n")
 
 tag_parts : (first role wide high box inside close : List ℕ)
     → (first ++ role) ++ (wide ++ (high ++ (box ++ (codes ">" ++ codes "\n")))) ++ inside ++ (close ++ codes "\n")
@@ -478,8 +512,8 @@ tag_parts first role wide high box inside close = simp (append_assoc, append-nil
 picture_is : (w h : ℕ) (inside : List ℕ) → picture w h inside ≡ element (codes "svg") (attributes (decimal w) (decimal h)) (codes "\n" ++ inside) ++ codes "\n"
 unfolding start box_words
 picture_is w h inside =
-    rw (box_whole (decimal w) (decimal h))
-    (tag_parts (codes "<svg" ++ attribute (codes "xmlns") (codes "http://www.w3.org/2000/svg")) (attribute (codes "role") (codes "img")) (attribute (codes "width") (decimal w)) (attribute (codes "height") (decimal h))
+    ap (λ xs. start ++ xs ++ inside ++ codes "</svg>\n") (box_whole (decimal w) (decimal h))
+    ∙ (tag_parts (codes "<svg" ++ attribute (codes "xmlns") (codes "http://www.w3.org/2000/svg")) (attribute (codes "role") (codes "img")) (attribute (codes "width") (decimal w)) (attribute (codes "height") (decimal h))
     (attribute (codes "viewBox") (codes "0 0 " ++ (decimal w ++ (codes " " ++ decimal h)))) inside (codes "</svg>"))
 
 svg_tag : (w h : ℕ) → IsTag (codes "svg") (attributes (decimal w) (decimal h))

@@ -15,12 +15,15 @@ round_words round = codes "round " ++ decimal round
 abbrev pub life : ℕ → ℕ → List ℕ
 life x height = line (codes "life") x 0 x height
 
+abbrev pub general_life : ℕ → ℕ → List ℕ
+general_life height g = life (column g) height
+
 abbrev pub board_line : ℕ → List Access → ℕ → List ℕ
 board_line n [] height = []
 board_line n (a ∷ accesses) height = life (board n) height
 
 abbrev pub lives : ℕ → List Access → ℕ → List ℕ
-lives n accesses height = board_line n accesses height ++ flat_map (λ g. life (column g) height) (range_with_len 0 n)
+lives n accesses height = board_line n accesses height ++ flat_map (general_life height) (range_with_len 0 n)
 
 -- an access: a point, a line to the board, which is so far to the right, and what is said of it
 abbrev pub point : ℕ → Access → List ℕ

@@ -47,19 +47,23 @@ is_same order one other =
 abbrev pub is_before : ℕ → ℕ → Stroke → Bool
 is_before round p stroke = stroke.round == round && stroke.receiver == p
 
+-- the stroke of a label to p, with this row
+abbrev pub made : ℕ → ℕ → List Node → Node → ℕ → Stroke
+made order p nodes node row = record {
+  round = length node.label;
+  teller = teller node;
+  receiver = p;
+  told = node.told;
+  differs = differs order node;
+  labels = count_by (is_same order node) nodes;
+  row = row;
+}
+
 -- with the stroke of a label to p, which has this place among the labels, where none before it has the same
 unfoldable pub added : ℕ → ℕ → List Node → ℕ → List Stroke → Node → List Stroke
 added order p nodes place done node =
     if list_any (is_same order node) (take place nodes) then done
-    else done ++ record {
-      round = length node.label;
-      teller = teller node;
-      receiver = p;
-      told = node.told;
-      differs = differs order node;
-      labels = count_by (is_same order node) nodes;
-      row = count_by (is_before (length node.label) p) done;
-    } ∷ []
+    else done ++ made order p nodes node (count_by (is_before (length node.label) p) done) ∷ []
 
 -- with those of labels, the first of which has this place
 unfoldable pub strokes_below : ℕ → ℕ → List Node → ℕ → List Stroke → List Node → List Stroke

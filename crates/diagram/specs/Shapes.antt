@@ -17,9 +17,15 @@ unfoldable pub line : List ℕ → ℕ → ℕ → ℕ → ℕ → List ℕ
 line class x y u v =
     codes "<path class=\"" ++ (class ++ (codes "\" d=\"M" ++ (decimal x ++ (codes " " ++ (decimal y ++ (codes "L" ++ (decimal u ++ (codes " " ++ (decimal v ++ codes "\"/>\n")))))))))
 
-unfoldable pub stroke_start : List ℕ → ℕ → ℕ → ℕ → ℕ → ℕ → List ℕ
-stroke_start kind width x y u v =
-    codes "<path class=\"stroke " ++ (kind ++ (codes "\" stroke-width=\"" ++ (decimal width ++ (codes "\" d=\"M" ++ (decimal x ++ (codes " " ++ (decimal y ++ (codes "L" ++ (decimal u ++ (codes " " ++ (decimal v ++ codes "\">")))))))))))
+-- a stroke's class and width, and its way
+unfoldable pub stroke_open : List ℕ → ℕ → List ℕ
+stroke_open kind width = codes "<path class=\"stroke " ++ (kind ++ (codes "\" stroke-width=\"" ++ (decimal width ++ codes "\" d=\"")))
+
+unfoldable pub stroke_way : ℕ → ℕ → ℕ → ℕ → List ℕ
+stroke_way x y u v = codes "M" ++ (decimal x ++ (codes " " ++ (decimal y ++ (codes "L" ++ (decimal u ++ (codes " " ++ (decimal v ++ codes "\">")))))))
+
+abbrev pub stroke_start : List ℕ → ℕ → ℕ → ℕ → ℕ → ℕ → List ℕ
+stroke_start kind width x y u v = stroke_open kind width ++ stroke_way x y u v
 
 abbrev pub stroke_end : List ℕ
 stroke_end = codes "</path>\n"

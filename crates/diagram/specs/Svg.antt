@@ -31,9 +31,9 @@ campaign_words n m c order =
 unfoldable pub key : List ℕ
 key =
     codes "<desc>A column for each general, and a band for each round, from above. In a band a line leads from who tells something to who"
-    ++ codes "m he tells it, as wide as he tells it of labels, and below stands in the receiver's column what he was told. Circle and plain "
-    ++ codes "line: as an honest relay tells it. Diamond and dashes: something else. Cross and dots: nothing, where something was to be told"
-    ++ codes ". Above the lines stand the accesses to the board, in its order. Square: a traitor.</desc>\n"
+    ++ codes "m he tells it, as wide as he tells it of labels, and below stands in the column of the receiver what he was told. Circle and p"
+    ++ codes "lain line: as an honest relay tells it. Diamond and dashes: something else. Cross and dots: nothing, where something was to be"
+    ++ codes " told. Above the lines stand the accesses to the board, in its order. Square: a traitor.</desc>\n"
 
 -- how it looks: on paper, and on a dark ground where one is wished for
 unfoldable pub look : List ℕ
@@ -58,12 +58,15 @@ general_head g commander traitor =
     group_at (column g) 50
     (mark (sort_of traitor) (shape_of traitor) ++ text_at (codes "name") 12 4 (general_words g) ++ text_at (codes "small") 12 20 (role_words commander traitor))
 
+abbrev pub head_of : Scenario → ℕ → List ℕ
+head_of s g = general_head g (g == s.commander) (is_traitor s g)
+
 abbrev pub board_head : ℕ → List Access → List ℕ
 board_head n [] = []
 board_head n (a ∷ accesses) = text_at (codes "name") (board n) 54 (codes "board")
 
 abbrev pub heads : Scenario → List Access → List ℕ
-heads s accesses = board_head s.generals accesses ++ flat_map (λ g. general_head g (g == s.commander) (is_traitor s g)) (range_with_len 0 s.generals)
+heads s accesses = board_head s.generals accesses ++ flat_map (head_of s) (range_with_len 0 s.generals)
 
 -- a picture of this width and height, with this inside
 abbrev pub picture : ℕ → ℕ → List ℕ → List ℕ

@@ -48,13 +48,19 @@ outline_of true None = codes "M-5-5L5 5M5-5L-5 5"
 abbrev pub outline : Stroke → List ℕ
 outline stroke = outline_of stroke.differs stroke.told
 
+abbrev pub swap_words : ℕ → ℕ → List ℕ
+swap_words value slot = codes "writes " ++ decimal value ++ codes " into word " ++ decimal slot
+
+abbrev pub copy_words : ℕ → ℕ → List ℕ
+copy_words count slot = codes "copies " ++ decimal count ++ codes " words from word " ++ decimal slot
+
 -- what was asked of the board
 abbrev pub asked_words : Request → List ℕ
 asked_words (Get slot) = codes "reads word " ++ decimal slot
-asked_words (Swap slot value) = codes "writes " ++ decimal value ++ codes " into word " ++ decimal slot
+asked_words (Swap slot value) = swap_words value slot
 asked_words (Add slot value) = codes "adds " ++ decimal value ++ codes " to word " ++ decimal slot
-asked_words (Cas slot expected new) = codes "writes " ++ decimal new ++ codes " into word " ++ decimal slot ++ codes " if it is " ++ decimal expected
-asked_words (Copy span) = codes "copies " ++ decimal span.1 ++ codes " words from word " ++ decimal span.0
+asked_words (Cas slot expected new) = swap_words new slot ++ codes " if it is " ++ decimal expected
+asked_words (Copy span) = copy_words span.1 span.0
 
 abbrev pub word_words : ℕ → List ℕ
 word_words word = codes " " ++ decimal word

@@ -1,7 +1,9 @@
 //! The bands of a picture, one for each round.
-ghost use Rattle.std.specs.Prelude.{◌≡◌, ◌++◌, ◌+◌, ◌<◌, ◌≤◌, ◌^◌, length, flat_map, string_bytes, OnOk};
+ghost use Rattle.std.specs.Prelude.{◌≡◌, ◌++◌, ◌+◌, ◌<◌, ◌≤◌, ◌^◌, codes, length, flat_map, string_bytes, OnOk};
 ghost use Rattle.std.specs.List.{range_with_len};
-ghost use Rattle.diagram.specs.Bands.{access_at, accesses_from, band, bands, board_line, drawn, life, lives, point, round_words, row, stroke_line};
+ghost use Rattle.diagram.specs.Shapes.{text_at, title};
+ghost use Rattle.diagram.specs.Words.{access_words, row_words, shown_words, stroke_words};
+ghost use Rattle.diagram.specs.Bands.{access_at, accesses_from, band, bands, board_line, drawn, general_life, life, lives, point, round_words, row, stroke_line};
 
 use crate::layout::{access_top, board, column, fan_top, height, rows_top, top_of};
 use crate::shapes::{
@@ -48,13 +50,20 @@ fn put_band(
     let round = u32::from(before) + 1;
     put_group_start(out, 0, top_of(generals, strokes, accesses, before))?;
     put_line(out, "rule", 16, 0, wide, 0)?;
-    put_text_start(out, "round", 16, 24)?;
-    put_round(out, round)?;
-    put_text_end(out)?;
+    put_round_text(out, round)?;
     put_lives(out, generals, accesses, height(generals, strokes, accesses, round))?;
     put_accesses(out, generals, accesses, round)?;
     put_strokes(out, generals, strokes, accesses, round)?;
     put_group_end(out)
+}
+
+/// Adds the number of a round beside its band.
+fn put_round_text(out: &mut String, round: u32) -> Result<(), AllocError>
+    ensures { OnOk result (string_bytes out.new ≡ string_bytes out.old ++ text_at (codes "round") 16 24 (round_words round)) }
+{
+    put_text_start(out, "round", 16, 24)?;
+    put_round(out, round)?;
+    put_text_end(out)
 }
 
 /// Adds the number of a round.
@@ -75,10 +84,24 @@ fn put_lives(
     ensures { OnOk result (string_bytes out.new ≡ string_bytes out.old ++ lives generals accesses.now height) }
 {
     put_board(out, generals, accesses, height)?;
+    put_general_lives(out, generals, height)
+}
+
+/// Adds the line of each general.
+fn put_general_lives(out: &mut String, generals: u8, height: u128) -> Result<(), AllocError>
+    ensures { OnOk result (string_bytes out.new ≡ string_bytes out.old ++ flat_map (general_life height) (range_with_len 0 generals)) }
+{
     for general in 0..generals {
-        put_life(out, column(u32::from(general)), height)?;
+        put_general_life(out, general, height)?;
     }
     Ok(())
+}
+
+/// Adds the line of a general.
+fn put_general_life(out: &mut String, general: u8, height: u128) -> Result<(), AllocError>
+    ensures { OnOk result (string_bytes out.new ≡ string_bytes out.old ++ general_life height general) }
+{
+    put_life(out, column(u32::from(general)), height)
 }
 
 /// Adds a line through the band.
@@ -142,12 +165,26 @@ fn put_point(out: &mut String, far: u128, access: &Access) -> Result<(), AllocEr
     requires { far < 2 ^ 100 }
     ensures { OnOk result (string_bytes out.new ≡ string_bytes out.old ++ point far access.now) }
 {
-    put_title_start(out)?;
-    put_access_words(out, access)?;
-    put_title_end(out)?;
+    put_access_title(out, access)?;
     put_line(out, "access", 0, 0, far, 0)?;
     put_mark(out, "point", "M0-4a4 4 0 0 1 0 8a4 4 0 0 1 0-8z")?;
-    put_text_start(out, "small", far + 12, 4)?;
+    put_access_text(out, far + 12, access)
+}
+
+/// Adds what is told of an access to those who point at it.
+fn put_access_title(out: &mut String, access: &Access) -> Result<(), AllocError>
+    ensures { OnOk result (string_bytes out.new ≡ string_bytes out.old ++ title (access_words access.now)) }
+{
+    put_title_start(out)?;
+    put_access_words(out, access)?;
+    put_title_end(out)
+}
+
+/// Adds what is written of an access.
+fn put_access_text(out: &mut String, x: u128, access: &Access) -> Result<(), AllocError>
+    ensures { OnOk result (string_bytes out.new ≡ string_bytes out.old ++ text_at (codes "small") x 4 (shown_words access.now)) }
+{
+    put_text_start(out, "small", x, 4)?;
     put_shown(out, access)?;
     put_text_end(out)
 }
@@ -199,10 +236,26 @@ fn put_stroke(out: &mut String, generals: u8, top: u128, stroke: &Stroke) -> Res
         column(u32::from(stroke.receiver)),
         top + 16 + 16 * u128::from(generals) + 6 * stroke.row.min(8) as u128,
     )?;
+    put_stroke_title(out, stroke)?;
+    put_stroke_end(out)
+}
+
+/// Adds what is told of a stroke to those who point at it.
+fn put_stroke_title(out: &mut String, stroke: &Stroke) -> Result<(), AllocError>
+    ensures { OnOk result (string_bytes out.new ≡ string_bytes out.old ++ title (stroke_words stroke.now)) }
+{
     put_title_start(out)?;
     put_stroke_words(out, stroke)?;
-    put_title_end(out)?;
-    put_stroke_end(out)
+    put_title_end(out)
+}
+
+/// Adds what is written of a stroke in its receiver's list.
+fn put_row_text(out: &mut String, stroke: &Stroke) -> Result<(), AllocError>
+    ensures { OnOk result (string_bytes out.new ≡ string_bytes out.old ++ text_at (codes "small") 12 4 (row_words stroke.now)) }
+{
+    put_text_start(out, "small", 12, 4)?;
+    put_row_words(out, stroke)?;
+    put_text_end(out)
 }
 
 /// Adds the row of a stroke, in a list that begins at this height.
@@ -215,12 +268,8 @@ fn put_row(out: &mut String, top: u128, stroke: &Stroke) -> Result<(), AllocErro
         column(u32::from(stroke.receiver)),
         top + 12 + 18 * stroke.row as u128,
     )?;
-    put_title_start(out)?;
-    put_stroke_words(out, stroke)?;
-    put_title_end(out)?;
+    put_stroke_title(out, stroke)?;
     put_mark(out, kind(stroke), outline(stroke))?;
-    put_text_start(out, "small", 12, 4)?;
-    put_row_words(out, stroke)?;
-    put_text_end(out)?;
+    put_row_text(out, stroke)?;
     put_group_end(out)
 }

@@ -1,6 +1,7 @@
 //! The strokes of a campaign, by the message table that its letters tell.
-ghost use Rattle.std.specs.Prelude.{◌≡◌, ◌≢◌, ◌<◌, ◌≤◌, IfOk, OnOk, count_by, length};
-ghost use Rattle.diagram.specs.Facts.{added, differs, everyone, is_alike, is_before, is_same, is_same_told, strokes_below, strokes_of, strokes_with, teller, whole};
+ghost use Rattle.std.specs.Prelude.{◌≡◌, ◌≢◌, ◌<◌, ◌≤◌, IfOk, OnOk, count_by, length, take};
+ghost use Rattle.std.specs.List.{list_any};
+ghost use Rattle.diagram.specs.Facts.{added, differs, everyone, is_alike, is_before, is_same, is_same_told, made, strokes_below, strokes_of, strokes_with, teller, whole};
 
 use crate::stroke::Stroke;
 use book::Table;
@@ -30,7 +31,7 @@ fn whole() -> View
 /// # Errors
 ///
 /// No memory for them.
-#[tactic(auto, unfolding(crate::specs::Facts::strokes_of))]
+#[tactic(auto, unfolding(crate::specs::Facts::strokes_of, crate::specs::Facts::strokes_to))]
 pub fn strokes(alloc: Global, table: &Table, order: u32) -> Result<Vec<Stroke>, AllocError>
     ensures { IfOk result (λ strokes. strokes.items ≡ strokes_of table.now order) }
 {
@@ -88,22 +89,35 @@ fn push_stroke(
     requires place { place ≤ length nodes.now }
     ensures { OnOk result (strokes.new.items ≡ added order receiver nodes.now place strokes.old.items node.now) }
 {
-    if nodes[..place].iter().any(|x| is_same(order, node, x)) {
+    if is_known(order, nodes, place, node) {
         return Ok(());
     }
-    let round = node.label.len();
-    let row = rows(strokes.as_slice(), round, receiver);
-    let labels = alike(order, nodes, node);
-    strokes.push(Stroke {
-        round,
+    let row = rows(strokes.as_slice(), node.label.len(), receiver);
+    strokes.push(made(order, receiver, nodes, node, row))?;
+    Ok(())
+}
+
+/// Whether a label before this place makes the same stroke.
+fn is_known(order: u32, nodes: &[Node], place: usize, node: &Node) -> bool
+    requires place { place ≤ length nodes.now }
+    ensures { result ≡ list_any (is_same order node.now) (take place nodes.now) }
+{
+    nodes[..place].iter().any(|x| is_same(order, node, x))
+}
+
+/// The stroke of a label, with this row.
+fn made(order: u32, receiver: u8, nodes: &[Node], node: &Node, row: usize) -> Stroke
+    ensures { result ≡ made order receiver nodes.now node.now row }
+{
+    Stroke {
+        round: node.label.len(),
         teller: teller(node),
         receiver,
         told: node.told,
         differs: differs(order, node),
-        labels,
+        labels: alike(order, nodes, node),
         row,
-    })?;
-    Ok(())
+    }
 }
 
 /// How many strokes of a round and a receiver there are.

@@ -6,6 +6,7 @@ ghost use Rattle.diagram.specs.Foot.{alike_words, bound_words, decided, decided_
 use crate::layout::column;
 use crate::shapes::{
     put_group_end, put_group_start, put_line, put_mark, put_text_end, put_text_start,
+    put_words,
 };
 use round::Scenario;
 use std::alloc::AllocError;
@@ -18,9 +19,7 @@ pub(crate) fn put_foot(out: &mut String, chronicle: &Chronicle, wide: u128, top:
     let scenario = chronicle.scenario();
     put_group_start(out, 0, top)?;
     put_line(out, "rule", 16, 0, wide, 0)?;
-    put_text_start(out, "round", 16, 28)?;
-    out.push_str("decisions")?;
-    put_text_end(out)?;
+    put_words(out, "round", 16, 28, "decisions")?;
     put_decisions(out, scenario, chronicle.decisions())?;
     put_verdict(out, chronicle.verdict())?;
     put_group_end(out)
@@ -114,15 +113,9 @@ pub(crate) fn shape_of(is_traitor: bool) -> &'static str
 fn put_verdict(out: &mut String, verdict: Verdict) -> Result<(), AllocError>
     ensures { OnOk result (string_bytes out.new ≡ string_bytes out.old ++ verdict_lines verdict) }
 {
-    put_text_start(out, "name", 120, 64)?;
-    out.push_str(alike_words(verdict.alike))?;
-    put_text_end(out)?;
-    put_text_start(out, "name", 120, 84)?;
-    out.push_str(obeyed_words(verdict.obeyed))?;
-    put_text_end(out)?;
-    put_text_start(out, "name", 120, 104)?;
-    out.push_str(bound_words(verdict.bound))?;
-    put_text_end(out)
+    put_words(out, "name", 120, 64, alike_words(verdict.alike))?;
+    put_words(out, "name", 120, 84, obeyed_words(verdict.obeyed))?;
+    put_words(out, "name", 120, 104, bound_words(verdict.bound))
 }
 
 /// Whether the loyal lieutenants decide alike.

@@ -121,6 +121,7 @@ pub(crate) fn height(generals: u8, strokes: &[Stroke], accesses: &[Access], roun
 }
 
 /// Where the band behind so many rounds is.
+#[tactic(auto, using(crate::proofs::LayoutLemmas::none_above, crate::proofs::LayoutLemmas::one_above))]
 pub(crate) fn top_of(generals: u8, strokes: &[Stroke], accesses: &[Access], rounds: u8) -> u128
     ensures value { result ≡ top_of generals strokes.now accesses.now rounds }
     ensures small { result < (rounds + 1) * 2 ^ 82 }

@@ -1,6 +1,6 @@
 //! The elements of a picture.
 ghost use Rattle.std.specs.Prelude.{◌≡◌, ◌++◌, string_bytes, OnOk};
-ghost use Rattle.diagram.specs.Shapes.{group_start, line, mark, stroke_start, text_start, title_end, title_start, text_end, group_end, stroke_end};
+ghost use Rattle.diagram.specs.Shapes.{group_start, line, mark, stroke_open, stroke_start, stroke_way, text_at, text_start, title_end, title_start, text_end, group_end, stroke_end};
 
 use std::alloc::AllocError;
 
@@ -19,6 +19,15 @@ pub(crate) fn put_text_end(out: &mut String) -> Result<(), AllocError>
     out.push_str("</text>\n")
 }
 
+/// Adds words at a place.
+pub(crate) fn put_words(out: &mut String, class: &str, x: u128, y: u128, words: &str) -> Result<(), AllocError>
+    ensures { OnOk result (string_bytes out.new ≡ string_bytes out.old ++ text_at class.now x y words.now) }
+{
+    put_text_start(out, class, x, y)?;
+    out.push_str(words)?;
+    put_text_end(out)
+}
+
 /// Adds a line from one place to another.
 #[tactic(auto, unfolding(crate::specs::Shapes::line))]
 pub(crate) fn put_line(out: &mut String, class: &str, x: u128, y: u128, u: u128, v: u128) -> Result<(), AllocError>
@@ -28,7 +37,6 @@ pub(crate) fn put_line(out: &mut String, class: &str, x: u128, y: u128, u: u128,
 }
 
 /// Adds what a stroke from one place to another begins with.
-#[tactic(auto, unfolding(crate::specs::Shapes::stroke_start))]
 pub(crate) fn put_stroke_start(
     out: &mut String,
     kind: &str,
@@ -40,7 +48,24 @@ pub(crate) fn put_stroke_start(
 ) -> Result<(), AllocError>
     ensures { OnOk result (string_bytes out.new ≡ string_bytes out.old ++ stroke_start kind.now width x y u v) }
 {
-    write!(out, "<path class=\"stroke {kind}\" stroke-width=\"{width}\" d=\"M{x} {y}L{u} {v}\">")
+    put_stroke_open(out, kind, width)?;
+    put_way(out, x, y, u, v)
+}
+
+/// Adds its class and its width.
+#[tactic(auto, unfolding(crate::specs::Shapes::stroke_open))]
+fn put_stroke_open(out: &mut String, kind: &str, width: u128) -> Result<(), AllocError>
+    ensures { OnOk result (string_bytes out.new ≡ string_bytes out.old ++ stroke_open kind.now width) }
+{
+    write!(out, "<path class=\"stroke {kind}\" stroke-width=\"{width}\" d=\"")
+}
+
+/// Adds its way, and ends its first tag.
+#[tactic(auto, unfolding(crate::specs::Shapes::stroke_way))]
+fn put_way(out: &mut String, x: u128, y: u128, u: u128, v: u128) -> Result<(), AllocError>
+    ensures { OnOk result (string_bytes out.new ≡ string_bytes out.old ++ stroke_way x y u v) }
+{
+    write!(out, "M{x} {y}L{u} {v}\">")
 }
 
 /// Adds what it ends in.

@@ -1,7 +1,9 @@
 //! A campaign as a picture in SVG.
-ghost use Rattle.std.specs.Prelude.{◌≡◌, ◌<◌, ◌++◌, flat_map, string_bytes, IfOk, OnOk};
+ghost use Rattle.std.specs.Prelude.{◌≡◌, ◌<◌, ◌++◌, codes, flat_map, string_bytes, IfOk, OnOk};
 ghost use Rattle.std.specs.List.{range_with_len};
-ghost use Rattle.diagram.specs.Svg.{board_head, box_words, campaign_words, general_head, head, heads, key, look, start, svg_text};
+ghost use Rattle.diagram.specs.Shapes.{text_at};
+ghost use Rattle.diagram.specs.Words.{general_words};
+ghost use Rattle.diagram.specs.Svg.{board_head, box_words, campaign_words, general_head, head, head_of, heads, key, look, start, svg_text};
 
 use crate::bands::put_bands;
 use crate::facts::strokes;
@@ -9,7 +11,7 @@ use crate::foot::{put_foot, shape_of, sort_of};
 use crate::layout::{board, column, top_of, width};
 use crate::shapes::{
     put_group_end, put_group_start, put_mark, put_text_end, put_text_start, put_title_end,
-    put_title_start,
+    put_title_start, put_words,
 };
 use crate::stroke::Stroke;
 use crate::words::{put_general, role_words};
@@ -99,7 +101,7 @@ fn key() -> &'static str
     ensures { result.now ≡ key }
 {
     "<desc>A column for each general, and a band for each round, from above. In a band a line leads from who tells something \
-     to whom he tells it, as wide as he tells it of labels, and below stands in the receiver's column what he was told. \
+     to whom he tells it, as wide as he tells it of labels, and below stands in the column of the receiver what he was told. \
      Circle and plain line: as an honest relay tells it. Diamond and dashes: something else. Cross and dots: nothing, where \
      something was to be told. Above the lines stand the accesses to the board, in its order. Square: a traitor.</desc>\n"
 }
@@ -124,10 +126,26 @@ fn put_heads(out: &mut String, scenario: &Scenario, accesses: &[Access]) -> Resu
     ensures { OnOk result (string_bytes out.new ≡ string_bytes out.old ++ heads scenario.now accesses.now) }
 {
     put_board_head(out, scenario.generals(), accesses)?;
+    put_general_heads(out, scenario)
+}
+
+/// Adds the head of each general's column.
+fn put_general_heads(out: &mut String, scenario: &Scenario) -> Result<(), AllocError>
+    ensures { OnOk result (string_bytes out.new ≡ string_bytes out.old ++ flat_map (head_of scenario.now) (range_with_len 0 scenario.now.generals)) }
+{
     for general in 0..scenario.generals() {
-        put_general_head(out, general, general == scenario.commander(), scenario.is_traitor(general))?;
+        put_head_of(out, scenario, general)?;
     }
     Ok(())
+}
+
+/// Adds the head of a general's column, in a campaign.
+fn put_head_of(out: &mut String, scenario: &Scenario, general: u8) -> Result<(), AllocError>
+    requires { general < scenario.now.generals }
+    ensures { OnOk result (string_bytes out.new ≡ string_bytes out.old ++ head_of scenario.now general) }
+{
+    let is_commander = general == scenario.commander();
+    put_general_head(out, general, is_commander, scenario.is_traitor(general))
 }
 
 /// Adds the head of the board's column, where there are accesses.
@@ -137,9 +155,7 @@ fn put_board_head(out: &mut String, generals: u8, accesses: &[Access]) -> Result
     match accesses {
         [] => Ok(()),
         [_, ..] => {
-            put_text_start(out, "name", board(generals), 54)?;
-            out.push_str("board")?;
-            put_text_end(out)
+            put_words(out, "name", board(generals), 54, "board")
         }
     }
 }
@@ -155,11 +171,16 @@ fn put_general_head(
 {
     put_group_start(out, column(u32::from(general)), 50)?;
     put_mark(out, sort_of(is_traitor), shape_of(is_traitor))?;
+    put_name(out, general)?;
+    put_words(out, "small", 12, 20, role_words(is_commander, is_traitor))?;
+    put_group_end(out)
+}
+
+/// Adds a general's name beside his shape.
+fn put_name(out: &mut String, general: u8) -> Result<(), AllocError>
+    ensures { OnOk result (string_bytes out.new ≡ string_bytes out.old ++ text_at (codes "name") 12 4 (general_words general)) }
+{
     put_text_start(out, "name", 12, 4)?;
     put_general(out, u32::from(general))?;
-    put_text_end(out)?;
-    put_text_start(out, "small", 12, 20)?;
-    out.push_str(role_words(is_commander, is_traitor))?;
-    put_text_end(out)?;
-    put_group_end(out)
+    put_text_end(out)
 }

@@ -1,7 +1,7 @@
 //! What a picture says, in words.
 ghost use Rattle.std.specs.Prelude.{◌≡◌, ◌++◌, string_bytes, flat_map, OnOk};
 ghost use Rattle.semantics.specs.Replies.{words_in};
-ghost use Rattle.diagram.specs.Words.{answer_words, access_words, asked_words, differs_words, kind, labels_words, order_words, outline, from_words, general_words, is_copy, kind_of, outline_of, role_words, row_words, shown_words, stroke_words, tells_words, word_words};
+ghost use Rattle.diagram.specs.Words.{answer_words, access_words, asked_words, copy_words, differs_words, kind, labels_words, order_words, outline, from_words, general_words, is_copy, kind_of, outline_of, role_words, row_words, shown_words, stroke_words, swap_words, tells_words, word_words};
 
 use crate::stroke::Stroke;
 use board::Access;
@@ -119,23 +119,35 @@ fn put_asked(out: &mut String, request: &Request) -> Result<(), AllocError>
             let slot = slot.number();
             write!(out, "reads word {slot}")
         }
-        Request::Swap { slot, value } => {
-            let slot = slot.number();
-            write!(out, "writes {value} into word {slot}")
-        }
+        Request::Swap { slot, value } => put_swap(out, value, slot.number()),
         Request::Add { slot, value } => {
             let slot = slot.number();
             write!(out, "adds {value} to word {slot}")
         }
-        Request::Cas { slot, expected, new } => {
-            let slot = slot.number();
-            write!(out, "writes {new} into word {slot} if it is {expected}")
+        Request::Cas {
+            slot,
+            expected,
+            new,
+        } => {
+            put_swap(out, new, slot.number())?;
+            write!(out, " if it is {expected}")
         }
-        Request::Copy { span } => {
-            let (slot, count) = (span.slot(), span.count());
-            write!(out, "copies {count} words from word {slot}")
-        }
+        Request::Copy { span } => put_copy(out, span.count(), span.slot()),
     }
+}
+
+/// Adds that a word is written.
+fn put_swap(out: &mut String, value: u64, slot: usize) -> Result<(), AllocError>
+    ensures { OnOk result (string_bytes out.new ≡ string_bytes out.old ++ swap_words value slot) }
+{
+    write!(out, "writes {value} into word {slot}")
+}
+
+/// Adds that words are copied.
+fn put_copy(out: &mut String, count: usize, slot: usize) -> Result<(), AllocError>
+    ensures { OnOk result (string_bytes out.new ≡ string_bytes out.old ++ copy_words count slot) }
+{
+    write!(out, "copies {count} words from word {slot}")
 }
 
 /// Adds what the board answered.
