@@ -14,14 +14,14 @@ use Rattle.round.specs.Scenario.{Scenario, is_traitor}
 use Rattle.world.specs.Chronicle.{Chronicle}
 use Rattle.world.specs.declared.verdict.Verdict.{Verdict}
 use Rattle.diagram.specs.declared.stroke.Stroke.{Stroke}
-use Rattle.diagram.specs.Bands.{access_at, accesses_from, band, bands, board_line, drawn, general_life, life, lives, point, round_words, row, stroke_line}
+use Rattle.diagram.specs.Bands.{access_at, accesses_from, band, bands, board_line, drawn, general_life, inside, life, lives, point, round_words, row, stroke_line}
 use Rattle.diagram.specs.Facts.{strokes_of}
 use Rattle.diagram.specs.Foot.{alike_words, bound_words, decided, decided_all, decided_at, decided_if, decides_words, foot, obeyed_words, place_of, shape_of, sort_of, verdict_lines}
 use Rattle.diagram.specs.Laws.{DiagramsAreElements}
 use Rattle.diagram.specs.Layout.{access_top, board, column, fan_top, height, rows_top, top_of, width}
 use Rattle.diagram.specs.Shapes.{group_at, group_start, line, mark, stroke_at, stroke_open, stroke_way, text_at, text_start, title}
 use Rattle.diagram.specs.Svg.{board_head, box_words, campaign_words, general_head, head, head_of, heads, key, look, picture, start, svg_text, svg_with}
-use Rattle.diagram.specs.Words.{access_words, answer_words, asked_words, differs_words, from_words, general_words, is_copy, kind, kind_of, labels_words, order_words, outline, outline_of, role_words, row_words, shown_words, stroke_words, swap_words, tells_words, word_words}
+use Rattle.diagram.specs.Words.{access_words, answer_words, asked_words, copy_words, differs_words, from_words, general_words, is_copy, kind, kind_of, labels_words, order_words, outline, outline_of, role_words, row_words, shown_words, stroke_words, swap_words, tells_words, word_words}
 
 -- ---- words
 
@@ -78,9 +78,16 @@ numbered : (words : List ℕ) (n : ℕ) → IsText words → IsText (words ++ de
 numbered words n t = many words (decimal n) t (decimal_text n)
 
 swap_text : (value slot : ℕ) → IsText (swap_words value slot)
+unfolding swap_words
 swap_text value slot =
-    numbered (codes "writes " ++ decimal value ++ codes " into word ") slot
-    (many (codes "writes " ++ decimal value) (codes " into word ") (numbered (codes "writes ") value (bare_text (codes "writes ") refl)) (bare_text (codes " into word ") refl))
+    many (codes "writes ") (decimal value ++ (codes " into word " ++ decimal slot)) (bare_text (codes "writes ") refl)
+    (many (decimal value) (codes " into word " ++ decimal slot) (decimal_text value) (numbered (codes " into word ") slot (bare_text (codes " into word ") refl)))
+
+copy_text : (count slot : ℕ) → IsText (copy_words count slot)
+unfolding copy_words
+copy_text count slot =
+    many (codes "copies ") (decimal count ++ (codes " words from word " ++ decimal slot)) (bare_text (codes "copies ") refl)
+    (many (decimal count) (codes " words from word " ++ decimal slot) (decimal_text count) (numbered (codes " words from word ") slot (bare_text (codes " words from word ") refl)))
 
 asked_text : (r : Request) → IsText (asked_words r)
 asked_text (Get slot) = numbered (codes "reads word ") slot (bare_text (codes "reads word ") refl)
@@ -90,9 +97,7 @@ asked_text (Add slot value) =
     (many (codes "adds " ++ decimal value) (codes " to word ") (numbered (codes "adds ") value (bare_text (codes "adds ") refl)) (bare_text (codes " to word ") refl))
 asked_text (Cas slot expected new) =
     numbered (swap_words new slot ++ codes " if it is ") expected (many (swap_words new slot) (codes " if it is ") (swap_text new slot) (bare_text (codes " if it is ") refl))
-asked_text (Copy span) =
-    numbered (codes "copies " ++ decimal span.1 ++ codes " words from word ") span.0
-    (many (codes "copies " ++ decimal span.1) (codes " words from word ") (numbered (codes "copies ") span.1 (bare_text (codes "copies ") refl)) (bare_text (codes " words from word ") refl))
+asked_text (Copy span) = copy_text span.1 span.0
 
 answer_text : (words : List ℕ) → IsText (answer_words words)
 answer_text words =
@@ -377,22 +382,24 @@ drawn_content n accesses round st =
     (text_content (codes "small") 12 4 (row_words st) small (row_text st)))))
     (λ _. text [] no_text)
 
-band_content : (n : ℕ) (strokes : List Stroke) (accesses : List Access) (wide before : ℕ) → IsContent (band n strokes accesses wide before)
-band_content n strokes accesses wide before =
-    let r : ℕ = before + 1 in
+inside_content : (n : ℕ) (strokes : List Stroke) (accesses : List Access) (wide r : ℕ) → IsContent (inside n strokes accesses wide r)
+inside_content n strokes accesses wide r =
     let a : List ℕ = line (codes "rule") 16 0 wide 0 in
     let b : List ℕ = text_at (codes "round") 16 24 (round_words r) in
     let c : List ℕ = lives n accesses (height n strokes accesses r) in
     let d : List ℕ = accesses_from n accesses r 0 accesses in
     let e : List ℕ = flat_map (drawn n accesses r) strokes in
-    group_content 0 (top_of n strokes accesses before) (a ++ b ++ c ++ d ++ e)
-    (joined (a ++ b ++ c ++ d) e
+    joined (a ++ b ++ c ++ d) e
     (joined (a ++ b ++ c) d
     (joined (a ++ b) c
     (joined a b (line_content (codes "rule") 16 0 wide 0 (bare_text (codes "rule") refl)) (text_content (codes "round") 16 24 (round_words r) (bare_text (codes "round") refl) (round_text r)))
     (lives_content n accesses (height n strokes accesses r)))
     (accesses_content n accesses r 0 accesses))
-    (all (drawn n accesses r) strokes (drawn_content n accesses r)))
+    (all (drawn n accesses r) strokes (drawn_content n accesses r))
+
+band_content : (n : ℕ) (strokes : List Stroke) (accesses : List Access) (wide before : ℕ) → IsContent (band n strokes accesses wide before)
+band_content n strokes accesses wide before =
+    group_content 0 (top_of n strokes accesses before) (inside n strokes accesses wide (before + 1)) (inside_content n strokes accesses wide (before + 1))
 
 -- ---- the foot
 

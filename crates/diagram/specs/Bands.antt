@@ -52,15 +52,17 @@ row top st =
 abbrev pub drawn : ℕ → List Access → ℕ → Stroke → List ℕ
 drawn n accesses round st = if st.round == round then stroke_line n (fan_top accesses round) st ++ row (rows_top n accesses round) st else []
 
--- the band behind so many rounds, of this width
+-- what a round's band has, of this width, and its place, behind so many rounds
+abbrev pub inside : ℕ → List Stroke → List Access → ℕ → ℕ → List ℕ
+inside n strokes accesses wide round =
+    line (codes "rule") 16 0 wide 0
+    ++ text_at (codes "round") 16 24 (round_words round)
+    ++ lives n accesses (height n strokes accesses round)
+    ++ accesses_from n accesses round 0 accesses
+    ++ flat_map (drawn n accesses round) strokes
+
 abbrev pub band : ℕ → List Stroke → List Access → ℕ → ℕ → List ℕ
-band n strokes accesses wide before =
-    group_at 0 (top_of n strokes accesses before)
-    (line (codes "rule") 16 0 wide 0
-    ++ text_at (codes "round") 16 24 (round_words (before + 1))
-    ++ lives n accesses (height n strokes accesses (before + 1))
-    ++ accesses_from n accesses (before + 1) 0 accesses
-    ++ flat_map (drawn n accesses (before + 1)) strokes)
+band n strokes accesses wide before = group_at 0 (top_of n strokes accesses before) (inside n strokes accesses wide (before + 1))
 
 abbrev pub bands : ℕ → List Stroke → List Access → ℕ → ℕ → List ℕ
 bands n strokes accesses wide rounds = flat_map (band n strokes accesses wide) (range_with_len 0 rounds)

@@ -48,11 +48,11 @@ outline_of true None = codes "M-5-5L5 5M5-5L-5 5"
 abbrev pub outline : Stroke → List ℕ
 outline stroke = outline_of stroke.differs stroke.told
 
-abbrev pub swap_words : ℕ → ℕ → List ℕ
-swap_words value slot = codes "writes " ++ decimal value ++ codes " into word " ++ decimal slot
+unfoldable pub swap_words : ℕ → ℕ → List ℕ
+swap_words value slot = codes "writes " ++ (decimal value ++ (codes " into word " ++ decimal slot))
 
-abbrev pub copy_words : ℕ → ℕ → List ℕ
-copy_words count slot = codes "copies " ++ decimal count ++ codes " words from word " ++ decimal slot
+unfoldable pub copy_words : ℕ → ℕ → List ℕ
+copy_words count slot = codes "copies " ++ (decimal count ++ (codes " words from word " ++ decimal slot))
 
 -- what was asked of the board
 abbrev pub asked_words : Request → List ℕ

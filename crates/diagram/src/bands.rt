@@ -3,7 +3,7 @@ ghost use Rattle.std.specs.Prelude.{◌≡◌, ◌++◌, ◌+◌, ◌<◌, ◌�
 ghost use Rattle.std.specs.List.{range_with_len};
 ghost use Rattle.diagram.specs.Shapes.{text_at, title};
 ghost use Rattle.diagram.specs.Words.{access_words, row_words, shown_words, stroke_words};
-ghost use Rattle.diagram.specs.Bands.{access_at, accesses_from, band, bands, board_line, drawn, general_life, life, lives, point, round_words, row, stroke_line};
+ghost use Rattle.diagram.specs.Bands.{access_at, accesses_from, band, bands, board_line, drawn, general_life, inside, life, lives, point, round_words, row, stroke_line};
 
 use crate::layout::{access_top, board, column, fan_top, height, rows_top, top_of};
 use crate::shapes::{
@@ -47,14 +47,34 @@ fn put_band(
     requires { before < 255 }
     ensures { OnOk result (string_bytes out.new ≡ string_bytes out.old ++ band generals strokes.now accesses.now wide before) }
 {
-    let round = u32::from(before) + 1;
     put_group_start(out, 0, top_of(generals, strokes, accesses, before))?;
+    put_inside(
+        out,
+        generals,
+        strokes,
+        accesses,
+        wide,
+        u32::from(before) + 1,
+    )?;
+    put_group_end(out)
+}
+
+/// Adds what the band of a round has.
+fn put_inside(
+    out: &mut String,
+    generals: u8,
+    strokes: &[Stroke],
+    accesses: &[Access],
+    wide: u128,
+    round: u32,
+) -> Result<(), AllocError>
+    ensures { OnOk result (string_bytes out.new ≡ string_bytes out.old ++ inside generals strokes.now accesses.now wide round) }
+{
     put_line(out, "rule", 16, 0, wide, 0)?;
     put_round_text(out, round)?;
     put_lives(out, generals, accesses, height(generals, strokes, accesses, round))?;
     put_accesses(out, generals, accesses, round)?;
-    put_strokes(out, generals, strokes, accesses, round)?;
-    put_group_end(out)
+    put_strokes(out, generals, strokes, accesses, round)
 }
 
 /// Adds the number of a round beside its band.

@@ -137,6 +137,7 @@ fn put_asked(out: &mut String, request: &Request) -> Result<(), AllocError>
 }
 
 /// Adds that a word is written.
+#[tactic(auto, unfolding(crate::specs::Words::swap_words))]
 fn put_swap(out: &mut String, value: u64, slot: usize) -> Result<(), AllocError>
     ensures { OnOk result (string_bytes out.new ≡ string_bytes out.old ++ swap_words value slot) }
 {
@@ -144,6 +145,7 @@ fn put_swap(out: &mut String, value: u64, slot: usize) -> Result<(), AllocError>
 }
 
 /// Adds that words are copied.
+#[tactic(auto, unfolding(crate::specs::Words::copy_words))]
 fn put_copy(out: &mut String, count: usize, slot: usize) -> Result<(), AllocError>
     ensures { OnOk result (string_bytes out.new ≡ string_bytes out.old ++ copy_words count slot) }
 {
