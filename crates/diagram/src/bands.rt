@@ -56,7 +56,8 @@ fn put_band(
         wide,
         u32::from(before) + 1,
     )?;
-    put_group_end(out)
+    put_group_end(out)?;
+    Ok(())
 }
 
 /// Adds what the band of a round has.
