@@ -319,8 +319,8 @@ unfolding group_start
 group_content x y inside c =
     let place : List ℕ = place_words (decimal x) (decimal y) in
     let place_is = many (codes "translate(") (decimal x ++ (codes " " ++ (decimal y ++ codes ")"))) (bare_text (codes "translate(") refl)
-        (many (decimal x) (codes " " ++ (decimal y ++ codes ")")) (decimal_text x)
-        (many (codes " ") (decimal y ++ codes ")") (bare_text (codes " ") refl) (many (decimal y) (codes ")") (decimal_text y) (bare_text (codes ")") refl)))) in
+    (many (decimal x) (codes " " ++ (decimal y ++ codes ")")) (decimal_text x)
+    (many (codes " ") (decimal y ++ codes ")") (bare_text (codes " ") refl) (many (decimal y) (codes ")") (decimal_text y) (bare_text (codes ")") refl)))) in
     subst IsContent (sym (group_whole (decimal x) (decimal y) inside))
     (fed (element (codes "g") (attribute (codes "transform") place ++ []) (codes "\n" ++ inside))
     (nested (codes "g") (attribute (codes "transform") place ++ []) (codes "\n" ++ inside)
@@ -552,9 +552,9 @@ proved_diagrams_are_elements t c =
     let e : List ℕ = foot c wide bottom in
     let inside : List ℕ = a ++ b ++ d ++ e in
     let is : IsContent inside =
-        joined (a ++ b ++ d) e
-        (joined (a ++ b) d (joined a b (head_content s) (heads_content s c.accesses)) (all (band s.generals strokes c.accesses wide) (range_with_len 0 (s.bound + 1)) (band_content s.generals strokes c.accesses wide)))
-        (foot_content c wide bottom) in (
+    joined (a ++ b ++ d) e
+    (joined (a ++ b) d (joined a b (head_content s) (heads_content s c.accesses)) (all (band s.generals strokes c.accesses wide) (range_with_len 0 (s.bound + 1)) (band_content s.generals strokes c.accesses wide)))
+    (foot_content c wide bottom) in (
       element (codes "svg") (attributes (decimal w) (decimal h)) (codes "\n" ++ inside),
       record {
         name = codes "svg";

@@ -11,9 +11,7 @@ use crate::shapes::{
     put_text_end, put_text_start, put_title_end, put_title_start,
 };
 use crate::stroke::Stroke;
-use crate::words::{
-    kind, outline, put_access_words, put_row_words, put_shown, put_stroke_words,
-};
+use crate::words::{kind, outline, put_access_words, put_row_words, put_shown, put_stroke_words};
 use board::Access;
 use std::alloc::AllocError;
 
@@ -73,7 +71,12 @@ fn put_inside(
 {
     put_line(out, "rule", 16, 0, wide, 0)?;
     put_round_text(out, round)?;
-    put_lives(out, generals, accesses, height(generals, strokes, accesses, round))?;
+    put_lives(
+        out,
+        generals,
+        accesses,
+        height(generals, strokes, accesses, round),
+    )?;
     put_accesses(out, generals, accesses, round)?;
     put_strokes(out, generals, strokes, accesses, round)
 }
@@ -157,7 +160,13 @@ fn put_accesses(
     ensures { OnOk result (string_bytes out.new ≡ string_bytes out.old ++ accesses_from generals accesses.now round 0 accesses.now) }
 {
     for (place, access) in accesses.iter().enumerate() {
-        put_access(out, generals, access_top(accesses, round, place), round, access)?;
+        put_access(
+            out,
+            generals,
+            access_top(accesses, round, place),
+            round,
+            access,
+        )?;
     }
     Ok(())
 }

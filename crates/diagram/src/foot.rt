@@ -5,15 +5,19 @@ ghost use Rattle.diagram.specs.Foot.{alike_words, bound_words, decided, decided_
 
 use crate::layout::column;
 use crate::shapes::{
-    put_group_end, put_group_start, put_line, put_mark, put_text_end, put_text_start,
-    put_words,
+    put_group_end, put_group_start, put_line, put_mark, put_text_end, put_text_start, put_words,
 };
 use round::Scenario;
 use std::alloc::AllocError;
 use world::{Chronicle, Verdict};
 
 /// Adds the decisions and the verdict, at this height.
-pub(crate) fn put_foot(out: &mut String, chronicle: &Chronicle, wide: u128, top: u128) -> Result<(), AllocError>
+pub(crate) fn put_foot(
+    out: &mut String,
+    chronicle: &Chronicle,
+    wide: u128,
+    top: u128,
+) -> Result<(), AllocError>
     ensures { OnOk result (string_bytes out.new ≡ string_bytes out.old ++ foot chronicle.now wide top) }
 {
     let scenario = chronicle.scenario();

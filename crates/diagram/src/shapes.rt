@@ -6,7 +6,12 @@ use std::alloc::AllocError;
 
 /// Adds what a text at a place begins with.
 #[tactic(auto, unfolding(crate::specs::Shapes::text_start))]
-pub(crate) fn put_text_start(out: &mut String, class: &str, x: u128, y: u128) -> Result<(), AllocError>
+pub(crate) fn put_text_start(
+    out: &mut String,
+    class: &str,
+    x: u128,
+    y: u128,
+) -> Result<(), AllocError>
     ensures { OnOk result (string_bytes out.new ≡ string_bytes out.old ++ text_start class.now x y) }
 {
     write!(out, "<text class=\"{class}\" x=\"{x}\" y=\"{y}\">")
@@ -20,7 +25,13 @@ pub(crate) fn put_text_end(out: &mut String) -> Result<(), AllocError>
 }
 
 /// Adds words at a place.
-pub(crate) fn put_words(out: &mut String, class: &str, x: u128, y: u128, words: &str) -> Result<(), AllocError>
+pub(crate) fn put_words(
+    out: &mut String,
+    class: &str,
+    x: u128,
+    y: u128,
+    words: &str,
+) -> Result<(), AllocError>
     ensures { OnOk result (string_bytes out.new ≡ string_bytes out.old ++ text_at class.now x y words.now) }
 {
     put_text_start(out, class, x, y)?;
@@ -30,7 +41,14 @@ pub(crate) fn put_words(out: &mut String, class: &str, x: u128, y: u128, words: 
 
 /// Adds a line from one place to another.
 #[tactic(auto, unfolding(crate::specs::Shapes::line))]
-pub(crate) fn put_line(out: &mut String, class: &str, x: u128, y: u128, u: u128, v: u128) -> Result<(), AllocError>
+pub(crate) fn put_line(
+    out: &mut String,
+    class: &str,
+    x: u128,
+    y: u128,
+    u: u128,
+    v: u128,
+) -> Result<(), AllocError>
     ensures { OnOk result (string_bytes out.new ≡ string_bytes out.old ++ line class.now x y u v) }
 {
     write!(out, "<path class=\"{class}\" d=\"M{x} {y}L{u} {v}\"/>\n")
@@ -57,7 +75,10 @@ pub(crate) fn put_stroke_start(
 fn put_stroke_open(out: &mut String, kind: &str, width: u128) -> Result<(), AllocError>
     ensures { OnOk result (string_bytes out.new ≡ string_bytes out.old ++ stroke_open kind.now width) }
 {
-    write!(out, "<path class=\"stroke {kind}\" stroke-width=\"{width}\" d=\"")
+    write!(
+        out,
+        "<path class=\"stroke {kind}\" stroke-width=\"{width}\" d=\""
+    )
 }
 
 /// Adds its way, and ends its first tag.

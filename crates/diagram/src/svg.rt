@@ -45,7 +45,14 @@ pub fn campaign_svg(
     put_box(&mut text, wide + 16, bottom + 124)?;
     put_head(&mut text, scenario)?;
     put_heads(&mut text, scenario, accesses)?;
-    put_bands(&mut text, generals, strokes.as_slice(), accesses, wide, rounds)?;
+    put_bands(
+        &mut text,
+        generals,
+        strokes.as_slice(),
+        accesses,
+        wide,
+        rounds,
+    )?;
     put_foot(&mut text, chronicle, wide, bottom)?;
     text.push_str("</svg>\n")?;
     Ok(text)
@@ -64,7 +71,10 @@ fn start() -> &'static str
 fn put_box(out: &mut String, width: u128, height: u128) -> Result<(), AllocError>
     ensures { OnOk result (string_bytes out.new ≡ string_bytes out.old ++ box_words width height) }
 {
-    write!(out, " width=\"{width}\" height=\"{height}\" viewBox=\"0 0 {width} {height}\">\n")
+    write!(
+        out,
+        " width=\"{width}\" height=\"{height}\" viewBox=\"0 0 {width} {height}\">\n"
+    )
 }
 
 /// Adds what stands before the columns: which campaign it is, what the picture shows, and how it looks.
@@ -72,12 +82,24 @@ fn put_head(out: &mut String, scenario: &Scenario) -> Result<(), AllocError>
     ensures { OnOk result (string_bytes out.new ≡ string_bytes out.old ++ head scenario.now) }
 {
     put_title_start(out)?;
-    put_campaign(out, scenario.generals(), scenario.bound(), scenario.commander(), scenario.order())?;
+    put_campaign(
+        out,
+        scenario.generals(),
+        scenario.bound(),
+        scenario.commander(),
+        scenario.order(),
+    )?;
     put_title_end(out)?;
     out.push_str(key())?;
     out.push_str(look())?;
     put_text_start(out, "head", 16, 28)?;
-    put_campaign(out, scenario.generals(), scenario.bound(), scenario.commander(), scenario.order())?;
+    put_campaign(
+        out,
+        scenario.generals(),
+        scenario.bound(),
+        scenario.commander(),
+        scenario.order(),
+    )?;
     put_text_end(out)
 }
 
@@ -92,7 +114,10 @@ fn put_campaign(
 ) -> Result<(), AllocError>
     ensures { OnOk result (string_bytes out.new ≡ string_bytes out.old ++ campaign_words generals bound commander order) }
 {
-    write!(out, "{generals} generals, traitors provided for: {bound}; commander {commander} was given order {order}")
+    write!(
+        out,
+        "{generals} generals, traitors provided for: {bound}; commander {commander} was given order {order}"
+    )
 }
 
 /// What is told of the picture to those who do not see it.
@@ -154,9 +179,7 @@ fn put_board_head(out: &mut String, generals: u8, accesses: &[Access]) -> Result
 {
     match accesses {
         [] => Ok(()),
-        [_, ..] => {
-            put_words(out, "name", board(generals), 54, "board")
-        }
+        [_, ..] => { put_words(out, "name", board(generals), 54, "board") }
     }
 }
 
